@@ -32,6 +32,21 @@ typedef struct {
     uint8_t filter, volume, kind, action, status, has;
 } KazdrinTold;
 
+/* What a worker was lent, in `lent`: nothing, the data of a preoperation, a call of the base, the data of a postoperation, a drain. Of data and of a call:
+ * the operation by its event's number; its offset, len and mode as its event has them; and the answer so far, status with number, and information. */
+typedef struct {
+    uint64_t offset, information, number, length;
+    uint32_t len;
+    uint8_t volume, operation, mode, status, lent;
+} KazdrinData;
+
+/* Contexts that were born and cleaned up, references that callbacks left behind, and those that the worker holds. */
+typedef struct {
+    uint64_t born, cleaned, leaks, held;
+} KazdrinCounts;
+
+enum { KZ_LENT_NOTHING, KZ_LENT_PRE, KZ_LENT_BASE, KZ_LENT_POST, KZ_LENT_DRAIN };
+
 /* The numbers of events. `bytes` are the text, the body or the data that kazdrin_step is passed. */
 enum {
     KZ_REGISTER = 1,      /* bytes: the name; pre, post, contexts, query, unload */
@@ -110,5 +125,15 @@ uint32_t kazdrin_pre_returned(Kazdrin *kazdrin, const KazdrinEvent *event);
 uint32_t kazdrin_post_returned(Kazdrin *kazdrin, const KazdrinEvent *event);
 /* worker */
 uint32_t kazdrin_base(Kazdrin *kazdrin, const KazdrinEvent *event);
+/* worker; flag: 0 the bytes that are asked for (a create's path, what is written), else those of the answer so far, and of a call its file's path */
+uint32_t kazdrin_lent(Kazdrin *kazdrin, const KazdrinEvent *event, KazdrinData *told, uint8_t *room, size_t size);
+/* worker, and other parameters: event is the operation's own number, with its fields; bytes: its path or data */
+uint32_t kazdrin_change(Kazdrin *kazdrin, const KazdrinEvent *event, const uint8_t *bytes, size_t length);
+/* worker, status with number, offset: the information, flag: whether there are bytes */
+uint32_t kazdrin_answer(Kazdrin *kazdrin, const KazdrinEvent *event, const uint8_t *bytes, size_t length);
+/* worker */
+uint32_t kazdrin_counts(Kazdrin *kazdrin, const KazdrinEvent *event, KazdrinCounts *counts);
+/* worker, len: the place in its hand; told: slot and generation, if `has` isn't 0 */
+uint32_t kazdrin_held_at(Kazdrin *kazdrin, const KazdrinEvent *event, KazdrinTold *told);
 
 #endif

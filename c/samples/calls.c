@@ -26,6 +26,30 @@ static KazdrinEvent verdict(uint32_t operation)
     }
 }
 
+/* What the worker was lent: the operation, and its bytes. */
+static void look(const char *name, uint8_t flag)
+{
+    KazdrinData data;
+    uint32_t status = kazdrin_lent(&kazdrin, &(KazdrinEvent){.flag = flag}, &data, room, sizeof room);
+    printf("  %s %u: lent %u, operation %u, offset %llu, bytes '%.*s'\n", name, status, data.lent, data.operation, (unsigned long long)data.offset, (int)data.length, (char *)room);
+}
+
+/* The filter looks at a write and writes something else; a change to another operation is refused. */
+static void change_write(void)
+{
+    look("asked", 0);
+    uint32_t other = kazdrin_change(&kazdrin, &(KazdrinEvent){.event = KZ_FLUSH}, (const uint8_t *)"", 0);
+    uint32_t same = kazdrin_change(&kazdrin, &(KazdrinEvent){.event = KZ_WRITE}, (const uint8_t *)"HELLO", 5);
+    printf("  change %u, then %u\n", other, same);
+}
+
+/* The filter puts other bytes in the answer to a read. */
+static void change_read(void)
+{
+    look("answered", 1);
+    printf("  answer %u\n", kazdrin_answer(&kazdrin, &(KazdrinEvent){.offset = 2, .flag = 1}, (const uint8_t *)"??", 2));
+}
+
 /* Takes an operation to its end, and collects its answer. */
 static void go(const char *name, KazdrinEvent asked, const char *text, KazdrinEvent down)
 {
@@ -38,11 +62,16 @@ static void go(const char *name, KazdrinEvent asked, const char *text, KazdrinEv
     printf("%s: operation %llu\n", name, (unsigned long long)told.operation);
     while (kazdrin_next(&kazdrin, &turn, &told) == 0 && told.action != KZ_DONE) {
         if (told.action == KZ_PRE) {
+            if (asked.event == KZ_WRITE)
+                change_write();
             printf("  pre of instance %u: %u\n", told.instance, kazdrin_pre_returned(&kazdrin, &down));
         } else if (told.action == KZ_BASE) {
             printf("  base: %u\n", kazdrin_base(&kazdrin, &turn));
         } else if (told.action == KZ_POST) {
-            printf("  post of instance %u with %llu", told.instance, (unsigned long long)told.number);
+            printf("  post of instance %u with %llu\n", told.instance, (unsigned long long)told.number);
+            if (asked.event == KZ_READ)
+                change_read();
+            printf("  returned");
             printf(": %u\n", kazdrin_post_returned(&kazdrin, &(KazdrinEvent){.mode = KZ_FINISHED}));
         }
     }

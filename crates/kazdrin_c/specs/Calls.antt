@@ -1,5 +1,5 @@
 -- What a call of C makes of a session, and what C is told.
-use Rattle.std.specs.Prelude.{◌≡◌, ℕ, List, Option, Some, None, Result, Ok, Err, length}
+use Rattle.std.specs.Prelude.{◌≡◌, ◌==◌, ℕ, List, Option, Some, None, Result, Ok, Err, cond, length}
 use Rattle.fm_types.specs.declared.status.Status.{Status}
 use Rattle.fm_world.specs.declared.step.Step.{Step}
 use Rattle.fm_world.specs.declared.step.StepReply.{StepReply}
@@ -11,8 +11,14 @@ use Rattle.fm_data.specs.declared.verdict.PreVerdict.{PreVerdict}
 use Rattle.fm_data.specs.declared.verdict.PostVerdict.{PostVerdict}
 use Rattle.fm_device.specs.Devices.{CarriesCall}
 use Rattle.fm_session.specs.declared.lent.Given.{Given}
-use Rattle.fm_session.specs.Sessions.{LendsNext, LentPreReturns, LentPostReturns, LentBaseReturns}
-use Rattle.kazdrin_c.specs.Named.{operation_in, worker_in}
+use Rattle.fm_session.specs.Sessions.{LendsNext, LentAnswers, LentBaseReturns, LentChanges, LentPostReturns, LentPreReturns}
+use Rattle.fm_types.specs.Statuses.{number_of}
+use Rattle.fm_data.specs.declared.params.Params.{Params}
+use Rattle.fm_session.specs.declared.lent.Lent.{Lent}
+use Rattle.kazdrin_c.specs.declared.data.KazdrinData.{KazdrinData}
+use Rattle.kazdrin_c.specs.Data.{lent_bytes, lent_told, params_named}
+use Rattle.kazdrin_c.specs.Named.{attach_named, flag_in, operation_in, status_at, step_named, worker_in}
+use Rattle.kazdrin_c.specs.Refusals.{Unnamed, Unread, UnreadParams, UnreadTexts}
 use Rattle.kazdrin_c.specs.Told.{told_of, bytes_in, copied, reply_outcome, given_told, outcome_of}
 
 -- an answer in C's structures
@@ -31,14 +37,26 @@ abbrev pub Makes : Step → Face → List ℕ → ℕ → Face → KazdrinTold �
 Makes s old room result new told after =
     (answer : StepReply) × Steps old.session.world s answer new.session.world × AnswerTold answer room result told after × KeepsLent old new
 
--- that event is named and happens; or none does
-abbrev pub MakesThat : Option Step → Face → KazdrinTold → List ℕ → ℕ → Face → KazdrinTold → List ℕ → Option Step → Type 0
-MakesThat named old before room result new told after None = (new ≡ old) × (told ≡ before) × (after ≡ room)
-MakesThat named old before room result new told after (Some s) = (named ≡ Some s) × Makes s old room result new told after
+-- a refusal for that reason, and nothing changes
+abbrev pub RefusedFor : (Status → Type 0) → Face → ℕ → Face → Type 0
+RefusedFor Refuses old result new = (status : Status) × Refuses status × (result ≡ number_of status) × (new ≡ old)
 
--- the event that C names happens, or nothing does
-abbrev pub MakesNamed : Option Step → Face → KazdrinTold → List ℕ → ℕ → Face → KazdrinTold → List ℕ → Type 0
-MakesNamed named old before room result new told after = (made : Option Step) × MakesThat named old before room result new told after made
+-- that event is named and happens; or none does, since what C passed is refused
+abbrev pub MakesThat : (Status → Type 0) → Option Step → Face → KazdrinTold → List ℕ → ℕ → Face → KazdrinTold → List ℕ → Option Step → Type 0
+MakesThat Refuses named old before room result new told after None = RefusedFor Refuses old result new × (told ≡ before) × (after ≡ room)
+MakesThat Refuses named old before room result new told after (Some s) = (named ≡ Some s) × Makes s old room result new told after
+
+-- the event that C names happens, or what C passed is refused
+abbrev pub MakesNamed : (Status → Type 0) → Option Step → Face → KazdrinTold → List ℕ → ℕ → Face → KazdrinTold → List ℕ → Type 0
+MakesNamed Refuses named old before room result new told after =
+    (made : Option Step) × MakesThat Refuses named old before room result new told after made
+
+-- kazdrin_step and kazdrin_attach
+abbrev pub StepTold : KazdrinEvent → List ℕ → Face → KazdrinTold → List ℕ → ℕ → Face → KazdrinTold → List ℕ → Type 0
+StepTold e bytes = MakesNamed (Unread e bytes (step_named e bytes)) (step_named e bytes)
+
+abbrev pub AttachTold : KazdrinEvent → List ℕ → List ℕ → Face → KazdrinTold → List ℕ → ℕ → Face → KazdrinTold → List ℕ → Type 0
+AttachTold e name altitude = MakesNamed (UnreadTexts name altitude) (Some (attach_named e name altitude))
 
 -- the step that is told, where there is one
 abbrev pub told_next : Result Given Status → KazdrinTold → KazdrinTold
@@ -66,3 +84,36 @@ PostTold e old result new (Some verdict) =
 abbrev pub BaseTold : KazdrinEvent → Face → ℕ → Face → Type 0
 BaseTold e old result new =
     (r : Result Status Status) × LentBaseReturns CarriesCall old.session old.devices (worker_in e) r new.session new.devices × (result ≡ outcome_of r)
+
+-- what the worker was lent is looked at: nothing changes but what is told
+abbrev pub LentTold : KazdrinEvent → Face → KazdrinData → List ℕ → ℕ → Face → KazdrinData → List ℕ → Option Lent → Type 0
+LentTold e old before room result new told after None = (result ≡ 30) × (new ≡ old) × (told ≡ before) × (after ≡ room)
+LentTold e old before room result new told after (Some lent) =
+    (result ≡ 0) × (new ≡ old) × (told ≡ record (lent_told lent) { length = length (lent_bytes (flag_in e) lent) }) × (after ≡ copied (lent_bytes (flag_in e) lent) room)
+
+-- the callback puts those parameters in what it was lent, or what C passed is refused
+abbrev pub ChangesThat : KazdrinEvent → List ℕ → Face → ℕ → Face → Option Params → Type 0
+ChangesThat e bytes old result new None = RefusedFor (UnreadParams e bytes (params_named e bytes)) old result new
+ChangesThat e bytes old result new (Some p) =
+    (params_named e bytes ≡ Some p) × (r : Result (Unit {0}) Status) × LentChanges old.session (worker_in e) p r new.session
+    × (result ≡ outcome_of r) × (new.devices ≡ old.devices)
+
+abbrev pub ChangeTold : KazdrinEvent → List ℕ → Face → ℕ → Face → Type 0
+ChangeTold e bytes old result new = (made : Option Params) × ChangesThat e bytes old result new made
+
+-- the bytes that C gives, if it gives some
+abbrev pub bytes_given : KazdrinEvent → List ℕ → Option (List ℕ)
+bytes_given e bytes = cond (e.flag == 0) None (Some bytes)
+
+-- that status, the number and those bytes are put in the answer of what the worker was lent
+abbrev pub PutsAnswer : KazdrinEvent → Status → Option (List ℕ) → Face → ℕ → Face → Type 0
+PutsAnswer e status bytes old result new =
+    (r : Result (Unit {0}) Status) × LentAnswers old.session (worker_in e) status e.offset bytes r new.session × (result ≡ outcome_of r) × (new.devices ≡ old.devices)
+
+-- the callback puts a status and bytes in the answer, or what C passed is refused
+abbrev pub AnswersThat : KazdrinEvent → List ℕ → Face → ℕ → Face → Option Status → Type 0
+AnswersThat e bytes old result new None = RefusedFor (Unnamed (status_at e.status e.number)) old result new
+AnswersThat e bytes old result new (Some status) = (status_at e.status e.number ≡ Some status) × PutsAnswer e status (bytes_given e bytes) old result new
+
+abbrev pub AnswerPut : KazdrinEvent → List ℕ → Face → ℕ → Face → Type 0
+AnswerPut e bytes old result new = (made : Option Status) × AnswersThat e bytes old result new made

@@ -1,7 +1,8 @@
 //! What C says of an event: one structure for all of them, and the event that it names.
 
-ghost use Rattle.std.specs.Prelude.{◌≡◌, IfOk};
+ghost use Rattle.std.specs.Prelude.{◌≡◌, IfErr, IfOk, None};
 ghost use Rattle.kazdrin_c.specs.Named.{attach_named, completion_in, context_named, create_mode_named, file_named, kind_named, registration_in, request_named, set_mode_named, hold_named, status_at, step_named, teardown_named, unload_named, post_named, verdict_named, flag_in};
+ghost use Rattle.kazdrin_c.specs.Refusals.{Unnamed, Unread, UnreadTexts};
 
 use fm_altitude::Altitude;
 use fm_core::{Hold, SetMode, Step};
@@ -39,7 +40,8 @@ pub struct KazdrinEvent {
     pub status: u8,
 }
 
-fn create_mode_of(number: u8) -> Option<CreateMode>
+/// The mode of a create, by its number.
+pub fn create_mode_of(number: u8) -> Option<CreateMode>
     ensures { result ≡ create_mode_named number }
 {
     match number {
@@ -100,9 +102,10 @@ pub fn post_verdict_of(number: u8) -> Option<PostVerdict>
     }
 }
 
-// A number that names nothing is refused so.
-fn named<T>(found: Option<T>) -> Result<T, Status>
-    ensures { IfOk result (λ value. found ≡ Some value) }
+/// What a number names. Refused with 32 if it names nothing.
+pub fn named<T>(found: Option<T>) -> Result<T, Status>
+    ensures named { IfOk result (λ value. found ≡ Some value) }
+    ensures refused { IfErr result (λ status. (status ≡ Status.BadRequest) × (found ≡ None)) }
 {
     match found {
         Some(value) => Ok(value),
@@ -120,7 +123,8 @@ impl KazdrinEvent {
         }
     }
 
-    fn is_flagged(&self) -> bool
+    /// Whether its flag is set.
+    pub fn is_flagged(&self) -> bool
         ensures { result ≡ flag_in self.now }
     {
         self.flag != 0
@@ -172,7 +176,8 @@ impl KazdrinEvent {
     /// The event that the number names, with the bytes that C passed as its text, body or data. Refused with 32 for a number that names none, with 3 or 15
     /// for a text that is no name or no path, and with 1 where memory was refused.
     pub fn step(&self, alloc: Global, bytes: &[u8]) -> Result<Step, Status>
-        ensures { IfOk result (λ step. step_named self.now bytes.now ≡ Some step) }
+        ensures named { IfOk result (λ step. step_named self.now bytes.now ≡ Some step) }
+        ensures refused { IfErr result (λ status. Unread self.now bytes.now (step_named self.now bytes.now) status) }
     {
         let step = match self.event {
             1 => Step::Register {
@@ -201,7 +206,8 @@ impl KazdrinEvent {
 
     /// The attachment of the event's filter to its volume. Refused with 3 for a text that is no name, and with 2 for one that is no altitude.
     pub fn attach(&self, name: &[u8], altitude: &[u8]) -> Result<Step, Status>
-        ensures { IfOk result (λ step. attach_named self.now name.now altitude.now ≡ step) }
+        ensures named { IfOk result (λ step. attach_named self.now name.now altitude.now ≡ step) }
+        ensures refused { IfErr result (λ status. UnreadTexts name.now altitude.now status) }
     {
         Ok(Step::Attach {
             worker: WorkerId(self.worker),
@@ -214,7 +220,8 @@ impl KazdrinEvent {
 
     // An operation on a handle.
     fn file_step(&self, alloc: Global, bytes: &[u8]) -> Result<Step, Status>
-        ensures { IfOk result (λ step. file_named self.now bytes.now ≡ Some step) }
+        ensures named { IfOk result (λ step. file_named self.now bytes.now ≡ Some step) }
+        ensures refused { IfErr result (λ status. Unnamed (file_named self.now bytes.now) status) }
     {
         let request = match self.event {
             6 => FileRequest::Read {
@@ -241,7 +248,8 @@ impl KazdrinEvent {
 
     // What a callback does with contexts, and what goes on.
     fn context_step(&self, alloc: Global, bytes: &[u8]) -> Result<Step, Status>
-        ensures { IfOk result (λ step. context_named self.now bytes.now ≡ Some step) }
+        ensures named { IfOk result (λ step. context_named self.now bytes.now ≡ Some step) }
+        ensures refused { IfErr result (λ status. Unnamed (context_named self.now bytes.now) status) }
     {
         let worker = WorkerId(self.worker);
         let step = match self.event {
@@ -295,7 +303,8 @@ impl KazdrinEvent {
 
     // What is held, what is due, and what is collected.
     fn hold_step(&self) -> Result<Step, Status>
-        ensures { IfOk result (λ step. request_named self.now ≡ Some step) }
+        ensures named { IfOk result (λ step. request_named self.now ≡ Some step) }
+        ensures refused { IfErr result (λ status. Unnamed (request_named self.now) status) }
     {
         let worker = WorkerId(self.worker);
         let operation = OpId(self.operation);
@@ -323,7 +332,8 @@ impl KazdrinEvent {
 
     // The end of an instance.
     fn teardown_step(&self) -> Result<Step, Status>
-        ensures { IfOk result (λ step. teardown_named self.now ≡ Some step) }
+        ensures named { IfOk result (λ step. teardown_named self.now ≡ Some step) }
+        ensures refused { IfErr result (λ status. Unnamed (teardown_named self.now) status) }
     {
         let worker = WorkerId(self.worker);
         let instance = InstanceId(self.instance);
@@ -347,7 +357,8 @@ impl KazdrinEvent {
 
     // The end of a filter, and of a volume.
     fn unload_step(&self) -> Result<Step, Status>
-        ensures { IfOk result (λ step. unload_named self.now ≡ Some step) }
+        ensures named { IfOk result (λ step. unload_named self.now ≡ Some step) }
+        ensures refused { IfErr result (λ status. Unnamed (unload_named self.now) status) }
     {
         let worker = WorkerId(self.worker);
         let filter = FilterId(self.filter);

@@ -1,12 +1,15 @@
 //! What lies behind a handle: a session, and a file system in memory for each of its volumes.
 
-ghost use Rattle.std.specs.Prelude.{◌≡◌, IfErr, IfOk, Some};
-ghost use Rattle.kazdrin_c.specs.Calls.{BaseTold, Makes, MakesNamed, NextTold, PostTold, PreTold};
+ghost use Rattle.std.specs.Prelude.{◌≡◌, IfErr, IfOk, slice_get};
+ghost use Rattle.kazdrin_c.specs.Calls.{AnswerPut, AttachTold, BaseTold, ChangeTold, LentTold, Makes, NextTold, PostTold, PreTold, PutsAnswer, StepTold};
+ghost use Rattle.kazdrin_c.specs.Counts.{counts_of, held_told};
 ghost use Rattle.kazdrin_c.specs.Opened.{IsFresh};
-ghost use Rattle.kazdrin_c.specs.Named.{attach_named, post_named, step_named, verdict_named};
+ghost use Rattle.kazdrin_c.specs.Named.{post_named, verdict_named};
 
+use crate::counts::KazdrinCounts;
+use crate::data::{Given, KazdrinData, lent_bytes, lent_told};
 use crate::event::{KazdrinEvent, post_verdict_of};
-use crate::told::{KazdrinTold, given_told, outcome, outcome_of, tell};
+use crate::told::{KazdrinTold, given_told, old_told, outcome, outcome_of, put_bytes, tell};
 use fm_core::Step;
 use fm_device::MemoryDevices;
 use fm_session::Session;
@@ -53,7 +56,7 @@ impl Face {
         told: &mut KazdrinTold,
         room: &mut [u8],
     ) -> u32
-        ensures { MakesNamed (step_named event.now bytes.now) self.old told.old room.old result self.new told.new room.new }
+        ensures { StepTold event.now bytes.now self.old told.old room.old result self.new told.new room.new }
     {
         match event.step(self.alloc, bytes) {
             Ok(step) => self.make(step, told, room),
@@ -71,7 +74,7 @@ impl Face {
         told: &mut KazdrinTold,
         room: &mut [u8],
     ) -> u32
-        ensures { MakesNamed (Some (attach_named event.now name.now altitude.now)) self.old told.old room.old result self.new told.new room.new }
+        ensures { AttachTold event.now name.now altitude.now self.old told.old room.old result self.new told.new room.new }
     {
         match event.attach(name, altitude) {
             Ok(step) => self.make(step, told, room),
@@ -118,5 +121,78 @@ impl Face {
     {
         let worker = WorkerId(event.worker);
         outcome(&self.session.call_base(worker, &mut self.devices))
+    }
+
+    /// What the worker was lent, for its callback to look at. Refused with 30 if there is no such worker. Nothing changes.
+    pub fn lent(&self, event: &KazdrinEvent, told: &mut KazdrinData, room: &mut [u8]) -> u32
+        ensures { LentTold event.now self.now told.old room.old result self.now told.new room.new (slice_get self.now.session.lent event.now.worker) }
+    {
+        let Some(lent) = self.session.lent(WorkerId(event.worker)) else {
+            return 30;
+        };
+        let bytes = lent_bytes(event.is_flagged(), lent);
+        put_bytes(room, bytes);
+        *told = KazdrinData {
+            length: bytes.len() as u64,
+            ..lent_told(lent)
+        };
+        0
+    }
+
+    /// The callback puts the parameters that the event names in place of those that it received. Refused with 32, 15 or 1 as they are read, and as the session
+    /// refuses them: nothing changes then.
+    pub fn change(&mut self, event: &KazdrinEvent, bytes: &[u8]) -> u32
+        ensures { ChangeTold event.now bytes.now self.old result self.new }
+    {
+        match event.params(self.alloc, bytes) {
+            Ok(params) => {
+                let put = self.session.change(WorkerId(event.worker), params);
+                outcome(&put)
+            }
+            Err(status) => u32::from(status.number()),
+        }
+    }
+
+    // Puts that status and those bytes in the answer of what the worker was lent.
+    fn put_answer(&mut self, event: &KazdrinEvent, given: Given) -> u32
+        ensures { PutsAnswer event.now given.status given.bytes self.old result self.new }
+    {
+        let worker = WorkerId(event.worker);
+        let put = self
+            .session
+            .answer(worker, given.status, event.offset, given.bytes);
+        outcome(&put)
+    }
+
+    /// The callback puts a status and a number in the answer, and bytes, if the flag says so. Refused with 32 for a number that is no status's, with 1 if
+    /// memory was refused, and as the session refuses it: nothing changes then.
+    pub fn answer(&mut self, event: &KazdrinEvent, bytes: &[u8]) -> u32
+        ensures { AnswerPut event.now bytes.now self.old result self.new }
+    {
+        match event.answer(self.alloc, bytes) {
+            Ok(given) => self.put_answer(event, given),
+            Err(status) => u32::from(status.number()),
+        }
+    }
+
+    /// How many contexts were born and cleaned up, how many references callbacks left behind, and how many the worker holds: 0 if there is no such worker.
+    pub fn counts(&self, event: &KazdrinEvent) -> KazdrinCounts
+        ensures { result ≡ counts_of self.now.session.world event.now.worker }
+    {
+        let state = self.session.state();
+        KazdrinCounts {
+            born: state.born(),
+            cleaned: state.cleaned_count(),
+            leaks: state.leaks(),
+            held: state.hand_len(WorkerId(event.worker)) as u64,
+        }
+    }
+
+    /// The reference at that place of the worker's hand, if it holds so many.
+    pub fn held_at(&self, event: &KazdrinEvent) -> KazdrinTold
+        ensures { result ≡ held_told self.now.session.world event.now.worker event.now.len }
+    {
+        let state = self.session.state();
+        old_told(state.held_at(WorkerId(event.worker), event.len as usize))
     }
 }

@@ -1,17 +1,22 @@
 //! The manager for C: a handle on a session, and each event as a call. `c/include/kazdrin.h` declares what is exported here.
 #![tactic(auto)]
 
-ghost use Rattle.std.specs.Prelude.{◌≡◌, ◌≢◌, IfSome, Some};
+ghost use Rattle.std.specs.Prelude.{◌≡◌, ◌≢◌, IfSome, slice_get};
 ghost use Rattle.kazdrin_c.specs.Opened.{HasFresh, IsFresh, Opened};
-ghost use Rattle.kazdrin_c.specs.Calls.{BaseTold, MakesNamed, NextTold, PostTold, PreTold};
-ghost use Rattle.kazdrin_c.specs.Named.{attach_named, post_named, step_named, verdict_named};
+ghost use Rattle.kazdrin_c.specs.Calls.{AnswerPut, AttachTold, BaseTold, ChangeTold, LentTold, NextTold, PostTold, PreTold, StepTold};
+ghost use Rattle.kazdrin_c.specs.Counts.{CountsTold, HeldTold};
+ghost use Rattle.kazdrin_c.specs.Named.{post_named, verdict_named};
 
+mod counts;
+mod data;
 mod event;
 mod face;
 mod handle;
 mod loose;
 mod told;
 
+pub use crate::counts::KazdrinCounts;
+pub use crate::data::KazdrinData;
 pub use crate::event::KazdrinEvent;
 use crate::face::Face;
 pub use crate::handle::Kazdrin;
@@ -72,7 +77,7 @@ pub extern "C" fn kazdrin_step(
     told: &mut KazdrinTold,
     room: &mut [u8],
 ) -> u32
-    ensures open { kazdrin.old.is_open ≡ 1 → Opened kazdrin.old.kept.face kazdrin.new.kept.face (λ old new. MakesNamed (step_named event.now bytes.now) old told.old room.old result new told.new room.new) }
+    ensures open { kazdrin.old.is_open ≡ 1 → Opened kazdrin.old.kept.face kazdrin.new.kept.face (λ old new. StepTold event.now bytes.now old told.old room.old result new told.new room.new) }
     ensures stays { kazdrin.old.is_open ≡ 1 → kazdrin.new.is_open ≡ 1 }
     ensures closed { kazdrin.old.is_open ≢ 1 → (result ≡ 35) × (kazdrin.new ≡ kazdrin.old) }
 {
@@ -95,7 +100,7 @@ pub extern "C" fn kazdrin_attach(
     told: &mut KazdrinTold,
     room: &mut [u8],
 ) -> u32
-    ensures open { kazdrin.old.is_open ≡ 1 → Opened kazdrin.old.kept.face kazdrin.new.kept.face (λ old new. MakesNamed (Some (attach_named event.now name.now altitude.now)) old told.old room.old result new told.new room.new) }
+    ensures open { kazdrin.old.is_open ≡ 1 → Opened kazdrin.old.kept.face kazdrin.new.kept.face (λ old new. AttachTold event.now name.now altitude.now old told.old room.old result new told.new room.new) }
     ensures stays { kazdrin.old.is_open ≡ 1 → kazdrin.new.is_open ≡ 1 }
     ensures closed { kazdrin.old.is_open ≢ 1 → (result ≡ 35) × (kazdrin.new ≡ kazdrin.old) }
 {
@@ -178,4 +183,107 @@ pub extern "C" fn kazdrin_base(alloc: Global, kazdrin: &mut Kazdrin, event: &Kaz
     let result = face.base(event);
     kazdrin.put(face);
     result
+}
+
+/// Looks at what the worker was lent: the parameters' bytes, or with the flag those of the answer so far (of a call of the base its file's path). Refused with
+/// 30 if there is no such worker. Nothing changes but what is told.
+#[unsafe(no_mangle)]
+pub extern "C" fn kazdrin_lent(
+    alloc: Global,
+    kazdrin: &mut Kazdrin,
+    event: &KazdrinEvent,
+    told: &mut KazdrinData,
+    room: &mut [u8],
+) -> u32
+    ensures open { kazdrin.old.is_open ≡ 1 → Opened kazdrin.old.kept.face kazdrin.new.kept.face (λ old new. LentTold event.now old told.old room.old result new told.new room.new (slice_get old.session.lent event.now.worker)) }
+    ensures stays { kazdrin.old.is_open ≡ 1 → kazdrin.new.is_open ≡ 1 }
+    ensures closed { kazdrin.old.is_open ≢ 1 → (result ≡ 35) × (kazdrin.new ≡ kazdrin.old) }
+{
+    let Some(face) = kazdrin.take(alloc) else {
+        return CLOSED;
+    };
+    let result = face.lent(event, told, room);
+    kazdrin.put(face);
+    result
+}
+
+/// The callback that the worker is in changes the parameters that it was lent (`FltSetCallbackDataDirty`), to those that the event names by the number of the
+/// operation's own event.
+#[unsafe(no_mangle)]
+pub extern "C" fn kazdrin_change(
+    alloc: Global,
+    kazdrin: &mut Kazdrin,
+    event: &KazdrinEvent,
+    bytes: &[u8],
+) -> u32
+    ensures open { kazdrin.old.is_open ≡ 1 → Opened kazdrin.old.kept.face kazdrin.new.kept.face (λ old new. ChangeTold event.now bytes.now old result new) }
+    ensures stays { kazdrin.old.is_open ≡ 1 → kazdrin.new.is_open ≡ 1 }
+    ensures closed { kazdrin.old.is_open ≢ 1 → (result ≡ 35) × (kazdrin.new ≡ kazdrin.old) }
+{
+    let Some(mut face) = kazdrin.take(alloc) else {
+        return CLOSED;
+    };
+    let result = face.change(event, bytes);
+    kazdrin.put(face);
+    result
+}
+
+/// The callback that the worker is in changes the answer (`IoStatus`): the status, the number in `offset`, and with the flag the bytes.
+#[unsafe(no_mangle)]
+pub extern "C" fn kazdrin_answer(
+    alloc: Global,
+    kazdrin: &mut Kazdrin,
+    event: &KazdrinEvent,
+    bytes: &[u8],
+) -> u32
+    ensures open { kazdrin.old.is_open ≡ 1 → Opened kazdrin.old.kept.face kazdrin.new.kept.face (λ old new. AnswerPut event.now bytes.now old result new) }
+    ensures stays { kazdrin.old.is_open ≡ 1 → kazdrin.new.is_open ≡ 1 }
+    ensures closed { kazdrin.old.is_open ≢ 1 → (result ≡ 35) × (kazdrin.new ≡ kazdrin.old) }
+{
+    let Some(mut face) = kazdrin.take(alloc) else {
+        return CLOSED;
+    };
+    let result = face.answer(event, bytes);
+    kazdrin.put(face);
+    result
+}
+
+/// Reads the manager's counts, and how many references the worker holds. Nothing changes but what is told.
+#[unsafe(no_mangle)]
+pub extern "C" fn kazdrin_counts(
+    alloc: Global,
+    kazdrin: &mut Kazdrin,
+    event: &KazdrinEvent,
+    counts: &mut KazdrinCounts,
+) -> u32
+    ensures open { kazdrin.old.is_open ≡ 1 → Opened kazdrin.old.kept.face kazdrin.new.kept.face (λ old new. CountsTold event.now old result new counts.new) }
+    ensures stays { kazdrin.old.is_open ≡ 1 → kazdrin.new.is_open ≡ 1 }
+    ensures closed { kazdrin.old.is_open ≢ 1 → (result ≡ 35) × (kazdrin.new ≡ kazdrin.old) }
+{
+    let Some(face) = kazdrin.take(alloc) else {
+        return CLOSED;
+    };
+    *counts = face.counts(event);
+    kazdrin.put(face);
+    0
+}
+
+/// Reads the reference at a place of the worker's hand: none if it holds fewer. Nothing changes but what is told.
+#[unsafe(no_mangle)]
+pub extern "C" fn kazdrin_held_at(
+    alloc: Global,
+    kazdrin: &mut Kazdrin,
+    event: &KazdrinEvent,
+    told: &mut KazdrinTold,
+) -> u32
+    ensures open { kazdrin.old.is_open ≡ 1 → Opened kazdrin.old.kept.face kazdrin.new.kept.face (λ old new. HeldTold event.now old result new told.new) }
+    ensures stays { kazdrin.old.is_open ≡ 1 → kazdrin.new.is_open ≡ 1 }
+    ensures closed { kazdrin.old.is_open ≢ 1 → (result ≡ 35) × (kazdrin.new ≡ kazdrin.old) }
+{
+    let Some(face) = kazdrin.take(alloc) else {
+        return CLOSED;
+    };
+    *told = face.held_at(event);
+    kazdrin.put(face);
+    0
 }

@@ -73,7 +73,8 @@ fn context_told(context: CtxId) -> KazdrinTold
     }
 }
 
-fn old_told(context: Option<CtxId>) -> KazdrinTold
+/// A context that may be absent.
+pub fn old_told(context: Option<CtxId>) -> KazdrinTold
     ensures { result ≡ old_told context }
 {
     match context {

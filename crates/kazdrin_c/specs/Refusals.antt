@@ -1,0 +1,33 @@
+-- Why what C passes makes no event.
+use Rattle.std.specs.Prelude.{◌≡◌, ◌==◌, ◌||◌, ⊤, ℕ, List, Option, None, true}
+use Rattle.fm_types.specs.declared.status.Status.{Status}
+use Rattle.fm_types.specs.declared.status.Status.TheVariants.{NoMemory, BadAltitude, BadName, BadPath, BadRequest}
+use Rattle.fm_types.specs.Names.{IsName}
+use Rattle.fm_types.specs.Paths.{IsPath}
+use Rattle.fm_altitude.specs.Grammar.{IsAltitude}
+use Rattle.fm_world.specs.declared.step.Step.{Step}
+use Rattle.kazdrin_c.specs.declared.event.KazdrinEvent.{KazdrinEvent}
+use Rattle.kazdrin_c.specs.Named.{step_named}
+
+-- memory was refused, or the number names nothing
+abbrev pub Unnamed : {T : Type 0} → Option T → Status → Type 0
+Unnamed named NoMemory = ⊤
+Unnamed named BadRequest = named ≡ None
+Unnamed named _ = ⊥
+
+-- that of kazdrin_step: or a text is no name of a filter or a volume, or no path of a create
+abbrev pub Unread : KazdrinEvent → List ℕ → Option Step → Status → Type 0
+Unread e bytes named BadName = ((e.event == 1 || e.event == 2) ≡ true) × (IsName bytes → ⊥)
+Unread e bytes named BadPath = (e.event ≡ 4) × (IsPath bytes → ⊥)
+Unread e bytes named status = Unnamed named status
+
+-- that of kazdrin_attach: the name is read first
+abbrev pub UnreadTexts : List ℕ → List ℕ → Status → Type 0
+UnreadTexts name altitude BadName = IsName name → ⊥
+UnreadTexts name altitude BadAltitude = IsName name × (IsAltitude altitude → ⊥)
+UnreadTexts name altitude _ = ⊥
+
+-- that of parameters: the number is no operation's, or the text no path of a create
+abbrev pub UnreadParams : {T : Type 0} → KazdrinEvent → List ℕ → Option T → Status → Type 0
+UnreadParams e bytes named BadPath = (e.event ≡ 4) × (IsPath bytes → ⊥)
+UnreadParams e bytes named status = Unnamed named status

@@ -1,19 +1,23 @@
 #!/usr/bin/env bash
-# Builds the archive of crates/kazdrin_c and the programs of c/samples, runs each and compares what it prints with c/expected. The last line is
-# 'N passed, M failed', and the exit status says whether any failed. Without a C compiler it says so and tries nothing.
+# Builds the archive of crates/kazdrin_c, the programs of c/tests, and a program of each file of c/requests with its drivers. It runs each, compares what it
+# prints with c/expected, and runs it again under valgrind, if that is there. The last line is 'N passed, M failed', and the exit status says whether any
+# failed. Without a C compiler it says so and tries nothing. KAZDRIN_LIB is an archive to be taken in place of a new one.
 set -u
 cd "$(dirname "$0")/.."
-if ! command -v cc > /dev/null; then
-    echo "C programs: no cc here, so none was built or run"
+if ! command -v cc > /dev/null || ! command -v objcopy > /dev/null; then
+    echo "C programs: no cc and objcopy here, so none was built or run"
     exit 0
 fi
-kit=${KIT:-$(dirname "$(rt doc | head -1)")}
+export KIT=${KIT:-$(dirname "$(rt doc | head -1)")}
 room=$(mktemp -d)
 trap 'rm -rf "$room"' EXIT
-if ! (cd crates/kazdrin_c && rt lib) > "$room/lib.log" 2>&1; then
-    cat "$room/lib.log"
-    echo "C programs: 0 passed, 1 failed (the archive)"
-    exit 1
+if [ -z "${KAZDRIN_LIB:-}" ]; then
+    if ! (cd crates/kazdrin_c && rt lib) > "$room/lib.log" 2>&1; then
+        cat "$room/lib.log"
+        echo "C programs: 0 passed, 1 failed (the archive)"
+        exit 1
+    fi
+    export KAZDRIN_LIB=$PWD/crates/kazdrin_c/out/libkazdrin_c.a
 fi
 passed=0
 failed=0
@@ -25,18 +29,38 @@ tell() {
         echo "C programs: $2 failed"
     fi
 }
-for source in c/samples/*.c; do
-    name=$(basename "$source" .c)
-    cc -std=c11 -O1 -g -Wall -Wextra -Werror -Ic/include -o "$room/$name" "$source" crates/kazdrin_c/out/libkazdrin_c.a "$kit/c/libos_c.a" "$kit/c/liblibc_c.a"
-    tell $? "$name, as it was built,"
-    "$room/$name" > "$room/$name.out" 2> "$room/$name.err"
+# Runs PROGRAM with its words, compares what it prints, and looks at it under valgrind.
+try() {
+    name=$1
+    shift
+    "$@" > "$room/$name.out" 2> "$room/$name.err"
     [ $? = "$(cat "c/expected/$name.status" 2> /dev/null || echo 0)" ] && diff "c/expected/$name.out" "$room/$name.out"
     tell $? "$name"
-    if command -v valgrind > /dev/null; then
-        valgrind -q --error-exitcode=99 --leak-check=full "$room/$name" > /dev/null 2> "$room/$name.valgrind"
-        [ $? != 99 ] || { cat "$room/$name.valgrind"; false; }
-        tell $? "$name under valgrind"
-    fi
+    command -v valgrind > /dev/null || return
+    valgrind -q --error-exitcode=99 --leak-check=full "$@" > /dev/null 2> "$room/$name.valgrind"
+    [ $? != 99 ] || { cat "$room/$name.valgrind"; false; }
+    tell $? "$name under valgrind"
+}
+words="-std=gnu11 -fshort-wchar -O1 -g -Wall -Wextra -Werror -Ic/include"
+for source in c/host/*.c; do
+    cc $words -c -o "$room/host_$(basename "$source" .c).o" "$source"
+    tell $? "$source, as it was built,"
+done
+export KZ_MAIN=$room/host_main.o
+mv "$room/host_main.o" "$room/main.o" && KZ_MAIN=$room/main.o
+export KZ_HOST="$(echo "$room"/host_*.o)"
+cc -std=c11 -O1 -g -Wall -Wextra -Werror -Ic/include -o "$room/calls" c/tests/calls.c "$KAZDRIN_LIB" "$KIT/c/libos_c.a" "$KIT/c/liblibc_c.a"
+tell $? "calls, as it was built,"
+try calls "$room/calls"
+for requests in c/requests/*.txt; do
+    name=$(basename "$requests" .txt)
+    drivers=""
+    for driver in $(sed -n 's/^# drivers: //p' "$requests" | grep . || echo "$name"); do
+        drivers="$drivers $(ls c/samples/"$driver".c c/misuse/"$driver".c 2> /dev/null)"
+    done
+    c/build.sh "$room/$name" $drivers
+    tell $? "$name, as it was built,"
+    try "$name" "$room/$name" "$requests"
 done
 echo "C programs: $passed passed, $failed failed"
 [ "$failed" = 0 ]

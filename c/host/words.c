@@ -1,0 +1,238 @@
+/* Requests in words, one a line, and runs of them. */
+#include "host.h"
+
+#include <stdlib.h>
+
+#define WORDS 8
+#define LINE (2 * KZ_BYTES + 64)
+
+/* ---- Single words. */
+static bool read_number(const char *word, uint64_t limit, uint64_t *number)
+{
+    *number = 0;
+    if (!*word)
+        return false;
+    for (; *word; word++) {
+        if (*word < '0' || *word > '9' || *number > (UINT64_MAX - 9) / 10)
+            return false;
+        *number = *number * 10 + (uint64_t)(*word - '0');
+    }
+    return *number < limit;
+}
+
+static int digit(char letter)
+{
+    const char *digits = "0123456789abcdef", *found = letter ? strchr(digits, letter) : NULL;
+    return found ? (int)(found - digits) : -1;
+}
+
+static bool read_hex(const char *word, uint8_t *bytes, size_t *length)
+{
+    for (*length = 0; *word; word += 2) {
+        int high = digit(word[0]), low = high < 0 ? -1 : digit(word[1]);
+        if (low < 0 || *length == KZ_BYTES)
+            return false;
+        bytes[(*length)++] = (uint8_t)(high << 4 | low);
+    }
+    return true;
+}
+
+/* ---- Requests. Each answers; `words` has the word that names it first. */
+static const KzReply bad = {.status = KZ_BAD_REQUEST};
+
+static KzReply said(KzReply reply)
+{
+    kz_print_reply(reply, NULL, 0);
+    return reply;
+}
+
+static KzReply outcome(uint32_t status, uint64_t number)
+{
+    return said((KzReply){.status = status, .information = status == KZ_OK ? number : 0});
+}
+
+static KzReply ask_load(char **words)
+{
+    uint64_t number = 0;
+    uint32_t status = kz_load(words[1], &number);
+    return outcome(status, number);
+}
+
+static KzReply ask_mount(char **words)
+{
+    uint64_t number = 0;
+    uint32_t status = kz_mount(words[1], &number);
+    return outcome(status, number);
+}
+
+static KzReply ask_attach(char **words)
+{
+    uint64_t filter, volume, number = 0;
+    if (!read_number(words[1], 256, &filter) || !read_number(words[2], 256, &volume))
+        return said(bad);
+    if (filter >= kz.filters_count)
+        return outcome(KZ_NO_FILTER, 0);
+    if (volume >= kz.volumes_count)
+        return outcome(KZ_NO_VOLUME, 0);
+    uint32_t status = kz_attach(kz.filters[filter], kz.volumes[volume], words[3], words[4], &number);
+    return outcome(status, number);
+}
+
+static KzReply ask_detach(char **words)
+{
+    uint64_t at;
+    if (!read_number(words[1], 65536, &at))
+        return said(bad);
+    return outcome(at < kz.instances_count ? kz_detach(kz.instances[at]) : KZ_NO_INSTANCE, 0);
+}
+
+static KzReply ask_unload(char **words)
+{
+    uint64_t at;
+    if (!read_number(words[1], 256, &at))
+        return said(bad);
+    return outcome(at < kz.filters_count ? kz_unload(kz.filters[at]) : KZ_NO_FILTER, 0);
+}
+
+static KzReply ask_dismount(char **words)
+{
+    uint64_t at;
+    if (!read_number(words[1], 256, &at))
+        return said(bad);
+    return outcome(at < kz.volumes_count ? kz_dismount(kz.volumes[at]) : KZ_NO_VOLUME, 0);
+}
+
+static KzReply ask_create(char **words)
+{
+    static const char *const modes[] = {"existing", "new", "always"};
+    uint64_t volume;
+    uint8_t mode = 0;
+    while (mode < 3 && strcmp(modes[mode], words[2]) != 0)
+        mode++;
+    if (mode == 3 || !read_number(words[1], 256, &volume))
+        return said(bad);
+    return kz_perform((KazdrinEvent){.event = KZ_CREATE, .volume = (uint8_t)volume, .mode = mode}, words[3], strlen(words[3]), words[3]);
+}
+
+static KzReply ask_list(char **words)
+{
+    uint64_t volume;
+    if (!read_number(words[1], 256, &volume))
+        return said(bad);
+    return kz_perform((KazdrinEvent){.event = KZ_LIST, .volume = (uint8_t)volume}, "", 0, NULL);
+}
+
+static KzReply ask_read(char **words)
+{
+    uint64_t handle, offset, length;
+    if (!read_number(words[1], UINT64_MAX, &handle) || !read_number(words[2], UINT64_MAX, &offset) || !read_number(words[3], KZ_BYTES + 1, &length))
+        return said(bad);
+    return kz_perform((KazdrinEvent){.event = KZ_READ, .handle = handle, .offset = offset, .len = (uint32_t)length}, "", 0, NULL);
+}
+
+static KzReply ask_write(char **words)
+{
+    static uint8_t bytes[KZ_BYTES];
+    uint64_t handle, offset;
+    size_t length;
+    if (!read_number(words[1], UINT64_MAX, &handle) || !read_number(words[2], UINT64_MAX, &offset) || !read_hex(words[3], bytes, &length))
+        return said(bad);
+    return kz_perform((KazdrinEvent){.event = KZ_WRITE, .handle = handle, .offset = offset}, bytes, length, NULL);
+}
+
+static KzReply ask_set_size(char **words)
+{
+    uint64_t handle, size;
+    if (!read_number(words[1], UINT64_MAX, &handle) || !read_number(words[2], UINT64_MAX, &size))
+        return said(bad);
+    return kz_perform((KazdrinEvent){.event = KZ_SET_SIZE, .handle = handle, .offset = size}, "", 0, NULL);
+}
+
+static KzReply on_handle(char **words, uint32_t event)
+{
+    uint64_t handle;
+    if (!read_number(words[1], UINT64_MAX, &handle))
+        return said(bad);
+    return kz_perform((KazdrinEvent){.event = event, .handle = handle}, "", 0, NULL);
+}
+
+static KzReply ask_query_size(char **words)
+{
+    return on_handle(words, KZ_QUERY_SIZE);
+}
+
+static KzReply ask_flush(char **words)
+{
+    return on_handle(words, KZ_FLUSH);
+}
+
+static KzReply ask_set_delete(char **words)
+{
+    return on_handle(words, KZ_SET_DELETE);
+}
+
+static KzReply ask_close(char **words)
+{
+    uint64_t handle;
+    return read_number(words[1], UINT64_MAX, &handle) ? kz_close_file(handle) : said(bad);
+}
+
+static const struct {
+    const char *name;
+    size_t words;
+    KzReply (*ask)(char **words);
+} requests[] = {
+    {"load", 2, ask_load},           {"mount", 2, ask_mount},         {"attach", 5, ask_attach},       {"detach", 2, ask_detach},
+    {"unload", 2, ask_unload},       {"dismount", 2, ask_dismount},   {"create", 4, ask_create},       {"list", 2, ask_list},
+    {"read", 4, ask_read},           {"write", 4, ask_write},         {"setsize", 3, ask_set_size},    {"querysize", 2, ask_query_size},
+    {"flush", 2, ask_flush},         {"setdelete", 2, ask_set_delete}, {"close", 2, ask_close},
+};
+
+/* ---- Lines. */
+static size_t split(char *line, char **words)
+{
+    size_t count = 0;
+    for (char *word = strtok(line, " \t\r\n"); word && count < WORDS; word = strtok(NULL, " \t\r\n"))
+        words[count++] = word;
+    return count;
+}
+
+KzReply kz_request(const char *line)
+{
+    static char room[LINE];
+    char *words[WORDS];
+    if (strlen(line) >= sizeof room)
+        return said(bad);
+    strcpy(room, line);
+    size_t count = split(room, words);
+    if (count == 0 || words[0][0] == '#')
+        return (KzReply){0};
+    kz_say(">");
+    for (size_t at = 0; at < count; at++)
+        kz_say(" %s", words[at]);
+    kz_say("\n");
+    for (size_t at = 0; at < sizeof requests / sizeof requests[0]; at++)
+        if (strcmp(requests[at].name, words[0]) == 0)
+            return requests[at].words == count ? requests[at].ask(words) : said(bad);
+    return said(bad);
+}
+
+int kz_run(const KzDriver *drivers, size_t count, const char *const *lines, size_t length)
+{
+    if (kz_open(drivers, count) != 0)
+        return 1;
+    for (size_t at = 0; at < length; at++)
+        kz_request(lines[at]);
+    return kz_close();
+}
+
+int kz_run_file(const KzDriver *drivers, size_t count, FILE *file)
+{
+    static char line[LINE];
+    if (kz_open(drivers, count) != 0)
+        return 1;
+    while (fgets(line, sizeof line, file))
+        kz_request(line);
+    int status = kz_close();
+    return ferror(file) ? 3 : status;
+}

@@ -1,0 +1,45 @@
+/* The host: it loads drivers by their DriverEntry, and plays the requests of a program through them, above the proved manager. */
+#ifndef KZFLT_H
+#define KZFLT_H
+
+#include <fltKernel.h>
+#include <stddef.h>
+#include <stdio.h>
+
+/* A driver, and the name by which it is loaded. */
+typedef struct {
+    const char *name;
+    DRIVER_INITIALIZE *entry;
+} KzDriver;
+
+/* Runs requests, one a line, in the words of docs/C.md, and writes each with its reply to the standard output. Volume 0, `v0`, is there from the start. After the last
+ * request every filter is unloaded, and the counts of contexts are written.
+ *
+ * Misuse of the kit's calls is told in a line of its own that begins with TOLD. The answer is an exit status: 0, or 5 if something was told, or 1 if memory was
+ * refused. */
+int kz_run(const KzDriver *drivers, size_t count, const char *const *requests, size_t length);
+
+/* The same with the lines of a file. The answer is 3 if it can't be read. */
+int kz_run_file(const KzDriver *drivers, size_t count, FILE *requests);
+
+/* What a request was answered: status is its number; held says that a filter holds the operation of that number, which is answered later. */
+typedef struct {
+    uint32_t status;
+    int held;
+    uint64_t information, operation;
+} KzReply;
+
+/* The same step by step, for tests: kz_open, any number of kz_request, and kz_close, whose answer is that of kz_run. kz_is_quiet leaves out all lines but
+ * what is told. */
+int kz_open(const KzDriver *drivers, size_t count);
+KzReply kz_request(const char *line);
+int kz_close(void);
+extern int kz_is_quiet;
+
+/* How many lines were told so far, and how many contexts were born and cleaned up; of a run that was closed, at its end. */
+typedef struct {
+    uint64_t told, born, cleaned, leaked;
+} KzCounts;
+KzCounts kz_counts(void);
+
+#endif

@@ -39,8 +39,6 @@ static void leave_visit(KzOp *op)
 {
     KzVisit *visited = op->visits;
     op->visits = visited->above;
-    if (visited->mdl)
-        IoFreeMdl(visited->mdl);
     free(visited);
 }
 
@@ -65,6 +63,8 @@ void kz_free_data(KzOp *op)
 {
     while (op->visits)
         leave_visit(op);
+    for (; op->mdls; op->mdls = op->mdls->next)
+        IoFreeMdl(op->mdls->mdl);
     while (op->blocks) {
         KzBlock *block = op->blocks;
         op->blocks = block->next;
@@ -154,12 +154,20 @@ void kz_show_pre(KzOp *op, PFLT_INSTANCE instance)
 }
 
 /* ---- What a preoperation left. */
+static void keep_mdl(KzOp *op, PMDL mdl)
+{
+    KzMdl *kept = kz_block(op, sizeof *kept);
+    *kept = (KzMdl){op->mdls, mdl};
+    op->mdls = kept;
+}
+
 static void note_swap(KzOp *op, bool has_post)
 {
     KzVisit *visited = op->visits;
-    if (op->iopb.Parameters.Read.MdlAddress != op->shown.Parameters.Read.MdlAddress) {
-        visited->mdl = op->iopb.Parameters.Read.MdlAddress;
-        visited->swapped = visited->mdl ? visited->mdl->Address : NULL;
+    PMDL mdl = op->iopb.Parameters.Read.MdlAddress;
+    if (mdl) {
+        keep_mdl(op, mdl);
+        visited->swapped = mdl->Address;
     } else if (op->iopb.Parameters.Read.ReadBuffer != visited->received) {
         visited->swapped = op->iopb.Parameters.Read.ReadBuffer;
     }
@@ -170,10 +178,11 @@ static void note_swap(KzOp *op, bool has_post)
 
 static const uint8_t *written(KzOp *op)
 {
-    const FLT_PARAMETERS *now = &op->iopb.Parameters;
-    if (now->Write.MdlAddress != op->shown.Parameters.Write.MdlAddress && now->Write.MdlAddress)
-        return now->Write.MdlAddress->Address;
-    return now->Write.WriteBuffer;
+    PMDL mdl = op->iopb.Parameters.Write.MdlAddress;
+    if (!mdl)
+        return op->iopb.Parameters.Write.WriteBuffer;
+    keep_mdl(op, mdl);
+    return mdl->Address;
 }
 
 /* The parameters that the callback left, as the manager's event; false for what it hasn't. */

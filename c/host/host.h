@@ -106,8 +106,13 @@ typedef struct KzVisit {
     PFLT_INSTANCE instance;
     PVOID received, swapped;
     ULONG room, swapped_room;
-    PMDL mdl;
 } KzVisit;
+
+/* The description of a swapped buffer: as in the kit, the manager frees it. */
+typedef struct KzMdl {
+    struct KzMdl *next;
+    PMDL mdl;
+} KzMdl;
 
 typedef enum { KZ_NOT_HELD_NOW, KZ_HELD_PRE, KZ_HELD_POST } KzHold;
 
@@ -124,6 +129,7 @@ struct KzOp {
     NTSTATUS other; /* the kit's status that the manager counts as a device fault */
     KzBlock *blocks;
     KzVisit *visits;
+    KzMdl *mdls;
     PVOID caller; /* the buffer of a read's caller */
     ULONG caller_room;
     uint8_t *asked, *pristine, *answered; /* the bytes that a callback was shown, and what they were before it */

@@ -1,0 +1,186 @@
+/* Pends reads in a queue of its own, in the order in which they came, and lets them go on when the file's data is flushed. It holds the postoperation of a query of the
+ * size in the same way. At the teardown of its instance it completes what is left. */
+#include <fltKernel.h>
+
+typedef struct _INSTANCE_CONTEXT {
+    LIST_ENTRY QueueHead;
+    FAST_MUTEX Lock;
+    PFLT_CALLBACK_DATA Held;
+} INSTANCE_CONTEXT, *PINSTANCE_CONTEXT;
+
+#define INSTANCE_TAG 'iqSC'
+
+PFLT_FILTER gFilterHandle;
+
+static NTSTATUS InstanceSetup(_In_ PCFLT_RELATED_OBJECTS FltObjects, _In_ FLT_INSTANCE_SETUP_FLAGS Flags, _In_ DEVICE_TYPE VolumeDeviceType,
+                              _In_ FLT_FILESYSTEM_TYPE VolumeFilesystemType)
+{
+    PINSTANCE_CONTEXT instCtx;
+    NTSTATUS status;
+
+    UNREFERENCED_PARAMETER(Flags);
+    UNREFERENCED_PARAMETER(VolumeFilesystemType);
+
+    if (VolumeDeviceType != FILE_DEVICE_DISK_FILE_SYSTEM) {
+        return STATUS_FLT_DO_NOT_ATTACH;
+    }
+    status = FltAllocateContext(FltObjects->Filter, FLT_INSTANCE_CONTEXT, sizeof(INSTANCE_CONTEXT), NonPagedPool, (PFLT_CONTEXT *)&instCtx);
+    if (!NT_SUCCESS(status)) {
+        return status;
+    }
+    InitializeListHead(&instCtx->QueueHead);
+    ExInitializeFastMutex(&instCtx->Lock);
+    instCtx->Held = NULL;
+    status = FltSetInstanceContext(FltObjects->Instance, FLT_SET_CONTEXT_KEEP_IF_EXISTS, instCtx, NULL);
+    FltReleaseContext(instCtx);
+    return status;
+}
+
+static PFLT_CALLBACK_DATA RemoveNext(_In_ PINSTANCE_CONTEXT InstCtx)
+{
+    PFLT_CALLBACK_DATA data = NULL;
+
+    ExAcquireFastMutex(&InstCtx->Lock);
+    if (!IsListEmpty(&InstCtx->QueueHead)) {
+        data = CONTAINING_RECORD(RemoveHeadList(&InstCtx->QueueHead), FLT_CALLBACK_DATA, QueueLinks);
+    }
+    ExReleaseFastMutex(&InstCtx->Lock);
+    return data;
+}
+
+static FLT_PREOP_CALLBACK_STATUS PreRead(_Inout_ PFLT_CALLBACK_DATA Data, _In_ PCFLT_RELATED_OBJECTS FltObjects,
+                                         _Flt_CompletionContext_Outptr_ PVOID *CompletionContext)
+{
+    PINSTANCE_CONTEXT instCtx;
+
+    UNREFERENCED_PARAMETER(CompletionContext);
+
+    if (!NT_SUCCESS(FltGetInstanceContext(FltObjects->Instance, (PFLT_CONTEXT *)&instCtx))) {
+        return FLT_PREOP_SUCCESS_NO_CALLBACK;
+    }
+    ExAcquireFastMutex(&instCtx->Lock);
+    InsertTailList(&instCtx->QueueHead, &Data->QueueLinks);
+    ExReleaseFastMutex(&instCtx->Lock);
+    FltReleaseContext(instCtx);
+    DbgPrint("CancelSafe: a read of %u bytes is pended\n", Data->Iopb->Parameters.Read.Length);
+    return FLT_PREOP_PENDING;
+}
+
+static FLT_POSTOP_CALLBACK_STATUS PostRead(_Inout_ PFLT_CALLBACK_DATA Data, _In_ PCFLT_RELATED_OBJECTS FltObjects, _In_opt_ PVOID CompletionContext,
+                                           _In_ FLT_POST_OPERATION_FLAGS Flags)
+{
+    UNREFERENCED_PARAMETER(FltObjects);
+    UNREFERENCED_PARAMETER(CompletionContext);
+
+    if (FlagOn(Flags, FLTFL_POST_OPERATION_DRAINING)) {
+        DbgPrint("CancelSafe: a read is drained\n");
+    } else {
+        DbgPrint("CancelSafe: a read ends with 0x%08x\n", Data->IoStatus.Status);
+    }
+    return FLT_POSTOP_FINISHED_PROCESSING;
+}
+
+static FLT_POSTOP_CALLBACK_STATUS PostQueryInformation(_Inout_ PFLT_CALLBACK_DATA Data, _In_ PCFLT_RELATED_OBJECTS FltObjects,
+                                                       _In_opt_ PVOID CompletionContext, _In_ FLT_POST_OPERATION_FLAGS Flags)
+{
+    FLT_POSTOP_CALLBACK_STATUS returnStatus = FLT_POSTOP_FINISHED_PROCESSING;
+    PINSTANCE_CONTEXT instCtx;
+
+    UNREFERENCED_PARAMETER(CompletionContext);
+
+    if (FlagOn(Flags, FLTFL_POST_OPERATION_DRAINING) || !NT_SUCCESS(FltGetInstanceContext(FltObjects->Instance, (PFLT_CONTEXT *)&instCtx))) {
+        return FLT_POSTOP_FINISHED_PROCESSING;
+    }
+    if (instCtx->Held == NULL) {
+        instCtx->Held = Data;
+        returnStatus = FLT_POSTOP_MORE_PROCESSING_REQUIRED;
+    }
+    FltReleaseContext(instCtx);
+    return returnStatus;
+}
+
+static FLT_PREOP_CALLBACK_STATUS PreFlush(_Inout_ PFLT_CALLBACK_DATA Data, _In_ PCFLT_RELATED_OBJECTS FltObjects,
+                                          _Flt_CompletionContext_Outptr_ PVOID *CompletionContext)
+{
+    PINSTANCE_CONTEXT instCtx;
+    PFLT_CALLBACK_DATA pended;
+
+    UNREFERENCED_PARAMETER(Data);
+    UNREFERENCED_PARAMETER(CompletionContext);
+
+    if (!NT_SUCCESS(FltGetInstanceContext(FltObjects->Instance, (PFLT_CONTEXT *)&instCtx))) {
+        return FLT_PREOP_SUCCESS_NO_CALLBACK;
+    }
+    while ((pended = RemoveNext(instCtx)) != NULL) {
+        FltCompletePendedPreOperation(pended, FLT_PREOP_SUCCESS_WITH_CALLBACK, NULL);
+    }
+    if (instCtx->Held != NULL) {
+        FltCompletePendedPostOperation(instCtx->Held);
+        instCtx->Held = NULL;
+    }
+    FltReleaseContext(instCtx);
+    return FLT_PREOP_SUCCESS_NO_CALLBACK;
+}
+
+static VOID InstanceTeardownStart(_In_ PCFLT_RELATED_OBJECTS FltObjects, _In_ FLT_INSTANCE_TEARDOWN_FLAGS Reason)
+{
+    PINSTANCE_CONTEXT instCtx;
+    PFLT_CALLBACK_DATA pended;
+
+    UNREFERENCED_PARAMETER(Reason);
+
+    if (!NT_SUCCESS(FltGetInstanceContext(FltObjects->Instance, (PFLT_CONTEXT *)&instCtx))) {
+        return;
+    }
+    while ((pended = RemoveNext(instCtx)) != NULL) {
+        DbgPrint("CancelSafe: a read is completed at the teardown\n");
+        pended->IoStatus.Status = STATUS_FLT_DELETING_OBJECT;
+        pended->IoStatus.Information = 0;
+        FltCompletePendedPreOperation(pended, FLT_PREOP_COMPLETE, NULL);
+    }
+    if (instCtx->Held != NULL) {
+        FltCompletePendedPostOperation(instCtx->Held);
+        instCtx->Held = NULL;
+    }
+    FltReleaseContext(instCtx);
+}
+
+static NTSTATUS InstanceQueryTeardown(_In_ PCFLT_RELATED_OBJECTS FltObjects, _In_ FLT_INSTANCE_QUERY_TEARDOWN_FLAGS Flags)
+{
+    UNREFERENCED_PARAMETER(FltObjects);
+    UNREFERENCED_PARAMETER(Flags);
+    return STATUS_SUCCESS;
+}
+
+static NTSTATUS Unload(_In_ FLT_FILTER_UNLOAD_FLAGS Flags)
+{
+    UNREFERENCED_PARAMETER(Flags);
+    FltUnregisterFilter(gFilterHandle);
+    return STATUS_SUCCESS;
+}
+
+CONST FLT_OPERATION_REGISTRATION Callbacks[] = {{IRP_MJ_READ, 0, PreRead, PostRead},
+                                                {IRP_MJ_QUERY_INFORMATION, 0, NULL, PostQueryInformation},
+                                                {IRP_MJ_FLUSH_BUFFERS, 0, PreFlush, NULL},
+                                                {IRP_MJ_OPERATION_END}};
+
+CONST FLT_CONTEXT_REGISTRATION ContextRegistration[] = {{FLT_INSTANCE_CONTEXT, 0, NULL, sizeof(INSTANCE_CONTEXT), INSTANCE_TAG}, {FLT_CONTEXT_END}};
+
+CONST FLT_REGISTRATION FilterRegistration = {sizeof(FLT_REGISTRATION), FLT_REGISTRATION_VERSION, 0,    ContextRegistration,   Callbacks, Unload,
+                                             InstanceSetup,            InstanceQueryTeardown,    InstanceTeardownStart, NULL};
+
+NTSTATUS DriverEntry(_In_ PDRIVER_OBJECT DriverObject, _In_ PUNICODE_STRING RegistryPath)
+{
+    NTSTATUS status;
+
+    UNREFERENCED_PARAMETER(RegistryPath);
+
+    status = FltRegisterFilter(DriverObject, &FilterRegistration, &gFilterHandle);
+    if (NT_SUCCESS(status)) {
+        status = FltStartFiltering(gFilterHandle);
+        if (!NT_SUCCESS(status)) {
+            FltUnregisterFilter(gFilterHandle);
+        }
+    }
+    return status;
+}

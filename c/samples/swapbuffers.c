@@ -1,0 +1,233 @@
+/* Swaps the buffers of reads and writes. What is written goes down from a buffer of its own with each byte turned by a key, and what is read comes up into a buffer
+ * of its own, is turned back and copied into the caller's. A volume context keeps the volume's name and the counts. */
+#include <fltKernel.h>
+
+#define BUFFER_SWAP_TAG 'bdBS'
+#define CONTEXT_TAG 'xcBS'
+#define NAME_TAG 'mnBS'
+#define PRE_2_POST_TAG 'ppBS'
+#define SWAP_KEY 0x20
+
+typedef struct _VOLUME_CONTEXT {
+    UNICODE_STRING Name;
+    ULONG Reads;
+    ULONG Writes;
+} VOLUME_CONTEXT, *PVOLUME_CONTEXT;
+
+typedef struct _PRE_2_POST_CONTEXT {
+    PVOLUME_CONTEXT VolCtx;
+    PVOID SwappedBuffer;
+} PRE_2_POST_CONTEXT, *PPRE_2_POST_CONTEXT;
+
+PFLT_FILTER gFilterHandle;
+
+static VOID TurnBytes(_Out_ PUCHAR To, _In_ const UCHAR *From, _In_ SIZE_T Length)
+{
+    SIZE_T i;
+
+    for (i = 0; i < Length; i++) {
+        To[i] = From[i] ^ SWAP_KEY;
+    }
+}
+
+static VOID CleanupVolumeContext(_In_ PFLT_CONTEXT Context, _In_ FLT_CONTEXT_TYPE ContextType)
+{
+    PVOLUME_CONTEXT ctx = Context;
+
+    UNREFERENCED_PARAMETER(ContextType);
+
+    DbgPrint("SwapBuffers: %wZ: %u reads, %u writes\n", &ctx->Name, ctx->Reads, ctx->Writes);
+    if (ctx->Name.Buffer != NULL) {
+        ExFreePoolWithTag(ctx->Name.Buffer, NAME_TAG);
+    }
+}
+
+static NTSTATUS InstanceSetup(_In_ PCFLT_RELATED_OBJECTS FltObjects, _In_ FLT_INSTANCE_SETUP_FLAGS Flags, _In_ DEVICE_TYPE VolumeDeviceType,
+                              _In_ FLT_FILESYSTEM_TYPE VolumeFilesystemType)
+{
+    PVOLUME_CONTEXT ctx = NULL;
+    NTSTATUS status;
+    ULONG needed;
+
+    UNREFERENCED_PARAMETER(Flags);
+    UNREFERENCED_PARAMETER(VolumeDeviceType);
+    UNREFERENCED_PARAMETER(VolumeFilesystemType);
+
+    status = FltAllocateContext(FltObjects->Filter, FLT_VOLUME_CONTEXT, sizeof(VOLUME_CONTEXT), NonPagedPool, (PFLT_CONTEXT *)&ctx);
+    if (!NT_SUCCESS(status)) {
+        return status;
+    }
+    RtlZeroMemory(ctx, sizeof(VOLUME_CONTEXT));
+
+    status = FltGetVolumeName(FltObjects->Volume, NULL, &needed);
+    if (status == STATUS_BUFFER_TOO_SMALL) {
+        ctx->Name.MaximumLength = (USHORT)needed;
+        ctx->Name.Buffer = ExAllocatePoolWithTag(NonPagedPool, needed, NAME_TAG);
+        if (ctx->Name.Buffer != NULL) {
+            status = FltGetVolumeName(FltObjects->Volume, &ctx->Name, &needed);
+        }
+    }
+    if (NT_SUCCESS(status)) {
+        status = FltSetVolumeContext(FltObjects->Volume, FLT_SET_CONTEXT_KEEP_IF_EXISTS, ctx, NULL);
+        if (status == STATUS_FLT_CONTEXT_ALREADY_DEFINED) {
+            status = STATUS_SUCCESS;
+        }
+    }
+    FltReleaseContext(ctx);
+    return status;
+}
+
+/* A buffer with its description; NULL where there is no memory. */
+static PVOID NewBuffer(_In_ ULONG Length, _Outptr_ PMDL *Mdl)
+{
+    PVOID buffer = ExAllocatePoolWithTag(NonPagedPool, Length, BUFFER_SWAP_TAG);
+
+    *Mdl = NULL;
+    if (buffer == NULL) {
+        return NULL;
+    }
+    *Mdl = IoAllocateMdl(buffer, Length, FALSE, FALSE, NULL);
+    if (*Mdl == NULL) {
+        ExFreePoolWithTag(buffer, BUFFER_SWAP_TAG);
+        return NULL;
+    }
+    MmBuildMdlForNonPagedPool(*Mdl);
+    return buffer;
+}
+
+/* What goes along to the postoperation: the buffer and the volume context, with its reference. */
+static FLT_PREOP_CALLBACK_STATUS Hand(_In_ PVOLUME_CONTEXT VolCtx, _In_ PVOID Buffer, _Flt_CompletionContext_Outptr_ PVOID *CompletionContext)
+{
+    PPRE_2_POST_CONTEXT p2pCtx = ExAllocatePoolWithTag(NonPagedPool, sizeof(PRE_2_POST_CONTEXT), PRE_2_POST_TAG);
+
+    FLT_ASSERT(p2pCtx != NULL);
+    p2pCtx->SwappedBuffer = Buffer;
+    p2pCtx->VolCtx = VolCtx;
+    *CompletionContext = p2pCtx;
+    return FLT_PREOP_SUCCESS_WITH_CALLBACK;
+}
+
+static VOID LetGo(_In_ PPRE_2_POST_CONTEXT P2pCtx)
+{
+    ExFreePoolWithTag(P2pCtx->SwappedBuffer, BUFFER_SWAP_TAG);
+    FltReleaseContext(P2pCtx->VolCtx);
+    ExFreePoolWithTag(P2pCtx, PRE_2_POST_TAG);
+}
+
+static FLT_PREOP_CALLBACK_STATUS SwapPreReadBuffers(_Inout_ PFLT_CALLBACK_DATA Data, _In_ PCFLT_RELATED_OBJECTS FltObjects,
+                                                    _Flt_CompletionContext_Outptr_ PVOID *CompletionContext)
+{
+    PFLT_IO_PARAMETER_BLOCK iopb = Data->Iopb;
+    PVOLUME_CONTEXT volCtx;
+    PVOID newBuf;
+    PMDL newMdl;
+
+    if (iopb->Parameters.Read.Length == 0 || !NT_SUCCESS(FltGetVolumeContext(FltObjects->Filter, FltObjects->Volume, (PFLT_CONTEXT *)&volCtx))) {
+        return FLT_PREOP_SUCCESS_NO_CALLBACK;
+    }
+    newBuf = NewBuffer(iopb->Parameters.Read.Length, &newMdl);
+    if (newBuf == NULL) {
+        FltReleaseContext(volCtx);
+        return FLT_PREOP_SUCCESS_NO_CALLBACK;
+    }
+    iopb->Parameters.Read.ReadBuffer = newBuf;
+    iopb->Parameters.Read.MdlAddress = newMdl;
+    FltSetCallbackDataDirty(Data);
+    return Hand(volCtx, newBuf, CompletionContext);
+}
+
+static FLT_POSTOP_CALLBACK_STATUS SwapPostReadBuffers(_Inout_ PFLT_CALLBACK_DATA Data, _In_ PCFLT_RELATED_OBJECTS FltObjects,
+                                                      _In_ PVOID CompletionContext, _In_ FLT_POST_OPERATION_FLAGS Flags)
+{
+    PFLT_IO_PARAMETER_BLOCK iopb = Data->Iopb;
+    PPRE_2_POST_CONTEXT p2pCtx = CompletionContext;
+    PVOID origBuf;
+
+    UNREFERENCED_PARAMETER(FltObjects);
+
+    if (!FlagOn(Flags, FLTFL_POST_OPERATION_DRAINING)) {
+        p2pCtx->VolCtx->Reads++;
+        if (NT_SUCCESS(Data->IoStatus.Status) && Data->IoStatus.Information != 0) {
+            origBuf = iopb->Parameters.Read.MdlAddress != NULL ? MmGetSystemAddressForMdlSafe(iopb->Parameters.Read.MdlAddress, NormalPagePriority)
+                                                               : iopb->Parameters.Read.ReadBuffer;
+            TurnBytes(origBuf, p2pCtx->SwappedBuffer, Data->IoStatus.Information);
+        }
+    }
+    LetGo(p2pCtx);
+    return FLT_POSTOP_FINISHED_PROCESSING;
+}
+
+static FLT_PREOP_CALLBACK_STATUS SwapPreWriteBuffers(_Inout_ PFLT_CALLBACK_DATA Data, _In_ PCFLT_RELATED_OBJECTS FltObjects,
+                                                     _Flt_CompletionContext_Outptr_ PVOID *CompletionContext)
+{
+    PFLT_IO_PARAMETER_BLOCK iopb = Data->Iopb;
+    PVOLUME_CONTEXT volCtx;
+    PVOID newBuf;
+    PMDL newMdl;
+
+    if (iopb->Parameters.Write.Length == 0 || !NT_SUCCESS(FltGetVolumeContext(FltObjects->Filter, FltObjects->Volume, (PFLT_CONTEXT *)&volCtx))) {
+        return FLT_PREOP_SUCCESS_NO_CALLBACK;
+    }
+    newBuf = NewBuffer(iopb->Parameters.Write.Length, &newMdl);
+    if (newBuf == NULL) {
+        FltReleaseContext(volCtx);
+        return FLT_PREOP_SUCCESS_NO_CALLBACK;
+    }
+    TurnBytes(newBuf, iopb->Parameters.Write.WriteBuffer, iopb->Parameters.Write.Length);
+    iopb->Parameters.Write.WriteBuffer = newBuf;
+    iopb->Parameters.Write.MdlAddress = newMdl;
+    FltSetCallbackDataDirty(Data);
+    volCtx->Writes++;
+    return Hand(volCtx, newBuf, CompletionContext);
+}
+
+static FLT_POSTOP_CALLBACK_STATUS SwapPostWriteBuffers(_Inout_ PFLT_CALLBACK_DATA Data, _In_ PCFLT_RELATED_OBJECTS FltObjects,
+                                                       _In_ PVOID CompletionContext, _In_ FLT_POST_OPERATION_FLAGS Flags)
+{
+    UNREFERENCED_PARAMETER(Data);
+    UNREFERENCED_PARAMETER(FltObjects);
+    UNREFERENCED_PARAMETER(Flags);
+
+    LetGo((PPRE_2_POST_CONTEXT)CompletionContext);
+    return FLT_POSTOP_FINISHED_PROCESSING;
+}
+
+static NTSTATUS InstanceQueryTeardown(_In_ PCFLT_RELATED_OBJECTS FltObjects, _In_ FLT_INSTANCE_QUERY_TEARDOWN_FLAGS Flags)
+{
+    UNREFERENCED_PARAMETER(FltObjects);
+    UNREFERENCED_PARAMETER(Flags);
+    return STATUS_SUCCESS;
+}
+
+static NTSTATUS FilterUnload(_In_ FLT_FILTER_UNLOAD_FLAGS Flags)
+{
+    UNREFERENCED_PARAMETER(Flags);
+    FltUnregisterFilter(gFilterHandle);
+    return STATUS_SUCCESS;
+}
+
+CONST FLT_OPERATION_REGISTRATION Callbacks[] = {{IRP_MJ_READ, 0, SwapPreReadBuffers, SwapPostReadBuffers},
+                                                {IRP_MJ_WRITE, 0, SwapPreWriteBuffers, SwapPostWriteBuffers},
+                                                {IRP_MJ_OPERATION_END}};
+
+CONST FLT_CONTEXT_REGISTRATION ContextNotifications[] = {{FLT_VOLUME_CONTEXT, 0, CleanupVolumeContext, sizeof(VOLUME_CONTEXT), CONTEXT_TAG},
+                                                         {FLT_CONTEXT_END}};
+
+CONST FLT_REGISTRATION FilterRegistration = {
+    sizeof(FLT_REGISTRATION), FLT_REGISTRATION_VERSION, 0, ContextNotifications, Callbacks, FilterUnload, InstanceSetup, InstanceQueryTeardown, NULL, NULL};
+
+NTSTATUS DriverEntry(_In_ PDRIVER_OBJECT DriverObject, _In_ PUNICODE_STRING RegistryPath)
+{
+    NTSTATUS status;
+
+    UNREFERENCED_PARAMETER(RegistryPath);
+
+    status = FltRegisterFilter(DriverObject, &FilterRegistration, &gFilterHandle);
+    if (NT_SUCCESS(status)) {
+        status = FltStartFiltering(gFilterHandle);
+        if (!NT_SUCCESS(status)) {
+            FltUnregisterFilter(gFilterHandle);
+        }
+    }
+    return status;
+}

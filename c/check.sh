@@ -29,14 +29,19 @@ tell() {
         echo "C programs: $2 failed"
     fi
 }
-# Runs PROGRAM with its words, compares what it prints, and looks at it under valgrind.
+# Runs a program with its words, and compares what it prints and its exit status with what is stored under the name.
 try() {
     name=$1
     shift
     "$@" > "$room/$name.out" 2> "$room/$name.err"
     [ $? = "$(cat "c/expected/$name.status" 2> /dev/null || echo 0)" ] && diff "c/expected/$name.out" "$room/$name.out"
     tell $? "$name"
+}
+# Looks at it under valgrind.
+look() {
     command -v valgrind > /dev/null || return
+    name=$1
+    shift
     valgrind -q --error-exitcode=99 --leak-check=full "$@" > /dev/null 2> "$room/$name.valgrind"
     [ $? != 99 ] || { cat "$room/$name.valgrind"; false; }
     tell $? "$name under valgrind"
@@ -46,12 +51,14 @@ for source in c/host/*.c; do
     cc $words -c -o "$room/host_$(basename "$source" .c).o" "$source"
     tell $? "$source, as it was built,"
 done
-export KZ_MAIN=$room/host_main.o
-mv "$room/host_main.o" "$room/main.o" && KZ_MAIN=$room/main.o
-export KZ_HOST="$(echo "$room"/host_*.o)"
+mv "$room/host_main.o" "$room/main.o"
+export KZ_MAIN=$room/main.o KZ_HOST="$(echo "$room"/host_*.o)"
+
 cc -std=c11 -O1 -g -Wall -Wextra -Werror -Ic/include -o "$room/calls" c/tests/calls.c "$KAZDRIN_LIB" "$KIT/c/libos_c.a" "$KIT/c/liblibc_c.a"
 tell $? "calls, as it was built,"
 try calls "$room/calls"
+look calls "$room/calls"
+
 for requests in c/requests/*.txt; do
     name=$(basename "$requests" .txt)
     drivers=""
@@ -61,6 +68,25 @@ for requests in c/requests/*.txt; do
     c/build.sh "$room/$name" $drivers
     tell $? "$name, as it was built,"
     try "$name" "$room/$name" "$requests"
+    look "$name" "$room/$name" "$requests"
 done
+
+KZ_MAIN=c/tests/run.c c/build.sh "$room/run" c/samples/passthrough.c
+tell $? "run, as it was built,"
+try run "$room/run"
+
+# A driver that needs what isn't modelled doesn't compile.
+! c/build.sh "$room/unmodelled" c/misuse/unmodelled.c > "$room/unmodelled.log" 2>&1 && grep -q "IRP_MJ_CREATE_NAMED_PIPE. undeclared" "$room/unmodelled.log"
+tell $? "unmodelled"
+
+KZ_MAIN=c/tests/fuzz.c c/build.sh "$room/fuzz" c/samples/*.c
+tell $? "fuzz, as it was built,"
+try fuzz "$room/fuzz" 100000 1
+look fuzz "$room/fuzz" 1000 2
+if echo 'int main(void) { return 0; }' | cc -fsanitize=address,undefined -x c -o "$room/sanitized" - 2> /dev/null; then
+    KZ_HOST="" KZ_MAIN=c/tests/fuzz.c CFLAGS="-fsanitize=address,undefined -fno-sanitize-recover=undefined" c/build.sh "$room/fuzz.asan" c/samples/*.c
+    tell $? "fuzz with sanitizers, as it was built,"
+    try fuzz.asan "$room/fuzz.asan" 20000 3
+fi
 echo "C programs: $passed passed, $failed failed"
 [ "$failed" = 0 ]

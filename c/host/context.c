@@ -100,6 +100,10 @@ NTSTATUS FltAllocateContext(PFLT_FILTER Filter, FLT_CONTEXT_TYPE ContextType, SI
 {
     (void)PoolType;
     *ReturnedContext = NULL;
+    if (!Filter || Filter != kz.place.filter) {
+        kz_tell(__func__, "of a filter that isn't the callback's own");
+        return STATUS_INVALID_PARAMETER;
+    }
     const FLT_CONTEXT_REGISTRATION *how = registered(Filter, ContextType, ContextSize);
     if (!how)
         return STATUS_FLT_CONTEXT_ALLOCATION_NOT_FOUND;

@@ -55,7 +55,7 @@ void kz_forget_swap(KzOp *op, PFLT_INSTANCE instance)
                 if (lower->received == gone)
                     lower->received = at->swapped;
         if (op->event == KZ_READ && op->iopb.Parameters.Read.ReadBuffer == gone)
-            op->iopb.Parameters.Read.ReadBuffer = at->swapped;
+            op->iopb.Parameters.Read.ReadBuffer = op->shown.Parameters.Read.ReadBuffer = at->swapped;
     }
 }
 

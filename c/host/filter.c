@@ -230,6 +230,15 @@ static uint32_t enter(PFLT_FILTER filter)
     return NT_SUCCESS(said) ? KZ_OK : kz_number(said, &is_exact);
 }
 
+/* A driver has one set of globals, so that it is loaded once at a time. */
+static bool is_loaded(const KzDriver *driver)
+{
+    for (size_t at = 0; at < kz.filters_count; at++)
+        if (kz.filters[at]->driver == driver && kz.filters[at]->phase != KZ_ENDED)
+            return true;
+    return false;
+}
+
 uint32_t kz_load(const char *name, uint64_t *number)
 {
     const KzDriver *driver = NULL;
@@ -238,6 +247,8 @@ uint32_t kz_load(const char *name, uint64_t *number)
             driver = &kz.drivers[at];
     if (!driver)
         return KZ_NO_FILTER;
+    if (is_loaded(driver))
+        return KZ_ALREADY_LOADED;
     if (kz.filters_count == sizeof kz.filters / sizeof kz.filters[0])
         return KZ_TOO_MANY;
     PFLT_FILTER filter = kz_memory(sizeof *filter);

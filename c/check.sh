@@ -63,7 +63,7 @@ for requests in c/requests/*.txt; do
     name=$(basename "$requests" .txt)
     drivers=""
     for driver in $(sed -n 's/^# drivers: //p' "$requests" | grep . || echo "$name"); do
-        drivers="$drivers $(ls c/samples/"$driver".c c/misuse/"$driver".c 2> /dev/null)"
+        drivers="$drivers $(ls c/samples/"$driver".c c/misuse/"$driver".c c/tests/"$driver".c 2> /dev/null)"
     done
     c/build.sh "$room/$name" $drivers
     tell $? "$name, as it was built,"

@@ -6,26 +6,21 @@
 /* How many headers of contexts that were cleaned up are kept, to tell their use. */
 #define KEPT 256
 
-typedef struct Context {
-    struct Context *next;
+typedef struct Header {
+    struct Header *next;
     PVOID body;
     uint32_t slot, generation;
     uint8_t kind;
     FLT_CONTEXT_TYPE type;
     PFLT_FILTER filter;
     PFLT_CONTEXT_CLEANUP_CALLBACK cleanup;
-} Context;
+} Header;
 
-static Context *live;
-static Context dead[KEPT];
+static Header *live;
+static Header dead[KEPT];
 static size_t dead_next;
 
 static const char *const kind_names[] = {"volume", "instance", "stream", "stream handle"};
-
-const char *kz_kind_name(uint8_t kind)
-{
-    return kind_names[kind & 3];
-}
 
 /* The manager's number of a kind of context, or 4. */
 static uint8_t kind_of(FLT_CONTEXT_TYPE type)
@@ -65,18 +60,18 @@ static const FLT_CONTEXT_REGISTRATION *registered(PFLT_FILTER filter, FLT_CONTEX
     return NULL;
 }
 
-static Context *find(PVOID body)
+static Header *find(PVOID body)
 {
-    for (Context *one = live; one; one = one->next)
+    for (Header *one = live; one; one = one->next)
         if (one->body == body)
             return one;
     return NULL;
 }
 
 /* The context with that body. A body that was freed, or that is none, is told. */
-static Context *context_of(PVOID body, const char *call)
+static Header *context_of(PVOID body, const char *call)
 {
-    Context *found = find(body);
+    Header *found = find(body);
     if (found)
         return found;
     for (size_t at = 0; at < KEPT; at++)
@@ -90,7 +85,7 @@ static Context *context_of(PVOID body, const char *call)
 
 static PVOID body_of(uint32_t slot, uint32_t generation)
 {
-    for (Context *one = live; one; one = one->next)
+    for (Header *one = live; one; one = one->next)
         if (one->slot == slot && one->generation == generation)
             return one->body;
     return NULL;
@@ -107,14 +102,14 @@ NTSTATUS FltAllocateContext(PFLT_FILTER Filter, FLT_CONTEXT_TYPE ContextType, SI
     const FLT_CONTEXT_REGISTRATION *how = registered(Filter, ContextType, ContextSize);
     if (!how)
         return STATUS_FLT_CONTEXT_ALLOCATION_NOT_FOUND;
-    Context *made = kz_memory(sizeof *made);
+    Header *made = kz_memory(sizeof *made);
     uint32_t status = kz_event_with((KazdrinEvent){.event = KZ_ALLOCATE, .kind = kind_of(ContextType)}, &made, sizeof made);
     if (status != KZ_OK) {
         free(made);
         kz_tell_refused("FltAllocateContext", status);
         return kz_ntstatus(status);
     }
-    *made = (Context){live, kz_memory(ContextSize), kz.told.slot, kz.told.generation, kind_of(ContextType), ContextType, Filter, how->ContextCleanupCallback};
+    *made = (Header){live, kz_memory(ContextSize), kz.told.slot, kz.told.generation, kind_of(ContextType), ContextType, Filter, how->ContextCleanupCallback};
     memset(made->body, 0xcc, ContextSize); /* as in the kit, it isn't zeroed */
     live = made;
     *ReturnedContext = made->body;
@@ -123,7 +118,7 @@ NTSTATUS FltAllocateContext(PFLT_FILTER Filter, FLT_CONTEXT_TYPE ContextType, SI
 
 static void count_reference(PFLT_CONTEXT body, uint32_t event, const char *call)
 {
-    Context *context = context_of(body, call);
+    Header *context = context_of(body, call);
     if (!context)
         return;
     kz_tell_refused(call, kz_event((KazdrinEvent){.event = event, .slot = context->slot, .generation = context->generation}));
@@ -154,7 +149,7 @@ static NTSTATUS set(const char *call, uint8_t kind, FLT_SET_CONTEXT_OPERATION ho
 {
     if (old)
         *old = NULL;
-    Context *context = context_of(body, call);
+    Header *context = context_of(body, call);
     if (!context)
         return STATUS_INVALID_PARAMETER;
     if (context->kind != kind) {
@@ -280,7 +275,7 @@ bool kz_sends(PVOID completion, KazdrinEvent *event)
     uint64_t count = held_count();
     if (!completion || count == 0)
         return false;
-    Context *named = find(completion);
+    Header *named = find(completion);
     uint32_t slot, generation;
     for (uint32_t place = 0; place < count; place++) {
         bool is_last = place + 1 == count;
@@ -308,20 +303,20 @@ void kz_tell_leaks(const KazdrinEvent *sent)
             is_to_go = false;
             continue;
         }
-        Context *context = find(body_of(slot, generation));
+        Header *context = find(body_of(slot, generation));
         kz_tell("FltReleaseContext", "never called for a reference to a %s context", context ? kind_names[context->kind] : "lost");
     }
 }
 
 /* The manager gives what is due: its filter's cleanup callback is called, and then its memory is freed. */
-static void clean_up(Context *context)
+static void clean_up(Header *context)
 {
     KzPlace before = kz_enter(KZ_IN_CLEANUP, context->filter, NULL, NULL, NULL);
     if (context->cleanup)
         context->cleanup(context->body, context->type);
     kz_event((KazdrinEvent){.event = KZ_CLEANED});
     kz.place = before;
-    for (Context **at = &live; *at; at = &(*at)->next)
+    for (Header **at = &live; *at; at = &(*at)->next)
         if (*at == context) {
             *at = context->next;
             break;
@@ -335,7 +330,7 @@ static void clean_up(Context *context)
 void kz_clean_up(void)
 {
     while (kz_event((KazdrinEvent){.event = KZ_TAKE_DUE}) == KZ_OK && kz.told.has) {
-        Context *context;
+        Header *context;
         memcpy(&context, kz.room, sizeof context);
         clean_up(context);
     }
@@ -344,7 +339,7 @@ void kz_clean_up(void)
 void kz_free_contexts(void)
 {
     while (live) {
-        Context *one = live;
+        Header *one = live;
         live = one->next;
         free(one->body);
         free(one);

@@ -182,7 +182,6 @@ void kz_tell_locks(void);
 void kz_wide(PUNICODE_STRING to, WCHAR *room, const char *text);
 
 /* context.c */
-const char *kz_kind_name(uint8_t kind);
 bool kz_registration_of_contexts(const FLT_REGISTRATION *registration, uint8_t *mask);
 bool kz_sends(PVOID completion, KazdrinEvent *event);
 void kz_tell_leaks(const KazdrinEvent *sent);

@@ -44,7 +44,8 @@ static PFLT_INSTANCE new_instance(PFLT_FILTER filter, PFLT_VOLUME volume)
 uint32_t kz_attach(PFLT_FILTER filter, PFLT_VOLUME volume, const char *name, const char *altitude, uint64_t *number)
 {
     KazdrinEvent event = {.filter = filter->id, .volume = volume->id};
-    uint32_t status = kazdrin_attach(&kz.manager, &event, (const uint8_t *)name, strlen(name), (const uint8_t *)altitude, strlen(altitude), &kz.told, kz.room, sizeof kz.room);
+    uint32_t status = kazdrin_attach(&kz.manager, &event, (const uint8_t *)name, strlen(name), (const uint8_t *)altitude, strlen(altitude), &kz.told, kz.room,
+                                     sizeof kz.room);
     if (status != KZ_OK)
         return status;
     PFLT_INSTANCE instance = new_instance(filter, volume);

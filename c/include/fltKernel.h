@@ -186,6 +186,23 @@ PVOID ExAllocatePoolZero(POOL_TYPE PoolType, SIZE_T NumberOfBytes, ULONG Tag);
 PVOID ExAllocatePool2(POOL_FLAGS Flags, SIZE_T NumberOfBytes, ULONG Tag);
 void ExFreePoolWithTag(PVOID P, ULONG Tag);
 void ExFreePool(PVOID P);
+#define FltAllocatePoolAlignedWithTag(instance, type, size, tag) ((void)(instance), ExAllocatePoolWithTag((type), (size), (tag)))
+#define FltFreePoolAlignedWithTag(instance, memory, tag) ((void)(instance), ExFreePoolWithTag((memory), (tag)))
+
+/* A list of memory of one size: each piece is a pool's. */
+typedef struct _KZ_LOOKASIDE_LIST {
+    SIZE_T Size;
+    ULONG Tag;
+} NPAGED_LOOKASIDE_LIST, *PNPAGED_LOOKASIDE_LIST, PAGED_LOOKASIDE_LIST, *PPAGED_LOOKASIDE_LIST;
+
+#define ExInitializeNPagedLookasideList(list, allocate, free, flags, size, tag, depth) ((list)->Size = (size), (list)->Tag = (tag))
+#define ExAllocateFromNPagedLookasideList(list) ExAllocatePoolWithTag(NonPagedPool, (list)->Size, (list)->Tag)
+#define ExFreeToNPagedLookasideList(list, memory) ExFreePoolWithTag((memory), (list)->Tag)
+#define ExDeleteNPagedLookasideList(list) ((void)(list))
+#define ExInitializePagedLookasideList ExInitializeNPagedLookasideList
+#define ExAllocateFromPagedLookasideList ExAllocateFromNPagedLookasideList
+#define ExFreeToPagedLookasideList ExFreeToNPagedLookasideList
+#define ExDeletePagedLookasideList ExDeleteNPagedLookasideList
 
 #define RtlCopyMemory(to, from, length) memcpy((to), (from), (length))
 #define RtlMoveMemory(to, from, length) memmove((to), (from), (length))

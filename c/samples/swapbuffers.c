@@ -1,6 +1,10 @@
 /* Swaps the buffers of reads and writes. What is written goes down from a buffer of its own with each byte turned by a key, and what is read comes up into a buffer
  * of its own, is turned back and copied into the caller's. A volume context keeps the volume's name and the counts. */
 #include <fltKernel.h>
+#include <dontuse.h>
+#include <suppress.h>
+
+#pragma prefast(disable : __WARNING_ENCODE_MEMBER_FUNCTION_POINTER, "Not valid for kernel mode drivers")
 
 #define BUFFER_SWAP_TAG 'bdBS'
 #define CONTEXT_TAG 'xcBS'
@@ -20,6 +24,7 @@ typedef struct _PRE_2_POST_CONTEXT {
 } PRE_2_POST_CONTEXT, *PPRE_2_POST_CONTEXT;
 
 PFLT_FILTER gFilterHandle;
+NPAGED_LOOKASIDE_LIST Pre2PostContextList;
 
 static VOID TurnBytes(_Out_ PUCHAR To, _In_ const UCHAR *From, _In_ SIZE_T Length)
 {
@@ -98,7 +103,7 @@ static PVOID NewBuffer(_In_ ULONG Length, _Outptr_ PMDL *Mdl)
 /* What goes along to the postoperation: the buffer and the volume context, with its reference. */
 static FLT_PREOP_CALLBACK_STATUS Hand(_In_ PVOLUME_CONTEXT VolCtx, _In_ PVOID Buffer, _Flt_CompletionContext_Outptr_ PVOID *CompletionContext)
 {
-    PPRE_2_POST_CONTEXT p2pCtx = ExAllocatePoolWithTag(NonPagedPool, sizeof(PRE_2_POST_CONTEXT), PRE_2_POST_TAG);
+    PPRE_2_POST_CONTEXT p2pCtx = ExAllocateFromNPagedLookasideList(&Pre2PostContextList);
 
     FLT_ASSERT(p2pCtx != NULL);
     p2pCtx->SwappedBuffer = Buffer;
@@ -111,7 +116,7 @@ static VOID LetGo(_In_ PPRE_2_POST_CONTEXT P2pCtx)
 {
     ExFreePoolWithTag(P2pCtx->SwappedBuffer, BUFFER_SWAP_TAG);
     FltReleaseContext(P2pCtx->VolCtx);
-    ExFreePoolWithTag(P2pCtx, PRE_2_POST_TAG);
+    ExFreeToNPagedLookasideList(&Pre2PostContextList, P2pCtx);
 }
 
 static FLT_PREOP_CALLBACK_STATUS SwapPreReadBuffers(_Inout_ PFLT_CALLBACK_DATA Data, _In_ PCFLT_RELATED_OBJECTS FltObjects,
@@ -203,6 +208,7 @@ static NTSTATUS FilterUnload(_In_ FLT_FILTER_UNLOAD_FLAGS Flags)
 {
     UNREFERENCED_PARAMETER(Flags);
     FltUnregisterFilter(gFilterHandle);
+    ExDeleteNPagedLookasideList(&Pre2PostContextList);
     return STATUS_SUCCESS;
 }
 
@@ -222,6 +228,7 @@ NTSTATUS DriverEntry(_In_ PDRIVER_OBJECT DriverObject, _In_ PUNICODE_STRING Regi
 
     UNREFERENCED_PARAMETER(RegistryPath);
 
+    ExInitializeNPagedLookasideList(&Pre2PostContextList, NULL, NULL, 0, sizeof(PRE_2_POST_CONTEXT), PRE_2_POST_TAG, 0);
     status = FltRegisterFilter(DriverObject, &FilterRegistration, &gFilterHandle);
     if (NT_SUCCESS(status)) {
         status = FltStartFiltering(gFilterHandle);

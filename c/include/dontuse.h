@@ -1,0 +1,1 @@
+/* The kit has it for its own tools. Nothing of it is needed here. */

@@ -1,8 +1,9 @@
-/* Pends reads in a queue of its own, in the order in which they came, and lets them go on when the file's data is flushed. It holds the postoperation of a query of the
+/* Pends reads in a queue, in the order in which they came, and lets them go on when the file's data is flushed. It holds the postoperation of a query of the
  * size in the same way. At the teardown of its instance it completes what is left. */
 #include <fltKernel.h>
 
 typedef struct _INSTANCE_CONTEXT {
+    FLT_CALLBACK_DATA_QUEUE Cbdq;
     LIST_ENTRY QueueHead;
     FAST_MUTEX Lock;
     PFLT_CALLBACK_DATA Held;
@@ -11,6 +12,50 @@ typedef struct _INSTANCE_CONTEXT {
 #define INSTANCE_TAG 'iqSC'
 
 PFLT_FILTER gFilterHandle;
+
+/* The queue's callbacks: a list, in the order in which the operations came. */
+static VOID CsqAcquire(_In_ PFLT_CALLBACK_DATA_QUEUE DataQueue, _Out_ PKIRQL Irql)
+{
+    UNREFERENCED_PARAMETER(Irql);
+    ExAcquireFastMutex(&CONTAINING_RECORD(DataQueue, INSTANCE_CONTEXT, Cbdq)->Lock);
+}
+
+static VOID CsqRelease(_In_ PFLT_CALLBACK_DATA_QUEUE DataQueue, _In_ KIRQL Irql)
+{
+    UNREFERENCED_PARAMETER(Irql);
+    ExReleaseFastMutex(&CONTAINING_RECORD(DataQueue, INSTANCE_CONTEXT, Cbdq)->Lock);
+}
+
+static NTSTATUS CsqInsertIo(_In_ PFLT_CALLBACK_DATA_QUEUE DataQueue, _In_ PFLT_CALLBACK_DATA Data, _In_opt_ PVOID Context)
+{
+    UNREFERENCED_PARAMETER(Context);
+    InsertTailList(&CONTAINING_RECORD(DataQueue, INSTANCE_CONTEXT, Cbdq)->QueueHead, &Data->QueueLinks);
+    return STATUS_SUCCESS;
+}
+
+static VOID CsqRemoveIo(_In_ PFLT_CALLBACK_DATA_QUEUE DataQueue, _In_ PFLT_CALLBACK_DATA Data)
+{
+    UNREFERENCED_PARAMETER(DataQueue);
+    RemoveEntryList(&Data->QueueLinks);
+}
+
+static PFLT_CALLBACK_DATA CsqPeekNextIo(_In_ PFLT_CALLBACK_DATA_QUEUE DataQueue, _In_opt_ PFLT_CALLBACK_DATA Data, _In_opt_ PVOID PeekContext)
+{
+    PINSTANCE_CONTEXT instCtx = CONTAINING_RECORD(DataQueue, INSTANCE_CONTEXT, Cbdq);
+    PLIST_ENTRY next = Data == NULL ? instCtx->QueueHead.Flink : Data->QueueLinks.Flink;
+
+    UNREFERENCED_PARAMETER(PeekContext);
+
+    return next == &instCtx->QueueHead ? NULL : CONTAINING_RECORD(next, FLT_CALLBACK_DATA, QueueLinks);
+}
+
+static VOID CsqCompleteCanceledIo(_In_ PFLT_CALLBACK_DATA_QUEUE DataQueue, _Inout_ PFLT_CALLBACK_DATA Data)
+{
+    UNREFERENCED_PARAMETER(DataQueue);
+    Data->IoStatus.Status = STATUS_FLT_DELETING_OBJECT;
+    Data->IoStatus.Information = 0;
+    FltCompletePendedPreOperation(Data, FLT_PREOP_COMPLETE, NULL);
+}
 
 static NTSTATUS InstanceSetup(_In_ PCFLT_RELATED_OBJECTS FltObjects, _In_ FLT_INSTANCE_SETUP_FLAGS Flags, _In_ DEVICE_TYPE VolumeDeviceType,
                               _In_ FLT_FILESYSTEM_TYPE VolumeFilesystemType)
@@ -31,37 +76,30 @@ static NTSTATUS InstanceSetup(_In_ PCFLT_RELATED_OBJECTS FltObjects, _In_ FLT_IN
     InitializeListHead(&instCtx->QueueHead);
     ExInitializeFastMutex(&instCtx->Lock);
     instCtx->Held = NULL;
+    status = FltCbdqInitialize(FltObjects->Instance, &instCtx->Cbdq, CsqInsertIo, CsqRemoveIo, CsqPeekNextIo, CsqAcquire, CsqRelease,
+                               CsqCompleteCanceledIo);
+    FLT_ASSERT(NT_SUCCESS(status));
     status = FltSetInstanceContext(FltObjects->Instance, FLT_SET_CONTEXT_KEEP_IF_EXISTS, instCtx, NULL);
     FltReleaseContext(instCtx);
     return status;
-}
-
-static PFLT_CALLBACK_DATA RemoveNext(_In_ PINSTANCE_CONTEXT InstCtx)
-{
-    PFLT_CALLBACK_DATA data = NULL;
-
-    ExAcquireFastMutex(&InstCtx->Lock);
-    if (!IsListEmpty(&InstCtx->QueueHead)) {
-        data = CONTAINING_RECORD(RemoveHeadList(&InstCtx->QueueHead), FLT_CALLBACK_DATA, QueueLinks);
-    }
-    ExReleaseFastMutex(&InstCtx->Lock);
-    return data;
 }
 
 static FLT_PREOP_CALLBACK_STATUS PreRead(_Inout_ PFLT_CALLBACK_DATA Data, _In_ PCFLT_RELATED_OBJECTS FltObjects,
                                          _Flt_CompletionContext_Outptr_ PVOID *CompletionContext)
 {
     PINSTANCE_CONTEXT instCtx;
+    NTSTATUS status;
 
     UNREFERENCED_PARAMETER(CompletionContext);
 
     if (!NT_SUCCESS(FltGetInstanceContext(FltObjects->Instance, (PFLT_CONTEXT *)&instCtx))) {
         return FLT_PREOP_SUCCESS_NO_CALLBACK;
     }
-    ExAcquireFastMutex(&instCtx->Lock);
-    InsertTailList(&instCtx->QueueHead, &Data->QueueLinks);
-    ExReleaseFastMutex(&instCtx->Lock);
+    status = FltCbdqInsertIo(&instCtx->Cbdq, Data, NULL, NULL);
     FltReleaseContext(instCtx);
+    if (!NT_SUCCESS(status)) {
+        return FLT_PREOP_SUCCESS_NO_CALLBACK;
+    }
     DbgPrint("CancelSafe: a read of %u bytes is pended\n", Data->Iopb->Parameters.Read.Length);
     return FLT_PREOP_PENDING;
 }
@@ -111,7 +149,7 @@ static FLT_PREOP_CALLBACK_STATUS PreFlush(_Inout_ PFLT_CALLBACK_DATA Data, _In_ 
     if (!NT_SUCCESS(FltGetInstanceContext(FltObjects->Instance, (PFLT_CONTEXT *)&instCtx))) {
         return FLT_PREOP_SUCCESS_NO_CALLBACK;
     }
-    while ((pended = RemoveNext(instCtx)) != NULL) {
+    while ((pended = FltCbdqRemoveNextIo(&instCtx->Cbdq, NULL)) != NULL) {
         FltCompletePendedPreOperation(pended, FLT_PREOP_SUCCESS_WITH_CALLBACK, NULL);
     }
     if (instCtx->Held != NULL) {
@@ -132,7 +170,8 @@ static VOID InstanceTeardownStart(_In_ PCFLT_RELATED_OBJECTS FltObjects, _In_ FL
     if (!NT_SUCCESS(FltGetInstanceContext(FltObjects->Instance, (PFLT_CONTEXT *)&instCtx))) {
         return;
     }
-    while ((pended = RemoveNext(instCtx)) != NULL) {
+    FltCbdqDisable(&instCtx->Cbdq);
+    while ((pended = FltCbdqRemoveNextIo(&instCtx->Cbdq, NULL)) != NULL) {
         DbgPrint("CancelSafe: a read is completed at the teardown\n");
         pended->IoStatus.Status = STATUS_FLT_DELETING_OBJECT;
         pended->IoStatus.Information = 0;

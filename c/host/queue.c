@@ -1,0 +1,66 @@
+/* A filter's queue of operations that it pended: the filter's own callbacks keep it. Nothing cancels an operation here, so that none leaves it by itself. */
+#include "host.h"
+
+NTSTATUS FltCbdqInitialize(PFLT_INSTANCE Instance, PFLT_CALLBACK_DATA_QUEUE Cbdq, PFLT_CALLBACK_DATA_QUEUE_INSERT_IO CbdqInsertIo,
+                           PFLT_CALLBACK_DATA_QUEUE_REMOVE_IO CbdqRemoveIo, PFLT_CALLBACK_DATA_QUEUE_PEEK_NEXT_IO CbdqPeekNextIo,
+                           PFLT_CALLBACK_DATA_QUEUE_ACQUIRE CbdqAcquire, PFLT_CALLBACK_DATA_QUEUE_RELEASE CbdqRelease,
+                           PFLT_CALLBACK_DATA_QUEUE_COMPLETE_CANCELED_IO CbdqCompleteCanceledIo)
+{
+    *Cbdq = (FLT_CALLBACK_DATA_QUEUE){
+        .Instance = Instance,
+        .InsertIo = CbdqInsertIo,
+        .RemoveIo = CbdqRemoveIo,
+        .PeekNextIo = CbdqPeekNextIo,
+        .Acquire = CbdqAcquire,
+        .Release = CbdqRelease,
+        .CompleteCanceledIo = CbdqCompleteCanceledIo,
+    };
+    return STATUS_SUCCESS;
+}
+
+void FltCbdqEnable(PFLT_CALLBACK_DATA_QUEUE Cbdq)
+{
+    Cbdq->IsDisabled = FALSE;
+}
+
+void FltCbdqDisable(PFLT_CALLBACK_DATA_QUEUE Cbdq)
+{
+    Cbdq->IsDisabled = TRUE;
+}
+
+NTSTATUS FltCbdqInsertIo(PFLT_CALLBACK_DATA_QUEUE Cbdq, PFLT_CALLBACK_DATA Cbd, PFLT_CALLBACK_DATA_QUEUE_IO_CONTEXT Context, PVOID InsertContext)
+{
+    KIRQL irql = 0;
+    if (Cbdq->IsDisabled)
+        return STATUS_FLT_CBDQ_DISABLED;
+    Cbdq->Acquire(Cbdq, &irql);
+    NTSTATUS status = Cbdq->InsertIo(Cbdq, Cbd, InsertContext);
+    if (Context)
+        Context->Cbd = NT_SUCCESS(status) ? Cbd : NULL;
+    Cbdq->Release(Cbdq, irql);
+    return status;
+}
+
+PFLT_CALLBACK_DATA FltCbdqRemoveNextIo(PFLT_CALLBACK_DATA_QUEUE Cbdq, PVOID PeekContext)
+{
+    KIRQL irql = 0;
+    Cbdq->Acquire(Cbdq, &irql);
+    PFLT_CALLBACK_DATA next = Cbdq->PeekNextIo(Cbdq, NULL, PeekContext);
+    if (next)
+        Cbdq->RemoveIo(Cbdq, next);
+    Cbdq->Release(Cbdq, irql);
+    return next;
+}
+
+PFLT_CALLBACK_DATA FltCbdqRemoveIo(PFLT_CALLBACK_DATA_QUEUE Cbdq, PFLT_CALLBACK_DATA_QUEUE_IO_CONTEXT Context)
+{
+    KIRQL irql = 0;
+    PFLT_CALLBACK_DATA found = Context->Cbd;
+    Context->Cbd = NULL;
+    if (!found)
+        return NULL;
+    Cbdq->Acquire(Cbdq, &irql);
+    Cbdq->RemoveIo(Cbdq, found);
+    Cbdq->Release(Cbdq, irql);
+    return found;
+}

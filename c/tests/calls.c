@@ -50,6 +50,34 @@ static void change_read(void)
     printf("  answer %u\n", kazdrin_answer(&kazdrin, &(KazdrinEvent){.offset = 2, .flag = 1}, (const uint8_t *)"??", 2));
 }
 
+/* What the manager counts. */
+static void count(const char *name, uint32_t status)
+{
+    KazdrinCounts counts;
+    uint32_t read = kazdrin_counts(&kazdrin, &(KazdrinEvent){0}, &counts);
+    printf("  %s %u; counts %u: born %llu, cleaned %llu, leaks %llu, held %llu\n", name, status, read, (unsigned long long)counts.born,
+           (unsigned long long)counts.cleaned, (unsigned long long)counts.leaks, (unsigned long long)counts.held);
+}
+
+/* The filter allocates a context and gives its reference up again. */
+static void make_context(void)
+{
+    count("allocate", step((KazdrinEvent){.event = KZ_ALLOCATE, .kind = 2}, "body"));
+    uint32_t first = kazdrin_held_at(&kazdrin, &(KazdrinEvent){.len = 0}, &told);
+    printf("  held at 0: %u, has %u, slot %u, generation %u\n", first, told.has, told.slot, told.generation);
+    uint32_t second = kazdrin_held_at(&kazdrin, &(KazdrinEvent){.len = 1}, &told);
+    printf("  held at 1: %u, has %u\n", second, told.has);
+    count("release", step((KazdrinEvent){.event = KZ_RELEASE, .slot = 0, .generation = 0}, ""));
+}
+
+/* An idle worker cleans it up. */
+static void clean_up(void)
+{
+    uint32_t status = step((KazdrinEvent){.event = KZ_TAKE_DUE}, "");
+    printf("due %u: has %u, kind %u, body '%.*s'\n", status, told.has, told.kind, (int)told.length, (char *)room);
+    count("cleaned", step((KazdrinEvent){.event = KZ_CLEANED}, ""));
+}
+
 /* Takes an operation to its end, and collects its answer. */
 static void go(const char *name, KazdrinEvent asked, const char *text, KazdrinEvent down)
 {
@@ -64,6 +92,8 @@ static void go(const char *name, KazdrinEvent asked, const char *text, KazdrinEv
         if (told.action == KZ_PRE) {
             if (asked.event == KZ_WRITE)
                 change_write();
+            if (asked.event == KZ_CREATE && down.mode == KZ_WITH_CALLBACK)
+                make_context();
             printf("  pre of instance %u: %u\n", told.instance, kazdrin_pre_returned(&kazdrin, &down));
         } else if (told.action == KZ_BASE) {
             printf("  base: %u\n", kazdrin_base(&kazdrin, &turn));
@@ -87,6 +117,7 @@ static void file(const char *name, KazdrinEvent asked, const char *text)
 int main(void)
 {
     printf("closed: %u\n", step((KazdrinEvent){.event = KZ_MOUNT}, "disk"));
+    printf("closed: %u, %u\n", kazdrin_counts(&kazdrin, &(KazdrinEvent){0}, &(KazdrinCounts){0}), kazdrin_held_at(&kazdrin, &(KazdrinEvent){0}, &told));
     printf("open: %u\n", kazdrin_open(&kazdrin));
     printf("open again: %u\n", kazdrin_open(&kazdrin));
     printf("mount: %u\n", step((KazdrinEvent){.event = KZ_MOUNT}, "disk"));
@@ -103,6 +134,7 @@ int main(void)
     printf("attach: %u, instance %u\n", status, told.instance);
     printf("setup done: %u\n", step((KazdrinEvent){.event = KZ_SETUP_DONE, .flag = 1}, ""));
     file("create", (KazdrinEvent){.event = KZ_CREATE, .mode = 1}, "report");
+    clean_up();
     file("write", (KazdrinEvent){.event = KZ_WRITE}, "hello");
     file("read", (KazdrinEvent){.event = KZ_READ, .len = 16}, "");
     go("denied", (KazdrinEvent){.event = KZ_CREATE, .mode = 2}, "secret", (KazdrinEvent){.mode = KZ_COMPLETE, .status = 17});

@@ -181,10 +181,37 @@ void kz_wide(PUNICODE_STRING to, WCHAR *room, const char *text)
 }
 
 /* ---- Output. */
-static void print_wide(PCUNICODE_STRING text)
+static void print_wide(PCWSTR text, size_t letters)
 {
-    for (USHORT at = 0; text && at < text->Length / sizeof(WCHAR); at++)
-        putchar(text->Buffer[at] < 127 ? text->Buffer[at] : '?');
+    for (size_t at = 0; at < letters; at++)
+        putchar(text[at] < 127 ? text[at] : '?');
+}
+
+static void print_unicode(PCUNICODE_STRING text)
+{
+    if (text)
+        print_wide(text->Buffer, text->Length / sizeof(WCHAR));
+}
+
+/* A long is the kit's, of 32 bits: `%lu` of a ULONG is what drivers write. */
+static void print_number(const char *format, char kind, va_list *arguments)
+{
+    const char *first = strchr(format, 'l');
+    bool is_wide = (first && first[1] == 'l') || strstr(format, "I64") || strchr(format, 'z');
+    char plain[24] = {0};
+    size_t length = strcspn(format, "lIzh");
+    if (length == strlen(format))
+        length--;
+    memcpy(plain, format, length);
+    if (is_wide) {
+        plain[length] = plain[length + 1] = 'l';
+        length += 2;
+    }
+    plain[length] = kind;
+    if (is_wide)
+        printf(plain, va_arg(*arguments, long long));
+    else
+        printf(plain, va_arg(*arguments, int));
 }
 
 /* One conversion, which ends before `end`. What it stands for is taken from the arguments. */
@@ -194,16 +221,18 @@ static void print_one(const char *start, const char *end, va_list *arguments)
     size_t length = (size_t)(end - start) < sizeof format ? (size_t)(end - start) : sizeof format - 1;
     memcpy(format, start, length);
     char kind = end[-1];
-    if (kind == 'Z')
-        print_wide(va_arg(*arguments, PCUNICODE_STRING));
-    else if (kind == 's')
+    if (kind == 'Z') {
+        print_unicode(va_arg(*arguments, PCUNICODE_STRING));
+    } else if (kind == 'S' || (kind == 's' && strpbrk(format, "wl"))) {
+        PCWSTR text = va_arg(*arguments, PCWSTR);
+        print_wide(text, wide_length(text));
+    } else if (kind == 's') {
         printf(format, va_arg(*arguments, const char *));
-    else if (kind == 'p')
+    } else if (kind == 'p') {
         printf("%s", va_arg(*arguments, void *) ? "(pointer)" : "(null)"); /* an address differs from run to run */
-    else if (strchr(format, 'l') || strchr(format, 'I') || strchr(format, 'z'))
-        printf(kind == 'd' || kind == 'i' ? "%lld" : kind == 'u' ? "%llu" : "%llx", va_arg(*arguments, long long));
-    else
-        printf(format, va_arg(*arguments, int));
+    } else {
+        print_number(format, kind, arguments);
+    }
 }
 
 static void print_all(const char *format, va_list *arguments)

@@ -1,4 +1,4 @@
-/* A run from a list of requests, and the statuses both ways. */
+/* A run from a list of requests, the statuses both ways, and what DbgPrint writes. */
 #include "../host/host.h"
 
 extern const KzDriver kz_drivers[];
@@ -15,10 +15,18 @@ static void statuses(void)
     }
 }
 
+static void prints(void)
+{
+    UNICODE_STRING text = RTL_CONSTANT_STRING(L"counted");
+    ULONG seven = 7;
+    DbgPrint("%lu|%5u|%-6s|%ws|%wZ|%I64d|%llx|%08lx|%c|%%|%d|%p|%hu\n", seven, 8u, "ab", L"wide", &text, -5LL, 255LL, 0xabcu, 'q', -3, NULL, 12);
+}
+
 int main(void)
 {
     static const char *const requests[] = {"load passthrough", "attach 0 0 p 100", "create 0 new a", "close 0"};
     statuses();
+    prints();
     int status = kz_run(kz_drivers, kz_drivers_count, requests, sizeof requests / sizeof requests[0]);
     printf("exit status %d\n", status);
     return status;

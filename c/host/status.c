@@ -1,7 +1,7 @@
 /* The manager's statuses as the kit's, both ways. */
 #include "host.h"
 
-/* By the manager's numbers. Some of the kit's stand for two: the first that kz_number comes to is theirs on the way back. */
+/* By the manager's numbers. Some of the kit's stand for two: kz_number says which of them comes back. */
 static const NTSTATUS statuses[35] = {
     STATUS_SUCCESS,
     STATUS_INSUFFICIENT_RESOURCES,
@@ -45,8 +45,8 @@ NTSTATUS kz_ntstatus(uint32_t number)
     return number < 35 ? statuses[number] : STATUS_IO_DEVICE_ERROR;
 }
 
-/* The number of a status: the last of those that it stands for, but the first where a filter isn't found. One that the manager lacks counts as success, if it is
- * one, and as a device fault. */
+/* The number of a status: the last of those that it stands for, but the first if a filter isn't found. One that the manager lacks counts as success, if it is one,
+ * or else as a device fault. */
 uint32_t kz_number(NTSTATUS status, bool *is_exact)
 {
     *is_exact = true;

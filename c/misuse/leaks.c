@@ -1,4 +1,4 @@
-/* Mistakes with references, one for each file name: leak, twice, gone, early, foreign. What the host has to tell of each stands in c/expected/leaks.out. */
+/* Mistakes with references, by the names of files: leak, twice, gone and other. What the host has to tell of each stands in c/expected/leaks.out. */
 #include <fltKernel.h>
 
 typedef struct _COUNT {

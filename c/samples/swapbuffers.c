@@ -1,5 +1,5 @@
-/* Swaps the buffers of reads and writes. What is written goes down from a buffer of its own with each byte turned by a key, and what is read comes up into a buffer
- * of its own, is turned back and copied into the caller's. A volume context keeps the volume's name and the counts. */
+/* Swaps the buffers of reads and writes. What is written goes down from a buffer of its own, with each byte turned by a key. What is read comes up into a buffer of
+ * its own, is turned back and copied into the caller's. A volume context keeps the volume's name and the counts. */
 #include <fltKernel.h>
 #include <dontuse.h>
 #include <suppress.h>
@@ -82,7 +82,7 @@ static NTSTATUS InstanceSetup(_In_ PCFLT_RELATED_OBJECTS FltObjects, _In_ FLT_IN
     return status;
 }
 
-/* A buffer with its description; NULL where there is no memory. */
+/* A buffer with its description; NULL if there is no memory. */
 static PVOID NewBuffer(_In_ ULONG Length, _Outptr_ PMDL *Mdl)
 {
     PVOID buffer = ExAllocatePoolWithTag(NonPagedPool, Length, BUFFER_SWAP_TAG);

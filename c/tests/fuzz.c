@@ -1,5 +1,5 @@
-/* Random requests through the drivers that are linked with it: fuzz COUNT SEED. Each session of up to 400 requests starts with a manager of its own, and loads,
- * attaches, detaches and unloads drivers, mounts and dismounts a volume, and reads and writes files meanwhile. At the end of each nothing may have been told, and all
+/* Random requests through the drivers that are linked with it: fuzz COUNT SEED. Each session of up to 400 requests has a manager of its own.
+ * It loads, attaches, detaches and unloads drivers, mounts and dismounts volumes, and reads and writes files meanwhile. At its end nothing may have been told, and all
  * contexts are cleaned up. */
 #include "kzflt.h"
 

@@ -1,4 +1,4 @@
-/* Mistakes with references, by the names of files: leak, twice, gone and other. What the host has to tell of each stands in c/expected/leaks.out. */
+/* Mistakes with references, by the names of files: leak, twice, gone, other, kinds and many. What the host has to tell of each stands in c/expected/leaks.out. */
 #include <fltKernel.h>
 
 typedef struct _COUNT {
@@ -7,12 +7,35 @@ typedef struct _COUNT {
 
 PFLT_FILTER gFilterHandle;
 static PCOUNT gKept;
+static FILE_OBJECT gOther;
 
 static BOOLEAN IsNamed(PCFLT_RELATED_OBJECTS FltObjects, PCWSTR Name)
 {
     UNICODE_STRING name;
     RtlInitUnicodeString(&name, Name);
     return FltObjects->FileObject != NULL && RtlEqualUnicodeString(&FltObjects->FileObject->FileName, &name, FALSE);
+}
+
+/* A context of another kind, and another's file. */
+static VOID MixUp(PCFLT_RELATED_OBJECTS FltObjects, PCOUNT Count)
+{
+    PCOUNT found;
+
+    FltSetInstanceContext(FltObjects->Instance, FLT_SET_CONTEXT_KEEP_IF_EXISTS, Count, NULL);
+    FltGetStreamContext(FltObjects->Instance, &gOther, (PFLT_CONTEXT *)&found);
+}
+
+/* It holds one reference, and asks for 16 more: the last one is refused. */
+static VOID TakeMany(PCOUNT Count)
+{
+    int i;
+
+    for (i = 0; i < 16; i++) {
+        FltReferenceContext(Count);
+    }
+    for (i = 0; i < 15; i++) {
+        FltReleaseContext(Count);
+    }
 }
 
 static FLT_POSTOP_CALLBACK_STATUS PostCreate(PFLT_CALLBACK_DATA Data, PCFLT_RELATED_OBJECTS FltObjects, PVOID CompletionContext,
@@ -30,6 +53,10 @@ static FLT_POSTOP_CALLBACK_STATUS PostCreate(PFLT_CALLBACK_DATA Data, PCFLT_RELA
     FltSetStreamContext(FltObjects->Instance, FltObjects->FileObject, FLT_SET_CONTEXT_KEEP_IF_EXISTS, count, NULL);
     if (IsNamed(FltObjects, L"\\gone")) {
         gKept = count;
+    } else if (IsNamed(FltObjects, L"\\kinds")) {
+        MixUp(FltObjects, count);
+    } else if (IsNamed(FltObjects, L"\\many")) {
+        TakeMany(count);
     }
     if (!IsNamed(FltObjects, L"\\leak")) {
         FltReleaseContext(count);

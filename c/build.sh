@@ -12,6 +12,10 @@ program=$1
 shift
 cc=${CC:-cc}
 library=${KAZDRIN_LIB:-$here/../crates/kazdrin_c/out/libkazdrin_c.a}
+if [ ! -f "$library" ]; then
+    echo "c/build.sh: there is no $library; make it by: cd crates/kazdrin_c && rt lib" >&2
+    exit 1
+fi
 kit=${KIT:-$(dirname "$(rt doc | head -1)")}
 words="-std=gnu11 -fshort-wchar -O1 -g -Wall -Wextra -Werror -I$here/include ${CFLAGS:-}"
 room=$(mktemp -d)

@@ -226,13 +226,25 @@ int kz_run(const KzDriver *drivers, size_t count, const char *const *lines, size
     return kz_close();
 }
 
+/* A line that is longer than any request is none: what is left of it is passed over. */
+static void request_or_bad(const char *line, FILE *file)
+{
+    if (strchr(line, '\n') || feof(file)) {
+        kz_request(line);
+        return;
+    }
+    for (int letter = getc(file); letter != '\n' && letter != EOF; letter = getc(file))
+        ;
+    said(bad);
+}
+
 int kz_run_file(const KzDriver *drivers, size_t count, FILE *file)
 {
     static char line[LINE];
     if (kz_open(drivers, count) != 0)
         return 1;
     while (fgets(line, sizeof line, file))
-        kz_request(line);
+        request_or_bad(line, file);
     int status = kz_close();
     return ferror(file) ? 3 : status;
 }

@@ -1,23 +1,21 @@
 //! A job that can't be put back, since the queue is full: it is set aside, and put later, or dropped at the worker's end.
 
-ghost use Rattle.std.specs.Prelude.{◌≡◌};
+ghost use Rattle.std.specs.Prelude.{◌≡◌, All, IfSome};
 ghost use Rattle.fm_queue.specs.Passes.{IsPassOf};
 
-use crate::floor::{
-    Folder, PARTS, alone, attach, begin, create, crew, folder, on_file, read, take_pass,
-};
-use crate::homing::{Watch, filters};
+use crate::floor::{Crew, Crews, Folder, PARTS, collect, folder, house, make_crews, work_off};
+use crate::homing::{Tied, Watch, filters, hold_and_resume};
 use crate::ties::Ties;
-use fm_data::{Answer, BaseCall, FileRequest, Params};
+use fm_data::{Answer, BaseCall, Params};
 use fm_device::Device;
 use fm_lock::Manager;
 use fm_queue::{Job, JobPass, JobQueue};
-use fm_types::{Name, OpId, Status};
-use fm_worker::Post;
+use fm_types::{OpId, Status, WorkerId};
 use std::alloc::Global;
 use std::marker::Brand;
 use std::sync::Wait;
 use std::sync::ledger::{Blank, Ledger};
+use std::time::Clock;
 
 /// A file system that has the queue filled by a Stop while it reads, as another thread may at that moment.
 #[derive(Drop)]
@@ -42,96 +40,96 @@ impl<R: Wait> Device for Filling<'_, R> {
     }
 }
 
-/// A post above a file system of its own.
-type Crew<'a, L, R, D> = Post<'a, Ties, L, R, Watch, D>;
-
-/// A client, the worker to which the read is tied, and the one that carries it on.
-#[derive(Drop)]
-struct Crews<'a, L: Ledger, R: Wait, D: Device> {
-    client: Crew<'a, L, R, Folder>,
-    first: Crew<'a, L, R, Folder>,
-    second: Crew<'a, L, R, D>,
+// Takes a pass of the queue.
+fn take_pass(queue: &JobQueue, passes: &mut Vec<JobPass>) -> Option<JobPass>
+    requires own { All (λ pass. IsPassOf queue.now pass) passes.old.items }
+    ensures own { All (λ pass. IsPassOf queue.now pass) passes.new.items }
+    ensures taken { IfSome result (λ pass. IsPassOf queue.now pass) }
+{
+    passes.pop()
 }
 
-// The read is tied to the first worker and held; a flush on the second one resumes it.
-fn hold_and_resume<L: Ledger, R: Wait, D: Device>(
-    rt: &R,
-    alloc: Global,
-    manager: &Manager<Ties, L>,
-    crews: &mut Crews<'_, L, R, D>,
-) -> Result<OpId, Status> {
-    let client = &mut crews.client;
-    attach(manager, rt, client, b"own", b"200")?;
-    attach(manager, rt, client, b"holds", b"100")?;
-    let creating = manager.begin(rt, create(alloc, b"x")?)?;
-    alone(rt, manager, client, creating)?;
-    let reading = begin(manager, rt, client, read(0, 0))?;
-    client.stop_worker();
-    crews.first.work();
-    begin(manager, rt, client, on_file(FileRequest::Flush))?;
-    client.stop_worker();
-    crews.second.work();
-    Ok(reading)
+/// A client's or a worker's post.
+type Own<'a, L, R> = Crew<'a, Ties, L, R, Watch>;
+
+/// What the read is answered, and whose postoperation it was.
+#[derive(Clone, Copy)]
+struct Seen {
+    status: Status,
+    last: u64,
 }
 
-// The second worker carries the read to its base, can't put it back, and takes the Stop that fills the queue: whether the read is done then.
+// The second worker carries the read to its base, can't put it back, and takes the Stop before the one that fills the queue. Refused with 30 if the read
+// doesn't wait for the first worker then.
 fn set_aside<L: Ledger, R: Wait, D: Device>(
     rt: &R,
     alloc: Global,
     manager: &Manager<Ties, L>,
-    crews: &mut Crews<'_, L, R, D>,
-) -> Result<(OpId, Option<bool>), Status> {
-    let reading = hold_and_resume(rt, alloc, manager, crews)?;
-    crews.client.stop_worker();
-    crews.second.work();
-    Ok((reading, manager.is_done(rt, reading)))
+    posts: &mut Tied<'_, L, R, D>,
+) -> Result<OpId, Status> {
+    let reading = hold_and_resume(rt, alloc, manager, posts)?;
+    work_off(&mut posts.client, &mut posts.second);
+    match manager.sync_worker(rt, reading) {
+        Some(WorkerId(0)) => Ok(reading),
+        _ => Err(Status::WrongStep),
+    }
 }
 
 // The first worker takes the Stop that is queued, and then what comes after it.
-fn finish<L: Ledger, R: Wait>(
+fn finish<L: Ledger, R: Wait + Clock>(
     rt: &R,
     manager: &Manager<Ties, L>,
-    client: &mut Crew<'_, L, R, Folder>,
-    first: &mut Crew<'_, L, R, Folder>,
+    client: &mut Own<'_, L, R>,
+    first: &mut Own<'_, L, R>,
     reading: OpId,
 ) -> Result<Status, Status> {
     first.work();
-    client.stop_worker();
-    first.work();
-    Ok(manager.wait_reply(rt, reading)?.status)
+    work_off(client, first);
+    Ok(collect(rt, manager, reading)?.status)
 }
 
-/// Whether the read was done when the second worker ended, what it is answered, and whose postoperation it was.
-type Seen = (Option<bool>, Status, u64);
-
 // What was set aside is put in the queue by the second worker; or it is dropped there, and the client puts a job for it again.
-fn put_later<L: Ledger, R: Wait, D: Device>(
+fn put_later<L: Ledger, R: Wait + Clock, D: Device>(
     rt: &R,
-    alloc: Global,
     manager: &Manager<Ties, L>,
-    crews: Crews<'_, L, R, D>,
+    posts: Tied<'_, L, R, D>,
+    reading: OpId,
     is_dropped: bool,
-) -> Result<(Option<bool>, Status), Status> {
-    let mut crews = crews;
-    let (reading, was_done) = set_aside(rt, alloc, manager, &mut crews)?;
+) -> Result<Status, Status> {
     let Crews {
         mut client,
         mut first,
         mut second,
-    } = crews;
+    } = posts;
     if is_dropped {
         let _ = second.into_parts();
         client.run(reading);
     } else {
         second.put_aside();
     }
-    Ok((
-        was_done,
-        finish(rt, manager, &mut client, &mut first, reading)?,
-    ))
+    finish(rt, manager, &mut client, &mut first, reading)
 }
 
-fn aside_day<L: Ledger, R: Wait>(
+// Both, one after the other.
+fn set_aside_and_finish<L: Ledger, R: Wait + Clock, D: Device>(
+    rt: &R,
+    alloc: Global,
+    manager: &Manager<Ties, L>,
+    posts: Tied<'_, L, R, D>,
+    gate: &Watch,
+    is_dropped: bool,
+) -> Result<Seen, Status> {
+    let mut posts = posts;
+    let reading = set_aside(rt, alloc, manager, &mut posts)?;
+    let status = put_later(rt, manager, posts, reading, is_dropped)?;
+    Ok(Seen {
+        status,
+        last: gate.last(),
+    })
+}
+
+// With room for two jobs: a job and a Stop.
+fn aside_day<L: Ledger, R: Wait + Clock>(
     rt: &R,
     alloc: Global,
     blank: Blank,
@@ -141,8 +139,7 @@ fn aside_day<L: Ledger, R: Wait>(
     requires parts { blank.parts ≡ L.parts }
     requires all { blank.parts ≡ 49 }
 {
-    let manager = Manager::<Ties, L>::new(alloc, filters(alloc)?, blank)?;
-    manager.mount(rt, Name::read(b"v")?)?;
+    let manager = house::<Ties, L, R>(rt, alloc, filters(alloc)?, blank)?;
     let (queue, mut passes) = JobQueue::new(alloc, 2, 4)?;
     let gate = Watch::new();
     let jobs = &queue;
@@ -155,22 +152,22 @@ fn aside_day<L: Ledger, R: Wait>(
         pass,
         below: folder(alloc)?,
     };
-    let first = crew(rt, alloc, &manager, jobs, &gate, &mut passes)?;
-    let second = Post::new(rt, &manager, jobs, &gate, alloc, &mut passes, below)?;
-    let client = crew(rt, alloc, &manager, jobs, &gate, &mut passes)?;
-    let crews = Crews {
-        client,
-        first,
-        second,
-    };
-    let (was_done, status) = put_later(rt, alloc, &manager, crews, is_dropped)?;
-    Ok((was_done, status, gate.last()))
+    let posts = make_crews(rt, alloc, &manager, jobs, &gate, &mut passes, below)?;
+    set_aside_and_finish(rt, alloc, &manager, posts, &gate, is_dropped)
 }
 
 #[test]
 fn set_aside_and_put_later(rt: HostRuntime) {
     for is_dropped in [false, true] {
         let seen = aside_day::<Brand, _>(&rt, rt.alloc(), Blank::new(PARTS), is_dropped);
-        assert!(rt; seen == Ok((Some(false), Status::FileNotFound, 1)));
+        assert!(rt;
+            matches!(
+                seen,
+                Ok(Seen {
+                    status: Status::FileNotFound,
+                    last: 1
+                })
+            )
+        );
     }
 }

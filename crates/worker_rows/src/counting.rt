@@ -3,56 +3,89 @@
 ghost use Rattle.std.specs.Prelude.{◌≡◌};
 
 use crate::floor::{
-    FILE, Folder, Numbers, PARTS, VOLUME, attach, begin, create, crew, end, on_file, read, write,
+    Crew, Crews, Folder, LOOKS, Numbers, PARTS, VOLUME, attach, begin, carried, collect, create,
+    end, folder, hands_of, house, make_crews, on_file, read, shift, write,
 };
 use fm_base::Base;
-use fm_data::{Answer, FileRequest, Request};
+use fm_data::{Answer, FileRequest};
 use fm_lock::Manager;
 use fm_queue::JobQueue;
-use fm_samples::{Meter, Sample, Shift};
+use fm_samples::{Meter, Sample};
 use fm_types::{Bytes, FilterId, Name, OpId, RelPath, Status};
-use fm_worker::{OpenGate, Post};
+use fm_worker::OpenGate;
 use std::alloc::Global;
 use std::marker::Brand;
 use std::sync::Wait;
 use std::sync::ledger::{Blank, Ledger};
 use std::thread;
 use std::thread::Threads;
+use std::time::{Clock, Duration};
 
 /// How many reads there are.
 const READS: usize = 100;
 
 /// A client's or a worker's post.
-type Crew<'a, L, R> = Post<'a, Sample, L, R, OpenGate, Folder>;
+type OpenCrew<'a, L, R> = Crew<'a, Sample, L, R, OpenGate>;
 
-// A file is created and read, closed, and its filter is unloaded: what the filter has counted.
-fn ask<L: Ledger, R: Wait>(
+fn meter(alloc: Global) -> Result<Vec<(Name, Sample)>, Status> {
+    let mut filters = Vec::new(alloc);
+    filters.push((Name::read(b"meter")?, Sample::Meter(Meter::new(alloc))))?;
+    Ok(filters)
+}
+
+// The reads, all under way at once, and then the answers of all.
+fn read_all<L: Ledger, R: Wait + Clock>(
     rt: &R,
     alloc: Global,
     manager: &Manager<Sample, L>,
-    client: &mut Crew<'_, L, R>,
-) -> Result<u64, Status> {
-    attach(manager, rt, client, b"meter", b"100")?;
-    client.answer(create(alloc, b"x")?)?;
+    client: &mut OpenCrew<'_, L, R>,
+) -> Result<(), Status> {
     let mut reads: Vec<OpId> = Vec::with_capacity(alloc, READS)?;
     for _ in 0..READS {
-        reads.push(begin(manager, rt, client, read(0, 0))?)?;
+        reads.push(begin(rt, manager, client, read(0, 0))?)?;
     }
     for operation in reads {
-        manager.wait_reply(rt, operation)?;
+        collect(rt, manager, operation)?;
     }
+    Ok(())
+}
+
+// Unloads the filter. The worker that carried the close on may still clean up after it, and till then this is refused with 34.
+fn unload<L: Ledger, R: Wait + Clock>(
+    rt: &R,
+    client: &mut OpenCrew<'_, L, R>,
+) -> Result<(), Status> {
+    for _ in 0..LOOKS {
+        match client.unload(FilterId(0)) {
+            Err(Status::Busy(_)) => thread::sleep(rt, Duration::from_millis(1)),
+            ended => return ended,
+        }
+    }
+    Err(Status::WrongStep)
+}
+
+// A file is created and read, closed, and its filter is unloaded: what the filter has counted.
+fn ask<L: Ledger, R: Wait + Clock>(
+    rt: &R,
+    alloc: Global,
+    manager: &Manager<Sample, L>,
+    client: &mut OpenCrew<'_, L, R>,
+) -> Result<u64, Status> {
+    attach(client, b"meter", b"100")?;
+    client.answer(create(alloc, b"x")?)?;
+    read_all(rt, alloc, manager, client)?;
     client.answer(on_file(FileRequest::Cleanup))?;
     client.answer(on_file(FileRequest::Close))?;
-    client.unload(FilterId(0))?;
+    unload(rt, client)?;
     Ok(manager.total(rt, FilterId(0)))
 }
 
 // The client asks, and then has both workers end.
-fn ask_two<L: Ledger, R: Wait>(
+fn ask_two<L: Ledger, R: Wait + Clock>(
     rt: &R,
     alloc: Global,
     manager: &Manager<Sample, L>,
-    client: &mut Crew<'_, L, R>,
+    client: &mut OpenCrew<'_, L, R>,
 ) -> Result<u64, Status> {
     let counted = ask(rt, alloc, manager, client);
     client.stop_worker();
@@ -60,7 +93,7 @@ fn ask_two<L: Ledger, R: Wait>(
     counted
 }
 
-fn meter_day<L: Ledger + Send + Sync, R: Threads + Wait + Sync>(
+fn meter_day<L: Ledger + Send + Sync, R: Threads + Wait + Clock + Sync>(
     rt: &R,
     alloc: Global,
     blank: Blank,
@@ -69,113 +102,113 @@ fn meter_day<L: Ledger + Send + Sync, R: Threads + Wait + Sync>(
     requires parts { blank.parts ≡ L.parts }
     requires all { blank.parts ≡ 49 }
 {
-    let mut filters = Vec::new(alloc);
-    filters.push((Name::read(b"meter")?, Sample::Meter(Meter::new(alloc))))?;
-    let manager = Manager::<Sample, L>::new(alloc, filters, blank)?;
-    manager.mount(rt, Name::read(b"v")?)?;
+    let manager = house::<Sample, L, R>(rt, alloc, meter(alloc)?, blank)?;
     let (queue, mut passes) = JobQueue::new(alloc, 272, 3)?;
     let gate = OpenGate;
-    let jobs = &queue;
-    let mut client = crew(rt, alloc, &manager, jobs, &gate, &mut passes)?;
-    let mut first = crew(rt, alloc, &manager, jobs, &gate, &mut passes)?;
-    let mut second = crew(rt, alloc, &manager, jobs, &gate, &mut passes)?;
+    let below = folder(alloc)?;
+    let Crews {
+        mut client,
+        mut first,
+        mut second,
+    } = make_crews(rt, alloc, &manager, &queue, &gate, &mut passes, below)?;
     let (counted, _) = thread::join(
         rt,
         || ask_two(rt, alloc, &manager, &mut client),
         || thread::join(rt, || first.work(), || second.work()),
     );
-    let mut hands = Vec::new(alloc);
-    hands.push(client.into_parts().0)?;
-    hands.push(first.into_parts().0)?;
-    hands.push(second.into_parts().0)?;
+    let hands = hands_of(alloc, client, first, second)?;
     Ok((counted?, end(manager, hands)?))
 }
 
 #[test]
 fn meter_total(rt: HostRuntime) {
     let seen = meter_day::<Brand, _>(&rt, rt.alloc(), Blank::new(PARTS));
-    assert!(rt; matches!(seen, Ok((100, [born, cleaned, 0])) if born == cleaned && born > 0));
+    assert!(rt;
+        matches!(seen, Ok((100, Numbers { born, cleaned, leaks: 0 })) if born == cleaned && born > 0)
+    );
 }
 
-// What a client was told: a status, and the number beside it.
-type Told = (Status, u64);
-
-// A job and a Stop: the worker carries the operation on and ends, and its answer is collected.
-fn carried<L: Ledger, R: Wait>(
-    rt: &R,
-    manager: &Manager<Sample, L>,
-    client: &mut Crew<'_, L, R>,
-    worker: &mut Crew<'_, L, R>,
-    request: Request,
-) -> Result<Answer, Status> {
-    let operation = begin(manager, rt, client, request)?;
-    client.stop_worker();
-    worker.work();
-    manager.wait_reply(rt, operation)
+/// What a client is told of a create, a write of three bytes and a read of them, and what the file holds below the worker then.
+#[derive(Drop)]
+struct Shifted {
+    made: Answer,
+    written: Answer,
+    got: Answer,
+    below: Bytes,
 }
 
-// What the file holds below the worker.
-fn held(worker: &mut Folder) -> Result<Bytes, Status> {
-    let path = RelPath::read(b"x")?;
-    match worker.of(VOLUME) {
-        Some(base) => base.read(&path, 0, 9),
+// What the file holds below a worker that has ended.
+fn held<L: Ledger, R: Wait>(worker: OpenCrew<'_, L, R>) -> Result<Bytes, Status> {
+    let (_, mut below) = worker.into_parts();
+    match below.of(VOLUME) {
+        Some(base) => base.read(&RelPath::read(b"x")?, 0, 9),
         None => Err(Status::NoVolume),
     }
 }
 
-// What a write of three bytes and a read of them are answered, each by a job of its own, and what is read.
-fn shifted<L: Ledger, R: Wait>(
+// The three operations, each by a job of its own.
+fn shift_bytes<L: Ledger, R: Wait + Clock>(
     rt: &R,
     alloc: Global,
     manager: &Manager<Sample, L>,
-    client: &mut Crew<'_, L, R>,
-    worker: &mut Crew<'_, L, R>,
-) -> Result<([Told; 3], Bytes), Status> {
-    attach(manager, rt, client, b"shift", b"100")?;
-    let made = carried(rt, manager, client, worker, create(alloc, b"x")?)?;
-    let written = carried(rt, manager, client, worker, write(alloc, b"ab\xff")?)?;
-    let got = carried(rt, manager, client, worker, read(0, 5))?;
-    let told = [
-        (made.status, made.information),
-        (written.status, written.information),
-        (got.status, got.information),
-    ];
-    Ok((told, got.bytes))
+    posts: Crews<'_, Sample, L, R, OpenGate, Folder>,
+) -> Result<Shifted, Status> {
+    let Crews {
+        mut client,
+        first: mut worker,
+        second: _,
+    } = posts;
+    attach(&mut client, b"shift", b"100")?;
+    let made = carried(rt, manager, &mut client, &mut worker, create(alloc, b"x")?)?;
+    let written = carried(
+        rt,
+        manager,
+        &mut client,
+        &mut worker,
+        write(alloc, b"ab\xff")?,
+    )?;
+    let got = carried(rt, manager, &mut client, &mut worker, read(0, 5))?;
+    Ok(Shifted {
+        made,
+        written,
+        got,
+        below: held(worker)?,
+    })
 }
 
-// What the client is told, what is read, and what the worker's base holds.
-fn shift_day<L: Ledger, R: Wait>(
+fn shift_day<L: Ledger, R: Wait + Clock>(
     rt: &R,
     alloc: Global,
     blank: Blank,
-) -> Result<([Told; 3], Bytes, Bytes), Status>
+) -> Result<Shifted, Status>
     requires name { blank.name ≡ L.name }
     requires parts { blank.parts ≡ L.parts }
     requires all { blank.parts ≡ 49 }
 {
-    let mut filters = Vec::new(alloc);
-    filters.push((Name::read(b"shift")?, Sample::Shift(Shift::new(alloc))))?;
-    let manager = Manager::<Sample, L>::new(alloc, filters, blank)?;
-    manager.mount(rt, Name::read(b"v")?)?;
-    let (queue, mut passes) = JobQueue::new(alloc, 272, 2)?;
+    let manager = house::<Sample, L, R>(rt, alloc, shift(alloc)?, blank)?;
+    let (queue, mut passes) = JobQueue::new(alloc, 272, 3)?;
     let gate = OpenGate;
-    let jobs = &queue;
-    let mut client = crew(rt, alloc, &manager, jobs, &gate, &mut passes)?;
-    let mut worker = crew(rt, alloc, &manager, jobs, &gate, &mut passes)?;
-    let (told, got) = shifted(rt, alloc, &manager, &mut client, &mut worker)?;
-    let (_, mut below) = worker.into_parts();
-    Ok((told, got, held(&mut below)?))
+    let below = folder(alloc)?;
+    let posts = make_crews(rt, alloc, &manager, &queue, &gate, &mut passes, below)?;
+    shift_bytes(rt, alloc, &manager, posts)
+}
+
+// Whether an answer is Success with that number and those bytes.
+fn is(answer: &Answer, information: u64, bytes: &[u8]) -> bool {
+    answer.status == Status::Success
+        && answer.information == information
+        && answer.bytes.as_slice() == bytes
 }
 
 #[test]
 fn shift_by_a_worker(rt: HostRuntime) {
     let seen = shift_day::<Brand, _>(&rt, rt.alloc(), Blank::new(PARTS));
-    let told = [
-        (Status::Success, 0),
-        (Status::Success, 3),
-        (Status::Success, 3),
-    ];
-    assert!(rt;
-        matches!(seen, Ok((answers, read, below)) if answers == told && read.as_slice() == b"ab\xff".as_slice() && below.as_slice() == b"bc\x00".as_slice())
-    );
+    let Ok(seen) = seen else {
+        assert!(rt; false);
+        return;
+    };
+    assert!(rt; is(&seen.made, 0, b""));
+    assert!(rt; is(&seen.written, 3, b""));
+    assert!(rt; is(&seen.got, 3, b"ab\xff"));
+    assert!(rt; seen.below.as_slice() == b"bc\x00".as_slice());
 }

@@ -1,56 +1,70 @@
-//! A queue that is full: an operation is carried on by whoever begins it, and one that only another worker may carry on is set aside.
+//! A queue that is full: an operation is carried on by whoever begins it, and one that a callback resumes by whoever made the callback.
 
 ghost use Rattle.std.specs.Prelude.{◌≡◌};
 
-use crate::floor::{Folder, PARTS, VOLUME, attach, begin, create, crew, on_file, read};
-use crate::homing::filters;
+use crate::floor::{Crew, PARTS, VOLUME, attach, begin, create, crew, house, on_file, read};
+use crate::homing::{Watch, filters};
 use crate::ties::Ties;
-use fm_data::{Answer, BaseCall, FileRequest, Params, Request};
-use fm_device::Device;
+use fm_data::{FileRequest, Request};
 use fm_lock::Manager;
 use fm_queue::JobQueue;
-use fm_types::{Name, OpId, Status, WorkerId};
-use fm_worker::{OpenGate, Post};
+use fm_types::Status;
 use std::alloc::Global;
 use std::marker::Brand;
 use std::sync::Wait;
 use std::sync::ledger::{Blank, Ledger};
-use std::thread;
-use std::thread::Threads;
 
-/// A client's or a worker's post.
-type Crew<'a, L, R> = Post<'a, Ties, L, R, OpenGate, Folder>;
-
-// With room for one job: the first listing becomes a job, the second is carried on at once. What is done before a worker comes.
-fn carry_alone<L: Ledger, R: Wait>(
-    rt: &R,
-    manager: &Manager<Ties, L>,
-    client: &mut Crew<'_, L, R>,
-) -> Result<[Option<bool>; 2], Status> {
-    let first = begin(manager, rt, client, Request::List { volume: VOLUME })?;
-    let second = begin(manager, rt, client, Request::List { volume: VOLUME })?;
-    Ok([manager.is_done(rt, first), manager.is_done(rt, second)])
+/// Whether an operation is done: a listing that is a job, a read that was begun after it, and the same read after a flush.
+#[derive(Clone, Copy)]
+struct Seen {
+    queued: Option<bool>,
+    held: Option<bool>,
+    resumed: Option<bool>,
 }
 
-fn crowded_day<L: Ledger, R: Wait>(
+// The listing takes the queue's only place, so that all others are carried on by the client itself. No worker is there.
+fn carry_alone<L: Ledger, R: Wait>(
     rt: &R,
     alloc: Global,
-    blank: Blank,
-) -> Result<[Option<bool>; 2], Status>
+    manager: &Manager<Ties, L>,
+    client: &mut Crew<'_, Ties, L, R, Watch>,
+) -> Result<Seen, Status> {
+    attach(client, b"holds", b"100")?;
+    let listing = begin(rt, manager, client, Request::List { volume: VOLUME })?;
+    begin(rt, manager, client, create(alloc, b"x")?)?;
+    let reading = begin(rt, manager, client, read(0, 0))?;
+    let held = manager.is_done(rt, reading);
+    begin(rt, manager, client, on_file(FileRequest::Flush))?;
+    Ok(Seen {
+        queued: manager.is_done(rt, listing),
+        held,
+        resumed: manager.is_done(rt, reading),
+    })
+}
+
+fn crowded_day<L: Ledger, R: Wait>(rt: &R, alloc: Global, blank: Blank) -> Result<Seen, Status>
     requires name { blank.name ≡ L.name }
     requires parts { blank.parts ≡ L.parts }
     requires all { blank.parts ≡ 49 }
 {
-    let manager = Manager::<Ties, L>::new(alloc, filters(alloc)?, blank)?;
-    manager.mount(rt, Name::read(b"v")?)?;
+    let manager = house::<Ties, L, R>(rt, alloc, filters(alloc)?, blank)?;
     let (queue, mut passes) = JobQueue::new(alloc, 1, 1)?;
-    let gate = OpenGate;
+    let gate = Watch::new();
     let mut client = crew(rt, alloc, &manager, &queue, &gate, &mut passes)?;
-    carry_alone(rt, &manager, &mut client)
+    carry_alone(rt, alloc, &manager, &mut client)
 }
 
 #[test]
 fn full_queue_is_carried_on_here(rt: HostRuntime) {
     let seen = crowded_day::<Brand, _>(&rt, rt.alloc(), Blank::new(PARTS));
-    assert!(rt; seen == Ok([Some(false), Some(true)]));
+    assert!(rt;
+        matches!(
+            seen,
+            Ok(Seen {
+                queued: Some(false),
+                held: Some(false),
+                resumed: Some(true)
+            })
+        )
+    );
 }

@@ -1,27 +1,31 @@
-//! What the tests share: how a thread gets its post, and what is asked of it.
+//! What the tests share: how a manager and its posts are made, and what is asked of them.
 
-ghost use Rattle.std.specs.Prelude.{◌≡◌, All, IfSome};
+ghost use Rattle.std.specs.Prelude.{◌≡◌, All};
 ghost use Rattle.fm_queue.specs.Passes.{IsPassOf};
-ghost use Rattle.fm_rundown.specs.Seats.{IsSeatOf};
 
 use fm_altitude::Altitude;
 use fm_base::MemoryBase;
-use fm_data::{FileRequest, Request};
+use fm_data::{Answer, FileRequest, Request};
 use fm_device::{Bases, Device};
 use fm_filter::Minifilter;
 use fm_lock::{Hand, Manager};
 use fm_queue::{JobPass, JobQueue};
-use fm_rundown::{GateSeat, RundownGate};
+use fm_samples::{Sample, Shift};
 use fm_types::{
     Bytes, CreateMode, HandleId, InstanceId, Name, OpId, RelPath, SharedPath, Status, VolumeId,
 };
 use fm_worker::{Gate, Post};
 use std::alloc::Global;
 use std::sync::Wait;
-use std::sync::ledger::Ledger;
+use std::sync::ledger::{Blank, Ledger};
+use std::thread;
+use std::time::{Clock, Duration};
 
 /// How many parts a manager's ledger has.
 pub const PARTS: u64 = 49;
+
+/// How often an answer is looked for, a millisecond apart.
+pub const LOOKS: u32 = 10_000;
 
 /// The only volume.
 pub const VOLUME: VolumeId = VolumeId(0);
@@ -29,8 +33,16 @@ pub const VOLUME: VolumeId = VolumeId(0);
 /// The only file's handle.
 pub const FILE: HandleId = HandleId(0);
 
-/// Contexts allocated and cleaned up, and references left behind.
-pub type Numbers = [u64; 3];
+/// What a manager's report says of contexts.
+#[derive(Clone, Copy)]
+pub struct Numbers {
+    /// How many were allocated.
+    pub born: u64,
+    /// How many of them were cleaned up.
+    pub cleaned: u64,
+    /// How many references callbacks left behind.
+    pub leaks: u64,
+}
 
 /// A thread's own file system: in memory, for one volume.
 pub type Folder = Bases<MemoryBase>;
@@ -72,30 +84,83 @@ pub fn write(alloc: Global, bytes: &[u8]) -> Result<Request, Status> {
     }))
 }
 
-/// A thread's post, with a folder of its own.
-pub fn crew<'a, F, L, R, G>(
+/// The filter `shift`, under that name.
+pub fn shift(alloc: Global) -> Result<Vec<(Name, Sample)>, Status> {
+    let mut filters = Vec::new(alloc);
+    filters.push((Name::read(b"shift")?, Sample::Shift(Shift::new(alloc))))?;
+    Ok(filters)
+}
+
+/// A manager of those filters, with the only volume mounted.
+pub fn house<F: Minifilter, L: Ledger, R: Wait>(
+    rt: &R,
+    alloc: Global,
+    filters: Vec<(Name, F)>,
+    blank: Blank,
+) -> Result<Manager<F, L>, Status>
+    requires name { blank.name ≡ L.name }
+    requires parts { blank.parts ≡ L.parts }
+    requires all { blank.parts ≡ 49 }
+{
+    let manager = Manager::<F, L>::new(alloc, filters, blank)?;
+    manager.mount(rt, Name::read(b"v")?)?;
+    Ok(manager)
+}
+
+/// A post above a folder of its own.
+pub type Crew<'a, F, L, R, G> = Post<'a, F, L, R, G, Folder>;
+
+/// A thread's post, above a folder of its own.
+pub fn crew<'a, F: Minifilter, L: Ledger, R: Wait, G: Gate>(
     rt: &'a R,
     alloc: Global,
     manager: &'a Manager<F, L>,
     queue: &'a JobQueue,
     gate: &'a G,
     passes: &mut Vec<JobPass>,
-) -> Result<Post<'a, F, L, R, G, Folder>, Status>
-where
-    F: Minifilter,
-    L: Ledger,
-    R: Wait,
-    G: Gate,
+) -> Result<Crew<'a, F, L, R, G>, Status>
     requires { All (λ pass. IsPassOf queue.now pass) passes.old.items }
     ensures { All (λ pass. IsPassOf queue.now pass) passes.new.items }
 {
     Post::new(rt, manager, queue, gate, alloc, passes, folder(alloc)?)
 }
 
-/// Mounts the only volume, and puts an instance of the filter of that name above it.
+/// The posts of a client and of two workers. The first worker is worker 0.
+#[derive(Drop)]
+pub struct Crews<'a, F: Drop, L: Ledger, R: Wait, G: Gate, D: Device> {
+    /// The client's.
+    pub client: Crew<'a, F, L, R, G>,
+    /// The first worker's.
+    pub first: Crew<'a, F, L, R, G>,
+    /// The second worker's, above a file system of its own.
+    pub second: Post<'a, F, L, R, G, D>,
+}
+
+/// Makes the three posts, at a manager whose hands are all in.
+pub fn make_crews<'a, F: Minifilter, L: Ledger, R: Wait, G: Gate, D: Device>(
+    rt: &'a R,
+    alloc: Global,
+    manager: &'a Manager<F, L>,
+    queue: &'a JobQueue,
+    gate: &'a G,
+    passes: &mut Vec<JobPass>,
+    below: D,
+) -> Result<Crews<'a, F, L, R, G, D>, Status>
+    requires { All (λ pass. IsPassOf queue.now pass) passes.old.items }
+    ensures { All (λ pass. IsPassOf queue.now pass) passes.new.items }
+{
+    let first = crew(rt, alloc, manager, queue, gate, passes)?;
+    let second = Post::new(rt, manager, queue, gate, alloc, passes, below)?;
+    let client = crew(rt, alloc, manager, queue, gate, passes)?;
+    Ok(Crews {
+        client,
+        first,
+        second,
+    })
+}
+
+/// Loads the filter of that name, and attaches an instance of it to the only volume.
 pub fn attach<F, L, R, G, D>(
-    manager: &Manager<F, L>,
-    rt: &R,
     post: &mut Post<'_, F, L, R, G, D>,
     name: &[u8],
     altitude: &[u8],
@@ -108,14 +173,14 @@ where
     D: Device,
 {
     let name = Name::read(name)?;
-    let filter = manager.register(rt, &name)?;
+    let filter = post.load(&name)?;
     post.attach(filter, VOLUME, name, Altitude::read(altitude)?)
 }
 
 /// Begins an operation, and puts its job.
 pub fn begin<F, L, R, G, D>(
-    manager: &Manager<F, L>,
     rt: &R,
+    manager: &Manager<F, L>,
     post: &mut Post<'_, F, L, R, G, D>,
     request: Request,
 ) -> Result<OpId, Status>
@@ -131,6 +196,59 @@ where
     Ok(operation)
 }
 
+/// Collects the answer of an operation, once it is done. Refused with 30 if it isn't done in ten seconds.
+pub fn collect<F: Minifilter, L: Ledger, R: Wait + Clock>(
+    rt: &R,
+    manager: &Manager<F, L>,
+    operation: OpId,
+) -> Result<Answer, Status> {
+    for _ in 0..LOOKS {
+        if let Some(true) = manager.is_done(rt, operation) {
+            return manager.wait_reply(rt, operation);
+        }
+        thread::sleep(rt, Duration::from_millis(1));
+    }
+    Err(Status::WrongStep)
+}
+
+/// Has a worker work up to the Stop that the client puts now.
+pub fn work_off<F, L, R, G, C, D>(
+    client: &mut Post<'_, F, L, R, G, C>,
+    worker: &mut Post<'_, F, L, R, G, D>,
+)
+where
+    F: Minifilter,
+    L: Ledger,
+    R: Wait,
+    G: Gate,
+    C: Device,
+    D: Device,
+{
+    client.stop_worker();
+    worker.work();
+}
+
+/// Begins an operation, has a worker carry it on, and collects its answer.
+pub fn carried<F, L, R, G, C, D>(
+    rt: &R,
+    manager: &Manager<F, L>,
+    client: &mut Post<'_, F, L, R, G, C>,
+    worker: &mut Post<'_, F, L, R, G, D>,
+    request: Request,
+) -> Result<Answer, Status>
+where
+    F: Minifilter,
+    L: Ledger,
+    R: Wait + Clock,
+    G: Gate,
+    C: Device,
+    D: Device,
+{
+    let operation = begin(rt, manager, client, request)?;
+    work_off(client, worker);
+    collect(rt, manager, operation)
+}
+
 /// Carries an operation on by the thread itself, as a worker does, and collects its answer.
 pub fn alone<F, L, R, G, D>(
     rt: &R,
@@ -141,32 +259,28 @@ pub fn alone<F, L, R, G, D>(
 where
     F: Minifilter,
     L: Ledger,
-    R: Wait,
+    R: Wait + Clock,
     G: Gate,
     D: Device,
 {
     post.run(operation);
     post.stop_worker();
     post.work();
-    Ok(manager.wait_reply(rt, operation)?.status)
+    Ok(collect(rt, manager, operation)?.status)
 }
 
-/// Takes a pass of the queue.
-pub fn take_pass(queue: &JobQueue, passes: &mut Vec<JobPass>) -> Option<JobPass>
-    requires own { All (λ pass. IsPassOf queue.now pass) passes.old.items }
-    ensures own { All (λ pass. IsPassOf queue.now pass) passes.new.items }
-    ensures taken { IfSome result (λ pass. IsPassOf queue.now pass) }
-{
-    passes.pop()
-}
-
-/// Takes a seat at the rundown gate.
-pub fn take_seat(rundown: &RundownGate, seats: &mut Vec<GateSeat>) -> Option<GateSeat>
-    requires own { All (λ seat. IsSeatOf rundown.now seat) seats.old.items }
-    ensures own { All (λ seat. IsSeatOf rundown.now seat) seats.new.items }
-    ensures taken { IfSome result (λ seat. IsSeatOf rundown.now seat) }
-{
-    seats.pop()
+/// The hands of three posts that are left.
+pub fn hands_of<F: Minifilter, L: Ledger, R: Wait, G: Gate>(
+    alloc: Global,
+    client: Crew<'_, F, L, R, G>,
+    first: Crew<'_, F, L, R, G>,
+    second: Crew<'_, F, L, R, G>,
+) -> Result<Vec<Hand<L>>, Status> {
+    let mut hands = Vec::with_capacity(alloc, 3)?;
+    hands.push(client.into_parts().0)?;
+    hands.push(first.into_parts().0)?;
+    hands.push(second.into_parts().0)?;
+    Ok(hands)
 }
 
 /// Ends a manager by these hands.
@@ -177,7 +291,11 @@ pub fn end<F: Minifilter, L: Ledger>(
     requires { L.parts ≡ 49 }
 {
     match manager.shutdown(hands) {
-        Ok(report) => Ok([report.born, report.cleaned, report.leaks]),
+        Ok(report) => Ok(Numbers {
+            born: report.born,
+            cleaned: report.cleaned,
+            leaks: report.leaks,
+        }),
         Err((_, _, status)) => Err(status),
     }
 }

@@ -2,19 +2,24 @@
 
 ghost use Rattle.std.specs.Prelude.{◌≡◌};
 
-use crate::floor::{Folder, PARTS, attach, begin, create, crew, on_file, read};
+use crate::floor::{
+    Crews, PARTS, attach, begin, collect, create, folder, house, make_crews, on_file, read,
+    work_off,
+};
 use crate::ties::Ties;
 use fm_data::FileRequest;
+use fm_device::Device;
 use fm_flow::FlowAction;
 use fm_lock::Manager;
 use fm_queue::JobQueue;
 use fm_types::{Name, OpId, Status, WorkerId};
-use fm_worker::{Gate, Post};
+use fm_worker::Gate;
 use std::alloc::Global;
 use std::marker::Brand;
 use std::sync::Wait;
 use std::sync::atomic::{AtomicU64, Ordering};
 use std::sync::ledger::{Blank, Ledger};
+use std::time::Clock;
 
 /// Notes which worker made the last postoperation: its number and 1, and 0 before the first.
 #[derive(Drop)]
@@ -44,7 +49,7 @@ impl Gate for Watch {
     }
 }
 
-// Both filters.
+/// Both filters of reads: one that asks for its own worker, and one that holds.
 pub fn filters(alloc: Global) -> Result<Vec<(Name, Ties)>, Status> {
     let mut filters = Vec::new(alloc);
     filters.push((Name::read(b"own")?, Ties::Own))?;
@@ -52,82 +57,84 @@ pub fn filters(alloc: Global) -> Result<Vec<(Name, Ties)>, Status> {
     Ok(filters)
 }
 
-/// A client's or a worker's post.
-type Crew<'a, L, R> = Post<'a, Ties, L, R, Watch, Folder>;
+/// Posts at a manager of both filters.
+pub type Tied<'a, L, R, D> = Crews<'a, Ties, L, R, Watch, D>;
 
-/// A client's and two workers' posts.
-#[derive(Drop)]
-struct Crews<'a, L: Ledger, R: Wait> {
-    client: Crew<'a, L, R>,
-    first: Crew<'a, L, R>,
-    second: Crew<'a, L, R>,
-}
-
-// A read is synchronized at the first worker and held, and a flush on the second one resumes it.
-fn hold_and_resume<L: Ledger, R: Wait>(
+/// A read is synchronized at the first worker and held there, and a flush on the second one resumes it: the job of the read is queued then.
+pub fn hold_and_resume<L: Ledger, R: Wait, D: Device>(
     rt: &R,
     alloc: Global,
     manager: &Manager<Ties, L>,
-    crews: &mut Crews<'_, L, R>,
+    posts: &mut Tied<'_, L, R, D>,
 ) -> Result<OpId, Status> {
-    let client = &mut crews.client;
-    attach(manager, rt, client, b"own", b"200")?;
-    attach(manager, rt, client, b"holds", b"100")?;
-    begin(manager, rt, client, create(alloc, b"x")?)?;
-    client.stop_worker();
-    crews.first.work();
-    let reading = begin(manager, rt, client, read(0, 0))?;
-    client.stop_worker();
-    crews.first.work();
-    begin(manager, rt, client, on_file(FileRequest::Flush))?;
-    client.stop_worker();
-    crews.second.work();
+    let client = &mut posts.client;
+    attach(client, b"own", b"200")?;
+    attach(client, b"holds", b"100")?;
+    begin(rt, manager, client, create(alloc, b"x")?)?;
+    work_off(client, &mut posts.first);
+    let reading = begin(rt, manager, client, read(0, 0))?;
+    work_off(client, &mut posts.first);
+    begin(rt, manager, client, on_file(FileRequest::Flush))?;
+    work_off(client, &mut posts.second);
     Ok(reading)
 }
 
+/// Which worker the manager names, what the read is answered, and whose postoperation it was.
+#[derive(Clone, Copy)]
+struct Seen {
+    named: Option<WorkerId>,
+    status: Status,
+    last: u64,
+}
+
 // The second worker carries the read to its base, and puts it back; the first one makes its postoperation.
-fn come_home<L: Ledger, R: Wait>(
+fn come_home<L: Ledger, R: Wait + Clock, D: Device>(
     rt: &R,
     alloc: Global,
     manager: &Manager<Ties, L>,
-    crews: &mut Crews<'_, L, R>,
-) -> Result<(Option<WorkerId>, Status), Status> {
-    let reading = hold_and_resume(rt, alloc, manager, crews)?;
-    crews.client.stop_worker();
-    crews.second.work();
+    posts: &mut Tied<'_, L, R, D>,
+    gate: &Watch,
+) -> Result<Seen, Status> {
+    let reading = hold_and_resume(rt, alloc, manager, posts)?;
+    work_off(&mut posts.client, &mut posts.second);
     let named = manager.sync_worker(rt, reading);
-    crews.client.stop_worker();
-    crews.first.work();
-    Ok((named, manager.wait_reply(rt, reading)?.status))
+    work_off(&mut posts.client, &mut posts.first);
+    let status = collect(rt, manager, reading)?.status;
+    Ok(Seen {
+        named,
+        status,
+        last: gate.last(),
+    })
 }
 
-/// Which worker the manager names, what the read is answered, and whose postoperation it was.
-type Seen = (Option<WorkerId>, Status, u64);
-
-fn homing_day<L: Ledger, R: Wait>(rt: &R, alloc: Global, blank: Blank) -> Result<Seen, Status>
+fn homing_day<L: Ledger, R: Wait + Clock>(
+    rt: &R,
+    alloc: Global,
+    blank: Blank,
+) -> Result<Seen, Status>
     requires name { blank.name ≡ L.name }
     requires parts { blank.parts ≡ L.parts }
     requires all { blank.parts ≡ 49 }
 {
-    let manager = Manager::<Ties, L>::new(alloc, filters(alloc)?, blank)?;
-    manager.mount(rt, Name::read(b"v")?)?;
+    let manager = house::<Ties, L, R>(rt, alloc, filters(alloc)?, blank)?;
     let (queue, mut passes) = JobQueue::new(alloc, 272, 3)?;
     let gate = Watch::new();
-    let jobs = &queue;
-    let first = crew(rt, alloc, &manager, jobs, &gate, &mut passes)?;
-    let second = crew(rt, alloc, &manager, jobs, &gate, &mut passes)?;
-    let client = crew(rt, alloc, &manager, jobs, &gate, &mut passes)?;
-    let mut crews = Crews {
-        client,
-        first,
-        second,
-    };
-    let (named, status) = come_home(rt, alloc, &manager, &mut crews)?;
-    Ok((named, status, gate.last()))
+    let below = folder(alloc)?;
+    let mut posts = make_crews(rt, alloc, &manager, &queue, &gate, &mut passes, below)?;
+    come_home(rt, alloc, &manager, &mut posts, &gate)
 }
 
 #[test]
 fn synchronized_postoperation_comes_home(rt: HostRuntime) {
     let seen = homing_day::<Brand, _>(&rt, rt.alloc(), Blank::new(PARTS));
-    assert!(rt; seen == Ok((Some(WorkerId(0)), Status::FileNotFound, 1)));
+    assert!(rt;
+        matches!(
+            seen,
+            Ok(Seen {
+                named: Some(WorkerId(0)),
+                status: Status::FileNotFound,
+                last: 1
+            })
+        )
+    );
 }

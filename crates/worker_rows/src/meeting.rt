@@ -2,14 +2,17 @@
 
 ghost use Rattle.std.specs.Prelude.{◌≡◌};
 
-use crate::floor::{Folder, PARTS, attach, begin, create, crew, read, write};
+use crate::floor::{
+    Crew, Crews, Folder, PARTS, attach, begin, collect, create, folder, house, make_crews, read,
+    shift, write,
+};
 use fm_data::Params;
 use fm_flow::FlowAction;
 use fm_lock::Manager;
 use fm_queue::JobQueue;
-use fm_samples::{Sample, Shift};
-use fm_types::{Name, Status, WorkerId};
-use fm_worker::{Gate, Post};
+use fm_samples::Sample;
+use fm_types::{Status, WorkerId};
+use fm_worker::Gate;
 use std::alloc::Global;
 use std::marker::Brand;
 use std::sync::Wait;
@@ -28,18 +31,40 @@ struct Meeting<'a, R> {
     rt: &'a R,
     reads: AtomicBool,
     writes: AtomicBool,
-    meet: AtomicBool,
+    missed: AtomicBool,
 }
 
-// Waits until the other is there. Whether it came.
-fn comes<R: Clock>(rt: &R, other: &AtomicBool) -> bool {
-    for _ in 0..LOOKS {
-        if other.load(Ordering::SeqCst) {
-            return true;
+impl<'a, R> Meeting<'a, R> {
+    /// Before the first callback.
+    fn new(rt: &'a R) -> Meeting<'a, R> {
+        Meeting {
+            rt,
+            reads: AtomicBool::new(false),
+            writes: AtomicBool::new(false),
+            missed: AtomicBool::new(false),
         }
-        thread::sleep(rt, Duration::from_millis(1));
     }
-    false
+
+    // Whether both came, and neither left before the other came.
+    fn have_met(&self) -> bool {
+        self.reads.load(Ordering::SeqCst)
+            && self.writes.load(Ordering::SeqCst)
+            && !self.missed.load(Ordering::SeqCst)
+    }
+}
+
+impl<R: Clock> Meeting<'_, R> {
+    // Comes, and waits until the other is there.
+    fn meet(&self, own: &AtomicBool, other: &AtomicBool) {
+        own.store(true, Ordering::SeqCst);
+        for _ in 0..LOOKS {
+            if other.load(Ordering::SeqCst) {
+                return;
+            }
+            thread::sleep(self.rt, Duration::from_millis(1));
+        }
+        self.missed.store(true, Ordering::SeqCst);
+    }
 }
 
 impl<R: Clock + Sync> Gate for Meeting<'_, R> {
@@ -47,47 +72,36 @@ impl<R: Clock + Sync> Gate for Meeting<'_, R> {
         let FlowAction::Pre(_, lent) = action else {
             return;
         };
-        let came = match lent.params() {
-            Params::Read { .. } => {
-                self.reads.store(true, Ordering::SeqCst);
-                comes(self.rt, &self.writes)
-            }
-            Params::Write { .. } => {
-                self.writes.store(true, Ordering::SeqCst);
-                comes(self.rt, &self.reads)
-            }
-            _ => return,
-        };
-        if came {
-            self.meet.store(true, Ordering::SeqCst);
+        match lent.params() {
+            Params::Read { .. } => self.meet(&self.reads, &self.writes),
+            Params::Write { .. } => self.meet(&self.writes, &self.reads),
+            _ => {}
         }
     }
 }
 
-/// A client's or a worker's post.
-type Crew<'a, L, R> = Post<'a, Sample, L, R, Meeting<'a, R>, Folder>;
-
 // A read and a write, each carried on by the worker that takes it.
-fn ask<L: Ledger, R: Wait + Clock + Sync>(
+fn ask<L: Ledger, R: Wait + Clock, G: Gate>(
     rt: &R,
     alloc: Global,
     manager: &Manager<Sample, L>,
-    client: &mut Crew<'_, L, R>,
+    client: &mut Crew<'_, Sample, L, R, G>,
 ) -> Result<(), Status> {
-    attach(manager, rt, client, b"shift", b"100")?;
+    attach(client, b"shift", b"100")?;
     client.answer(create(alloc, b"x")?)?;
-    let reading = begin(manager, rt, client, read(0, 0))?;
-    let writing = begin(manager, rt, client, write(alloc, b"a")?)?;
-    manager.wait_reply(rt, reading)?;
-    manager.wait_reply(rt, writing)?;
+    let reading = begin(rt, manager, client, read(0, 0))?;
+    let writing = begin(rt, manager, client, write(alloc, b"a")?)?;
+    collect(rt, manager, reading)?;
+    collect(rt, manager, writing)?;
     Ok(())
 }
 
-fn ask_two<L: Ledger, R: Wait + Clock + Sync>(
+// The client asks, and then has both workers end.
+fn ask_two<L: Ledger, R: Wait + Clock, G: Gate>(
     rt: &R,
     alloc: Global,
     manager: &Manager<Sample, L>,
-    client: &mut Crew<'_, L, R>,
+    client: &mut Crew<'_, Sample, L, R, G>,
 ) -> Result<(), Status> {
     let asked = ask(rt, alloc, manager, client);
     client.stop_worker();
@@ -95,6 +109,27 @@ fn ask_two<L: Ledger, R: Wait + Clock + Sync>(
     asked
 }
 
+// The client asks, while both workers work, each in a thread of its own.
+fn ask_beside<L: Ledger + Send + Sync, R: Threads + Wait + Clock + Sync, G: Gate>(
+    rt: &R,
+    alloc: Global,
+    manager: &Manager<Sample, L>,
+    posts: Crews<'_, Sample, L, R, G, Folder>,
+) -> Result<(), Status> {
+    let Crews {
+        mut client,
+        mut first,
+        mut second,
+    } = posts;
+    let (asked, _) = thread::join(
+        rt,
+        || ask_two(rt, alloc, manager, &mut client),
+        || thread::join(rt, || first.work(), || second.work()),
+    );
+    asked
+}
+
+// Whether the two callbacks have met.
 fn meeting_day<L: Ledger + Send + Sync, R: Threads + Wait + Clock + Sync>(
     rt: &R,
     alloc: Global,
@@ -104,32 +139,17 @@ fn meeting_day<L: Ledger + Send + Sync, R: Threads + Wait + Clock + Sync>(
     requires parts { blank.parts ≡ L.parts }
     requires all { blank.parts ≡ 49 }
 {
-    let mut filters = Vec::new(alloc);
-    filters.push((Name::read(b"shift")?, Sample::Shift(Shift::new(alloc))))?;
-    let manager = Manager::<Sample, L>::new(alloc, filters, blank)?;
-    manager.mount(rt, Name::read(b"v")?)?;
+    let manager = house::<Sample, L, R>(rt, alloc, shift(alloc)?, blank)?;
     let (queue, mut passes) = JobQueue::new(alloc, 272, 3)?;
-    let gate = Meeting {
-        rt,
-        reads: AtomicBool::new(false),
-        writes: AtomicBool::new(false),
-        meet: AtomicBool::new(false),
-    };
-    let jobs = &queue;
-    let mut client = crew(rt, alloc, &manager, jobs, &gate, &mut passes)?;
-    let mut first = crew(rt, alloc, &manager, jobs, &gate, &mut passes)?;
-    let mut second = crew(rt, alloc, &manager, jobs, &gate, &mut passes)?;
-    let (asked, _) = thread::join(
-        rt,
-        || ask_two(rt, alloc, &manager, &mut client),
-        || thread::join(rt, || first.work(), || second.work()),
-    );
-    asked?;
-    Ok(gate.meet.load(Ordering::SeqCst))
+    let gate = Meeting::new(rt);
+    let below = folder(alloc)?;
+    let posts = make_crews(rt, alloc, &manager, &queue, &gate, &mut passes, below)?;
+    ask_beside(rt, alloc, &manager, posts)?;
+    Ok(gate.have_met())
 }
 
 #[test]
 fn two_callbacks_meet(rt: HostRuntime) {
     let seen = meeting_day::<Brand, _>(&rt, rt.alloc(), Blank::new(PARTS));
-    assert!(rt; seen == Ok(true));
+    assert!(rt; matches!(seen, Ok(true)));
 }

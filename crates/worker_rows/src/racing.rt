@@ -3,20 +3,22 @@
 ghost use Rattle.std.specs.Prelude.{◌≡◌};
 
 use crate::floor::{
-    Folder, Numbers, PARTS, alone, attach, begin, create, crew, end, on_file, read,
+    Crew, Crews, Folder, Numbers, PARTS, alone, attach, begin, create, end, folder, hands_of,
+    house, make_crews, on_file, read,
 };
 use fm_data::FileRequest;
-use fm_lock::Manager;
+use fm_lock::{Hand, Manager};
 use fm_queue::JobQueue;
 use fm_samples::{Carry, Meter, Sample};
 use fm_types::{FilterId, InstanceId, Name, OpId, Status};
-use fm_worker::{OpenGate, Post};
+use fm_worker::OpenGate;
 use std::alloc::Global;
 use std::marker::Brand;
 use std::sync::Wait;
 use std::sync::ledger::{Blank, Ledger};
 use std::thread;
 use std::thread::Threads;
+use std::time::Clock;
 
 /// How often a teardown races.
 const ROUNDS: u32 = 50;
@@ -25,46 +27,45 @@ const ROUNDS: u32 = 50;
 const READS: usize = 10;
 
 /// A client's or a worker's post.
-type Crew<'a, L, R> = Post<'a, Sample, L, R, OpenGate, Folder>;
+type OpenCrew<'a, L, R> = Crew<'a, Sample, L, R, OpenGate>;
 
 // Begins reads.
 fn begin_reads<L: Ledger, R: Wait>(
     rt: &R,
     manager: &Manager<Sample, L>,
-    client: &mut Crew<'_, L, R>,
+    client: &mut OpenCrew<'_, L, R>,
     begun: &mut Vec<OpId>,
 ) -> Result<(), Status> {
     for _ in 0..READS {
-        begun.push(begin(manager, rt, client, read(0, 0))?)?;
+        begun.push(begin(rt, manager, client, read(0, 0))?)?;
     }
     Ok(())
 }
 
 // The teardown of both instances, as far as it goes now.
-fn tear_down<L: Ledger, R: Wait>(client: &mut Crew<'_, L, R>) {
-    for instance in [InstanceId(0), InstanceId(1)] {
-        let _ = client.detach(instance);
-    }
+fn tear_down<L: Ledger, R: Wait>(client: &mut OpenCrew<'_, L, R>) {
+    let _ = client.detach(InstanceId(0));
+    let _ = client.detach(InstanceId(1));
 }
 
 // Reads, the start of the teardown, more reads and the file's cleanup; then both workers end.
 fn race<L: Ledger, R: Wait>(
     rt: &R,
     manager: &Manager<Sample, L>,
-    client: &mut Crew<'_, L, R>,
+    client: &mut OpenCrew<'_, L, R>,
     begun: &mut Vec<OpId>,
 ) -> Result<(), Status> {
     begin_reads(rt, manager, client, begun)?;
     tear_down(client);
     begin_reads(rt, manager, client, begun)?;
-    begun.push(begin(manager, rt, client, on_file(FileRequest::Cleanup))?)?;
+    begun.push(begin(rt, manager, client, on_file(FileRequest::Cleanup))?)?;
     Ok(())
 }
 
 fn race_two<L: Ledger, R: Wait>(
     rt: &R,
     manager: &Manager<Sample, L>,
-    client: &mut Crew<'_, L, R>,
+    client: &mut OpenCrew<'_, L, R>,
     begun: &mut Vec<OpId>,
 ) -> Result<(), Status> {
     let raced = race(rt, manager, client, begun);
@@ -74,10 +75,10 @@ fn race_two<L: Ledger, R: Wait>(
 }
 
 // All answers are collected, the file is closed, and the rest of both teardowns and both unloads follow.
-fn leave<L: Ledger, R: Wait>(
+fn leave<L: Ledger, R: Wait + Clock>(
     rt: &R,
     manager: &Manager<Sample, L>,
-    client: &mut Crew<'_, L, R>,
+    client: &mut OpenCrew<'_, L, R>,
     begun: Vec<OpId>,
 ) -> Result<(), Status> {
     for operation in begun {
@@ -90,7 +91,54 @@ fn leave<L: Ledger, R: Wait>(
     client.unload(FilterId(1))
 }
 
-fn racing_round<L: Ledger + Send + Sync, R: Threads + Wait + Sync>(
+fn filters(alloc: Global) -> Result<Vec<(Name, Sample)>, Status> {
+    let mut filters = Vec::new(alloc);
+    filters.push((Name::read(b"carry")?, Sample::Carry(Carry::new(alloc))))?;
+    filters.push((Name::read(b"meter")?, Sample::Meter(Meter::new(alloc))))?;
+    Ok(filters)
+}
+
+// Both instances, and a file that was read once, so that there are contexts before the race.
+fn open<L: Ledger, R: Wait + Clock>(
+    rt: &R,
+    alloc: Global,
+    manager: &Manager<Sample, L>,
+    client: &mut OpenCrew<'_, L, R>,
+) -> Result<(), Status> {
+    attach(client, b"carry", b"200")?;
+    attach(client, b"meter", b"100")?;
+    let creating = manager.begin(rt, create(alloc, b"x")?)?;
+    alone(rt, manager, client, creating)?;
+    let reading = manager.begin(rt, read(0, 0))?;
+    alone(rt, manager, client, reading)?;
+    Ok(())
+}
+
+// The race, with both workers in threads of their own, and then the rest: the hands of all three.
+fn race_and_leave<L: Ledger + Send + Sync, R: Threads + Wait + Clock + Sync>(
+    rt: &R,
+    alloc: Global,
+    manager: &Manager<Sample, L>,
+    posts: Crews<'_, Sample, L, R, OpenGate, Folder>,
+) -> Result<Vec<Hand<L>>, Status> {
+    let Crews {
+        mut client,
+        mut first,
+        mut second,
+    } = posts;
+    open(rt, alloc, manager, &mut client)?;
+    let mut begun = Vec::with_capacity(alloc, 2 * READS + 1)?;
+    let (raced, _) = thread::join(
+        rt,
+        || race_two(rt, manager, &mut client, &mut begun),
+        || thread::join(rt, || first.work(), || second.work()),
+    );
+    raced?;
+    leave(rt, manager, &mut client, begun)?;
+    hands_of(alloc, client, first, second)
+}
+
+fn racing_round<L: Ledger + Send + Sync, R: Threads + Wait + Clock + Sync>(
     rt: &R,
     alloc: Global,
     blank: Blank,
@@ -99,33 +147,12 @@ fn racing_round<L: Ledger + Send + Sync, R: Threads + Wait + Sync>(
     requires parts { blank.parts ≡ L.parts }
     requires all { blank.parts ≡ 49 }
 {
-    let mut filters = Vec::new(alloc);
-    filters.push((Name::read(b"carry")?, Sample::Carry(Carry::new(alloc))))?;
-    filters.push((Name::read(b"meter")?, Sample::Meter(Meter::new(alloc))))?;
-    let manager = Manager::<Sample, L>::new(alloc, filters, blank)?;
-    manager.mount(rt, Name::read(b"v")?)?;
+    let manager = house::<Sample, L, R>(rt, alloc, filters(alloc)?, blank)?;
     let (queue, mut passes) = JobQueue::new(alloc, 272, 3)?;
     let gate = OpenGate;
-    let jobs = &queue;
-    let mut client = crew(rt, alloc, &manager, jobs, &gate, &mut passes)?;
-    let mut first = crew(rt, alloc, &manager, jobs, &gate, &mut passes)?;
-    let mut second = crew(rt, alloc, &manager, jobs, &gate, &mut passes)?;
-    attach(&manager, rt, &mut client, b"carry", b"200")?;
-    attach(&manager, rt, &mut client, b"meter", b"100")?;
-    let creating = manager.begin(rt, create(alloc, b"x")?)?;
-    alone(rt, &manager, &mut client, creating)?;
-    let mut begun = Vec::with_capacity(alloc, 2 * READS + 1)?;
-    let (raced, _) = thread::join(
-        rt,
-        || race_two(rt, &manager, &mut client, &mut begun),
-        || thread::join(rt, || first.work(), || second.work()),
-    );
-    raced?;
-    leave(rt, &manager, &mut client, begun)?;
-    let mut hands = Vec::new(alloc);
-    hands.push(client.into_parts().0)?;
-    hands.push(first.into_parts().0)?;
-    hands.push(second.into_parts().0)?;
+    let below = folder(alloc)?;
+    let posts = make_crews(rt, alloc, &manager, &queue, &gate, &mut passes, below)?;
+    let hands = race_and_leave(rt, alloc, &manager, posts)?;
     end(manager, hands)
 }
 
@@ -133,6 +160,8 @@ fn racing_round<L: Ledger + Send + Sync, R: Threads + Wait + Sync>(
 fn teardown_race(rt: HostRuntime) {
     for _ in 0..ROUNDS {
         let seen = racing_round::<Brand, _>(&rt, rt.alloc(), Blank::new(PARTS));
-        assert!(rt; matches!(seen, Ok([born, cleaned, 0]) if born == cleaned));
+        assert!(rt;
+            matches!(seen, Ok(Numbers { born, cleaned, leaks: 0 }) if born == cleaned && born > 0)
+        );
     }
 }

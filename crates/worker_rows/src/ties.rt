@@ -26,7 +26,7 @@ fn resume<P: Port>(port: &mut P)
 }
 
 impl Agreeable for Ties {
-    ghost use Rattle.std.specs.Prelude.{⊤, ⊥, true};
+    ghost use Rattle.std.specs.Prelude.{⊤, true};
     ghost use Rattle.fm_samples.specs.Common.{CountsNothing, IsBarePost};
 
     ghost registers = { λ _. record { pre = record { 0 = 34 }; post = record { 0 = 2 }; contexts = record { 0 = 0 }; query = true; unload = true } };

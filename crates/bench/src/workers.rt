@@ -9,8 +9,10 @@ use fm_altitude::Altitude;
 use fm_base::MemoryBase;
 use fm_data::{FileRequest, Request};
 use fm_device::Bases;
+use fm_filter::Minifilter;
 use fm_lock::Manager;
 use fm_queue::{JobPass, JobQueue};
+use fm_samples::Meter;
 use fm_types::{CreateMode, HandleId, Name, OpId, RelPath, SharedPath, Status, VolumeId};
 use fm_worker::{OpenGate, Post};
 use std::alloc::Global;
@@ -30,8 +32,11 @@ const BATCH: u64 = 128;
 /// How many parts a manager's ledger has.
 const PARTS: u64 = 49;
 
+/// How many rounds of arithmetic the filter that works takes in a callback.
+const ROUNDS: u64 = 15_500;
+
 /// A client's or a worker's post.
-type Crew<'a, L, R> = Post<'a, Works, L, R, OpenGate, Bases<MemoryBase>>;
+type Crew<'a, F, L, R> = Post<'a, F, L, R, OpenGate, Bases<MemoryBase>>;
 
 fn folder(alloc: Global) -> Result<Bases<MemoryBase>, Status> {
     let mut bases = Bases::new(alloc)?;
@@ -40,11 +45,11 @@ fn folder(alloc: Global) -> Result<Bases<MemoryBase>, Status> {
 }
 
 // Begins a batch of reads, and waits for all of them.
-fn read_batch<L: Ledger, R: Wait>(
+fn read_batch<F: Minifilter, L: Ledger, R: Wait>(
     rt: &R,
     alloc: Global,
-    manager: &Manager<Works, L>,
-    client: &mut Crew<'_, L, R>,
+    manager: &Manager<F, L>,
+    client: &mut Crew<'_, F, L, R>,
 ) -> Result<(), Status> {
     let mut begun: Vec<OpId> = Vec::with_capacity(alloc, BATCH as usize)?;
     for _ in 0..BATCH {
@@ -65,15 +70,15 @@ fn read_batch<L: Ledger, R: Wait>(
 }
 
 // A file below the filter, and so many batches of reads of it.
-fn read_all<L: Ledger, R: Wait>(
+fn read_all<F: Minifilter, L: Ledger, R: Wait>(
     rt: &R,
     alloc: Global,
-    manager: &Manager<Works, L>,
-    client: &mut Crew<'_, L, R>,
+    manager: &Manager<F, L>,
+    client: &mut Crew<'_, F, L, R>,
     batches: u64,
 ) -> Result<(), Status> {
-    let name = Name::read(b"works")?;
-    let filter = manager.register(rt, &name)?;
+    let name = Name::read(b"f")?;
+    let filter = client.load(&name)?;
     client.attach(filter, VolumeId(0), name, Altitude::read(b"100")?)?;
     client.answer(Request::Create {
         volume: VolumeId(0),
@@ -87,11 +92,11 @@ fn read_all<L: Ledger, R: Wait>(
 }
 
 // The same, and after it, whatever came of it, so many workers end.
-fn ask<L: Ledger, R: Wait>(
+fn ask<F: Minifilter, L: Ledger, R: Wait>(
     rt: &R,
     alloc: Global,
-    manager: &Manager<Works, L>,
-    client: &mut Crew<'_, L, R>,
+    manager: &Manager<F, L>,
+    client: &mut Crew<'_, F, L, R>,
     load: Load,
 ) -> Result<(), Status> {
     let asked = read_all(rt, alloc, manager, client, load.batches);
@@ -101,23 +106,22 @@ fn ask<L: Ledger, R: Wait>(
     asked
 }
 
-/// How much is done, by how many workers (1, 2 or 4), and how long the filter works in a callback.
+/// How much is done, and by how many workers: 1, 2 or 4.
 #[derive(Clone, Copy)]
 struct Load {
     batches: u64,
     workers: u8,
-    rounds: u64,
 }
 
 // The posts of so many workers.
-fn crew<'a, L: Ledger, R: Wait>(
+fn crew<'a, F: Minifilter, L: Ledger, R: Wait>(
     rt: &'a R,
     alloc: Global,
-    manager: &'a Manager<Works, L>,
+    manager: &'a Manager<F, L>,
     queue: &'a JobQueue,
     gate: &'a OpenGate,
     passes: &mut Vec<JobPass>,
-) -> Result<Crew<'a, L, R>, Status>
+) -> Result<Crew<'a, F, L, R>, Status>
     requires { All (λ pass. IsPassOf queue.now pass) passes.old.items }
     ensures { All (λ pass. IsPassOf queue.now pass) passes.new.items }
 {
@@ -125,10 +129,11 @@ fn crew<'a, L: Ledger, R: Wait>(
 }
 
 // Reads by so many workers, each in a thread of its own.
-fn shared<L: Ledger + Send + Sync, R: Threads + Wait + Sync>(
+fn shared<F: Minifilter, L: Ledger + Send + Sync, R: Threads + Wait + Sync>(
     rt: &R,
     alloc: Global,
     blank: Blank,
+    filter: F,
     load: Load,
 ) -> Result<(), Status>
     requires name { blank.name ≡ L.name }
@@ -136,8 +141,8 @@ fn shared<L: Ledger + Send + Sync, R: Threads + Wait + Sync>(
     requires all { blank.parts ≡ 49 }
 {
     let mut filters = Vec::new(alloc);
-    filters.push((Name::read(b"works")?, Works::new(load.rounds)))?;
-    let manager = Manager::<Works, L>::new(alloc, filters, blank)?;
+    filters.push((Name::read(b"f")?, filter))?;
+    let manager = Manager::<F, L>::new(alloc, filters, blank)?;
     manager.mount(rt, Name::read(b"v")?)?;
     let (queue, mut passes) = JobQueue::new(alloc, 272, 5)?;
     let gate = OpenGate;
@@ -159,10 +164,10 @@ fn shared<L: Ledger + Send + Sync, R: Threads + Wait + Sync>(
 }
 
 // So many of two workers.
-fn work_two<L: Ledger + Send + Sync, R: Threads + Wait + Sync>(
+fn work_two<F: Minifilter, L: Ledger + Send + Sync, R: Threads + Wait + Sync>(
     rt: &R,
-    one: &mut Crew<'_, L, R>,
-    other: &mut Crew<'_, L, R>,
+    one: &mut Crew<'_, F, L, R>,
+    other: &mut Crew<'_, F, L, R>,
     workers: u8,
 ) {
     match workers {
@@ -178,18 +183,27 @@ fn or_fault(done: Result<(), Status>) -> io::Result<()> {
     done.map_err(|_| io::Error::from(io::ErrorKind::OutOfMemory))
 }
 
-// How long it takes.
-fn time<R: Threads + Wait + Sync>(
+// How long it takes through that filter.
+fn time<F: Minifilter, R: Threads + Wait + Sync>(
     rt: &HostRuntime,
     threads: &R,
+    filter: F,
     load: Load,
 ) -> io::Result<Duration> {
     let start = Instant::now(rt)?;
-    or_fault(shared::<Brand, R>(threads, rt.alloc(), Blank::new(PARTS), load))?;
+    or_fault(shared::<F, Brand, R>(threads, rt.alloc(), Blank::new(PARTS), filter, load))?;
     start.elapsed(rt)
 }
 
-/// Makes that many batches of 128 reads with 1, 2 and 4 workers, through a filter that does next to nothing and through one that works some 20 microseconds in
+fn tell(rt: &HostRuntime, filter: &str, load: Load, time: Duration) -> io::Result<()> {
+    let reads = a_second(load.batches.saturating_mul(BATCH), time);
+    println!(rt;
+        "{filter}, {} workers: {reads} reads a second",
+        load.workers
+    )
+}
+
+/// Makes that many batches of 128 reads with 1, 2 and 4 workers, through `meter`, which counts them, and through a filter that works some 20 microseconds in
 /// each callback, and prints how many reads were carried on in a second.
 pub fn measure<R: Threads + Wait + Sync>(
     rt: &HostRuntime,
@@ -197,18 +211,13 @@ pub fn measure<R: Threads + Wait + Sync>(
     given: Option<u64>,
 ) -> io::Result<()> {
     let batches = given.unwrap_or(FEW);
-    for (name, rounds) in [("light", 1), ("heavy", 20_000)] {
-        for workers in [1, 2, 4] {
-            let load = Load {
-                batches,
-                workers,
-                rounds,
-            };
-            let time = time(rt, threads, load)?;
-            if given.is_some() {
-                let reads = a_second(batches.saturating_mul(BATCH), time);
-                println!(rt; "{name} filter, {workers} workers: {reads} reads a second")?;
-            }
+    for workers in [1, 2, 4] {
+        let load = Load { batches, workers };
+        let counting = time(rt, threads, Meter::new(rt.alloc()), load)?;
+        let working = time(rt, threads, Works::new(ROUNDS), load)?;
+        if given.is_some() {
+            tell(rt, "meter", load, counting)?;
+            tell(rt, "a filter that works", load, working)?;
         }
     }
     Ok(())

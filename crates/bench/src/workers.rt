@@ -128,7 +128,62 @@ fn crew<'a, F: Minifilter, L: Ledger, R: Wait>(
     Post::new(rt, manager, queue, gate, alloc, passes, folder(alloc)?)
 }
 
-// Reads by so many workers, each in a thread of its own.
+/// The posts of a client and of four workers.
+#[derive(Drop)]
+struct Crews<'a, F: Drop, L: Ledger, R: Wait> {
+    client: Crew<'a, F, L, R>,
+    a: Crew<'a, F, L, R>,
+    b: Crew<'a, F, L, R>,
+    c: Crew<'a, F, L, R>,
+    d: Crew<'a, F, L, R>,
+}
+
+fn make_crews<'a, F: Minifilter, L: Ledger, R: Wait>(
+    rt: &'a R,
+    alloc: Global,
+    manager: &'a Manager<F, L>,
+    queue: &'a JobQueue,
+    gate: &'a OpenGate,
+    passes: &mut Vec<JobPass>,
+) -> Result<Crews<'a, F, L, R>, Status>
+    requires { All (λ pass. IsPassOf queue.now pass) passes.old.items }
+{
+    let client = crew(rt, alloc, manager, queue, gate, passes)?;
+    let a = crew(rt, alloc, manager, queue, gate, passes)?;
+    let b = crew(rt, alloc, manager, queue, gate, passes)?;
+    let c = crew(rt, alloc, manager, queue, gate, passes)?;
+    let d = crew(rt, alloc, manager, queue, gate, passes)?;
+    Ok(Crews { client, a, b, c, d })
+}
+
+// The client asks, while so many workers work, each in a thread of its own.
+fn ask_beside<F: Minifilter, L: Ledger + Send + Sync, R: Threads + Wait + Sync>(
+    rt: &R,
+    alloc: Global,
+    manager: &Manager<F, L>,
+    posts: Crews<'_, F, L, R>,
+    load: Load,
+) -> Result<(), Status> {
+    let Crews {
+        mut client,
+        mut a,
+        mut b,
+        mut c,
+        mut d,
+    } = posts;
+    let (asked, _) = thread::join(
+        rt,
+        || ask(rt, alloc, manager, &mut client, load),
+        || thread::join(
+            rt,
+            || work_two(rt, &mut a, &mut b, load.workers.min(2)),
+            || work_two(rt, &mut c, &mut d, load.workers.saturating_sub(2)),
+        ),
+    );
+    asked
+}
+
+// A manager of that filter, and reads through it.
 fn shared<F: Minifilter, L: Ledger + Send + Sync, R: Threads + Wait + Sync>(
     rt: &R,
     alloc: Global,
@@ -146,21 +201,8 @@ fn shared<F: Minifilter, L: Ledger + Send + Sync, R: Threads + Wait + Sync>(
     manager.mount(rt, Name::read(b"v")?)?;
     let (queue, mut passes) = JobQueue::new(alloc, 272, 5)?;
     let gate = OpenGate;
-    let mut client = crew(rt, alloc, &manager, &queue, &gate, &mut passes)?;
-    let mut a = crew(rt, alloc, &manager, &queue, &gate, &mut passes)?;
-    let mut b = crew(rt, alloc, &manager, &queue, &gate, &mut passes)?;
-    let mut c = crew(rt, alloc, &manager, &queue, &gate, &mut passes)?;
-    let mut d = crew(rt, alloc, &manager, &queue, &gate, &mut passes)?;
-    let (asked, _) = thread::join(
-        rt,
-        || ask(rt, alloc, &manager, &mut client, load),
-        || thread::join(
-            rt,
-            || work_two(rt, &mut a, &mut b, load.workers.min(2)),
-            || work_two(rt, &mut c, &mut d, load.workers.saturating_sub(2)),
-        ),
-    );
-    asked
+    let posts = make_crews(rt, alloc, &manager, &queue, &gate, &mut passes)?;
+    ask_beside(rt, alloc, &manager, posts, load)
 }
 
 // So many of two workers.

@@ -12,7 +12,7 @@ export KIT=${KIT:-$(dirname "$(rt doc | head -1)")}
 room=$(mktemp -d)
 trap 'rm -rf "$room"' EXIT
 if [ -z "${KAZDRIN_LIB:-}" ]; then
-    if ! (cd crates/kazdrin_c && rt lib) > "$room/lib.log" 2>&1; then
+    if ! c/archive.sh > "$room/lib.log" 2>&1; then
         cat "$room/lib.log"
         echo "C programs: 0 passed, 1 failed (the archive)"
         exit 1

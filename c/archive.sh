@@ -1,0 +1,19 @@
+#!/usr/bin/env bash
+# c/archive.sh : makes crates/kazdrin_c/out/libkazdrin_c.a. `rt ci` leaves the libraries of the crates below in this checkout: over them the crate is proved once
+# more, and built, in some five minutes of a processor. Without them `rt lib` proves every crate below first.
+set -eu
+cd "$(dirname "$0")/../crates/kazdrin_c"
+kit=${KIT:-$(dirname "$(rt doc | head -1)")}
+words=()
+for name in $(sed -n 's/^kazdrin_c staticlib: *//p' ../../crates.txt); do
+    library=../$name/out/rlib/$name.rlib
+    [ -d "../$name" ] || library=$kit/rlibs/$name.rlib
+    [ -d "$library" ] || exec rt lib
+    words+=(--extern "$name=$library")
+done
+for folder in ../*/out/rlib; do
+    words+=(-L "dependency=$folder")
+done
+mkdir -p out
+"$kit/bin/rattle" build --crate-name kazdrin_c src/lib.rt --crate-type staticlib "${words[@]}" -L "dependency=$kit/rlibs" --links kazdrin_c= \
+    --antt-project "$kit/rattle/logic/antt-project.json" --logic-built "$kit/logic_built" --toolchain "$kit/toolchain" --backend llvm -o out/libkazdrin_c.a

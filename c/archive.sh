@@ -5,7 +5,7 @@ set -eu
 cd "$(dirname "$0")/../crates/kazdrin_c"
 kit=${KIT:-$(dirname "$(rt doc | head -1)")}
 words=()
-for name in $(sed -n 's/^kazdrin_c staticlib: *//p' ../../crates.txt); do
+for name in std $(sed -n 's/^kazdrin_c staticlib: *//p' ../../crates.txt); do
     library=../$name/out/rlib/$name.rlib
     [ -d "../$name" ] || library=$kit/rlibs/$name.rlib
     [ -d "$library" ] || exec rt lib

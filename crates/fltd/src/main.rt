@@ -2,7 +2,7 @@
 //! no memory or something couldn't be closed, with 2 if the words are none of its own, and with 3 if the folder, the socket or a write fails.
 #![tactic(auto)]
 
-use fm_front::{folders, front};
+use fm_front::{front, prepare};
 use fm_types::Status;
 use fm_words::front_of;
 use std::alloc::Global;
@@ -38,6 +38,6 @@ fn main(rt: HostRuntime) -> io::Result<ExitCode> {
         }
     };
     let mut out = io::writer(&rt);
-    let below = folders(&rt, alloc, &asked);
-    Ok(ExitCode::from(front(&rt, alloc, &asked, below, &mut out)))
+    let site = prepare(&rt, alloc, &asked);
+    Ok(ExitCode::from(front(&rt, alloc, site, &mut out)))
 }

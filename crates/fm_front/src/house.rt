@@ -4,13 +4,13 @@ ghost use Rattle.std.specs.Prelude.{◌≡◌, All, IfSome};
 ghost use Rattle.fm_queue.specs.Passes.{IsPassOf};
 ghost use Rattle.fm_rundown.specs.Seats.{IsSeatOf};
 
-use crate::below::Below;
 use crate::connection::Connection;
 use crate::desk::{Crew, Desk};
 use crate::faults::{fault_of, outside};
 use crate::hall::{CONNECTIONS, Door, Hall};
 use crate::samples::samples;
 use crate::serving::Tally;
+use crate::site::Site;
 use fm_device::Device;
 use fm_lock::{Hand, Manager};
 use fm_queue::{JobPass, JobQueue};
@@ -33,13 +33,6 @@ const JOBS: usize = 272;
 
 /// How many hands there are at most.
 const MOST_HANDS: usize = 48;
-
-/// Where connections come in.
-#[derive(Drop)]
-pub(crate) struct Entrance<'a> {
-    pub(crate) listener: UnixListener,
-    pub(crate) socket: &'a str,
-}
 
 /// What all threads of a server share.
 #[derive(Drop)]
@@ -284,19 +277,19 @@ fn run_house<L, R, D>(
     rt: &R,
     alloc: Global,
     manager: &Manager<Sample, L>,
-    below: Below<D>,
-    entrance: Entrance<'_>,
+    site: Site<'_, D>,
 ) -> Result<(Ended, Vec<Hand<L>>), Status>
 where
     L: Ledger + Send + Sync,
     R: Threads + Wait + Sync + Net<Listener = TcpListener, Stream = TcpStream>,
     D: Device + Send,
 {
-    let Below {
+    let Site {
         workers,
         connections,
-    } = below;
-    let Entrance { listener, socket } = entrance;
+        listener,
+        socket,
+    } = site;
     let (queue, mut passes) = JobQueue::new(alloc, JOBS, MOST_HANDS)?;
     let (rundown, mut seats) = RundownGate::new(alloc, 1, CONNECTIONS)?;
     let gate = OpenGate;
@@ -325,8 +318,7 @@ pub(crate) fn keep_house<L, R, D, W>(
     rt: &R,
     alloc: Global,
     blank: Blank,
-    below: Below<D>,
-    entrance: Entrance<'_>,
+    site: Site<'_, D>,
     out: &mut W,
 ) -> Result<Tally, Fault>
 where
@@ -342,7 +334,7 @@ where
     let manager = Manager::<Sample, L>::new(alloc, filters, blank).map_err(fault_of)?;
     mount(rt, &manager).map_err(fault_of)?;
     say_ready(out)?;
-    let (ended, hands) = run_house(rt, alloc, &manager, below, entrance).map_err(fault_of)?;
+    let (ended, hands) = run_house(rt, alloc, &manager, site).map_err(fault_of)?;
     let Ended { is_clean, served } = ended;
     served?;
     Ok(end(rt, manager, hands, is_clean))

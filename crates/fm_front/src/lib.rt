@@ -6,7 +6,6 @@
 #![tactic(auto)]
 
 mod asking;
-mod below;
 mod connection;
 mod desk;
 mod exec;
@@ -15,7 +14,8 @@ mod hall;
 mod house;
 mod samples;
 mod serving;
+mod site;
 
 pub use crate::asking::client;
-pub use crate::below::{Below, Folder, folders};
 pub use crate::serving::front;
+pub use crate::site::{Folder, Site, prepare};

@@ -2,17 +2,15 @@
 
 ghost use Rattle.std.specs.Prelude.{◌≡◌};
 
-use crate::below::Below;
 use crate::faults::outside;
-use crate::house::{Entrance, keep_house};
+use crate::house::keep_house;
+use crate::site::Site;
 use fm_device::Device;
-use fm_words::{Fault, Front};
+use fm_words::Fault;
 use std::alloc::Global;
 use std::io::{self, Write};
 use std::marker::Brand;
 use std::net::{Net, TcpListener, TcpStream};
-use std::os::unix::net::UnixListener;
-use std::rt::Files;
 use std::sync::Wait;
 use std::sync::ledger::Blank;
 use std::thread::Threads;
@@ -29,24 +27,19 @@ pub(crate) struct Tally {
     pub(crate) is_clean: bool,
 }
 
-// Makes the socket, and serves.
+// Serves at that site.
 fn serve_folder<R, D, W>(
     rt: &R,
     alloc: Global,
-    asked: &Front,
-    below: Below<D>,
+    site: Site<'_, D>,
     out: &mut W,
 ) -> Result<Tally, Fault>
 where
-    R: Files + Threads + Wait + Sync + Net<Listener = TcpListener, Stream = TcpStream>,
+    R: Threads + Wait + Sync + Net<Listener = TcpListener, Stream = TcpStream>,
     D: Device + Send,
     W: Write,
 {
-    let entrance = Entrance {
-        listener: UnixListener::bind(rt, asked.socket).map_err(outside)?,
-        socket: asked.socket,
-    };
-    keep_house::<Brand, R, D, W>(rt, alloc, Blank::new(PARTS), below, entrance, out)
+    keep_house::<Brand, R, D, W>(rt, alloc, Blank::new(PARTS), site, out)
 }
 
 // Says what became of contexts.
@@ -59,24 +52,18 @@ fn say<W: Write>(alloc: Global, tally: &Tally, out: &mut W) -> io::Result<()> {
     out.flush()
 }
 
-/// The server program: `below` is what `folders` made of the folder, which is volume 0, named v0, behind the Unix socket, whose path must not be there yet. So
-/// many workers carry operations on. It prints `ready` once it takes connections, and at a Stop, after the last connection has ended and every filter was
-/// unloaded, how many contexts were allocated and cleaned up and how many references were left behind. The exit status: 0; 1 if a growth was refused, a thread
-/// couldn't be made, or something couldn't be closed at the end; 3, and `fault` is printed, if the folder, the socket or the writer failed.
-pub fn front<R, D, W>(
-    rt: &R,
-    alloc: Global,
-    asked: &Front,
-    below: Result<Below<D>, Fault>,
-    out: &mut W,
-) -> u8
+/// The server program, at what `prepare` made: the folder is volume 0, named v0, behind the Unix socket, and so many workers carry operations on. It prints
+/// `ready` once it takes connections, and at a Stop, after the last connection has ended and every filter was unloaded, how many contexts were allocated and
+/// cleaned up and how many references were left behind. The exit status: 0; 1 if a growth was refused, a thread couldn't be made, or something couldn't be closed
+/// at the end; 3, and `fault` is printed, if the folder, the socket or the writer failed.
+pub fn front<R, D, W>(rt: &R, alloc: Global, site: Result<Site<'_, D>, Fault>, out: &mut W) -> u8
 where
-    R: Files + Threads + Wait + Sync + Net<Listener = TcpListener, Stream = TcpStream>,
+    R: Threads + Wait + Sync + Net<Listener = TcpListener, Stream = TcpStream>,
     D: Device + Send,
     W: Write,
 {
-    let served = match below {
-        Ok(below) => serve_folder(rt, alloc, asked, below, out),
+    let served = match site {
+        Ok(site) => serve_folder(rt, alloc, site, out),
         Err(fault) => Err(fault),
     };
     let told = match served {

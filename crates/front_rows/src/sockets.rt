@@ -1,13 +1,12 @@
 //! Conversations over a socket: what the client prints for each request, and what the server says at its end.
 
-use fm_front::{Below, Folder, client, folders, front};
+use fm_front::{Folder, Site, client, front, prepare};
 use fm_wire::encode;
 use fm_words::{Fault, Front, request_of};
 use std::alloc::{AllocError, Global};
 use std::io::{Read, Write};
 use std::net::{Net, TcpListener, TcpStream};
 use std::os::unix::net::UnixStream;
-use std::rt::Files;
 use std::sync::Wait;
 use std::thread::Threads;
 use std::time::{Clock, Duration};
@@ -185,16 +184,16 @@ fn meet<R>(
     rt: &R,
     alloc: Global,
     at: &Front,
-    below: Result<Below<Folder<HostRuntime>>, Fault>,
+    site: Result<Site<'_, Folder<HostRuntime>>, Fault>,
     talk: Talk,
 ) -> (bool, u8, Vec<u8>)
 where
-    R: Files + Threads + Wait + Sync + Clock + Net<Listener = TcpListener, Stream = TcpStream>,
+    R: Threads + Wait + Sync + Clock + Net<Listener = TcpListener, Stream = TcpStream>,
 {
     let mut printed = Vec::new(alloc);
     let (status, is_well) = thread::join(
         rt,
-        || front(rt, alloc, at, below, &mut printed),
+        || front(rt, alloc, site, &mut printed),
         || converse(rt, alloc, at, talk),
     );
     (is_well, status, printed)
@@ -220,7 +219,7 @@ fn inside(rt: &HostRuntime, folder: &str, name: &str) -> Result<String, AllocErr
 // Whether a conversation goes as it should, and the server ends with status 0 and says so.
 fn goes_well<R>(host: &R, rt: &HostRuntime, test: &str, talk: Talk) -> Option<bool>
 where
-    R: Files + Threads + Wait + Sync + Clock + Net<Listener = TcpListener, Stream = TcpStream>,
+    R: Threads + Wait + Sync + Clock + Net<Listener = TcpListener, Stream = TcpStream>,
 {
     let place = folder_for(rt, test)?;
     let folder = inside(rt, place.as_str(), "files").ok()?;
@@ -235,7 +234,7 @@ where
         host,
         rt.alloc(),
         &at,
-        folders(rt, rt.alloc(), &at),
+        prepare(rt, rt.alloc(), &at),
         talk,
     );
     let _ = fs::remove_dir_all(rt, place.as_str());
@@ -271,14 +270,13 @@ fn a_cut_connection_closes_its_handles(rt: HostRuntime) {
 fn refuses<R>(
     host: &R,
     alloc: Global,
-    at: &Front,
-    below: Result<Below<Folder<HostRuntime>>, Fault>,
+    site: Result<Site<'_, Folder<HostRuntime>>, Fault>,
 ) -> (u8, Vec<u8>)
 where
-    R: Files + Threads + Wait + Sync + Net<Listener = TcpListener, Stream = TcpStream>,
+    R: Threads + Wait + Sync + Net<Listener = TcpListener, Stream = TcpStream>,
 {
     let mut printed = Vec::new(alloc);
-    let status = front(host, alloc, at, below, &mut printed);
+    let status = front(host, alloc, site, &mut printed);
     (status, printed)
 }
 
@@ -295,7 +293,7 @@ fn no_folder_and_a_socket_that_is_there(rt: HostRuntime) {
             socket,
             workers: 1,
         };
-        let (status, printed) = refuses(&rt, rt.alloc(), &at, folders(&rt, rt.alloc(), &at));
+        let (status, printed) = refuses(&rt, rt.alloc(), prepare(&rt, rt.alloc(), &at));
         assert!(rt; status == 3 && printed.as_slice() == b"fault\n".as_slice());
     }
     let _ = fs::remove_dir_all(&rt, place.as_str());

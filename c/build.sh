@@ -1,7 +1,7 @@
 #!/usr/bin/env bash
 # c/build.sh PROGRAM DRIVER.c.. : builds a program that runs requests through those drivers. Each is loaded by the name of its file, without .c.
 #
-# CC is the compiler (cc), CFLAGS are more words for it, KAZDRIN_LIB the archive of crates/kazdrin_c (made by `rt lib` there), KZ_MAIN the main program.
+# CC is the compiler (cc), CFLAGS are more words for it, KAZDRIN_LIB the archive of crates/kazdrin_c (made by c/archive.sh), KZ_MAIN the main program.
 set -eu
 here=$(cd "$(dirname "$0")" && pwd)
 if [ $# -lt 2 ]; then
@@ -13,7 +13,7 @@ shift
 cc=${CC:-cc}
 library=${KAZDRIN_LIB:-$here/../crates/kazdrin_c/out/libkazdrin_c.a}
 if [ ! -f "$library" ]; then
-    echo "c/build.sh: there is no $library; make it by: cd crates/kazdrin_c && rt lib" >&2
+    echo "c/build.sh: there is no $library; make it by c/archive.sh" >&2
     exit 1
 fi
 kit=${KIT:-$(dirname "$(rt doc | head -1)")}

@@ -237,8 +237,8 @@ where
 // A thread for each worker, and the connections beside them. If a thread can't be made, no connection is taken.
 fn serve_beside<'a, L, R, D>(
     hall: &Hall<'_, R>,
+    manager: &Manager<Sample, L>,
     staff: Staff<'a, L, R, D>,
-    filters: usize,
     listener: UnixListener,
     door: Door,
 ) -> (Ended, Staff<'a, L, R, D>)
@@ -266,6 +266,7 @@ where
         if served.is_ok() {
             served = serve_connections(hall, &mut connections, listener, door);
         }
+        let filters = manager.filters(rt);
         let is_clean = close_down(hall, &mut connections, filters, started);
         (Ended { is_clean, served }, connections)
     });
@@ -306,8 +307,7 @@ where
     let mut hands = Vec::with_capacity(alloc, MOST_HANDS)?;
     let (hall, door) = Hall::new(rt, alloc, socket)?;
     let staff = Staff { posts, connections };
-    let filters = manager.filters(rt);
-    let (ended, staff) = serve_beside(&hall, staff, filters, listener, door);
+    let (ended, staff) = serve_beside(&hall, manager, staff, listener, door);
     gather_hands(staff, &mut hands);
     Ok((ended, hands))
 }

@@ -44,6 +44,13 @@ const FILTERS: [Line; 8] = [
     (&["stop"], 0, DONE),
 ];
 
+/// What is loaded and attached when the server is stopped.
+const LOADED: [Line; 3] = [
+    (&["load", "shift"], 0, DONE),
+    (&["attach", "0", "0", "s", "100"], 0, DONE),
+    (&["stop"], 0, DONE),
+];
+
 /// A volume is dismounted once.
 const DISMOUNT: [Line; 4] = [
     (&["dismount", "0"], 0, DONE),
@@ -249,6 +256,11 @@ fn socket_round(rt: HostRuntime) {
 #[test]
 fn filters_over_a_socket(rt: HostRuntime) {
     assert!(rt; goes_well(&rt, &rt, "filters", Talk::Lines(&FILTERS)) == Some(true));
+}
+
+#[test]
+fn a_stop_unloads_every_filter(rt: HostRuntime) {
+    assert!(rt; goes_well(&rt, &rt, "loaded", Talk::Lines(&LOADED)) == Some(true));
 }
 
 #[test]

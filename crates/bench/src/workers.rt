@@ -33,7 +33,7 @@ const BATCH: u64 = 128;
 const PARTS: u64 = 49;
 
 /// How many rounds of arithmetic the filter that works takes in a callback.
-const ROUNDS: u64 = 15_500;
+const ROUNDS: u64 = 10_000;
 
 /// A client's or a worker's post.
 type Crew<'a, F, L, R> = Post<'a, F, L, R, OpenGate, Bases<MemoryBase>>;

@@ -151,27 +151,36 @@ fn say_ready<W: Write>(out: &mut W) -> Result<(), Fault> {
     out.flush().map_err(outside)
 }
 
-// After the last connection: handles that were left open are closed, a dismount that began is ended, each filter is unloaded, and the workers end. Whether no
-// handle is left.
-fn close_down<L: Ledger, R: Wait, D: Device>(
+// After the last connection: handles that were left open are closed, and the workers end. Whether no handle is left.
+fn close_handles<L: Ledger, R: Wait, D: Device>(
     hall: &Hall<'_, R>,
     connections: &mut [Connection<'_, L, R, D>],
-    filters: usize,
     workers: usize,
 ) -> bool {
     let Some(connection) = connections.first_mut() else {
         return false;
     };
-    let is_clean = hall.close_left(connection.post());
+    let post = connection.post();
+    let is_clean = hall.close_left(post);
+    for _ in 0..workers {
+        post.stop_worker();
+    }
+    is_clean
+}
+
+// After the last worker, so that none still cleans up: a dismount that began is ended, and each filter is unloaded.
+fn unload_all<L: Ledger, R: Wait, D: Device>(
+    connections: &mut [Connection<'_, L, R, D>],
+    filters: usize,
+) {
+    let Some(connection) = connections.first_mut() else {
+        return;
+    };
     connection.end_dismount();
     let post = connection.post();
     for filter in 0..u8::try_from(filters).unwrap_or(u8::MAX) {
         let _ = post.force_unload(FilterId(filter));
     }
-    for _ in 0..workers {
-        post.stop_worker();
-    }
-    is_clean
 }
 
 // The hands of these connections and posts. There is room for them.
@@ -253,7 +262,7 @@ where
     } = staff;
     let rt = hall.rt();
     let all = posts.iter_mut();
-    let (ended, connections) = thread::scope(thread::scope_env(), rt, |scope| {
+    let (ended, mut connections) = thread::scope(thread::scope_env(), rt, |scope| {
         let mut started = 0_usize;
         let mut served = Ok(());
         'posts: for post in all {
@@ -266,10 +275,10 @@ where
         if served.is_ok() {
             served = serve_connections(hall, &mut connections, listener, door);
         }
-        let filters = manager.filters(rt);
-        let is_clean = close_down(hall, &mut connections, filters, started);
+        let is_clean = close_handles(hall, &mut connections, started);
         (Ended { is_clean, served }, connections)
     });
+    unload_all(&mut connections, manager.filters(rt));
     (ended, Staff { posts, connections })
 }
 

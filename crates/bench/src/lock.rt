@@ -7,6 +7,7 @@ use crate::a_second;
 use fm_core::{Action, State};
 use fm_data::{Answer, Request};
 use fm_lock::{Hand, Manager};
+use fm_types::limits::PARTS;
 use fm_types::{Bytes, Name, Status, VolumeId, WorkerId};
 use std::alloc::Global;
 use std::marker::Brand;
@@ -21,9 +22,6 @@ const FEW: u64 = 40;
 
 /// How many events a listing is.
 const EVENTS: u64 = 5;
-
-/// How many parts a manager's ledger has.
-const PARTS: u64 = 49;
 
 fn listing() -> Request {
     Request::List {

@@ -13,6 +13,7 @@ use fm_filter::Minifilter;
 use fm_lock::Manager;
 use fm_queue::{JobPass, JobQueue};
 use fm_samples::Meter;
+use fm_types::limits::PARTS;
 use fm_types::{CreateMode, HandleId, Name, OpId, RelPath, SharedPath, Status, VolumeId};
 use fm_worker::{OpenGate, Post};
 use std::alloc::Global;
@@ -28,9 +29,6 @@ const FEW: u64 = 2;
 
 /// How many reads are under way at once.
 const BATCH: u64 = 128;
-
-/// How many parts a manager's ledger has.
-const PARTS: u64 = 49;
 
 /// How many rounds of arithmetic the filter that works takes in a callback.
 const ROUNDS: u64 = 10_000;

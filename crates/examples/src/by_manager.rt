@@ -4,6 +4,7 @@ ghost use Rattle.std.specs.Prelude.{◌≡◌};
 
 use fm_core::{Hold, Step, StepReply};
 use fm_script::ScriptEnd;
+use fm_types::limits::PARTS;
 use fm_types::{FilterId, OpId, Status, VolumeId, WorkerId};
 use lock_rows::Rows;
 use std::alloc::Global;
@@ -12,8 +13,6 @@ use std::sync::Wait;
 use std::sync::ledger::{Blank, Ledger};
 
 // How many parts a manager's ledger has.
-const PARTS: u64 = 49;
-
 // How a manager ends after a script: contexts allocated and cleaned up, and references left behind.
 type End = Result<[u64; 3], Status>;
 

@@ -3,8 +3,7 @@
 ghost use Rattle.std.specs.Prelude.{◌≡◌, ◌≤◌, ◌↔◌, IsTrue, length, ◌==◌, position};
 ghost use Rattle.fm_altitude.specs.Grammar.{IsAltitude, after_point, before_point, fraction_of, trim_back, trim_front, whole_of};
 
-/// The most characters of an altitude.
-pub const ALTITUDE_ROOM: usize = 64;
+use fm_types::limits::ALTITUDE;
 
 /// The digit that says nothing in front of a whole number and at the end of a fraction.
 const ZERO: u8 = b'0';
@@ -13,7 +12,7 @@ const ZERO: u8 = b'0';
 pub fn is_altitude(text: &[u8]) -> bool
     ensures { IsTrue result ↔ IsAltitude text.now }
 {
-    text.len() <= ALTITUDE_ROOM
+    text.len() <= ALTITUDE
         && text.iter().all(|b| b.is_ascii_digit() || *b == b'.')
         && text.iter().filter(|b| **b == b'.').count() <= 1
         && text.iter().filter(|b| b.is_ascii_digit()).count() > 0

@@ -9,12 +9,10 @@ ghost use Rattle.fm_base.specs.Answers.{Tells};
 ghost use Rattle.fm_base.specs.Stored.{folder_of};
 
 use crate::file::File;
+use fm_types::limits::TRANSFER;
 use fm_types::{Bytes, RelPath, Status};
 use std::alloc::{AllocError, Global};
 use std::collections::BTreeMap;
-
-/// How many bytes a listing has at most.
-const MAX_LISTING: usize = 32_768;
 
 // Whether the path has one part alone.
 fn is_direct_name(path: &RelPath) -> bool
@@ -28,7 +26,7 @@ fn is_listing_short(files: &BTreeMap<RelPath, File>) -> bool
     ensures short { IsTrue result ↔ (length (listing_of (keys files.now)) ≤ 32768) }
     ensures ordered { IsOrdered (slice_cmp nat_cmp) files.now }
 {
-    let mut room = MAX_LISTING;
+    let mut room = TRANSFER as usize;
     for name in files.keys() {
         if is_direct_name(name) {
             let line = name.text().len() + 1;

@@ -12,14 +12,12 @@ ghost use Rattle.fm_core.specs.Targets.{opens};
 
 use crate::file_name::{FileName, forget, look_up, note};
 use crate::target::Target;
+use fm_types::limits::HANDLES;
 use fm_types::{HandleId, Role, SharedPath, Status, StreamId, VolumeId};
 use fm_world::{FileHandle, FileStream, HandlePhase};
 use std::alloc::{AllocError, Global};
 use std::collections::HashMap;
 use std::marker::Model;
-
-/// How many handles are open at most, counting those that creates under way may give.
-pub(crate) const MAX_HANDLES: usize = 4096;
 
 /// A path with an owner for each that a create has: the stream and its file's name, where the create
 /// brings a stream along, the operation, and its parameters; and the stream that the file has already.
@@ -80,7 +78,7 @@ impl Files {
             streams: Vec::new(alloc),
             opens: Vec::new(alloc),
             numbers: HashMap::new(alloc),
-            handles: Vec::with_capacity(alloc, MAX_HANDLES)?,
+            handles: Vec::with_capacity(alloc, HANDLES)?,
             next: 0,
         })
     }

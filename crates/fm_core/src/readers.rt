@@ -13,10 +13,10 @@ ghost use Rattle.fm_flow.specs.Steps.{is_done};
 ghost use Rattle.fm_flow.specs.Table.{operation_at, in_flight};
 
 use crate::state::State;
-use crate::workers::WORKERS;
 use fm_ctx::Count;
 use fm_flow::Entry;
 use fm_stack::{FilterPhase, Phase, VolumePhase};
+use fm_types::limits::WORKERS;
 use fm_types::{ContextKind, CtxId, FilterId, HandleId, InstanceId, OpId, VolumeId, WorkerId};
 
 impl State {

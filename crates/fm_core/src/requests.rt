@@ -15,11 +15,12 @@ ghost use Rattle.fm_core.specs.FilesKept.{found_at};
 ghost use Rattle.fm_core.specs.Begun.{Asks, IsAsked, refusal_by};
 
 use crate::file_name::FileName;
-use crate::files::{Files, MAX_HANDLES};
+use crate::files::Files;
 use crate::state::State;
 use fm_data::{Params, Request};
 use fm_flow::Flow;
 use fm_stack::VolumePhase;
+use fm_types::limits::HANDLES;
 use fm_types::{
     CreateMode, HandleId, OpId, Operation, Role, SharedPath, Status, StreamId, VolumeId,
 };
@@ -157,7 +158,7 @@ impl State {
     fn has_no_handle_left(&self) -> bool
         ensures { result ≡ has_no_handle_left self.now }
     {
-        self.files.handles() + self.flow.creates() >= MAX_HANDLES
+        self.files.handles() + self.flow.creates() >= HANDLES
             || self.files.next_number() == u64::MAX
     }
 

@@ -7,17 +7,14 @@ ghost use Rattle.fm_world.specs.Headline.{Headline};
 ghost use Rattle.fm_world.specs.Sound.{IsSound};
 
 use crate::files::Files;
-use crate::workers::WORKERS;
 use fm_ctx::Contexts;
 use fm_flow::Flow;
 use fm_stack::Stack;
+use fm_types::limits::{FILTERS, WORKERS};
 use fm_types::{Status, WorkerId};
 use fm_world::Worker;
 use std::alloc::Global;
 use std::marker::Model;
-
-/// How many filters are loaded at most.
-const FILTERS: usize = 16;
 
 /// The state of a filter manager: its filters, volumes and instances, its operations under way, the contexts, streams and handles, where each of 48 workers
 /// is, and what each filter's cleanups returned in all.

@@ -11,9 +11,6 @@ use fm_flow::FlowAction;
 use fm_types::{CtxId, FilterId, InstanceId, OpId, Status, WorkerId};
 use fm_world::Worker;
 
-/// How many workers there are.
-pub(crate) const WORKERS: usize = 48;
-
 /// The instance whose setup callback it is.
 pub(crate) fn setup_of(place: Option<Worker>) -> Option<InstanceId>
     ensures { result ≡ setup_of place }

@@ -30,16 +30,11 @@ use crate::seat::Seat;
 use crate::seats::Seats;
 use crate::store::Rows;
 use crate::tally::Tally;
+use fm_types::limits::{BODY, WORKERS};
 use fm_types::{Bytes, ContextKind, CtxId, Status, VolumeId, WorkerId};
 use std::alloc::{AllocError, Global};
 use std::collections::VecDeque;
 use std::marker::Model;
-
-/// How many workers there are.
-const WORKERS: usize = 48;
-
-/// How many bytes the body of a context has at most.
-const MAX_BODY: usize = 4096;
 
 /// The contexts by their ids, what each worker holds, and which contexts wait to be cleaned up.
 /// Contracts see a table of slots by number, and for each slot how many references completions carry.
@@ -160,7 +155,7 @@ impl Contexts {
         ensures { AnswersOrMemory (allocate_refused self.old worker.0 body) result self.old self.new
             (Allocates self.old self.new worker.0 kind owner volume body) }
     {
-        if body.len() > MAX_BODY || self.is_out_of_slots() {
+        if body.len() > BODY || self.is_out_of_slots() {
             return Err(Status::TooMany);
         }
         if self.is_hand_full(worker) {

@@ -3,12 +3,10 @@
 ghost use Rattle.std.specs.Prelude.{◌≡◌, ◌<◌, ◌≤◌, ◌++◌, ◌∷◌, [], nat_le, length, IfOk, position, slice_set, slice_get, Some};
 ghost use Rattle.fm_ctx.specs.Bags.{is_id, holds, without, hand_of};
 
+use fm_types::limits::REFERENCES;
 use fm_types::{CtxId, WorkerId};
 use std::alloc::{AllocError, Global};
 use std::marker::Model;
-
-/// How many references a worker holds at most.
-pub const MAX_HELD: usize = 16;
 
 /// References to contexts, at most 16 of them; one that was taken twice stands there twice. Contracts
 /// see the list.
@@ -40,7 +38,7 @@ impl Hand {
     pub fn new(alloc: Global) -> Result<Hand, AllocError>
         ensures { IfOk result (λ hand. hand ≡ []) }
     {
-        let ids = Vec::with_capacity(alloc, MAX_HELD)?;
+        let ids = Vec::with_capacity(alloc, REFERENCES)?;
         Ok(Hand { ids })
     }
 
@@ -56,7 +54,7 @@ impl Hand {
     pub fn is_full(&self) -> bool
         ensures { result ≡ nat_le 16 (length self.now) }
     {
-        self.ids.len() >= MAX_HELD
+        self.ids.len() >= REFERENCES
     }
 
     /// The reference that stands first.

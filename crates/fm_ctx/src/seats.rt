@@ -5,7 +5,7 @@ ghost use Rattle.fm_ctx.specs.Sweep.{seat_passes};
 ghost use Rattle.fm_ctx.specs.Seats.{is_seat, stands, last_below, end_of, IsAbove, firsts_led, nexts_led};
 
 use crate::seat::{CHAINS, Links, Seat};
-use crate::store::MAX_SLOTS;
+use fm_types::limits::CONTEXTS;
 use std::alloc::{AllocError, Global};
 use std::marker::Model;
 
@@ -60,8 +60,8 @@ impl Seats {
     {
         Ok(Seats {
             firsts: vec![in alloc; None; CHAINS]?,
-            nexts: Vec::with_capacity(alloc, MAX_SLOTS)?,
-            seats: Vec::with_capacity(alloc, MAX_SLOTS)?,
+            nexts: Vec::with_capacity(alloc, CONTEXTS)?,
+            seats: Vec::with_capacity(alloc, CONTEXTS)?,
         })
     }
 

@@ -12,14 +12,12 @@ use crate::entry::{Entry, bump_number};
 use crate::generations::next_generation;
 use crate::object::Object;
 use crate::owner::Owner;
+use fm_types::limits::CONTEXTS;
 use fm_types::{CtxId, VolumeId};
 use slab::Slab;
 use std::alloc::{AllocError, Global};
 use std::marker::Model;
 use std::mem;
-
-/// How many slots there are at most.
-pub const MAX_SLOTS: usize = 65536;
 
 /// The slots: what context each has, until that is cleaned up, and the generation that it was given
 /// last. A slot that had its last generation keeps its entry, so that the slab never picks it again.
@@ -59,7 +57,7 @@ fn next_of(lasts: &mut Vec<u32>, slot: usize) -> Result<u32, AllocError>
     }
     // The slab picks a free slot, or the next new one if none is free. Its contract leaves other keys
     // open, so they are refused, but its body never picks one.
-    if slot > lasts.len() || slot >= MAX_SLOTS {
+    if slot > lasts.len() || slot >= CONTEXTS {
         return Err(AllocError);
     }
     lasts.push(0)?;

@@ -5,7 +5,8 @@ ghost use Rattle.fm_data.specs.Params.{is_within_limits, fit, may_replace};
 ghost use Rattle.fm_data.specs.Data.{IsData, current_of, fresh_data, change_passes, data_fits, replaced_in};
 
 use crate::answer::Answer;
-use crate::params::{MAX_TRANSFER, Params};
+use crate::params::Params;
+use fm_types::limits::TRANSFER;
 use fm_types::{Bytes, Operation, SharedPath, Status};
 use std::alloc::{AllocError, Global};
 use std::marker::Model;
@@ -145,7 +146,7 @@ impl CallbackData {
         ensures refused { OnErr result (result ≡ Err Status.BadRequest) }
         ensures err { OnErr result (self.new ≡ self.old) }
     {
-        if bytes.len() as u64 > MAX_TRANSFER {
+        if bytes.len() as u64 > TRANSFER {
             return Err(Status::BadRequest);
         }
         self.parts.answer.bytes = bytes;
@@ -173,7 +174,7 @@ impl CallbackData {
     {
         self.parts.received.fit(operation, path)
             && self.has_fitting_change(operation, path)
-            && self.parts.answer.bytes.len() as u64 <= MAX_TRANSFER
+            && self.parts.answer.bytes.len() as u64 <= TRANSFER
     }
 
     fn has_fitting_change(&self, operation: Operation, path: &Option<SharedPath>) -> bool

@@ -12,6 +12,6 @@ mod verdict;
 pub use crate::answer::Answer;
 pub use crate::base_call::BaseCall;
 pub use crate::callback_data::CallbackData;
-pub use crate::params::{MAX_END, MAX_TRANSFER, Params};
+pub use crate::params::Params;
 pub use crate::request::{FileRequest, Reply, Request};
 pub use crate::verdict::{Completion, PostVerdict, PreVerdict};

@@ -3,13 +3,8 @@
 ghost use Rattle.std.specs.Prelude.{◌≡◌, ◌+◌, ◌^◌, nat_le};
 ghost use Rattle.fm_data.specs.Params.{operation_of, length_of, end_of, is_within_limits, same_operation, are_on, are_for, fit, may_replace, path_of};
 
+use fm_types::limits::{END, TRANSFER};
 use fm_types::{Bytes, CreateMode, OpMask, Operation, SharedPath};
-
-/// How many bytes one operation reads, writes or lists at most.
-pub const MAX_TRANSFER: u64 = 32_768;
-
-/// The farthest end of a file that an operation names: offset and length together, or a new size.
-pub const MAX_END: u64 = 1 << 40;
 
 /// What an operation is asked to do, one variant for each kind (`FLT_PARAMETERS`).
 #[derive(Drop)]
@@ -67,8 +62,8 @@ impl Params {
         ensures { result ≡ nat_le (length_of self.now) 32768 }
     {
         match self {
-            Params::Read { len, .. } => *len as u64 <= MAX_TRANSFER,
-            Params::Write { bytes, .. } => bytes.len() as u64 <= MAX_TRANSFER,
+            Params::Read { len, .. } => *len as u64 <= TRANSFER,
+            Params::Write { bytes, .. } => bytes.len() as u64 <= TRANSFER,
             _ => true,
         }
     }
@@ -79,7 +74,7 @@ impl Params {
         match self {
             Params::Read { offset, len } => ends_near(*offset, *len as u64),
             Params::Write { offset, bytes } => ends_near(*offset, bytes.len() as u64),
-            Params::SetSize { size } => *size <= MAX_END,
+            Params::SetSize { size } => *size <= END,
             _ => true,
         }
     }
@@ -143,5 +138,5 @@ impl Params {
 fn ends_near(offset: u64, len: u64) -> bool
     ensures { result ≡ nat_le (offset + len) (2 ^ 40) }
 {
-    offset <= MAX_END && len <= MAX_END && offset + len <= MAX_END
+    offset <= END && len <= END && offset + len <= END
 }

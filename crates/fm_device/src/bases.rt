@@ -10,11 +10,9 @@ use crate::calls::{call_base, refused};
 use crate::device::Device;
 use fm_base::Base;
 use fm_data::{Answer, BaseCall};
+use fm_types::limits::VOLUMES;
 use fm_types::{Status, VolumeId};
 use std::alloc::{AllocError, Global};
-
-/// How many volumes are mounted in one run at most.
-pub(crate) const VOLUMES: usize = 8;
 
 /// The bases of volumes, of one type, in the order of the volumes' numbers: none at first, and 8 at most have their room.
 #[derive(Drop)]

@@ -4,16 +4,14 @@ ghost use Rattle.std.specs.Prelude.{◌≡◌, MatchOption, Some, None, length, 
 ghost use Rattle.fm_stack.specs.Instances.{same_name};
 ghost use Rattle.fm_filter.specs.Handed.{handed_in, numbered, place_called};
 
+use fm_types::limits::FILTERS;
 use fm_types::{FilterId, Name, Status};
-
-/// How many filters are loaded in one run at most.
-const LOADS: usize = 16;
 
 /// The filters that were handed in, each under its name, and which of them each number that the manager gave stands for.
 #[derive(Drop)]
 pub struct Filters<F> {
     all: Vec<(Name, F)>,
-    loaded: [Option<usize>; LOADS],
+    loaded: [Option<usize>; FILTERS],
 }
 
 fn is_called(own: &Name, name: &Name) -> bool
@@ -30,7 +28,7 @@ impl<F: Drop> Filters<F> {
     {
         Filters {
             all,
-            loaded: [None; LOADS],
+            loaded: [None; FILTERS],
         }
     }
 
@@ -64,7 +62,7 @@ impl<F: Drop> Filters<F> {
         ensures places { length self.old.loaded ≡ 16 }
     {
         let at = usize::from(filter.0);
-        if at < LOADS {
+        if at < FILTERS {
             self.loaded[at] = Some(place);
         }
     }

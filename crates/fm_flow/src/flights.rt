@@ -4,11 +4,9 @@ ghost use Rattle.std.specs.Prelude.{◌≡◌, IfOk, replicate, length};
 ghost use Rattle.fm_flow.specs.Tallied.{kept_at, one_more, one_less, MayEnter, MayLeave};
 
 use fm_types::InstanceId;
+use fm_types::limits::INSTANCES;
 use std::alloc::{AllocError, Global};
 use std::marker::Model;
-
-/// How many instances there are at most in a run.
-pub(crate) const INSTANCES: usize = 4096;
 
 /// A number for each instance: how many operations are in flight there. An instance past the table has none.
 #[derive(Drop)]

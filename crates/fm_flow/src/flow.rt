@@ -17,17 +17,15 @@ ghost use Rattle.fm_flow.specs.Table.{in_flight, IsFlow, MayLieBelowOf, OwesNext
 use crate::action::{Below, FlowAction};
 use crate::boxed_record::BoxedRecord;
 use crate::entry::{Ask, PostState, PreState};
-use crate::flights::{Flights, INSTANCES};
+use crate::flights::Flights;
 use crate::hold::Hold;
 use crate::operation_record::{OperationRecord, post_state};
 use crate::stage::Stage;
 use fm_data::{Answer, BaseCall, CallbackData, Completion, Params, PostVerdict};
+use fm_types::limits::{INSTANCES, OPERATIONS};
 use fm_types::{HandleId, InstanceId, OpId, SharedPath, Status, StreamId, VolumeId, WorkerId};
 use std::alloc::{AllocError, Global};
 use std::marker::Model;
-
-/// How many operations there are at once, not counting those whose answer was handed out.
-const MAX_OPERATIONS: usize = 256;
 
 /// The operations, in the order of their numbers, which count up from 0.
 #[derive(Drop)]
@@ -415,7 +413,7 @@ impl Flow {
     pub fn is_full(&self) -> bool
         ensures { result ≡ is_full self.now }
     {
-        self.under_way >= MAX_OPERATIONS || self.next == u64::MAX
+        self.under_way >= OPERATIONS || self.next == u64::MAX
     }
 
     /// A preoperation callback of an operation returns, with the verdict that counts (`counted`). The

@@ -23,19 +23,14 @@ use crate::hold::Hold;
 use crate::owed_stack::OwedStack;
 use crate::stage::Stage;
 use crate::{entries, lent};
-use fm_data::{Answer, BaseCall, CallbackData, Completion, MAX_TRANSFER, Params, PostVerdict};
+use fm_data::{Answer, BaseCall, CallbackData, Completion, Params, PostVerdict};
+use fm_types::limits::{ENTRIES, LIVE, TRANSFER};
 use fm_types::{
     Bytes, HandleId, InstanceId, OpId, Operation, SharedPath, Status, StreamId, VolumeId, WorkerId,
 };
 use std::alloc::{AllocError, Global};
 use std::marker::Model;
 use std::mem;
-
-/// How many entries an operation has at most: 32 visits on the way down, 32 answers to them, and the base.
-const MAX_ENTRIES: usize = 65;
-
-/// How many instances an operation visits at most.
-const MAX_VISITS: usize = 32;
 
 /// What an instance asks for whose filter has no preoperation callback.
 const BARE: Completion = Completion {
@@ -103,8 +98,8 @@ impl OperationRecord {
         let operation = params.operation();
         let lent_path = shared(&path)?;
         let data = CallbackData::new(alloc, params)?;
-        let entries = Vec::with_capacity(alloc, MAX_ENTRIES)?;
-        let kept = Vec::with_capacity(alloc, MAX_VISITS)?;
+        let entries = Vec::with_capacity(alloc, ENTRIES)?;
+        let kept = Vec::with_capacity(alloc, LIVE)?;
         Ok(OperationRecord {
             alloc,
             number,
@@ -551,8 +546,7 @@ impl OperationRecord {
     fn takes(&self, call: &BaseCall, answer: &Answer) -> bool
         ensures { result ≡ base_fits call.now answer.now self.now }
     {
-        call.fits(self.operation, self.volume, &self.path)
-            && answer.bytes.len() as u64 <= MAX_TRANSFER
+        call.fits(self.operation, self.volume, &self.path) && answer.bytes.len() as u64 <= TRANSFER
     }
 
     fn take_base(&mut self, call: BaseCall, answer: Answer, handle: HandleId)

@@ -3,17 +3,15 @@
 ghost use Rattle.std.specs.Prelude.{◌≡◌, ◌<◌, [], ◌∷◌, length, drop, reverse, slice_get, Some, if◌then◌else◌};
 ghost use Rattle.std.specs.List.{remove};
 
+use fm_types::limits::LIVE;
 use smallvec::SmallVec;
 use std::alloc::Global;
 use std::marker::Model;
 
-/// How many postoperations are owed at most.
-const MAX_OWED: usize = 32;
-
 /// The places of the entries that ask for a postoperation and had none: what comes next is on top.
 #[derive(Drop)]
 pub(crate) struct OwedStack {
-    places: SmallVec<u8, MAX_OWED>,
+    places: SmallVec<u8, LIVE>,
 }
 
 impl Model for OwedStack {

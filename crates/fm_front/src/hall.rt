@@ -5,6 +5,7 @@ use crate::desk::{Crew, close};
 use crossbeam_channel::{Receiver, Sender, bounded};
 use fm_device::Device;
 use fm_server::{ReaderSource, ServeEnd, WriterSink, serve};
+use fm_types::limits::{CONNECTIONS, HANDLES};
 use fm_types::{HandleId, Status};
 use std::alloc::Global;
 use std::net::{Net, TcpListener, TcpStream};
@@ -12,12 +13,6 @@ use std::os::unix::net::UnixStream;
 use std::sync::atomic::{AtomicBool, AtomicUsize, Ordering};
 use std::sync::ledger::Ledger;
 use std::sync::{Mutex, Wait};
-
-/// How many connections there are at most.
-pub(crate) const CONNECTIONS: usize = 32;
-
-/// How many handles there are at most.
-pub(crate) const HANDLES: usize = 4096;
 
 /// The end at which new connections come in.
 pub(crate) type Door = Sender<UnixStream, Global>;

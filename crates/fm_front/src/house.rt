@@ -7,7 +7,7 @@ ghost use Rattle.fm_rundown.specs.Seats.{IsSeatOf};
 use crate::connection::Connection;
 use crate::desk::{Crew, Desk};
 use crate::faults::{fault_of, outside};
-use crate::hall::{CONNECTIONS, Door, Hall};
+use crate::hall::{Door, Hall};
 use crate::samples::samples;
 use crate::serving::Tally;
 use crate::site::Site;
@@ -16,6 +16,7 @@ use fm_lock::{Hand, Manager};
 use fm_queue::{JobPass, JobQueue};
 use fm_rundown::{GateSeat, RundownGate};
 use fm_samples::Sample;
+use fm_types::limits::{CONNECTIONS, JOBS, WORKERS};
 use fm_types::{FilterId, Name, Status};
 use fm_words::Fault;
 use fm_worker::{OpenGate, Post};
@@ -27,12 +28,6 @@ use std::sync::Wait;
 use std::sync::ledger::{Blank, Ledger};
 use std::thread;
 use std::thread::Threads;
-
-/// How many jobs the queue holds.
-const JOBS: usize = 272;
-
-/// How many hands there are at most.
-const MOST_HANDS: usize = 48;
 
 /// What all threads of a server share.
 #[derive(Drop)]
@@ -84,7 +79,7 @@ impl<'a, L: Ledger, R: Wait> Floor<'a, L, R> {
         requires { All (λ pass. IsPassOf self.now.queue.now pass) passes.old.items }
         ensures { All (λ pass. IsPassOf self.now.queue.now pass) passes.new.items }
     {
-        let mut posts = Vec::with_capacity(self.alloc, MOST_HANDS)?;
+        let mut posts = Vec::with_capacity(self.alloc, WORKERS)?;
         'posts: for devices in below {
             let post = self.post(passes, devices)?;
             posts.push(post)?;
@@ -300,7 +295,7 @@ where
         listener,
         socket,
     } = site;
-    let (queue, mut passes) = JobQueue::new(alloc, JOBS, MOST_HANDS)?;
+    let (queue, mut passes) = JobQueue::new(alloc, JOBS, WORKERS)?;
     let (rundown, mut seats) = RundownGate::new(alloc, 1, CONNECTIONS)?;
     let gate = OpenGate;
     let floor = Floor {
@@ -313,7 +308,7 @@ where
     };
     let posts = floor.posts(&mut passes, workers)?;
     let connections = floor.connections(&mut passes, &mut seats, connections)?;
-    let mut hands = Vec::with_capacity(alloc, MOST_HANDS)?;
+    let mut hands = Vec::with_capacity(alloc, WORKERS)?;
     let (hall, door) = Hall::new(rt, alloc, socket)?;
     let staff = Staff { posts, connections };
     let (ended, staff) = serve_beside(&hall, manager, staff, listener, door);

@@ -6,6 +6,7 @@ use crate::faults::outside;
 use crate::house::keep_house;
 use crate::site::Site;
 use fm_device::Device;
+use fm_types::limits::PARTS;
 use fm_words::Fault;
 use std::alloc::Global;
 use std::io::{self, Write};
@@ -14,9 +15,6 @@ use std::net::{Net, TcpListener, TcpStream};
 use std::sync::Wait;
 use std::sync::ledger::Blank;
 use std::thread::Threads;
-
-/// How many parts the manager's ledger has.
-const PARTS: u64 = 49;
 
 /// What a server says at its end.
 #[derive(Clone, Copy, Drop)]

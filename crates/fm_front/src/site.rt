@@ -1,10 +1,10 @@
 //! What a server stands on.
 
 use crate::faults::{fault_of, outside};
-use crate::hall::CONNECTIONS;
 use fm_device::Bases;
 use fm_host::HostBase;
 use fm_types::Status;
+use fm_types::limits::CONNECTIONS;
 use fm_words::{Fault, Front};
 use std::alloc::Global;
 use std::net::Net;

@@ -6,14 +6,12 @@ ghost use Rattle.fm_base.specs.Folders.{lines_of};
 ghost use Rattle.fm_host.specs.Names.{line_length, IsListing};
 
 use crate::kinds::listed_name;
+use fm_types::limits::TRANSFER;
 use fm_types::{Bytes, RelPath};
 use std::alloc::{AllocError, Global};
 use std::fs::DirEntry;
 use std::rt::Files;
 use std::{fs, io};
-
-/// How many bytes a listing has at most.
-const MAX_LISTING: usize = 32_768;
 
 // The name under which the entry is listed, if it is.
 fn name_of<R: Files + AllocGlobal + Clone + Drop>(
@@ -58,7 +56,7 @@ fn names_in<R: Files + AllocGlobal + Clone + Drop>(
     ensures { IfOk result (λ told. IfSome told (λ names. sum_by line_length names.items ≤ 32768)) }
 {
     let mut names = Vec::new(rt.alloc());
-    let mut room = MAX_LISTING;
+    let mut room = TRANSFER as usize;
     for entry in fs::read_dir(rt, folder)? {
         if !keep_entry(&mut names, &mut room, entry)? {
             return Ok(None);

@@ -71,5 +71,6 @@ pub use Rattle.fm_local.specs.Turns.{Carries, Does, Turns}
 pub use Rattle.fm_local.specs.Visits.{Visits}
 pub use Rattle.fm_filter.specs.declared.filters.Filters.{Filters}
 pub use Rattle.fm_local.specs.declared.manager.TheConstants.{WORKER}
-pub use Rattle.fm_local.specs.declared.requests.TheConstants.{RESUMPTIONS, TURNS}
+pub use Rattle.fm_local.specs.declared.requests.TheConstants.{RESUMPTIONS}
+pub use Rattle.fm_types.specs.declared.limits.TheConstants.{TURNS}
 pub use Rattle.fm_local.specs.declared.requests.Turn.{Turn}

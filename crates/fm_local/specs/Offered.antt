@@ -6,7 +6,8 @@ use Rattle.fm_data.specs.declared.request.Request.{Request}
 use Rattle.fm_filter.specs.declared.minifilter.Minifilter as filter
 use Rattle.fm_base.specs.declared.base.Base as base
 use Rattle.fm_local.specs.declared.manager.TheConstants.{WORKER}
-use Rattle.fm_local.specs.declared.requests.TheConstants.{RESUMPTIONS, TURNS}
+use Rattle.fm_local.specs.declared.requests.TheConstants.{RESUMPTIONS}
+use Rattle.fm_types.specs.declared.limits.TheConstants.{TURNS}
 use Rattle.fm_local.specs.Actions.{AnswersIn, ArePlainFilters, AttachesThenSettles, DetachesThenSettles, IsReady, Requests, UnloadsThenSettles}
 use Rattle.fm_local.specs.Calls.{AgreesAt, MayAgree, is_leaving, is_unloading}
 use Rattle.fm_filter.specs.Handed.{handed_in, numbered}

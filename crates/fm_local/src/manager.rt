@@ -21,17 +21,12 @@ use fm_base::Base;
 use fm_core::State;
 use fm_device::Bases;
 use fm_filter::{Filters, Minifilter};
+use fm_types::limits::{OPERATIONS, REFERENCES};
 use fm_types::{CtxId, FilterId, Name, OpId, Status, VolumeId, WorkerId};
 use std::alloc::Global;
 
 /// The worker that does everything.
 pub(crate) const WORKER: WorkerId = WorkerId(0);
-
-/// How many operations may be under way.
-pub(crate) const UNDER_WAY: usize = 256;
-
-/// How many references a hand has at most.
-const IN_HAND: usize = 16;
 
 /// How many steps of operations, and how many leaks, are kept to be read.
 const KEPT: usize = 1024;
@@ -63,9 +58,9 @@ impl<F: Minifilter, B: Base> LocalManager<F, B> {
         ensures memory { IfErr result (λ status. status ≡ Status.NoMemory) }
         ensures waits { IfOk result Waiting }
     {
-        let resumed = Bounded::new(alloc, UNDER_WAY)?;
-        let finished = Bounded::new(alloc, UNDER_WAY)?;
-        let hand = Bounded::new(alloc, IN_HAND)?;
+        let resumed = Bounded::new(alloc, OPERATIONS)?;
+        let finished = Bounded::new(alloc, OPERATIONS)?;
+        let hand = Bounded::new(alloc, REFERENCES)?;
         let leaks = Bounded::new(alloc, KEPT)?;
         let trace = Bounded::new(alloc, KEPT)?;
         let bases = Bases::new(alloc)?;

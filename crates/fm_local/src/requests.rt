@@ -17,22 +17,19 @@ ghost use Rattle.fm_local.specs.Turns.{Does};
 ghost use Rattle.fm_local.specs.Waits.{HandsOut, IsApart, IsEnded, IsGiven, StaysApart, StaysWaiting, Waiting};
 ghost use Rattle.fm_world.specs.Events.{BaseReturns, Collects};
 
-use crate::manager::{LocalManager, UNDER_WAY, WORKER};
+use crate::manager::{LocalManager, WORKER};
 use crate::trace::Visit;
 use fm_base::Base;
 use fm_core::Action;
 use fm_data::{Answer, BaseCall, FileRequest, Reply, Request};
 use fm_device::Device;
 use fm_filter::Minifilter;
+use fm_types::limits::{OPERATIONS, TURNS};
 use fm_types::{Bytes, HandleId, OpId, Status};
 use std::alloc::Global;
 
-/// How many turns an operation takes at most, from where it begins or is resumed to where it ends or is held: 32 instances on the way down, the file
-/// system, 32 on the way up, and its end.
-pub(crate) const TURNS: usize = 66;
-
 /// How many resumptions there are at most, while no request begins: 64 for each operation.
-pub(crate) const RESUMPTIONS: usize = UNDER_WAY * 64;
+pub(crate) const RESUMPTIONS: usize = OPERATIONS * 64;
 
 /// How a turn of an operation leaves it.
 #[derive(Clone, Copy, PartialEq, Eq)]

@@ -17,11 +17,12 @@ ghost use Rattle.fm_world.specs.declared.worker.Worker.TheVariants as place;
 ghost use Rattle.fm_types.specs.declared.ids.InstanceId.{InstanceId};
 
 use crate::manager::{LocalManager, WORKER};
-use crate::requests::{RESUMPTIONS, TURNS};
+use crate::requests::RESUMPTIONS;
 use fm_altitude::Altitude;
 use fm_base::Base;
 use fm_core::{FilterPhase, Phase};
 use fm_filter::Minifilter;
+use fm_types::limits::TURNS;
 use fm_types::{FilterId, InstanceId, Name, Status, VolumeId};
 
 impl<F: Minifilter, B: Base> LocalManager<F, B> {

@@ -10,7 +10,7 @@ ghost use Rattle.fm_lock.specs.Views.{held_by};
 use crate::audit::audit;
 use crate::hand::Hand;
 use crate::report::Report;
-use crate::roll::{WORKERS, is_roll};
+use crate::roll::is_roll;
 use crate::round::Round;
 use fm_core::State;
 use fm_types::{Status, WorkerId};

@@ -5,10 +5,8 @@ ghost use Rattle.std.specs.List.{list_all};
 ghost use Rattle.fm_lock.specs.Rolls.{is_roll};
 
 use crate::hand::Hand;
+use fm_types::limits::WORKERS;
 use std::sync::ledger::Ledger;
-
-/// How many workers there are.
-pub(crate) const WORKERS: usize = 48;
 
 /// Whether no hand is out.
 fn is_nobody_out(hired: &[bool; WORKERS]) -> bool

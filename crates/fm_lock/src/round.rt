@@ -9,17 +9,14 @@ ghost use Rattle.fm_lock.specs.Events.{EventAlone, EventBy, KeepsRolls, is_by};
 ghost use Rattle.fm_lock.specs.Views.{HandView};
 
 use crate::hand::Hand;
-use crate::roll::WORKERS;
 use fm_core::State;
 use fm_data::Answer;
+use fm_types::limits::{FILTERS, WORKERS};
 use fm_types::{FilterId, Name, OpId, Registration, Status, WorkerId};
 use fm_world::{Refused, Step, StepReply};
 use std::alloc::Global;
 use std::marker::Model;
 use std::sync::ledger::{Blank, Book, Ledger, Share};
-
-/// How many filters are registered in one run at most.
-const FILTERS: usize = 16;
 
 /// What a manager's lock keeps. Each call is one event of the State, and its contract says which: so the Headline holds whenever the lock is free.
 #[derive(Drop)]

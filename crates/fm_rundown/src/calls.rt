@@ -11,14 +11,12 @@ ghost use Rattle.fm_rundown.specs.Calls.{OnVolume, Enters, Leaves, Closes, Sees,
 
 use crate::gate::RundownGate;
 use crate::look::Look;
-use crate::seat::{GateSeat, MAX_VOLUMES};
+use crate::seat::GateSeat;
 use crate::steps::{Shared, add, read, release, shut, undo};
 use crate::view::SeatView;
 use atomic_table::Seat;
+use fm_types::limits::{PASSES, VOLUMES};
 use fm_types::{Status, VolumeId};
-
-/// How many passes of a volume a seat holds at most.
-pub const MAX_PASSES: u16 = 1_000;
 
 // Whether a word says that its volume is closing.
 fn is_closing(word: u64) -> bool
@@ -46,7 +44,7 @@ fn try_enter(
         undo(shared, seat, volume);
         return Err(Status::Dismounting);
     }
-    if held >= MAX_PASSES {
+    if held >= PASSES {
         undo(shared, seat, volume);
         return Err(Status::TooMany);
     }
@@ -74,7 +72,7 @@ impl RundownGate {
         ensures refused { IfErr result (λ status. (status ≡ Status.NoVolume) × (nat_lt volume.0 (volumes_of self.now) ≡ false)) }
     {
         let place = usize::from(volume.0);
-        if volume.0 < self.volumes && place < MAX_VOLUMES {
+        if volume.0 < self.volumes && place < VOLUMES {
             Ok(place)
         } else {
             Err(Status::NoVolume)

@@ -7,11 +7,12 @@ ghost use Rattle.fm_rundown.specs.Seats.{view_of, IsSeatOf, volumes_of, seats_of
 ghost use Rattle.fm_rundown.specs.Calls.{NewRefused, Ends};
 
 use crate::gate::{MAX_SEATS, RundownGate};
-use crate::seat::{GateSeat, MAX_VOLUMES};
+use crate::seat::GateSeat;
 use crate::steps::make;
 use crate::view::SeatView;
 use atomic_table::{Seat, Table};
 use fm_types::Status;
+use fm_types::limits::VOLUMES;
 use std::alloc::{AllocError, Global};
 
 impl RundownGate {
@@ -27,7 +28,7 @@ impl RundownGate {
         ensures own { IfOk result (λ made. All (λ seat. IsSeatOf made.0 seat) made.1.items) }
         ensures fresh { IfOk result (λ made. All (λ seat. view_of seat ≡ fresh_seat 0) made.1.items) }
     {
-        if volumes == 0 || seats == 0 || MAX_VOLUMES < volumes || MAX_SEATS < seats {
+        if volumes == 0 || seats == 0 || VOLUMES < volumes || MAX_SEATS < seats {
             return Err(Status::BadRequest);
         }
         let (gate, first) = RundownGate::with_one_seat(alloc, volumes, seats)?;
@@ -69,7 +70,7 @@ impl RundownGate {
         ensures own { IfOk result (λ made. IsAt made.0.table.shared.table_id made.1) }
         ensures fresh { IfOk result (λ made. made.1.me.0 ≡ fresh_seat (seats - 1)) }
     {
-        let (table, first) = Table::of_words(alloc, &[0; MAX_VOLUMES], &seats)?;
+        let (table, first) = Table::of_words(alloc, &[0; VOLUMES], &seats)?;
         let gate = RundownGate {
             table,
             volumes: volumes as u8,

@@ -6,16 +6,14 @@ ghost use Rattle.fm_rundown.specs.Rest.{IsAtRest};
 
 use crate::view::SeatView;
 use atomic_table::Seat;
-
-/// How many volumes a gate has at most.
-pub const MAX_VOLUMES: usize = 8;
+use fm_types::limits::VOLUMES;
 
 /// The right to hold passes, for one thread at a time, at the gate that it was made with. It counts the passes of each volume that it
 /// holds. One that is dropped with a pass keeps the volume from ever being drained.
 #[derive(Drop)]
 pub struct GateSeat {
     pub(crate) seat: Seat<(), SeatView>,
-    pub(crate) held: [u16; MAX_VOLUMES],
+    pub(crate) held: [u16; VOLUMES],
     ghost at_rest: { IsAtRest held seat.me.0 },
 }
 
@@ -27,7 +25,7 @@ impl GateSeat {
     {
         GateSeat {
             seat,
-            held: [0; MAX_VOLUMES],
+            held: [0; VOLUMES],
         }
     }
 }

@@ -9,10 +9,8 @@ use fm_data::{Completion, PreVerdict};
 use fm_filter::Port;
 use fm_flow::Hold;
 use fm_types::{Bytes, ContextKind, CtxId, OpId, Status};
+use fm_types::limits::OPERATIONS;
 use fm_world::SetAnswer;
-
-/// How many operations a callback resumes at most: as many as there may be at once.
-const MOST_HELD: usize = 256;
 
 /// A completion that says nothing: its number is 0, and no context travels along.
 pub(crate) fn plain_completion() -> Completion
@@ -56,7 +54,7 @@ pub(crate) fn resume_all<P: Port>(port: &mut P, held: Hold)
     ensures calls { ResumesAll P.Port held port.old port.new }
     ensures far { P.kept port.new ≡ P.kept port.old }
 {
-    for _gone in 0..MOST_HELD {
+    for _gone in 0..OPERATIONS {
         if !resume_first(port, held) {
             return;
         }

@@ -4,10 +4,8 @@ ghost use Rattle.std.specs.Prelude.{◌≡◌};
 ghost use Rattle.fm_script.specs.Ids.{filter_in, volume_in, instance_in, handle_in, operation_in, context_in, worker_in};
 
 use fm_core::State;
+use fm_types::limits::SCRIPT_WORKERS;
 use fm_types::{CtxId, FilterId, HandleId, InstanceId, OpId, Status, VolumeId, WorkerId};
-
-/// How many workers a script has.
-const WORKERS: u64 = 16;
 
 /// The filter of that number, or 6.
 pub fn filter_in(state: &State, number: u64) -> Result<FilterId, Status>
@@ -78,7 +76,7 @@ pub fn context_in(contexts: &[CtxId], number: u64) -> Result<CtxId, Status>
 pub fn worker_in(number: u64) -> Result<WorkerId, Status>
     ensures { result ≡ worker_in number }
 {
-    if number < WORKERS {
+    if number < SCRIPT_WORKERS {
         Ok(WorkerId(number as u8))
     } else {
         Err(Status::WrongStep)

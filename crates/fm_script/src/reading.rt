@@ -4,14 +4,12 @@ use crate::line::Line;
 use crate::runner::Runner;
 use crate::script_end::ScriptEnd;
 use fm_text::split_at_byte;
+use fm_types::limits::LINES;
 use std::alloc::Global;
 use std::io::{ErrorKind, Read, Write};
 
 /// How many bytes are read at once, where they are there.
 const PIECE: usize = 16384;
-
-/// The most lines of a script.
-const MAX_LINES: u32 = 100_000;
 
 /// What a script's lines are handed to.
 pub trait Listener {
@@ -45,7 +43,7 @@ impl<L: Listener + Drop> Lines<L> {
     fn take(&mut self, piece: &[u8]) -> Result<(), ScriptEnd> {
         let mut rest = piece;
         while !rest.is_empty() {
-            if self.count >= MAX_LINES {
+            if self.count >= LINES {
                 return Err(ScriptEnd::ReadFault);
             }
             let (front, behind) = split_at_byte(rest, b'\n');

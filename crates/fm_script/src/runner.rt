@@ -20,16 +20,11 @@ use fm_altitude::Altitude;
 use fm_core::Step;
 use fm_data::{PostVerdict, PreVerdict};
 use fm_text::{read_hex, split_words};
+use fm_types::limits::{LINE, TURNS};
 use fm_types::{Bytes, CtxId, FilterId, InstanceId, Name, OpId, Status, VolumeId, WorkerId};
 use smallvec::SmallVec;
 use std::alloc::{AllocError, Global};
 use std::io::Write;
-
-/// The most bytes of a line.
-pub const MAX_LINE: usize = 4096;
-
-/// The most steps that one operation takes: 32 visits down, a base call, as many callbacks up, and the end.
-const MAX_STEPS: u32 = 66;
 
 /// A script's interpreter with its output.
 #[derive(Drop)]
@@ -77,7 +72,7 @@ impl<W: Write + Drop> Runner<W> {
     pub fn run(&mut self, line: &[u8]) -> Result<(), ScriptEnd>
         ensures { RunsLine line.now result self.old.interpreter self.new.interpreter (printed W.contents self.old.output) (printed W.contents self.new.output) }
     {
-        if line.len() > MAX_LINE {
+        if line.len() > LINE {
             return self.refuse(Status::BadRequest);
         }
         if is_silent(line) {
@@ -233,7 +228,7 @@ impl<W: Write + Drop> Runner<W> {
     fn go(&mut self, worker: WorkerId, operation: OpId) -> Result<(), ScriptEnd>
         ensures { Goes worker operation self.old.interpreter self.new.interpreter }
     {
-        for _ in 0..MAX_STEPS {
+        for _ in 0..TURNS {
             if !self.interpreter.turn(worker, operation, &mut self.output)? {
                 return Ok(());
             }

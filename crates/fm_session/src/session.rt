@@ -15,13 +15,11 @@ use fm_core::{Refused, State, Step, StepReply};
 use fm_data::{Answer, BaseCall, CallbackData, Params, PostVerdict, PreVerdict};
 use fm_device::Device;
 use fm_flow::FlowAction;
+use fm_types::limits::WORKERS;
 use fm_types::{Bytes, FilterId, InstanceId, Name, OpId, Status, VolumeId, WorkerId};
 use std::alloc::Global;
 use std::marker::Model;
 use std::mem;
-
-/// How many workers there are.
-const WORKERS: usize = 48;
 
 /// A state, and for each worker what it was lent. Contracts see both.
 #[derive(Drop)]

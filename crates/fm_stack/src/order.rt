@@ -7,12 +7,10 @@ ghost use Rattle.fm_stack.specs.Orders.{is_seat_of, is_called_for, seat_passes, 
 
 use crate::instance::{Instance, Phase};
 use fm_altitude::Altitude;
+use fm_types::limits::LIVE;
 use fm_types::{InstanceId, Name, Operation, Registration, VolumeId};
 use std::alloc::{AllocError, Global};
 use std::marker::Model;
-
-/// How many instances of a volume may be there that aren't detached.
-pub const MAX_LIVE: usize = 32;
 
 /// The place of an instance in the order of its volume.
 #[derive(Clone, Copy)]
@@ -92,7 +90,7 @@ impl Order {
     pub fn new(alloc: Global) -> Result<Order, AllocError>
         ensures { IfOk result (λ order. order ≡ []) }
     {
-        let seats = Vec::with_capacity(alloc, MAX_LIVE)?;
+        let seats = Vec::with_capacity(alloc, LIVE)?;
         Ok(Order { seats })
     }
 

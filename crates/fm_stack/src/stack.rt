@@ -20,21 +20,13 @@ ghost use Rattle.fm_stack.specs.Orders.{IsOrder};
 
 use crate::filter::{Filter, FilterPhase};
 use crate::instance::{self, Instance, Phase};
-use crate::order::{self, MAX_LIVE, Order, Seat};
+use crate::order::{self, Order, Seat};
 use crate::volume::{Volume, VolumePhase};
 use fm_altitude::Altitude;
+use fm_types::limits::{FILTERS, INSTANCES, LIVE, VOLUMES};
 use fm_types::{FilterId, InstanceId, Name, Operation, Registration, Status, VolumeId};
 use std::alloc::Global;
 use std::marker::Model;
-
-/// How many filters may be registered in one run.
-pub const MAX_FILTERS: usize = 16;
-
-/// How many volumes may be mounted in one run.
-pub const MAX_VOLUMES: usize = 8;
-
-/// How many instances may be attached in one run.
-pub const MAX_INSTANCES: usize = 4096;
 
 /// All filters, volumes and instances of one run, by the numbers of their ids. Contracts see a
 /// `StackWorld`. Beside it the stack keeps the order of each volume, so that no search meets an
@@ -216,7 +208,7 @@ impl Stack {
         if self.has_filter(name) {
             return Some(Status::AlreadyLoaded);
         }
-        if self.filters.len() >= MAX_FILTERS {
+        if self.filters.len() >= FILTERS {
             return Some(Status::TooMany);
         }
         None
@@ -258,7 +250,7 @@ impl Stack {
         if self.has_volume(name) {
             return Some(Status::NameCollision);
         }
-        if self.volumes.len() >= MAX_VOLUMES {
+        if self.volumes.len() >= VOLUMES {
             return Some(Status::TooMany);
         }
         None
@@ -293,7 +285,7 @@ impl Stack {
     fn is_full(&self, volume: VolumeId) -> bool
         ensures { result ≡ (nat_le 32 (count_by (is_live_on volume) self.now.instances) || nat_le 4096 (length self.now.instances)) }
     {
-        self.seats(volume).len() >= MAX_LIVE || self.instances.len() >= MAX_INSTANCES
+        self.seats(volume).len() >= LIVE || self.instances.len() >= INSTANCES
     }
 
     fn has_name_on(&self, volume: VolumeId, name: &Name) -> bool

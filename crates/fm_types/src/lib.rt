@@ -5,6 +5,7 @@
 mod bytes;
 mod context_kind;
 mod ids;
+pub mod limits;
 mod name;
 mod operation;
 mod path;

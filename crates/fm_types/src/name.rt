@@ -10,6 +10,7 @@ ghost use Rattle.std.specs.Cmp.Rules.{hashing};
 ghost use Rattle.std.proofs.Common.{rules};
 ghost use Rattle.fm_types.specs.Names.{IsName, IsNameByte};
 
+use crate::limits::NAME;
 use crate::status::Status;
 use crate::text::padded_copy;
 use std::alloc::AllocError;
@@ -17,13 +18,11 @@ use std::cmp::Ordering;
 use std::hash::{Hash, Hasher};
 use std::marker::Model;
 
-const NAME_ROOM: usize = 32;
-
 /// A name: 1 to 32 letters, digits, `_` and `-`. Contracts see its text. Names are compared byte by
 /// byte, so that case counts.
 #[derive(Copy, Debug)]
 pub struct Name {
-    buffer: [u8; NAME_ROOM],
+    buffer: [u8; NAME],
     len: u8,
 }
 
@@ -52,7 +51,7 @@ fn is_name_byte(byte: u8) -> bool
 fn is_name(text: &[u8]) -> bool
     ensures { IsTrue result ↔ IsName text.now }
 {
-    !text.is_empty() && text.len() <= NAME_ROOM && text.iter().all(|byte| is_name_byte(*byte))
+    !text.is_empty() && text.len() <= NAME && text.iter().all(|byte| is_name_byte(*byte))
 }
 
 impl Name {

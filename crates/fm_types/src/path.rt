@@ -11,6 +11,7 @@ ghost use Rattle.std.proofs.Common.{rules};
 ghost use Rattle.fm_types.specs.Paths.{IsPath, IsPathByte, IsPathPart, parts_of};
 ghost use Rattle.fm_types.specs.Texts.{head_of};
 
+use crate::limits::PATH;
 use crate::status::Status;
 use crate::text::padded_copy;
 use std::alloc::AllocError;
@@ -18,14 +19,12 @@ use std::cmp::Ordering;
 use std::hash::{Hash, Hasher};
 use std::marker::Model;
 
-const PATH_ROOM: usize = 255;
-
 /// The path of a file on a volume: 1 to 255 characters, each from the space to `~`, whose parts are
 /// divided by `/`, no part being empty, `.` or `..`. Contracts see its text. Paths are compared byte
 /// by byte.
 #[derive(Copy, Debug)]
 pub struct RelPath {
-    buffer: [u8; PATH_ROOM],
+    buffer: [u8; PATH],
     len: u8,
 }
 
@@ -66,7 +65,7 @@ fn has_path_parts(text: &[u8]) -> bool
 fn is_path(text: &[u8]) -> bool
     ensures { IsTrue result ↔ IsPath text.now }
 {
-    text.len() <= PATH_ROOM && text.iter().all(|byte| is_path_byte(*byte)) && has_path_parts(text)
+    text.len() <= PATH && text.iter().all(|byte| is_path_byte(*byte)) && has_path_parts(text)
 }
 
 impl RelPath {

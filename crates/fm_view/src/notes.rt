@@ -5,13 +5,11 @@ use fm_altitude::Altitude;
 use fm_core::{FilterPhase, Phase, State, Step, VolumePhase, Worker};
 use fm_data::{FileRequest, PreVerdict, Request};
 use fm_script::Task;
+use fm_types::limits::SCRIPT_WORKERS;
 use fm_types::{
     ContextKind, CreateMode, FilterId, InstanceId, Name, OpId, SharedPath, VolumeId, WorkerId,
 };
 use std::alloc::{AllocError, Global};
-
-/// How many workers a script has.
-pub const WORKERS: usize = 16;
 
 /// How many statuses there are.
 const STATUSES: usize = 35;
@@ -125,7 +123,7 @@ pub struct Notes {
     /// The handles that are open, as far as replies told.
     pub handles: Vec<u64>,
     /// For each worker the line on which it came to where it is.
-    pub workers: [u32; WORKERS],
+    pub workers: [u32; SCRIPT_WORKERS as usize],
     /// How often each status refused a line.
     pub refusals: [u64; STATUSES],
 }
@@ -143,7 +141,7 @@ impl Notes {
             carried: Vec::new(alloc),
             changes: Vec::new(alloc),
             handles: Vec::new(alloc),
-            workers: [0; WORKERS],
+            workers: [0; SCRIPT_WORKERS as usize],
             refusals: [0; STATUSES],
         }
     }

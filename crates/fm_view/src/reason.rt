@@ -8,7 +8,8 @@ use crate::usage::usage;
 use crate::verdict::held_at;
 use crate::words::phase_word;
 use fm_core::{FilterPhase, Phase, State, Worker};
-use fm_script::{Keyword, MAX_LINE, split_at_byte};
+use fm_script::{Keyword, split_at_byte};
+use fm_types::limits::LINE;
 use fm_types::{OpId, Status, WorkerId};
 use std::alloc::{AllocError, Global};
 use strsim::osa_distance;
@@ -51,8 +52,8 @@ pub fn say_refusal(
 
 // A line that can't be read: which word isn't one.
 fn say_unread(alloc: Global, text: &mut String, line: &[u8]) -> Result<(), AllocError> {
-    if line.len() > MAX_LINE {
-        return write!(text, "a line has at most {MAX_LINE} bytes");
+    if line.len() > LINE {
+        return write!(text, "a line has at most {LINE} bytes");
     }
     let (word, _) = split_at_byte(line, b' ');
     match Keyword::read(word) {

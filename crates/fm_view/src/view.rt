@@ -16,7 +16,8 @@ use crate::settled::settled;
 use crate::verdict::{exit_status, held, say_end, say_fault};
 use crate::words::say;
 use fm_core::{Entry, Worker};
-use fm_script::{Listener, MAX_LINE, Runner, Said, ScriptEnd, Task, is_silent, read_lines};
+use fm_script::{Listener, Runner, Said, ScriptEnd, Task, is_silent, read_lines};
+use fm_types::limits::LINE;
 use fm_types::{OpId, Status, WorkerId};
 use std::alloc::{AllocError, Global};
 use std::io::{Read, Write};
@@ -146,7 +147,7 @@ impl<W: Write + Drop> View<W> {
 
     // What a line has to be done, or why it is refused before anything is.
     fn read(&self, line: &[u8]) -> Result<Result<Task, Status>, ScriptEnd> {
-        if line.len() > MAX_LINE {
+        if line.len() > LINE {
             return Ok(Err(Status::BadRequest));
         }
         self.runner.read(line).map_err(|_| ScriptEnd::NoMemory)

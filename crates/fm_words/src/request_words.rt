@@ -12,12 +12,10 @@ use crate::verb::Verb;
 use fm_altitude::Altitude;
 use fm_data::{FileRequest, Request};
 use fm_text::read_number;
+use fm_types::limits::TRANSFER;
 use fm_types::{Bytes, FilterId, HandleId, InstanceId, Name, SharedPath, VolumeId};
 use fm_wire::{Body, Control};
 use std::alloc::{AllocError, Global};
-
-/// The most bytes of a write.
-const MOST_BYTES: usize = 32_768;
 
 /// What the words after the first one ask for, if they are its words. It fails if there is no memory for a path or for bytes.
 pub(crate) fn read_after(
@@ -73,7 +71,7 @@ fn write_of(handle: &[u8], offset: &[u8], bytes: Option<Bytes>) -> Option<Body>
     let handle = read_number(handle)?;
     let offset = read_number(offset)?;
     let bytes = bytes?;
-    if bytes.len() > MOST_BYTES {
+    if bytes.len() > TRANSFER as usize {
         return None;
     }
     Some(on_handle(handle, FileRequest::Write { offset, bytes }))

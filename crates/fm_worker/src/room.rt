@@ -4,13 +4,11 @@ ghost use Rattle.std.specs.Prelude.{◌≡◌, [], IfOk, IfErr, drop, length, na
 ghost use Rattle.std.specs.List.{list_any};
 ghost use Rattle.fm_worker.specs.Rooms.{is_number, put_in};
 
+use fm_types::limits::OPERATIONS;
 use fm_types::{OpId, Status};
 use std::alloc::Global;
 use std::collections::VecDeque;
 use std::marker::Model;
-
-/// How many operations a room holds at most: as many as there are at once.
-const PLACES: usize = 256;
 
 /// The numbers of operations that wait to be carried on, each once, in the order in which they came; 256 at most. Its memory is taken once.
 #[derive(Drop)]
@@ -43,7 +41,7 @@ impl Room {
         ensures empty { IfOk result (λ room. room ≡ []) }
         ensures memory { IfErr result (λ status. status ≡ Status.NoMemory) }
     {
-        match VecDeque::with_capacity(alloc, PLACES) {
+        match VecDeque::with_capacity(alloc, OPERATIONS) {
             Ok(numbers) => Ok(Room { numbers }),
             Err(_) => Err(Status::NoMemory),
         }
@@ -62,7 +60,7 @@ impl Room {
     pub fn is_full(&self) -> bool
         ensures { result ≡ nat_le 256 (length self.now) }
     {
-        self.numbers.len() >= PLACES
+        self.numbers.len() >= OPERATIONS
     }
 
     /// Puts an operation after the others, unless it is there or no place is free: then nothing changes.

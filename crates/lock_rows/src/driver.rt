@@ -12,6 +12,7 @@ use fm_script::{
     said_called, said_count, said_done, said_given, said_of, said_phase,
 };
 use fm_session::{Given, Lent};
+use fm_types::limits::TURNS;
 use fm_types::{FilterId, InstanceId, Name, OpId, Status, VolumeId, WorkerId};
 use std::alloc::{AllocError, Global};
 use std::mem;
@@ -20,9 +21,6 @@ use std::sync::ledger::{Blank, Ledger};
 
 /// How many workers a script has.
 const WORKERS: usize = 16;
-
-/// How many steps one operation takes at most.
-const MAX_STEPS: u32 = 66;
 
 /// The worker that attaches for the command `attach`.
 const ATTACHER: WorkerId = WorkerId(0);
@@ -327,7 +325,7 @@ impl<L: Ledger> Driver<L> {
         worker: WorkerId,
         operation: OpId,
     ) -> Result<(), ScriptEnd> {
-        for _ in 0..MAX_STEPS {
+        for _ in 0..TURNS {
             if !self.turn(rt, plans, worker, operation)? {
                 return Ok(());
             }

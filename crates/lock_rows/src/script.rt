@@ -4,8 +4,9 @@ ghost use Rattle.std.specs.Prelude.{◌≡◌};
 
 use crate::driver::Driver;
 use fm_core::{Step, StepReply};
-use fm_script::{MAX_LINE, Runner, ScriptEnd, is_silent};
+use fm_script::{Runner, ScriptEnd, is_silent};
 use fm_types::Status;
+use fm_types::limits::LINE;
 use std::alloc::Global;
 use std::sync::Wait;
 use std::sync::ledger::{Blank, Ledger};
@@ -31,7 +32,7 @@ impl<L: Ledger> Rows<L> {
 
     // One line: read as a script reads it, done by the manager, and then by the reader too, so that the next line is read as it should be.
     fn take_line<R: Wait>(&mut self, rt: &R, line: &[u8]) -> Result<(), ScriptEnd> {
-        if line.len() > MAX_LINE {
+        if line.len() > LINE {
             self.driver.refuse(Status::BadRequest)?;
             return self.reader.run(line);
         }

@@ -5,6 +5,7 @@ ghost use Rattle.std.specs.Prelude.{◌≡◌};
 use fm_data::{Answer, Request};
 use fm_flow::FlowAction;
 use fm_lock::{Hand, Manager};
+use fm_types::limits::PARTS;
 use fm_types::{Bytes, Name, OpId, Status, VolumeId};
 use std::alloc::Global;
 use std::marker::Brand;
@@ -13,9 +14,6 @@ use std::sync::Wait;
 use std::sync::ledger::{Blank, Ledger};
 use std::thread;
 use std::thread::Threads;
-
-/// How many parts a manager's ledger has.
-const PARTS: u64 = 49;
 
 /// How many operations each thread has.
 const ROUNDS: u32 = 20;

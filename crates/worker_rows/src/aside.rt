@@ -3,13 +3,14 @@
 ghost use Rattle.std.specs.Prelude.{◌≡◌, All, IfSome};
 ghost use Rattle.fm_queue.specs.Passes.{IsPassOf};
 
-use crate::floor::{Crew, Crews, Folder, PARTS, collect, folder, house, make_crews, work_off};
+use crate::floor::{Crew, Crews, Folder, collect, folder, house, make_crews, work_off};
 use crate::homing::{Tied, Watch, filters, hold_and_resume};
 use crate::ties::Ties;
 use fm_data::{Answer, BaseCall, Params};
 use fm_device::Device;
 use fm_lock::Manager;
 use fm_queue::{Job, JobPass, JobQueue};
+use fm_types::limits::PARTS;
 use fm_types::{OpId, Status, WorkerId};
 use std::alloc::Global;
 use std::marker::Brand;

@@ -3,14 +3,15 @@
 ghost use Rattle.std.specs.Prelude.{◌≡◌};
 
 use crate::floor::{
-    Crew, Crews, Folder, LOOKS, Numbers, PARTS, VOLUME, attach, begin, carried, collect, create,
-    end, folder, hands_of, house, make_crews, on_file, read, shift, write,
+    Crew, Crews, Folder, LOOKS, Numbers, VOLUME, attach, begin, carried, collect, create, end,
+    folder, hands_of, house, make_crews, on_file, read, shift, write,
 };
 use fm_base::Base;
 use fm_data::{Answer, FileRequest};
 use fm_lock::Manager;
 use fm_queue::JobQueue;
 use fm_samples::{Meter, Sample};
+use fm_types::limits::PARTS;
 use fm_types::{Bytes, FilterId, Name, OpId, RelPath, Status};
 use fm_worker::OpenGate;
 use std::alloc::Global;

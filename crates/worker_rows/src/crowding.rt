@@ -2,13 +2,14 @@
 
 ghost use Rattle.std.specs.Prelude.{◌≡◌};
 
-use crate::floor::{Crew, PARTS, VOLUME, attach, begin, create, crew, house, on_file, read};
+use crate::floor::{Crew, VOLUME, attach, begin, create, crew, house, on_file, read};
 use crate::homing::{Watch, filters};
 use crate::ties::Ties;
 use fm_data::{FileRequest, Request};
 use fm_lock::Manager;
 use fm_queue::JobQueue;
 use fm_types::Status;
+use fm_types::limits::PARTS;
 use std::alloc::Global;
 use std::marker::Brand;
 use std::sync::Wait;

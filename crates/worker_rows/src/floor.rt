@@ -21,9 +21,6 @@ use std::sync::ledger::{Blank, Ledger};
 use std::thread;
 use std::time::{Clock, Duration};
 
-/// How many parts a manager's ledger has.
-pub const PARTS: u64 = 49;
-
 /// How often an answer is looked for, a millisecond apart.
 pub const LOOKS: u32 = 10_000;
 

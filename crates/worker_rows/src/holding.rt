@@ -3,13 +3,14 @@
 ghost use Rattle.std.specs.Prelude.{◌≡◌};
 
 use crate::floor::{
-    Crew, Crews, Numbers, PARTS, attach, begin, carried, collect, create, end, folder, hands_of,
-    house, make_crews, on_file, read, work_off,
+    Crew, Crews, Numbers, attach, begin, carried, collect, create, end, folder, hands_of, house,
+    make_crews, on_file, read, work_off,
 };
 use fm_data::FileRequest;
 use fm_lock::Manager;
 use fm_queue::JobQueue;
 use fm_samples::{Hold, Sample};
+use fm_types::limits::PARTS;
 use fm_types::{FilterId, InstanceId, Name, Status};
 use fm_worker::OpenGate;
 use std::alloc::Global;

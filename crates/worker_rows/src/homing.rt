@@ -3,8 +3,7 @@
 ghost use Rattle.std.specs.Prelude.{◌≡◌};
 
 use crate::floor::{
-    Crews, PARTS, attach, begin, collect, create, folder, house, make_crews, on_file, read,
-    work_off,
+    Crews, attach, begin, collect, create, folder, house, make_crews, on_file, read, work_off,
 };
 use crate::ties::Ties;
 use fm_data::FileRequest;
@@ -12,6 +11,7 @@ use fm_device::Device;
 use fm_flow::FlowAction;
 use fm_lock::Manager;
 use fm_queue::JobQueue;
+use fm_types::limits::PARTS;
 use fm_types::{Name, OpId, Status, WorkerId};
 use fm_worker::Gate;
 use std::alloc::Global;

@@ -3,13 +3,14 @@
 ghost use Rattle.std.specs.Prelude.{◌≡◌, All, IfSome};
 ghost use Rattle.fm_rundown.specs.Seats.{IsSeatOf};
 
-use crate::floor::{Crew, PARTS, VOLUME, alone, attach, create, crew, house, shift, write};
+use crate::floor::{Crew, VOLUME, alone, attach, create, crew, house, shift, write};
 use fm_data::{CallbackData, PreVerdict};
 use fm_flow::FlowAction;
 use fm_lock::{Hand, Manager};
 use fm_queue::JobQueue;
 use fm_rundown::{GateSeat, RundownGate};
 use fm_samples::Sample;
+use fm_types::limits::PARTS;
 use fm_types::{FilterId, InstanceId, OpId, Status};
 use fm_worker::OpenGate;
 use std::alloc::Global;

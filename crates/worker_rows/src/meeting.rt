@@ -3,14 +3,15 @@
 ghost use Rattle.std.specs.Prelude.{◌≡◌};
 
 use crate::floor::{
-    Crew, Crews, Folder, PARTS, attach, begin, collect, create, folder, house, make_crews, read,
-    shift, write,
+    Crew, Crews, Folder, attach, begin, collect, create, folder, house, make_crews, read, shift,
+    write,
 };
 use fm_data::Params;
 use fm_flow::FlowAction;
 use fm_lock::Manager;
 use fm_queue::JobQueue;
 use fm_samples::Sample;
+use fm_types::limits::PARTS;
 use fm_types::{Status, WorkerId};
 use fm_worker::Gate;
 use std::alloc::Global;

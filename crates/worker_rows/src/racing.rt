@@ -3,13 +3,14 @@
 ghost use Rattle.std.specs.Prelude.{◌≡◌};
 
 use crate::floor::{
-    Crew, Crews, Folder, Numbers, PARTS, alone, attach, begin, create, end, folder, hands_of,
-    house, make_crews, on_file, read,
+    Crew, Crews, Folder, Numbers, alone, attach, begin, create, end, folder, hands_of, house,
+    make_crews, on_file, read,
 };
 use fm_data::FileRequest;
 use fm_lock::{Hand, Manager};
 use fm_queue::JobQueue;
 use fm_samples::{Carry, Meter, Sample};
+use fm_types::limits::PARTS;
 use fm_types::{FilterId, InstanceId, Name, OpId, Status};
 use fm_worker::OpenGate;
 use std::alloc::Global;

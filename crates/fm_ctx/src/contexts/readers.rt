@@ -17,7 +17,7 @@ use crate::entry::Entry;
 use crate::hand;
 use crate::object::Object;
 use crate::owner::Owner;
-use crate::store::MAX_SLOTS;
+use fm_types::limits::CONTEXTS;
 use fm_types::{ContextKind, CtxId, VolumeId, WorkerId};
 
 // Whether it is that context which a worker cleans up.
@@ -81,7 +81,7 @@ impl Contexts {
     pub(super) fn is_out_of_slots(&self) -> bool
         ensures { result ≡ is_out_of_slots self.now.table.slots }
     {
-        self.rows.len() >= MAX_SLOTS && self.rows.has_none_free()
+        self.rows.len() >= CONTEXTS && self.rows.has_none_free()
     }
 
     // The context that an id names, if it isn't cleaned.

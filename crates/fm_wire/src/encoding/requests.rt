@@ -5,8 +5,9 @@ ghost use Rattle.fm_wire.specs.Spelling as spelling;
 ghost use Rattle.fm_wire.specs.Grammar.{FitsFile, FitsRequest, HasRequestTexts, KeepsFileLimits, KeepsRequestLimits};
 
 use crate::encoding::numbers::{put_u32, put_u64};
-use fm_data::{FileRequest, MAX_TRANSFER, Request};
+use fm_data::{FileRequest, Request};
 use fm_types::CreateMode;
+use fm_types::limits::TRANSFER;
 use std::alloc::AllocError;
 
 // Whether it may be said: no more bytes are read or written than an operation may, and it is no cleanup, which a close brings.
@@ -14,8 +15,8 @@ fn keeps_file_limits(request: &FileRequest) -> bool
     ensures { IsTrue result ↔ KeepsFileLimits request.now }
 {
     match request {
-        FileRequest::Read { len, .. } => *len as u64 <= MAX_TRANSFER,
-        FileRequest::Write { bytes, .. } => bytes.len() as u64 <= MAX_TRANSFER,
+        FileRequest::Read { len, .. } => *len as u64 <= TRANSFER,
+        FileRequest::Write { bytes, .. } => bytes.len() as u64 <= TRANSFER,
         FileRequest::Cleanup => false,
         _ => true,
     }

@@ -6,7 +6,8 @@ ghost use Rattle.fm_wire.specs.Grammar.{Reading};
 
 use crate::frame::Body;
 use crate::numbers::{split_u8, split_u32, split_u64};
-use fm_data::{FileRequest, MAX_TRANSFER, Request};
+use fm_data::{FileRequest, Request};
+use fm_types::limits::TRANSFER;
 use fm_types::{Bytes, CreateMode, HandleId, RelPath, SharedPath, Status, VolumeId};
 use std::alloc::Global;
 
@@ -56,7 +57,7 @@ pub(crate) fn read_read(fields: &[u8]) -> Result<Body, Status>
     let (handle, rest) = split_u64(fields);
     let (offset, rest) = split_u64(rest);
     let (len, _) = split_u32(rest);
-    if len as u64 > MAX_TRANSFER {
+    if len as u64 > TRANSFER {
         return Err(Status::BadRequest);
     }
     let request = FileRequest::Read { offset, len };
@@ -71,7 +72,7 @@ pub(crate) fn read_write(alloc: Global, fields: &[u8]) -> Result<Body, Status>
     ensures ok { IfOk result (λ body. Reading 3 fields.now (Ok body)) }
     ensures refused { IfErr result (λ status. (status ≡ Status.NoMemory) ⊎ Reading 3 fields.now (Err status)) }
 {
-    if fields.len() < 16 || fields.len() as u64 > 16 + MAX_TRANSFER {
+    if fields.len() < 16 || fields.len() as u64 > 16 + TRANSFER {
         return Err(Status::BadRequest);
     }
     let (handle, rest) = split_u64(fields);

@@ -1,5 +1,5 @@
 -- Cleaning contexts up and ending an instance, from what their parts did.
-use Rattle.fm_core.proofs.Words.{refused_in, IsTied, there_changed, ContextsKept, carried_of, headline_from, Worker, None, Option, Some, [], ap, arith, cond}
+use Rattle.fm_core.proofs.Words.{refused_in, IsTied, there_changed, ContextsKept, carried_of, headline_from, Place, None, Option, Some, [], ap, arith, cond}
 use Rattle.fm_core.proofs.Words.{false, is_some, nat_lt, not, refl, subst, sym, true, ℕ, ◌<◌, ◌∙◌, ◌∷◌, ◌≡◌, ◌≤◌, option_and_then, open_of, IsLawful, Context}
 use Rattle.fm_core.proofs.Words.{ContextTable, context_at, Owner, FlowTable, carried, StackWorld, Instance, first_of, CtxId, InstanceId, WorkerId, Status}
 use Rattle.fm_core.proofs.Words.{is_gone_at, row_at, IsSound, cleanup_in, World, option_map, slice_get}
@@ -30,7 +30,7 @@ due_tied kept after f k e tied = table_tied kept after (after_take_due kept.tabl
 
 -- ---- cleaned
 
-pub cleanup_is : (m : Option Worker) (c : CtxId) → cleanup_in m ≡ Some c → m ≡ Some (Worker.Cleanup c)
+pub cleanup_is : (m : Option Place) (c : CtxId) → cleanup_in m ≡ Some c → m ≡ Some (Place.Cleanup c)
 cleanup_is m c h = grind (arith, h)
 
 pub filter_same : (s : StackWorld) (m : Option Context) → filter_at s (option_map (λ (x : Context). x.owner) m) ≡ filter_of s m

@@ -1,6 +1,6 @@
 -- Drains that are taken before their turn, from what their parts did.
 use Rattle.fm_core.proofs.Words.{IsState, IsTied, MayBring, kept_brought, drains_in, early_drain_of, ContextsKept, carried_of, DrainTaken, idle_there}
-use Rattle.fm_core.proofs.Words.{empty_hand, Worker, Bool, None, Ok, Option, Some, [], ap, arith, refl, subst, sym, true, ◌+◌, ◌<◌, ◌∙◌, ◌∷◌, ◌≡◌, hand_of}
+use Rattle.fm_core.proofs.Words.{empty_hand, Place, Bool, None, Ok, Option, Some, [], ap, arith, refl, subst, sym, true, ◌+◌, ◌<◌, ◌∙◌, ◌∷◌, ◌≡◌, hand_of}
 use Rattle.fm_core.proofs.Words.{Leaves, ContextTable, carried_in, FlowTable, carried, operation_at, Instance, CtxId, InstanceId, OpId, WorkerId, Status}
 use Rattle.fm_core.proofs.Words.{is_gone_at, is_idle, worker_at, World, length, slice_get_within}
 use Rattle.fm_data.specs.declared.verdict.Completion.{Completion}
@@ -34,8 +34,8 @@ pub take_brings : {old now : World} {kept : ContextsKept} (k : WorkerId) (i : In
     → is_idle (worker_at now.workers k) ≡ true → old.contexts ≡ kept.table → DrainTaken i old.flow (Some (o, completion)) t → MayBring kept k.0 completion.context
 take_brings {old} {now} {kept} k i o completion t s same idle contexts taken =
     let at = idle_there old.workers k (subst (λ (w : World). is_idle (worker_at w.workers k) ≡ true) (sym same) idle) in
-    may_bring kept k completion.context old.flow t (subst (λ n. k.0 < n) s.sound.under_way.hands (slice_get_within old.workers k.0 Worker.Idle at))
-    (sym (ap (λ (x : ContextTable). hand_of x.hands k.0) contexts) ∙ empty_hand old k Worker.Idle at refl s.sound.owned)
+    may_bring kept k completion.context old.flow t (subst (λ n. k.0 < n) s.sound.under_way.hands (slice_get_within old.workers k.0 Place.Idle at))
+    (sym (ap (λ (x : ContextTable). hand_of x.hands k.0) contexts) ∙ empty_hand old k Place.Idle at refl s.sound.owned)
     (given old i o completion t taken kept s) s.tied
 
 pub take_tied : {old : World} {kept : ContextsKept} (k : WorkerId) (i : InstanceId) (o : OpId) (completion : Completion) (t : FlowTable) (after : ContextsKept) → IsState old kept
@@ -45,15 +45,15 @@ take_tied {old} {kept} k i o completion t after s taken matched brings =
 
 -- ---- it returns
 
-pub early_is : (m : Option Worker) (p : OpId × InstanceId) → early_drain_of m ≡ Some p → m ≡ Some (Worker.EarlyDrain p.0 p.1)
+pub early_is : (m : Option Place) (p : OpId × InstanceId) → early_drain_of m ≡ Some p → m ≡ Some (Place.EarlyDrain p.0 p.1)
 early_is m p h = grind (arith, h)
 
-pub runs_early : {old : World} {kept : ContextsKept} (k : WorkerId) (o : OpId) (i : InstanceId) → IsState old kept → worker_at old.workers k ≡ Some (Worker.EarlyDrain o i)
+pub runs_early : {old : World} {kept : ContextsKept} (k : WorkerId) (o : OpId) (i : InstanceId) → IsState old kept → worker_at old.workers k ≡ Some (Place.EarlyDrain o i)
     → RunsEarly i (operation_at o old.flow)
 runs_early {old} k o i s at = let there = early_there old k o i at s.sound.under_way in subst (RunsEarly i) (sym there.1) there.2
 
 pub early_tied : {old : World} {kept : ContextsKept} (k : WorkerId) (o : OpId) (i : InstanceId) (t : FlowTable) (left : ContextsKept) → IsState old kept
-    → worker_at old.workers k ≡ Some (Worker.EarlyDrain o i) → t ≡ drain_done_of o i old.flow → Leaves (carried_of kept) kept.table left.table k.0 → left.carried ≡ kept.carried → IsTied left t
+    → worker_at old.workers k ≡ Some (Place.EarlyDrain o i) → t ≡ drain_done_of o i old.flow → Leaves (carried_of kept) kept.table left.table k.0 → left.carried ≡ kept.carried → IsTied left t
 early_tied {old} {kept} k o i t left s at over leaves same c =
     let there = early_there old k o i at s.sound.under_way in
     left_tied kept left k.0 old.flow leaves same s.tied c ∙ sym (drain_done_carried old.flow o i there.0 there.1 there.2 c s.sound.under_way.flow) ∙ ap (carried c) (sym over)

@@ -2,7 +2,7 @@
 use Rattle.fm_core.proofs.Words.{IsAsked, FindsAt, IsState, IsTied, Ends, MayBring, MaySend, back_in, kept_brought, kept_sent, Sweeping, is_lost_of, base_of}
 use Rattle.fm_core.proofs.Words.{drain_of, post_of, pre_of, answered, decided, known_in, target_in, Target, leaves_alike, ContextsKept, base_after, StandsAt}
 use Rattle.fm_core.proofs.Words.{IsRefusalOrMemory, idle_there, told_there, empty_hand, sent_is_held, drains_next, volume_refusals, phase_refusal, FileHandle}
-use Rattle.fm_core.proofs.Words.{FileStream, Worker, Bool, Err, List, None, Ok, Option, Result, Some, [], ap, arith, cond, false, inl, inr, is_ok, refl, subst}
+use Rattle.fm_core.proofs.Words.{FileStream, Place, Bool, Err, List, None, Ok, Option, Result, Some, [], ap, arith, cond, false, inl, inr, is_ok, refl, subst}
 use Rattle.fm_core.proofs.Words.{sym, true, ℕ, ◌&&◌, ◌+◌, ◌<◌, ◌==◌, ◌^◌, ◌||◌, ◌∙◌, ◌∷◌, ◌≡◌, within_hands, hand_of, holds, IsLawful, Leaves, ContextTable}
 use Rattle.fm_core.proofs.Words.{BaseCall, Data, data_fits, operation_of, Answer, Params, Request, PreVerdict, carried_by, handed, FlowRecord, base_fits}
 use Rattle.fm_core.proofs.Words.{drain_returned_of, next_of, post_returned_of, pre_returned_of, FlowTable, carried, changed, is_full, is_number, operation_at}
@@ -66,7 +66,7 @@ goes old k o r lies drains result t at finds same reply after =
     }
 
 -- the event, and what links lose after it
-pub nexts : (old : World) (k : WorkerId) (o : OpId) (r : FlowRecord) (lies : Below) (result : Result FlowAction Status) (t : FlowTable) (ws : List Worker)
+pub nexts : (old : World) (k : WorkerId) (o : OpId) (r : FlowRecord) (lies : Below) (result : Result FlowAction Status) (t : FlowTable) (ws : List Place)
     (cs : ContextTable) (fs : FileTable) (new : World)
     → is_idle (worker_at old.workers k) ≡ true → Goes old k o r lies result t → ws ≡ after_next old.workers k o result → cs ≡ received old.contexts k result
     → fs ≡ filed_next old o t result lies → LosesByKnown result lies (record old { flow = t; workers = ws; contexts = cs; files = fs }) new
@@ -102,7 +102,7 @@ next_unknown old k o idle none =
 
 -- without an answer that was known, streams, handles and links stay
 pub next_leads : {old now : World} {kept : ContextsKept} (k : WorkerId) (o : OpId) (r : FlowRecord) (lies : Below) (a : FlowAction) (t : FlowTable)
-    (ws : List Worker) (brought : ContextsKept)
+    (ws : List Place) (brought : ContextsKept)
     → IsState old kept → old ≡ now → is_idle (worker_at old.workers k) ≡ true → Goes old k o r lies (Ok a) t → ws ≡ after_next old.workers k o (Ok a)
     → old.contexts ≡ kept.table → brought ≡ kept_brought kept k.0 (back_in a)
     → known_in a lies ≡ None → Nexts now k o (Ok a) (record old { flow = t; workers = ws; contexts = brought.table })
@@ -119,7 +119,7 @@ next_leads {old} {now} {kept} k o r lies a t ws brought s now_is idle g workers 
 
 -- with one, the operation is answered
 pub next_answers : {old now : World} {kept : ContextsKept} (k : WorkerId) (o : OpId) (r : FlowRecord) (lies : Below) (a : FlowAction) (t : FlowTable)
-    (ws : List Worker) (brought after : ContextsKept)
+    (ws : List Place) (brought after : ContextsKept)
     (fs : FileTable) (x : Target) (why : Status) → IsState old kept → old ≡ now → is_idle (worker_at old.workers k) ≡ true → Goes old k o r lies (Ok a) t → ws ≡
     after_next old.workers k o (Ok a) → old.contexts ≡ kept.table
     → brought ≡ kept_brought kept k.0 (back_in a) → IsTied brought t → known_in a lies ≡ Some why → x ≡ target_in r → fs ≡ answered t why x old.files
@@ -176,8 +176,8 @@ pub next_brings : {old : World} {kept : ContextsKept} (k : WorkerId) (o : OpId) 
     → is_idle (worker_at old.workers k) ≡ true → Goes old k o r lies (Ok a) t → old.contexts ≡ kept.table → MayBring kept k.0 (back_in a)
 next_brings {old} {kept} k o r lies a t s idle g contexts =
     let at = idle_there old.workers k idle in
-    may_bring kept k (back_in a) old.flow t (subst (λ n. k.0 < n) s.sound.under_way.hands (slice_get_within old.workers k.0 Worker.Idle at))
-    (sym (ap (λ (x : ContextTable). hand_of x.hands k.0) contexts) ∙ empty_hand old k Worker.Idle at refl s.sound.owned)
+    may_bring kept k (back_in a) old.flow t (subst (λ n. k.0 < n) s.sound.under_way.hands (slice_get_within old.workers k.0 Place.Idle at))
+    (sym (ap (λ (x : ContextTable). hand_of x.hands k.0) contexts) ∙ empty_hand old k Place.Idle at refl s.sound.owned)
     (handed_balance old.flow t a (next_carried old k o r lies (Ok a) t s.sound g)) s.tied
 
 pub next_tied : {old : World} {kept : ContextsKept} (k : WorkerId) (o : OpId) (r : FlowRecord) (lies : Below) (a : FlowAction) (t : FlowTable)
@@ -229,34 +229,34 @@ collect_tied kept o f g e tied = subst (IsTied kept) (sym e) (λ c. tied c ∙ c
 
 -- ---- where the worker is
 
-pub pre_is : (m : Option Worker) (p : OpId × InstanceId) → pre_of m ≡ Some p → m ≡ Some (Worker.Pre p.0 p.1)
+pub pre_is : (m : Option Place) (p : OpId × InstanceId) → pre_of m ≡ Some p → m ≡ Some (Place.Pre p.0 p.1)
 pre_is m p h = grind (arith, h)
 
-pub base_is : (m : Option Worker) (p : OpId) → base_of m ≡ Some p → m ≡ Some (Worker.Base p)
+pub base_is : (m : Option Place) (p : OpId) → base_of m ≡ Some p → m ≡ Some (Place.Base p)
 base_is m p h = grind (arith, h)
 
-pub post_is : (m : Option Worker) (p : OpId × InstanceId) → post_of m ≡ Some p → m ≡ Some (Worker.Post p.0 p.1)
+pub post_is : (m : Option Place) (p : OpId × InstanceId) → post_of m ≡ Some p → m ≡ Some (Place.Post p.0 p.1)
 post_is m p h = grind (arith, h)
 
-pub drain_is : (m : Option Worker) (p : OpId × InstanceId) → drain_of m ≡ Some p → m ≡ Some (Worker.Drain p.0 p.1)
+pub drain_is : (m : Option Place) (p : OpId × InstanceId) → drain_of m ≡ Some p → m ≡ Some (Place.Drain p.0 p.1)
 drain_is m p h = grind (arith, h)
 
 -- as the code reads it
-pub located : {A : Type 0} {old now : World} (read : Option Worker → Option A) (to : A → Worker) (k : WorkerId) (a : A)
-    → ((x : Option Worker) (b : A) → read x ≡ Some b → x ≡ Some (to b))
+pub located : {A : Type 0} {old now : World} (read : Option Place → Option A) (to : A → Place) (k : WorkerId) (a : A)
+    → ((x : Option Place) (b : A) → read x ≡ Some b → x ≡ Some (to b))
     → old ≡ now → read (worker_at now.workers k) ≡ Some a → worker_at old.workers k ≡ Some (to a)
 located {old = old} {now} read to k a is same found = subst (λ (w : World). worker_at w.workers k ≡ Some (to a)) (sym same) (is (worker_at now.workers k) a found)
 
-pub placed : {A : Type 0} {old now : World} (read : Option Worker → Option A) (to : A → Worker) (k : WorkerId) (a : A) (here : Option Worker) (m : Option A)
-    → ((x : Option Worker) (b : A) → read x ≡ Some b → x ≡ Some (to b)) → old ≡ now → here ≡ worker_at now.workers k → m ≡ read here → m ≡ Some a
+pub placed : {A : Type 0} {old now : World} (read : Option Place → Option A) (to : A → Place) (k : WorkerId) (a : A) (here : Option Place) (m : Option A)
+    → ((x : Option Place) (b : A) → read x ≡ Some b → x ≡ Some (to b)) → old ≡ now → here ≡ worker_at now.workers k → m ≡ read here → m ≡ Some a
     → worker_at old.workers k ≡ Some (to a)
 placed read to k a here m is same at reads found = located read to k a is same (ap read (sym at) ∙ sym reads ∙ found)
 
-pub within_at : {old : World} {kept : ContextsKept} (k : WorkerId) (a : Worker) → IsState old kept → worker_at old.workers k ≡ Some a → k.0 < 48
+pub within_at : {old : World} {kept : ContextsKept} (k : WorkerId) (a : Place) → IsState old kept → worker_at old.workers k ≡ Some a → k.0 < 48
 within_at {old} k a s at = subst (λ n. k.0 < n) s.sound.under_way.hands (slice_get_within old.workers k.0 a at)
 
 -- the operation that a worker is inside of stands so
-stands_in : (old : World) (k : WorkerId) (a : Worker) (o : OpId) (s : Spot) (wanted : Stage) → IsSound old → worker_at old.workers k ≡ Some a
+stands_in : (old : World) (k : WorkerId) (a : Place) (o : OpId) (s : Spot) (wanted : Stage) → IsSound old → worker_at old.workers k ≡ Some a
     → is_in_at o s a ≡ true → ((stage : Stage) (entries : List Entry) → is_spot s (spot_at stage entries) ≡ true → stage ≡ wanted)
     → (r : FlowRecord) × (operation_at o old.flow ≡ Some r) × (r.stage ≡ wanted)
 stands_in old k a o s wanted sound at inside is =
@@ -266,21 +266,21 @@ stands_in old k a o s wanted sound at inside is =
 both : (o : OpId) (i : InstanceId) → ((o.0 == o.0) && (i.0 == i.0)) ≡ true
 both o i = and_from (nat_eq o.0 o.0) (nat_eq i.0 i.0) (eq-eqb o.0 o.0 refl) (eq-eqb i.0 i.0 refl)
 
-pub in_pre : (old : World) (k : WorkerId) (o : OpId) (i : InstanceId) → IsSound old → worker_at old.workers k ≡ Some (Worker.Pre o i)
+pub in_pre : (old : World) (k : WorkerId) (o : OpId) (i : InstanceId) → IsSound old → worker_at old.workers k ≡ Some (Place.Pre o i)
     → (r : FlowRecord) × (operation_at o old.flow ≡ Some r) × (r.stage ≡ PreRunning)
-in_pre old k o i s at = stands_in old k (Worker.Pre o i) o (AtPre i.0) PreRunning s at (both o i) (λ stage entries h. (spot_pre i.0 stage entries h).0)
+in_pre old k o i s at = stands_in old k (Place.Pre o i) o (AtPre i.0) PreRunning s at (both o i) (λ stage entries h. (spot_pre i.0 stage entries h).0)
 
-pub in_base : (old : World) (k : WorkerId) (o : OpId) → IsSound old → worker_at old.workers k ≡ Some (Worker.Base o)
+pub in_base : (old : World) (k : WorkerId) (o : OpId) → IsSound old → worker_at old.workers k ≡ Some (Place.Base o)
     → (r : FlowRecord) × (operation_at o old.flow ≡ Some r) × (r.stage ≡ InBase)
-in_base old k o s at = stands_in old k (Worker.Base o) o AtBase InBase s at (eq-eqb o.0 o.0 refl) spot_base
+in_base old k o s at = stands_in old k (Place.Base o) o AtBase InBase s at (eq-eqb o.0 o.0 refl) spot_base
 
-pub in_post : (old : World) (k : WorkerId) (o : OpId) (i : InstanceId) → IsSound old → worker_at old.workers k ≡ Some (Worker.Post o i)
+pub in_post : (old : World) (k : WorkerId) (o : OpId) (i : InstanceId) → IsSound old → worker_at old.workers k ≡ Some (Place.Post o i)
     → (r : FlowRecord) × (operation_at o old.flow ≡ Some r) × (r.stage ≡ PostRunning)
-in_post old k o i s at = stands_in old k (Worker.Post o i) o (AtPost i.0) PostRunning s at (both o i) (λ stage entries h. (spot_post i.0 stage entries h).0)
+in_post old k o i s at = stands_in old k (Place.Post o i) o (AtPost i.0) PostRunning s at (both o i) (λ stage entries h. (spot_post i.0 stage entries h).0)
 
-pub in_drain : (old : World) (k : WorkerId) (o : OpId) (i : InstanceId) → IsSound old → worker_at old.workers k ≡ Some (Worker.Drain o i)
+pub in_drain : (old : World) (k : WorkerId) (o : OpId) (i : InstanceId) → IsSound old → worker_at old.workers k ≡ Some (Place.Drain o i)
     → (r : FlowRecord) × (operation_at o old.flow ≡ Some r) × (r.stage ≡ InDrain i)
-in_drain old k o i s at = stands_in old k (Worker.Drain o i) o (AtDrain i.0) (InDrain i) s at (both o i) (spot_drain i)
+in_drain old k o i s at = stands_in old k (Place.Drain o i) o (AtDrain i.0) (InDrain i) s at (both o i) (spot_drain i)
 
 pub stands_from : (o : OpId) (t : FlowTable) (wanted : Stage) → (r : FlowRecord) × (operation_at o t ≡ Some r) × (r.stage ≡ wanted)
     → StandsAt wanted (operation_at o t)
@@ -355,7 +355,7 @@ sends_held {old} {kept} k o i given state m s same sends contexts =
 -- and completions carry it then
 pub pre_tied : {old : World} {kept : ContextsKept} (k : WorkerId) (o : OpId) (i : InstanceId) (given : PreVerdict) (lent : Data) (state : PreState)
     (m : Option CtxId) → IsState old kept
-    → worker_at old.workers k ≡ Some (Worker.Pre o i) → state ≡ state_at old k o i given → m ≡ sent_in state → old.contexts ≡ kept.table
+    → worker_at old.workers k ≡ Some (Place.Pre o i) → state ≡ state_at old k o i given → m ≡ sent_in state → old.contexts ≡ kept.table
     → length kept.carried ≡ length kept.table.slots
     → IsTied (kept_sent kept k.0 m) (changed o (pre_returned_of state lent) old.flow)
 pre_tied {old} {kept} k o i given lent state m s at same sends contexts matched =
@@ -363,17 +363,17 @@ pre_tied {old} {kept} k o i given lent state m s at same sends contexts matched 
     (tied_sent kept k (sent_in state) old.flow (changed o (pre_returned_of state lent) old.flow) (subst (IsLawful (carries old)) contexts s.sound.owned.lawful)
     matched
     (subst (λ (t : ContextTable). k.0 < length t.hands) contexts
-    (within_hands k.0 s.sound.owned.lawful (subst (λ n. k.0 < n) s.sound.under_way.hands (slice_get_within old.workers k.0 (Worker.Pre o i) at))))
+    (within_hands k.0 s.sound.owned.lawful (subst (λ n. k.0 < n) s.sound.under_way.hands (slice_get_within old.workers k.0 (Place.Pre o i) at))))
     (λ d e. subst (λ (t : ContextTable). holds (hand_of t.hands k.0) d ≡ true) contexts (sent_is_held old k o i given d
     (sym (ap sent_in same) ∙ e)))
     (pre_balance old k o i state lent at s.sound.under_way) s.tied)
 
 pub pre_returns : {old now : World} {kept : ContextsKept} (k : WorkerId) (o : OpId) (i : InstanceId) (r : FlowRecord) (given : PreVerdict) (lent : Data)
     (state : PreState) (m : Option CtxId) (t : FlowTable)
-    (ws : List Worker) (left after : ContextsKept) (fs : FileTable) (x : Target) → IsState old kept → old ≡ now → worker_at old.workers k ≡ Some
-    (Worker.Pre o i) → operation_at o old.flow ≡ Some r
+    (ws : List Place) (left after : ContextsKept) (fs : FileTable) (x : Target) → IsState old kept → old ≡ now → worker_at old.workers k ≡ Some
+    (Place.Pre o i) → operation_at o old.flow ≡ Some r
     → state ≡ state_at old k o i given → m ≡ sent_in state
-    → Comes old.flow o (λ y. data_fits y.operation y.path lent) (pre_returned_of state lent) lent (Ok tt) t → ws ≡ put old.workers k Worker.Idle
+    → Comes old.flow o (λ y. data_fits y.operation y.path lent) (pre_returned_of state lent) lent (Ok tt) t → ws ≡ put old.workers k Place.Idle
     → old.contexts ≡ kept.table → Ends (kept_sent kept k.0 m) left k.0 → IsTied (kept_sent kept k.0 m) (changed o (pre_returned_of state lent) old.flow)
     → x ≡ target_in r → fs ≡ decided t state x old.files
     → Sweeping (is_lost_of fs x) left after → PreReturns now k given lent (Ok tt) (record old { flow = t; workers = ws; contexts = after.table; files = fs })
@@ -406,9 +406,9 @@ pre_returns {old} {now} {kept} k o i r given lent state m t ws left after fs x s
 -- ---- the base's answer
 
 pub base_returns : {old now : World} {kept : ContextsKept} (k : WorkerId) (o : OpId) (r : FlowRecord) (call : BaseCall) (given : Answer) (t : FlowTable)
-    (ws : List Worker) (after : ContextsKept)
-    (fs : FileTable) (x : Target) → IsState old kept → old ≡ now → worker_at old.workers k ≡ Some (Worker.Base o) → operation_at o old.flow ≡ Some r
-    → Comes {T = BaseCall × Answer} old.flow o (base_fits call given) (base_step old call given) (call, given) (Ok tt) t → ws ≡ put old.workers k Worker.Idle
+    (ws : List Place) (after : ContextsKept)
+    (fs : FileTable) (x : Target) → IsState old kept → old ≡ now → worker_at old.workers k ≡ Some (Place.Base o) → operation_at o old.flow ≡ Some r
+    → Comes {T = BaseCall × Answer} old.flow o (base_fits call given) (base_step old call given) (call, given) (Ok tt) t → ws ≡ put old.workers k Place.Idle
     → old.contexts ≡ kept.table → IsTied kept t
     → x ≡ target_in r → fs ≡ answered t given.status x old.files → Sweeping (is_lost_of fs x) kept after
     → BaseReturns now k call given (Ok tt) (record old { flow = t; workers = ws; contexts = after.table; files = fs })
@@ -438,9 +438,9 @@ base_room {old} o why r x s at stage small is = subst (λ y. HasRoom old.files y
 -- ---- a postoperation's end, and a drain's
 
 -- the event of a callback that is over
-over : (old : World) (k : WorkerId) (o : OpId) (step : FlowRecord → FlowRecord) (t : FlowTable) (ws : List Worker) (kept after : ContextsKept)
+over : (old : World) (k : WorkerId) (o : OpId) (step : FlowRecord → FlowRecord) (t : FlowTable) (ws : List Place) (kept after : ContextsKept)
     → t ≡ changed o step old.flow
-    → ws ≡ put old.workers k Worker.Idle → old.contexts ≡ kept.table → Ends kept after k.0 → IsTied kept (changed o step old.flow)
+    → ws ≡ put old.workers k Place.Idle → old.contexts ≡ kept.table → Ends kept after k.0 → IsTied kept (changed o step old.flow)
     → ReturnsFrom old k o step old.contexts (record old { flow = t; workers = ws; contexts = after.table })
 over old k o step t ws kept after flow workers contexts ends tied = (
   subst (λ x. Leaves (carries_after old o step) x after.table k.0) (sym contexts) (leaves_alike tied ends.leaves),
@@ -449,19 +449,19 @@ over old k o step t ws kept after flow workers contexts ends tied = (
 )
 
 pub post_tied : {old : World} {kept : ContextsKept} (k : WorkerId) (o : OpId) (i : InstanceId) (given : PostVerdict) (lent : Data) → IsState old kept
-    → worker_at old.workers k ≡ Some (Worker.Post o i)
+    → worker_at old.workers k ≡ Some (Place.Post o i)
     → IsTied kept (changed o (post_returned_of given lent) old.flow)
 post_tied {old} k o i given lent s at c = s.tied c ∙ sym (post_balance old k o i given lent at s.sound.under_way c)
 
-pub drain_tied : {old : World} {kept : ContextsKept} (k : WorkerId) (o : OpId) (i : InstanceId) → IsState old kept → worker_at old.workers k ≡ Some (Worker.Drain o i)
+pub drain_tied : {old : World} {kept : ContextsKept} (k : WorkerId) (o : OpId) (i : InstanceId) → IsState old kept → worker_at old.workers k ≡ Some (Place.Drain o i)
     → IsTied kept (changed o (drain_returned_of i) old.flow)
 drain_tied {old} k o i s at c = s.tied c ∙ sym (drain_balance old k o i at s.sound.under_way c)
 
 pub post_returns : {old now : World} {kept : ContextsKept} (k : WorkerId) (o : OpId) (i : InstanceId) (given : PostVerdict) (lent : Data) (t : FlowTable)
-    (ws : List Worker) (after : ContextsKept)
-    → IsState old kept → old ≡ now → worker_at old.workers k ≡ Some (Worker.Post o i)
+    (ws : List Place) (after : ContextsKept)
+    → IsState old kept → old ≡ now → worker_at old.workers k ≡ Some (Place.Post o i)
     → Comes old.flow o (λ y. data_fits y.operation y.path lent) (post_returned_of given lent) lent (Ok tt) t
-    → ws ≡ put old.workers k Worker.Idle → old.contexts ≡ kept.table → Ends kept after k.0
+    → ws ≡ put old.workers k Place.Idle → old.contexts ≡ kept.table → Ends kept after k.0
     → PostReturns now k given (Some lent) (Ok tt) (record old { flow = t; workers = ws; contexts = after.table })
 unfolding PostReturns
 post_returns {old} {now} {kept} k o i given lent t ws after s now_is at come workers contexts ends =

@@ -1,6 +1,6 @@
 -- An operation passes an instance in one event, which is two of the model: `next`, and the return of the callback that it calls.
 use Rattle.fm_core.proofs.Words.{FindsAt, IsState, IsTied, Ends, back_in, kept_brought, Sweeping, is_lost_of, ComesDown, ComesUp, known_in, target_in, Target}
-use Rattle.fm_core.proofs.Words.{ContextsKept, idle_there, told_there, post_does, pre_does, next_does, drains_next, Worker, Bool, Err, IfSome, List, None, Ok}
+use Rattle.fm_core.proofs.Words.{ContextsKept, idle_there, told_there, post_does, pre_does, next_does, drains_next, Place, Bool, Err, IfSome, List, None, Ok}
 use Rattle.fm_core.proofs.Words.{Option, Some, [], ap, arith, cond, false, inl, inr, is_some, refl, subst, suc, sym, true, ℕ, ◌<◌, ◌==◌, ◌∙◌, ◌∷◌, ◌≡◌, ◌≤◌}
 use Rattle.fm_core.proofs.Words.{nat_tests, hand_of, Context, Slot, Data, data_fits, Params, PreVerdict, owed, FlowRecord, next_of, post_returned_of}
 use Rattle.fm_core.proofs.Words.{pre_returned_of, FlowTable, changed, is_number, operation_at, told, Below, FlowAction, Ask, PreState, found_holds, InstanceId}
@@ -28,10 +28,10 @@ use Rattle.fm_flow.specs.Sound as flow
 -- ---- workers
 
 -- a worker that goes somewhere and comes back is where it was
-put_back : (workers : List Worker) (k : ℕ) (a b : Worker) → slice_get workers k ≡ Some a → workers ≡ slice_set (slice_set workers k b) k a
+put_back : (workers : List Place) (k : ℕ) (a b : Place) → slice_get workers k ≡ Some a → workers ≡ slice_set (slice_set workers k b) k a
 put_back [] k a b at = cc
-put_back (x ∷ workers) zero a b at = let e : x ≡ a = cc in ap (λ (y : Worker). y ∷ workers) e
-put_back (x ∷ workers) (suc k) a b at = ap (λ (ws : List Worker). x ∷ ws) (put_back workers k a b at)
+put_back (x ∷ workers) zero a b at = let e : x ≡ a = cc in ap (λ (y : Place). y ∷ workers) e
+put_back (x ∷ workers) (suc k) a b at = ap (λ (ws : List Place). x ∷ ws) (put_back workers k a b at)
 
 -- ---- operations
 
@@ -125,7 +125,7 @@ module _ {old : World} {kept : ContextsKept} {k : WorkerId} {o : OpId} {r : Flow
 
   -- where the worker is
   within : k.0 < length old.workers
-  within = slice_get_within old.workers k.0 Worker.Idle (idle_there old.workers k h.idle)
+  within = slice_get_within old.workers k.0 Place.Idle (idle_there old.workers k h.idle)
 
 -- ---- on the way down
 
@@ -163,8 +163,8 @@ module _ {old : World} {kept : ContextsKept} (k : WorkerId) (o : OpId) (i : Inst
     unknown = refl;
   }
 
-  at_down : worker_at (between calls_down).workers k ≡ Some (Worker.Pre o i)
-  at_down = slice_get-set_same old.workers k.0 (Worker.Pre o i) (within calls_down)
+  at_down : worker_at (between calls_down).workers k ≡ Some (Place.Pre o i)
+  at_down = slice_get-set_same old.workers k.0 (Place.Pre o i) (within calls_down)
 
   abbrev asked_down : PreState
   asked_down = PreState.Asked (numbered n)
@@ -197,17 +197,17 @@ module _ {old : World} {kept : ContextsKept} (k : WorkerId) (o : OpId) (i : Inst
 
     returns_down : PreReturns (between calls_down) k given_down lent_down (Ok tt) new_down
     returns_down =
-        let workers = put_back old.workers k.0 Worker.Idle (Worker.Pre o i) (idle_there old.workers k d.idle) in
+        let workers = put_back old.workers k.0 Place.Idle (Place.Pre o i) (idle_there old.workers k d.idle) in
         let flow = flow_is ∙ whole_down in
         let links = subst (λ (slots : List Slot). All (λ (x : Slot). names_there old.files x.context ≡ true) slots) (sym ends.leaves.slots) (state_between calls_down).sound.links in
         let new_is : ◌≡◌ {A = World} (record (between calls_down) {
           flow = changed o step_down (flow_between calls_down);
-          workers = put (between calls_down).workers k Worker.Idle;
+          workers = put (between calls_down).workers k Place.Idle;
           contexts = after.table;
           files = old.files;
         }) new_down = cc in
         subst (PreReturns (between calls_down) k given_down lent_down (Ok tt)) new_is
-        (pre_returns k o i called_down given_down lent_down asked_down None (changed o step_down (flow_between calls_down)) (put (between calls_down).workers k Worker.Idle) after after
+        (pre_returns k o i called_down given_down lent_down asked_down None (changed o step_down (flow_between calls_down)) (put (between calls_down).workers k Place.Idle) after after
         old.files (target_in called_down) (state_between calls_down) refl at_down (there_between calls_down) counts_down refl (fits_down, refl) refl refl ends tied_down refl refl
         (nothing_swept old.files (target_in called_down) after links))
 
@@ -271,8 +271,8 @@ module _ {old : World} {kept : ContextsKept} (k : WorkerId) (o : OpId) (ask : As
     unknown = refl;
   }
 
-  at_up : worker_at (between calls_up).workers k ≡ Some (Worker.Post o ask.instance)
-  at_up = slice_get-set_same old.workers k.0 (Worker.Post o ask.instance) (within calls_up)
+  at_up : worker_at (between calls_up).workers k ≡ Some (Place.Post o ask.instance)
+  at_up = slice_get-set_same old.workers k.0 (Place.Post o ask.instance) (within calls_up)
 
   abbrev step_up : FlowRecord → FlowRecord
   step_up = post_returned_of over.Finished lent_up
@@ -298,15 +298,15 @@ module _ {old : World} {kept : ContextsKept} (k : WorkerId) (o : OpId) (ask : As
 
     returns_up : PostReturns (between calls_up) k over.Finished (Some lent_up) (Ok tt) new_up
     returns_up =
-        let workers = put_back old.workers k.0 Worker.Idle (Worker.Post o ask.instance) (idle_there old.workers k d.idle) in
+        let workers = put_back old.workers k.0 Place.Idle (Place.Post o ask.instance) (idle_there old.workers k d.idle) in
         let flow = flow_is ∙ whole_up in
         let new_is : ◌≡◌ {A = World} (record (between calls_up) {
           flow = changed o step_up (flow_between calls_up);
-          workers = put (between calls_up).workers k Worker.Idle;
+          workers = put (between calls_up).workers k Place.Idle;
           contexts = after.table;
         }) new_up = cc in
         subst (PostReturns (between calls_up) k over.Finished (Some lent_up) (Ok tt)) new_is
-        (post_returns k o ask.instance over.Finished lent_up (changed o step_up (flow_between calls_up)) (put (between calls_up).workers k Worker.Idle) after (state_between calls_up) refl
+        (post_returns k o ask.instance over.Finished lent_up (changed o step_up (flow_between calls_up)) (put (between calls_up).workers k Place.Idle) after (state_between calls_up) refl
         at_up (fits_up, refl) refl refl ends)
 
     pub passes_up : PassesUp now k o ask.instance new_up

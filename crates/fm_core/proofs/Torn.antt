@@ -1,6 +1,6 @@
 -- The events on instances, filters and volumes, from what their parts did.
 use Rattle.fm_core.proofs.Words.{IsTied, SweptWhere, complete_of, query_of, setup_of, start_of, unload_of, sweeps_alike, carried_equal, ContextsKept}
-use Rattle.fm_core.proofs.Words.{carried_of, Worker, Bool, Err, List, Ok, Option, Result, Some, ap, arith, subst, sym, true, ℕ, ◌∙◌, ◌≡◌, Leaves, Sweeps}
+use Rattle.fm_core.proofs.Words.{carried_of, Place, Bool, Err, List, Ok, Option, Result, Some, ap, arith, subst, sym, true, ℕ, ◌∙◌, ◌≡◌, Leaves, Sweeps}
 use Rattle.fm_core.proofs.Words.{is_linked_of, Context, Owner, FlowTable, Instance, Answers, FilterId, InstanceId, WorkerId, Status, put, World, carries}
 use Rattle.fm_world.proofs.Words.{after_entering, EmptiesUnless, is_setup}
 use Rattle.fm_world.specs.Teardowns.{SweepsWhere}
@@ -12,7 +12,7 @@ use Rattle.fm_stack.specs.Detaching as stack
 -- ---- an idle worker enters a callback
 
 -- a callback that is permitted is entered
-pub entered : (old : World) (k : WorkerId) (there : Worker) (refusal : Option Status) (result : Result (Unit {0}) Status) (ws : List Worker) → stack.Permits refusal result
+pub entered : (old : World) (k : WorkerId) (there : Place) (refusal : Option Status) (result : Result (Unit {0}) Status) (ws : List Place) → stack.Permits refusal result
     → ws ≡ after_entering old.workers k there result
     → Answers refusal result old (record old { workers = ws }) (λ done. ◌≡◌ {A = World} (record old { workers = ws }) (record old { workers = put old.workers k there }))
 entered old k there refusal (Ok done) ws free e = (free, ap (λ x. record old { workers = x }) e)
@@ -53,19 +53,19 @@ where_tied test (Err why) kept after t e tied = subst (λ x. IsTied x t) (sym e)
 
 -- ---- a place that is such a callback, or isn't
 
-pub query_is : (m : Option Worker) (i : InstanceId) → query_of m ≡ Some i → m ≡ Some (Worker.Query i)
+pub query_is : (m : Option Place) (i : InstanceId) → query_of m ≡ Some i → m ≡ Some (Place.Query i)
 query_is m i h = grind (arith, h)
 
-pub start_is : (m : Option Worker) (i : InstanceId) → start_of m ≡ Some i → m ≡ Some (Worker.Start i)
+pub start_is : (m : Option Place) (i : InstanceId) → start_of m ≡ Some i → m ≡ Some (Place.Start i)
 start_is m i h = grind (arith, h)
 
-pub complete_is : (m : Option Worker) (i : InstanceId) → complete_of m ≡ Some i → m ≡ Some (Worker.Complete i)
+pub complete_is : (m : Option Place) (i : InstanceId) → complete_of m ≡ Some i → m ≡ Some (Place.Complete i)
 complete_is m i h = grind (arith, h)
 
-pub unload_is : (m : Option Worker) (f : FilterId) → unload_of m ≡ Some f → m ≡ Some (Worker.Unload f)
+pub unload_is : (m : Option Place) (f : FilterId) → unload_of m ≡ Some f → m ≡ Some (Place.Unload f)
 unload_is m f h = grind (arith, h)
 
-pub setup_is : (m : Option Worker) (i : InstanceId) → setup_of m ≡ Some i → m ≡ Some (Worker.Setup i)
+pub setup_is : (m : Option Place) (i : InstanceId) → setup_of m ≡ Some i → m ≡ Some (Place.Setup i)
 setup_is m i h = grind (arith, h)
 
 pub setup_at : (row : Option Instance) → (x : Instance) × (row ≡ Some x) × (is_setup x.phase ≡ true) → is_setup_at row ≡ true

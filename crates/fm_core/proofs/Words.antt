@@ -39,7 +39,7 @@ pub use Rattle.fm_world.specs.Requests.{phase_refusal}
 pub use Rattle.fm_world.specs.declared.file.FileHandle.{FileHandle}
 pub use Rattle.fm_world.specs.declared.file.FileStream.{FileStream}
 pub use Rattle.fm_world.specs.declared.file.HandlePhase.{HandlePhase}
-pub use Rattle.fm_world.specs.declared.worker.Worker.{Worker}
+pub use Rattle.fm_world.specs.declared.place.Place.{Place}
 pub use Rattle.std.proofs.Common.{Bool, Err, IfSome, List, None, Ok, Option, Result, Some, [], ap, arith, cond, false, inl, inr, is_ok, is_some, map, nat_lt}
 pub use Rattle.std.proofs.Common.{not, position, refl, rules, subst, suc, sym, true, ℕ, ◌%◌, ◌&&◌, ◌++◌, ◌+◌, ◌-◌, ◌<◌, ◌==◌, ◌^◌, ◌||◌, ◌∙◌, ◌∷◌, ◌≡◌, ◌≤◌}
 pub use Rattle.std.proofs.lemmas.Bool.Decides.{nat_tests}

@@ -4,12 +4,12 @@ use Rattle.fm_types.specs.declared.ids.CtxId.{CtxId}
 use Rattle.fm_stack.specs.StackWorld.{StackWorld}
 use Rattle.fm_ctx.specs.Kept.{ContextsKept, carried_of}
 use Rattle.fm_flow.specs.Table.{FlowTable, carried}
-use Rattle.fm_world.specs.declared.worker.Worker.{Worker}
+use Rattle.fm_world.specs.declared.place.Place.{Place}
 use Rattle.fm_world.specs.World.{World}
 use Rattle.fm_world.specs.Sound.{IsSound}
 use Rattle.fm_core.specs.FilesKept.{FilesKept}
 
-abbrev pub world_of : StackWorld → FlowTable → List Worker → ContextsKept → List ℕ → FilesKept → World
+abbrev pub world_of : StackWorld → FlowTable → List Place → ContextsKept → List ℕ → FilesKept → World
 world_of stack flow workers kept totals files = record { stack = stack; flow = flow; workers = workers; contexts = kept.table; totals = totals; files = files.table }
 
 -- what the layer of contexts keeps of references that completions carry, the operations' completions say too

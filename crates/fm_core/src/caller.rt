@@ -13,7 +13,7 @@ use fm_ctx::{Object, Owner};
 use fm_flow::Flow;
 use fm_stack::{Phase, Stack, VolumePhase};
 use fm_types::{ContextKind, FilterId, HandleId, InstanceId, OpId, StreamId, VolumeId, WorkerId};
-use fm_world::{FileObject, Worker};
+use fm_world::{FileObject, Place};
 
 /// An instance in one of whose callbacks a worker is.
 #[derive(Clone, Copy, Debug, PartialEq, Eq)]
@@ -50,39 +50,39 @@ impl Caller {
 }
 
 // The instance whose callback it is.
-fn instance_in(place: Worker) -> Option<InstanceId>
+fn instance_in(place: Place) -> Option<InstanceId>
     ensures { result ≡ instance_in place }
 {
     match place {
-        Worker::Setup(instance)
-        | Worker::Pre(_, instance)
-        | Worker::Post(_, instance)
-        | Worker::Drain(_, instance)
-        | Worker::EarlyDrain(_, instance)
-        | Worker::Query(instance)
-        | Worker::Start(instance)
-        | Worker::Complete(instance) => Some(instance),
-        Worker::Idle | Worker::Base(_) | Worker::Cleanup(_) | Worker::Unload(_) => None,
+        Place::Setup(instance)
+        | Place::Pre(_, instance)
+        | Place::Post(_, instance)
+        | Place::Drain(_, instance)
+        | Place::EarlyDrain(_, instance)
+        | Place::Query(instance)
+        | Place::Start(instance)
+        | Place::Complete(instance) => Some(instance),
+        Place::Idle | Place::Base(_) | Place::Cleanup(_) | Place::Unload(_) => None,
     }
 }
 
 // The operation whose callback it is.
-fn operation_in(place: Worker) -> Option<OpId>
+fn operation_in(place: Place) -> Option<OpId>
     ensures { result ≡ operation_in place }
 {
     match place {
-        Worker::Pre(operation, _)
-        | Worker::Post(operation, _)
-        | Worker::Drain(operation, _)
-        | Worker::EarlyDrain(operation, _) => Some(operation),
-        Worker::Idle
-        | Worker::Setup(_)
-        | Worker::Base(_)
-        | Worker::Cleanup(_)
-        | Worker::Query(_)
-        | Worker::Start(_)
-        | Worker::Complete(_)
-        | Worker::Unload(_) => None,
+        Place::Pre(operation, _)
+        | Place::Post(operation, _)
+        | Place::Drain(operation, _)
+        | Place::EarlyDrain(operation, _) => Some(operation),
+        Place::Idle
+        | Place::Setup(_)
+        | Place::Base(_)
+        | Place::Cleanup(_)
+        | Place::Query(_)
+        | Place::Start(_)
+        | Place::Complete(_)
+        | Place::Unload(_) => None,
     }
 }
 
@@ -95,7 +95,7 @@ fn file_object(stream: Option<StreamId>, handle: Option<HandleId>) -> Option<Fil
 }
 
 // The file that the callback's operation is on.
-fn file_of(flow: &Flow, place: Worker) -> Option<FileObject>
+fn file_of(flow: &Flow, place: Place) -> Option<FileObject>
     ensures { result ≡ file_of flow.now (Some place) }
 {
     let record = flow.record(operation_in(place)?)?;

@@ -11,7 +11,7 @@ use crate::workers::{cleanup_of, note_due, put};
 use fm_ctx::{Due, Owner};
 use fm_stack::{Phase, Stack};
 use fm_types::{FilterId, InstanceId, Status, WorkerId};
-use fm_world::Worker;
+use fm_world::Place;
 
 /// The filter of an owner, if it is there.
 fn filter_of(stack: &Stack, owner: Option<Owner>) -> Option<FilterId>
@@ -84,7 +84,7 @@ impl State {
         let filter = filter_of(&self.stack, self.contexts.owner_of(context));
         add_total(&mut self.totals, filter, number);
         self.contexts.cleaned(worker, context);
-        put(&mut self.workers, worker, Worker::Idle);
+        put(&mut self.workers, worker, Place::Idle);
         Ok(())
     }
 

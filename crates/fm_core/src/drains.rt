@@ -11,7 +11,7 @@ use crate::workers::{early_drain_of, put};
 use fm_data::Completion;
 use fm_stack::Phase;
 use fm_types::{InstanceId, OpId, Status, WorkerId};
-use fm_world::Worker;
+use fm_world::Place;
 
 /// Whether an instance in that phase is drained before the turn of what it is owed; one that isn't there refuses.
 fn drains_in(phase: Option<Phase>) -> Result<bool, Status>
@@ -54,7 +54,7 @@ impl State {
         put(
             &mut self.workers,
             worker,
-            Worker::EarlyDrain(operation, instance),
+            Place::EarlyDrain(operation, instance),
         );
         Ok(Some((operation, completion)))
     }
@@ -73,7 +73,7 @@ impl State {
         };
         self.contexts.leave(worker);
         self.flow.drain_done(operation, instance);
-        put(&mut self.workers, worker, Worker::Idle);
+        put(&mut self.workers, worker, Place::Idle);
         Ok(())
     }
 }

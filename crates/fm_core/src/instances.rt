@@ -10,7 +10,7 @@ use crate::state::State;
 use crate::workers::{note_attach, put, setup_of};
 use fm_altitude::Altitude;
 use fm_types::{FilterId, InstanceId, Name, Registration, Status, VolumeId, WorkerId};
-use fm_world::Worker;
+use fm_world::Place;
 
 impl State {
     /// Registers a filter under a name (`FltRegisterFilter`). Refused, nothing changed: 10 where a filter of that name isn't unloaded, 29 at the 17th
@@ -72,7 +72,7 @@ impl State {
         self.contexts.leave(worker);
         let result = self.stack.setup_done(instance, accept);
         unlink_unless(&mut self.contexts, instance, &result);
-        put(&mut self.workers, worker, Worker::Idle);
+        put(&mut self.workers, worker, Place::Idle);
         result
     }
 }

@@ -37,4 +37,4 @@ pub use fm_flow::{
     Stage,
 };
 pub use fm_stack::{FilterPhase, Phase, VolumePhase};
-pub use fm_world::{FileHandle, HandlePhase, Refused, SetAnswer, Step, StepReply, Worker};
+pub use fm_world::{FileHandle, HandlePhase, Place, Refused, SetAnswer, Step, StepReply};

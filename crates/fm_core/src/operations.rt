@@ -15,7 +15,7 @@ use crate::workers::{base_of, drain_of, note_next, post_of, pre_of, put};
 use fm_data::{Answer, BaseCall, CallbackData, PostVerdict, PreVerdict};
 use fm_flow::{FlowAction, counted};
 use fm_types::{HandleId, InstanceId, OpId, Status, WorkerId};
-use fm_world::{Refused, Worker};
+use fm_world::{Place, Refused};
 
 impl State {
     /// Answers what a worker has to do next for an operation: call a callback or the base, ask again (an entry was recorded without a call), wait until
@@ -97,7 +97,7 @@ impl State {
             });
         }
         end_callback(&mut self.contexts, worker, sent_in(&state));
-        put(&mut self.workers, worker, Worker::Idle);
+        put(&mut self.workers, worker, Place::Idle);
         note_verdict(
             &mut self.files,
             &mut self.contexts,
@@ -141,7 +141,7 @@ impl State {
                 handed_back,
             });
         }
-        put(&mut self.workers, worker, Worker::Idle);
+        put(&mut self.workers, worker, Place::Idle);
         note_answer(
             &mut self.files,
             &mut self.contexts,
@@ -212,7 +212,7 @@ impl State {
             });
         }
         end_callback(&mut self.contexts, worker, None);
-        put(&mut self.workers, worker, Worker::Idle);
+        put(&mut self.workers, worker, Place::Idle);
         Ok(())
     }
 
@@ -229,7 +229,7 @@ impl State {
     {
         self.flow.drain_returned(operation, instance);
         end_callback(&mut self.contexts, worker, None);
-        put(&mut self.workers, worker, Worker::Idle);
+        put(&mut self.workers, worker, Place::Idle);
     }
 
     /// Hands out the answer of a done operation, once, and forgets the operation. Refused with 30, nothing changed, where there is no such operation,

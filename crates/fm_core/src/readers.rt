@@ -1,10 +1,12 @@
 //! What can be read of a State without changing it.
 
-ghost use Rattle.std.specs.Prelude.{◌≡◌, length, slice_get, slice_index_or, option_map, option_and_then, option_copied};
+ghost use Rattle.std.specs.Prelude.{◌≡◌, length, nat_lt, slice_get, slice_index_or, option_map, option_and_then, option_copied};
+ghost use Rattle.std.specs.List.{list_any};
 ghost use Rattle.fm_ctx.specs.Bags.{hand_of};
 ghost use Rattle.fm_ctx.specs.Counting.{born, cleaned_count, count_reply};
 ghost use Rattle.fm_ctx.specs.Table.{kind_at};
 ghost use Rattle.fm_world.specs.World.{carries};
+ghost use Rattle.fm_core.specs.Places.{may_hold};
 ghost use Rattle.fm_stack.specs.declared.filter.Filter.{Filter};
 ghost use Rattle.fm_stack.specs.declared.instance.Instance.{Instance};
 ghost use Rattle.fm_stack.specs.declared.volume.Volume.{Volume};
@@ -18,6 +20,17 @@ use fm_flow::Entry;
 use fm_stack::{FilterPhase, Phase, VolumePhase};
 use fm_types::limits::WORKERS;
 use fm_types::{ContextKind, CtxId, FilterId, HandleId, InstanceId, OpId, VolumeId, WorkerId};
+use fm_world::Place;
+
+// Whether a worker in that place may still say that the instance holds an operation.
+fn may_hold(instance: InstanceId, place: Place) -> bool
+    ensures { result ≡ may_hold instance place }
+{
+    match place {
+        Place::Pre(_, other) | Place::Post(_, other) => other.0 == instance.0,
+        _ => false,
+    }
+}
 
 impl State {
     /// How many filters were registered: the ids given out are those below.
@@ -110,7 +123,7 @@ impl State {
         }
     }
 
-    /// Whether an operation is done, so that its answer may be collected; none where it isn't there.
+    /// Whether an operation is done; none where it isn't there. Its answer may be collected then, or was already, and a drain of it still runs.
     pub fn is_done(&self, operation: OpId) -> Option<bool>
         ensures { result ≡ option_map is_done (operation_at operation self.now.flow) }
     {
@@ -118,6 +131,13 @@ impl State {
             Some(record) => Some(record.is_done()),
             None => None,
         }
+    }
+
+    /// Whether a preoperation or a postoperation of an instance runs in some worker, which may still answer that the instance holds its operation.
+    pub fn may_hold(&self, instance: InstanceId) -> bool
+        ensures { result ≡ list_any (may_hold instance) self.now.workers }
+    {
+        self.workers.iter().any(|place| may_hold(instance, *place))
     }
 
     /// How many operations are in flight at an instance: a callback of it runs or holds them, or they owe it a postoperation.
@@ -179,6 +199,19 @@ impl State {
         ensures { result ≡ kind_at self.now.contexts.slots context }
     {
         self.contexts.kind_of(context)
+    }
+
+    /// The contexts that were left in the worker's hand as its last callback returned, which the State released and counted as leaks, in the order of
+    /// the hand; none for a worker past the 48. It is no part of what contracts see.
+    pub fn left(&self, worker: WorkerId) -> &[CtxId] {
+        self.contexts.left(worker)
+    }
+
+    /// Whether some context waits for its cleanup.
+    pub fn has_due(&self) -> bool
+        ensures { result ≡ nat_lt 0 (length self.now.contexts.due) }
+    {
+        self.contexts.has_due()
     }
 
     /// How many contexts were allocated.

@@ -12,7 +12,7 @@ use fm_flow::Flow;
 use fm_stack::Stack;
 use fm_types::limits::{FILTERS, WORKERS};
 use fm_types::{Status, WorkerId};
-use fm_world::Worker;
+use fm_world::Place;
 use std::alloc::Global;
 use std::marker::Model;
 
@@ -23,7 +23,7 @@ pub struct State {
     pub(crate) stack: Stack,
     pub(crate) flow: Flow,
     pub(crate) contexts: Contexts,
-    pub(crate) workers: [Worker; WORKERS],
+    pub(crate) workers: [Place; WORKERS],
     pub(crate) totals: [u64; FILTERS],
     pub(crate) files: Files,
 }
@@ -54,7 +54,7 @@ impl State {
             stack: Stack::new(alloc),
             flow,
             contexts,
-            workers: [Worker::Idle; WORKERS],
+            workers: [Place::Idle; WORKERS],
             totals: [0; FILTERS],
             files,
         })
@@ -75,7 +75,7 @@ impl State {
     }
 
     /// Where a worker is, if there is such a worker.
-    pub fn place(&self, worker: WorkerId) -> Option<Worker>
+    pub fn place(&self, worker: WorkerId) -> Option<Place>
         ensures { result ≡ worker_at self.now.workers worker }
     {
         self.workers.get(worker.0 as usize).copied()
@@ -85,6 +85,6 @@ impl State {
     pub fn is_idle(&self, worker: WorkerId) -> bool
         ensures { result ≡ is_idle (worker_at self.now.workers worker) }
     {
-        matches!(self.place(worker), Some(Worker::Idle))
+        matches!(self.place(worker), Some(Place::Idle))
     }
 }

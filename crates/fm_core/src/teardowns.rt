@@ -10,19 +10,19 @@ use crate::state::State;
 use crate::workers::{complete_of, note_entering, put, query_of, start_of};
 use fm_ctx::Owner;
 use fm_types::{InstanceId, Status, WorkerId};
-use fm_world::Worker;
+use fm_world::Place;
 
-fn is_in_query(instance: InstanceId, place: Worker) -> bool
+fn is_in_query(instance: InstanceId, place: Place) -> bool
     ensures { result ≡ is_in_query instance.0 place }
 {
     match place {
-        Worker::Query(other) => other.0 == instance.0,
+        Place::Query(other) => other.0 == instance.0,
         _ => false,
     }
 }
 
 /// Whether a query of the instance runs.
-fn is_queried(instance: InstanceId, workers: &[Worker]) -> bool
+fn is_queried(instance: InstanceId, workers: &[Place]) -> bool
     ensures { result ≡ is_queried instance workers.now }
 {
     workers.iter().any(|place| is_in_query(instance, *place))
@@ -42,7 +42,7 @@ impl State {
         }
         let is_asked = is_queried(instance, &self.workers);
         let result = self.stack.may_ask_detach(instance, is_asked);
-        note_entering(&mut self.workers, worker, Worker::Query(instance), &result);
+        note_entering(&mut self.workers, worker, Place::Query(instance), &result);
         result
     }
 
@@ -59,7 +59,7 @@ impl State {
             return Err(Status::WrongStep);
         };
         self.contexts.leave(worker);
-        put(&mut self.workers, worker, Worker::Idle);
+        put(&mut self.workers, worker, Place::Idle);
         self.stack.query_returned(instance, allow)
     }
 
@@ -75,7 +75,7 @@ impl State {
             return Err(Status::WrongStep);
         }
         let result = self.stack.start_teardown(instance);
-        note_entering(&mut self.workers, worker, Worker::Start(instance), &result);
+        note_entering(&mut self.workers, worker, Place::Start(instance), &result);
         result
     }
 
@@ -91,7 +91,7 @@ impl State {
             return Err(Status::WrongStep);
         };
         self.contexts.leave(worker);
-        put(&mut self.workers, worker, Worker::Idle);
+        put(&mut self.workers, worker, Place::Idle);
         self.stack.start_returned(instance);
         Ok(())
     }
@@ -117,7 +117,7 @@ impl State {
         note_entering(
             &mut self.workers,
             worker,
-            Worker::Complete(instance),
+            Place::Complete(instance),
             &result,
         );
         result
@@ -137,7 +137,7 @@ impl State {
         self.contexts.leave(worker);
         self.stack.complete_returned(instance);
         self.contexts.unlink_owner(Owner::Instance(instance));
-        put(&mut self.workers, worker, Worker::Idle);
+        put(&mut self.workers, worker, Place::Idle);
         Ok(())
     }
 }

@@ -12,19 +12,19 @@ use crate::state::State;
 use crate::workers::{note_entering, put, unload_of};
 use fm_ctx::{Contexts, Owner};
 use fm_types::{FilterId, Status, WorkerId};
-use fm_world::Worker;
+use fm_world::Place;
 
-fn is_in_unload(filter: FilterId, place: Worker) -> bool
+fn is_in_unload(filter: FilterId, place: Place) -> bool
     ensures { result ≡ is_in_unload filter.0 place }
 {
     match place {
-        Worker::Unload(other) => other.0 == filter.0,
+        Place::Unload(other) => other.0 == filter.0,
         _ => false,
     }
 }
 
 /// Whether an unload callback of the filter runs.
-fn is_asked_to_unload(filter: FilterId, workers: &[Worker]) -> bool
+fn is_asked_to_unload(filter: FilterId, workers: &[Place]) -> bool
     ensures { result ≡ is_asked_to_unload filter workers.now }
 {
     workers.iter().any(|place| is_in_unload(filter, *place))
@@ -53,7 +53,7 @@ impl State {
         }
         let is_asked = is_asked_to_unload(filter, &self.workers);
         let result = self.stack.may_ask_unload(filter, is_asked);
-        note_entering(&mut self.workers, worker, Worker::Unload(filter), &result);
+        note_entering(&mut self.workers, worker, Place::Unload(filter), &result);
         result
     }
 
@@ -69,7 +69,7 @@ impl State {
         let Some(filter) = unload_of(self.place(worker)) else {
             return Err(Status::WrongStep);
         };
-        put(&mut self.workers, worker, Worker::Idle);
+        put(&mut self.workers, worker, Place::Idle);
         self.stack.unload_returned(filter, allow)
     }
 

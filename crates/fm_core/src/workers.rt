@@ -9,120 +9,120 @@ ghost use Rattle.fm_core.specs.Places.{setup_of, pre_of, base_of, post_of, drain
 use fm_ctx::Due;
 use fm_flow::FlowAction;
 use fm_types::{CtxId, FilterId, InstanceId, OpId, Status, WorkerId};
-use fm_world::Worker;
+use fm_world::Place;
 
 /// The instance whose setup callback it is.
-pub(crate) fn setup_of(place: Option<Worker>) -> Option<InstanceId>
+pub(crate) fn setup_of(place: Option<Place>) -> Option<InstanceId>
     ensures { result ≡ setup_of place }
 {
     match place? {
-        Worker::Setup(instance) => Some(instance),
+        Place::Setup(instance) => Some(instance),
         _ => None,
     }
 }
 
 /// The operation and the instance whose preoperation it is.
-pub(crate) fn pre_of(place: Option<Worker>) -> Option<(OpId, InstanceId)>
+pub(crate) fn pre_of(place: Option<Place>) -> Option<(OpId, InstanceId)>
     ensures { result ≡ pre_of place }
 {
     match place? {
-        Worker::Pre(operation, instance) => Some((operation, instance)),
+        Place::Pre(operation, instance) => Some((operation, instance)),
         _ => None,
     }
 }
 
 /// The operation whose base call it is.
-pub(crate) fn base_of(place: Option<Worker>) -> Option<OpId>
+pub(crate) fn base_of(place: Option<Place>) -> Option<OpId>
     ensures { result ≡ base_of place }
 {
     match place? {
-        Worker::Base(operation) => Some(operation),
+        Place::Base(operation) => Some(operation),
         _ => None,
     }
 }
 
 /// The operation and the instance whose postoperation it is.
-pub(crate) fn post_of(place: Option<Worker>) -> Option<(OpId, InstanceId)>
+pub(crate) fn post_of(place: Option<Place>) -> Option<(OpId, InstanceId)>
     ensures { result ≡ post_of place }
 {
     match place? {
-        Worker::Post(operation, instance) => Some((operation, instance)),
+        Place::Post(operation, instance) => Some((operation, instance)),
         _ => None,
     }
 }
 
 /// The operation and the instance whose drain it is.
-pub(crate) fn drain_of(place: Option<Worker>) -> Option<(OpId, InstanceId)>
+pub(crate) fn drain_of(place: Option<Place>) -> Option<(OpId, InstanceId)>
     ensures { result ≡ drain_of place }
 {
     match place? {
-        Worker::Drain(operation, instance) => Some((operation, instance)),
+        Place::Drain(operation, instance) => Some((operation, instance)),
         _ => None,
     }
 }
 
 /// The operation and the instance whose drain before its turn it is.
-pub(crate) fn early_drain_of(place: Option<Worker>) -> Option<(OpId, InstanceId)>
+pub(crate) fn early_drain_of(place: Option<Place>) -> Option<(OpId, InstanceId)>
     ensures { result ≡ early_drain_of place }
 {
     match place? {
-        Worker::EarlyDrain(operation, instance) => Some((operation, instance)),
+        Place::EarlyDrain(operation, instance) => Some((operation, instance)),
         _ => None,
     }
 }
 
 /// The instance that it is a query of.
-pub(crate) fn query_of(place: Option<Worker>) -> Option<InstanceId>
+pub(crate) fn query_of(place: Option<Place>) -> Option<InstanceId>
     ensures { result ≡ query_of place }
 {
     match place? {
-        Worker::Query(instance) => Some(instance),
+        Place::Query(instance) => Some(instance),
         _ => None,
     }
 }
 
 /// The instance whose teardown-start callback it is.
-pub(crate) fn start_of(place: Option<Worker>) -> Option<InstanceId>
+pub(crate) fn start_of(place: Option<Place>) -> Option<InstanceId>
     ensures { result ≡ start_of place }
 {
     match place? {
-        Worker::Start(instance) => Some(instance),
+        Place::Start(instance) => Some(instance),
         _ => None,
     }
 }
 
 /// The instance whose teardown-complete callback it is.
-pub(crate) fn complete_of(place: Option<Worker>) -> Option<InstanceId>
+pub(crate) fn complete_of(place: Option<Place>) -> Option<InstanceId>
     ensures { result ≡ complete_of place }
 {
     match place? {
-        Worker::Complete(instance) => Some(instance),
+        Place::Complete(instance) => Some(instance),
         _ => None,
     }
 }
 
 /// The filter whose unload callback it is.
-pub(crate) fn unload_of(place: Option<Worker>) -> Option<FilterId>
+pub(crate) fn unload_of(place: Option<Place>) -> Option<FilterId>
     ensures { result ≡ unload_of place }
 {
     match place? {
-        Worker::Unload(filter) => Some(filter),
+        Place::Unload(filter) => Some(filter),
         _ => None,
     }
 }
 
 /// The context whose cleanup callback it is.
-pub(crate) fn cleanup_of(place: Option<Worker>) -> Option<CtxId>
+pub(crate) fn cleanup_of(place: Option<Place>) -> Option<CtxId>
     ensures { result ≡ cleanup_in place }
 {
     match place? {
-        Worker::Cleanup(context) => Some(context),
+        Place::Cleanup(context) => Some(context),
         _ => None,
     }
 }
 
 /// Puts a worker somewhere; nothing happens where there is no such worker.
-pub(crate) fn put(workers: &mut [Worker], worker: WorkerId, place: Worker)
+pub(crate) fn put(workers: &mut [Place], worker: WorkerId, place: Place)
     ensures { workers.new ≡ put workers.old worker place }
 {
     let at = worker.0 as usize;
@@ -133,23 +133,23 @@ pub(crate) fn put(workers: &mut [Worker], worker: WorkerId, place: Worker)
 
 /// After an attach: where it succeeded, the worker is in the new instance's setup callback.
 pub(crate) fn note_attach(
-    workers: &mut [Worker],
+    workers: &mut [Place],
     worker: WorkerId,
     answer: &Result<InstanceId, Status>,
 )
     ensures { workers.new ≡ after_attach workers.old worker answer.now }
 {
     match answer {
-        Ok(instance) => put(workers, worker, Worker::Setup(*instance)),
+        Ok(instance) => put(workers, worker, Place::Setup(*instance)),
         Err(_) => {}
     }
 }
 
 /// After an event that begins a callback: where it succeeded, the worker is in it.
 pub(crate) fn note_entering(
-    workers: &mut [Worker],
+    workers: &mut [Place],
     worker: WorkerId,
-    place: Worker,
+    place: Place,
     answer: &Result<(), Status>,
 )
     ensures { workers.new ≡ after_entering workers.old worker place answer.now }
@@ -161,7 +161,7 @@ pub(crate) fn note_entering(
 
 /// After a `next`: the worker is inside the callback or the call that it was given, if it was.
 pub(crate) fn note_next(
-    workers: &mut [Worker],
+    workers: &mut [Place],
     worker: WorkerId,
     operation: OpId,
     action: &FlowAction,
@@ -169,24 +169,20 @@ pub(crate) fn note_next(
     ensures { workers.new ≡ after_next workers.old worker operation (Ok action.now) }
 {
     match action {
-        FlowAction::Pre(instance, _) => put(workers, worker, Worker::Pre(operation, *instance)),
-        FlowAction::Base(_) => put(workers, worker, Worker::Base(operation)),
-        FlowAction::Post(instance, _, _) => put(
-            workers,
-            worker,
-            Worker::Post(operation, *instance),
-        ),
-        FlowAction::Drain(instance, _) => put(workers, worker, Worker::Drain(operation, *instance)),
+        FlowAction::Pre(instance, _) => put(workers, worker, Place::Pre(operation, *instance)),
+        FlowAction::Base(_) => put(workers, worker, Place::Base(operation)),
+        FlowAction::Post(instance, _, _) => put(workers, worker, Place::Post(operation, *instance)),
+        FlowAction::Drain(instance, _) => put(workers, worker, Place::Drain(operation, *instance)),
         FlowAction::Moved | FlowAction::Held | FlowAction::Done => {}
     }
 }
 
 /// After a context was taken: the worker is in its cleanup callback.
-pub(crate) fn note_due(workers: &mut [Worker], worker: WorkerId, due: &Option<Due>)
+pub(crate) fn note_due(workers: &mut [Place], worker: WorkerId, due: &Option<Due>)
     ensures { workers.new ≡ after_due workers.old worker (option_map (λ (d : DueContext). d.id) due.now) }
 {
     match due {
-        Some(due) => put(workers, worker, Worker::Cleanup(due.id)),
+        Some(due) => put(workers, worker, Place::Cleanup(due.id)),
         None => {}
     }
 }

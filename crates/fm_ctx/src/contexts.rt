@@ -24,6 +24,7 @@ ghost use Rattle.fm_ctx.specs.Stored.{open_row};
 
 use crate::entry::Entry;
 use crate::hand::{self, Hand};
+use crate::left::Left;
 use crate::object::Object;
 use crate::owner::Owner;
 use crate::seat::Seat;
@@ -48,6 +49,8 @@ pub struct Contexts {
     due: VecDeque<CtxId>,
     cleaning: Vec<Option<CtxId>>,
     leaks: u64,
+    // Beside the hands, and in no contract.
+    left: Vec<Left>,
 }
 
 impl Model for Contexts {
@@ -124,6 +127,7 @@ impl Contexts {
             due: VecDeque::new(alloc),
             cleaning,
             leaks: 0,
+            left: vec![in alloc; Left::nothing(); WORKERS]?,
         })
     }
 
@@ -240,9 +244,30 @@ impl Contexts {
     }
 
     /// A callback of the worker returns: the references that are left in its hand are released, and
-    /// counted as leaks. It takes no memory.
-    #[tactic(auto, using(crate::proofs::Bags::first_held))]
+    /// counted as leaks; `left` tells them until its next callback has returned. It takes no memory.
     pub fn leave(&mut self, worker: WorkerId)
+        requires { worker.0 < 48 }
+        ensures table { Leaves (carried_of self.old) self.old.table self.new.table worker.0 }
+        ensures carried { self.new.carried ≡ self.old.carried }
+    {
+        self.note_left(worker);
+        self.release_left(worker);
+    }
+
+    // What is in the hand is noted.
+    fn note_left(&mut self, worker: WorkerId)
+        ensures { self.new ≡ self.old }
+    {
+        if let Some(hand) = self.hands.get(worker.0 as usize)
+            && let Some(left) = self.left.get_mut(worker.0 as usize)
+        {
+            left.note(hand);
+        }
+    }
+
+    // What is in the hand is released, and counted as leaks.
+    #[tactic(auto, using(crate::proofs::Bags::first_held))]
+    fn release_left(&mut self, worker: WorkerId)
         requires { worker.0 < 48 }
         ensures table { Leaves (carried_of self.old) self.old.table self.new.table worker.0 }
         ensures carried { self.new.carried ≡ self.old.carried }

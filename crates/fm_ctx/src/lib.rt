@@ -11,6 +11,7 @@ mod due;
 mod entry;
 mod generations;
 mod hand;
+mod left;
 mod object;
 mod owner;
 mod seat;

@@ -5,7 +5,7 @@ use Rattle.fm_flow.specs.declared.entry.Entry.{Entry}
 use Rattle.fm_flow.specs.declared.entry.Entry.TheVariants.{Drain}
 use Rattle.fm_world.specs.Words.{FlowRecord, OpId, Operation, StackWorld, WorkerId}
 use Rattle.fm_world.specs.World.{World}
-use Rattle.fm_world.specs.declared.worker.Worker.{Worker}
+use Rattle.fm_world.specs.declared.place.Place.{Place}
 
 -- the instance that an entry drains
 abbrev pub drain_of : Entry → Option ℕ
@@ -24,7 +24,7 @@ shape_of r = record { number = r.number; operation = r.operation; path = r.path;
 
 pub record Standing : Type 0 where
   pub stack : StackWorld
-  pub workers : List Worker
+  pub workers : List Place
   pub operations : List Shape
 
 abbrev pub standing_of : World → Standing

@@ -3,14 +3,14 @@ use Rattle.fm_local.proofs.Words.{◌≡◌, Answer, BaseCall, Bool, Completion,
 use Rattle.fm_local.proofs.Words.{Result, Some, Status, WorkerId, World, false, slice_get, suc, true, worker_at, zero, ℕ, ◌∙◌, ap, data_fits}
 use Rattle.fm_local.proofs.Words.{base_fits, post_returned_of, BaseReturnsAt, NextsAt, PostReturnsAt, PreReturnsAt, PreReturnsOver, ReturnsFrom}
 use Rattle.fm_local.proofs.Words.{Unless, base_returned, state_at, BaseReturns, Nexts, PostReturns, PreReturns, LosesLinks, told, after_next, is_idle}
-use Rattle.fm_local.proofs.Words.{put, Worker, Carries, Does}
+use Rattle.fm_local.proofs.Words.{put, Place, Carries, Does}
 use Rattle.std.specs.Prelude.{◌≢◌}
 use Rattle.fm_types.proofs.Lists.{slice_get-set_other}
 use Rattle.fm_world.specs.Events.{pre_step}
 use Rattle.fm_local.proofs.Events.{lost, by_links}
 
 -- the other workers are where they were
-abbrev pub Beside : WorkerId → List Worker → List Worker → Type 0
+abbrev pub Beside : WorkerId → List Place → List Place → Type 0
 Beside k old new = (j : ℕ) → j ≢ k.0 → slice_get new j ≡ slice_get old j
 
 -- and the next operation's number is what it was
@@ -19,10 +19,10 @@ pub record KeepsRest (k : WorkerId) (old new : World) : Type 0 where
   pub next : new.flow.next ≡ old.flow.next
 
 module _ (k : WorkerId) where
-  put_beside : (old new : List Worker) (a : Worker) → new ≡ put old k a → Beside k old new
+  put_beside : (old new : List Place) (a : Place) → new ≡ put old k a → Beside k old new
   put_beside old new a is j other = ap (λ ws. slice_get ws j) is ∙ slice_get-set_other old k.0 j a other
 
-  same_beside : (old new : List Worker) → new ≡ old → Beside k old new
+  same_beside : (old new : List Place) → new ≡ old → Beside k old new
   same_beside old new is j other = ap (λ ws. slice_get ws j) is
 
   world_beside : (old new : World) → new ≡ old → KeepsRest k old new
@@ -31,11 +31,11 @@ module _ (k : WorkerId) where
   after_one : (old new : World) → KeepsRest k old new → (last : World) → KeepsRest k new last → KeepsRest k old last
   after_one old new h last g = record { beside = λ j other. g.beside j other ∙ h.beside j other; next = g.next ∙ h.next }
 
-  after_beside : (o : OpId) (old new : List Worker) (reply : Result FlowAction Status) → new ≡ after_next old k o reply → Beside k old new
-  after_beside o old new (Ok (FlowAction.Pre i lent)) is = put_beside old new (Worker.Pre o i) is
-  after_beside o old new (Ok (FlowAction.Base call)) is = put_beside old new (Worker.Base o) is
-  after_beside o old new (Ok (FlowAction.Post i lent completion)) is = put_beside old new (Worker.Post o i) is
-  after_beside o old new (Ok (FlowAction.Drain i completion)) is = put_beside old new (Worker.Drain o i) is
+  after_beside : (o : OpId) (old new : List Place) (reply : Result FlowAction Status) → new ≡ after_next old k o reply → Beside k old new
+  after_beside o old new (Ok (FlowAction.Pre i lent)) is = put_beside old new (Place.Pre o i) is
+  after_beside o old new (Ok (FlowAction.Base call)) is = put_beside old new (Place.Base o) is
+  after_beside o old new (Ok (FlowAction.Post i lent completion)) is = put_beside old new (Place.Post o i) is
+  after_beside o old new (Ok (FlowAction.Drain i completion)) is = put_beside old new (Place.Drain o i) is
   after_beside o old new (Ok FlowAction.Moved) is = same_beside old new is
   after_beside o old new (Ok FlowAction.Held) is = same_beside old new is
   after_beside o old new (Ok FlowAction.Done) is = same_beside old new is
@@ -57,14 +57,14 @@ module _ (k : WorkerId) where
         next = ap (λ t. t.next) same.flow ∙ ap (λ (w : World). w.flow.next) at.3.1;
       }) h
 
-  pre_at : (given : PreVerdict) (lent : Data) (result : Result (Unit {0}) Status) (old new : World) (m : Option Worker) → PreReturnsAt old k given lent result new m → KeepsRest k old new
-  pre_at given lent result old new (Some (Worker.Pre o i)) h =
+  pre_at : (given : PreVerdict) (lent : Data) (result : Result (Unit {0}) Status) (old new : World) (m : Option Place) → PreReturnsAt old k given lent result new m → KeepsRest k old new
+  pre_at given lent result old new (Some (Place.Pre o i)) h =
       unless_beside Status.BadRequest (told (λ r. data_fits r.operation r.path lent) false o old.flow) result old new
       ((result ≡ Ok tt) × PreReturnsOver old k o (pre_step old k o i given lent) (state_at old k o i given) new)
       (λ over.
       let same = by_links over.1.0 new over.1.2 in
       record {
-        beside = put_beside old.workers new.workers Worker.Idle (same.workers ∙ ap (λ (w : World). w.workers) over.1.1.1);
+        beside = put_beside old.workers new.workers Place.Idle (same.workers ∙ ap (λ (w : World). w.workers) over.1.1.1);
         next = ap (λ t. t.next) same.flow ∙ ap (λ (w : World). w.flow.next) over.1.1.1;
       }) h
   pre_at given lent result old new _ h = world_beside old new h.1
@@ -73,25 +73,25 @@ module _ (k : WorkerId) where
   unfolding PreReturns
   pre_beside given lent result old new h = pre_at given lent result old new (worker_at old.workers k) h
 
-  base_at : (call : BaseCall) (answer : Answer) (result : Result (Unit {0}) Status) (old new : World) (m : Option Worker) → BaseReturnsAt old k call answer result new m → KeepsRest k old new
-  base_at call answer result old new (Some (Worker.Base o)) h =
+  base_at : (call : BaseCall) (answer : Answer) (result : Result (Unit {0}) Status) (old new : World) (m : Option Place) → BaseReturnsAt old k call answer result new m → KeepsRest k old new
+  base_at call answer result old new (Some (Place.Base o)) h =
       unless_beside Status.BadRequest (told (base_fits call answer) false o old.flow) result old new ((result ≡ Ok tt) × LosesLinks (base_returned old k o call answer) new)
       (λ over.
       let same = by_links (base_returned old k o call answer) new over.1 in
-      record { beside = put_beside old.workers new.workers Worker.Idle same.workers; next = ap (λ t. t.next) same.flow }) h
+      record { beside = put_beside old.workers new.workers Place.Idle same.workers; next = ap (λ t. t.next) same.flow }) h
   base_at call answer result old new _ h = world_beside old new h.1
 
   pub base_beside : (call : BaseCall) (answer : Answer) (result : Result (Unit {0}) Status) (old new : World) → BaseReturns old k call answer result new → KeepsRest k old new
   unfolding BaseReturns
   base_beside call answer result old new h = base_at call answer result old new (worker_at old.workers k) h
 
-  post_at : (given : PostVerdict) (lent : Data) (result : Result (Unit {0}) Status) (old new : World) (m : Option Worker) → PostReturnsAt old k given (Some lent) result new m
+  post_at : (given : PostVerdict) (lent : Data) (result : Result (Unit {0}) Status) (old new : World) (m : Option Place) → PostReturnsAt old k given (Some lent) result new m
       → KeepsRest k old new
-  post_at given lent result old new (Some (Worker.Post o i)) h =
+  post_at given lent result old new (Some (Place.Post o i)) h =
       unless_beside Status.BadRequest (told (λ r. data_fits r.operation r.path lent) false o old.flow) result old new
       ((result ≡ Ok tt) × ReturnsFrom old k o (post_returned_of given lent) old.contexts new)
       (λ over. record {
-        beside = put_beside old.workers new.workers Worker.Idle (ap (λ (w : World). w.workers) over.1.1);
+        beside = put_beside old.workers new.workers Place.Idle (ap (λ (w : World). w.workers) over.1.1);
         next = ap (λ (w : World). w.flow.next) over.1.1;
       }) h
   post_at given lent result old new _ h = world_beside old new h.1

@@ -3,7 +3,7 @@ use Rattle.fm_local.proofs.Words.{[], ◌∷◌, ◌≡◌, Answer, BaseCall, Bo
 use Rattle.fm_local.proofs.Words.{Operation, Option, Params, PostVerdict, PreVerdict, Result, Some, StackWorld, Status, VolumeId, WorkerId, World}
 use Rattle.fm_local.proofs.Words.{false, slice_get, suc, true, worker_at, zero, ℕ, ◌∙◌, ap, ap₂, cond, refl, subst, sym, ascend, call_base, call_post}
 use Rattle.fm_local.proofs.Words.{call_pre, descend, give_post, may_take, next_at, next_of, turn, unwound, Below, Ascending, step_keeps, Nexts}
-use Rattle.fm_local.proofs.Words.{IsSound, Ask, Descending, Stage, owed, Step, StepReply, Worker, IsPlainFilter, Subject, Under, chain_of, NoneStops}
+use Rattle.fm_local.proofs.Words.{IsSound, Ask, Descending, Stage, owed, Step, StepReply, Place, IsPlainFilter, Subject, Under, chain_of, NoneStops}
 use Rattle.fm_local.proofs.Words.{under, Carries, Does, Turns, Visits}
 use Rattle.fm_flow.specs.Steps.{Turned as Turn}
 use Rattle.fm_local.specs.Left.{LeftOf}
@@ -31,7 +31,7 @@ module _ {F D : Type 0} (pre_may : F → Data → PreVerdict → Data → Type 0
     pub record Ended (v : VolumeId) (born : ℕ) (operation : Operation) (r : FlowRecord) (old : World) (d : D) (new : World) (e : D) : Type 0 where
       pub last : FlowRecord
       pub alone : Alone o last new.flow
-      pub idle : worker_at new.workers k ≡ Some Worker.Idle
+      pub idle : worker_at new.workers k ≡ Some Place.Idle
       pub ascends : last.stage ≡ Ascending
       pub owes : owed last.entries ≡ []
       pub uncollected : last.collected ≡ false
@@ -59,7 +59,7 @@ module _ {F D : Type 0} (pre_may : F → Data → PreVerdict → Data → Type 0
       not_up ask true h = not_given ask (unwound ask.place r) (unwound ask.place r).params h
       not_up ask false h = cc
 
-      by_asks : (new : World) (e : D) → worker_at new.workers k ≡ Some Worker.Idle → new.stack ≡ s → IsSound new → under e new ≡ under d old → r.stage ≡ Ascending → (asks : List Ask) → owed r.entries ≡ asks
+      by_asks : (new : World) (e : D) → worker_at new.workers k ≡ Some Place.Idle → new.stack ≡ s → IsSound new → under e new ≡ under d old → r.stage ≡ Ascending → (asks : List Ask) → owed r.entries ≡ asks
           → Ok FlowAction.Done ≡ (ascend k false r (slice_get asks 0)).reply → Alone o (ascend k false r (slice_get asks 0)).after new.flow
           → Ended r.volume r.born r.operation r old d new e
       by_asks new e idle stack sound' ends st [] owes is alone = record {
@@ -76,7 +76,7 @@ module _ {F D : Type 0} (pre_may : F → Data → PreVerdict → Data → Type 0
       }
       by_asks new e idle stack sound' ends st (ask ∷ rest) owes is alone = absurd (not_up ask (may_take k ask) is)
 
-      by_stage : (new : World) (e : D) → worker_at new.workers k ≡ Some Worker.Idle → new.stack ≡ s → IsSound new → under e new ≡ under d old → (t : Stage) → r.stage ≡ t → is_between t ≡ true → (lies : Below)
+      by_stage : (new : World) (e : D) → worker_at new.workers k ≡ Some Place.Idle → new.stack ≡ s → IsSound new → under e new ≡ under d old → (t : Stage) → r.stage ≡ t → is_between t ≡ true → (lies : Below)
           → Ok FlowAction.Done ≡ (next_at k lies false r t).reply → Alone o (next_at k lies false r t).after new.flow → Ended r.volume r.born r.operation r old d new e
       by_stage new e idle stack sound' ends Descending st between lies is alone = absurd (not_down lies is)
       by_stage new e idle stack sound' ends Ascending st between lies is alone = by_asks new e idle stack sound' ends st (owed r.entries) refl is alone

@@ -6,7 +6,7 @@ use Rattle.fm_local.proofs.Words.{is_some, length-append, map, not, refl, subst,
 use Rattle.fm_local.proofs.Words.{sees, IsCourse, ascend, base_returned_of, call_base, call_of, call_post, call_pre, descend, give_post, lent_answer}
 use Rattle.fm_local.proofs.Words.{next_at, next_of, post_returned_of, pre_returned_of, turn, unwound, is_number, verdict_counted, Below}
 use Rattle.fm_local.proofs.Words.{Ascending, has_post, is_stopping_row, FileTable, IsSound, Ask, Descending, Entry, HandleId, PreState, Stage}
-use Rattle.fm_local.proofs.Words.{is_create, last_visited, owed, visited, after_next, put, Worker, IsPlainFilter, BaseMay, Subject, Under, chain_of}
+use Rattle.fm_local.proofs.Words.{is_create, last_visited, owed, visited, after_next, put, Place, IsPlainFilter, BaseMay, Subject, Under, chain_of}
 use Rattle.fm_local.proofs.Words.{filter_in, filter_in_row, known_answer, subject_of, Chain, ArePlain, NoneStops, under, Does, Turns, Visits}
 use Rattle.std.specs.Prelude.{IfSome}
 use Rattle.std.proofs.lemmas.List.{length-map}
@@ -47,7 +47,7 @@ pub record IsOn (x : Subject) (r : FlowRecord) : Type 0 where
 -- an operation that is on its way, alone, between two callbacks
 pub record IsGoing (k : WorkerId) (o : OpId) (x : Subject) (r : FlowRecord) (w : World) : Type 0 where
   pub alone : Alone o r w.flow
-  pub idle : worker_at w.workers k ≡ Some Worker.Idle
+  pub idle : worker_at w.workers k ≡ Some Place.Idle
   pub uncollected : r.collected ≡ false
   pub between : is_between r.stage ≡ true
   pub on : IsOn x r
@@ -119,7 +119,7 @@ module _ {F D : Type 0} (pre_may : F → Data → PreVerdict → Data → Type 0
     pub less : Leaves k (chain x) (Meets r) r next (under d old) (under e new)
 
   -- so it is where the turn only moved it
-  still_going : (next : FlowRecord) (mid new : World) → new ≡ mid → Alone o next mid.flow → worker_at mid.workers k ≡ Some Worker.Idle → next.collected ≡ false → is_between next.stage ≡ true
+  still_going : (next : FlowRecord) (mid new : World) → new ≡ mid → Alone o next mid.flow → worker_at mid.workers k ≡ Some Place.Idle → next.collected ≡ false → is_between next.stage ≡ true
       → IsOn x next → ArePlain k (length next.kept) (owed next.entries) → IsGoing k o x next new
   still_going next mid new same alone idle uncollected between on asks =
       subst (IsGoing k o x next) (sym same) (record { alone = alone; idle = idle; uncollected = uncollected; between = between; on = on; asks = asks })
@@ -236,7 +236,7 @@ module _ {F D : Type 0} (pre_may : F → Data → PreVerdict → Data → Type 0
               (left_completed (chain (subject_of r)) (Meets r) r p has (under d old) k i st course fresh going.asks meets given back (PreState.Completed why) (sym lies.1) same may counted why refl further.0 further.1)
           by_state _ counted plain left = absurd plain
 
-        visit_turn : (mid : World) → Alone o (call_pre k i r (Some p)).after mid.flow → worker_at mid.workers k ≡ Some (Worker.Pre o i) → mid.stack ≡ s → mid.files ≡ old.files
+        visit_turn : (mid : World) → Alone o (call_pre k i r (Some p)).after mid.flow → worker_at mid.workers k ≡ Some (Place.Pre o i) → mid.stack ≡ s → mid.files ≡ old.files
             → (new : World) (e : D) → Does pre_may post_may carries filters k o (Ok (FlowAction.Pre i (fresh_data p))) mid d new e → Turned r old d new e
         visit_turn mid alone worker stack files new e does =
             let given = does.0 in
@@ -251,7 +251,7 @@ module _ {F D : Type 0} (pre_may : F → Data → PreVerdict → Data → Type 0
             (subst (λ (f : FileTable). IsLeft k o (pre_returned_of (State s) back (call_pre k i r (Some p)).after) s (after_pre (State s) r.operation r.stream false f) new) files left')
 
       -- ---- an instance that is passed without a call
-      bare_turn : (i : InstanceId) → LiesBelow s r (Below.Instance i false) → (mid : World) → Alone o (with_visit k i bare_ask r) mid.flow → worker_at mid.workers k ≡ Some Worker.Idle
+      bare_turn : (i : InstanceId) → LiesBelow s r (Below.Instance i false) → (mid : World) → Alone o (with_visit k i bare_ask r) mid.flow → worker_at mid.workers k ≡ Some Place.Idle
           → mid.stack ≡ s → mid.files ≡ old.files → (new : World) (e : D) → new ≡ mid → e ≡ d → Turned r old d new e
       bare_turn i lies mid alone idle stack files new e same end_is =
           let next = with_visit k i bare_ask r in
@@ -270,7 +270,7 @@ module _ {F D : Type 0} (pre_may : F → Data → PreVerdict → Data → Type 0
 
       -- ---- the base
       module _ (lies : Visits s r.volume r.born r.operation (last_visited r.entries) []) where
-        base_turn : base_known old.files old.flow r ≡ None → (mid : World) → Alone o (call_base r (Some p)).after mid.flow → worker_at mid.workers k ≡ Some (Worker.Base o)
+        base_turn : base_known old.files old.flow r ≡ None → (mid : World) → Alone o (call_base r (Some p)).after mid.flow → worker_at mid.workers k ≡ Some (Place.Base o)
             → mid.stack ≡ s → mid.files ≡ old.files → (new : World) (e : D) → Does pre_may post_may carries filters k o (Ok (FlowAction.Base (call_of r p))) mid d new e → Turned r old d new e
         base_turn unknown mid alone worker stack files new e does =
             let answer = does.0 in
@@ -291,7 +291,7 @@ module _ {F D : Type 0} (pre_may : F → Data → PreVerdict → Data → Type 0
               less = of_subject next (under e new) less;
             }
 
-        known_turn : (why : Status) → base_known old.files old.flow r ≡ Some why → (mid : World) → Alone o (with_base (bare_answer why) r) mid.flow → worker_at mid.workers k ≡ Some Worker.Idle
+        known_turn : (why : Status) → base_known old.files old.flow r ≡ Some why → (mid : World) → Alone o (with_base (bare_answer why) r) mid.flow → worker_at mid.workers k ≡ Some Place.Idle
             → mid.stack ≡ s → mid.files ≡ filed_base old o mid.flow why → (new : World) (e : D) → new ≡ mid → e ≡ d → Turned r old d new e
         known_turn why knows mid alone idle stack files new e same end_is =
             let next = with_base (bare_answer why) r in
@@ -326,7 +326,7 @@ module _ {F D : Type 0} (pre_may : F → Data → PreVerdict → Data → Type 0
       saw_fits None at = fits
       saw_fits (Some q) at = all_at (λ v. fit r.operation r.path v ≡ true) r.kept ask.place q own.kept at
 
-      post_turn : (mid : World) → Alone o (call_post k ask r).after mid.flow → worker_at mid.workers k ≡ Some (Worker.Post o ask.instance) → mid.stack ≡ s → mid.files ≡ old.files
+      post_turn : (mid : World) → Alone o (call_post k ask r).after mid.flow → worker_at mid.workers k ≡ Some (Place.Post o ask.instance) → mid.stack ≡ s → mid.files ≡ old.files
           → (new : World) (e : D) → Does pre_may post_may carries filters k o (Ok (FlowAction.Post ask.instance (answered_data saw (lent_answer r.operation r.answer)) ask.completion)) mid d new e
           → Turned r old d new e
       post_turn mid alone worker stack files new e does =
@@ -372,24 +372,24 @@ module _ {F D : Type 0} (pre_may : F → Data → PreVerdict → Data → Type 0
       Done said = Does pre_may post_may carries filters k o said mid d new e
 
       -- the worker is where the answer of `next` brings it
-      brought : (said : Result FlowAction Status) (at : Worker) → reply ≡ said → after_next old.workers k o said ≡ put old.workers k at → worker_at mid.workers k ≡ Some at
-      brought said at is puts = ap (λ ws. worker_at ws k) (workers ∙ ap (after_next old.workers k o) is ∙ puts) ∙ placed old.workers k Worker.Idle at going.idle
+      brought : (said : Result FlowAction Status) (at : Place) → reply ≡ said → after_next old.workers k o said ≡ put old.workers k at → worker_at mid.workers k ≡ Some at
+      brought said at is puts = ap (λ ws. worker_at ws k) (workers ∙ ap (after_next old.workers k o) is ∙ puts) ∙ placed old.workers k Place.Idle at going.idle
 
-      rested : (said : Result FlowAction Status) → reply ≡ said → after_next old.workers k o said ≡ old.workers → worker_at mid.workers k ≡ Some Worker.Idle
+      rested : (said : Result FlowAction Status) → reply ≡ said → after_next old.workers k o said ≡ old.workers → worker_at mid.workers k ≡ Some Place.Idle
       rested said is same = ap (λ ws. worker_at ws k) (workers ∙ ap (after_next old.workers k o) is ∙ same) ∙ going.idle
 
       down_by : r.stage ≡ Descending → (lies : Below) → LiesBelow s r lies → AnswersBelow old.files old.flow r lies → reply ≡ (descend k lies r).reply
           → Alone o (descend k lies r).after mid.flow → mid.files ≡ filed_next old o mid.flow reply lies → Turned r old d new e
       down_by st (Below.Instance i true) found answers said alone files =
           let is : reply ≡ Ok (FlowAction.Pre i (fresh_data p)) = said ∙ ap (λ m. (call_pre k i r m).reply) has in
-          visit_turn st i found mid (subst (λ (m : Option Params). Alone o (call_pre k i r m).after mid.flow) has alone) (brought (Ok (FlowAction.Pre i (fresh_data p))) (Worker.Pre o i) is refl) stack
+          visit_turn st i found mid (subst (λ (m : Option Params). Alone o (call_pre k i r m).after mid.flow) has alone) (brought (Ok (FlowAction.Pre i (fresh_data p))) (Place.Pre o i) is refl) stack
           (files ∙ ap (λ a. filed_next old o mid.flow a (Below.Instance i true)) is) new e (subst Done is does)
       down_by st (Below.Instance i false) found answers said alone files =
           let moved : Done (Ok FlowAction.Moved) = subst Done said does in
           bare_turn st i found mid alone (rested (Ok FlowAction.Moved) said refl) stack (files ∙ ap (λ a. filed_next old o mid.flow a (Below.Instance i false)) said) new e moved.0 moved.1
       down_by st Below.Call found answers said alone files =
           let is : reply ≡ Ok (FlowAction.Base (call_of r p)) = said ∙ ap (λ m. (call_base r m).reply) has in
-          base_turn st found answers mid (subst (λ (m : Option Params). Alone o (call_base r m).after mid.flow) has alone) (brought (Ok (FlowAction.Base (call_of r p))) (Worker.Base o) is refl) stack
+          base_turn st found answers mid (subst (λ (m : Option Params). Alone o (call_base r m).after mid.flow) has alone) (brought (Ok (FlowAction.Base (call_of r p))) (Place.Base o) is refl) stack
           (files ∙ ap (λ a. filed_next old o mid.flow a Below.Call) is) new e (subst Done is does)
       down_by st (Below.Known why) found answers said alone files =
           let moved : Done (Ok FlowAction.Moved) = subst Done said does in
@@ -407,7 +407,7 @@ module _ {F D : Type 0} (pre_may : F → Data → PreVerdict → Data → Type 0
           said ∙ ap (λ b. (Is b).reply) takes ∙ ap (λ m. (give_post k ask (unwound ask.place r) m).reply) back.params
           ∙ ap₂ (λ a b. Ok (FlowAction.Post ask.instance (answered_data (saw st ask rest owes) (lent_answer a b)) ask.completion)) back.operation back.answer in
           let post = Ok (FlowAction.Post ask.instance (answered_data (saw st ask rest owes) (lent_answer r.operation r.answer)) ask.completion) in
-          post_turn st ask rest owes mid (subst (λ (b : Bool). Alone o (Is b).after mid.flow) takes alone) (brought post (Worker.Post o ask.instance) given refl) stack
+          post_turn st ask rest owes mid (subst (λ (b : Bool). Alone o (Is b).after mid.flow) takes alone) (brought post (Place.Post o ask.instance) given refl) stack
           (files ∙ ap (λ a. filed_next old o mid.flow a lies) given) new e (subst Done given does)
 
       by_stage : (t : Stage) → r.stage ≡ t → is_between t ≡ true → (lies : Below) → (t ≡ Descending → LiesBelow s r lies × AnswersBelow old.files old.flow r lies)

@@ -1,7 +1,7 @@
 -- What is due is cleaned up, and nothing is due then.
 use Rattle.fm_local.proofs.Words.{[], ◌∷◌, ◌≡◌, Bool, Err, List, None, Ok, Option, Result, Some, Status, WorkerId, World, false, length}
 use Rattle.fm_local.proofs.Words.{option_and_then, slice_get, suc, true, worker_at, ℕ, ◌<◌, ◌∙◌, ap, arith, drop, is_some, option_map, refl, subst}
-use Rattle.fm_local.proofs.Words.{sym, none-some, context_at, Unless, IsSound, ContextKind, CtxId, is_idle, Worker, HasNoneDue}
+use Rattle.fm_local.proofs.Words.{sym, none-some, context_at, Unless, IsSound, ContextKind, CtxId, is_idle, Place, HasNoneDue}
 use Rattle.fm_world.specs.Words.{Due}
 use Rattle.fm_ctx.proofs.Lives.{due_there}
 use Rattle.fm_ctx.specs.Cleanup.{due_of, due_reply}
@@ -30,8 +30,8 @@ module _ {F : Type 0} (may : F → ContextKind → List ℕ → ℕ → Type 0) 
       fewer : length old.contexts.due ≡ suc (length new.contexts.due)
       fewer =
           let (c, at) = took old k (Ok (Some due)) mid sound takes in
-          let in_cleanup = ap (λ ws. worker_at ws k) at.workers ∙ placed old.workers k Worker.Idle (Worker.Cleanup c) at.idle in
-          let event : CleansAt mid k number cleaned new (Some (Worker.Cleanup c)) = subst (CleansAt mid k number cleaned new) in_cleanup cleans in
+          let in_cleanup = ap (λ ws. worker_at ws k) at.workers ∙ placed old.workers k Place.Idle (Place.Cleanup c) at.idle in
+          let event : CleansAt mid k number cleaned new (Some (Place.Cleanup c)) = subst (CleansAt mid k number cleaned new) in_cleanup cleans in
           one_less old.contexts.due c at.first ∙ ap (λ xs. suc (length xs)) (sym (ap (λ (w : World). w.contexts.due) event.1 ∙ at.due))
 
   -- where the worker is idle and is told of none, none is due

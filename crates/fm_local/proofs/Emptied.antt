@@ -2,7 +2,7 @@
 use Rattle.fm_local.proofs.Words.{[], ◌∷◌, ◌≡◌, Bool, Err, Instance, InstanceId, List, None, Ok, Option, Result, Some, StackWorld, Status, WorkerId}
 use Rattle.fm_local.proofs.Words.{World, false, option_and_then, slice_get, suc, true, zero, ℕ, ◌+◌, ◌==◌, ◌||◌, ◌∙◌, IsOk, ap, ap₂, arith, cond}
 use Rattle.fm_local.proofs.Words.{count_by, eq-eqb, inl, inr, nat_lt, not, option_map, refl, subst, sym, none-some, same_Some, list_any, StartMark}
-use Rattle.fm_local.proofs.Words.{context_at, Finishes, is_stopping_phase, is_stopping_row, IsSound, CtxId, Phase, updated, is_idle, Worker}
+use Rattle.fm_local.proofs.Words.{context_at, Finishes, is_stopping_phase, is_stopping_row, IsSound, CtxId, Phase, updated, is_idle, Place}
 use Rattle.fm_local.proofs.Words.{is_leaving, is_leaving_phase, HasNoneDue, CompletesQuietly, StartsQuietly, IsAtRest, Tidies}
 use Rattle.std.specs.Prelude.{slice_index_or}
 use Rattle.fm_types.specs.Refusals.{first_of}
@@ -106,7 +106,7 @@ module _ (k : WorkerId) (i : InstanceId) where
 -- ---- nothing is left of the instance
 
 module _ (k : WorkerId) (i : InstanceId) (w : World) (sound : IsSound w) (rests : IsAtRest k w) (none : w.contexts.due ≡ []) where
-  idle_cleans : (m : Option Worker) (j : ℕ) → slice_get w.workers j ≡ m → cleanup_in m ≡ None
+  idle_cleans : (m : Option Place) (j : ℕ) → slice_get w.workers j ≡ m → cleanup_in m ≡ None
   idle_cleans None j at = refl
   idle_cleans (Some a) j at = ap (λ b. cleanup_in (Some b)) (rests.all j a at)
 

@@ -1,7 +1,7 @@
 -- What each event leaves of the operations that nobody is inside of: they stay so, and those that ended stay ended, but for the operation of a `next` and the
 -- one whose answer is handed out.
 use Rattle.fm_local.proofs.Words.{[], ◌∷◌, ◌≡◌, ◌⊎◌, inl, inr, Answer, Ask, BaseCall, Below, Bool, Completion, Data, Err, FileHandle, FileStream, FlowAction, FlowRecord, FlowTable}
-use Rattle.fm_local.proofs.Words.{InstanceId, List, None, Ok, OpId, Option, PostVerdict, PreVerdict, Request, Result, Some, Stage, Status, Worker, WorkerId, World}
+use Rattle.fm_local.proofs.Words.{InstanceId, List, None, Ok, OpId, Option, PostVerdict, PreVerdict, Request, Result, Some, Stage, Status, Place, WorkerId, World}
 use Rattle.fm_local.proofs.Words.{◌&&◌, ◌==◌, ◌∙◌, ap, arith, changed, cond, false, find, not, operation_at, option_map, owed, refl, slice_get, subst, sym, true, unwrap_or, worker_at}
 use Rattle.fm_local.proofs.Words.{BaseReturns, BaseReturnsAt, Begins, Collects, DrainsWhere, LosesLinks, Nexts, PostReturns, PostReturnsAt, PreReturns, PreReturnsAt, TakesDrain}
 use Rattle.fm_local.proofs.Words.{after_begin, ascend, begun_at, begun_on, drains_at, handle_at, is_stopping_at, next_at, next_of, params_of, row_at, state_at, stream_at, turn, IsSound, PreReturnsOver, ReturnsFrom, base_returned, post_returned_of}
@@ -158,8 +158,8 @@ module _ (p : OpId) (old : World) where
     unfolding PreReturns
     pre_ends given lent h = by_worker (worker_at old.workers k) refl h
       where
-        by_worker : (m : Option Worker) → worker_at old.workers k ≡ m → PreReturnsAt old k given lent result new m → Keeps p old new
-        by_worker (Some (Worker.Pre o i)) at h =
+        by_worker : (m : Option Place) → worker_at old.workers k ≡ m → PreReturnsAt old k given lent result new m → Keeps p old new
+        by_worker (Some (Place.Pre o i)) at h =
             let x = inside_pre old k o i at sound.under_way in
             unless_by (After (Unit {0})) Status.BadRequest _ result old new ((result ≡ Ok tt) × PreReturnsOver old k o (pre_step old k o i given lent) (state_at old k o i given) new) h refused (λ fits event.
             let over : PreReturnsOver old k o (pre_step old k o i given lent) (state_at old k o i given) new = event.1 in
@@ -171,8 +171,8 @@ module _ (p : OpId) (old : World) where
     unfolding BaseReturns
     base_ends call answer h = by_worker (worker_at old.workers k) refl h
       where
-        by_worker : (m : Option Worker) → worker_at old.workers k ≡ m → BaseReturnsAt old k call answer result new m → Keeps p old new
-        by_worker (Some (Worker.Base o)) at h =
+        by_worker : (m : Option Place) → worker_at old.workers k ≡ m → BaseReturnsAt old k call answer result new m → Keeps p old new
+        by_worker (Some (Place.Base o)) at h =
             let x = inside_base old k o at sound.under_way in
             unless_by (After (Unit {0})) Status.BadRequest _ result old new ((result ≡ Ok tt) × LosesLinks (base_returned old k o call answer) new) h refused (λ fits event.
             by_flow new (changed o (base_step old call answer) old.flow) (by_links (base_returned old k o call answer) new event.1).flow
@@ -183,18 +183,18 @@ module _ (p : OpId) (old : World) where
     unfolding PostReturns
     post_ends given lent h = by_worker lent (worker_at old.workers k) refl h
       where
-        by_worker : (lent : Option Data) (m : Option Worker) → worker_at old.workers k ≡ m → PostReturnsAt old k given lent result new m → Keeps p old new
-        by_worker (Some lent) (Some (Worker.Post o i)) at h =
+        by_worker : (lent : Option Data) (m : Option Place) → worker_at old.workers k ≡ m → PostReturnsAt old k given lent result new m → Keeps p old new
+        by_worker (Some lent) (Some (Place.Post o i)) at h =
             let x = inside_post old k o i at sound.under_way in
             unless_by (After (Unit {0})) Status.BadRequest _ result old new ((result ≡ Ok tt) × ReturnsFrom old k o (post_returned_of given lent) old.contexts new) h refused (λ fits event.
             by_flow new (changed o (post_returned_of given lent) old.flow) (ap flow_of event.1.1)
             (busy_changed p o x.0.row (post_returned_of given lent) old.flow x.0.at (busy_at Stage.PostRunning x.0.row x.1 refl) (λ r. refl)))
-        by_worker None (Some (Worker.Drain o i)) at h =
+        by_worker None (Some (Place.Drain o i)) at h =
             let x = inside_drain old k o i at sound.under_way in
             by_flow new _ (ap flow_of h.1.1)
             (busy_changed p o x.0.row _ old.flow x.0.at (busy_at (Stage.InDrain i) x.0.row x.1 refl) (λ r. refl))
-        by_worker None (Some (Worker.Post o i)) at h = refused_by (After (Unit {0})) Status.BadRequest result old new h refused
-        by_worker (Some lent) (Some (Worker.Drain o i)) at h = refused_by (After (Unit {0})) Status.BadRequest result old new h refused
+        by_worker None (Some (Place.Post o i)) at h = refused_by (After (Unit {0})) Status.BadRequest result old new h refused
+        by_worker (Some lent) (Some (Place.Drain o i)) at h = refused_by (After (Unit {0})) Status.BadRequest result old new h refused
         by_worker _ _ at h = refused_by (After (Unit {0})) Status.WrongStep result old new h refused
 
     -- ---- an operation that a filter holds goes on
@@ -251,8 +251,8 @@ module _ (p : OpId) (old : World) where
           (λ spent. spent_removed p o r old.flow at (first r.collected _ spent))
           (λ needed. alike_changed p o r (early_over i) old.flow at (λ x. refl) (λ l. l) (λ ended. ap (λ asks. not r.collected && done_at r.stage asks) (owed_over i r) ∙ ended))
 
-      by_worker : (m : Option Worker) → DrainReturnsAt old k result new m → Keeps p old new
-      by_worker (Some (Worker.EarlyDrain o i)) h = by_flow new _ (ap flow_of h.2) (over o i (operation_at o old.flow) refl)
+      by_worker : (m : Option Place) → DrainReturnsAt old k result new m → Keeps p old new
+      by_worker (Some (Place.EarlyDrain o i)) h = by_flow new _ (ap flow_of h.2) (over o i (operation_at o old.flow) refl)
       by_worker _ h = by_same p old.flow new.flow (ap flow_of h.1)
 
   -- ---- an answer is handed out

@@ -4,7 +4,7 @@ use Rattle.fm_local.proofs.Words.{PreVerdict, Result, Some, StackWorld, Status, 
 use Rattle.fm_local.proofs.Words.{ap, refl, subst, sym, data_fits, base_fits, base_returned_of, next_of, post_returned_of, pre_returned_of}
 use Rattle.fm_local.proofs.Words.{verdict_counted, Below, BaseReturnsAt, NextsAt, PostReturnsAt, PreReturnsAt, PreReturnsOver, ReturnsFrom, Unless}
 use Rattle.fm_local.proofs.Words.{base_returned, drains_at, has_post, state_at, BaseReturns, Nexts, PostReturns, PreReturns, FileTable, LosesLinks}
-use Rattle.fm_local.proofs.Words.{CtxId, Descending, FlowTable, PreState, changed, is_create, after_next, is_idle, put, Worker}
+use Rattle.fm_local.proofs.Words.{CtxId, Descending, FlowTable, PreState, changed, is_create, after_next, is_idle, put, Place}
 use Rattle.std.proofs.lemmas.Option.{slice_get_within}
 use Rattle.fm_types.proofs.Lists.{slice_get-set_same}
 use Rattle.fm_flow.proofs.Next.{next_stays}
@@ -43,7 +43,7 @@ lost (Ok FlowAction.Moved) (Below.Known why) old new h = by_links old new h
 lost reply lies old new h = by_same old new h
 
 -- a worker that was there is where it was put
-pub placed : (workers : List Worker) (k : WorkerId) (was is : Worker) → worker_at workers k ≡ Some was → worker_at (put workers k is) k ≡ Some is
+pub placed : (workers : List Place) (k : WorkerId) (was is : Place) → worker_at workers k ≡ Some was → worker_at (put workers k is) k ≡ Some is
 placed workers k was is there = slice_get-set_same workers k.0 is (slice_get_within workers k.0 was there)
 
 -- a verdict that sends no context along counts as it was given
@@ -74,12 +74,12 @@ and_none false = refl
 -- the operation as it is after a turn, with an idle worker, the stack and the files
 pub record IsLeft (k : WorkerId) (o : OpId) (s : FlowRecord) (stack : StackWorld) (files : FileTable) (new : World) : Type 0 where
   pub alone : Alone o s new.flow
-  pub idle : worker_at new.workers k ≡ Some Worker.Idle
+  pub idle : worker_at new.workers k ≡ Some Place.Idle
   pub stays : new.stack ≡ stack
   pub filed : new.files ≡ files
 
 module _ (old : World) (k : WorkerId) (o : OpId) (r : FlowRecord) (alone : Alone o r old.flow) where
-  pub next_leaves : (reply : Result FlowAction Status) (new : World) → worker_at old.workers k ≡ Some Worker.Idle → drains_next old.stack r ≡ false → Nexts old k o reply new
+  pub next_leaves : (reply : Result FlowAction Status) (new : World) → worker_at old.workers k ≡ Some Place.Idle → drains_next old.stack r ≡ false → Nexts old k o reply new
       → Nexted old k o r reply new
   unfolding Nexts
   next_leaves reply new idle calm h =
@@ -114,7 +114,7 @@ module _ (old : World) (k : WorkerId) (o : OpId) (r : FlowRecord) (alone : Alone
       (none_created o (pre_returned_of (PreState.Completed why) lent r) t there (and_none (is_create r.operation)) r.stream)
   pre_files given lent t there = refl
 
-  pub pre_leaves : (i : InstanceId) (given : PreVerdict) (lent : Data) (result : Result (Unit {0}) Status) (new : World) → worker_at old.workers k ≡ Some (Worker.Pre o i)
+  pub pre_leaves : (i : InstanceId) (given : PreVerdict) (lent : Data) (result : Result (Unit {0}) Status) (new : World) → worker_at old.workers k ≡ Some (Place.Pre o i)
       → data_fits r.operation r.path lent ≡ true → IsPlainPre given → PreReturns old k given lent result new
       → let state = verdict_counted given r.operation (has_post old.stack (slice_get old.stack.instances i.0) r.operation) in
       IsLeft k o (pre_returned_of state lent r) old.stack (after_pre state r.operation r.stream false old.files) new
@@ -124,7 +124,7 @@ module _ (old : World) (k : WorkerId) (o : OpId) (r : FlowRecord) (alone : Alone
       let is : state_at old k o i given ≡ state =
       told_alone o r old.flow alone (state_given old.stack (hand_of old.contexts.hands k.0) i given) PreState.Passed
       ∙ ap (λ v. verdict_counted v r.operation (has_post old.stack (slice_get old.stack.instances i.0) r.operation)) (plain_of_hand (hand_of old.contexts.hands k.0) given plain) in
-      let here : PreReturnsAt old k given lent result new (Some (Worker.Pre o i)) = subst (PreReturnsAt old k given lent result new) at h in
+      let here : PreReturnsAt old k given lent result new (Some (Place.Pre o i)) = subst (PreReturnsAt old k given lent result new) at h in
       let fitting = told_alone o r old.flow alone (λ x. data_fits x.operation x.path lent) false ∙ fits in
       let Over : PreState → Type 0 = λ s. PreReturnsOver old k o (pre_returned_of s lent) s new in
       let ends = subst (λ (b : Bool). Unless Status.BadRequest b result old new ((result ≡ Ok tt) × Over (state_at old k o i given))) fitting here in
@@ -135,7 +135,7 @@ module _ (old : World) (k : WorkerId) (o : OpId) (r : FlowRecord) (alone : Alone
       let same = by_links over.0 new over.2 in
       record {
         alone = subst (Alone o (pre_returned_of state lent r)) (sym (same.flow ∙ ap (λ (w : World). w.flow) made)) there;
-        idle = ap (λ ws. worker_at ws k) (same.workers ∙ ap (λ (w : World). w.workers) made) ∙ placed old.workers k (Worker.Pre o i) Worker.Idle at;
+        idle = ap (λ ws. worker_at ws k) (same.workers ∙ ap (λ (w : World). w.workers) made) ∙ placed old.workers k (Place.Pre o i) Place.Idle at;
         stays = same.stack ∙ ap (λ (w : World). w.stack) made;
         filed = same.files ∙ ap (λ (w : World). w.files) made
             ∙ told_alone o r old.flow alone (λ x. after_pre state x.operation x.stream (is_created_on x.stream t) old.files) old.files ∙ pre_files state lent t there;
@@ -143,12 +143,12 @@ module _ (old : World) (k : WorkerId) (o : OpId) (r : FlowRecord) (alone : Alone
 
   -- ---- the base answers
 
-  pub base_leaves : (call : BaseCall) (answer : Answer) (result : Result (Unit {0}) Status) (new : World) → worker_at old.workers k ≡ Some (Worker.Base o)
+  pub base_leaves : (call : BaseCall) (answer : Answer) (result : Result (Unit {0}) Status) (new : World) → worker_at old.workers k ≡ Some (Place.Base o)
       → base_fits call answer r ≡ true → BaseReturns old k call answer result new
       → IsLeft k o (base_returned_of call answer (record { 0 = old.files.next }) r) old.stack (after_base r.operation r.stream r.handle answer.status false old.files) new
   unfolding BaseReturns
   base_leaves call answer result new at fits h =
-      let here : BaseReturnsAt old k call answer result new (Some (Worker.Base o)) = subst (BaseReturnsAt old k call answer result new) at h in
+      let here : BaseReturnsAt old k call answer result new (Some (Place.Base o)) = subst (BaseReturnsAt old k call answer result new) at h in
       let fitting = told_alone o r old.flow alone (base_fits call answer) false ∙ fits in
       let ends = subst (λ (b : Bool). Unless Status.BadRequest b result old new ((result ≡ Ok tt) × LosesLinks (base_returned old k o call answer) new)) fitting here in
       let s = base_returned_of call answer (record { 0 = old.files.next }) r in
@@ -157,7 +157,7 @@ module _ (old : World) (k : WorkerId) (o : OpId) (r : FlowRecord) (alone : Alone
       let same = by_links (base_returned old k o call answer) new ends.1 in
       record {
         alone = subst (Alone o s) (sym same.flow) there;
-        idle = ap (λ ws. worker_at ws k) same.workers ∙ placed old.workers k (Worker.Base o) Worker.Idle at;
+        idle = ap (λ ws. worker_at ws k) same.workers ∙ placed old.workers k (Place.Base o) Place.Idle at;
         stays = same.stack;
         filed = same.files ∙ told_alone o r old.flow alone (filed_record old.files t answer.status) old.files
             ∙ ap (λ b. after_base r.operation r.stream r.handle answer.status b old.files) (none_created o s t there (and_none (is_create r.operation)) r.stream);
@@ -165,17 +165,17 @@ module _ (old : World) (k : WorkerId) (o : OpId) (r : FlowRecord) (alone : Alone
 
   -- ---- a postoperation returns
 
-  pub post_leaves : (i : InstanceId) (given : PostVerdict) (lent : Data) (result : Result (Unit {0}) Status) (new : World) → worker_at old.workers k ≡ Some (Worker.Post o i)
+  pub post_leaves : (i : InstanceId) (given : PostVerdict) (lent : Data) (result : Result (Unit {0}) Status) (new : World) → worker_at old.workers k ≡ Some (Place.Post o i)
       → data_fits r.operation r.path lent ≡ true → PostReturns old k given (Some lent) result new → IsLeft k o (post_returned_of given lent r) old.stack old.files new
   unfolding PostReturns
   post_leaves i given lent result new at fits h =
-      let here : PostReturnsAt old k given (Some lent) result new (Some (Worker.Post o i)) = subst (PostReturnsAt old k given (Some lent) result new) at h in
+      let here : PostReturnsAt old k given (Some lent) result new (Some (Place.Post o i)) = subst (PostReturnsAt old k given (Some lent) result new) at h in
       let fitting = told_alone o r old.flow alone (λ x. data_fits x.operation x.path lent) false ∙ fits in
       let ends = subst (λ (b : Bool). Unless Status.BadRequest b result old new ((result ≡ Ok tt) × ReturnsFrom old k o (post_returned_of given lent) old.contexts new)) fitting here in
       let made = ends.1.1 in
       record {
         alone = subst (Alone o (post_returned_of given lent r)) (sym (ap (λ (w : World). w.flow) made)) (changed_alone o r old.flow alone (post_returned_of given lent) refl);
-        idle = ap (λ (w : World). worker_at w.workers k) made ∙ placed old.workers k (Worker.Post o i) Worker.Idle at;
+        idle = ap (λ (w : World). worker_at w.workers k) made ∙ placed old.workers k (Place.Post o i) Place.Idle at;
         stays = ap (λ (w : World). w.stack) made;
         filed = ap (λ (w : World). w.files) made;
       }

@@ -4,7 +4,7 @@ use Rattle.fm_local.proofs.Words.{StackWorld, Status, WorkerId, World, false, sl
 use Rattle.fm_local.proofs.Words.{count_by, find, inl, inr, nat_lt, not, option_map, refl, subst, sym, true≢false, unwrap_or, none-some, StartMark}
 use Rattle.fm_local.proofs.Words.{is_number, DrainsWhere, is_stopping_at, TakesDrain, Unless, is_stopping_phase, is_stopping_row, row_at, IsSound}
 use Rattle.fm_local.proofs.Words.{AsksDetach, CompleteReturns, CompletesTeardown, StartReturns, StartsTeardown, FlowTable, Phase, operation_at, told}
-use Rattle.fm_local.proofs.Words.{updated, is_idle, put, Worker, is_leaving, is_leaving_phase, CompletesQuietly, StartsQuietly, TearsDownQuietly}
+use Rattle.fm_local.proofs.Words.{updated, is_idle, put, Place, is_leaving, is_leaving_phase, CompletesQuietly, StartsQuietly, TearsDownQuietly}
 use Rattle.fm_local.proofs.Words.{IsAtRest, Tidies}
 use Rattle.fm_types.specs.Refusals.{first_of}
 use Rattle.fm_stack.specs.Detaching as stack
@@ -28,22 +28,22 @@ module _ (k : WorkerId) (i : InstanceId) where
     pub undisturbed : Undisturbed old new
     pub fewer : (j : ℕ) → stops new.stack j ≡ true → (stops old.stack j ≡ true) ⊎ (j ≡ i.0)
 
-  module _ (old : World) (idle : worker_at old.workers k ≡ Some Worker.Idle) where
-    asked_at : (asked : World) → AsksDetach old k i (Ok tt) asked → asked ≡ record old { workers = put old.workers k (Worker.Query i) }
+  module _ (old : World) (idle : worker_at old.workers k ≡ Some Place.Idle) where
+    asked_at : (asked : World) → AsksDetach old k i (Ok tt) asked → asked ≡ record old { workers = put old.workers k (Place.Query i) }
     unfolding AsksDetach
     asked_at asked h = (happened old k tt asked _ h).1
 
-    module _ (asked : World) (asks : asked ≡ record old { workers = put old.workers k (Worker.Query i) }) (back : World) (allows : Bool) (ended : Result (Unit {0}) Status)
+    module _ (asked : World) (asks : asked ≡ record old { workers = put old.workers k (Place.Query i) }) (back : World) (allows : Bool) (ended : Result (Unit {0}) Status)
         (returns : QueryReturns asked k allows ended back) where
-      enters : asked.workers ≡ put old.workers k (Worker.Query i)
+      enters : asked.workers ≡ put old.workers k (Place.Query i)
       enters = ap (λ (w : World). w.workers) asks
 
-      query_at : QueryReturnsAt asked k allows ended back (Some (Worker.Query i))
+      query_at : QueryReturnsAt asked k allows ended back (Some (Place.Query i))
       unfolding QueryReturns
-      query_at = subst (QueryReturnsAt asked k allows ended back) (is_in k old asked (Worker.Query i) idle enters) returns
+      query_at = subst (QueryReturnsAt asked k allows ended back) (is_in k old asked (Place.Query i) idle enters) returns
 
       queried : Undisturbed old back
-      queried = through k old asked back (Worker.Query i) idle asks query_at.2
+      queried = through k old asked back (Place.Query i) idle asks query_at.2
 
     queried_stack : (s : StackWorld) (allows : Bool) (t : StackWorld) → stack.QueryReturns s i allows (Ok tt) t → t ≡ stack.stopped s i
     unfolding stack.QueryReturns
@@ -108,17 +108,17 @@ module _ (k : WorkerId) (i : InstanceId) where
       refused_same (Unit {0}) old k why new _ h (λ event. event.1 ∙ ap (λ (s : StackWorld). record old { stack = s }) event.0.1)
 
   starting_at : (old started : World) → StartsTeardown old k i (Ok tt) started
-      → started ≡ record old { stack = stack.starting old.stack i; workers = put old.workers k (Worker.Start i) }
+      → started ≡ record old { stack = stack.starting old.stack i; workers = put old.workers k (Place.Start i) }
   unfolding StartsTeardown stack.StartsTeardown
   starting_at old started h =
       let event = happened old k tt started _ h in
-      event.1 ∙ ap (λ (s : StackWorld). record old { stack = s; workers = put old.workers k (Worker.Start i) }) event.0.1
+      event.1 ∙ ap (λ (s : StackWorld). record old { stack = s; workers = put old.workers k (Place.Start i) }) event.0.1
 
-  module _ (old : World) (idle : worker_at old.workers k ≡ Some Worker.Idle) (started : World) (starts : StartsTeardown old k i (Ok tt) started) where
-    from_start : worker_at started.workers k ≡ Some (Worker.Start i)
-    from_start = is_in k old started (Worker.Start i) idle (ap (λ (w : World). w.workers) (starting_at old started starts))
+  module _ (old : World) (idle : worker_at old.workers k ≡ Some Place.Idle) (started : World) (starts : StartsTeardown old k i (Ok tt) started) where
+    from_start : worker_at started.workers k ≡ Some (Place.Start i)
+    from_start = is_in k old started (Place.Start i) idle (ap (λ (w : World). w.workers) (starting_at old started starts))
 
-    start_at : (back : World) → StartReturns started k (Ok tt) back → StartReturnsAt started k (Ok tt) back (Some (Worker.Start i))
+    start_at : (back : World) → StartReturns started k (Ok tt) back → StartReturnsAt started k (Ok tt) back (Some (Place.Start i))
     unfolding StartReturns
     start_at back h = subst (StartReturnsAt started k (Ok tt) back) from_start h
 
@@ -131,7 +131,7 @@ module _ (k : WorkerId) (i : InstanceId) where
 
     start_leaves : (back new : World) → StartReturns started k (Ok tt) back → Tidies back new → CalmAfter old new
     start_leaves back new returns tidies =
-        let over = through k old started back (Worker.Start i) idle (starting_at old started starts) (start_at back returns).2 in
+        let over = through k old started back (Place.Start i) idle (starting_at old started starts) (start_at back returns).2 in
         record {
           undisturbed = both old back new over (by_tidying back new tidies);
           fewer = λ j h.
@@ -164,7 +164,7 @@ module _ (k : WorkerId) (i : InstanceId) where
   none_out m h = grind arith
 
   module _ (w : World) (sound : IsSound w) (rests : IsAtRest k w) (row : Instance) (there : slice_get w.stack.instances i.0 ≡ Some row) where
-    none_at : (d : Desk) → is_at d i.0 Worker.Idle ≡ false → least_at d row ≤ 0
+    none_at : (d : Desk) → is_at d i.0 Place.Idle ≡ false → least_at d row ≤ 0
     none_at d not =
         let staffed : IsStaffed d (Some row) (count_by (is_at d i.0) w.workers) =
         subst (λ (m : Option Instance). IsStaffed d m (count_by (is_at d i.0) w.workers)) there (sound.under_way.desks d i.0) in
@@ -183,7 +183,7 @@ module _ (k : WorkerId) (i : InstanceId) where
   unfolding StartsTeardown stack.StartsTeardown
   start_refusal old why new rests h =
       (subst (λ (b : Bool). Unless {T = Unit {0}} Status.WrongStep b (Err why) old new
-      (stack.StartsTeardown old.stack i (Err why) new.stack × (new ≡ record old { stack = new.stack; workers = after_entering old.workers k (Worker.Start i) (Err why) })))
+      (stack.StartsTeardown old.stack i (Err why) new.stack × (new ≡ record old { stack = new.stack; workers = after_entering old.workers k (Place.Start i) (Err why) })))
       (ap is_idle rests.idle) h).0.0
 
   pub was_told : (old new : World) → IsSound old → IsAtRest k old → StartsQuietly k i old new → WasTold i new.stack
@@ -202,7 +202,7 @@ module _ (k : WorkerId) (i : InstanceId) where
       subst (λ (s : StackWorld). passes stack.is_to_complete (slice_get s.instances i.0) ≡ true) (sym is)
       (told_row (updated (stack.with_start StartMark.Made) old.stack.instances i.0) i.0 (subst (λ (s : StackWorld). stops s i.0 ≡ true) is stopping))
 
-  pub starts_leaves : (old new : World) → worker_at old.workers k ≡ Some Worker.Idle → StartsQuietly k i old new → CalmAfter old new
+  pub starts_leaves : (old new : World) → worker_at old.workers k ≡ Some Place.Idle → StartsQuietly k i old new → CalmAfter old new
   starts_leaves old new idle (inl (why, h)) = calm_same old new (start_refused old why new h)
   starts_leaves old new idle (inr (started, back, starts, returns, tidies)) = start_leaves old idle started starts back new returns tidies
 
@@ -227,23 +227,23 @@ module _ (k : WorkerId) (i : InstanceId) where
       let event =
       subst (λ (b : Bool). Unless {T = Unit {0}} Status.WrongStep b (Err why) old new
       (stack.CompletesTeardown old.stack i (is_queried i old.workers) (in_flight i.0 old.flow) (Err why) new.stack
-      × (new ≡ record old { stack = new.stack; workers = after_entering old.workers k (Worker.Complete i) (Err why) })))
+      × (new ≡ record old { stack = new.stack; workers = after_entering old.workers k (Place.Complete i) (Err why) })))
       (ap is_idle rests.idle) h in
       none-some why (sym (complete_refusals (slice_get old.stack.instances i.0) (is_queried i old.workers) (in_flight i.0 old.flow) (was stopping)
       (none_in (is_in_query i.0) refl old.workers rests.all) (none_flies old.flow rests.operations)) ∙ event.0.0)
 
   completing_at : (old completing : World) → CompletesTeardown old k i (Ok tt) completing
-      → completing ≡ record old { stack = stack.completing old.stack i; workers = put old.workers k (Worker.Complete i) }
+      → completing ≡ record old { stack = stack.completing old.stack i; workers = put old.workers k (Place.Complete i) }
   unfolding CompletesTeardown stack.CompletesTeardown
   completing_at old completing h =
       let event = happened old k tt completing _ h in
-      event.1 ∙ ap (λ (s : StackWorld). record old { stack = s; workers = put old.workers k (Worker.Complete i) }) event.0.1
+      event.1 ∙ ap (λ (s : StackWorld). record old { stack = s; workers = put old.workers k (Place.Complete i) }) event.0.1
 
-  module _ (old : World) (idle : worker_at old.workers k ≡ Some Worker.Idle) (completing : World) (completes : CompletesTeardown old k i (Ok tt) completing) where
-    from_complete : worker_at completing.workers k ≡ Some (Worker.Complete i)
-    from_complete = is_in k old completing (Worker.Complete i) idle (ap (λ (w : World). w.workers) (completing_at old completing completes))
+  module _ (old : World) (idle : worker_at old.workers k ≡ Some Place.Idle) (completing : World) (completes : CompletesTeardown old k i (Ok tt) completing) where
+    from_complete : worker_at completing.workers k ≡ Some (Place.Complete i)
+    from_complete = is_in k old completing (Place.Complete i) idle (ap (λ (w : World). w.workers) (completing_at old completing completes))
 
-    complete_at : (back : World) → CompleteReturns completing k (Ok tt) back → CompleteReturnsAt completing k (Ok tt) back (Some (Worker.Complete i))
+    complete_at : (back : World) → CompleteReturns completing k (Ok tt) back → CompleteReturnsAt completing k (Ok tt) back (Some (Place.Complete i))
     unfolding CompleteReturns
     complete_at back h = subst (CompleteReturnsAt completing k (Ok tt) back) from_complete h
 
@@ -253,7 +253,7 @@ module _ (k : WorkerId) (i : InstanceId) where
 
     complete_leaves : (back new : World) → CompleteReturns completing k (Ok tt) back → Tidies back new → CalmAfter old new × (stops new.stack i.0 ≡ false)
     complete_leaves back new returns tidies =
-        let over = through k old completing back (Worker.Complete i) idle (completing_at old completing completes) (complete_at back returns).4 in
+        let over = through k old completing back (Place.Complete i) idle (completing_at old completing completes) (complete_at back returns).4 in
         let is = complete_stack back new returns tidies in (
           record {
             undisturbed = both old back new over (by_tidying back new tidies);
@@ -265,7 +265,7 @@ module _ (k : WorkerId) (i : InstanceId) where
           ap (λ (s : StackWorld). stops s i.0) is ∙ goes (stack.in_phase Phase.Emptying) (λ row. refl) (updated (stack.in_phase Phase.Completing) old.stack.instances i.0) i.0,
         )
 
-  pub completes_leaves : (old new : World) → worker_at old.workers k ≡ Some Worker.Idle → CompletesQuietly k i old new → CalmAfter old new × (stops new.stack i.0 ≡ false)
+  pub completes_leaves : (old new : World) → worker_at old.workers k ≡ Some Place.Idle → CompletesQuietly k i old new → CalmAfter old new × (stops new.stack i.0 ≡ false)
   completes_leaves old new idle (inl (not, same)) = (calm_same old new same, ap (λ (w : World). stops w.stack i.0) same ∙ not)
   completes_leaves old new idle (inr (completing, back, completes, returns, tidies)) = complete_leaves old idle completing completes back new returns tidies
 

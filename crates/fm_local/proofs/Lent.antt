@@ -3,7 +3,7 @@ use Rattle.fm_local.proofs.Words.{⊤, ◌≡◌, Bool, Err, FlowAction, FlowRec
 use Rattle.fm_local.proofs.Words.{WorkerId, World, false, slice_get, true, worker_at, ◌==◌, ◌∙◌, ap, cond, option_map, refl, subst, sym, unwrap_or}
 use Rattle.fm_local.proofs.Words.{call_fits, fit, ascend, call_base, call_post, call_pre, descend, give_post, may_take, next_at, next_of, is_number}
 use Rattle.fm_local.proofs.Words.{Below, NextsAt, Unless, drains_at, Nexts, IsSound, Ask, FlowTable, Stage, changed, operation_at, owed, told}
-use Rattle.fm_local.proofs.Words.{after_next, is_idle, Worker}
+use Rattle.fm_local.proofs.Words.{after_next, is_idle, Place}
 use Rattle.std.specs.Prelude.{IfSome}
 use Rattle.fm_types.proofs.Firsts.{find_changed, found_holds}
 use Rattle.fm_types.proofs.Lists.{all_at}
@@ -85,18 +85,18 @@ module _ (k : WorkerId) (o : OpId) where
   sent : (old new : World) (said : Result FlowAction Status) → IsOut k old → new.workers ≡ after_next old.workers k o said → (r : FlowRecord) → operation_at o new.flow ≡ Some r → Fits said r
       → IsLent k o said new
   sent old new (Ok (FlowAction.Pre i lent)) out goes r there fits = (
-    ap (λ ws. worker_at ws k) goes ∙ placed old.workers k Worker.Idle (Worker.Pre o i) out,
+    ap (λ ws. worker_at ws k) goes ∙ placed old.workers k Place.Idle (Place.Pre o i) out,
     told_now (λ r. fit r.operation r.path lent.received) false new.flow r there ∙ fits,
   )
   sent old new (Ok (FlowAction.Base call)) out goes r there fits = (
-    ap (λ ws. worker_at ws k) goes ∙ placed old.workers k Worker.Idle (Worker.Base o) out,
+    ap (λ ws. worker_at ws k) goes ∙ placed old.workers k Place.Idle (Place.Base o) out,
     told_now (λ r. call_fits r.operation r.volume r.path call) false new.flow r there ∙ fits,
   )
   sent old new (Ok (FlowAction.Post i lent completion)) out goes r there fits = (
-    ap (λ ws. worker_at ws k) goes ∙ placed old.workers k Worker.Idle (Worker.Post o i) out,
+    ap (λ ws. worker_at ws k) goes ∙ placed old.workers k Place.Idle (Place.Post o i) out,
     told_now (λ r. fit r.operation r.path lent.received) false new.flow r there ∙ fits,
   )
-  sent old new (Ok (FlowAction.Drain i completion)) out goes r there fits = ap (λ ws. worker_at ws k) goes ∙ placed old.workers k Worker.Idle (Worker.Drain o i) out
+  sent old new (Ok (FlowAction.Drain i completion)) out goes r there fits = ap (λ ws. worker_at ws k) goes ∙ placed old.workers k Place.Idle (Place.Drain o i) out
   sent old new (Ok FlowAction.Moved) out goes r there fits = ap (λ ws. worker_at ws k) goes ∙ out
   sent old new (Ok FlowAction.Held) out goes r there fits = ap (λ ws. worker_at ws k) goes ∙ out
   sent old new (Ok FlowAction.Done) out goes r there fits = ap (λ ws. worker_at ws k) goes ∙ out

@@ -2,7 +2,7 @@
 use Rattle.fm_local.proofs.Words.{◌≡◌, Answer, Bool, Err, FilterId, InstanceId, List, Ok, OpId, Result, Some, StackWorld, Status, VolumeId, WorkerId}
 use Rattle.fm_local.proofs.Words.{World, worker_at, ℕ, ◌∙◌, IsOk, ap, refl, subst, sym, Registration, Request, idle_by, Finishes, Attaches, Begins}
 use Rattle.fm_local.proofs.Words.{Collects, Mounts, Registers, UnloadReturnsAt, AsksDetach, AsksUnload, CompletesTeardown, EmptiesFilter}
-use Rattle.fm_local.proofs.Words.{FinishesFilter, StartsTeardown, UnloadReturns, is_idle, put, Worker, HasNoneDue}
+use Rattle.fm_local.proofs.Words.{FinishesFilter, StartsTeardown, UnloadReturns, is_idle, put, Place, HasNoneDue}
 use Rattle.std.specs.Prelude.{IfErr}
 use Rattle.fm_world.specs.World.{empty_world}
 use Rattle.fm_local.specs.Calls.{EndsTidily, UnloadsWith}
@@ -70,13 +70,13 @@ module _ (k : WorkerId) where
 
   -- ---- a filter is asked whether it may be unloaded, which leaves no reference
 
-  entered : (old asked : World) (f : FilterId) → AsksUnload old k f (Ok tt) asked → asked ≡ record old { workers = put old.workers k (Worker.Unload f) }
+  entered : (old asked : World) (f : FilterId) → AsksUnload old k f (Ok tt) asked → asked ≡ record old { workers = put old.workers k (Place.Unload f) }
   unfolding AsksUnload
   entered old asked f h = (happened old k tt asked _ h).1
 
-  was_idle : (old asked : World) (f : FilterId) → AsksUnload old k f (Ok tt) asked → worker_at old.workers k ≡ Some Worker.Idle
+  was_idle : (old asked : World) (f : FilterId) → AsksUnload old k f (Ok tt) asked → worker_at old.workers k ≡ Some Place.Idle
   unfolding AsksUnload
-  was_idle old asked f h = idle_by (λ result new. IsOk result → worker_at old.workers k ≡ Some Worker.Idle) k (Ok tt) old asked _ h (λ why ok. cc) (λ idle event ok. idle) refl
+  was_idle old asked f h = idle_by (λ result new. IsOk result → worker_at old.workers k ≡ Some Place.Idle) k (Ok tt) old asked _ h (λ why ok. cc) (λ idle event ok. idle) refl
 
   none_unload : (old asked : World) (f : FilterId) (allows : Bool) (ended : Result (Unit {0}) Status) (new : World) → AsksUnload old k f (Ok tt) asked → UnloadReturns asked k allows ended new
       → LeavesNoneDue k old new
@@ -85,8 +85,8 @@ module _ (k : WorkerId) where
       let from = entered old asked f asks in
       let idle = was_idle old asked f asks in
       let enters = ap (λ (w : World). w.workers) from in
-      let at = subst (UnloadReturnsAt asked k allows ended new) (is_in k old asked (Worker.Unload f) idle enters) returns in
-      none_still old new (is_out k old asked new (Worker.Unload f) idle enters (ap (λ (w : World). w.workers) at.1)) (ap (λ (w : World). w.contexts) at.1 ∙ ap (λ (w : World). w.contexts) from)
+      let at = subst (UnloadReturnsAt asked k allows ended new) (is_in k old asked (Place.Unload f) idle enters) returns in
+      none_still old new (is_out k old asked new (Place.Unload f) idle enters (ap (λ (w : World). w.workers) at.1)) (ap (λ (w : World). w.contexts) at.1 ∙ ap (λ (w : World). w.contexts) from)
 
   pub none_refused : (old : World) (f : FilterId) (why : Status) (new : World) → AsksUnload old k f (Err why) new → LeavesNoneDue k old new
   none_refused old f why new h = none_same old new (ask_unload_refused old k f why new h)

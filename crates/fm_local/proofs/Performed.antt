@@ -4,7 +4,7 @@ use Rattle.fm_local.proofs.Words.{PostVerdict, PreVerdict, Result, Some, Status,
 use Rattle.fm_local.proofs.Words.{ℕ, ◌&&◌, ◌∙◌, ap, ap₂, arith, cond, count_by, inl, inr, not, refl, subst, sym, nat_tests, same_Some, list_any}
 use Rattle.fm_local.proofs.Words.{params_of, Request, is_number, Ascending, step_keeps, after_begin, begin_refused, begun_at, begun_on, Begins}
 use Rattle.fm_local.proofs.Words.{Collects, FileTable, handle_at, stream_at, IsSound, Entry, FlowTable, HandleId, changed, owed, FileHandle}
-use Rattle.fm_local.proofs.Words.{FileStream, Step, StepReply, Worker, IsPlainFilter, Under, subject_of, IsAtRest, NoneStops, under, Carries}
+use Rattle.fm_local.proofs.Words.{FileStream, Step, StepReply, Place, IsPlainFilter, Under, subject_of, IsAtRest, NoneStops, under, Carries}
 use Rattle.std.proofs.lemmas.Bool.{cases_eq}
 use Rattle.fm_types.proofs.Firsts.{count-cons}
 use Rattle.fm_types.specs.Refusals.{IsRefusalOrMemory}
@@ -77,7 +77,7 @@ none_runs (Base why information ∷ es) none = none_runs es (λ i. omega (arith,
 none_runs (Post visit ∷ es) none = none_runs es (λ i. omega (arith, none i))
 
 -- idle workers are counted by no test that an idle one doesn't pass
-none_counted : (p : Worker → Bool) → p Worker.Idle ≡ false → (ws : List Worker) → ((j : ℕ) (a : Worker) → slice_get ws j ≡ Some a → a ≡ Worker.Idle) → count_by p ws ≡ 0
+none_counted : (p : Place → Bool) → p Place.Idle ≡ false → (ws : List Place) → ((j : ℕ) (a : Place) → slice_get ws j ≡ Some a → a ≡ Place.Idle) → count_by p ws ≡ 0
 none_counted p idle [] all = refl
 none_counted p idle (a ∷ ws) all =
     let here : p a ≡ false = ap p (all 0 a refl) ∙ idle in
@@ -166,9 +166,9 @@ module _ {F D : Type 0} (pre_may : F → Data → PreVerdict → Data → Type 0
       keeps : KeepsRest k begun done
       keeps = carries_beside k pre_may post_may carries filters o n begun d done e carries_it
 
-      all_idle : (j : ℕ) (a : Worker) → slice_get done.workers j ≡ Some a → a ≡ Worker.Idle
+      all_idle : (j : ℕ) (a : Place) → slice_get done.workers j ≡ Some a → a ≡ Place.Idle
       all_idle j a at = elim (cases_eq j k.0) [
-        | inl own ↦ same_Some a Worker.Idle (sym at ∙ ap (slice_get done.workers) own ∙ ended.idle)
+        | inl own ↦ same_Some a Place.Idle (sym at ∙ ap (slice_get done.workers) own ∙ ended.idle)
         | inr other ↦ rest.all j a (ap (λ ws. slice_get ws j) (sym start.workers) ∙ sym (keeps.beside j other) ∙ at)
       ]
 

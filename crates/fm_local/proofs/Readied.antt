@@ -2,7 +2,7 @@
 use Rattle.fm_local.proofs.Words.{[], ◌≡◌, Bool, Completion, Data, Err, FilterId, Folder, InstanceId, List, LocalManager, None, Ok, Option}
 use Rattle.fm_local.proofs.Words.{PostVerdict, PreVerdict, Result, Some, Status, VolumeId, WorkerId, World, option_and_then, slice_get, suc, true}
 use Rattle.fm_local.proofs.Words.{worker_at, zero, ℕ, ◌&&◌, ◌+◌, ◌∙◌, IsOk, ap, arith, inr, option_map, refl, subst, sym, none-some, same_Some}
-use Rattle.fm_local.proofs.Words.{Attaches, IsSound, AsksDetach, Worker, IsPlainFilter, ArePlainFilters, IsReady, is_leaving, is_to_go, numbered}
+use Rattle.fm_local.proofs.Words.{Attaches, IsSound, AsksDetach, Place, IsPlainFilter, ArePlainFilters, IsReady, is_leaving, is_to_go, numbered}
 use Rattle.fm_local.proofs.Words.{StartsQuietly, TearsDownFirst, TearsDownQuietly, IsAtRest, NoneStops, Tidies, Filters}
 use Rattle.std.specs.Prelude.{replicate}
 use Rattle.fm_world.specs.World.{empty_world}
@@ -60,9 +60,9 @@ module _ {F B : Type 0} {pre : F → Data → PreVerdict → Data → Type 0} {p
 
 -- ---- the numbers of filters, and workers that are new
 
-all_idle : (n j : ℕ) (a : Worker) → slice_get (replicate n Worker.Idle) j ≡ Some a → a ≡ Worker.Idle
+all_idle : (n j : ℕ) (a : Place) → slice_get (replicate n Place.Idle) j ≡ Some a → a ≡ Place.Idle
 all_idle zero j a at = absurd (none-some a at)
-all_idle (suc n) zero a at = sym (same_Some Worker.Idle a at)
+all_idle (suc n) zero a at = sym (same_Some Place.Idle a at)
 all_idle (suc n) (suc j) a at = all_idle n j a at
 
 no_place : (m n : ℕ) → option_and_then (λ (place : Option ℕ). place) (slice_get (replicate m None) n) ≡ None
@@ -98,7 +98,7 @@ module _ {F B : Type 0} {pre : F → Data → PreVerdict → Data → Type 0} {p
 
   -- ---- new, load and mount
 
-  pub new_ready : (m : LocalManager F B) → worker_at empty_world.workers k ≡ Some Worker.Idle → m.desk.state ≡ empty_world → m.filters.loaded ≡ replicate 16 None → m.desk.resumed.items.items ≡ [] → IsReady pre post is_quiet folder faults k m
+  pub new_ready : (m : LocalManager F B) → worker_at empty_world.workers k ≡ Some Place.Idle → m.desk.state ≡ empty_world → m.filters.loaded ≡ replicate 16 None → m.desk.resumed.items.items ≡ [] → IsReady pre post is_quiet folder faults k m
   new_ready m idle empty none settled = record {
     plain = λ n f there. absurd (none_loaded m.filters none n f there);
     rests = subst (IsAtRest k) (sym empty) (record { operations = refl; idle = idle; all = λ j a at. all_idle 48 j a at });

@@ -2,7 +2,7 @@
 use Rattle.fm_local.proofs.Words.{[], ◌∷◌, ◌≡◌, ◌⊎◌, Bool, Err, FilterId, Instance, InstanceId, List, Ok, Result, Some, StackWorld, Status, VolumeId}
 use Rattle.fm_local.proofs.Words.{WorkerId, World, false, slice_get, suc, true, worker_at, zero, ℕ, ◌++◌, ◌||◌, ◌∙◌, ap, ap₂, arith, count_by, inl}
 use Rattle.fm_local.proofs.Words.{inr, refl, subst, sym, list_any, Registration, Finishes, Unless, is_stopping_phase, is_stopping_row, Attaches}
-use Rattle.fm_local.proofs.Words.{Mounts, Registers, AsksDetach, AsksUnload, CompletesTeardown, updated, is_idle, put, Worker, IsAtRest, NoneStops}
+use Rattle.fm_local.proofs.Words.{Mounts, Registers, AsksDetach, AsksUnload, CompletesTeardown, updated, is_idle, put, Place, IsAtRest, NoneStops}
 use Rattle.fm_local.proofs.Words.{Tidies}
 use Rattle.fm_stack.specs.Detaching as stack
 use Rattle.fm_stack.specs.Events as setting
@@ -61,14 +61,14 @@ one_more x not (y ∷ rows) (suc j) h = one_more x not rows j h
 
 -- ---- workers that are all idle
 
-idle_tail : (a : Worker) (ws : List Worker) → ((j : ℕ) (b : Worker) → slice_get (a ∷ ws) j ≡ Some b → b ≡ Worker.Idle) → (j : ℕ) (b : Worker) → slice_get ws j ≡ Some b → b ≡ Worker.Idle
+idle_tail : (a : Place) (ws : List Place) → ((j : ℕ) (b : Place) → slice_get (a ∷ ws) j ≡ Some b → b ≡ Place.Idle) → (j : ℕ) (b : Place) → slice_get ws j ≡ Some b → b ≡ Place.Idle
 idle_tail a ws all j b at = all (suc j) b at
 
-pub none_in : (p : Worker → Bool) → p Worker.Idle ≡ false → (ws : List Worker) → ((j : ℕ) (b : Worker) → slice_get ws j ≡ Some b → b ≡ Worker.Idle) → list_any p ws ≡ false
+pub none_in : (p : Place → Bool) → p Place.Idle ≡ false → (ws : List Place) → ((j : ℕ) (b : Place) → slice_get ws j ≡ Some b → b ≡ Place.Idle) → list_any p ws ≡ false
 none_in p not [] all = refl
 none_in p not (a ∷ ws) all = ap₂ (λ x y. x || y) (ap p (all zero a refl) ∙ not) (none_in p not ws (idle_tail a ws all))
 
-pub no_count : (p : Worker → Bool) → p Worker.Idle ≡ false → (ws : List Worker) → ((j : ℕ) (b : Worker) → slice_get ws j ≡ Some b → b ≡ Worker.Idle) → count_by p ws ≡ 0
+pub no_count : (p : Place → Bool) → p Place.Idle ≡ false → (ws : List Place) → ((j : ℕ) (b : Place) → slice_get ws j ≡ Some b → b ≡ Place.Idle) → count_by p ws ≡ 0
 no_count p not ws all = none_any p ws (none_in p not ws all)
 
 -- ---- what a call leaves of all but instances and contexts
@@ -153,16 +153,16 @@ calm_finished old i (Ok done) new h = calm_by old new h.1 (stays_fewer setting.f
 
 module _ (k : WorkerId) where
   -- a worker that enters a place, and leaves it
-  pub is_in : (old began : World) (a : Worker) → worker_at old.workers k ≡ Some Worker.Idle → began.workers ≡ put old.workers k a → worker_at began.workers k ≡ Some a
-  is_in old began a idle enters = ap (λ ws. worker_at ws k) enters ∙ placed old.workers k Worker.Idle a idle
+  pub is_in : (old began : World) (a : Place) → worker_at old.workers k ≡ Some Place.Idle → began.workers ≡ put old.workers k a → worker_at began.workers k ≡ Some a
+  is_in old began a idle enters = ap (λ ws. worker_at ws k) enters ∙ placed old.workers k Place.Idle a idle
 
-  pub is_out : (old began back : World) (a : Worker) → worker_at old.workers k ≡ Some Worker.Idle → began.workers ≡ put old.workers k a → back.workers ≡ put began.workers k Worker.Idle
+  pub is_out : (old began back : World) (a : Place) → worker_at old.workers k ≡ Some Place.Idle → began.workers ≡ put old.workers k a → back.workers ≡ put began.workers k Place.Idle
       → back.workers ≡ old.workers
-  is_out old began back a idle enters leaves = leaves ∙ ap (λ ws. put ws k Worker.Idle) enters ∙ set_back old.workers k.0 Worker.Idle a idle
+  is_out old began back a idle enters leaves = leaves ∙ ap (λ ws. put ws k Place.Idle) enters ∙ set_back old.workers k.0 Place.Idle a idle
 
   -- inside, and behind it, nothing changes but instances and contexts
-  pub through : {s t : StackWorld} {c : ContextTable} (old began back : World) (a : Worker) → worker_at old.workers k ≡ Some Worker.Idle
-      → began ≡ record old { stack = s; workers = put old.workers k a } → back ≡ record began { stack = t; workers = put began.workers k Worker.Idle; contexts = c } → Undisturbed old back
+  pub through : {s t : StackWorld} {c : ContextTable} (old began back : World) (a : Place) → worker_at old.workers k ≡ Some Place.Idle
+      → began ≡ record old { stack = s; workers = put old.workers k a } → back ≡ record began { stack = t; workers = put began.workers k Place.Idle; contexts = c } → Undisturbed old back
   through old began back a idle enters leaves = record {
     flow = ap (λ (w : World). w.flow) leaves ∙ ap (λ (w : World). w.flow) enters;
     workers = is_out old began back a idle (ap (λ (w : World). w.workers) enters) (ap (λ (w : World). w.workers) leaves);
@@ -170,16 +170,16 @@ module _ (k : WorkerId) where
   }
 
   -- an instance is attached and set up
-  module _ (i : InstanceId) (old : World) (idle : worker_at old.workers k ≡ Some Worker.Idle) where
+  module _ (i : InstanceId) (old : World) (idle : worker_at old.workers k ≡ Some Place.Idle) where
     set_up : (f : FilterId) (v : VolumeId) (name altitude : List ℕ) (born : World) (accepts : Bool) (ended : Result (Unit {0}) Status) (set : World)
         → Attaches old k f v name altitude (Ok i) born → SetsUp born k accepts ended set → CalmAfter old set
     unfolding Attaches SetsUp setting.Attaches setting.SetsUp
     set_up f v name altitude born accepts ended set attaches sets =
         let event = happened old k i born _ attaches in
-        let at : SetsUpAt born k accepts ended set (Some (Worker.Setup i)) =
-        subst (SetsUpAt born k accepts ended set) (is_in old born (Worker.Setup i) idle (ap (λ (w : World). w.workers) event.1)) sets in
+        let at : SetsUpAt born k accepts ended set (Some (Place.Setup i)) =
+        subst (SetsUpAt born k accepts ended set) (is_in old born (Place.Setup i) idle (ap (λ (w : World). w.workers) event.1)) sets in
         record {
-          undisturbed = through old born set (Worker.Setup i) idle event.1 at.4;
+          undisturbed = through old born set (Place.Setup i) idle event.1 at.4;
           fewer = λ j s. joined f v name altitude born event.0 j (by_end born accepts ended set at.0 j s);
         }
       where

@@ -1,6 +1,6 @@
 -- How a manager's operations go on waiting, over the events that it makes and the callbacks that it runs.
 use Rattle.fm_local.proofs.Words.{[], ◌∷◌, ◌≡◌, ◌⊎◌, Answer, Ask, Below, Bool, Err, FlowAction, FlowRecord, FlowTable, InstanceId, List, None, Ok, OpId, Option, Params, Request, Result, Some}
-use Rattle.fm_local.proofs.Words.{Stage, Status, Turn, Worker, WorkerId, World, ap, ascend, call_post, cond, drop, false, give_post, inl, inr, may_take, next_at, next_of, not, operation_at, option_map}
+use Rattle.fm_local.proofs.Words.{Stage, Status, Turn, Place, WorkerId, World, ap, ascend, call_post, cond, drop, false, give_post, inl, inr, may_take, next_at, next_of, not, operation_at, option_map}
 use Rattle.fm_local.proofs.Words.{owed, refl, same_Some, slice_get, subst, sym, told, true, turn, unwound, unwrap_or, ◌&&◌, ◌++◌, ◌∙◌, Begins, Collects, IsSound, Nexts, NextsAt, drains_at, idle_by, is_idle, worker_at, Unless}
 use Rattle.fm_flow.specs.Steps.{done_at}
 use Rattle.fm_flow.specs.Table.{is_collectable}
@@ -40,13 +40,13 @@ busy : (w : World) (o : OpId) (r : FlowRecord) (s : Stage) → operation_at o w.
 busy w o r s at stage between = ap (λ m. unwrap_or (option_map is_loose m) false) at ∙ busy_at s r stage between
 
 module _ (w : World) (k : WorkerId) (o : OpId) (i : InstanceId) (resumed ended : List OpId) (sound : IsSound w) where
-  pub pre_apart : IsIn k (Worker.Pre o i) w → Wait w.flow resumed ended → (is_among o resumed ≡ false) × (is_among o ended ≡ false)
+  pub pre_apart : IsIn k (Place.Pre o i) w → Wait w.flow resumed ended → (is_among o resumed ≡ false) × (is_among o ended ≡ false)
   pre_apart there h = let x = inside_pre w k o i there sound.under_way in busy_apart w.flow resumed ended o (busy w o x.0.row Stage.PreRunning x.0.at x.1 refl) h
 
-  pub post_apart : IsIn k (Worker.Post o i) w → Wait w.flow resumed ended → (is_among o resumed ≡ false) × (is_among o ended ≡ false)
+  pub post_apart : IsIn k (Place.Post o i) w → Wait w.flow resumed ended → (is_among o resumed ≡ false) × (is_among o ended ≡ false)
   post_apart there h = let x = inside_post w k o i there sound.under_way in busy_apart w.flow resumed ended o (busy w o x.0.row Stage.PostRunning x.0.at x.1 refl) h
 
-  pub drain_apart : IsIn k (Worker.Drain o i) w → Wait w.flow resumed ended → (is_among o resumed ≡ false) × (is_among o ended ≡ false)
+  pub drain_apart : IsIn k (Place.Drain o i) w → Wait w.flow resumed ended → (is_among o resumed ≡ false) × (is_among o ended ≡ false)
   drain_apart there h = let x = inside_drain w k o i there sound.under_way in busy_apart w.flow resumed ended o (busy w o x.0.row (Stage.InDrain i) x.0.at x.1 refl) h
 
 -- ---- what is next

@@ -1,7 +1,7 @@
 -- Cleanups leave all but contexts and totals.
 use Rattle.fm_local.proofs.Words.{[], ◌∷◌, ◌≡◌, Err, List, None, Ok, Option, Result, Some, Status, WorkerId, World, option_and_then, slice_get, suc}
 use Rattle.fm_local.proofs.Words.{worker_at, zero, ℕ, ◌++◌, ◌∙◌, ap, drop, is_some, option_map, refl, subst, sym, none-some, same_Some, context_at}
-use Rattle.fm_local.proofs.Words.{idle_by, IsSound, CtxId, put, Step, StepReply, Worker, Tidies}
+use Rattle.fm_local.proofs.Words.{idle_by, IsSound, CtxId, put, Step, StepReply, Place, Tidies}
 use Rattle.fm_world.specs.Words.{Due}
 use Rattle.std.specs.Prelude.{slice_set}
 use Rattle.fm_ctx.proofs.Lives.{due_there}
@@ -48,8 +48,8 @@ set_back (x ∷ xs) (suc n) was is there = ap (λ ys. x ∷ ys) (set_back xs n w
 
 -- an idle worker is in the cleanup of what was due; all else but contexts stays
 pub record IsIn (old : World) (k : WorkerId) (c : CtxId) (mid : World) : Type 0 where
-  pub idle : worker_at old.workers k ≡ Some Worker.Idle
-  pub workers : mid.workers ≡ put old.workers k (Worker.Cleanup c)
+  pub idle : worker_at old.workers k ≡ Some Place.Idle
+  pub workers : mid.workers ≡ put old.workers k (Place.Cleanup c)
   pub stack : mid.stack ≡ old.stack
   pub flow : mid.flow ≡ old.flow
   pub files : mid.files ≡ old.files
@@ -63,7 +63,7 @@ Took old k (Ok None) mid = mid ≡ old
 Took old k (Err why) mid = mid ≡ old
 
 module _ (old : World) (k : WorkerId) (result : Result (Option Due) Status) (mid : World) (sound : IsSound old) where
-  took_first : (m : Option CtxId) → slice_get old.contexts.due 0 ≡ m → worker_at old.workers k ≡ Some Worker.Idle → result ≡ Ok (due_reply old.contexts)
+  took_first : (m : Option CtxId) → slice_get old.contexts.due 0 ≡ m → worker_at old.workers k ≡ Some Place.Idle → result ≡ Ok (due_reply old.contexts)
       → mid ≡ record old { workers = after_due old.workers k (slice_get old.contexts.due 0); contexts = after_take_due old.contexts k.0 } → Took old k result mid
   took_first None none idle says made =
       let told = ap (option_and_then (λ c. option_map (due_of c) (context_at old.contexts.slots c))) none in
@@ -100,8 +100,8 @@ pub tidies_one : (old mid new : World) (k : WorkerId) (due : Due) (number : ℕ)
 unfolding Cleans
 tidies_one old mid new k due number result sound takes cleans =
     let (c, at) = took old k (Ok (Some due)) mid sound takes in
-    let in_cleanup = ap (λ ws. worker_at ws k) at.workers ∙ placed old.workers k Worker.Idle (Worker.Cleanup c) at.idle in
-    let event : CleansAt mid k number result new (Some (Worker.Cleanup c)) = subst (CleansAt mid k number result new) in_cleanup cleans in
+    let in_cleanup = ap (λ ws. worker_at ws k) at.workers ∙ placed old.workers k Place.Idle (Place.Cleanup c) at.idle in
+    let event : CleansAt mid k number result new (Some (Place.Cleanup c)) = subst (CleansAt mid k number result new) in_cleanup cleans in
     let made = event.1 in
     record {
       steps = Step.TakeDue k ∷ Step.Cleaned k number ∷ [];
@@ -109,7 +109,7 @@ tidies_one old mid new k due number result sound takes cleans =
       run = (mid, takes, (new, cleans, refl));
       stack = ap (λ (w : World). w.stack) made ∙ at.stack;
       flow = ap (λ (w : World). w.flow) made ∙ at.flow;
-      workers = ap (λ (w : World). w.workers) made ∙ ap (λ ws. put ws k Worker.Idle) at.workers ∙ set_back old.workers k.0 Worker.Idle (Worker.Cleanup c) at.idle;
+      workers = ap (λ (w : World). w.workers) made ∙ ap (λ ws. put ws k Place.Idle) at.workers ∙ set_back old.workers k.0 Place.Idle (Place.Cleanup c) at.idle;
       files = ap (λ (w : World). w.files) made ∙ at.files;
     }
 

@@ -1,6 +1,6 @@
 -- Each drain leaves one operation fewer that wasn't drained of the instance.
 use Rattle.fm_local.proofs.Words.{[], ◌∷◌, ◌≡◌, ◌≤◌, ◌<◌, ◌+◌, ◌++◌, ◌==◌, ◌||◌, ◌∙◌, Bool, Completion, FlowRecord, InstanceId, List, None, Ok, OpId, Option, Result, Some, Status, WorkerId, World, ap, arith, cond, count_by, false, find, map, not, refl, subst, sym, true, ℕ, list_any, none-some, cases_Bool, inl, inr}
-use Rattle.fm_local.proofs.Words.{Ask, Entry, TakesDrain, DrainsWhere, is_number, is_stopping_at, owed, row_at, worker_at, Worker, eq-eqb}
+use Rattle.fm_local.proofs.Words.{Ask, Entry, TakesDrain, DrainsWhere, is_number, is_stopping_at, owed, row_at, worker_at, Place, eq-eqb}
 use Rattle.std.specs.Prelude.{All, filter, option_map, reverse, unwrap_or}
 use Rattle.std.specs.List.{filter_map}
 use Rattle.std.proofs.lemmas.Bool.{eqb-true, or_parts}
@@ -128,8 +128,8 @@ module _ (k : WorkerId) (i : InstanceId) (old : World) (o : OpId) (completion : 
       stays : new ≡ before → left_to_drain i new ≤ left_to_drain i before
       stays same = omega (arith, ap (left_to_drain i) same)
 
-      by_worker : (m : Option Worker) → DrainReturnsAt before k ended new m → left_to_drain i new ≤ left_to_drain i before
-      by_worker (Some (Worker.EarlyDrain p j)) h = omega (arith, ap (left_to_drain i) h.2, over_most i j p before.flow)
+      by_worker : (m : Option Place) → DrainReturnsAt before k ended new m → left_to_drain i new ≤ left_to_drain i before
+      by_worker (Some (Place.EarlyDrain p j)) h = omega (arith, ap (left_to_drain i) h.2, over_most i j p before.flow)
       by_worker _ h = stays h.1
 
   pub drained_less : (ended : Result (Unit {0}) Status) (new : World) → EndsFrom mid (λ before. DrainReturns before k ended new) → left_to_drain i new < left_to_drain i old

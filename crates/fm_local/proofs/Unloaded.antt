@@ -3,7 +3,7 @@ use Rattle.fm_local.proofs.Words.{[], ◌∷◌, ◌≡◌, ◌⊎◌, Bool, Err
 use Rattle.fm_local.proofs.Words.{Status, WorkerId, World, false, length, slice_get, suc, true, worker_at, zero, ℕ, ◌&&◌, ◌<◌, ◌==◌, ◌∙◌, ap, arith}
 use Rattle.fm_local.proofs.Words.{cond, inl, inr, map, option_map, refl, subst, sym, true≢false, StartMark, Finishes, is_stopping_phase}
 use Rattle.fm_local.proofs.Words.{is_stopping_row, UnloadReturnsAt, AsksUnload, EmptiesFilter, FinishesFilter, UnloadReturns, Phase, updated, put}
-use Rattle.fm_local.proofs.Words.{Worker, is_leaving, is_leaving_phase, is_to_go, CompletesQuietly, StartsQuietly, TearsDownFirst, TearsDownQuietly}
+use Rattle.fm_local.proofs.Words.{Place, is_leaving, is_leaving_phase, is_to_go, CompletesQuietly, StartsQuietly, TearsDownFirst, TearsDownQuietly}
 use Rattle.fm_local.proofs.Words.{IsAtRest, Tidies}
 use Rattle.std.specs.Prelude.{IsErr}
 use Rattle.std.proofs.lemmas.Grind.{common_steps}
@@ -190,22 +190,22 @@ module _ (f : FilterId) where
 
     -- ---- it is asked
 
-    module _ (old : World) (idle : worker_at old.workers k ≡ Some Worker.Idle) where
-      asked_at : (asked : World) → AsksUnload old k f (Ok tt) asked → asked ≡ record old { workers = put old.workers k (Worker.Unload f) }
+    module _ (old : World) (idle : worker_at old.workers k ≡ Some Place.Idle) where
+      asked_at : (asked : World) → AsksUnload old k f (Ok tt) asked → asked ≡ record old { workers = put old.workers k (Place.Unload f) }
       unfolding AsksUnload
       asked_at asked h = (happened old k tt asked _ h).1
 
-      module _ (asked : World) (asks : asked ≡ record old { workers = put old.workers k (Worker.Unload f) }) (allows : Bool) (ended : Result (Unit {0}) Status) (back : World)
+      module _ (asked : World) (asks : asked ≡ record old { workers = put old.workers k (Place.Unload f) }) (allows : Bool) (ended : Result (Unit {0}) Status) (back : World)
           (returns : UnloadReturns asked k allows ended back) where
-        enters : asked.workers ≡ put old.workers k (Worker.Unload f)
+        enters : asked.workers ≡ put old.workers k (Place.Unload f)
         enters = ap (λ (w : World). w.workers) asks
 
-        unload_at : UnloadReturnsAt asked k allows ended back (Some (Worker.Unload f))
+        unload_at : UnloadReturnsAt asked k allows ended back (Some (Place.Unload f))
         unfolding UnloadReturns
-        unload_at = subst (UnloadReturnsAt asked k allows ended back) (is_in k old asked (Worker.Unload f) idle enters) returns
+        unload_at = subst (UnloadReturnsAt asked k allows ended back) (is_in k old asked (Place.Unload f) idle enters) returns
 
         unloaded : Undisturbed old back
-        unloaded = through k old asked back (Worker.Unload f) idle asks unload_at.1
+        unloaded = through k old asked back (Place.Unload f) idle asks unload_at.1
 
       unloading_stack : (s : StackWorld) (allows : Bool) (t : StackWorld) → filters.UnloadReturns s f allows (Ok tt) t → t ≡ filters.unloading s f
       unfolding filters.UnloadReturns

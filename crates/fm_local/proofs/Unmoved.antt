@@ -1,5 +1,5 @@
 -- The events that leave all operations as they are: those on filters, volumes, instances and contexts.
-use Rattle.fm_local.proofs.Words.{◌≡◌, Bool, FilterId, FlowTable, InstanceId, List, None, OpId, Option, Result, Some, Status, VolumeId, Worker, WorkerId, World, ap, refl, ℕ, worker_at}
+use Rattle.fm_local.proofs.Words.{◌≡◌, Bool, FilterId, FlowTable, InstanceId, List, None, OpId, Option, Result, Some, Status, VolumeId, Place, WorkerId, World, ap, refl, ℕ, worker_at}
 use Rattle.fm_local.proofs.Words.{AsksDetach, AsksUnload, Attaches, CompleteReturns, CompletesTeardown, ContextKind, CtxId, EmptiesFilter, Finishes, FinishesFilter, HandleId, Mounts, Registers}
 use Rattle.fm_local.proofs.Words.{Registration, StartReturns, StartsTeardown, UnloadReturns, UnloadReturnsAt, context_at}
 use Rattle.fm_ctx.specs.declared.due.Due.{Due}
@@ -83,8 +83,8 @@ module _ (old new : World) where
     unfolding SetsUp
     set_up accept result h = by_worker (worker_at old.workers k) h
       where
-        by_worker : (m : Option Worker) → SetsUpAt old k accept result new m → Unmoved old new
-        by_worker (Some (Worker.Setup i)) h = ap flow_of h.4
+        by_worker : (m : Option Place) → SetsUpAt old k accept result new m → Unmoved old new
+        by_worker (Some (Place.Setup i)) h = ap flow_of h.4
         by_worker _ h = ap flow_of h.1
 
     pub asked : (i : InstanceId) (result : Result (Unit {0}) Status) → AsksDetach old k i result new → Unmoved old new
@@ -96,8 +96,8 @@ module _ (old new : World) where
     unfolding QueryReturns
     queried allow result h = by_worker (worker_at old.workers k) h
       where
-        by_worker : (m : Option Worker) → QueryReturnsAt old k allow result new m → Unmoved old new
-        by_worker (Some (Worker.Query i)) h = ap flow_of h.2
+        by_worker : (m : Option Place) → QueryReturnsAt old k allow result new m → Unmoved old new
+        by_worker (Some (Place.Query i)) h = ap flow_of h.2
         by_worker _ h = ap flow_of h.1
 
     pub starting : (i : InstanceId) (result : Result (Unit {0}) Status) → StartsTeardown old k i result new → Unmoved old new
@@ -108,8 +108,8 @@ module _ (old new : World) where
     unfolding StartReturns
     started result h = by_worker (worker_at old.workers k) h
       where
-        by_worker : (m : Option Worker) → StartReturnsAt old k result new m → Unmoved old new
-        by_worker (Some (Worker.Start i)) h = ap flow_of h.2
+        by_worker : (m : Option Place) → StartReturnsAt old k result new m → Unmoved old new
+        by_worker (Some (Place.Start i)) h = ap flow_of h.2
         by_worker _ h = ap flow_of h.1
 
     pub completing : (i : InstanceId) (result : Result (Unit {0}) Status) → CompletesTeardown old k i result new → Unmoved old new
@@ -120,8 +120,8 @@ module _ (old new : World) where
     unfolding CompleteReturns
     completed result h = by_worker (worker_at old.workers k) h
       where
-        by_worker : (m : Option Worker) → CompleteReturnsAt old k result new m → Unmoved old new
-        by_worker (Some (Worker.Complete i)) h = ap flow_of h.4
+        by_worker : (m : Option Place) → CompleteReturnsAt old k result new m → Unmoved old new
+        by_worker (Some (Place.Complete i)) h = ap flow_of h.4
         by_worker _ h = ap flow_of h.1
 
     pub unload_asked : (f : FilterId) (result : Result (Unit {0}) Status) → AsksUnload old k f result new → Unmoved old new
@@ -133,8 +133,8 @@ module _ (old new : World) where
     unfolding UnloadReturns
     unloaded allow result h = by_worker (worker_at old.workers k) h
       where
-        by_worker : (m : Option Worker) → UnloadReturnsAt old k allow result new m → Unmoved old new
-        by_worker (Some (Worker.Unload f)) h = ap flow_of h.1
+        by_worker : (m : Option Place) → UnloadReturnsAt old k allow result new m → Unmoved old new
+        by_worker (Some (Place.Unload f)) h = ap flow_of h.1
         by_worker _ h = ap flow_of h.1
 
     pub held_found : (kind : Hold) (result : Result (Option OpId) Status) → FindsHeld old k kind result new → Unmoved old new
@@ -204,6 +204,6 @@ module _ (old new : World) where
     unfolding Cleans
     cleaned number result h = by_worker (worker_at old.workers k) h
       where
-        by_worker : (m : Option Worker) → CleansAt old k number result new m → Unmoved old new
-        by_worker (Some (Worker.Cleanup c)) h = ap flow_of h.1
+        by_worker : (m : Option Place) → CleansAt old k number result new m → Unmoved old new
+        by_worker (Some (Place.Cleanup c)) h = ap flow_of h.1
         by_worker _ h = ap flow_of h.1

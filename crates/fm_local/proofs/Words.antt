@@ -54,7 +54,7 @@ pub use Rattle.fm_world.specs.declared.file.FileHandle.{FileHandle}
 pub use Rattle.fm_world.specs.declared.file.FileStream.{FileStream}
 pub use Rattle.fm_world.specs.declared.step.Step.{Step}
 pub use Rattle.fm_world.specs.declared.step.StepReply.{StepReply}
-pub use Rattle.fm_world.specs.declared.worker.Worker.{Worker}
+pub use Rattle.fm_world.specs.declared.place.Place.{Place}
 pub use Rattle.fm_filter.specs.Plain.{IsPlainFilter}
 pub use Rattle.fm_local.specs.Actions.{ArePlainFilters, IsBegun, IsDoneAt, IsReady, closed_handle, replied}
 pub use Rattle.fm_device.specs.Bases.{BasesCarry}

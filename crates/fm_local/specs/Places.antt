@@ -3,17 +3,17 @@ use Rattle.std.specs.Prelude.{◌≡◌, Bool, Ok, Result, Some, false, true}
 use Rattle.fm_local.specs.Words.{FlowAction, OpId, Params, Status, WorkerId, worker_at, World}
 use Rattle.fm_data.specs.Params.{call_fits, fit}
 use Rattle.fm_flow.specs.Table.{told}
-use Rattle.fm_world.specs.declared.worker.Worker.{Worker}
+use Rattle.fm_world.specs.declared.place.Place.{Place}
 use Rattle.fm_filter.specs.Standing.{standing_of}
 
-abbrev pub IsIn : WorkerId → Worker → World → Type 0
+abbrev pub IsIn : WorkerId → Place → World → Type 0
 IsIn k a w = worker_at w.workers k ≡ Some a
 
 abbrev pub IsOut : WorkerId → World → Type 0
-IsOut k w = IsIn k Worker.Idle w
+IsOut k w = IsIn k Place.Idle w
 
 -- a worker that was there is idle
-abbrev pub ComesOut : WorkerId → Worker → World → World → Type 0
+abbrev pub ComesOut : WorkerId → Place → World → World → Type 0
 ComesOut k a old new = IsIn k a old → IsOut k new
 
 -- an idle worker is idle again
@@ -30,8 +30,8 @@ is_on w o p = told (λ r. fit r.operation r.path p) false o w.flow
 
 -- the worker is inside what an operation is to do next, with data that is of the operation; and idle where there is nothing to do
 abbrev pub IsLent : WorkerId → OpId → Result FlowAction Status → World → Type 0
-IsLent k o (Ok (FlowAction.Pre i lent)) w = IsIn k (Worker.Pre o i) w × (is_on w o lent.received ≡ true)
-IsLent k o (Ok (FlowAction.Base call)) w = IsIn k (Worker.Base o) w × (told (λ r. call_fits r.operation r.volume r.path call) false o w.flow ≡ true)
-IsLent k o (Ok (FlowAction.Post i lent completion)) w = IsIn k (Worker.Post o i) w × (is_on w o lent.received ≡ true)
-IsLent k o (Ok (FlowAction.Drain i completion)) w = IsIn k (Worker.Drain o i) w
+IsLent k o (Ok (FlowAction.Pre i lent)) w = IsIn k (Place.Pre o i) w × (is_on w o lent.received ≡ true)
+IsLent k o (Ok (FlowAction.Base call)) w = IsIn k (Place.Base o) w × (told (λ r. call_fits r.operation r.volume r.path call) false o w.flow ≡ true)
+IsLent k o (Ok (FlowAction.Post i lent completion)) w = IsIn k (Place.Post o i) w × (is_on w o lent.received ≡ true)
+IsLent k o (Ok (FlowAction.Drain i completion)) w = IsIn k (Place.Drain o i) w
 IsLent k o _ w = IsOut k w

@@ -9,7 +9,7 @@ use Rattle.fm_world.specs.Sound.{IsSound}
 use Rattle.fm_world.specs.Steps.{Run}
 use Rattle.fm_world.specs.declared.step.Step.{Step}
 use Rattle.fm_world.specs.declared.step.StepReply.{StepReply}
-use Rattle.fm_world.specs.declared.worker.Worker.{Worker}
+use Rattle.fm_world.specs.declared.place.Place.{Place}
 use Rattle.fm_world.specs.World.{empty_world}
 use Rattle.fm_filter.specs.Plain.{IsPlainFilter}
 use Rattle.fm_local.specs.Chains.{Under, subject_of, chain_of}
@@ -77,8 +77,8 @@ NoneStops s = (i : ℕ) (row : Instance) → slice_get s.instances i ≡ Some ro
 -- no operation is under way, and every worker is idle
 pub record IsAtRest (k : WorkerId) (w : World) : Type 0 where
   pub operations : w.flow.operations ≡ []
-  pub idle : worker_at w.workers k ≡ Some Worker.Idle
-  pub all : (j : ℕ) (a : Worker) → slice_get w.workers j ≡ Some a → a ≡ Worker.Idle
+  pub idle : worker_at w.workers k ≡ Some Place.Idle
+  pub all : (j : ℕ) (a : Place) → slice_get w.workers j ≡ Some a → a ≡ Place.Idle
 
 module _ {F D : Type 0} (pre : F → Data → PreVerdict → Data → Type 0) (post : F → Data → Completion → PostVerdict → Data → Type 0) (carries : D → BaseCall → Answer → D → Type 0)
     (filters : ℕ → Option F) (k : WorkerId) where

@@ -11,7 +11,7 @@ use Rattle.fm_world.specs.Steps.{Steps}
 use Rattle.fm_world.specs.declared.step.Step.{Step}
 use Rattle.fm_world.specs.declared.step.Step.TheVariants as step
 use Rattle.fm_world.specs.declared.step.StepReply.{StepReply}
-use Rattle.fm_world.specs.declared.worker.Worker.{Worker}
+use Rattle.fm_world.specs.declared.place.Place.{Place}
 use Rattle.fm_data.specs.declared.request.Reply.{Reply}
 use Rattle.fm_world.specs.Events.{Collects}
 use Rattle.fm_local.specs.Actions.{replied}
@@ -105,9 +105,9 @@ StaysApart o old new = Waiting old → IsApart o old → Waiting new × IsApart 
 
 -- the worker is inside the callback of an operation that it was given
 abbrev pub IsGiven : WorkerId → OpId → Result FlowAction Status → World → Type 0
-IsGiven k o (Ok (FlowAction.Pre i lent)) w = IsIn k (Worker.Pre o i) w
-IsGiven k o (Ok (FlowAction.Post i lent completion)) w = IsIn k (Worker.Post o i) w
-IsGiven k o (Ok (FlowAction.Drain i completion)) w = IsIn k (Worker.Drain o i) w
+IsGiven k o (Ok (FlowAction.Pre i lent)) w = IsIn k (Place.Pre o i) w
+IsGiven k o (Ok (FlowAction.Post i lent completion)) w = IsIn k (Place.Post o i) w
+IsGiven k o (Ok (FlowAction.Drain i completion)) w = IsIn k (Place.Drain o i) w
 IsGiven k o _ w = ⊤
 
 -- ---- handed out

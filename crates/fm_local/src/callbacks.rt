@@ -17,7 +17,7 @@ ghost use Rattle.fm_world.specs.Events.{PreReturns, PostReturns};
 ghost use Rattle.fm_local.specs.Callbacks.{CallsOnly, consents, was_told};
 ghost use Rattle.fm_local.specs.Calls.{MayAgree, QueriesWith, SetsUpWith, UnloadsWith};
 ghost use Rattle.fm_world.specs.Teardowns.{CompleteReturns, StartReturns};
-ghost use Rattle.fm_world.specs.declared.worker.Worker.TheVariants as place;
+ghost use Rattle.fm_world.specs.declared.place.Place.TheVariants as place;
 
 use crate::bounded::Bounded;
 use crate::leak::{Callback, Leak};

@@ -13,7 +13,7 @@ ghost use Rattle.fm_local.specs.Requests.{IsAtRest};
 ghost use Rattle.fm_local.specs.Waits.{StaysWaiting};
 ghost use Rattle.fm_world.specs.Events.{is_stopping_row};
 ghost use Rattle.fm_world.specs.Teardowns.{CompletesTeardown};
-ghost use Rattle.fm_world.specs.declared.worker.Worker.TheVariants as place;
+ghost use Rattle.fm_world.specs.declared.place.Place.TheVariants as place;
 ghost use Rattle.fm_types.specs.declared.ids.InstanceId.{InstanceId};
 
 use crate::manager::{LocalManager, WORKER};

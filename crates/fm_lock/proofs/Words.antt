@@ -8,7 +8,7 @@ pub use Rattle.fm_world.specs.Hands.{hand_len}
 pub use Rattle.fm_world.specs.Sound.{IsSound}
 pub use Rattle.fm_world.specs.Workers.{is_idle, worker_at}
 pub use Rattle.fm_world.specs.World.{World}
-pub use Rattle.fm_world.specs.declared.worker.Worker.{Worker}
+pub use Rattle.fm_world.specs.declared.place.Place.{Place}
 pub use Rattle.std.proofs.Common.{Bool, List, [], ap, arith, cond, count_by, false, length, not, refl, slice_set, suc, true, zero, ℕ, ◌+◌, ◌<◌, ◌∷◌, ◌≡◌, ◌&&◌}
 pub use Rattle.std.proofs.lemmas.Bool.{and_parts, false≢true}
 pub use Rattle.std.proofs.lemmas.List.Sums.{sum_by-cons, sum_by-set}

@@ -1,7 +1,7 @@
 //! What a line asks for, as the event that an `ok` makes of it.
 
 use crate::event::{Event, Kind};
-use fm_core::{State, Step, Worker};
+use fm_core::{State, Step, Place};
 use fm_data::{FileRequest, PostVerdict, PreVerdict, Request};
 use fm_script::{ContextList, Task};
 use fm_types::{CtxId, OpId, WorkerId};
@@ -63,7 +63,7 @@ impl Asking<'_> {
     // The return of a postoperation, or of a drain, in which `more` holds nothing.
     fn post(&self, worker: WorkerId, verdict: PostVerdict) -> Event {
         let kind = match (self.state.place(worker), verdict) {
-            (Some(Worker::Drain(..)), _) => Kind::Drained,
+            (Some(Place::Drain(..)), _) => Kind::Drained,
             (_, PostVerdict::Finished) => Kind::Post,
             (_, PostVerdict::MoreProcessing) => Kind::PostHeld,
         };
@@ -122,27 +122,27 @@ impl Asking<'_> {
             ..self.new(kind)
         };
         match self.state.place(worker) {
-            Some(Worker::Setup(i))
-            | Some(Worker::Query(i))
-            | Some(Worker::Start(i))
-            | Some(Worker::Complete(i)) => Event {
+            Some(Place::Setup(i))
+            | Some(Place::Query(i))
+            | Some(Place::Start(i))
+            | Some(Place::Complete(i)) => Event {
                 instance: Some(i.0),
                 ..event
             },
-            Some(Worker::Pre(o, i))
-            | Some(Worker::Post(o, i))
-            | Some(Worker::Drain(o, i))
-            | Some(Worker::EarlyDrain(o, i)) => Event {
+            Some(Place::Pre(o, i))
+            | Some(Place::Post(o, i))
+            | Some(Place::Drain(o, i))
+            | Some(Place::EarlyDrain(o, i)) => Event {
                 instance: Some(i.0),
                 operation: Some(o.0),
                 ..event
             },
-            Some(Worker::Base(o)) => Event {
+            Some(Place::Base(o)) => Event {
                 operation: Some(o.0),
                 ..event
             },
-            Some(Worker::Cleanup(context)) => self.with_context(event, context),
-            Some(Worker::Unload(filter)) => Event {
+            Some(Place::Cleanup(context)) => self.with_context(event, context),
+            Some(Place::Unload(filter)) => Event {
                 filter: Some(filter.0),
                 ..event
             },

@@ -1,7 +1,7 @@
 //! What the script named, as its reader is told it.
 
 use crate::notes::{Notes, What};
-use fm_core::Worker;
+use fm_core::Place;
 use fm_types::{ContextKind, CreateMode, InstanceId, OpId, Status};
 use std::fmt;
 
@@ -175,24 +175,24 @@ impl fmt::Display for Counted {
 
 /// Where a worker is: `in the drain of i1 scanner@320000 for o2`.
 #[derive(Clone, Copy)]
-pub struct Place<'a>(pub &'a Notes, pub Worker);
+pub struct Place<'a>(pub &'a Notes, pub Place);
 
 impl fmt::Display for Place<'_> {
     fn fmt<W: fmt::Write>(&self, f: &mut fmt::Formatter<W>) -> fmt::Result {
         let Place(notes, place) = self;
         match place {
-            Worker::Idle => f.write_str("idle"),
-            Worker::Setup(i) => write_in(f, notes, "setup", *i),
-            Worker::Pre(o, i) => write_for(f, notes, "preoperation", *i, *o),
-            Worker::Base(o) => write!(f, "in the file system's call for o{}", o.0),
-            Worker::Post(o, i) => write_for(f, notes, "postoperation", *i, *o),
-            Worker::Drain(o, i) => write_for(f, notes, "drain", *i, *o),
-            Worker::EarlyDrain(o, i) => write_for(f, notes, "early drain", *i, *o),
-            Worker::Cleanup(_) => f.write_str("in the cleanup of a context"),
-            Worker::Query(i) => write_in(f, notes, "query", *i),
-            Worker::Start(i) => write_in(f, notes, "teardown-start", *i),
-            Worker::Complete(i) => write_in(f, notes, "teardown-complete", *i),
-            Worker::Unload(filter) => {
+            Place::Idle => f.write_str("idle"),
+            Place::Setup(i) => write_in(f, notes, "setup", *i),
+            Place::Pre(o, i) => write_for(f, notes, "preoperation", *i, *o),
+            Place::Base(o) => write!(f, "in the file system's call for o{}", o.0),
+            Place::Post(o, i) => write_for(f, notes, "postoperation", *i, *o),
+            Place::Drain(o, i) => write_for(f, notes, "drain", *i, *o),
+            Place::EarlyDrain(o, i) => write_for(f, notes, "early drain", *i, *o),
+            Place::Cleanup(_) => f.write_str("in the cleanup of a context"),
+            Place::Query(i) => write_in(f, notes, "query", *i),
+            Place::Start(i) => write_in(f, notes, "teardown-start", *i),
+            Place::Complete(i) => write_in(f, notes, "teardown-complete", *i),
+            Place::Unload(filter) => {
                 write!(f, "in the unload of {}", Named::Filter(notes, filter.0))
             }
         }

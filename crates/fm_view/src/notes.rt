@@ -2,7 +2,7 @@
 
 use crate::event::{Event, Kind};
 use fm_altitude::Altitude;
-use fm_core::{FilterPhase, Phase, State, Step, VolumePhase, Worker};
+use fm_core::{FilterPhase, Phase, State, Step, VolumePhase, Place};
 use fm_data::{FileRequest, PreVerdict, Request};
 use fm_script::Task;
 use fm_types::limits::SCRIPT_WORKERS;
@@ -88,7 +88,7 @@ pub struct LeakNote {
     /// The context.
     pub context: u64,
     /// Where the callback was that left it.
-    pub place: Worker,
+    pub place: Place,
     /// The line on which it returned.
     pub line: u32,
 }
@@ -326,7 +326,7 @@ impl Notes {
     }
 
     /// A reference was left behind by the callback that returned there.
-    pub fn leak(&mut self, context: u64, place: Worker, line: u32) -> Result<(), AllocError> {
+    pub fn leak(&mut self, context: u64, place: Place, line: u32) -> Result<(), AllocError> {
         self.leaks.push(LeakNote {
             context,
             place,
@@ -351,7 +351,7 @@ impl Notes {
 
     fn leak_of(&mut self, event: &Event, carried: Carried) -> Result<(), AllocError> {
         if event.operation == Some(carried.operation) && event.instance == Some(carried.instance) {
-            let place = Worker::Post(OpId(carried.operation), InstanceId(carried.instance));
+            let place = Place::Post(OpId(carried.operation), InstanceId(carried.instance));
             return self.leak(carried.context, place, event.line);
         }
         Ok(())

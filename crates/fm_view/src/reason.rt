@@ -7,7 +7,7 @@ use crate::status::sentence;
 use crate::usage::usage;
 use crate::verdict::held_at;
 use crate::words::phase_word;
-use fm_core::{FilterPhase, Phase, State, Worker};
+use fm_core::{FilterPhase, Phase, State, Place};
 use fm_script::{Keyword, split_at_byte};
 use fm_types::limits::LINE;
 use fm_types::{OpId, Status, WorkerId};
@@ -93,7 +93,7 @@ fn say_wrong_step(text: &mut String, refusal: &Refusal<'_>) -> Result<(), AllocE
     if let Some(worker) = asked.worker {
         let worker = WorkerId(worker);
         if let Some(place) = refusal.state.place(worker) {
-            if place != Worker::Idle {
+            if place != Place::Idle {
                 return say_place(text, refusal, worker, place);
             }
         }
@@ -111,7 +111,7 @@ fn say_place(
     text: &mut String,
     refusal: &Refusal<'_>,
     worker: WorkerId,
-    place: Worker,
+    place: Place,
 ) -> Result<(), AllocError> {
     let since = refusal.notes.since(worker);
     let place = Place(refusal.notes, place);
@@ -140,7 +140,7 @@ fn worker_in(state: &State, operation: OpId) -> Option<WorkerId> {
     for number in 0..48u8 {
         let worker = WorkerId(number);
         match state.place(worker) {
-            Some(Worker::Pre(o, _) | Worker::Post(o, _) | Worker::Drain(o, _) | Worker::Base(o))
+            Some(Place::Pre(o, _) | Place::Post(o, _) | Place::Drain(o, _) | Place::Base(o))
                 if o == operation => {
                 return Some(worker);
             }

@@ -5,7 +5,7 @@ ghost use Rattle.fm_view.specs.Ends.{status_of};
 
 use crate::named::{Counted, Named, Place, Stated};
 use crate::notes::{LeakNote, Notes};
-use fm_core::{Entry, Hold, Phase, PostState, PreState, State, Worker};
+use fm_core::{Entry, Hold, Phase, PostState, PreState, State, Place};
 use fm_script::ScriptEnd;
 use fm_types::{InstanceId, OpId, Status, WorkerId};
 use std::alloc::AllocError;
@@ -144,7 +144,7 @@ fn say_workers(text: &mut String, notes: &Notes, state: &State) -> Result<(), Al
     for number in 0..16u8 {
         let worker = WorkerId(number);
         if let Some(place) = state.place(worker) {
-            if place != Worker::Idle {
+            if place != Place::Idle {
                 let since = notes.since(worker);
                 write!(
                     text,

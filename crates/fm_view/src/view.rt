@@ -15,7 +15,7 @@ use crate::reason::{Refusal, say_refusal};
 use crate::settled::settled;
 use crate::verdict::{exit_status, held, say_end, say_fault};
 use crate::words::say;
-use fm_core::{Entry, Worker};
+use fm_core::{Entry, Place};
 use fm_script::{Listener, Runner, Said, ScriptEnd, Task, is_silent, read_lines};
 use fm_types::limits::LINE;
 use fm_types::{OpId, Status, WorkerId};
@@ -36,7 +36,7 @@ pub enum Manner {
 // Where the worker of a line is before it, what it holds, and how many references were left behind so far.
 #[derive(Drop)]
 struct Hand {
-    place: Worker,
+    place: Place,
     contexts: Vec<u64>,
     leaks: u64,
 }
@@ -105,7 +105,7 @@ impl<W: Write + Drop> View<W> {
     // What the worker of a line holds before it.
     fn hand_of(&self, asked: &Event) -> Result<Hand, AllocError> {
         let mut hand = Hand {
-            place: Worker::Idle,
+            place: Place::Idle,
             contexts: Vec::new(self.alloc),
             leaks: 0,
         };
@@ -114,7 +114,7 @@ impl<W: Write + Drop> View<W> {
         hand.leaks = state.leaks();
         if let Some(worker) = asked.worker {
             let worker = WorkerId(worker);
-            hand.place = state.place(worker).unwrap_or(Worker::Idle);
+            hand.place = state.place(worker).unwrap_or(Place::Idle);
             for place in 0..state.hand_len(worker) {
                 if let Some(context) = state.held_at(worker, place) {
                     if let Some(number) = interpreter.contexts().number_of(context) {

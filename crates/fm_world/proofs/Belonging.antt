@@ -3,7 +3,7 @@ use Rattle.fm_world.proofs.Words.{by_id, is_id-same, context_at-swept, context_a
 use Rattle.fm_world.proofs.Words.{without, IsNew, placed, with_link, same_owner, swept, swept_slot, change_context, changed_slot, context_at, context_in}
 use Rattle.fm_world.proofs.Words.{All-updated, updated-other, updated-same, AskCarries, HoldsIn, belongs, fits, holds_links_by, is_left_by, keeps_links_by}
 use Rattle.fm_world.proofs.Words.{link_fits, may_link, owner_fits, place_in, row_at, Context, ContextKind, CtxId, FlowRecord, Instance, InstanceId, Object}
-use Rattle.fm_world.proofs.Words.{Owner, Slot, StackWorld, WorkerId, hand_of, owed, updated, worker_at, Worker, All, Bool, List, None, Option, Some, [], ap}
+use Rattle.fm_world.proofs.Words.{Owner, Slot, StackWorld, WorkerId, hand_of, owed, updated, worker_at, Place, All, Bool, List, None, Option, Some, [], ap}
 use Rattle.fm_world.proofs.Words.{arith, cond, false, get_or, inl, inr, is_some, length, map, option_and_then, option_map, refl, slice_get, slice_set, subst}
 use Rattle.fm_world.proofs.Words.{sym, true, ℕ, ◌<◌, ◌==◌, ◌||◌, ◌∙◌, ◌∷◌, ◌≡◌, ◌≢◌, ◌≤◌, cases_eq, false≢true, common_steps, All-cons, All-head, All-map}
 use Rattle.fm_world.proofs.Words.{All-nil, All-tail, none-some}
@@ -89,16 +89,16 @@ all_without P c (d ∷ ids) all =
     (λ e. All-cons P d (without c ids) (All-head P d ids all) (all_without P c ids (All-tail P d ids all)))
 
 -- the hands of all workers, by the places of these
-abbrev pub AllHold : StackWorld → List Slot → List Worker → List (List CtxId) → Type 0
+abbrev pub AllHold : StackWorld → List Slot → List Place → List (List CtxId) → Type 0
 AllHold s slots workers hands = (k : WorkerId) → All (HoldsIn s slots (place_in (worker_at workers k))) (hand_of hands k.0)
 
 -- no worker goes elsewhere, and no hand changes
-pub all_hold_still : (s : StackWorld) (old : List Slot) (t : StackWorld) (new : List Slot) (workers : List Worker) (hands : List (List CtxId))
+pub all_hold_still : (s : StackWorld) (old : List Slot) (t : StackWorld) (new : List Slot) (workers : List Place) (hands : List (List CtxId))
     → BelongsStill s old t new → AllHold s old workers hands → AllHold t new workers hands
 all_hold_still s old t new workers hands h6 h7 = grind arith
 
 -- one worker goes elsewhere, with another hand; all others stay
-pub all_hold : (s : StackWorld) (old : List Slot) (t : StackWorld) (new : List Slot) (workers after : List Worker) (hands : List (List CtxId)) (w : ℕ) (hand : List CtxId)
+pub all_hold : (s : StackWorld) (old : List Slot) (t : StackWorld) (new : List Slot) (workers after : List Place) (hands : List (List CtxId)) (w : ℕ) (hand : List CtxId)
     → w < length hands → BelongsStill s old t new → ((k : ℕ) → k ≢ w → slice_get after k ≡ slice_get workers k)
     → All (HoldsIn t new (place_in (slice_get after w))) hand → AllHold s old workers hands → AllHold t new after (slice_set hands w hand)
 all_hold s old t new workers after hands w hand h9 h10 h11 h12 h13 = grind (arith, common_steps)

@@ -7,7 +7,7 @@ use Rattle.fm_world.proofs.Words.{is_left_by, keeps_links, keeps_links_by, place
 use Rattle.fm_world.proofs.Words.{CtxId, FlowRecord, FlowTable, Instance, InstanceId, IsLawful, OpId, Phase, PostRunning, PreRunning, PreState, StackWorld}
 use Rattle.fm_world.proofs.Words.{Status, WorkerId, carried, cleaning_of, grabbed, hand_of, in_flight, is_completing, is_detached, is_setup, last_posted}
 use Rattle.fm_world.proofs.Words.{last_visited, released, AtComplete, AtQuery, AtSetup, AtStart, Desk, cleanup_in, is_at, worker_at, World, carries, FileObject}
-use Rattle.fm_world.proofs.Words.{Worker, All, Bool, List, None, Ok, Option, Result, Some, [], ap, arith, cond, false, find, get_or, length, not, option_map}
+use Rattle.fm_world.proofs.Words.{Place, All, Bool, List, None, Ok, Option, Result, Some, [], ap, arith, cond, false, find, get_or, length, not, option_map}
 use Rattle.fm_world.proofs.Words.{refl, slice_get, slice_set, subst, sym, true, ℕ, ◌++◌, ◌+◌, ◌<◌, ◌∙◌, ◌∷◌, ◌≡◌, ◌≢◌, ◌≤◌, ◌⊎◌, eq-eqb, leb-false}
 use Rattle.fm_world.proofs.Words.{common_steps, get_or-set_same, set-get_or, All-push, none-some, same_Some}
 use Rattle.fm_ctx.proofs.Counts.{count_held}
@@ -28,19 +28,19 @@ here : (i : ℕ) (last : Option ℕ) → last ≡ Some i → leaves_at i last 1 
 here i last e = ap (λ l. leaves_at i l 1) e ∙ ap (λ b. cond b 1 0) (eq-eqb i i refl)
 
 -- the operation that a worker is in, in a callback of the instance, is in flight there
-pre_flies : (w : World) (k : WorkerId) (o : OpId) (i : InstanceId) → IsUnderWay w → worker_at w.workers k ≡ Some (Worker.Pre o i) → 1 ≤ in_flight i.0 w.flow
+pre_flies : (w : World) (k : WorkerId) (o : OpId) (i : InstanceId) → IsUnderWay w → worker_at w.workers k ≡ Some (Place.Pre o i) → 1 ≤ in_flight i.0 w.flow
 pre_flies w k o i s at =
     let x = inside_pre w k o i at s in
     let flies = flight_pre_settled PreRunning x.0.row.entries PreState.Passed i.0 refl (subst (λ a. IsCourse a x.0.row.entries) x.1 x.0.sound.course) in
     omega (arith, flies, here i.0 (last_visited x.0.row.entries) x.2, total_found (flight i.0) (is_number o) w.flow.operations x.0.row x.0.at)
 
-post_flies : (w : World) (k : WorkerId) (o : OpId) (i : InstanceId) → IsUnderWay w → worker_at w.workers k ≡ Some (Worker.Post o i) → 1 ≤ in_flight i.0 w.flow
+post_flies : (w : World) (k : WorkerId) (o : OpId) (i : InstanceId) → IsUnderWay w → worker_at w.workers k ≡ Some (Place.Post o i) → 1 ≤ in_flight i.0 w.flow
 post_flies w k o i s at =
     let x = inside_post w k o i at s in
     let flies = flight_post_settled PostRunning x.0.row.entries PostState.Finished i.0 refl (subst (λ a. IsCourse a x.0.row.entries) x.1 x.0.sound.course) in
     omega (arith, flies, here i.0 (last_posted x.0.row.entries) x.2, total_found (flight i.0) (is_number o) w.flow.operations x.0.row x.0.at)
 
-drain_flies : (w : World) (k : WorkerId) (a : Worker) (o : OpId) (i : InstanceId) → IsUnderWay w → worker_at w.workers k ≡ Some a → is_in_drain o i.0 a ≡ true → 1 ≤ in_flight i.0 w.flow
+drain_flies : (w : World) (k : WorkerId) (a : Place) (o : OpId) (i : InstanceId) → IsUnderWay w → worker_at w.workers k ≡ Some a → is_in_drain o i.0 a ≡ true → 1 ≤ in_flight i.0 w.flow
 drain_flies w k a o i s at inside =
     let there = drained_there w.workers w.flow k a o i.0 s.drains at inside in
     omega (arith, there.2, drains_open i.0 there.0.entries, total_found (flight i.0) (is_number o) w.flow.operations there.0 there.1)
@@ -59,23 +59,23 @@ flown_in w j i is flies = subst (λ (x : InstanceId). 1 ≤ in_flight x.0 w.flow
 staffed_open : (d : Desk) (row : Instance) → 1 ≤ most_at d row → IsOpen row.phase
 staffed_open d row h = grind arith
 
-open_desk : (w : World) (k : WorkerId) (a : Worker) (d : Desk) (j i : InstanceId) (row : Instance) → IsSound w → worker_at w.workers k ≡ Some a → is_at d j.0 a ≡ true
+open_desk : (w : World) (k : WorkerId) (a : Place) (d : Desk) (j i : InstanceId) (row : Instance) → IsSound w → worker_at w.workers k ≡ Some a → is_at d j.0 a ≡ true
     → Some j ≡ Some i → row_at w.stack i ≡ Some row → IsOpen row.phase
 open_desk w k a d j i row s at is same there =
     let place = desk_place w k a d j s.under_way at is in
     let own : place.0 ≡ row = same_Some place.0 row (sym place.1 ∙ ap (λ (x : InstanceId). slice_get w.stack.instances x.0) (same_Some j i same) ∙ there) in
     staffed_open d row (subst (λ x. 1 ≤ most_at d x) own place.2)
 
-open_at : (w : World) (k : WorkerId) (i : InstanceId) (row : Instance) (m : Option Worker) → IsSound w → worker_at w.workers k ≡ m → place_in m ≡ Some i
+open_at : (w : World) (k : WorkerId) (i : InstanceId) (row : Instance) (m : Option Place) → IsSound w → worker_at w.workers k ≡ m → place_in m ≡ Some i
     → row_at w.stack i ≡ Some row → IsOpen row.phase
-open_at w k i row (Some (Worker.Setup j)) s at is there = open_desk w k (Worker.Setup j) AtSetup j i row s at (eq-eqb j.0 j.0 refl) is there
-open_at w k i row (Some (Worker.Query j)) s at is there = open_desk w k (Worker.Query j) AtQuery j i row s at (eq-eqb j.0 j.0 refl) is there
-open_at w k i row (Some (Worker.Start j)) s at is there = open_desk w k (Worker.Start j) AtStart j i row s at (eq-eqb j.0 j.0 refl) is there
-open_at w k i row (Some (Worker.Complete j)) s at is there = open_desk w k (Worker.Complete j) AtComplete j i row s at (eq-eqb j.0 j.0 refl) is there
-open_at w k i row (Some (Worker.Pre o j)) s at is there = flown_row w i row s there (flown_in w j i is (pre_flies w k o j s.under_way at))
-open_at w k i row (Some (Worker.Post o j)) s at is there = flown_row w i row s there (flown_in w j i is (post_flies w k o j s.under_way at))
-open_at w k i row (Some (Worker.Drain o j)) s at is there = flown_row w i row s there (flown_in w j i is (drain_flies w k (Worker.Drain o j) o j s.under_way at (both_same o j)))
-open_at w k i row (Some (Worker.EarlyDrain o j)) s at is there = flown_row w i row s there (flown_in w j i is (drain_flies w k (Worker.EarlyDrain o j) o j s.under_way at (both_same o j)))
+open_at w k i row (Some (Place.Setup j)) s at is there = open_desk w k (Place.Setup j) AtSetup j i row s at (eq-eqb j.0 j.0 refl) is there
+open_at w k i row (Some (Place.Query j)) s at is there = open_desk w k (Place.Query j) AtQuery j i row s at (eq-eqb j.0 j.0 refl) is there
+open_at w k i row (Some (Place.Start j)) s at is there = open_desk w k (Place.Start j) AtStart j i row s at (eq-eqb j.0 j.0 refl) is there
+open_at w k i row (Some (Place.Complete j)) s at is there = open_desk w k (Place.Complete j) AtComplete j i row s at (eq-eqb j.0 j.0 refl) is there
+open_at w k i row (Some (Place.Pre o j)) s at is there = flown_row w i row s there (flown_in w j i is (pre_flies w k o j s.under_way at))
+open_at w k i row (Some (Place.Post o j)) s at is there = flown_row w i row s there (flown_in w j i is (post_flies w k o j s.under_way at))
+open_at w k i row (Some (Place.Drain o j)) s at is there = flown_row w i row s there (flown_in w j i is (drain_flies w k (Place.Drain o j) o j s.under_way at (both_same o j)))
+open_at w k i row (Some (Place.EarlyDrain o j)) s at is there = flown_row w i row s there (flown_in w j i is (drain_flies w k (Place.EarlyDrain o j) o j s.under_way at (both_same o j)))
 open_at w k i row d s at is there = absurd (none-some i is)
 
 open_is : (p : Phase) → IsOpen p → (not (is_detached p) ≡ true) × (keeps_links p ≡ true)
@@ -111,7 +111,7 @@ is_in w k at s h =
     }
 
 -- a worker goes elsewhere, or stays, with another hand; what callbacks may hold they may hold still
-pub owned_with : (w : World) (t : StackWorld) (u : FlowTable) (workers : List Worker) (c : ContextTable) (k : WorkerId) (hand : List CtxId)
+pub owned_with : (w : World) (t : StackWorld) (u : FlowTable) (workers : List Place) (c : ContextTable) (k : WorkerId) (hand : List CtxId)
     → BelongsStill w.stack w.contexts.slots t c.slots → ((j : ℕ) → j ≢ k.0 → slice_get workers j ≡ slice_get w.workers j)
     → ((n : ℕ) → cleaning_of c.cleaning n ≡ cleanup_in (slice_get workers n)) → IsLawful (λ id. carried id u) c → c.hands ≡ slice_set w.contexts.hands k.0 hand → k.0 < 48
     → All (HoldsIn t c.slots (place_in (worker_at workers k))) hand → AllCarry t c.slots u.operations → AllFit t c.slots

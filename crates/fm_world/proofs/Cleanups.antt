@@ -5,7 +5,7 @@ use Rattle.fm_world.proofs.Words.{carried_among, carried_by, carried_in, total, 
 use Rattle.fm_world.proofs.Words.{CleansAt, Finishes, TakesDue, after_due, filter_of, is_gone_at, totalled_for, names_there, AskCarries, CarriesIn, HoldsIn}
 use Rattle.fm_world.proofs.Words.{belongs, fits, is_flown, is_flown_by, place_in, row_at, IsOwned, IsSound, IsStaffed, IsUnderWay, Ask, Context, ContextTable}
 use Rattle.fm_world.proofs.Words.{CtxId, Due, FilterId, FlowRecord, Instance, InstanceId, Owner, Phase, Slot, StackWorld, Status, WorkerId, cleaning_of}
-use Rattle.fm_world.proofs.Words.{finished, hand_of, is_emptying_at, one, open_of, owed, Desk, cleanup_in, put, worker_at, World, Worker, All, Bool, Err, List}
+use Rattle.fm_world.proofs.Words.{finished, hand_of, is_emptying_at, one, open_of, owed, Desk, cleanup_in, put, worker_at, World, Place, All, Bool, Err, List}
 use Rattle.fm_world.proofs.Words.{None, Ok, Option, Result, Some, [], ap, arith, false, get_or, inl, length, nat_lt, not, option_map, refl, slice_get}
 use Rattle.fm_world.proofs.Words.{slice_set, subst, sym, true, ℕ, ◌<◌, ◌∙◌, ◌∷◌, ◌≡◌, and_from, and_parts, cases_eq, eq-eqb, ltb-false, ltb-true, common_steps}
 use Rattle.fm_world.proofs.Words.{get_or-set_other, get_or-set_same, All-cons, All-nil, none-some, slice_get_within}
@@ -23,13 +23,13 @@ use Rattle.fm_world.proofs.Ties.{AtNoDesk, at_none, staffed_still}
 -- ---- a worker goes into a cleanup, or comes out of it
 
 -- a worker goes between idleness and a cleanup
-goes_keeps : (w : World) (k : WorkerId) (a b : Worker) → worker_at w.workers k ≡ Some a → Outside a → Outside b → AtNoDesk a → AtNoDesk b
+goes_keeps : (w : World) (k : WorkerId) (a b : Place) → worker_at w.workers k ≡ Some a → Outside a → Outside b → AtNoDesk a → AtNoDesk b
     → IsUnderWay w → IsUnderWay (record w { workers = put w.workers k b })
 goes_keeps w k a b at from to off on s =
     worker_moves w w.stack k a b at from to s.stack (follows_same w.stack) (λ d i. staffed_still d i w.workers k a b (slice_get w.stack.instances i) at off on (s.desks d i)) s
 
 -- the tie of cleanups and places, where one worker goes elsewhere
-cleaning_moves : (w : World) (k : WorkerId) (o : Option CtxId) (b : Worker) → k.0 < length w.workers → k.0 < length w.contexts.cleaning → o ≡ cleanup_in (Some b)
+cleaning_moves : (w : World) (k : WorkerId) (o : Option CtxId) (b : Place) → k.0 < length w.workers → k.0 < length w.contexts.cleaning → o ≡ cleanup_in (Some b)
     → ((n : ℕ) → cleaning_of w.contexts.cleaning n ≡ cleanup_in (slice_get w.workers n))
     → (n : ℕ) → cleaning_of (slice_set w.contexts.cleaning k.0 o) n ≡ cleanup_in (slice_get (put w.workers k b) n)
 cleaning_moves w k o b worker within is h =
@@ -38,22 +38,22 @@ cleaning_moves w k o b worker within is h =
 
 -- ---- take_due
 
-take_due_at : (old : World) (k : WorkerId) (m : Option CtxId) → worker_at old.workers k ≡ Some Worker.Idle → slice_get old.contexts.due 0 ≡ m → IsSound old
+take_due_at : (old : World) (k : WorkerId) (m : Option CtxId) → worker_at old.workers k ≡ Some Place.Idle → slice_get old.contexts.due 0 ≡ m → IsSound old
     → IsSound (record old { workers = after_due old.workers k m; contexts = taken_of old.contexts k.0 m })
 take_due_at old k None at first s = s
 take_due_at old k (Some c) at first s =
     let h = s.owned in
     let slots = old.contexts.slots in
-    let worker = worker_below old k Worker.Idle at s.under_way in
+    let worker = worker_below old k Place.Idle at s.under_way in
     let t = taken_due old.contexts k.0 c in
     let owners = owners_changed emptied slots c (λ x. (refl, refl)) in
-    let cleans = cleaning_moves old k (Some c) (Worker.Cleanup c) (slice_get_within old.workers k.0 Worker.Idle at) (subst (λ n. k.0 < n) (sym h.lawful.cleaners) worker) refl h.cleaning in
+    let cleans = cleaning_moves old k (Some c) (Place.Cleanup c) (slice_get_within old.workers k.0 Place.Idle at) (subst (λ n. k.0 < n) (sym h.lawful.cleaners) worker) refl h.cleaning in
     record {
-      under_way = goes_keeps old k Worker.Idle (Worker.Cleanup c) at (outside_of Worker.Idle refl) (outside_of (Worker.Cleanup c) refl) (at_none Worker.Idle refl)
-          (at_none (Worker.Cleanup c) refl) s.under_way;
-      owned = owned_moves old old.stack old.flow t k Worker.Idle (Worker.Cleanup c) [] at worker cleans (filters_same old.stack) owners
+      under_way = goes_keeps old k Place.Idle (Place.Cleanup c) at (outside_of Place.Idle refl) (outside_of (Place.Cleanup c) refl) (at_none Place.Idle refl)
+          (at_none (Place.Cleanup c) refl) s.under_way;
+      owned = owned_moves old old.stack old.flow t k Place.Idle (Place.Cleanup c) [] at worker cleans (filters_same old.stack) owners
           (take_due_keeps k.0 c h.lawful worker first (h.cleaning k.0 ∙ ap cleanup_in at))
-          (same_hands old.contexts.hands k.0 ∙ ap (slice_set old.contexts.hands k.0) (empty_hand old k Worker.Idle at refl h)) (All-nil (HoldsIn old.stack t.slots None))
+          (same_hands old.contexts.hands k.0 ∙ ap (slice_set old.contexts.hands k.0) (empty_hand old k Place.Idle at refl h)) (All-nil (HoldsIn old.stack t.slots None))
           (all_carry_still old.stack slots old.stack t.slots old.flow.operations (belongs_still old.stack slots old.stack t.slots (filters_same old.stack) owners) h.completions)
           (passes_changed (fits old.stack) (option_map emptied) slots c refl (λ x there fit. fit) h.fits) h.quiet h;
       filed = s.filed;
@@ -119,15 +119,15 @@ none_in_hand hands c n h3 = grind (arith, common_steps, hand_counted, ltb-true, 
 totals_kept : (o : Option FilterId) (number : ℕ) (totals : List ℕ) → length totals ≡ 16 → length (totalled_for o number totals) ≡ 16
 totals_kept o number totals h = grind (arith, length-updated)
 
-cleaned_owned : (w : World) (k : WorkerId) (c : CtxId) (number : ℕ) → worker_at w.workers k ≡ Some (Worker.Cleanup c) → IsSound w
+cleaned_owned : (w : World) (k : WorkerId) (c : CtxId) (number : ℕ) → worker_at w.workers k ≡ Some (Place.Cleanup c) → IsSound w
     → IsOwned (record w {
-      workers = put w.workers k Worker.Idle;
+      workers = put w.workers k Place.Idle;
       contexts = cleaned w.contexts k.0 c;
       totals = totalled_for (filter_of w.stack (context_at w.contexts.slots c)) number w.totals;
     })
 cleaned_owned w k c number at s =
     let h = s.owned in
-    let within = slice_get_within w.workers k.0 (Worker.Cleanup c) at in
+    let within = slice_get_within w.workers k.0 (Place.Cleanup c) at in
     let worker : k.0 < 48 = subst (λ n. k.0 < n) s.under_way.hands within in
     let hands = w.contexts.hands in
     let slots = gone_slots w.contexts.slots c in
@@ -135,10 +135,10 @@ cleaned_owned w k c number at s =
     let none = (count_cleaning k.0 c h.lawful worker busy).1 in
     let held_none : held hands c ≡ 0 = omega (arith, none) in
     let carried_none : total (carried_by c) w.flow.operations ≡ 0 = omega (arith, none) in
-    let place_same = at_written (λ j m. place_in m ≡ place_in (slice_get w.workers j)) w.workers k.0 Worker.Idle within (sym (ap place_in at)) (λ j apart. refl) in
+    let place_same = at_written (λ j m. place_in m ≡ place_in (slice_get w.workers j)) w.workers k.0 Place.Idle within (sym (ap place_in at)) (λ j apart. refl) in
     record {
       lawful = cleaned_keeps k.0 c h.lawful worker busy;
-      cleaning = cleaning_moves w k None Worker.Idle within (subst (λ n. k.0 < n) (sym h.lawful.cleaners) worker) refl h.cleaning;
+      cleaning = cleaning_moves w k None Place.Idle within (subst (λ n. k.0 < n) (sym h.lawful.cleaners) worker) refl h.cleaning;
       holders = λ n i d l.
           let id = get_or (hand_of hands n.0) i d in
           let other = none_in c (hand_of hands n.0) (none_in_hand hands c n.0 held_none) i d l in
@@ -160,11 +160,11 @@ pub cleaned_does : (old : World) (k : WorkerId) (number : ℕ) (result : Result 
 unfolding Cleans
 cleaned_does old k number result new h = by_place (worker_at old.workers k) refl h
   where
-    by_place : (m : Option Worker) → worker_at old.workers k ≡ m → CleansAt old k number result new m → Does old new
-    by_place (Some (Worker.Cleanup c)) at e = record {
+    by_place : (m : Option Place) → worker_at old.workers k ≡ m → CleansAt old k number result new m → Does old new
+    by_place (Some (Place.Cleanup c)) at e = record {
       sound = λ s. subst IsSound (sym e.1) (record {
-        under_way = goes_keeps old k (Worker.Cleanup c) Worker.Idle at (outside_of (Worker.Cleanup c) refl) (outside_of Worker.Idle refl) (at_none (Worker.Cleanup c) refl)
-            (at_none Worker.Idle refl) s.under_way;
+        under_way = goes_keeps old k (Place.Cleanup c) Place.Idle at (outside_of (Place.Cleanup c) refl) (outside_of Place.Idle refl) (at_none (Place.Cleanup c) refl)
+            (at_none Place.Idle refl) s.under_way;
         owned = cleaned_owned old k c number at s;
         filed = s.filed;
         links = passes_changed (names_there old.files) (λ (x : Option Context). None) old.contexts.slots c refl (λ x there named. refl) s.links;

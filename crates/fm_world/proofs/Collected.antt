@@ -1,6 +1,6 @@
 -- Records that stay after their answers were handed out: each has a drain that runs, and that a worker is in, so that they are no more than workers.
 use Rattle.fm_world.proofs.Words.{drain_opens, is_running_drain, is_number, is_spent, Base, Drain, Post, Pre, count-cons, collected_records, drains_running}
-use Rattle.fm_world.proofs.Words.{is_in_drain, Entry, FlowRecord, FlowTable, IsFlow, OpId, one, operation_at, Worker, All, AllPairs, Bool, List, None, Option}
+use Rattle.fm_world.proofs.Words.{is_in_drain, Entry, FlowRecord, FlowTable, IsFlow, OpId, one, operation_at, Place, All, AllPairs, Bool, List, None, Option}
 use Rattle.fm_world.proofs.Words.{Some, [], ap, arith, count_by, false, get_or, inl, inr, length, nat_le, option_map, refl, suc, sym, true, unwrap_or, ℕ, ◌+◌}
 use Rattle.fm_world.proofs.Words.{◌<◌, ◌==◌, ◌∷◌, ◌≡◌, ◌≤◌, cases_Bool, nat_tests, All-head, All-tail, list_any}
 use Rattle.fm_types.proofs.Firsts.{stands_there}
@@ -8,9 +8,9 @@ use Rattle.fm_types.proofs.Rising.{stands_rising}
 use Rattle.fm_flow.specs.Counts.{drain_opens_at}
 
 -- the operation that a worker is in a drain of
-abbrev drain_number : Worker → Option ℕ
-drain_number (Worker.Drain o i) = Some o.0
-drain_number (Worker.EarlyDrain o i) = Some o.0
+abbrev drain_number : Place → Option ℕ
+drain_number (Place.Drain o i) = Some o.0
+drain_number (Place.EarlyDrain o i) = Some o.0
 drain_number _ = None
 
 -- whether it is the one of that number, or has at least that number
@@ -22,7 +22,7 @@ abbrev is_from : ℕ → Option ℕ → Bool
 is_from n None = false
 is_from n (Some m) = nat_le n m
 
-drains_the : (o : OpId) (i : ℕ) (x : Worker) → is_in_drain o i x ≡ true → is_the o.0 (drain_number x) ≡ true
+drains_the : (o : OpId) (i : ℕ) (x : Place) → is_in_drain o i x ≡ true → is_the o.0 (drain_number x) ≡ true
 drains_the o i x h = grind arith
 
 -- ---- workers
@@ -31,7 +31,7 @@ from_split : (n k : ℕ) (m : Option ℕ) → n ≤ k → one (is_the k m) + one
 from_split n k None below = omega arith
 from_split n k (Some m) below = grind (arith, nat_tests, below)
 
-workers_split : (n k : ℕ) (ws : List Worker) → n ≤ k
+workers_split : (n k : ℕ) (ws : List Place) → n ≤ k
     → count_by (λ x. is_the k (drain_number x)) ws + count_by (λ x. is_from (k + 1) (drain_number x)) ws ≤ count_by (λ x. is_from n (drain_number x)) ws
 workers_split n k [] below = omega arith
 workers_split n k (x ∷ ws) below = omega (
@@ -46,14 +46,14 @@ workers_split n k (x ∷ ws) below = omega (
 one_few : (b : Bool) → one b ≤ 1
 one_few b = grind arith
 
-count_few : (p : Worker → Bool) (ws : List Worker) → count_by p ws ≤ length ws
+count_few : (p : Place → Bool) (ws : List Place) → count_by p ws ≤ length ws
 count_few p [] = omega arith
 count_few p (x ∷ ws) = omega (arith, one_few (p x), count_few p ws, count-cons p x ws)
 
 one_less : (a b : Bool) → (a ≡ true → b ≡ true) → one a ≤ one b
 one_less a b implies = grind arith
 
-count_less : (p q : Worker → Bool) (ws : List Worker) → ((x : Worker) → p x ≡ true → q x ≡ true) → count_by p ws ≤ count_by q ws
+count_less : (p q : Place → Bool) (ws : List Place) → ((x : Place) → p x ≡ true → q x ≡ true) → count_by p ws ≤ count_by q ws
 count_less p q [] implies = omega arith
 count_less p q (x ∷ ws) implies = omega (arith, one_less (p x) (q x) (implies x), count_less p q ws implies, count-cons p x ws, count-cons q x ws)
 
@@ -75,10 +75,10 @@ needed_runs : (r : FlowRecord) → r.collected ≡ true → is_spent r ≡ false
 needed_runs r out needed = grind (arith, out, needed)
 
 -- a worker is in a drain of the operation
-abbrev HasWorker : List Worker → FlowRecord → Type 0
+abbrev HasWorker : List Place → FlowRecord → Type 0
 HasWorker ws r = r.collected ≡ true → 1 ≤ count_by (λ x. is_the r.number.0 (drain_number x)) ws
 
-has_worker : (ws : List Worker) (t : FlowTable) → IsFlow t → ((o : OpId) (i : ℕ) → count_by (is_in_drain o i) ws ≡ drains_running o i t) → All (HasWorker ws) t.operations
+has_worker : (ws : List Place) (t : FlowTable) → IsFlow t → ((o : OpId) (i : ℕ) → count_by (is_in_drain o i) ws ≡ drains_running o i t) → All (HasWorker ws) t.operations
 has_worker ws t flow drains k d within out =
     let r = get_or t.operations k d in
     let there = stands_there (is_number r.number) t.operations k d (sym (stands_rising (λ (x : FlowRecord). x.number.0) r.number.0 t.operations k d flow.ascending within refl)) in
@@ -99,7 +99,7 @@ one_needs true n h = h refl
 one_needs false n h = omega arith
 
 -- of records in the order of their numbers, from one number on
-few_from : (ws : List Worker) (n : ℕ) (rs : List FlowRecord) → AllPairs (λ (r s : FlowRecord). r.number.0 < s.number.0) rs → All (λ (r : FlowRecord). n ≤ r.number.0) rs
+few_from : (ws : List Place) (n : ℕ) (rs : List FlowRecord) → AllPairs (λ (r s : FlowRecord). r.number.0 < s.number.0) rs → All (λ (r : FlowRecord). n ≤ r.number.0) rs
     → All (HasWorker ws) rs → count_by (λ r. r.collected) rs ≤ count_by (λ x. is_from n (drain_number x)) ws
 few_from ws n [] rises from has = omega arith
 few_from ws n (r ∷ rs) rises from has = omega (
@@ -111,7 +111,7 @@ few_from ws n (r ∷ rs) rises from has = omega (
       (All-tail (HasWorker ws) r rs has),
 )
 
-pub collected_few : (ws : List Worker) (t : FlowTable) → IsFlow t → length ws ≡ 48 → ((o : OpId) (i : ℕ) → count_by (is_in_drain o i) ws ≡ drains_running o i t)
+pub collected_few : (ws : List Place) (t : FlowTable) → IsFlow t → length ws ≡ 48 → ((o : OpId) (i : ℕ) → count_by (is_in_drain o i) ws ≡ drains_running o i t)
     → collected_records t ≤ 48
 collected_few ws t flow hands drains =
     omega (arith, few_from ws 0 t.operations flow.ascending (λ k d l. omega arith) (has_worker ws t flow drains), count_few (λ x. is_from 0 (drain_number x)) ws, hands)

@@ -3,7 +3,7 @@ use Rattle.fm_world.proofs.Words.{goes_on_follows, goes_on_keeps, Filter, Volume
 use Rattle.fm_world.proofs.Words.{IsStaffed, IsUnderWay, is_made, AsksDetach, CompleteReturns, CompleteReturnsAt, CompletesTeardown, QueryReturns}
 use Rattle.fm_world.proofs.Words.{QueryReturnsAt, StartReturns, StartReturnsAt, StartsTeardown, Instance, InstanceId, Leaves, Phase, StackWorld, Status}
 use Rattle.fm_world.proofs.Words.{WorkerId, in_flight, is_attached, is_completing, is_stopping, one, AtComplete, AtQuery, AtSetup, AtStart, Desk}
-use Rattle.fm_world.proofs.Words.{after_entering, cleanup_in, is_at, is_queried, put, worker_at, World, carries, Worker, Bool, Err, List, None, Ok, Option}
+use Rattle.fm_world.proofs.Words.{after_entering, cleanup_in, is_at, is_queried, put, worker_at, World, carries, Place, Bool, Err, List, None, Ok, Option}
 use Rattle.fm_world.proofs.Words.{Result, Some, ap, arith, count_by, false, inr, length, not, refl, slice_get, subst, sym, true, ℕ, ◌&&◌, ◌+◌, ◌∙◌, ◌≡◌, eq-eqb}
 use Rattle.fm_world.proofs.Words.{ltb-false, or_parts, true≢false}
 use Rattle.fm_stack.proofs.GoingOn.{passes_row}
@@ -20,32 +20,32 @@ use Rattle.fm_stack.specs.Detaching as stack
 
 -- ---- the instance whose callback a worker is in
 
-pub query_place : (w : World) (k : WorkerId) (i : InstanceId) → IsUnderWay w → worker_at w.workers k ≡ Some (Worker.Query i)
+pub query_place : (w : World) (k : WorkerId) (i : InstanceId) → IsUnderWay w → worker_at w.workers k ≡ Some (Place.Query i)
     → (row : Instance) × (slice_get w.stack.instances i.0 ≡ Some row) × (is_flown row.phase ≡ true)
 query_place w k i s at =
-    let place = desk_place w k (Worker.Query i) AtQuery i s at (eq-eqb i.0 i.0 refl) in
+    let place = desk_place w k (Place.Query i) AtQuery i s at (eq-eqb i.0 i.0 refl) in
     (place.0, place.1, one_true (is_flown place.0.phase) place.2)
 
-pub start_place : (w : World) (k : WorkerId) (i : InstanceId) → IsUnderWay w → worker_at w.workers k ≡ Some (Worker.Start i)
+pub start_place : (w : World) (k : WorkerId) (i : InstanceId) → IsUnderWay w → worker_at w.workers k ≡ Some (Place.Start i)
     → (row : Instance) × (slice_get w.stack.instances i.0 ≡ Some row) × (is_stopping row.phase && is_made row.start ≡ true)
 start_place w k i s at =
-    let place = desk_place w k (Worker.Start i) AtStart i s at (eq-eqb i.0 i.0 refl) in
+    let place = desk_place w k (Place.Start i) AtStart i s at (eq-eqb i.0 i.0 refl) in
     (place.0, place.1, one_true (is_stopping place.0.phase && is_made place.0.start) place.2)
 
-pub complete_place : (w : World) (k : WorkerId) (i : InstanceId) → IsUnderWay w → worker_at w.workers k ≡ Some (Worker.Complete i)
+pub complete_place : (w : World) (k : WorkerId) (i : InstanceId) → IsUnderWay w → worker_at w.workers k ≡ Some (Place.Complete i)
     → (row : Instance) × (slice_get w.stack.instances i.0 ≡ Some row) × (is_completing row.phase ≡ true)
 complete_place w k i s at =
-    let place = desk_place w k (Worker.Complete i) AtComplete i s at (eq-eqb i.0 i.0 refl) in
+    let place = desk_place w k (Place.Complete i) AtComplete i s at (eq-eqb i.0 i.0 refl) in
     (place.0, place.1, one_true (is_completing place.0.phase) place.2)
 
 -- ---- the filter is asked
 
-not_queried : (i : InstanceId) (workers : List Worker) → is_queried i workers ≡ false → count_by (is_at AtQuery i.0) workers ≡ 0
+not_queried : (i : InstanceId) (workers : List Place) → is_queried i workers ≡ false → count_by (is_at AtQuery i.0) workers ≡ 0
 not_queried i workers h = none_any (is_at AtQuery i.0) workers h
 
 -- nobody is in a query of the instance, which is attached, and one comes to be
-asks_staffs : (i : InstanceId) (row : Instance) (d : Desk) (workers : List Worker) (m : ℕ) → is_attached row.phase ≡ true → count_by (is_at AtQuery i.0) workers ≡ 0
-    → m + one (is_at d i.0 Worker.Idle) ≡ count_by (is_at d i.0) workers + one (is_at d i.0 (Worker.Query i)) → IsStaffed d (Some row) (count_by (is_at d i.0) workers)
+asks_staffs : (i : InstanceId) (row : Instance) (d : Desk) (workers : List Place) (m : ℕ) → is_attached row.phase ≡ true → count_by (is_at AtQuery i.0) workers ≡ 0
+    → m + one (is_at d i.0 Place.Idle) ≡ count_by (is_at d i.0) workers + one (is_at d i.0 (Place.Query i)) → IsStaffed d (Some row) (count_by (is_at d i.0) workers)
     → IsStaffed d (Some row) m
 asks_staffs i row AtQuery workers m is none moves h = grind (arith, eq-eqb)
 asks_staffs i row d workers m is none moves h = grind arith
@@ -59,10 +59,10 @@ ask_detach_does old k i result new h =
     let uses = passes stack.is_in_use (row_at old.stack i) in
     let tests = or_parts (not uses) asked (none_refuses (stack.ask_detach_refusals old.stack i asked) free).1.0 in
     let row = passes_row stack.is_in_use (row_at old.stack i) (not_false uses tests.0) in
-    makes old (record old { workers = put old.workers k (Worker.Query i) }) new e (still old.contexts) (λ s. record {
-      under_way = desk_enters old k (Worker.Query i) i old.stack row.0 row.0 at refl refl (row_stays old.stack i.0 row.0 row.1)
+    makes old (record old { workers = put old.workers k (Place.Query i) }) new e (still old.contexts) (λ s. record {
+      under_way = desk_enters old k (Place.Query i) i old.stack row.0 row.0 at refl refl (row_stays old.stack i.0 row.0 row.1)
           (λ d m moves h. asks_staffs i row.0 d old.workers m row.2 (not_queried i old.workers tests.1) moves h) s.under_way.stack (follows_same old.stack) s.under_way;
-      owned = goes_owned old k Worker.Idle (Worker.Query i) old.stack at refl refl refl (rows_same old old.stack refl) (omega arith) (λ v h. h) s;
+      owned = goes_owned old k Place.Idle (Place.Query i) old.stack at refl refl refl (rows_same old old.stack refl) (omega arith) (λ v h. h) s;
       filed = s.filed;
       links = s.links;
     })))
@@ -70,10 +70,10 @@ ask_detach_does old k i result new h =
 -- ---- a callback returns
 
 -- and its instance goes on; what its worker held is gone
-ends : (old new : World) (k : WorkerId) (a : Worker) (t : StackWorld) → worker_at old.workers k ≡ Some a → cleanup_in (Some a) ≡ None
-    → Leaves (carries old) old.contexts new.contexts k.0 → new ≡ record old { stack = t; workers = put old.workers k Worker.Idle; contexts = new.contexts }
+ends : (old new : World) (k : WorkerId) (a : Place) (t : StackWorld) → worker_at old.workers k ≡ Some a → cleanup_in (Some a) ≡ None
+    → Leaves (carries old) old.contexts new.contexts k.0 → new ≡ record old { stack = t; workers = put old.workers k Place.Idle; contexts = new.contexts }
     → t.filters ≡ old.stack.filters → t.volumes ≡ old.stack.volumes
-    → (IsSound old → RowsGoOn old t × IsUnderWay (record old { stack = t; workers = put old.workers k Worker.Idle }))
+    → (IsSound old → RowsGoOn old t × IsUnderWay (record old { stack = t; workers = put old.workers k Place.Idle }))
     → Does old new × (hand_len k.0 new ≡ 0)
 ends old new k a t at na leaves e filters volumes keeps = (
   record {
@@ -89,11 +89,11 @@ ends old new k a t at na leaves e filters volumes keeps = (
 
 -- ---- the filter answered
 
-query_staffs : (i : InstanceId) (row : Instance) → Restaffs i.0 (Worker.Query i) Worker.Idle (Some row) (Some row)
+query_staffs : (i : InstanceId) (row : Instance) → Restaffs i.0 (Place.Query i) Place.Idle (Some row) (Some row)
 query_staffs i row AtQuery n m moves h = grind (arith, eq-eqb)
 query_staffs i row d n m moves h = grind arith
 
-stop_staffs : (i : InstanceId) (row : Instance) → is_attached row.phase ≡ true → Restaffs i.0 (Worker.Query i) Worker.Idle (Some row) (Some (stack.stop_row row))
+stop_staffs : (i : InstanceId) (row : Instance) → is_attached row.phase ≡ true → Restaffs i.0 (Place.Query i) Place.Idle (Some row) (Some (stack.stop_row row))
 stop_staffs i row was AtQuery n m moves h = grind (arith, eq-eqb)
 stop_staffs i row was d n m moves h = grind arith
 
@@ -105,16 +105,16 @@ pub query_does : (old : World) (k : WorkerId) (allow : Bool) (result : Result (U
 unfolding QueryReturns stack.QueryReturns
 query_does old k allow result new h = by_place (worker_at old.workers k) refl h
   where
-    made : (i : InstanceId) (t : StackWorld) → new.stack ≡ t → new ≡ record old { stack = new.stack; workers = put old.workers k Worker.Idle; contexts = new.contexts }
-        → new ≡ record old { stack = t; workers = put old.workers k Worker.Idle; contexts = new.contexts }
-    made i t is e = e ∙ ap (λ x. record old { stack = x; workers = put old.workers k Worker.Idle; contexts = new.contexts }) is
+    made : (i : InstanceId) (t : StackWorld) → new.stack ≡ t → new ≡ record old { stack = new.stack; workers = put old.workers k Place.Idle; contexts = new.contexts }
+        → new ≡ record old { stack = t; workers = put old.workers k Place.Idle; contexts = new.contexts }
+    made i t is e = e ∙ ap (λ x. record old { stack = x; workers = put old.workers k Place.Idle; contexts = new.contexts }) is
 
-    by_result : (i : InstanceId) (result : Result (Unit {0}) Status) → worker_at old.workers k ≡ Some (Worker.Query i) → QueryReturnsAt old k allow result new (Some (Worker.Query i))
+    by_result : (i : InstanceId) (result : Result (Unit {0}) Status) → worker_at old.workers k ≡ Some (Place.Query i) → QueryReturnsAt old k allow result new (Some (Place.Query i))
         → Does old new × (hand_len k.0 new ≡ 0)
-    by_result i (Err why) at h = ends old new k (Worker.Query i) old.stack at refl h.1 (made i old.stack h.0.1 h.2) refl refl (λ s.
+    by_result i (Err why) at h = ends old new k (Place.Query i) old.stack at refl h.1 (made i old.stack h.0.1 h.2) refl refl (λ s.
         let place = query_place old k i s.under_way at in (
           rows_same old old.stack refl,
-          desk_returns old k (Worker.Query i) i old.stack place.0 place.0 at refl refl (row_stays old.stack i.0 place.0 place.1) (query_staffs i place.0)
+          desk_returns old k (Place.Query i) i old.stack place.0 place.0 at refl refl (row_stays old.stack i.0 place.0 place.1) (query_staffs i place.0)
               s.under_way.stack (follows_same old.stack) s.under_way,
         ))
     by_result i (Ok done) at h =
@@ -124,20 +124,20 @@ query_does old k allow result new h = by_place (worker_at old.workers k) refl h
         let row = passes_row stack.is_in_use (row_at old.stack i) used in
         let goes = stopped_goes_on old.stack i used in
         let changes = row_updated old.stack t stack.stop_row i.0 row.0 refl row.1 in
-        ends old new k (Worker.Query i) t at refl h.1 (made i t h.0.1 h.2) refl refl (λ s. (
+        ends old new k (Place.Query i) t at refl h.1 (made i t h.0.1 h.2) refl refl (λ s. (
           row_goes old t i.0 row.0 (stack.stop_row row.0) changes (stop_goes old i.0 row.0),
-          desk_returns old k (Worker.Query i) i t row.0 (stack.stop_row row.0) at refl refl changes (stop_staffs i row.0 row.2)
+          desk_returns old k (Place.Query i) i t row.0 (stack.stop_row row.0) at refl refl changes (stop_staffs i row.0 row.2)
               (goes_on_keeps old.stack t goes s.under_way.stack) (goes_on_follows old.stack t goes) s.under_way,
         ))
 
-    by_place : (m : Option Worker) → worker_at old.workers k ≡ m → QueryReturnsAt old k allow result new m
+    by_place : (m : Option Place) → worker_at old.workers k ≡ m → QueryReturnsAt old k allow result new m
         → Does old new × (hand_len k.0 new ≡ left_by AtQuery m (hand_len k.0 old))
-    by_place (Some (Worker.Query i)) at h = by_result i result at h
+    by_place (Some (Place.Query i)) at h = by_result i result at h
     by_place _ at h = (unchanged old new h.1, ap (hand_len k.0) h.1)
 
 -- ---- the teardown starts
 
-start_staffs : (i : InstanceId) (row : Instance) → stack.is_to_start row ≡ true → (d : Desk) (n m : ℕ) → m + one (is_at d i.0 Worker.Idle) ≡ n + one (is_at d i.0 (Worker.Start i))
+start_staffs : (i : InstanceId) (row : Instance) → stack.is_to_start row ≡ true → (d : Desk) (n m : ℕ) → m + one (is_at d i.0 Place.Idle) ≡ n + one (is_at d i.0 (Place.Start i))
     → IsStaffed d (Some row) n → IsStaffed d (Some (stack.with_start StartMark.Made row)) m
 start_staffs i row is AtStart n m moves h = grind (arith, eq-eqb)
 start_staffs i row is d n m moves h = grind arith
@@ -147,8 +147,8 @@ unfolding StartsTeardown stack.StartsTeardown
 start_teardown_does old k i result new h =
     idle_by (λ _ w. Does old w) k result old new _ h (λ why. nothing old) (λ at event. by_result result at event.0 event.1)
   where
-    by_result : (result : Result (Unit {0}) Status) → worker_at old.workers k ≡ Some Worker.Idle → stack.StartsTeardown old.stack i result new.stack
-        → new ≡ record old { stack = new.stack; workers = after_entering old.workers k (Worker.Start i) result } → Does old new
+    by_result : (result : Result (Unit {0}) Status) → worker_at old.workers k ≡ Some Place.Idle → stack.StartsTeardown old.stack i result new.stack
+        → new ≡ record old { stack = new.stack; workers = after_entering old.workers k (Place.Start i) result } → Does old new
     by_result (Err why) at h e = unchanged old new (e ∙ ap (λ x. record old { stack = x }) h.1)
     by_result (Ok done) at h e =
         let t = stack.starting old.stack i in
@@ -157,18 +157,18 @@ start_teardown_does old k i result new h =
         let row = passes_row stack.is_to_start (row_at old.stack i) (not_false starts (none_refuses (stack.start_refusals old.stack i) h.0).1.0) in
         let goes = starting_goes_on old.stack i in
         let changes = row_updated old.stack t change i.0 row.0 refl row.1 in
-        makes old (record old { stack = t; workers = put old.workers k (Worker.Start i) }) new
-        (e ∙ ap (λ x. record old { stack = x; workers = put old.workers k (Worker.Start i) }) h.1) (still old.contexts) (λ s. record {
-          under_way = desk_enters old k (Worker.Start i) i t row.0 (change row.0) at refl refl changes
+        makes old (record old { stack = t; workers = put old.workers k (Place.Start i) }) new
+        (e ∙ ap (λ x. record old { stack = x; workers = put old.workers k (Place.Start i) }) h.1) (still old.contexts) (λ s. record {
+          under_way = desk_enters old k (Place.Start i) i t row.0 (change row.0) at refl refl changes
               (λ d m moves h. start_staffs i row.0 row.2 d (count_by (is_at d i.0) old.workers) m moves h)
               (goes_on_keeps old.stack t goes s.under_way.stack) (goes_on_follows old.stack t goes) s.under_way;
-          owned = goes_owned old k Worker.Idle (Worker.Start i) t at refl refl refl
+          owned = goes_owned old k Place.Idle (Place.Start i) t at refl refl refl
               (row_goes old t i.0 row.0 (change row.0) changes (goes_same old i.0 row.0 (change row.0) refl refl)) (omega arith) (λ v h. h) s;
           filed = s.filed;
           links = s.links;
         })
 
-started_staffs : (i : InstanceId) (row : Instance) → Restaffs i.0 (Worker.Start i) Worker.Idle (Some row) (Some (stack.with_start StartMark.Returned row))
+started_staffs : (i : InstanceId) (row : Instance) → Restaffs i.0 (Place.Start i) Place.Idle (Some row) (Some (stack.with_start StartMark.Returned row))
 started_staffs i row AtStart n m moves h = grind (arith, eq-eqb)
 started_staffs i row d n m moves h = grind arith
 
@@ -177,17 +177,17 @@ pub start_returned_does : (old : World) (k : WorkerId) (result : Result (Unit {0
 unfolding StartReturns
 start_returned_does old k result new h = by_place (worker_at old.workers k) refl h
   where
-    by_place : (m : Option Worker) → worker_at old.workers k ≡ m → StartReturnsAt old k result new m
+    by_place : (m : Option Place) → worker_at old.workers k ≡ m → StartReturnsAt old k result new m
         → Does old new × (hand_len k.0 new ≡ left_by AtStart m (hand_len k.0 old))
-    by_place (Some (Worker.Start i)) at h =
+    by_place (Some (Place.Start i)) at h =
         let t = stack.started old.stack i in
         let change = stack.with_start StartMark.Returned in
         let goes = started_goes_on old.stack i in
-        ends old new k (Worker.Start i) t at refl h.1 h.2 refl refl (λ s.
+        ends old new k (Place.Start i) t at refl h.1 h.2 refl refl (λ s.
         let row = start_place old k i s.under_way at in
         let changes = row_updated old.stack t change i.0 row.0 refl row.1 in (
           row_goes old t i.0 row.0 (change row.0) changes (goes_same old i.0 row.0 (change row.0) refl refl),
-          desk_returns old k (Worker.Start i) i t row.0 (change row.0) at refl refl changes (started_staffs i row.0)
+          desk_returns old k (Place.Start i) i t row.0 (change row.0) at refl refl changes (started_staffs i row.0)
               (goes_on_keeps old.stack t goes s.under_way.stack) (goes_on_follows old.stack t goes) s.under_way,
         ))
     by_place _ at h = (unchanged old new h.1, ap (hand_len k.0) h.1)
@@ -195,8 +195,8 @@ start_returned_does old k result new h = by_place (worker_at old.workers k) refl
 -- ---- the teardown is completed
 
 -- the start returned, and nobody is in a query
-complete_staffs : (i : InstanceId) (row : Instance) (d : Desk) (workers : List Worker) (m : ℕ) → stack.is_to_complete row ≡ true → count_by (is_at AtQuery i.0) workers ≡ 0
-    → m + one (is_at d i.0 Worker.Idle) ≡ count_by (is_at d i.0) workers + one (is_at d i.0 (Worker.Complete i)) → IsStaffed d (Some row) (count_by (is_at d i.0) workers)
+complete_staffs : (i : InstanceId) (row : Instance) (d : Desk) (workers : List Place) (m : ℕ) → stack.is_to_complete row ≡ true → count_by (is_at AtQuery i.0) workers ≡ 0
+    → m + one (is_at d i.0 Place.Idle) ≡ count_by (is_at d i.0) workers + one (is_at d i.0 (Place.Complete i)) → IsStaffed d (Some row) (count_by (is_at d i.0) workers)
     → IsStaffed d (Some (stack.in_phase Phase.Completing row)) m
 complete_staffs i row AtComplete workers m is none moves h = grind (arith, eq-eqb)
 complete_staffs i row d workers m is none moves h = grind arith
@@ -210,9 +210,9 @@ unfolding CompletesTeardown stack.CompletesTeardown
 complete_teardown_does old k i result new h =
     idle_by (λ _ w. Does old w) k result old new _ h (λ why. nothing old) (λ at event. by_result result at event.0 event.1)
   where
-    by_result : (result : Result (Unit {0}) Status) → worker_at old.workers k ≡ Some Worker.Idle
+    by_result : (result : Result (Unit {0}) Status) → worker_at old.workers k ≡ Some Place.Idle
         → stack.CompletesTeardown old.stack i (is_queried i old.workers) (in_flight i.0 old.flow) result new.stack
-        → new ≡ record old { stack = new.stack; workers = after_entering old.workers k (Worker.Complete i) result } → Does old new
+        → new ≡ record old { stack = new.stack; workers = after_entering old.workers k (Place.Complete i) result } → Does old new
     by_result (Err why) at h e = unchanged old new (e ∙ ap (λ x. record old { stack = x }) h.1)
     by_result (Ok done) at h e =
         let t = stack.completing old.stack i in
@@ -225,18 +225,18 @@ complete_teardown_does old k i result new h =
         let goes = completing_goes_on old.stack i (not_false completes tests.0) in
         let changes = row_updated old.stack t change i.0 row.0 refl row.1 in
         let none : in_flight i.0 old.flow ≡ 0 = omega (arith, ltb-false 0 (in_flight i.0 old.flow) frees.1.1.0) in
-        makes old (record old { stack = t; workers = put old.workers k (Worker.Complete i) }) new
-        (e ∙ ap (λ x. record old { stack = x; workers = put old.workers k (Worker.Complete i) }) h.1) (still old.contexts) (λ s. record {
-          under_way = desk_enters old k (Worker.Complete i) i t row.0 (change row.0) at refl refl changes
+        makes old (record old { stack = t; workers = put old.workers k (Place.Complete i) }) new
+        (e ∙ ap (λ x. record old { stack = x; workers = put old.workers k (Place.Complete i) }) h.1) (still old.contexts) (λ s. record {
+          under_way = desk_enters old k (Place.Complete i) i t row.0 (change row.0) at refl refl changes
               (λ d m moves h. complete_staffs i row.0 d old.workers m row.2 (not_queried i old.workers tests.1) moves h)
               (goes_on_keeps old.stack t goes s.under_way.stack) (goes_on_follows old.stack t goes) s.under_way;
-          owned = goes_owned old k Worker.Idle (Worker.Complete i) t at refl refl refl
+          owned = goes_owned old k Place.Idle (Place.Complete i) t at refl refl refl
               (row_goes old t i.0 row.0 (change row.0) changes (complete_goes old i.0 row.0 none)) (omega arith) (λ v h. h) s;
           filed = s.filed;
           links = s.links;
         })
 
-empty_staffs : (i : InstanceId) (row : Instance) → is_completing row.phase ≡ true → Restaffs i.0 (Worker.Complete i) Worker.Idle (Some row) (Some (stack.in_phase Phase.Emptying row))
+empty_staffs : (i : InstanceId) (row : Instance) → is_completing row.phase ≡ true → Restaffs i.0 (Place.Complete i) Place.Idle (Some row) (Some (stack.in_phase Phase.Emptying row))
 empty_staffs i row is AtComplete n m moves h = grind (arith, eq-eqb)
 empty_staffs i row is d n m moves h = grind arith
 
@@ -248,18 +248,18 @@ pub complete_returned_does : (old : World) (k : WorkerId) (result : Result (Unit
 unfolding CompleteReturns
 complete_returned_does old k result new h = by_place (worker_at old.workers k) refl h
   where
-    by_place : (m : Option Worker) → worker_at old.workers k ≡ m → CompleteReturnsAt old k result new m
+    by_place : (m : Option Place) → worker_at old.workers k ≡ m → CompleteReturnsAt old k result new m
         → Does old new × (hand_len k.0 new ≡ left_by AtComplete m (hand_len k.0 old))
-    by_place (Some (Worker.Complete i)) at h =
+    by_place (Some (Place.Complete i)) at h =
         let t = stack.emptying old.stack i in
         let change = stack.in_phase Phase.Emptying in (
           record {
             sound = λ s.
                 let row = complete_place old k i s.under_way at in
                 let goes = emptying_goes_on old.stack i (ap (passes stack.is_in_complete) row.1 ∙ row.2) in
-                let owned = emptied_owned old k (Worker.Complete i) i row.0 h.1 new.contexts at refl row.1 (completing_rests row.0.phase row.2) h.2 h.3 s in
+                let owned = emptied_owned old k (Place.Complete i) i row.0 h.1 new.contexts at refl row.1 (completing_rests row.0.phase row.2) h.2 h.3 s in
                 subst IsSound (sym h.4) (record {
-                  under_way = desk_returns old k (Worker.Complete i) i t row.0 (change row.0) at refl refl (row_updated old.stack t change i.0 row.0 refl row.1)
+                  under_way = desk_returns old k (Place.Complete i) i t row.0 (change row.0) at refl refl (row_updated old.stack t change i.0 row.0 refl row.1)
                       (empty_staffs i row.0 row.2) (goes_on_keeps old.stack t goes s.under_way.stack) (goes_on_follows old.stack t goes) s.under_way;
                   owned = owned.0;
                   filed = s.filed;

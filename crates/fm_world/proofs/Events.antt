@@ -1,5 +1,5 @@
 -- An event was refused, and nothing changed, or it came to pass. Of both, P is asked: of the answer, and of the World after it.
-use Rattle.fm_world.proofs.Words.{Callback, InCallback, callback_of, Unless, Answers, AnswersOrMemory, Status, WorkerId, is_idle, worker_at, World, Worker}
+use Rattle.fm_world.proofs.Words.{Callback, InCallback, callback_of, Unless, Answers, AnswersOrMemory, Status, WorkerId, is_idle, worker_at, World, Place}
 use Rattle.fm_world.proofs.Words.{Bool, Err, List, None, Ok, Option, Result, Some, arith, subst, sym, true, ◌≡◌}
 
 -- ---- refusals
@@ -26,14 +26,14 @@ memory_by P refusal result old new E h refused event = grind arith
 
 -- ---- by an idle worker
 
-idle_at : (m : Option Worker) → is_idle m ≡ true → m ≡ Some Worker.Idle
+idle_at : (m : Option Place) → is_idle m ≡ true → m ≡ Some Place.Idle
 idle_at m h = grind arith
 
-pub idle_there : (workers : List Worker) (k : WorkerId) → is_idle (worker_at workers k) ≡ true → worker_at workers k ≡ Some Worker.Idle
+pub idle_there : (workers : List Place) (k : WorkerId) → is_idle (worker_at workers k) ≡ true → worker_at workers k ≡ Some Place.Idle
 idle_there workers k h = idle_at (worker_at workers k) h
 
 pub idle_by : {T : Type 0} (P : Result T Status → World → Type 0) (k : WorkerId) (result : Result T Status) (old new : World) (Event : Type 0)
-    → Unless Status.WrongStep (is_idle (worker_at old.workers k)) result old new Event → Refused P old → (worker_at old.workers k ≡ Some Worker.Idle → Event → P result new)
+    → Unless Status.WrongStep (is_idle (worker_at old.workers k)) result old new Event → Refused P old → (worker_at old.workers k ≡ Some Place.Idle → Event → P result new)
     → P result new
 idle_by P k result old new Event h refused event = grind arith
 

@@ -1,7 +1,7 @@
 -- What a step of one operation leaves of who owns what.
 use Rattle.fm_world.proofs.Words.{leave_keeps, carried_by, flight, is_number, all_change, found_holds, carries_after, returned, AskCarries, HoldsIn}
 use Rattle.fm_world.proofs.Words.{is_flown_by, place_in, row_at, IsOwned, ContextTable, CtxId, FlowRecord, FlowTable, InstanceId, IsLawful, Leaves, OpId, Slot}
-use Rattle.fm_world.proofs.Words.{StackWorld, WorkerId, carried, changed, in_flight, operation_at, owed, cleanup_in, put, worker_at, World, Worker, All, List}
+use Rattle.fm_world.proofs.Words.{StackWorld, WorkerId, carried, changed, in_flight, operation_at, owed, cleanup_in, put, worker_at, World, Place, All, List}
 use Rattle.fm_world.proofs.Words.{None, Some, [], arith, false, refl, slice_set, subst, sym, ℕ, ◌+◌, ◌<◌, ◌∙◌, ◌≡◌, ◌≤◌, All-nil, same_Some}
 use Rattle.fm_flow.proofs.Flows.{total_changed}
 use Rattle.fm_world.proofs.Belonging.{AllCarry, AllFit, filters_same, owners_same}
@@ -25,7 +25,7 @@ carry_changed s slots t o r f at owes h =
     (λ x e. subst (λ (y : FlowRecord). All (AskCarries s slots) (owed (f y).entries)) (same_Some r x (sym at ∙ e)) owes) h
 
 -- what changes in a step: one operation, the place of one worker, and that worker's hand
-pub step_owned : (w : World) (o : OpId) (r : FlowRecord) (f : FlowRecord → FlowRecord) (k : WorkerId) (a b : Worker) (t : ContextTable) (hand : List CtxId)
+pub step_owned : (w : World) (o : OpId) (r : FlowRecord) (f : FlowRecord → FlowRecord) (k : WorkerId) (a b : Place) (t : ContextTable) (hand : List CtxId)
     → operation_at o w.flow ≡ Some r → worker_at w.workers k ≡ Some a → k.0 < 48 → cleanup_in (Some a) ≡ None → cleanup_in (Some b) ≡ None
     → IsLawful (carries_after w o f) t → t.slots ≡ w.contexts.slots → t.hands ≡ slice_set w.contexts.hands k.0 hand → t.cleaning ≡ w.contexts.cleaning
     → All (HoldsIn w.stack w.contexts.slots (place_in (Some b))) hand → All (AskCarries w.stack w.contexts.slots) (owed (f r).entries)
@@ -54,11 +54,11 @@ pub quieter : (w : World) (o : OpId) (r : FlowRecord) (f : FlowRecord → FlowRe
 quieter w o r f at fewer quiet i rests = omega (arith, flight_changed w.flow o r f at i.0, fewer i.0, quiet i rests)
 
 -- a callback of an instance ends: what the worker held is gone
-pub left_owned : (w : World) (o : OpId) (r : FlowRecord) (f : FlowRecord → FlowRecord) (k : WorkerId) (a : Worker) (kept after : ContextTable)
+pub left_owned : (w : World) (o : OpId) (r : FlowRecord) (f : FlowRecord → FlowRecord) (k : WorkerId) (a : Place) (kept after : ContextTable)
     → operation_at o w.flow ≡ Some r → worker_at w.workers k ≡ Some a → k.0 < 48 → cleanup_in (Some a) ≡ None → IsLawful (carries_after w o f) kept
     → kept.slots ≡ w.contexts.slots → kept.cleaning ≡ w.contexts.cleaning → slice_set kept.hands k.0 [] ≡ slice_set w.contexts.hands k.0 []
     → Leaves (carries_after w o f) kept after k.0 → All (AskCarries w.stack w.contexts.slots) (owed (f r).entries)
     → ((i : ℕ) → flight i (f r) ≤ flight i r) → IsOwned w → IsOwned (record (returned w k o f) { contexts = after })
 left_owned w o r f k a kept after at there worker na lawful slots cleaning hands leaves owes fewer h =
-    step_owned w o r f k a Worker.Idle after [] at there worker na refl (leave_keeps k.0 lawful leaves) (leaves.slots ∙ slots) (leaves.hands ∙ hands) (leaves.cleaning ∙ cleaning)
+    step_owned w o r f k a Place.Idle after [] at there worker na refl (leave_keeps k.0 lawful leaves) (leaves.slots ∙ slots) (leaves.hands ∙ hands) (leaves.cleaning ∙ cleaning)
     (All-nil (HoldsIn w.stack w.contexts.slots None)) owes (quieter w o r f at fewer h.quiet) h

@@ -2,7 +2,7 @@
 use Rattle.fm_world.proofs.Words.{CompleteReturns, CompleteReturnsAt, QueryReturns, QueryReturnsAt, ResumesPre, SetsUp, SetsUpAt, StartReturns, StartReturnsAt}
 use Rattle.fm_world.proofs.Words.{HoldsFewer, KeepsHands, given_with, hand_len, left_by, left_by_setup, taken_by_resume, place_in, sent_in, state_at, first_of}
 use Rattle.fm_world.proofs.Words.{CtxId, InstanceId, OpId, Status, WorkerId, PreState, PreVerdict, Completion, hand_of, holds, of_hand, has_post, verdict_counted}
-use Rattle.fm_world.proofs.Words.{AtComplete, AtQuery, AtSetup, AtStart, Desk, worker_at, World, Worker, Bool, Err, List, None, Ok, Option, Result, Some, [], ap}
+use Rattle.fm_world.proofs.Words.{AtComplete, AtQuery, AtSetup, AtStart, Desk, worker_at, World, Place, Bool, Err, List, None, Ok, Option, Result, Some, [], ap}
 use Rattle.fm_world.proofs.Words.{arith, cond, length, option_map, unwrap_or, refl, slice_get, subst, sym, told, ℕ, ◌+◌, ◌∷◌, ◌≡◌, ◌≤◌, Operation, state_given, FlowRecord, operation_at, not}
 use Rattle.std.proofs.lemmas.List.{get_or_past}
 use Rattle.fm_world.specs.Hands.{worker_pairs}
@@ -32,7 +32,7 @@ wrong_left r n m wrong same = subst (λ r. Left r n m) (sym wrong) same
 done_left : (r : Result (Unit {0}) Status) (n m : ℕ) → r ≡ Ok tt → m ≡ 0 → Left r n m
 done_left r n m done none = subst (λ r. Left r n m) (sym done) none
 
-setup_at : (old : World) (k : WorkerId) (accept : Bool) (r : Result (Unit {0}) Status) (new : World) (at : Option Worker) (n m : ℕ)
+setup_at : (old : World) (k : WorkerId) (accept : Bool) (r : Result (Unit {0}) Status) (new : World) (at : Option Place) (n m : ℕ)
     → SetsUpAt old k accept r new at → m ≡ left_by AtSetup at n → Left r n m
 unfolding stack.SetsUp
 setup_at old k accept r new at n m h e = grind (arith, wrong_left)
@@ -42,7 +42,7 @@ pub setup_left : (old : World) (k : WorkerId) (accept : Bool) (r : Result (Unit 
 unfolding SetsUp
 setup_left old k accept r new h e = setup_at old k accept r new (worker_at old.workers k) (hand_len k.0 old) (hand_len k.0 new) h e
 
-query_at : (old : World) (k : WorkerId) (allow : Bool) (r : Result (Unit {0}) Status) (new : World) (at : Option Worker) (n m : ℕ)
+query_at : (old : World) (k : WorkerId) (allow : Bool) (r : Result (Unit {0}) Status) (new : World) (at : Option Place) (n m : ℕ)
     → QueryReturnsAt old k allow r new at → m ≡ left_by AtQuery at n → Left r n m
 unfolding detach.QueryReturns
 query_at old k allow r new at n m h e = grind (arith, wrong_left)
@@ -52,7 +52,7 @@ pub query_left : (old : World) (k : WorkerId) (allow : Bool) (r : Result (Unit {
 unfolding QueryReturns
 query_left old k allow r new h e = query_at old k allow r new (worker_at old.workers k) (hand_len k.0 old) (hand_len k.0 new) h e
 
-start_at : (old : World) (k : WorkerId) (r : Result (Unit {0}) Status) (new : World) (at : Option Worker) (n m : ℕ)
+start_at : (old : World) (k : WorkerId) (r : Result (Unit {0}) Status) (new : World) (at : Option Place) (n m : ℕ)
     → StartReturnsAt old k r new at → m ≡ left_by AtStart at n → Left r n m
 start_at old k r new at n m h e = grind (arith, wrong_left, done_left)
 
@@ -61,7 +61,7 @@ pub start_left : (old : World) (k : WorkerId) (r : Result (Unit {0}) Status) (ne
 unfolding StartReturns
 start_left old k r new h e = start_at old k r new (worker_at old.workers k) (hand_len k.0 old) (hand_len k.0 new) h e
 
-complete_at : (old : World) (k : WorkerId) (r : Result (Unit {0}) Status) (new : World) (at : Option Worker) (n m : ℕ)
+complete_at : (old : World) (k : WorkerId) (r : Result (Unit {0}) Status) (new : World) (at : Option Place) (n m : ℕ)
     → CompleteReturnsAt old k r new at → m ≡ left_by AtComplete at n → Left r n m
 complete_at old k r new at n m h e = grind (arith, wrong_left, done_left)
 

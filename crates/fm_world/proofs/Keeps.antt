@@ -1,7 +1,7 @@
 -- The events on filters, volumes and instances keep what is under way.
 use Rattle.fm_world.proofs.Words.{accept_row, refuse_row, Follows, IsStack, slice_get-push, updated-other, updated-same, Spot, is_in_at, is_in_drain}
 use Rattle.fm_world.proofs.Words.{IsFileSound, IsStaffed, IsUnderWay, most_at, FilterId, Instance, InstanceId, OpId, StackWorld, Status, VolumeId, WorkerId}
-use Rattle.fm_world.proofs.Words.{first_of, is_setup, one, updated, AtSetup, Desk, is_at, put, worker_at, World, Worker, Bool, Err, List, None, Ok, Option}
+use Rattle.fm_world.proofs.Words.{first_of, is_setup, one, updated, AtSetup, Desk, is_at, put, worker_at, World, Place, Bool, Err, List, None, Ok, Option}
 use Rattle.fm_world.proofs.Words.{Result, Some, [], ap, arith, count_by, false, inl, inr, length, length-set, refl, slice_get, subst, suc, sym, true, zero, ℕ}
 use Rattle.fm_world.proofs.Words.{◌++◌, ◌+◌, ◌<◌, ◌∙◌, ◌∷◌, ◌≡◌, ◌≢◌, ◌≤◌, cases_eq, eq-eqb, ne_eqb, slice_get_within}
 use Rattle.fm_stack.proofs.Attaching.{attached_follows, attached_keeps}
@@ -15,24 +15,24 @@ use Rattle.fm_stack.specs.Events as stack
 abbrev pub FiledIn : World → Type 0
 FiledIn w = IsFileSound w.files w.flow
 
-pub worker_below : (w : World) (k : WorkerId) (a : Worker) → worker_at w.workers k ≡ Some a → IsUnderWay w → k.0 < 48
+pub worker_below : (w : World) (k : WorkerId) (a : Place) → worker_at w.workers k ≡ Some a → IsUnderWay w → k.0 < 48
 worker_below w k a at s = subst (λ n. k.0 < n) s.hands (slice_get_within w.workers k.0 a at)
 
 -- ---- workers outside of operations
 
-pub record Outside (a : Worker) : Type 0 where
+pub record Outside (a : Place) : Type 0 where
   pub spots : (p : OpId) (s : Spot) → is_in_at p s a ≡ false
   pub drains : (p : OpId) (i : ℕ) → is_in_drain p i a ≡ false
 
-abbrev pub is_outside : Worker → Bool
-is_outside (Worker.Pre o i) = false
-is_outside (Worker.Base o) = false
-is_outside (Worker.Post o i) = false
-is_outside (Worker.Drain o i) = false
-is_outside (Worker.EarlyDrain o i) = false
+abbrev pub is_outside : Place → Bool
+is_outside (Place.Pre o i) = false
+is_outside (Place.Base o) = false
+is_outside (Place.Post o i) = false
+is_outside (Place.Drain o i) = false
+is_outside (Place.EarlyDrain o i) = false
 is_outside _ = true
 
-pub outside_of : (a : Worker) → is_outside a ≡ true → Outside a
+pub outside_of : (a : Place) → is_outside a ≡ true → Outside a
 outside_of a h = record { spots = λ p s. in_none p s h; drains = λ p i. in_no_drain p i h }
   where
     in_none : (p : OpId) (s : Spot) → is_outside a ≡ true → is_in_at p s a ≡ false
@@ -61,7 +61,7 @@ stack_changes w t stack follows still h = record {
 }
 
 -- and a worker moves outside of operations
-pub worker_moves : (w : World) (t : StackWorld) (k : WorkerId) (a b : Worker) → worker_at w.workers k ≡ Some a → Outside a → Outside b → IsStack t → Follows w.stack t
+pub worker_moves : (w : World) (t : StackWorld) (k : WorkerId) (a b : Place) → worker_at w.workers k ≡ Some a → Outside a → Outside b → IsStack t → Follows w.stack t
     → ((d : Desk) (i : ℕ) → IsStaffed d (slice_get t.instances i) (count_by (is_at d i) (put w.workers k b))) → IsUnderWay w
     → IsUnderWay (record w { stack = t; workers = put w.workers k b })
 worker_moves w t k a b at from to stack follows desks h = record {
@@ -77,18 +77,18 @@ worker_moves w t k a b at from to stack follows desks h = record {
 -- ---- callbacks of an instance
 
 -- of callbacks that don't belong to an operation, the worker is in that instance's alone, if in any
-abbrev pub AtDeskOf : ℕ → Worker → Type 0
+abbrev pub AtDeskOf : ℕ → Place → Type 0
 AtDeskOf i a = (d : Desk) (j : ℕ) → j ≢ i → is_at d j a ≡ false
 
-at_desk : (a : Worker) (i : InstanceId) → desk_of a ≡ Some i → AtDeskOf i.0 a
+at_desk : (a : Place) (i : InstanceId) → desk_of a ≡ Some i → AtDeskOf i.0 a
 at_desk a i h d j apart = grind (arith, ne_eqb)
 
 -- who is in callbacks of an instance, where one worker goes elsewhere
-abbrev pub Restaffs : ℕ → Worker → Worker → Option Instance → Option Instance → Type 0
+abbrev pub Restaffs : ℕ → Place → Place → Option Instance → Option Instance → Type 0
 Restaffs i a b x y = (d : Desk) (n m : ℕ) → m + one (is_at d i a) ≡ n + one (is_at d i b) → IsStaffed d x n → IsStaffed d y m
 
 -- one instance changes perhaps, and one worker goes into a callback of it or comes out of it
-pub staffed_moves : (w : World) (t : StackWorld) (k : WorkerId) (a b : Worker) (i : ℕ) → worker_at w.workers k ≡ Some a → AtDeskOf i a → AtDeskOf i b
+pub staffed_moves : (w : World) (t : StackWorld) (k : WorkerId) (a b : Place) (i : ℕ) → worker_at w.workers k ≡ Some a → AtDeskOf i a → AtDeskOf i b
     → ((j : ℕ) → j ≢ i → slice_get t.instances j ≡ slice_get w.stack.instances j)
     → ((d : Desk) (m : ℕ) → m + one (is_at d i a) ≡ count_by (is_at d i) w.workers + one (is_at d i b) → IsStaffed d (slice_get t.instances i) m) → IsUnderWay w
     → (d : Desk) (j : ℕ) → IsStaffed d (slice_get t.instances j) (count_by (is_at d j) (put w.workers k b))
@@ -102,7 +102,7 @@ staffed_moves w t k a b i at from to others here s d j = elim (cases_eq j i) [
 ]
 
 -- the instance whose callback a worker is in is there, and may have it there
-pub desk_place : (w : World) (k : WorkerId) (a : Worker) (d : Desk) (i : InstanceId) → IsUnderWay w → worker_at w.workers k ≡ Some a → is_at d i.0 a ≡ true
+pub desk_place : (w : World) (k : WorkerId) (a : Place) (d : Desk) (i : InstanceId) → IsUnderWay w → worker_at w.workers k ≡ Some a → is_at d i.0 a ≡ true
     → (row : Instance) × (slice_get w.stack.instances i.0 ≡ Some row) × (1 ≤ most_at d row)
 desk_place w k a d i s at is =
     let inside = count-some (is_at d i.0) w.workers k.0 a at is in
@@ -121,22 +121,22 @@ none_behind : {A : Type 0} (xs : List A) → slice_get xs (length xs) ≡ None
 none_behind [] = refl
 none_behind (x ∷ xs) = none_behind xs
 
-attach_staffs : (f : FilterId) (v : VolumeId) (name altitude : List ℕ) (i : InstanceId) (d : Desk) (n m : ℕ) → m + one (is_at d i.0 Worker.Idle) ≡ n + one (is_at d i.0 (Worker.Setup i))
+attach_staffs : (f : FilterId) (v : VolumeId) (name altitude : List ℕ) (i : InstanceId) (d : Desk) (n m : ℕ) → m + one (is_at d i.0 Place.Idle) ≡ n + one (is_at d i.0 (Place.Setup i))
     → n ≡ 0 → IsStaffed d (Some (stack.new_instance f v name altitude)) m
 attach_staffs f v name altitude i d n m moves none = grind (arith, eq-eqb)
 
-pub attach_keeps : (old : World) (k : WorkerId) (f : FilterId) (v : VolumeId) (name altitude : List ℕ) (i : InstanceId) → worker_at old.workers k ≡ Some Worker.Idle
+pub attach_keeps : (old : World) (k : WorkerId) (f : FilterId) (v : VolumeId) (name altitude : List ℕ) (i : InstanceId) → worker_at old.workers k ≡ Some Place.Idle
     → first_of (stack.attach_refusals old.stack f v name altitude) ≡ None → i.0 ≡ length old.stack.instances → IsUnderWay old
-    → IsUnderWay (record old { stack = stack.attached old.stack f v name altitude; workers = put old.workers k (Worker.Setup i) })
+    → IsUnderWay (record old { stack = stack.attached old.stack f v name altitude; workers = put old.workers k (Place.Setup i) })
 attach_keeps old k f v name altitude i idle free is s =
     let t = stack.attached old.stack f v name altitude in
     let rows = old.stack.instances in
     let row = stack.new_instance f v name altitude in
     let none : slice_get rows i.0 ≡ None = ap (slice_get rows) is ∙ none_behind rows in
     let here : slice_get t.instances i.0 ≡ Some row = ap (slice_get t.instances) is ∙ slice_get-push rows row in
-    worker_moves old t k Worker.Idle (Worker.Setup i) idle (outside_of Worker.Idle refl) (outside_of (Worker.Setup i) refl)
+    worker_moves old t k Place.Idle (Place.Setup i) idle (outside_of Place.Idle refl) (outside_of (Place.Setup i) refl)
     (attached_keeps old.stack f v name altitude s.stack free) (attached_follows old.stack f v name altitude s.stack)
-    (staffed_moves old t k Worker.Idle (Worker.Setup i) i.0 idle (λ d j _. at_none Worker.Idle refl d j) (at_desk (Worker.Setup i) i refl)
+    (staffed_moves old t k Place.Idle (Place.Setup i) i.0 idle (λ d j _. at_none Place.Idle refl d j) (at_desk (Place.Setup i) i refl)
     (λ j apart. others_push rows row j (λ e. apart (e ∙ sym is)))
     (λ d m moves. subst (λ o. IsStaffed d o m) (sym here)
     (attach_staffs f v name altitude i d (count_by (is_at d i.0) old.workers) m moves (subst (λ o. IsStaffed d o (count_by (is_at d i.0) old.workers)) none (s.desks d i.0)))) s)
@@ -161,7 +161,7 @@ row_updated s t change i row is there = record {
 pub row_stays : (s : StackWorld) (i : ℕ) (row : Instance) → slice_get s.instances i ≡ Some row → RowChanges s s i row row
 row_stays s i row there = record { was = there; now = there; others = λ j apart. refl }
 
-pub desk_moves : (old : World) (k : WorkerId) (a b : Worker) (i : InstanceId) (t : StackWorld) (x y : Instance) → worker_at old.workers k ≡ Some a
+pub desk_moves : (old : World) (k : WorkerId) (a b : Place) (i : InstanceId) (t : StackWorld) (x y : Instance) → worker_at old.workers k ≡ Some a
     → Outside a → Outside b → AtDeskOf i.0 a → AtDeskOf i.0 b → RowChanges old.stack t i.0 x y
     → ((d : Desk) (m : ℕ) → m + one (is_at d i.0 a) ≡ count_by (is_at d i.0) old.workers + one (is_at d i.0 b)
     → IsStaffed d (Some x) (count_by (is_at d i.0) old.workers) → IsStaffed d (Some y) m)
@@ -173,49 +173,49 @@ desk_moves old k a b i t x y at from to off on row here stack follows s =
     s
 
 -- a callback is entered
-pub desk_enters : (old : World) (k : WorkerId) (b : Worker) (i : InstanceId) (t : StackWorld) (x y : Instance) → worker_at old.workers k ≡ Some Worker.Idle
+pub desk_enters : (old : World) (k : WorkerId) (b : Place) (i : InstanceId) (t : StackWorld) (x y : Instance) → worker_at old.workers k ≡ Some Place.Idle
     → is_outside b ≡ true → desk_of b ≡ Some i → RowChanges old.stack t i.0 x y
-    → ((d : Desk) (m : ℕ) → m + one (is_at d i.0 Worker.Idle) ≡ count_by (is_at d i.0) old.workers + one (is_at d i.0 b)
+    → ((d : Desk) (m : ℕ) → m + one (is_at d i.0 Place.Idle) ≡ count_by (is_at d i.0) old.workers + one (is_at d i.0 b)
     → IsStaffed d (Some x) (count_by (is_at d i.0) old.workers) → IsStaffed d (Some y) m)
     → IsStack t → Follows old.stack t → IsUnderWay old → IsUnderWay (record old { stack = t; workers = put old.workers k b })
 desk_enters old k b i t x y at outside desk row here stack follows s =
-    desk_moves old k Worker.Idle b i t x y at (outside_of Worker.Idle refl) (outside_of b outside) (λ d j _. at_none Worker.Idle refl d j) (at_desk b i desk) row here stack follows s
+    desk_moves old k Place.Idle b i t x y at (outside_of Place.Idle refl) (outside_of b outside) (λ d j _. at_none Place.Idle refl d j) (at_desk b i desk) row here stack follows s
 
 -- a callback returns
-pub desk_returns : (old : World) (k : WorkerId) (a : Worker) (i : InstanceId) (t : StackWorld) (x y : Instance) → worker_at old.workers k ≡ Some a
-    → is_outside a ≡ true → desk_of a ≡ Some i → RowChanges old.stack t i.0 x y → Restaffs i.0 a Worker.Idle (Some x) (Some y)
-    → IsStack t → Follows old.stack t → IsUnderWay old → IsUnderWay (record old { stack = t; workers = put old.workers k Worker.Idle })
+pub desk_returns : (old : World) (k : WorkerId) (a : Place) (i : InstanceId) (t : StackWorld) (x y : Instance) → worker_at old.workers k ≡ Some a
+    → is_outside a ≡ true → desk_of a ≡ Some i → RowChanges old.stack t i.0 x y → Restaffs i.0 a Place.Idle (Some x) (Some y)
+    → IsStack t → Follows old.stack t → IsUnderWay old → IsUnderWay (record old { stack = t; workers = put old.workers k Place.Idle })
 desk_returns old k a i t x y at outside desk row restaffs stack follows s =
-    desk_moves old k a Worker.Idle i t x y at (outside_of a outside) (outside_of Worker.Idle refl) (at_desk a i desk) (λ d j _. at_none Worker.Idle refl d j) row
+    desk_moves old k a Place.Idle i t x y at (outside_of a outside) (outside_of Place.Idle refl) (at_desk a i desk) (λ d j _. at_none Place.Idle refl d j) row
     (λ d m moves h. restaffs d (count_by (is_at d i.0) old.workers) m moves h) stack follows s
 
 -- ---- the end of a setup callback
 
 -- the instance that a worker's setup callback is of is there, in its setup
-pub setup_place : (w : World) (k : WorkerId) (i : InstanceId) → IsUnderWay w → worker_at w.workers k ≡ Some (Worker.Setup i)
+pub setup_place : (w : World) (k : WorkerId) (i : InstanceId) → IsUnderWay w → worker_at w.workers k ≡ Some (Place.Setup i)
     → (row : Instance) × (slice_get w.stack.instances i.0 ≡ Some row) × (is_setup row.phase ≡ true)
 setup_place w k i s at =
-    let place = desk_place w k (Worker.Setup i) AtSetup i s at (eq-eqb i.0 i.0 refl) in
+    let place = desk_place w k (Place.Setup i) AtSetup i s at (eq-eqb i.0 i.0 refl) in
     (place.0, place.1, one_true (is_setup place.0.phase) place.2)
 
-accepted_staffs : (births : ℕ) (i : InstanceId) (row : Instance) → is_setup row.phase ≡ true → Restaffs i.0 (Worker.Setup i) Worker.Idle (Some row) (Some (accept_row births row))
+accepted_staffs : (births : ℕ) (i : InstanceId) (row : Instance) → is_setup row.phase ≡ true → Restaffs i.0 (Place.Setup i) Place.Idle (Some row) (Some (accept_row births row))
 accepted_staffs births i row was d n m moves h = grind (arith, eq-eqb)
 
-refused_staffs : (i : InstanceId) (row : Instance) → is_setup row.phase ≡ true → Restaffs i.0 (Worker.Setup i) Worker.Idle (Some row) (Some (refuse_row row))
+refused_staffs : (i : InstanceId) (row : Instance) → is_setup row.phase ≡ true → Restaffs i.0 (Place.Setup i) Place.Idle (Some row) (Some (refuse_row row))
 refused_staffs i row was d n m moves h = grind (arith, eq-eqb)
 
 -- the callback returns, and the instance leaves its setup
 setup_ends : (old : World) (k : WorkerId) (i : InstanceId) (t : StackWorld) (change : Instance → Instance) (row : Instance) (new : World)
-    → worker_at old.workers k ≡ Some (Worker.Setup i) → slice_get old.stack.instances i.0 ≡ Some row → Restaffs i.0 (Worker.Setup i) Worker.Idle (Some row) (Some (change row))
+    → worker_at old.workers k ≡ Some (Place.Setup i) → slice_get old.stack.instances i.0 ≡ Some row → Restaffs i.0 (Place.Setup i) Place.Idle (Some row) (Some (change row))
     → t.instances ≡ updated change old.stack.instances i.0 → IsStack t → Follows old.stack t → new.stack ≡ t
-    → new ≡ record old { stack = new.stack; workers = put old.workers k Worker.Idle; contexts = new.contexts } → IsUnderWay old → IsUnderWay new
+    → new ≡ record old { stack = new.stack; workers = put old.workers k Place.Idle; contexts = new.contexts } → IsUnderWay old → IsUnderWay new
 setup_ends old k i t change row new at there restaffs rows stack follows made e s =
-    subst IsUnderWay (sym (e ∙ ap (λ x. record old { stack = x; workers = put old.workers k Worker.Idle; contexts = new.contexts }) made))
-    (desk_returns old k (Worker.Setup i) i t row (change row) at refl refl (row_updated old.stack t change i.0 row rows there) restaffs stack follows s)
+    subst IsUnderWay (sym (e ∙ ap (λ x. record old { stack = x; workers = put old.workers k Place.Idle; contexts = new.contexts }) made))
+    (desk_returns old k (Place.Setup i) i t row (change row) at refl refl (row_updated old.stack t change i.0 row rows there) restaffs stack follows s)
 
 pub setup_keeps : (old : World) (k : WorkerId) (i : InstanceId) (accept : Bool) (result : Result (Unit {0}) Status) (new : World)
-    → worker_at old.workers k ≡ Some (Worker.Setup i) → stack.SetsUp old.stack i accept result new.stack
-    → new ≡ record old { stack = new.stack; workers = put old.workers k Worker.Idle; contexts = new.contexts } → IsUnderWay old → IsUnderWay new
+    → worker_at old.workers k ≡ Some (Place.Setup i) → stack.SetsUp old.stack i accept result new.stack
+    → new ≡ record old { stack = new.stack; workers = put old.workers k Place.Idle; contexts = new.contexts } → IsUnderWay old → IsUnderWay new
 unfolding stack.SetsUp
 setup_keeps old k i accept (Ok done) new at h e s =
     let row = setup_place old k i s at in

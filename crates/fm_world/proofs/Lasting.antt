@@ -1,7 +1,7 @@
 -- Over lists of events: an id that was given isn't given again, and what was cleaned stays cleaned.
 use Rattle.fm_world.proofs.Words.{first_placed, is_id-refl, places_cleaned, IsNew, due_of, emptied, taken_due, taken_of, context_at, Allocates, TakesDue}
 use Rattle.fm_world.proofs.Words.{IsGone, IsSound, Run, Steps, Context, ContextKind, ContextTable, CtxId, Due, Slot, Status, WorkerId, cleaning_of, World}
-use Rattle.fm_world.proofs.Words.{empty_world, Step, StepReply, Worker, Err, IfOk, List, None, Ok, Option, Result, Some, [], ap, arith, inl, inr, length}
+use Rattle.fm_world.proofs.Words.{empty_world, Step, StepReply, Place, Err, IfOk, List, None, Ok, Option, Result, Some, [], ap, arith, inl, inr, length}
 use Rattle.fm_world.proofs.Words.{option_and_then, option_map, refl, slice_get, subst, suc, sym, zero, ℕ, ◌<◌, ◌∙◌, ◌∷◌, ◌≡◌, ◌⊎◌, get_or-set_same, none-some}
 use Rattle.fm_world.proofs.Words.{same_Some, slice_get_within}
 use Rattle.fm_world.specs.Lasting.{Comes, ContextsLast, due_by, given_by}
@@ -69,7 +69,7 @@ taken_handed old k due new h s =
     let t = taken_due old.contexts k.0 due.id in
     let made : new.contexts ≡ t = ap contexts_in e.1 ∙ ap (taken_of old.contexts k.0) reply.0 in
     let was = given_there old.contexts.slots due.id reply.1.0 reply.1.1 in
-    let within : k.0 < length old.contexts.cleaning = subst (λ n. k.0 < n) (s.under_way.hands ∙ sym s.owned.lawful.cleaners) (slice_get_within old.workers k.0 Worker.Idle at) in
+    let within : k.0 < length old.contexts.cleaning = subst (λ n. k.0 < n) (s.under_way.hands ∙ sym s.owned.lawful.cleaners) (slice_get_within old.workers k.0 Place.Idle at) in
     record {
       came = subst (λ (u : ContextTable). WasGiven u.slots due.id × ((context_at u.slots due.id ≡ None) ⊎ ((n : ℕ) × (cleaning_of u.cleaning n ≡ Some due.id)))) (sym made) (
         (slots_changed (option_map emptied) old.contexts.slots due.id refl due.id was).0,

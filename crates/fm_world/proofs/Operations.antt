@@ -3,7 +3,7 @@ use Rattle.fm_world.proofs.Words.{flow_changes, Stays, unspent, drain_opens, don
 use Rattle.fm_world.proofs.Words.{AtBase, AtDrain, AtPost, AtPre, Spot, drains_running, is_in_at, is_in_drain, is_spot, spot_of, stands_at, AreUnderWay}
 use Rattle.fm_world.proofs.Words.{IsAmong, IsStaffed, IsUnderWay, FlowRecord, FlowTable, InBase, InDrain, InstanceId, IsFlow, OpId, PostRunning, PreRunning}
 use Rattle.fm_world.proofs.Words.{StackWorld, Stage, WorkerId, changed, last_posted, last_visited, operation_at, owed, told, Desk, is_at, put, worker_at, World}
-use Rattle.fm_world.proofs.Words.{Worker, All, AllPairs, List, Some, ap, arith, count_by, false, length, length-set, option_map, refl, slice_get, subst, sym}
+use Rattle.fm_world.proofs.Words.{Place, All, AllPairs, List, Some, ap, arith, count_by, false, length, length-set, option_map, refl, slice_get, subst, sym}
 use Rattle.fm_world.proofs.Words.{true, unwrap_or, ℕ, ◌&&◌, ◌+◌, ◌<◌, ◌==◌, ◌∙◌, ◌≡◌, and_from, eq-eqb, false≢true, same_Some}
 use Rattle.fm_flow.proofs.Flows.{still_ascends}
 use Rattle.fm_world.proofs.Ties.{AtNoDesk, at_none, staffed_still, BalancesDrains, BalancesSpots, InDrains, Matches, drains_balance, in_no_drain, is_running}
@@ -13,7 +13,7 @@ use Rattle.fm_flow.specs.Sound as flow
 -- ---- one operation changes
 
 -- what is under way, but for the laws of operations: a record that is about to go breaks them
-pub record AreInStep (s : StackWorld) (t : FlowTable) (ws : List Worker) : Type 0 where
+pub record AreInStep (s : StackWorld) (t : FlowTable) (ws : List Place) : Type 0 where
   pub stack : IsStack s
   pub ascending : AllPairs (λ (x y : FlowRecord). x.number.0 < y.number.0) t.operations
   pub among : All (IsAmong s) t.operations
@@ -22,14 +22,14 @@ pub record AreInStep (s : StackWorld) (t : FlowTable) (ws : List Worker) : Type 
   pub drains : (o : OpId) (i : ℕ) → count_by (is_in_drain o i) ws ≡ drains_running o i t
   pub desks : (d : Desk) (i : ℕ) → IsStaffed d (slice_get s.instances i) (count_by (is_at d i) ws)
 
-pub in_step : {s : StackWorld} {t : FlowTable} {ws : List Worker} → AreUnderWay s t ws → AreInStep s t ws
+pub in_step : {s : StackWorld} {t : FlowTable} {ws : List Place} → AreUnderWay s t ws → AreInStep s t ws
 in_step u = record { stack = u.stack; ascending = u.flow.ascending; among = u.among; hands = u.hands; workers = u.workers; drains = u.drains; desks = u.desks }
 
-pub with_laws : {s : StackWorld} {t : FlowTable} {ws : List Worker} → AreInStep s t ws → IsFlow t → AreUnderWay s t ws
+pub with_laws : {s : StackWorld} {t : FlowTable} {ws : List Place} → AreInStep s t ws → IsFlow t → AreUnderWay s t ws
 with_laws u flow = record { stack = u.stack; flow = flow; among = u.among; hands = u.hands; workers = u.workers; drains = u.drains; desks = u.desks }
 
 -- one operation changes, and one worker goes elsewhere with it
-pub step_moves : (w : World) (o : OpId) (r : FlowRecord) (f : FlowRecord → FlowRecord) (k : WorkerId) (a b : Worker) → operation_at o w.flow ≡ Some r → worker_at w.workers k ≡ Some a
+pub step_moves : (w : World) (o : OpId) (r : FlowRecord) (f : FlowRecord → FlowRecord) (k : WorkerId) (a b : Place) → operation_at o w.flow ≡ Some r → worker_at w.workers k ≡ Some a
     → ((x : FlowRecord) → Stays x (f x)) → IsAmong w.stack (f r) → BalancesSpots o a b r (f r) → BalancesDrains o a b r (f r)
     → AtNoDesk a → AtNoDesk b → IsUnderWay w
     → AreInStep w.stack (changed o f w.flow) (put w.workers k b)
@@ -46,7 +46,7 @@ step_moves w o r f k a b at worker stays among spots drains from to s =
     }
 
 -- and the record is still needed
-pub step_keeps : (w : World) (o : OpId) (r : FlowRecord) (f : FlowRecord → FlowRecord) (k : WorkerId) (a b : Worker) → operation_at o w.flow ≡ Some r → worker_at w.workers k ≡ Some a
+pub step_keeps : (w : World) (o : OpId) (r : FlowRecord) (f : FlowRecord → FlowRecord) (k : WorkerId) (a b : Place) → operation_at o w.flow ≡ Some r → worker_at w.workers k ≡ Some a
     → ((x : FlowRecord) → Stays x (f x)) → flow.IsSound (f r) → is_spent (f r) ≡ false → IsAmong w.stack (f r) → BalancesSpots o a b r (f r) → BalancesDrains o a b r (f r)
     → AtNoDesk a → AtNoDesk b → IsUnderWay w
     → IsUnderWay (record w { flow = changed o f w.flow; workers = put w.workers k b })
@@ -74,7 +74,7 @@ pub record Inside (w : World) (o : OpId) (spot : Spot) : Type 0 where
   pub sound : flow.IsSound row
   pub among : IsAmong w.stack row
 
-inside : (w : World) (k : WorkerId) (a : Worker) (o : OpId) (spot : Spot) → worker_at w.workers k ≡ Some a → is_in_at o spot a ≡ true → IsUnderWay w → Inside w o spot
+inside : (w : World) (k : WorkerId) (a : Place) (o : OpId) (spot : Spot) → worker_at w.workers k ≡ Some a → is_in_at o spot a ≡ true → IsUnderWay w → Inside w o spot
 inside w k a o spot at is s =
     let there = tied_there w.workers w.flow k a o spot s.workers at is in
     record {
@@ -88,34 +88,34 @@ inside w k a o spot at is s =
 pub both_same : (o : OpId) (i : InstanceId) → (o.0 == o.0) && (i.0 == i.0) ≡ true
 both_same o i = and_from (o.0 == o.0) (i.0 == i.0) (eq-eqb o.0 o.0 refl) (eq-eqb i.0 i.0 refl)
 
-pub inside_pre : (w : World) (k : WorkerId) (o : OpId) (i : InstanceId) → worker_at w.workers k ≡ Some (Worker.Pre o i) → IsUnderWay w
+pub inside_pre : (w : World) (k : WorkerId) (o : OpId) (i : InstanceId) → worker_at w.workers k ≡ Some (Place.Pre o i) → IsUnderWay w
     → (x : Inside w o (AtPre i.0)) × (x.row.stage ≡ PreRunning) × (last_visited x.row.entries ≡ Some i.0)
 inside_pre w k o i at s =
-    let x = inside w k (Worker.Pre o i) o (AtPre i.0) at (both_same o i) s in
+    let x = inside w k (Place.Pre o i) o (AtPre i.0) at (both_same o i) s in
     let spot = spot_pre i.0 x.row.stage x.row.entries x.stands in (x, spot.0, spot.1)
 
-pub inside_base : (w : World) (k : WorkerId) (o : OpId) → worker_at w.workers k ≡ Some (Worker.Base o) → IsUnderWay w → (x : Inside w o AtBase) × (x.row.stage ≡ InBase)
-inside_base w k o at s = let x = inside w k (Worker.Base o) o AtBase at (eq-eqb o.0 o.0 refl) s in (x, spot_base x.row.stage x.row.entries x.stands)
+pub inside_base : (w : World) (k : WorkerId) (o : OpId) → worker_at w.workers k ≡ Some (Place.Base o) → IsUnderWay w → (x : Inside w o AtBase) × (x.row.stage ≡ InBase)
+inside_base w k o at s = let x = inside w k (Place.Base o) o AtBase at (eq-eqb o.0 o.0 refl) s in (x, spot_base x.row.stage x.row.entries x.stands)
 
-pub inside_post : (w : World) (k : WorkerId) (o : OpId) (i : InstanceId) → worker_at w.workers k ≡ Some (Worker.Post o i) → IsUnderWay w
+pub inside_post : (w : World) (k : WorkerId) (o : OpId) (i : InstanceId) → worker_at w.workers k ≡ Some (Place.Post o i) → IsUnderWay w
     → (x : Inside w o (AtPost i.0)) × (x.row.stage ≡ PostRunning) × (last_posted x.row.entries ≡ Some i.0)
 inside_post w k o i at s =
-    let x = inside w k (Worker.Post o i) o (AtPost i.0) at (both_same o i) s in
+    let x = inside w k (Place.Post o i) o (AtPost i.0) at (both_same o i) s in
     let spot = spot_post i.0 x.row.stage x.row.entries x.stands in (x, spot.0, spot.1)
 
-pub inside_drain : (w : World) (k : WorkerId) (o : OpId) (i : InstanceId) → worker_at w.workers k ≡ Some (Worker.Drain o i) → IsUnderWay w
+pub inside_drain : (w : World) (k : WorkerId) (o : OpId) (i : InstanceId) → worker_at w.workers k ≡ Some (Place.Drain o i) → IsUnderWay w
     → (x : Inside w o (AtDrain i.0)) × (x.row.stage ≡ InDrain i)
-inside_drain w k o i at s = let x = inside w k (Worker.Drain o i) o (AtDrain i.0) at (both_same o i) s in (x, spot_drain i x.row.stage x.row.entries x.stands)
+inside_drain w k o i at s = let x = inside w k (Place.Drain o i) o (AtDrain i.0) at (both_same o i) s in (x, spot_drain i x.row.stage x.row.entries x.stands)
 
 -- a worker leaves an operation, which then stands where no worker is inside it
-pub return_keeps : (old : World) (k : WorkerId) (a : Worker) (o : OpId) (r : FlowRecord) (f : FlowRecord → FlowRecord) (n : ℕ → ℕ) → worker_at old.workers k ≡ Some a
+pub return_keeps : (old : World) (k : WorkerId) (a : Place) (o : OpId) (r : FlowRecord) (f : FlowRecord → FlowRecord) (n : ℕ → ℕ) → worker_at old.workers k ≡ Some a
     → operation_at o old.flow ≡ Some r → ((x : FlowRecord) → Stays x (f x)) → Matches o a (spot_of r) → is_running (f r).stage ≡ false → InDrains o a n
     → ((i : ℕ) → drain_opens i (f r).entries + n i ≡ drain_opens i r.entries) → AtNoDesk a → flow.IsSound (f r) → is_done r ≡ false → IsAmong old.stack (f r)
     → IsUnderWay old → IsUnderWay (returned old k o f)
 return_keeps old k a o r f n at there stays matches quiet from even outside sound undone among s =
-    step_keeps old o r f k a Worker.Idle there at stays sound
-    (unspent r (f r) (stays r) undone (found_holds flow.IsSound (is_number o) old.flow.operations r s.flow.sound there)) among (spots_balance o a Worker.Idle r (f r) matches (matches_idle o (f r).stage (f r).entries quiet))
-    (drains_balance o a Worker.Idle r (f r) n (λ i. 0) from (in_no_drain o Worker.Idle (λ p i. refl)) (λ i. omega (arith, even i))) outside (at_none Worker.Idle refl) s
+    step_keeps old o r f k a Place.Idle there at stays sound
+    (unspent r (f r) (stays r) undone (found_holds flow.IsSound (is_number o) old.flow.operations r s.flow.sound there)) among (spots_balance o a Place.Idle r (f r) matches (matches_idle o (f r).stage (f r).entries quiet))
+    (drains_balance o a Place.Idle r (f r) n (λ i. 0) from (in_no_drain o Place.Idle (λ p i. refl)) (λ i. omega (arith, even i))) outside (at_none Place.Idle refl) s
 
 pub not_base_of : (stage : Stage) → is_running stage ≡ false → stage ≡ InBase → ⊥
 not_base_of stage h e = false≢true (sym h ∙ ap is_running e)

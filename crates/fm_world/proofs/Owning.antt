@@ -4,7 +4,7 @@ use Rattle.fm_world.proofs.Words.{slice_get-set_other, slice_get-set_same, updat
 use Rattle.fm_world.proofs.Words.{hand_len, left_by_setup, names_there, HoldsIn, fits, holds_links_by, is_flown, is_flown_by, is_left_by, keeps_links}
 use Rattle.fm_world.proofs.Words.{keeps_links_by, place_in, row_at, IsOwned, IsSound, IsStaffed, Context, ContextTable, CtxId, FilterId, FlowTable, Instance}
 use Rattle.fm_world.proofs.Words.{InstanceId, IsLawful, Leaves, Owner, Phase, Slot, StackWorld, Status, Sweeps, VolumeId, WorkerId, carried, cleaning_of}
-use Rattle.fm_world.proofs.Words.{hand_of, in_flight, is_detached, is_linked_of, is_setup, after_attach, cleanup_in, put, worker_at, World, carries, Worker}
+use Rattle.fm_world.proofs.Words.{hand_of, in_flight, is_detached, is_linked_of, is_setup, after_attach, cleanup_in, put, worker_at, World, carries, Place}
 use Rattle.fm_world.proofs.Words.{All, Bool, Err, List, None, Ok, Option, Result, Some, [], ap, arith, false, inl, inr, length, map, not, refl, slice_get}
 use Rattle.fm_world.proofs.Words.{slice_set, subst, sym, true, ℕ, ◌++◌, ◌<◌, ◌∙◌, ◌∷◌, ◌≡◌, ◌≤◌, ◌⊎◌, and_from, and_parts, cases_eq, length-append, All-head}
 use Rattle.fm_world.proofs.Words.{All-nil, same_Some, slice_get_within}
@@ -137,11 +137,11 @@ holds_nothing : (s : StackWorld) (slots : List Slot) (m : Option InstanceId) (id
 holds_nothing s slots m [] e h = refl
 holds_nothing s slots m (c ∷ ids) e h = absurd (subst (λ p. HoldsIn s slots p c) e (All-head (HoldsIn s slots m) c ids h))
 
-pub empty_hand : (w : World) (k : WorkerId) (a : Worker) → worker_at w.workers k ≡ Some a → place_in (Some a) ≡ None → IsOwned w → hand_of w.contexts.hands k.0 ≡ []
+pub empty_hand : (w : World) (k : WorkerId) (a : Place) → worker_at w.workers k ≡ Some a → place_in (Some a) ≡ None → IsOwned w → hand_of w.contexts.hands k.0 ≡ []
 empty_hand w k a at outside h = holds_nothing w.stack w.contexts.slots (place_in (worker_at w.workers k)) (hand_of w.contexts.hands k.0) (ap place_in at ∙ outside) (h.holders k)
 
 -- no cleanup begins or ends
-pub cleaning_stays : (w : World) (cleaning : List (Option CtxId)) (k : WorkerId) (a b : Worker) → worker_at w.workers k ≡ Some a → cleaning ≡ w.contexts.cleaning
+pub cleaning_stays : (w : World) (cleaning : List (Option CtxId)) (k : WorkerId) (a b : Place) → worker_at w.workers k ≡ Some a → cleaning ≡ w.contexts.cleaning
     → cleanup_in (Some a) ≡ None → cleanup_in (Some b) ≡ None
     → ((n : ℕ) → cleaning_of w.contexts.cleaning n ≡ cleanup_in (slice_get w.workers n))
     → (n : ℕ) → cleaning_of cleaning n ≡ cleanup_in (slice_get (put w.workers k b) n)
@@ -151,7 +151,7 @@ cleaning_stays w cleaning k a b at same na nb h n =
     (h k.0 ∙ ap cleanup_in at ∙ na ∙ sym nb) (λ j apart. h j) n
 
 -- a worker goes elsewhere, with another hand; instances keep their filters, and contexts their owners
-pub owned_moves : (w : World) (t : StackWorld) (u : FlowTable) (c : ContextTable) (k : WorkerId) (a b : Worker) (hand : List CtxId) → worker_at w.workers k ≡ Some a → k.0 < 48
+pub owned_moves : (w : World) (t : StackWorld) (u : FlowTable) (c : ContextTable) (k : WorkerId) (a b : Place) (hand : List CtxId) → worker_at w.workers k ≡ Some a → k.0 < 48
     → ((n : ℕ) → cleaning_of c.cleaning n ≡ cleanup_in (slice_get (put w.workers k b) n)) → FiltersStay w.stack t → OwnersStay w.contexts.slots c.slots
     → IsLawful (λ id. carried id u) c → c.hands ≡ slice_set w.contexts.hands k.0 hand → All (HoldsIn t c.slots (place_in (Some b))) hand
     → AllCarry t c.slots u.operations → AllFit t c.slots → ((j : InstanceId) → is_flown_by (row_at t j) ≡ false → in_flight j.0 u ≡ 0) → IsOwned w
@@ -162,7 +162,7 @@ owned_moves w t u c k a b hand at worker cleans filters owners lawful hands here
     hands worker (subst (λ m. All (HoldsIn t c.slots (place_in m)) hand) (sym is) here) carry fit quiet h
 
 -- a worker goes from one place to another, neither of which is a cleanup, and held nothing; instances go on
-pub goes_owned : (old : World) (k : WorkerId) (a b : Worker) (t : StackWorld) → worker_at old.workers k ≡ Some a → place_in (Some a) ≡ None
+pub goes_owned : (old : World) (k : WorkerId) (a b : Place) (t : StackWorld) → worker_at old.workers k ≡ Some a → place_in (Some a) ≡ None
     → cleanup_in (Some a) ≡ None → cleanup_in (Some b) ≡ None → RowsGoOn old t → length old.stack.filters ≤ length t.filters → VolumesStay old.stack t → IsSound old
     → IsOwned (record old { stack = t; workers = put old.workers k b })
 goes_owned old k a b t at outside na nb on filters volumes s =
@@ -181,30 +181,30 @@ unfolding Attaches stack.Attaches
 attach_does old k f v name altitude result new h =
     idle_by (λ _ w. Does old w) k result old new _ h (λ why. nothing old) (λ at event. by_result result at event.0 event.1)
   where
-    by_result : (result : Result InstanceId Status) → worker_at old.workers k ≡ Some Worker.Idle → stack.Attaches old.stack f v name altitude result new.stack
+    by_result : (result : Result InstanceId Status) → worker_at old.workers k ≡ Some Place.Idle → stack.Attaches old.stack f v name altitude result new.stack
         → new ≡ record old { stack = new.stack; workers = after_attach old.workers k result } → Does old new
     by_result (Err why) at h e = unchanged old new (e ∙ ap (λ x. record old { stack = x }) h.1)
     by_result (Ok i) at h e =
         let t = stack.attached old.stack f v name altitude in
         let on : RowsGoOn old t =
         λ j row there. (row, slice_get-kept old.stack.instances (stack.new_instance f v name altitude ∷ []) j row there, goes_same old j row row refl refl) in
-        makes old (record old { stack = t; workers = put old.workers k (Worker.Setup i) }) new
-        (e ∙ ap (λ x. record old { stack = x; workers = put old.workers k (Worker.Setup i) }) h.1.1) (still old.contexts) (λ s. record {
+        makes old (record old { stack = t; workers = put old.workers k (Place.Setup i) }) new
+        (e ∙ ap (λ x. record old { stack = x; workers = put old.workers k (Place.Setup i) }) h.1.1) (still old.contexts) (λ s. record {
           under_way = attach_keeps old k f v name altitude i at h.0 h.1.0 s.under_way;
-          owned = goes_owned old k Worker.Idle (Worker.Setup i) t at refl refl refl on (omega arith) (λ v h. h) s;
+          owned = goes_owned old k Place.Idle (Place.Setup i) t at refl refl refl on (omega arith) (λ v h. h) s;
           filed = s.filed;
           links = s.links;
         })
 
 -- ---- a callback returns: what it held is gone, and its worker is idle
 
-callback_returns : (old : World) (k : WorkerId) (a : Worker) (t : StackWorld) (c : ContextTable) → worker_at old.workers k ≡ Some a → cleanup_in (Some a) ≡ None
+callback_returns : (old : World) (k : WorkerId) (a : Place) (t : StackWorld) (c : ContextTable) → worker_at old.workers k ≡ Some a → cleanup_in (Some a) ≡ None
     → FiltersStay old.stack t → OwnersStay old.contexts.slots c.slots → IsSound old
     → c.hands ≡ slice_set old.contexts.hands k.0 [] → c.cleaning ≡ old.contexts.cleaning
     → IsLawful (carries old) c → AllFit t c.slots → ((j : InstanceId) → is_flown_by (row_at t j) ≡ false → in_flight j.0 old.flow ≡ 0)
-    → IsOwned (record old { stack = t; workers = put old.workers k Worker.Idle; contexts = c })
+    → IsOwned (record old { stack = t; workers = put old.workers k Place.Idle; contexts = c })
 callback_returns old k a t c at na filters owners s hands cleaning lawful fit quiet =
-    owned_moves old t old.flow c k a Worker.Idle [] at (worker_below old k a at s.under_way) (cleaning_stays old c.cleaning k a Worker.Idle at cleaning na refl s.owned.cleaning)
+    owned_moves old t old.flow c k a Place.Idle [] at (worker_below old k a at s.under_way) (cleaning_stays old c.cleaning k a Place.Idle at cleaning na refl s.owned.cleaning)
     filters owners lawful hands (All-nil (HoldsIn t c.slots None))
     (all_carry_still old.stack old.contexts.slots t c.slots old.flow.operations (belongs_still old.stack old.contexts.slots t c.slots filters owners) s.owned.completions) fit
     quiet s.owned
@@ -214,9 +214,9 @@ abbrev pub OwnsAndNames : World → Type 0
 OwnsAndNames w = IsOwned w × NamedIn w
 
 -- and instances go on
-pub returns_owned : (old : World) (k : WorkerId) (a : Worker) (t : StackWorld) (left : ContextTable) → worker_at old.workers k ≡ Some a → cleanup_in (Some a) ≡ None
+pub returns_owned : (old : World) (k : WorkerId) (a : Place) (t : StackWorld) (left : ContextTable) → worker_at old.workers k ≡ Some a → cleanup_in (Some a) ≡ None
     → RowsGoOn old t → length old.stack.filters ≤ length t.filters → VolumesStay old.stack t → Leaves (carries old) old.contexts left k.0 → IsSound old
-    → OwnsAndNames (record old { stack = t; workers = put old.workers k Worker.Idle; contexts = left })
+    → OwnsAndNames (record old { stack = t; workers = put old.workers k Place.Idle; contexts = left })
 returns_owned old k a t left at na on filters volumes leaves s = (
   callback_returns old k a t left at na (rows_filters old t on) (owners_same old.contexts.slots left.slots leaves.slots) s leaves.hands leaves.cleaning
       (leave_keeps k.0 s.owned.lawful leaves) (subst (AllFit t) (sym leaves.slots) (goes_fit old t on filters volumes s.owned)) (rows_quiet old t on s.owned.quiet),
@@ -239,10 +239,10 @@ emptied_fits : (s : StackWorld) (i : InstanceId) (row : Instance) (x : Context) 
 emptied_fits s i row x h4 h5 = grind (arith, and_parts, owner_stays, emptied_left, and_from, link_stays, others_link, updated-other)
 
 -- and the instance is to be emptied: its contexts lose their links
-pub emptied_owned : (old : World) (k : WorkerId) (a : Worker) (i : InstanceId) (row : Instance) (left after : ContextTable) → worker_at old.workers k ≡ Some a → cleanup_in (Some a) ≡ None
+pub emptied_owned : (old : World) (k : WorkerId) (a : Place) (i : InstanceId) (row : Instance) (left after : ContextTable) → worker_at old.workers k ≡ Some a → cleanup_in (Some a) ≡ None
     → slice_get old.stack.instances i.0 ≡ Some row → is_flown row.phase ≡ false → Leaves (carries old) old.contexts left k.0
     → Sweeps (carries old) (is_linked_of (Owner.Instance i)) left after → IsSound old
-    → OwnsAndNames (record old { stack = stack.refused old.stack i; workers = put old.workers k Worker.Idle; contexts = after })
+    → OwnsAndNames (record old { stack = stack.refused old.stack i; workers = put old.workers k Place.Idle; contexts = after })
 emptied_owned old k a i row left after at na there rests leaves empties s =
     let t = stack.refused old.stack i in
     let test = is_linked_of (Owner.Instance i) in
@@ -265,23 +265,23 @@ accepted_goes : (w : World) (i : InstanceId) (row : Instance) → is_setup row.p
 accepted_goes w i row setup = record { filter = refl; left = λ h. refl; keeps = λ h. refl; quiet = λ h. inl (ap is_flown (setup_is row.phase setup)) }
 
 setup_owned : (old : World) (k : WorkerId) (i : InstanceId) (accept : Bool) (result : Result (Unit {0}) Status) (new : World) (left : ContextTable)
-    → worker_at old.workers k ≡ Some (Worker.Setup i) → stack.SetsUp old.stack i accept result new.stack → Leaves (carries old) old.contexts left k.0
-    → EmptiesUnless result i old left new.contexts → new ≡ record old { stack = new.stack; workers = put old.workers k Worker.Idle; contexts = new.contexts }
+    → worker_at old.workers k ≡ Some (Place.Setup i) → stack.SetsUp old.stack i accept result new.stack → Leaves (carries old) old.contexts left k.0
+    → EmptiesUnless result i old left new.contexts → new ≡ record old { stack = new.stack; workers = put old.workers k Place.Idle; contexts = new.contexts }
     → IsSound old → OwnsAndNames new
 unfolding stack.SetsUp
 setup_owned old k i accept (Ok done) new left at h leaves empties e s =
     let row = setup_place old k i s.under_way at in
     let t = stack.accepted old.stack i in
-    let made = e ∙ ap (λ x. record old { stack = x; workers = put old.workers k Worker.Idle; contexts = new.contexts }) h.1
-    ∙ ap (λ c. record old { stack = t; workers = put old.workers k Worker.Idle; contexts = c }) empties in
+    let made = e ∙ ap (λ x. record old { stack = x; workers = put old.workers k Place.Idle; contexts = new.contexts }) h.1
+    ∙ ap (λ c. record old { stack = t; workers = put old.workers k Place.Idle; contexts = c }) empties in
     subst OwnsAndNames (sym made)
-    (returns_owned old k (Worker.Setup i) t left at refl
+    (returns_owned old k (Place.Setup i) t left at refl
     (row_goes old t i.0 row.0 (accept_row old.stack.births row.0) (row_updated old.stack t (accept_row old.stack.births) i.0 row.0 refl row.1) (accepted_goes old i row.0 row.2))
     (omega arith) (λ v h. h) leaves s)
 setup_owned old k i accept (Err why) new left at h leaves empties e s =
     let row = setup_place old k i s.under_way at in
-    subst OwnsAndNames (sym (e ∙ ap (λ x. record old { stack = x; workers = put old.workers k Worker.Idle; contexts = new.contexts }) h.1))
-    (emptied_owned old k (Worker.Setup i) i row.0 left new.contexts at refl row.1 (ap is_flown (setup_is row.0.phase row.2)) leaves empties s)
+    subst OwnsAndNames (sym (e ∙ ap (λ x. record old { stack = x; workers = put old.workers k Place.Idle; contexts = new.contexts }) h.1))
+    (emptied_owned old k (Place.Setup i) i row.0 left new.contexts at refl row.1 (ap is_flown (setup_is row.0.phase row.2)) leaves empties s)
 
 emptied : (old : World) (i : InstanceId) (left after : ContextTable) (result : Result (Unit {0}) Status) → EmptiesUnless result i old left after
     → TableStays left after × (after.hands ≡ left.hands)
@@ -293,9 +293,9 @@ pub setup_does : (old : World) (k : WorkerId) (accept : Bool) (result : Result (
 unfolding SetsUp
 setup_does old k accept result new h = by_place (worker_at old.workers k) refl h
   where
-    by_place : (m : Option Worker) → worker_at old.workers k ≡ m → SetsUpAt old k accept result new m
+    by_place : (m : Option Place) → worker_at old.workers k ≡ m → SetsUpAt old k accept result new m
         → Does old new × (hand_len k.0 new ≡ left_by_setup m (hand_len k.0 old))
-    by_place (Some (Worker.Setup i)) at e =
+    by_place (Some (Place.Setup i)) at e =
         let ends = emptied old i e.1 new.contexts result e.3 in (
           record {
             sound = λ s.

@@ -9,7 +9,7 @@ use Rattle.fm_world.proofs.Words.{pre_step, returned, sent, sent_in, state_at, s
 use Rattle.fm_world.proofs.Words.{LosesLinks, names_there, AskCarries, CarriesIn, HoldsIn, fits, place_in, IsFileSound, IsOwned, IsSound, IsUnderWay, Answer}
 use Rattle.fm_world.proofs.Words.{Ask, ContextTable, CtxId, FlowRecord, FlowTable, HandleId, InBase, InDrain, InstanceId, IsLawful, Leaves, OpId, Operation}
 use Rattle.fm_world.proofs.Words.{PostRunning, PreRunning, PreState, Slot, StackWorld, Status, StreamId, WorkerId, changed, hand_of, is_create, one}
-use Rattle.fm_world.proofs.Words.{operation_at, owed, told, cleanup_in, worker_at, World, carries, Worker, All, Bool, Err, List, None, Ok, Option, Result, Some}
+use Rattle.fm_world.proofs.Words.{operation_at, owed, told, cleanup_in, worker_at, World, carries, Place, All, Bool, Err, List, None, Ok, Option, Result, Some}
 use Rattle.fm_world.proofs.Words.{[], ap, arith, cond, false, option_map, refl, slice_get, slice_set, subst, sym, true, ℕ, ◌++◌, ◌+◌, ◌<◌, ◌==◌, ◌∙◌, ◌≡◌, ◌≤◌}
 use Rattle.fm_world.proofs.Words.{and_from, common_steps, set-set, All-nil, same_Some}
 use Rattle.std.proofs.Common.{option_to_list}
@@ -64,7 +64,7 @@ sent_lawful w o f k None worker law balance has = lawful_alike (λ c. omega (ari
 sent_lawful w o f k (Some d) worker law balance has = carry_keeps (carries_after w o f) k.0 d law worker (has d refl) (λ c. balance c)
 
 -- what a preoperation sends along is carried from then on
-pub pre_balance : (w : World) (k : WorkerId) (o : OpId) (i : InstanceId) (state : PreState) (lent : Data) → worker_at w.workers k ≡ Some (Worker.Pre o i) → IsUnderWay w → (c : CtxId)
+pub pre_balance : (w : World) (k : WorkerId) (o : OpId) (i : InstanceId) (state : PreState) (lent : Data) → worker_at w.workers k ≡ Some (Place.Pre o i) → IsUnderWay w → (c : CtxId)
     → carries_after w o (pre_returned_of state lent) c ≡ carries w c + carried_in c (record { number = 0; context = sent_in state })
 pre_balance w k o i state lent at s c =
     let x = inside_pre w k o i at s in
@@ -139,7 +139,7 @@ none_ends : (old : World) (k : WorkerId) (why : Status) → Ends old k (Err why)
 none_ends old k why = (nothing old, (refl, refl))
 
 pre_sound : (old : World) (k : WorkerId) (o : OpId) (i : InstanceId) (given : PreVerdict) (lent : Data) (after : ContextTable) (new : World)
-    → worker_at old.workers k ≡ Some (Worker.Pre o i) → told (λ r. data_fits r.operation r.path lent) false o old.flow ≡ true
+    → worker_at old.workers k ≡ Some (Place.Pre o i) → told (λ r. data_fits r.operation r.path lent) false o old.flow ≡ true
     → Leaves (carries_after old o (pre_step old k o i given lent)) (sent old.contexts k (sent_in (state_at old k o i given))) after k.0
     → LosesLinks (pre_made old k o i given lent after) new → IsSound old → IsSound new
 pre_sound old k o i given lent after new at fits leaves loses s =
@@ -149,7 +149,7 @@ pre_sound old k o i given lent after new at fits leaves loses s =
     let f = pre_returned_of state lent in
     let t = changed o f old.flow in
     let slots = old.contexts.slots in
-    let worker = worker_below old k (Worker.Pre o i) at s.under_way in
+    let worker = worker_below old k (Place.Pre o i) at s.under_way in
     let has = sent_is_held old k o i given in
     let law = sent_lawful old o f k (sent_in state) worker s.owned.lawful (pre_balance old k o i state lent at s.under_way) has in
     let rests = sent_rests old.contexts k (sent_in state) in
@@ -159,14 +159,14 @@ pre_sound old k o i given lent after new at fits leaves loses s =
     ap (λ x. is_running (pre_leads x)) (told_there (state_given old.stack (hand_of old.contexts.hands k.0) i given) PreState.Passed o old.flow r x.0.at)
     ∙ counted_quiet (of_hand (hand_of old.contexts.hands k.0) given) r.operation (has_post old.stack (slice_get old.stack.instances i.0) r.operation) in
     loses_sound (pre_made old k o i given lent after) new loses
-    (return_keeps old k (Worker.Pre o i) o r f (λ j. 0) at x.0.at (λ x. record { number = refl; collected = refl })
-    (subst (Matches o (Worker.Pre o i)) (sym (ap (λ a. spot_at a r.entries) x.1 ∙ ap (option_map AtPre) x.2)) (matches_pre o i)) quiet
-    (in_no_drain o (Worker.Pre o i) (λ p j. refl)) (λ j. omega (arith, drains_pre_settled j state r.entries)) (at_none (Worker.Pre o i) refl)
+    (return_keeps old k (Place.Pre o i) o r f (λ j. 0) at x.0.at (λ x. record { number = refl; collected = refl })
+    (subst (Matches o (Place.Pre o i)) (sym (ap (λ a. spot_at a r.entries) x.1 ∙ ap (option_map AtPre) x.2)) (matches_pre o i)) quiet
+    (in_no_drain o (Place.Pre o i) (λ p j. refl)) (λ j. omega (arith, drains_pre_settled j state r.entries)) (at_none (Place.Pre o i) refl)
     (sound_pre_returned state lent r x.1 (counted_from state quiet) (sym (told_there (λ (x : FlowRecord). data_fits x.operation x.path lent) false o old.flow r x.0.at) ∙ fits) x.0.sound)
     (undone_at r PreRunning x.1 refl)
     (among_settles old.stack r.volume r.born r.operation r.entries r.stage (pre_leads state) (settle_pre state) (settle_pre_keeps state)
     (not_base_of (pre_leads state) quiet) x.0.among) s.under_way)
-    (left_owned old o r f k (Worker.Pre o i) (sent old.contexts k (sent_in state)) after x.0.at at worker refl law rests.0 rests.1 rests.2 leaves
+    (left_owned old o r f k (Place.Pre o i) (sent old.contexts k (sent_in state)) after x.0.at at worker refl law rests.0 rests.1 rests.2 leaves
     (subst (All (AskCarries old.stack slots)) (sym settled.2)
     (asked_carries old.stack slots settled.0 state (owed r.entries)
     (subst (λ x. CarriesIn old.stack slots x (sent_in state)) (sym visited) (sent_owned old k i (sent_in state) (ap place_in at) has s)) (asks_of old o r x.0.at s.owned)))
@@ -180,7 +180,7 @@ pub pre_does : (old : World) (k : WorkerId) (given : PreVerdict) (lent : Data) (
 unfolding PreReturns
 pre_does old k given lent result new h = by_place (worker_at old.workers k) refl h
   where
-    ends : (o : OpId) (i : InstanceId) (after : ContextTable) → worker_at old.workers k ≡ Some (Worker.Pre o i)
+    ends : (o : OpId) (i : InstanceId) (after : ContextTable) → worker_at old.workers k ≡ Some (Place.Pre o i)
         → told (λ r. data_fits r.operation r.path lent) false o old.flow ≡ true
         → Leaves (carries_after old o (pre_step old k o i given lent)) (sent old.contexts k (sent_in (state_at old k o i given))) after k.0
         → LosesLinks (pre_made old k o i given lent after) new → Ends old k (Ok tt) new
@@ -194,8 +194,8 @@ pre_does old k given lent result new h = by_place (worker_at old.workers k) refl
           hand_emptied k.0 old new (loses.0.hands ∙ leaves.hands ∙ rests.2),
         )
 
-    by_place : (m : Option Worker) → worker_at old.workers k ≡ m → PreReturnsAt old k given lent result new m → Ends old k result new
-    by_place (Some (Worker.Pre o i)) at h =
+    by_place : (m : Option Place) → worker_at old.workers k ≡ m → PreReturnsAt old k given lent result new m → Ends old k result new
+    by_place (Some (Place.Pre o i)) at h =
         unless_by (λ r w. Ends old k r w) _ _ result old new _ h (none_ends old k) (λ fits e. subst (λ r. Ends old k r new) (sym e.0)
         (ends o i e.1.0.contexts at fits e.1.1.0 (subst (λ w. LosesLinks w new) e.1.1.1 e.1.2)))
     by_place _ at h = refused_by (λ r w. Ends old k r w) Status.WrongStep result old new h (none_ends old k)
@@ -211,7 +211,7 @@ base_answered : (f : FileTable) (call : BaseCall) (given : Answer) (r : FlowReco
     → IsAnswered f given.status r (base_returned_of call given (record { 0 = f.next }) r)
 base_answered f call given r same = grind arith
 
-base_sound : (old : World) (k : WorkerId) (o : OpId) (call : BaseCall) (given : Answer) (new : World) → worker_at old.workers k ≡ Some (Worker.Base o)
+base_sound : (old : World) (k : WorkerId) (o : OpId) (call : BaseCall) (given : Answer) (new : World) → worker_at old.workers k ≡ Some (Place.Base o)
     → told (base_fits call given) false o old.flow ≡ true → LosesLinks (base_returned old k o call given) new → IsSound old → IsSound new
 base_sound old k o call given new at fits loses s =
     let x = inside_base old k o at s.under_way in
@@ -224,14 +224,14 @@ base_sound old k o call given new at fits loses s =
     let fitting = sym (told_there (base_fits call given) false o old.flow r x.0.at) ∙ fits in
     let no_base' = no_base r.stage r.entries x.0.sound.course.order (ap (λ x. is_up (way_of x)) x.1) in
     loses_sound (base_returned old k o call given) new loses
-    (return_keeps old k (Worker.Base o) o r f (λ j. 0) at x.0.at (λ x. record { number = refl; collected = refl })
-    (subst (Matches o (Worker.Base o)) (sym (ap (λ a. spot_at a r.entries) x.1)) (matches_base o)) refl
-    (in_no_drain o (Worker.Base o) (λ p j. refl)) (λ j. omega (arith, drains_push j r.entries (Base counts.status counts.information))) (at_none (Worker.Base o) refl)
+    (return_keeps old k (Place.Base o) o r f (λ j. 0) at x.0.at (λ x. record { number = refl; collected = refl })
+    (subst (Matches o (Place.Base o)) (sym (ap (λ a. spot_at a r.entries) x.1)) (matches_base o)) refl
+    (in_no_drain o (Place.Base o) (λ p j. refl)) (λ j. omega (arith, drains_push j r.entries (Base counts.status counts.information))) (at_none (Place.Base o) refl)
     (sound_base call given handle r x.1 fitting x.0.sound) (undone_at r InBase x.1 refl)
     (among_base old.stack r.volume r.born r.operation r.entries r.stage counts.status counts.information no_base' (x.0.among.base x.1) x.0.among) s.under_way)
-    (step_owned old o r f k (Worker.Base o) Worker.Idle old.contexts (hand_of old.contexts.hands k.0) x.0.at at (worker_below old k (Worker.Base o) at s.under_way) refl refl
+    (step_owned old o r f k (Place.Base o) Place.Idle old.contexts (hand_of old.contexts.hands k.0) x.0.at at (worker_below old k (Place.Base o) at s.under_way) refl refl
     (lawful_alike (λ c. omega (arith, carried_changed old.flow o r f x.0.at c, base_returned_carries c call given handle r)) s.owned.lawful) refl (same_hands old.contexts.hands k.0) refl
-    (subst (All (HoldsIn old.stack slots None)) (sym (empty_hand old k (Worker.Base o) at refl s.owned)) (All-nil (HoldsIn old.stack slots None)))
+    (subst (All (HoldsIn old.stack slots None)) (sym (empty_hand old k (Place.Base o) at refl s.owned)) (All-nil (HoldsIn old.stack slots None)))
     (subst (All (AskCarries old.stack slots)) (sym (owed_push_none r.entries (Base counts.status counts.information) refl (λ i. refl))) (asks_of old o r x.0.at s.owned))
     (quieter old o r f x.0.at (λ i. omega (arith, base_returned_flies i call given handle r)) s.owned.quiet) s.owned)
     (subst (λ (files : FileTable). IsFileSound files t) (sym (told_there (filed_record old.files t given.status) old.files o old.flow r x.0.at))
@@ -241,8 +241,8 @@ pub base_does : (old : World) (k : WorkerId) (call : BaseCall) (given : Answer) 
 unfolding BaseReturns
 base_does old k call given result new h = by_place (worker_at old.workers k) refl h
   where
-    by_place : (m : Option Worker) → worker_at old.workers k ≡ m → BaseReturnsAt old k call given result new m → Does old new
-    by_place (Some (Worker.Base o)) at h = unless_by (λ _ w. Does old w) _ _ result old new _ h (λ why. nothing old) (λ fits e. record {
+    by_place : (m : Option Place) → worker_at old.workers k ≡ m → BaseReturnsAt old k call given result new m → Does old new
+    by_place (Some (Place.Base o)) at h = unless_by (λ _ w. Does old w) _ _ result old new _ h (λ why. nothing old) (λ fits e. record {
       sound = λ s. base_sound old k o call given new at fits e.1 s;
       lasts = λ s. loses_lasts old (base_returned old k o call given) new e.1 (still old.contexts);
     })
@@ -253,13 +253,13 @@ base_does old k call given result new h = by_place (worker_at old.workers k) ref
 post_quiet : (given : PostVerdict) → is_running (post_leads (post_state given)) ≡ false
 post_quiet given = grind arith
 
-pub post_balance : (w : World) (k : WorkerId) (o : OpId) (i : InstanceId) (given : PostVerdict) (lent : Data) → worker_at w.workers k ≡ Some (Worker.Post o i) → IsUnderWay w
+pub post_balance : (w : World) (k : WorkerId) (o : OpId) (i : InstanceId) (given : PostVerdict) (lent : Data) → worker_at w.workers k ≡ Some (Place.Post o i) → IsUnderWay w
     → (c : CtxId) → carries_after w o (post_returned_of given lent) c ≡ carries w c
 post_balance w k o i given lent at s c =
     let x = inside_post w k o i at s in
     omega (arith, carried_changed w.flow o x.0.row (post_returned_of given lent) x.0.at c, post_returned_carries c given lent x.0.row x.1 x.0.sound)
 
-pub drain_balance : (w : World) (k : WorkerId) (o : OpId) (i : InstanceId) → worker_at w.workers k ≡ Some (Worker.Drain o i) → IsUnderWay w
+pub drain_balance : (w : World) (k : WorkerId) (o : OpId) (i : InstanceId) → worker_at w.workers k ≡ Some (Place.Drain o i) → IsUnderWay w
     → (c : CtxId) → carries_after w o (drain_returned_of i) c ≡ carries w c
 drain_balance w k o i at s c =
     let x = (inside_drain w k o i at s).0 in
@@ -270,7 +270,7 @@ abbrev pub AreKept : World → Type 0
 AreKept w = IsOwned w × IsFileSound w.files w.flow × AllPass (names_there w.files) w.contexts.slots
 
 -- a callback of an operation that has its answer returns: streams and handles stay, and what has a link has it still
-pub returned_kept : (old : World) (k : WorkerId) (a : Worker) (o : OpId) (r : FlowRecord) (f : FlowRecord → FlowRecord) (after : ContextTable) → operation_at o old.flow ≡ Some r
+pub returned_kept : (old : World) (k : WorkerId) (a : Place) (o : OpId) (r : FlowRecord) (f : FlowRecord → FlowRecord) (after : ContextTable) → operation_at o old.flow ≡ Some r
     → worker_at old.workers k ≡ Some a → cleanup_in (Some a) ≡ None → SameFile r (f r) → Leaves (carries_after old o f) old.contexts after k.0
     → ((c : CtxId) → carries_after old o f c ≡ carries old c) → owed (f r).entries ≡ owed r.entries → ((j : ℕ) → flight j (f r) ≤ flight j r)
     → IsSound old → AreKept (record (returned old k o f) { contexts = after })
@@ -281,7 +281,7 @@ returned_kept old k a o r f after at worker outside same leaves balance owes few
   subst (AllPass (names_there old.files)) (sym leaves.slots) s.links,
 )
 
-pub returned_sound : (old : World) (k : WorkerId) (a : Worker) (o : OpId) (r : FlowRecord) (f : FlowRecord → FlowRecord) (after : ContextTable) → operation_at o old.flow ≡ Some r
+pub returned_sound : (old : World) (k : WorkerId) (a : Place) (o : OpId) (r : FlowRecord) (f : FlowRecord → FlowRecord) (after : ContextTable) → operation_at o old.flow ≡ Some r
     → worker_at old.workers k ≡ Some a → cleanup_in (Some a) ≡ None → SameFile r (f r) → Leaves (carries_after old o f) old.contexts after k.0
     → ((c : CtxId) → carries_after old o f c ≡ carries old c) → owed (f r).entries ≡ owed r.entries → ((j : ℕ) → flight j (f r) ≤ flight j r)
     → IsUnderWay (returned old k o f) → IsSound old → IsSound (record (returned old k o f) { contexts = after })
@@ -298,25 +298,25 @@ post_does old k given lent result new h = by_place lent (worker_at old.workers k
         → (IsSound old → IsSound (record (returned old k o f) { contexts = new.contexts })) → Ends old k result new
     ends o f e sound = subst (λ r. Ends old k r new) (sym e.0) (grind (arith, common_steps))
 
-    by_place : (lent : Option Data) (m : Option Worker) → worker_at old.workers k ≡ m → PostReturnsAt old k given lent result new m → Ends old k result new
-    by_place (Some back) (Some (Worker.Post o i)) at h = unless_by (λ r w. Ends old k r w) _ _ result old new _ h (none_ends old k) (λ fits e. ends o (post_returned_of given back) e (λ s.
+    by_place : (lent : Option Data) (m : Option Place) → worker_at old.workers k ≡ m → PostReturnsAt old k given lent result new m → Ends old k result new
+    by_place (Some back) (Some (Place.Post o i)) at h = unless_by (λ r w. Ends old k r w) _ _ result old new _ h (none_ends old k) (λ fits e. ends o (post_returned_of given back) e (λ s.
         let x = inside_post old k o i at s.under_way in
         let r = x.0.row in
         let f = post_returned_of given back in
         let state = post_state given in
-        returned_sound old k (Worker.Post o i) o r f new.contexts x.0.at at refl (answered_same r (f r) refl refl (ap is_unanswered x.1)
+        returned_sound old k (Place.Post o i) o r f new.contexts x.0.at at refl (answered_same r (f r) refl refl (ap is_unanswered x.1)
         (elim given as (λ g. is_unanswered (post_leads (post_state g)) ≡ false) [ PostVerdict.Finished ↦ refl | PostVerdict.MoreProcessing ↦ refl ])) e.1.0
         (post_balance old k o i given back at s.under_way)
         (owed_post_settled PostRunning r.entries state refl (subst (λ x. IsCourse x r.entries) x.1 x.0.sound.course))
         (λ j. omega (arith, post_returned_flies j given back r x.1 x.0.sound))
-        (return_keeps old k (Worker.Post o i) o r f (λ j. 0) at x.0.at (λ x. record { number = refl; collected = refl })
-        (subst (Matches o (Worker.Post o i)) (sym (ap (λ a. spot_at a r.entries) x.1 ∙ ap (option_map AtPost) x.2)) (matches_post o i)) (post_quiet given)
-        (in_no_drain o (Worker.Post o i) (λ p j. refl)) (λ j. omega (arith, drains_post_settled j state r.entries)) (at_none (Worker.Post o i) refl)
+        (return_keeps old k (Place.Post o i) o r f (λ j. 0) at x.0.at (λ x. record { number = refl; collected = refl })
+        (subst (Matches o (Place.Post o i)) (sym (ap (λ a. spot_at a r.entries) x.1 ∙ ap (option_map AtPost) x.2)) (matches_post o i)) (post_quiet given)
+        (in_no_drain o (Place.Post o i) (λ p j. refl)) (λ j. omega (arith, drains_post_settled j state r.entries)) (at_none (Place.Post o i) refl)
         (sound_post_returned given back r x.1 (sym (told_there (λ (x : FlowRecord). data_fits x.operation x.path back) false o old.flow r x.0.at) ∙ fits) x.0.sound)
         (undone_at r PostRunning x.1 refl)
         (among_settles old.stack r.volume r.born r.operation r.entries r.stage (post_leads state) (settle_post state) (settle_post_keeps state)
         (not_base_of (post_leads state) (post_quiet given)) x.0.among) s.under_way) s))
-    by_place None (Some (Worker.Drain o i)) at e = ends o (drain_returned_of i) e (λ s.
+    by_place None (Some (Place.Drain o i)) at e = ends o (drain_returned_of i) e (λ s.
         let x = inside_drain old k o i at s.under_way in
         let r = x.0.row in
         let f = drain_returned_of i in
@@ -324,13 +324,13 @@ post_does old k given lent result new h = by_place lent (worker_at old.workers k
         let even : (j : ℕ) → drain_opens j (f r).entries + one (i.0 == j) ≡ drain_opens j r.entries = λ j.
         let ends : cond (i.0 == j) (drain_opens i.0 r.entries) 0 ≡ one (i.0 == j) = ap (λ n. cond (i.0 == j) n 0) runs in
         omega (arith, drains_drain_settled i.0 j r.entries, ends) in
-        returned_sound old k (Worker.Drain o i) o r f new.contexts x.0.at at refl (answered_same r (f r) refl refl (ap is_unanswered x.1) refl) e.1.0
+        returned_sound old k (Place.Drain o i) o r f new.contexts x.0.at at refl (answered_same r (f r) refl refl (ap is_unanswered x.1) refl) e.1.0
         (drain_balance old k o i at s.under_way) (owed_drain_settled i.0 r.entries) (λ j. omega (arith, drain_returned_flies j i r x.1 x.0.sound))
-        (return_keeps old k (Worker.Drain o i) o r f (λ j. one (i.0 == j)) at x.0.at (λ x. record { number = refl; collected = refl })
-        (subst (Matches o (Worker.Drain o i)) (sym (ap (λ a. spot_at a r.entries) x.1)) (matches_drain o i)) refl (in_a_drain o i) even (at_none (Worker.Drain o i) refl)
+        (return_keeps old k (Place.Drain o i) o r f (λ j. one (i.0 == j)) at x.0.at (λ x. record { number = refl; collected = refl })
+        (subst (Matches o (Place.Drain o i)) (sym (ap (λ a. spot_at a r.entries) x.1)) (matches_drain o i)) refl (in_a_drain o i) even (at_none (Place.Drain o i) refl)
         (sound_drain_returned i r x.1 x.0.sound) (undone_at r (InDrain i) x.1 refl)
         (among_settles old.stack r.volume r.born r.operation r.entries r.stage Ascending (settle_drain i.0) (settle_drain_keeps i.0)
         (not_base_of Ascending refl) x.0.among) s.under_way) s)
-    by_place None (Some (Worker.Post o i)) at h = refused_by (λ r w. Ends old k r w) Status.BadRequest result old new h (none_ends old k)
-    by_place (Some back) (Some (Worker.Drain o i)) at h = refused_by (λ r w. Ends old k r w) Status.BadRequest result old new h (none_ends old k)
+    by_place None (Some (Place.Post o i)) at h = refused_by (λ r w. Ends old k r w) Status.BadRequest result old new h (none_ends old k)
+    by_place (Some back) (Some (Place.Drain o i)) at h = refused_by (λ r w. Ends old k r w) Status.BadRequest result old new h (none_ends old k)
     by_place _ _ at h = refused_by (λ r w. Ends old k r w) Status.WrongStep result old new h (none_ends old k)

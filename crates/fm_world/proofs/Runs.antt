@@ -5,7 +5,7 @@ use Rattle.fm_world.proofs.Words.{IsInOrder, IsSynchronized, RulesKeepHeadline, 
 use Rattle.fm_world.proofs.Words.{is_flown_by, is_left_by, keeps_links_by, link_fits, may_link, owner_fits, place_in, row_at, IsAmong, IsSound, Run, RunThrough}
 use Rattle.fm_world.proofs.Words.{Steps, Ask, Context, CtxId, FlowRecord, Instance, InstanceId, Object, Owner, Slot, StackWorld, WorkerId, hand_of, instances}
 use Rattle.fm_world.proofs.Words.{one, open_of, owed, owner_at, cleanup_in, worker_at, World, empty_stack, empty_world, reference_count, Step, StepReply}
-use Rattle.fm_world.proofs.Words.{Worker, All, Bool, List, None, Option, Some, [], ap, arith, cond, false, get_or, is_some, option_and_then, option_map, refl}
+use Rattle.fm_world.proofs.Words.{Place, All, Bool, List, None, Option, Some, [], ap, arith, cond, false, get_or, is_some, option_and_then, option_map, refl}
 use Rattle.fm_world.proofs.Words.{slice_get, subst, suc, sym, true, ℕ, ◌++◌, ◌==◌, ◌∙◌, ◌∷◌, ◌≡◌, and_parts, eq-eqb, true≢false, length-replicate, All-head}
 use Rattle.fm_world.proofs.Words.{All-nil, All-tail, All-weaker, sum_by-cons, none-some, same_Some}
 use Rattle.std.proofs.Common.{replicate}
@@ -123,7 +123,7 @@ emptied_counts w i c s gone owned =
       none_held w i c x s gone there mine,
     )) owned
 
-no_cleanup : (n k : ℕ) → cleanup_in (slice_get (replicate n Worker.Idle) k) ≡ None
+no_cleanup : (n k : ℕ) → cleanup_in (slice_get (replicate n Place.Idle) k) ≡ None
 no_cleanup (suc n) (suc k) = no_cleanup n k
 no_cleanup _ _ = refl
 
@@ -141,8 +141,8 @@ empty_sound = record {
   owned = record {
     lawful = lawful_alike nothing_carried lawful_empty;
     cleaning = λ n. same_in 48 n None ∙ sym (no_cleanup 48 n);
-    holders = λ k. subst (All (HoldsIn empty_stack [] (place_in (slice_get (replicate 48 Worker.Idle) k.0)))) (sym (same_in 48 k.0 []))
-        (All-nil (HoldsIn empty_stack [] (place_in (slice_get (replicate 48 Worker.Idle) k.0))));
+    holders = λ k. subst (All (HoldsIn empty_stack [] (place_in (slice_get (replicate 48 Place.Idle) k.0)))) (sym (same_in 48 k.0 []))
+        (All-nil (HoldsIn empty_stack [] (place_in (slice_get (replicate 48 Place.Idle) k.0))));
     completions = All-nil (λ (r : FlowRecord). All (AskCarries empty_stack []) (owed r.entries));
     fits = All-nil (λ (x : Slot). fits empty_stack x.context ≡ true);
     quiet = λ i rests. refl;

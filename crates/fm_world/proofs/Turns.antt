@@ -8,7 +8,7 @@ use Rattle.fm_world.proofs.Words.{OnlyHandOf, given_by_next, given_with, AtPost,
 use Rattle.fm_world.proofs.Words.{HoldsIn, is_flown_by, place_in, row_at, AreUnderWay, IsAmong, IsFileSound, IsOwned, IsSound, IsUnderWay, Ask, ContextTable}
 use Rattle.fm_world.proofs.Words.{CtxId, Descending, FlowAction, FlowRecord, FlowTable, InBase, InDrain, InstanceId, OpId, Params, PostRunning, PreRunning}
 use Rattle.fm_world.proofs.Words.{PreState, Slot, StackWorld, Stage, Status, WorkerId, change_first, changed, grabbed, hand_of, has_base, in_flight, is_create}
-use Rattle.fm_world.proofs.Words.{is_creating, one, operation_at, owed, visited, after_next, cleanup_in, gives_nothing, put, worker_at, World, carries, Worker}
+use Rattle.fm_world.proofs.Words.{is_creating, one, operation_at, owed, visited, after_next, cleanup_in, gives_nothing, put, worker_at, World, carries, Place}
 use Rattle.fm_world.proofs.Words.{All, Bool, Err, List, None, Ok, Option, Result, Some, [], ap, arith, cond, false, find, length, option_map, refl, slice_get}
 use Rattle.fm_world.proofs.Words.{slice_set, subst, sym, take, true, unwrap_or, ℕ, ◌&&◌, ◌++◌, ◌+◌, ◌<◌, ◌==◌, ◌∙◌, ◌∷◌, ◌≡◌, false≢true, set-get_or, All-cons}
 use Rattle.fm_world.proofs.Words.{All-nil, get_or_from_slice_get, none-some, slice_get_within}
@@ -117,7 +117,7 @@ nexted old k o lies reply = record old {
 pub record Turns (old : World) (k : WorkerId) (o : OpId) (new : World) : Type 0 where
   pub lies : Below
   pub row : FlowRecord
-  pub idle : worker_at old.workers k ≡ Some Worker.Idle
+  pub idle : worker_at old.workers k ≡ Some Place.Idle
   pub at : operation_at o old.flow ≡ Some row
   pub finds : row.stage ≡ Descending → LiesBelow old.stack row lies
   pub loses : LosesByKnown (turned_by old k o lies row).reply lies (nexted old k o lies (turned_by old k o lies row).reply) new
@@ -150,27 +150,27 @@ over_rests old k o lies result new loses h same = grind arith
 
 -- ---- what is under way
 
-abbrev pub placed_by : OpId → Result FlowAction Status → Worker
-placed_by o (Ok (FlowAction.Pre i lent)) = Worker.Pre o i
-placed_by o (Ok (FlowAction.Base call)) = Worker.Base o
-placed_by o (Ok (FlowAction.Post i lent completion)) = Worker.Post o i
-placed_by o (Ok (FlowAction.Drain i completion)) = Worker.Drain o i
-placed_by o _ = Worker.Idle
+abbrev pub placed_by : OpId → Result FlowAction Status → Place
+placed_by o (Ok (FlowAction.Pre i lent)) = Place.Pre o i
+placed_by o (Ok (FlowAction.Base call)) = Place.Base o
+placed_by o (Ok (FlowAction.Post i lent completion)) = Place.Post o i
+placed_by o (Ok (FlowAction.Drain i completion)) = Place.Drain o i
+placed_by o _ = Place.Idle
 
 pub record Placed (o : OpId) (reply : Result FlowAction Status) : Type 0 where
   pub drains : InDrains o (placed_by o reply) (λ i. drains_given i reply)
   pub outside : AtNoDesk (placed_by o reply)
-  pub puts : (workers : List Worker) (k : WorkerId) → worker_at workers k ≡ Some Worker.Idle → after_next workers k o reply ≡ put workers k (placed_by o reply)
+  pub puts : (workers : List Place) (k : WorkerId) → worker_at workers k ≡ Some Place.Idle → after_next workers k o reply ≡ put workers k (placed_by o reply)
 
 pub placed : (o : OpId) (reply : Result FlowAction Status) → Placed o reply
-placed o (Ok (FlowAction.Drain i completion)) = record { drains = in_a_drain o i; outside = at_none (Worker.Drain o i) refl; puts = λ workers k idle. refl }
-placed o (Ok (FlowAction.Pre i lent)) = record { drains = in_no_drain o (Worker.Pre o i) (λ p j. refl); outside = at_none (Worker.Pre o i) refl; puts = λ workers k idle. refl }
-placed o (Ok (FlowAction.Base call)) = record { drains = in_no_drain o (Worker.Base o) (λ p j. refl); outside = at_none (Worker.Base o) refl; puts = λ workers k idle. refl }
-placed o (Ok (FlowAction.Post i lent completion)) = record { drains = in_no_drain o (Worker.Post o i) (λ p j. refl); outside = at_none (Worker.Post o i) refl; puts = λ workers k idle. refl }
+placed o (Ok (FlowAction.Drain i completion)) = record { drains = in_a_drain o i; outside = at_none (Place.Drain o i) refl; puts = λ workers k idle. refl }
+placed o (Ok (FlowAction.Pre i lent)) = record { drains = in_no_drain o (Place.Pre o i) (λ p j. refl); outside = at_none (Place.Pre o i) refl; puts = λ workers k idle. refl }
+placed o (Ok (FlowAction.Base call)) = record { drains = in_no_drain o (Place.Base o) (λ p j. refl); outside = at_none (Place.Base o) refl; puts = λ workers k idle. refl }
+placed o (Ok (FlowAction.Post i lent completion)) = record { drains = in_no_drain o (Place.Post o i) (λ p j. refl); outside = at_none (Place.Post o i) refl; puts = λ workers k idle. refl }
 placed o _ = record {
-  drains = in_no_drain o Worker.Idle (λ p j. refl);
-  outside = at_none Worker.Idle refl;
-  puts = λ workers k idle. sym (ap (put workers k) (sym (get_or_from_slice_get workers k.0 Worker.Idle Worker.Idle idle)) ∙ set-get_or workers k.0 Worker.Idle);
+  drains = in_no_drain o Place.Idle (λ p j. refl);
+  outside = at_none Place.Idle refl;
+  puts = λ workers k idle. sym (ap (put workers k) (sym (get_or_from_slice_get workers k.0 Place.Idle Place.Idle idle)) ∙ set-get_or workers k.0 Place.Idle);
 }
 
 abbrev is_in_base : Stage → Bool
@@ -180,24 +180,24 @@ is_in_base _ = false
 -- what `next` makes of an operation and of an idle worker
 record Leads (s : StackWorld) (o : OpId) (r : FlowRecord) (turned : Turned) : Type 0 where
   pub among : IsAmong s turned.after
-  pub spots : BalancesSpots o Worker.Idle (placed_by o turned.reply) r turned.after
+  pub spots : BalancesSpots o Place.Idle (placed_by o turned.reply) r turned.after
 
 -- the worker goes in
 leads_in : (s : StackWorld) (o : OpId) (r : FlowRecord) (turned : Turned) → is_running r.stage ≡ false → Matches o (placed_by o turned.reply) (spot_of turned.after)
     → IsAmong s turned.after → Leads s o r turned
 leads_in s o r turned quiet matches among = record {
   among = among;
-  spots = spots_balance o Worker.Idle (placed_by o turned.reply) r turned.after (matches_idle o r.stage r.entries quiet) matches;
+  spots = spots_balance o Place.Idle (placed_by o turned.reply) r turned.after (matches_idle o r.stage r.entries quiet) matches;
 }
 
 leads_of : (s : StackWorld) (k : WorkerId) (o : OpId) (r : FlowRecord) (lies : Below) (drains : Bool) → IsStack s → flow.IsSound r
     → (r.stage ≡ Descending → LiesBelow s r lies) → IsAmong s r → Leads s o r (next_of k lies drains r)
 leads_of s k o r lies drains stack sound finds h = each_turn (Leads s o r) k lies drains r (record {
-  rests = λ reply nothing. record { among = h; spots = subst (λ b. BalancesSpots o Worker.Idle b r r) (sym (nobody_goes reply nothing)) (λ x p. refl) };
+  rests = λ reply nothing. record { among = h; spots = subst (λ b. BalancesSpots o Place.Idle b r r) (sym (nobody_goes reply nothing)) (λ x p. refl) };
   calls = λ i p e is.
       let visit : PreVisit = record { instance = i; worker = k; state = PreState.Running; place = length r.kept } in
       leads_in s o r (call_pre k i r (Some p)) (ap is_running e)
-      (subst (Matches o (Worker.Pre o i)) (sym (ap (option_map AtPre) (visit_last r.entries visit))) (matches_pre o i))
+      (subst (Matches o (Place.Pre o i)) (sym (ap (option_map AtPre) (visit_last r.entries visit))) (matches_pre o i))
       (among_visits s r.volume r.born r.operation r.entries r.stage PreRunning visit stack (none e) (λ x. absurd (apart PreRunning refl x)) (below e is).0 h);
   skips = λ i e is. record {
     among = among_visits s r.volume r.born r.operation r.entries r.stage Descending (record { instance = i; worker = k; state = bare_ask; place = length r.kept }) stack (none e)
@@ -217,11 +217,11 @@ leads_of s k o r lies drains stack sound finds h = each_turn (Leads s o r) k lie
   posts = λ ask m kept p e.
       let visit : PostVisit = record { instance = ask.instance; worker = k; state = PostState.Running } in
       leads_in s o r (give_post k ask (record r { params = m; kept = kept }) (Some p)) (ap is_running e)
-      (subst (Matches o (Worker.Post o ask.instance)) (sym (ap (option_map AtPost) (post_last r.entries visit))) (matches_post o ask.instance))
+      (subst (Matches o (Place.Post o ask.instance)) (sym (ap (option_map AtPost) (post_last r.entries visit))) (matches_post o ask.instance))
       (among_other s r.volume r.born r.operation r.entries r.stage PostRunning (Post visit) refl refl (λ x. absurd (apart PostRunning refl x)) h);
 })
   where
-    nobody_goes : (reply : Result FlowAction Status) → gives_nothing reply ≡ true → placed_by o reply ≡ Worker.Idle
+    nobody_goes : (reply : Result FlowAction Status) → gives_nothing reply ≡ true → placed_by o reply ≡ Place.Idle
     nobody_goes (Ok FlowAction.Held) nothing = refl
     nobody_goes (Ok FlowAction.Done) nothing = refl
     nobody_goes (Err why) nothing = refl
@@ -239,8 +239,8 @@ leads_of s k o r lies drains stack sound finds h = each_turn (Leads s o r) k lie
 
     -- an operation that is with no worker, before and after
     nowhere : r.stage ≡ Descending → (x : Spot) (p : OpId)
-        → one (is_in_at p x Worker.Idle) + cond (o.0 == p.0) (standing x r) 0 ≡ one (is_in_at p x Worker.Idle) + cond (o.0 == p.0) (one (is_spot x None)) 0
-    nowhere e x p = ap (λ m. one (is_in_at p x Worker.Idle) + cond (o.0 == p.0) (one (is_spot x m)) 0) (quiet_is_nowhere r.stage r.entries (ap is_running e))
+        → one (is_in_at p x Place.Idle) + cond (o.0 == p.0) (standing x r) 0 ≡ one (is_in_at p x Place.Idle) + cond (o.0 == p.0) (one (is_spot x None)) 0
+    nowhere e x p = ap (λ m. one (is_in_at p x Place.Idle) + cond (o.0 == p.0) (one (is_spot x m)) 0) (quiet_is_nowhere r.stage r.entries (ap is_running e))
 
 times_unseen : (i : ℕ) (xs : List ℕ) → is_among xs i ≡ false → times i xs ≡ 0
 times_unseen i [] h = refl
@@ -266,11 +266,11 @@ next_keeps old k o new e s =
     let among = found_holds (IsAmong old.stack) (is_number o) old.flow.operations r s.among e.at in
     let leads = leads_of old.stack k o r e.lies d s.stack sound e.finds among in
     subst (AreUnderWay old.stack (changed o f old.flow)) (sym (place.puts old.workers k e.idle))
-    (step_keeps old o r f k Worker.Idle (placed_by o reply) e.at e.idle (next_stays k e.lies d)
+    (step_keeps old o r f k Place.Idle (placed_by o reply) e.at e.idle (next_stays k e.lies d)
     (sound_next k e.lies d r sound (λ down. may_visit old.stack r e.lies among (e.finds down)))
     (next_needed k e.lies d r (found_holds (λ (x : FlowRecord). is_spent x ≡ false) (is_number o) old.flow.operations r s.flow.needed e.at)) leads.among leads.spots
-    (drains_balance o Worker.Idle (placed_by o reply) r (f r) (λ i. 0) (λ i. drains_given i reply) (in_no_drain o Worker.Idle (λ p i. refl)) place.drains
-    (λ i. omega (arith, next_drains i k e.lies d r))) (at_none Worker.Idle refl) place.outside s)
+    (drains_balance o Place.Idle (placed_by o reply) r (f r) (λ i. 0) (λ i. drains_given i reply) (in_no_drain o Place.Idle (λ p i. refl)) place.drains
+    (λ i. omega (arith, next_drains i k e.lies d r))) (at_none Place.Idle refl) place.outside s)
 
 -- ---- contexts
 
@@ -292,44 +292,44 @@ next_balance w o k lies d r at finds s c =
     omega (arith, carried_changed w.flow o r (λ (x : FlowRecord). (next_of k lies d x).after) at c, next_carries c k lies d r (λ e. may_visit w.stack r lies among (finds e)) sound)
 
 -- a completion comes back to the worker that it is given to
-pub brought_owned : (w : World) (o : OpId) (r : FlowRecord) (f : FlowRecord → FlowRecord) (k : WorkerId) (b : Worker) (i : InstanceId) (m : Option CtxId)
-    → operation_at o w.flow ≡ Some r → worker_at w.workers k ≡ Some Worker.Idle → k.0 < 48 → cleanup_in (Some b) ≡ None → place_in (Some b) ≡ Some i
+pub brought_owned : (w : World) (o : OpId) (r : FlowRecord) (f : FlowRecord → FlowRecord) (k : WorkerId) (b : Place) (i : InstanceId) (m : Option CtxId)
+    → operation_at o w.flow ≡ Some r → worker_at w.workers k ≡ Some Place.Idle → k.0 < 48 → cleanup_in (Some b) ≡ None → place_in (Some b) ≡ Some i
     → ((c : CtxId) → carries w c ≡ carries_after w o f c + carried_in c (record { number = 0; context = m })) → CarriesIn w.stack w.contexts.slots i m
     → All (AskCarries w.stack w.contexts.slots) (owed (f r).entries)
     → ((j : InstanceId) → is_flown_by (row_at w.stack j) ≡ false → in_flight j.0 (changed o f w.flow) ≡ 0) → IsOwned w
     → IsOwned (record w { flow = changed o f w.flow; workers = put w.workers k b; contexts = brought w.contexts k m })
 brought_owned w o r f k b i None at idle worker nb pl balance own owes quiet h =
-    step_owned w o r f k Worker.Idle b w.contexts [] at idle worker refl nb (lawful_alike (λ c. omega (arith, balance c)) h.lawful)
-    refl (same_hands w.contexts.hands k.0 ∙ ap (slice_set w.contexts.hands k.0) (empty_hand w k Worker.Idle idle refl h)) refl
+    step_owned w o r f k Place.Idle b w.contexts [] at idle worker refl nb (lawful_alike (λ c. omega (arith, balance c)) h.lawful)
+    refl (same_hands w.contexts.hands k.0 ∙ ap (slice_set w.contexts.hands k.0) (empty_hand w k Place.Idle idle refl h)) refl
     (All-nil (HoldsIn w.stack w.contexts.slots (place_in (Some b)))) owes quiet h
 brought_owned w o r f k b i (Some d) at idle worker nb pl balance own owes quiet h =
-    let none = empty_hand w k Worker.Idle idle refl h in
+    let none = empty_hand w k Place.Idle idle refl h in
     let room : length (hand_of w.contexts.hands k.0) < 16 = subst (λ (ids : List CtxId). length ids < 16) (sym none) (omega arith) in
     let Holds = HoldsIn w.stack w.contexts.slots (place_in (Some b)) in
-    step_owned w o r f k Worker.Idle b (grabbed w.contexts k.0 d) (d ∷ []) at idle worker refl nb
+    step_owned w o r f k Place.Idle b (grabbed w.contexts k.0 d) (d ∷ []) at idle worker refl nb
     (bring_keeps (carries_after w o f) k.0 d h.lawful worker (λ c. balance c) room) refl (ap (λ (ids : List CtxId). slice_set w.contexts.hands k.0 (ids ++ d ∷ [])) none) refl
     (All-cons Holds d [] (subst (λ p. HoldsIn w.stack w.contexts.slots p d) (sym pl) own) (All-nil Holds)) owes quiet h
 
 -- the same, by what `next` answers
 next_by_reply : (w : World) (o : OpId) (r : FlowRecord) (f : FlowRecord → FlowRecord) (k : WorkerId) (reply : Result FlowAction Status)
-    → operation_at o w.flow ≡ Some r → worker_at w.workers k ≡ Some Worker.Idle → k.0 < 48
+    → operation_at o w.flow ≡ Some r → worker_at w.workers k ≡ Some Place.Idle → k.0 < 48
     → ((c : CtxId) → carries w c ≡ carries_after w o f c + handed c reply) → WasOwed (AskCarries w.stack w.contexts.slots) reply
     → All (AskCarries w.stack w.contexts.slots) (owed (f r).entries)
     → ((j : InstanceId) → is_flown_by (row_at w.stack j) ≡ false → in_flight j.0 (changed o f w.flow) ≡ 0) → IsOwned w
     → IsOwned (record w { flow = changed o f w.flow; workers = after_next w.workers k o reply; contexts = received w.contexts k reply })
 next_by_reply w o r f k (Ok (FlowAction.Pre i lent)) at idle worker balance was owes quiet h =
-    brought_owned w o r f k (Worker.Pre o i) i None at idle worker refl refl balance tt owes quiet h
+    brought_owned w o r f k (Place.Pre o i) i None at idle worker refl refl balance tt owes quiet h
 next_by_reply w o r f k (Ok (FlowAction.Base call)) at idle worker balance was owes quiet h =
-    let none = empty_hand w k Worker.Idle idle refl h in
-    step_owned w o r f k Worker.Idle (Worker.Base o) w.contexts (hand_of w.contexts.hands k.0) at idle worker refl refl (lawful_alike (λ c. omega (arith, balance c)) h.lawful)
+    let none = empty_hand w k Place.Idle idle refl h in
+    step_owned w o r f k Place.Idle (Place.Base o) w.contexts (hand_of w.contexts.hands k.0) at idle worker refl refl (lawful_alike (λ c. omega (arith, balance c)) h.lawful)
     refl (same_hands w.contexts.hands k.0) refl
     (subst (All (HoldsIn w.stack w.contexts.slots None)) (sym none) (All-nil (HoldsIn w.stack w.contexts.slots None))) owes quiet h
 next_by_reply w o r f k (Ok (FlowAction.Post i lent completion)) at idle worker balance was owes quiet h =
-    brought_owned w o r f k (Worker.Post o i) i completion.context at idle worker refl refl (λ c. balance c)
+    brought_owned w o r f k (Place.Post o i) i completion.context at idle worker refl refl (λ c. balance c)
     (subst (λ (x : InstanceId). CarriesIn w.stack w.contexts.slots x completion.context) was.2
     (subst (λ (x : Completion). CarriesIn w.stack w.contexts.slots was.0.instance x.context) was.3 was.1)) owes quiet h
 next_by_reply w o r f k (Ok (FlowAction.Drain i completion)) at idle worker balance was owes quiet h =
-    brought_owned w o r f k (Worker.Drain o i) i completion.context at idle worker refl refl (λ c. balance c)
+    brought_owned w o r f k (Place.Drain o i) i completion.context at idle worker refl refl (λ c. balance c)
     (subst (λ (x : InstanceId). CarriesIn w.stack w.contexts.slots x completion.context) was.2
     (subst (λ (x : Completion). CarriesIn w.stack w.contexts.slots was.0.instance x.context) was.3 was.1)) owes quiet h
 next_by_reply w o r f k _ at idle worker balance was owes quiet h =
@@ -344,7 +344,7 @@ next_owned old k o new e s =
     let among = found_holds (IsAmong old.stack) (is_number o) old.flow.operations r s.under_way.among e.at in
     let below = λ (down : r.stage ≡ Descending). may_visit old.stack r e.lies among (e.finds down) in
     let owes = next_owes (AskCarries old.stack old.contexts.slots) k e.lies d r (λ down. (below down, may_ask old.stack old.contexts.slots k e.lies r)) sound (asks_of old o r e.at s.owned) in
-    next_by_reply old o r f k (next_of k e.lies d r).reply e.at e.idle (worker_below old k Worker.Idle e.idle s.under_way) (next_balance old o k e.lies d r e.at e.finds s)
+    next_by_reply old o r f k (next_of k e.lies d r).reply e.at e.idle (worker_below old k Place.Idle e.idle s.under_way) (next_balance old o k e.lies d r e.at e.finds s)
     owes.hands owes.owes
     (λ i rests. omega (
       arith,
@@ -436,7 +436,7 @@ next_on old k o new e =
     )) (λ files. grind arith) in (
       does.0,
       λ s. by_reply reply (hand_given k.0 old new (back_by reply)
-          (subst (λ n. k.0 < n) (s.under_way.hands ∙ sym s.owned.lawful.workers) (slice_get_within old.workers k.0 Worker.Idle e.idle)) does.1),
+          (subst (λ n. k.0 < n) (s.under_way.hands ∙ sym s.owned.lawful.workers) (slice_get_within old.workers k.0 Place.Idle e.idle)) does.1),
       λ rests. over_rests old k o e.lies reply new e.loses rests (ap (λ (rs : List FlowRecord). record old.flow { operations = rs })
           (change_same (is_number o) f old.flow.operations e.row e.at (next_rests k e.lies d e.row rests))),
     )
@@ -456,7 +456,7 @@ next_does old k o result new h =
     refused : (why : Status) → NextDoes old k (Err why) old
     refused why = (nothing old, λ s. (refl, refl), λ rests. refl)
 
-    by_operation : worker_at old.workers k ≡ Some Worker.Idle → (lies : Below) → FindsBelow old.stack old.files old.flow (operation_at o old.flow) lies
+    by_operation : worker_at old.workers k ≡ Some Place.Idle → (lies : Below) → FindsBelow old.stack old.files old.flow (operation_at o old.flow) lies
         → (mid : World) → NextsOver old k o lies result mid → LosesByKnown result lies mid new → (m : Option FlowRecord) → operation_at o old.flow ≡ m → NextDoes old k result new
     by_operation idle lies finds mid over loses m at =
         let reply = over.0 ∙ ap (λ x. unwrap_or (option_map (λ (r : FlowRecord). (turned_by old k o lies r).reply) x) (Err Status.WrongStep)) at in

@@ -2,7 +2,7 @@
 use Rattle.fm_world.proofs.Words.{goes_on_follows, goes_on_keeps, Follows, IsStack, Filter, length-updated, with_contexts, KeepsHands, OnlyHandOf, pairs_in}
 use Rattle.fm_world.proofs.Words.{IsSound, IsStaffed, IsUnderWay, AsksUnload, EmptiesFilter, FinishesFilter, ForcesUnload, UnloadReturns, UnloadReturnsAt}
 use Rattle.fm_world.proofs.Words.{CtxId, FilterId, Instance, Owner, StackWorld, Status, WorkerId, hand_of, is_attached, is_linked_of, updated, Desk, put}
-use Rattle.fm_world.proofs.Words.{worker_at, World, Worker, Bool, Err, List, None, Ok, Option, Result, Some, ap, arith, cond, inl, inr, length, map, option_map}
+use Rattle.fm_world.proofs.Words.{worker_at, World, Place, Bool, Err, List, None, Ok, Option, Result, Some, ap, arith, cond, inl, inr, length, map, option_map}
 use Rattle.fm_world.proofs.Words.{refl, slice_get, subst, sym, true, ℕ, ◌&&◌, ◌∙◌, ◌≡◌, ◌≤◌, and_parts, cases_Bool, slice_get-map}
 use Rattle.fm_stack.proofs.GoingOn.{StackGoesOn}
 use Rattle.fm_stack.proofs.Unloads.{filter_emptied_goes_on, unloaded_goes_on, unloading_goes_on}
@@ -22,7 +22,7 @@ use Rattle.fm_stack.specs.declared.filter.FilterPhase.TheVariants as phase
 -- ---- a worker goes into an unload callback, or comes out of it
 
 -- filters go on, and instances perhaps
-unload_moves : (w : World) (t : StackWorld) (k : WorkerId) (a b : Worker) → worker_at w.workers k ≡ Some a → is_outside a ≡ true → is_outside b ≡ true
+unload_moves : (w : World) (t : StackWorld) (k : WorkerId) (a b : Place) → worker_at w.workers k ≡ Some a → is_outside a ≡ true → is_outside b ≡ true
     → desk_of a ≡ None → desk_of b ≡ None → IsStack t → Follows w.stack t → StaffsStill w.stack t → IsUnderWay w
     → IsUnderWay (record w { stack = t; workers = put w.workers k b })
 unload_moves w t k a b at from to off on stack follows staffs s =
@@ -34,9 +34,9 @@ unfolding AsksUnload
 ask_unload_does old k f result new h =
     idle_by (λ _ w. Does old w) k result old new _ h (λ why. nothing old) (λ at event.
     answers_by (λ _ w. Does old w) _ result old new _ event (λ why. nothing old) (λ done free e.
-    makes old (record old { workers = put old.workers k (Worker.Unload f) }) new e (still old.contexts) (λ s. record {
-      under_way = unload_moves old old.stack k Worker.Idle (Worker.Unload f) at refl refl refl refl s.under_way.stack (follows_same old.stack) (λ d i n h. h) s.under_way;
-      owned = goes_owned old k Worker.Idle (Worker.Unload f) old.stack at refl refl refl (rows_same old old.stack refl) (omega arith) (λ v h. h) s;
+    makes old (record old { workers = put old.workers k (Place.Unload f) }) new e (still old.contexts) (λ s. record {
+      under_way = unload_moves old old.stack k Place.Idle (Place.Unload f) at refl refl refl refl s.under_way.stack (follows_same old.stack) (λ d i n h. h) s.under_way;
+      owned = goes_owned old k Place.Idle (Place.Unload f) old.stack at refl refl refl (rows_same old old.stack refl) (omega arith) (λ v h. h) s;
       filed = s.filed;
       links = s.links;
     })))
@@ -74,30 +74,30 @@ pub unload_does : (old : World) (k : WorkerId) (allow : Bool) (result : Result (
 unfolding UnloadReturns filters.UnloadReturns
 unload_does old k allow result new h = by_place (worker_at old.workers k) refl h
   where
-    returns : (f : FilterId) (t : StackWorld) → worker_at old.workers k ≡ Some (Worker.Unload f) → new.stack ≡ t → new ≡ record old { stack = new.stack; workers = put old.workers k Worker.Idle }
+    returns : (f : FilterId) (t : StackWorld) → worker_at old.workers k ≡ Some (Place.Unload f) → new.stack ≡ t → new ≡ record old { stack = new.stack; workers = put old.workers k Place.Idle }
         → RowsGoOn old t → length old.stack.filters ≤ length t.filters → VolumesStay old.stack t
-        → (IsUnderWay old → IsUnderWay (record old { stack = t; workers = put old.workers k Worker.Idle })) → Does old new
+        → (IsUnderWay old → IsUnderWay (record old { stack = t; workers = put old.workers k Place.Idle })) → Does old new
     returns f t at is e on filters volumes keeps =
-        makes old (record old { stack = t; workers = put old.workers k Worker.Idle }) new (e ∙ ap (λ x. record old { stack = x; workers = put old.workers k Worker.Idle }) is)
+        makes old (record old { stack = t; workers = put old.workers k Place.Idle }) new (e ∙ ap (λ x. record old { stack = x; workers = put old.workers k Place.Idle }) is)
         (still old.contexts) (λ s. record {
           under_way = keeps s.under_way;
-          owned = goes_owned old k (Worker.Unload f) Worker.Idle t at refl refl refl on filters volumes s;
+          owned = goes_owned old k (Place.Unload f) Place.Idle t at refl refl refl on filters volumes s;
           filed = s.filed;
           links = s.links;
         })
 
-    by_result : (f : FilterId) (result : Result (Unit {0}) Status) → worker_at old.workers k ≡ Some (Worker.Unload f) → UnloadReturnsAt old k allow result new (Some (Worker.Unload f)) → Does old new
+    by_result : (f : FilterId) (result : Result (Unit {0}) Status) → worker_at old.workers k ≡ Some (Place.Unload f) → UnloadReturnsAt old k allow result new (Some (Place.Unload f)) → Does old new
     by_result f (Err why) at h = returns f old.stack at h.0.1 h.1 (rows_same old old.stack refl) (omega arith) (λ v h. h) (λ s.
-        unload_moves old old.stack k (Worker.Unload f) Worker.Idle at refl refl refl refl s.stack (follows_same old.stack) (λ d i n h. h) s)
+        unload_moves old old.stack k (Place.Unload f) Place.Idle at refl refl refl refl s.stack (follows_same old.stack) (λ d i n h. h) s)
     by_result f (Ok done) at h =
         let t = filters.unloading old.stack f in
         let goes = unloading_goes_on old.stack f in
         returns f t at h.0.1 h.1 (stops_go (filters.is_of f) old t refl) (more_filters old.stack (filters.filter_in phase.Unloading) f) (λ v h. h)
-        (λ s. unload_moves old t k (Worker.Unload f) Worker.Idle at refl refl refl refl (goes_on_keeps old.stack t goes s.stack) (goes_on_follows old.stack t goes)
+        (λ s. unload_moves old t k (Place.Unload f) Place.Idle at refl refl refl refl (goes_on_keeps old.stack t goes s.stack) (goes_on_follows old.stack t goes)
         (stops_staff (filters.is_of f) old.stack t refl) s)
 
-    by_place : (m : Option Worker) → worker_at old.workers k ≡ m → UnloadReturnsAt old k allow result new m → Does old new
-    by_place (Some (Worker.Unload f)) at h = by_result f result at h
+    by_place : (m : Option Place) → worker_at old.workers k ≡ m → UnloadReturnsAt old k allow result new m → Does old new
+    by_place (Some (Place.Unload f)) at h = by_result f result at h
     by_place _ at h = unchanged old new h.1
 
 -- ---- nobody is asked

@@ -115,7 +115,7 @@ pub use Rattle.fm_world.specs.declared.file.HandlePhase.{HandlePhase}
 pub use Rattle.fm_world.specs.declared.set_answer.SetAnswer.{SetAnswer}
 pub use Rattle.fm_world.specs.declared.step.Step.{Step}
 pub use Rattle.fm_world.specs.declared.step.StepReply.{StepReply}
-pub use Rattle.fm_world.specs.declared.worker.Worker.{Worker}
+pub use Rattle.fm_world.specs.declared.place.Place.{Place}
 pub use Rattle.std.proofs.Common.{All, AllPairs, Bool, Err, IfOk, List, None, Ok, Option, Result, Some, [], ap, arith, cond, count_by, false, filter_map, find}
 pub use Rattle.std.proofs.Common.{get_or, inl, inr, is_some, length, length-set, map, nat_le, nat_lt, not, option_and_then, option_map, refl, slice_get}
 pub use Rattle.std.proofs.Common.{slice_set, subst, suc, sym, take, true, unwrap_or, zero, ℕ, ◌&&◌, ◌++◌, ◌+◌, ◌<◌, ◌==◌, ◌||◌, ◌∙◌, ◌∷◌, ◌≡◌, ◌≢◌, ◌≤◌, ◌⊎◌}

@@ -15,8 +15,8 @@ use Rattle.fm_ctx.specs.declared.owner.Owner.TheVariants as owner
 use Rattle.fm_ctx.specs.declared.set_reply.SetReply.TheVariants as reply
 use Rattle.fm_world.specs.declared.set_answer.SetAnswer.{SetAnswer}
 use Rattle.fm_world.specs.declared.set_answer.SetAnswer.TheVariants as answer
-use Rattle.fm_world.specs.declared.worker.Worker.{Worker}
-use Rattle.fm_world.specs.declared.worker.Worker.TheVariants as place
+use Rattle.fm_world.specs.declared.place.Place.{Place}
+use Rattle.fm_world.specs.declared.place.Place.TheVariants as place
 use Rattle.fm_world.specs.World.{World, carries}
 use Rattle.fm_world.specs.Workers.{worker_at, put, is_idle}
 use Rattle.fm_world.specs.Events.{Unless}
@@ -169,7 +169,7 @@ Bumps old k c at by result new =
 
 -- ---- cleanup
 
-abbrev pub after_due : List Worker → WorkerId → Option CtxId → List Worker
+abbrev pub after_due : List Place → WorkerId → Option CtxId → List Place
 after_due workers k None = workers
 after_due workers k (Some c) = put workers k (place.Cleanup c)
 
@@ -189,7 +189,7 @@ abbrev pub filter_of : StackWorld → Option Context → Option FilterId
 filter_of s None = None
 filter_of s (Some x) = filter_by s x.owner
 
-abbrev pub CleansAt : World → WorkerId → ℕ → Result (Unit {0}) Status → World → Option Worker → Type 0
+abbrev pub CleansAt : World → WorkerId → ℕ → Result (Unit {0}) Status → World → Option Place → Type 0
 CleansAt old k number result new (Some (place.Cleanup c)) =
     (result ≡ Ok tt)
     × (new ≡ record old {

@@ -4,8 +4,8 @@ use Rattle.fm_world.specs.Words.{InstanceId, OpId, WorkerId, Status, StackWorld,
 use Rattle.fm_types.specs.declared.status.Status.TheVariants as status
 use Rattle.fm_data.specs.declared.verdict.Completion.{Completion}
 use Rattle.fm_flow.specs.Drains.{DrainTaken, drain_done_of}
-use Rattle.fm_world.specs.declared.worker.Worker.{Worker}
-use Rattle.fm_world.specs.declared.worker.Worker.TheVariants as place
+use Rattle.fm_world.specs.declared.place.Place.{Place}
+use Rattle.fm_world.specs.declared.place.Place.TheVariants as place
 use Rattle.fm_world.specs.World.{World, carries}
 use Rattle.fm_world.specs.Workers.{worker_at, put, is_idle}
 use Rattle.fm_world.specs.Owners.{row_at}
@@ -37,7 +37,7 @@ TakesDrain old k i result new =
     (Answers (first_of (drain_refusals old.stack i)) result old new (λ drain. DrainsWhere (is_stopping_at (row_at old.stack i)) old k i drain new))
 
 -- by a worker in such a drain: the record of an operation whose answer was handed out goes with the last that runs
-abbrev pub DrainReturnsAt : World → WorkerId → Result (Unit {0}) Status → World → Option Worker → Type 0
+abbrev pub DrainReturnsAt : World → WorkerId → Result (Unit {0}) Status → World → Option Place → Type 0
 DrainReturnsAt old k result new (Some (place.EarlyDrain o i)) =
     (result ≡ Ok tt) × Leaves (carries old) old.contexts new.contexts k.0
     × (new ≡ record old { flow = drain_done_of o i old.flow; workers = put old.workers k place.Idle; contexts = new.contexts })

@@ -34,8 +34,8 @@ use Rattle.fm_flow.specs.declared.entry.PreState.TheVariants as state
 use Rattle.fm_ctx.specs.declared.owner.Owner.TheVariants as owner
 use Rattle.fm_data.specs.declared.request.Request.{Request}
 use Rattle.fm_data.specs.declared.request.Request.TheVariants as request
-use Rattle.fm_world.specs.declared.worker.Worker.{Worker}
-use Rattle.fm_world.specs.declared.worker.Worker.TheVariants as place
+use Rattle.fm_world.specs.declared.place.Place.{Place}
+use Rattle.fm_world.specs.declared.place.Place.TheVariants as place
 use Rattle.fm_world.specs.Links.{LosesLinks}
 use Rattle.fm_world.specs.World.{World, carries}
 use Rattle.fm_data.specs.Requests.{params_of}
@@ -74,7 +74,7 @@ EmptiesUnless (Ok done) i w left after = after ≡ left
 EmptiesUnless (Err status) i w left after = Sweeps (carries w) (is_linked_of (owner.Instance i)) left after
 
 -- by a worker in a setup callback, which returns whatever the answer: what it still holds leaks
-abbrev pub SetsUpAt : World → WorkerId → Bool → Result (Unit {0}) Status → World → Option Worker → Type 0
+abbrev pub SetsUpAt : World → WorkerId → Bool → Result (Unit {0}) Status → World → Option Place → Type 0
 SetsUpAt old k accept result new (Some (place.Setup i)) =
     stack.SetsUp old.stack i accept result new.stack
     × (left : ContextTable) × Leaves (carries old) old.contexts left k.0 × EmptiesUnless result i old left new.contexts
@@ -348,7 +348,7 @@ abbrev pub pre_step : World → WorkerId → OpId → InstanceId → PreVerdict 
 pre_step w k o i given lent = pre_returned_of (state_at w k o i given) lent
 
 -- strange data is refused, and the callback goes on
-abbrev pub PreReturnsAt : World → WorkerId → PreVerdict → Data → Result (Unit {0}) Status → World → Option Worker → Type 0
+abbrev pub PreReturnsAt : World → WorkerId → PreVerdict → Data → Result (Unit {0}) Status → World → Option Place → Type 0
 PreReturnsAt old k given lent result new (Some (place.Pre o i)) =
     Unless status.BadRequest (told (λ r. data_fits r.operation r.path lent) false o old.flow) result old new
     ((result ≡ Ok tt)
@@ -364,7 +364,7 @@ base_step w call answer = base_returned_of call answer (record { 0 = w.files.nex
 abbrev pub base_returned : World → WorkerId → OpId → BaseCall → Answer → World
 base_returned w k o call answer = record (returned w k o (base_step w call answer)) { files = filed_base w o (changed o (base_step w call answer) w.flow) answer.status }
 
-abbrev pub BaseReturnsAt : World → WorkerId → BaseCall → Answer → Result (Unit {0}) Status → World → Option Worker → Type 0
+abbrev pub BaseReturnsAt : World → WorkerId → BaseCall → Answer → Result (Unit {0}) Status → World → Option Place → Type 0
 BaseReturnsAt old k call answer result new (Some (place.Base o)) =
     Unless status.BadRequest (told (base_fits call answer) false o old.flow) result old new
     ((result ≡ Ok tt)
@@ -375,7 +375,7 @@ unfoldable pub BaseReturns : World → WorkerId → BaseCall → Answer → Resu
 BaseReturns old k call answer result new = BaseReturnsAt old k call answer result new (worker_at old.workers k)
 
 -- a postoperation brings its data back; a drain has none, and its verdict counts as Finished
-abbrev pub PostReturnsAt : World → WorkerId → PostVerdict → Option Data → Result (Unit {0}) Status → World → Option Worker → Type 0
+abbrev pub PostReturnsAt : World → WorkerId → PostVerdict → Option Data → Result (Unit {0}) Status → World → Option Place → Type 0
 PostReturnsAt old k given (Some lent) result new (Some (place.Post o i)) =
     Unless status.BadRequest (told (λ r. data_fits r.operation r.path lent) false o old.flow) result old new
     ((result ≡ Ok tt) × ReturnsFrom old k o (post_returned_of given lent) old.contexts new)

@@ -7,8 +7,8 @@ use Rattle.fm_world.specs.Events.{sent_in, state_at}
 use Rattle.fm_flow.specs.declared.action.FlowAction.TheVariants as action
 use Rattle.fm_world.specs.declared.set_answer.SetAnswer.{SetAnswer}
 use Rattle.fm_world.specs.declared.set_answer.SetAnswer.TheVariants as answer
-use Rattle.fm_world.specs.declared.worker.Worker.{Worker}
-use Rattle.fm_world.specs.declared.worker.Worker.TheVariants as place
+use Rattle.fm_world.specs.declared.place.Place.{Place}
+use Rattle.fm_world.specs.declared.place.Place.TheVariants as place
 use Rattle.fm_world.specs.Workers.{Desk, AtSetup, AtQuery, AtStart, AtComplete}
 use Rattle.fm_world.specs.World.{World}
 
@@ -65,14 +65,14 @@ given_by_drain None = 0
 given_by_drain (Some (o, completion)) = given_with completion.context
 
 -- the end of such a callback, whatever its answer, leaves none
-abbrev pub left_by : Desk → Option Worker → ℕ → ℕ
+abbrev pub left_by : Desk → Option Place → ℕ → ℕ
 left_by AtSetup (Some (place.Setup i)) n = 0
 left_by AtQuery (Some (place.Query i)) n = 0
 left_by AtStart (Some (place.Start i)) n = 0
 left_by AtComplete (Some (place.Complete i)) n = 0
 left_by _ _ n = n
 
-abbrev pub left_by_setup : Option Worker → ℕ → ℕ
+abbrev pub left_by_setup : Option Place → ℕ → ℕ
 left_by_setup m n = left_by AtSetup m n
 
 -- how many references a preoperation that is resumed sends along with its completion

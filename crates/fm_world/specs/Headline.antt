@@ -9,8 +9,8 @@ use Rattle.fm_flow.specs.Sound.{walk, way_of, MadeAsAsked}
 use Rattle.fm_ctx.specs.declared.owner.Owner.TheVariants as owner
 use Rattle.fm_world.specs.declared.step.Step.{Step}
 use Rattle.fm_world.specs.declared.step.StepReply.{StepReply}
-use Rattle.fm_world.specs.declared.worker.Worker.{Worker}
-use Rattle.fm_world.specs.declared.worker.Worker.TheVariants as place
+use Rattle.fm_world.specs.declared.place.Place.{Place}
+use Rattle.fm_world.specs.declared.place.Place.TheVariants as place
 use Rattle.fm_world.specs.FileLaws.{FilesHold}
 use Rattle.fm_world.specs.Links.{names_there}
 use Rattle.fm_world.specs.World.{World, carries, reference_count, empty_world}
@@ -44,7 +44,7 @@ pub data Spot : Type 0 where
   AtDrain : (i : ℕ) → Spot
 
 -- whether a worker is there, inside operation o
-abbrev pub is_in_at : OpId → Spot → Worker → Bool
+abbrev pub is_in_at : OpId → Spot → Place → Bool
 is_in_at o (AtPre i) (place.Pre p j) = (p.0 == o.0) && (j.0 == i)
 is_in_at o _ (place.Pre p j) = false
 is_in_at o AtBase (place.Base p) = p.0 == o.0
@@ -85,7 +85,7 @@ abbrev pub stands_at : OpId → Spot → FlowTable → ℕ
 stands_at o spot flow = told (λ r. cond (is_spot spot (spot_of r)) 1 0) 0 o flow
 
 -- whether a worker is in a drain of an instance, inside operation o: one that `next` gave, or one that was taken early
-abbrev pub is_in_drain : OpId → ℕ → Worker → Bool
+abbrev pub is_in_drain : OpId → ℕ → Place → Bool
 is_in_drain o i (place.Drain p j) = (p.0 == o.0) && (j.0 == i)
 is_in_drain o i (place.EarlyDrain p j) = (p.0 == o.0) && (j.0 == i)
 is_in_drain o i place.Idle = false

@@ -13,11 +13,11 @@ use Rattle.fm_stack.specs.declared.volume.VolumePhase.TheVariants as volume_phas
 use Rattle.fm_ctx.specs.declared.object.Object.TheVariants as object
 use Rattle.fm_ctx.specs.declared.owner.Owner.TheVariants as owner
 use Rattle.fm_world.specs.declared.file.FileObject.{FileObject}
-use Rattle.fm_world.specs.declared.worker.Worker.{Worker}
-use Rattle.fm_world.specs.declared.worker.Worker.TheVariants as place
+use Rattle.fm_world.specs.declared.place.Place.{Place}
+use Rattle.fm_world.specs.declared.place.Place.TheVariants as place
 
 -- the instance whose callback a worker is in: for an operation, for its setup, or for its teardown
-abbrev pub instance_in : Worker → Option InstanceId
+abbrev pub instance_in : Place → Option InstanceId
 instance_in (place.Setup i) = Some i
 instance_in (place.Pre o i) = Some i
 instance_in (place.Post o i) = Some i
@@ -31,7 +31,7 @@ instance_in (place.Base o) = None
 instance_in (place.Cleanup c) = None
 instance_in (place.Unload f) = None
 
-abbrev pub place_in : Option Worker → Option InstanceId
+abbrev pub place_in : Option Place → Option InstanceId
 place_in m = option_and_then instance_in m
 
 -- the file that an operation is on: a create has none before it succeeded, and a listing has none
@@ -41,7 +41,7 @@ file_object (Some s) None = None
 file_object None h = None
 
 -- the operation whose callback a worker is in
-abbrev pub operation_in : Worker → Option OpId
+abbrev pub operation_in : Place → Option OpId
 operation_in (place.Pre o i) = Some o
 operation_in (place.Post o i) = Some o
 operation_in (place.Drain o i) = Some o
@@ -59,7 +59,7 @@ abbrev pub file_at : FlowTable → Option OpId → Option FileObject
 file_at t None = None
 file_at t (Some o) = told (λ r. file_object r.stream r.handle) None o t
 
-abbrev pub file_of : FlowTable → Option Worker → Option FileObject
+abbrev pub file_of : FlowTable → Option Place → Option FileObject
 file_of t m = file_at t (option_and_then operation_in m)
 
 -- what a callback of an instance may work on: the instance is there

@@ -6,7 +6,7 @@ use Rattle.fm_world.specs.Words.{in_flight, carried, ContextTable, one, is_stopp
 use Rattle.fm_stack.specs.Stacks.{IsStack}
 use Rattle.fm_stack.specs.declared.instance.StartMark.{StartMark}
 use Rattle.fm_stack.specs.declared.instance.StartMark.TheVariants as mark
-use Rattle.fm_world.specs.declared.worker.Worker.{Worker}
+use Rattle.fm_world.specs.declared.place.Place.{Place}
 use Rattle.fm_world.specs.declared.file.FileStream.{FileStream}
 use Rattle.fm_world.specs.Files.{FileTable}
 use Rattle.fm_world.specs.FileLaws.{FilesHold}
@@ -57,7 +57,7 @@ IsStaffed d None n = n ≡ 0
 IsStaffed d (Some row) n = (least_at d row ≤ n) × (n ≤ most_at d row)
 
 -- filters, volumes, instances, operations and workers together
-pub record AreUnderWay (s : StackWorld) (t : FlowTable) (ws : List Worker) : Type 0 where
+pub record AreUnderWay (s : StackWorld) (t : FlowTable) (ws : List Place) : Type 0 where
   pub stack : IsStack s
   pub flow : IsFlow t
   pub among : All (IsAmong s) t.operations
@@ -72,7 +72,7 @@ IsUnderWay w = AreUnderWay w.stack w.flow w.workers
 
 -- ---- contexts
 
-pub record AreOwned (s : StackWorld) (t : FlowTable) (ws : List Worker) (c : ContextTable) (sums : List ℕ) : Type 0 where
+pub record AreOwned (s : StackWorld) (t : FlowTable) (ws : List Place) (c : ContextTable) (sums : List ℕ) : Type 0 where
   pub lawful : IsLawful (λ id. carried id t) c
   -- what the workers' places say of cleanups
   pub cleaning : (k : ℕ) → cleaning_of c.cleaning k ≡ cleanup_in (slice_get ws k)

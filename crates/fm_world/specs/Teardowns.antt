@@ -7,8 +7,8 @@ use Rattle.fm_types.specs.declared.status.Status.TheVariants as status
 use Rattle.fm_ctx.specs.declared.owner.Owner.TheVariants as owner
 use Rattle.fm_stack.specs.Detaching as stack
 use Rattle.fm_stack.specs.Unloading as filters
-use Rattle.fm_world.specs.declared.worker.Worker.{Worker}
-use Rattle.fm_world.specs.declared.worker.Worker.TheVariants as place
+use Rattle.fm_world.specs.declared.place.Place.{Place}
+use Rattle.fm_world.specs.declared.place.Place.TheVariants as place
 use Rattle.fm_world.specs.World.{World, carries}
 use Rattle.fm_world.specs.Workers.{worker_at, put, is_idle, is_queried, is_asked_to_unload, after_entering}
 use Rattle.fm_world.specs.Events.{Unless}
@@ -23,7 +23,7 @@ AsksDetach old k i result new =
     (λ done. new ≡ record old { workers = put old.workers k (place.Query i) }))
 
 -- by a worker in a query callback, which returns whatever the answer
-abbrev pub QueryReturnsAt : World → WorkerId → Bool → Result (Unit {0}) Status → World → Option Worker → Type 0
+abbrev pub QueryReturnsAt : World → WorkerId → Bool → Result (Unit {0}) Status → World → Option Place → Type 0
 QueryReturnsAt old k allow result new (Some (place.Query i)) =
     stack.QueryReturns old.stack i allow result new.stack × Leaves (carries old) old.contexts new.contexts k.0
     × (new ≡ record old { stack = new.stack; workers = put old.workers k place.Idle; contexts = new.contexts })
@@ -39,7 +39,7 @@ StartsTeardown old k i result new =
     (stack.StartsTeardown old.stack i result new.stack
     × (new ≡ record old { stack = new.stack; workers = after_entering old.workers k (place.Start i) result }))
 
-abbrev pub StartReturnsAt : World → WorkerId → Result (Unit {0}) Status → World → Option Worker → Type 0
+abbrev pub StartReturnsAt : World → WorkerId → Result (Unit {0}) Status → World → Option Place → Type 0
 StartReturnsAt old k result new (Some (place.Start i)) =
     (result ≡ Ok tt) × Leaves (carries old) old.contexts new.contexts k.0
     × (new ≡ record old { stack = stack.started old.stack i; workers = put old.workers k place.Idle; contexts = new.contexts })
@@ -56,7 +56,7 @@ CompletesTeardown old k i result new =
     × (new ≡ record old { stack = new.stack; workers = after_entering old.workers k (place.Complete i) result }))
 
 -- the instance's contexts lose their links
-abbrev pub CompleteReturnsAt : World → WorkerId → Result (Unit {0}) Status → World → Option Worker → Type 0
+abbrev pub CompleteReturnsAt : World → WorkerId → Result (Unit {0}) Status → World → Option Place → Type 0
 CompleteReturnsAt old k result new (Some (place.Complete i)) =
     (result ≡ Ok tt) × (left : ContextTable) × Leaves (carries old) old.contexts left k.0 × Sweeps (carries old) (is_linked_of (owner.Instance i)) left new.contexts
     × (new ≡ record old { stack = stack.emptying old.stack i; workers = put old.workers k place.Idle; contexts = new.contexts })
@@ -75,7 +75,7 @@ AsksUnload old k f result new =
     (λ done. new ≡ record old { workers = put old.workers k (place.Unload f) }))
 
 -- by a worker in an unload callback, which returns whatever the answer; it is no callback of an instance, so its worker holds nothing
-abbrev pub UnloadReturnsAt : World → WorkerId → Bool → Result (Unit {0}) Status → World → Option Worker → Type 0
+abbrev pub UnloadReturnsAt : World → WorkerId → Bool → Result (Unit {0}) Status → World → Option Place → Type 0
 UnloadReturnsAt old k allow result new (Some (place.Unload f)) =
     filters.UnloadReturns old.stack f allow result new.stack × (new ≡ record old { stack = new.stack; workers = put old.workers k place.Idle })
 UnloadReturnsAt old k allow result new _ = (result ≡ Err status.WrongStep) × (new ≡ old)

@@ -3,23 +3,23 @@ use Rattle.std.specs.Prelude.{ℕ, ◌==◌, Bool, true, false, List, Option, So
 use Rattle.std.specs.List.{list_any}
 use Rattle.fm_world.specs.Words.{WorkerId, CtxId, OpId, InstanceId, FilterId, Status, FlowAction}
 use Rattle.fm_flow.specs.declared.action.FlowAction.TheVariants as action
-use Rattle.fm_world.specs.declared.worker.Worker.{Worker}
-use Rattle.fm_world.specs.declared.worker.Worker.TheVariants as place
+use Rattle.fm_world.specs.declared.place.Place.{Place}
+use Rattle.fm_world.specs.declared.place.Place.TheVariants as place
 
 -- the place of a worker, if there is such a worker
-abbrev pub worker_at : List Worker → WorkerId → Option Worker
+abbrev pub worker_at : List Place → WorkerId → Option Place
 worker_at workers k = slice_get workers k.0
 
-abbrev pub put : List Worker → WorkerId → Worker → List Worker
+abbrev pub put : List Place → WorkerId → Place → List Place
 put workers k where' = slice_set workers k.0 where'
 
 -- a worker that is there and idle
-abbrev pub is_idle : Option Worker → Bool
+abbrev pub is_idle : Option Place → Bool
 is_idle (Some place.Idle) = true
 is_idle _ = false
 
 -- which context a worker cleans up
-abbrev pub cleanup_in : Option Worker → Option CtxId
+abbrev pub cleanup_in : Option Place → Option CtxId
 cleanup_in (Some (place.Cleanup c)) = Some c
 cleanup_in (Some place.Idle) = None
 cleanup_in (Some (place.Setup i)) = None
@@ -35,7 +35,7 @@ cleanup_in (Some (place.Unload f)) = None
 cleanup_in None = None
 
 -- the workers after an attach: where it succeeds, this one is in the new instance's setup callback
-abbrev pub after_attach : List Worker → WorkerId → Result InstanceId Status → List Worker
+abbrev pub after_attach : List Place → WorkerId → Result InstanceId Status → List Place
 after_attach workers k (Ok i) = put workers k (place.Setup i)
 after_attach workers k (Err status) = workers
 
@@ -47,43 +47,43 @@ pub data Desk : Type 0 where
   AtComplete : Desk
 
 -- a worker in the setup callback of that instance, in a query of it, in its teardown-start, and in its teardown-complete
-abbrev pub is_in_setup : ℕ → Worker → Bool
+abbrev pub is_in_setup : ℕ → Place → Bool
 is_in_setup i (place.Setup j) = j.0 == i
 is_in_setup i _ = false
 
-abbrev pub is_in_query : ℕ → Worker → Bool
+abbrev pub is_in_query : ℕ → Place → Bool
 is_in_query i (place.Query j) = j.0 == i
 is_in_query i _ = false
 
-abbrev pub is_in_start : ℕ → Worker → Bool
+abbrev pub is_in_start : ℕ → Place → Bool
 is_in_start i (place.Start j) = j.0 == i
 is_in_start i _ = false
 
-abbrev pub is_in_complete : ℕ → Worker → Bool
+abbrev pub is_in_complete : ℕ → Place → Bool
 is_in_complete i (place.Complete j) = j.0 == i
 is_in_complete i _ = false
 
 -- one of these
-abbrev pub is_at : Desk → ℕ → Worker → Bool
+abbrev pub is_at : Desk → ℕ → Place → Bool
 is_at AtSetup i a = is_in_setup i a
 is_at AtQuery i a = is_in_query i a
 is_at AtStart i a = is_in_start i a
 is_at AtComplete i a = is_in_complete i a
 
 -- a worker in an unload callback of that filter
-abbrev pub is_in_unload : ℕ → Worker → Bool
+abbrev pub is_in_unload : ℕ → Place → Bool
 is_in_unload f (place.Unload g) = g.0 == f
 is_in_unload f _ = false
 
 -- whether a query of the instance runs, and an unload callback of the filter
-abbrev pub is_queried : InstanceId → List Worker → Bool
+abbrev pub is_queried : InstanceId → List Place → Bool
 is_queried i workers = list_any (is_in_query i.0) workers
 
-abbrev pub is_asked_to_unload : FilterId → List Worker → Bool
+abbrev pub is_asked_to_unload : FilterId → List Place → Bool
 is_asked_to_unload f workers = list_any (is_in_unload f.0) workers
 
 -- the workers after an event that begins a callback: where it succeeds, this one is in it
-abbrev pub after_entering : List Worker → WorkerId → Worker → Result (Unit {0}) Status → List Worker
+abbrev pub after_entering : List Place → WorkerId → Place → Result (Unit {0}) Status → List Place
 after_entering workers k where' (Ok done) = put workers k where'
 after_entering workers k where' (Err status) = workers
 
@@ -95,7 +95,7 @@ gives_nothing (Err status) = true
 gives_nothing _ = false
 
 -- the workers after a `next`: this one is inside the callback or the call that it was given
-abbrev pub after_next : List Worker → WorkerId → OpId → Result FlowAction Status → List Worker
+abbrev pub after_next : List Place → WorkerId → OpId → Result FlowAction Status → List Place
 after_next workers k o (Ok (action.Pre i lent)) = put workers k (place.Pre o i)
 after_next workers k o (Ok (action.Base call)) = put workers k (place.Base o)
 after_next workers k o (Ok (action.Post i lent completion)) = put workers k (place.Post o i)

@@ -3,8 +3,8 @@ use Rattle.std.specs.Prelude.{ℕ, List, [], replicate}
 use Rattle.fm_world.specs.Words.{CtxId, StackWorld, ContextTable, count_in, FlowTable, carried, empty_table}
 use Rattle.fm_ctx.specs.Table as contexts
 use Rattle.fm_world.specs.Files.{FileTable, empty_files}
-use Rattle.fm_world.specs.declared.worker.Worker.{Worker}
-use Rattle.fm_world.specs.declared.worker.Worker.TheVariants as place
+use Rattle.fm_world.specs.declared.place.Place.{Place}
+use Rattle.fm_world.specs.declared.place.Place.TheVariants as place
 
 pub record World : Type 0 where
   -- filters, volumes and instances
@@ -12,7 +12,7 @@ pub record World : Type 0 where
   -- operations that weren't collected
   pub flow : FlowTable
   -- where each worker is, by its number
-  pub workers : List Worker
+  pub workers : List Place
   -- contexts, the references that workers hold, and which contexts wait for their cleanup
   pub contexts : ContextTable
   -- what each filter's cleanups returned in all, by its number

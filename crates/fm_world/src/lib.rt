@@ -7,13 +7,13 @@
 
 mod file;
 pub mod laws;
+mod place;
 mod refused;
 mod set_answer;
 mod step;
-mod worker;
 
 pub use crate::file::{FileHandle, FileObject, FileStream, HandlePhase};
+pub use crate::place::Place;
 pub use crate::refused::Refused;
 pub use crate::set_answer::SetAnswer;
 pub use crate::step::{Step, StepReply};
-pub use crate::worker::Worker;

@@ -1,6 +1,6 @@
 //! What can be read of the contexts.
 
-ghost use Rattle.std.specs.Prelude.{cond, not, ◌≡◌, ◌<◌, true, is_some, length, option_copied, option_map, slice_get, unwrap_or};
+ghost use Rattle.std.specs.Prelude.{cond, not, ◌≡◌, ◌<◌, true, is_some, length, nat_lt, option_copied, option_map, slice_get, unwrap_or};
 ghost use Rattle.std.specs.List.{list_any};
 ghost use Rattle.fm_ctx.specs.Bags.{holds, hand_of, is_hand_full, cleaning_of, cleans};
 ghost use Rattle.fm_ctx.specs.Births.{is_out_of_slots};
@@ -61,6 +61,21 @@ impl Contexts {
         ensures { result ≡ slice_get (hand_of self.now.table.hands worker.0) place }
     {
         self.hands[worker.0 as usize].at(place)
+    }
+
+    /// The contexts that were left in the worker's hand as its last callback returned, in the order of the hand; none for a worker past the 48.
+    pub fn left(&self, worker: WorkerId) -> &[CtxId] {
+        match self.left.get(worker.0 as usize) {
+            Some(left) => left.ids(),
+            None => &[],
+        }
+    }
+
+    /// Whether some context waits for its cleanup.
+    pub fn has_due(&self) -> bool
+        ensures { result ≡ nat_lt 0 (length self.now.table.due) }
+    {
+        self.due.len() > 0
     }
 
     pub(super) fn is_hand_full(&self, worker: WorkerId) -> bool

@@ -1,4 +1,4 @@
-use Rattle.fm_core.proofs.Words.{IsTied, base_of, the_view, base_after, Worker, Result, Some, ap, refl, subst, sym, ℕ, ◌∙◌, ◌≡◌, option_copied, BaseCall}
+use Rattle.fm_core.proofs.Words.{IsTied, base_of, the_view, base_after, Place, Result, Some, ap, refl, subst, sym, ℕ, ◌∙◌, ◌≡◌, option_copied, BaseCall}
 use Rattle.fm_core.proofs.Words.{Answer, FlowRecord, base_fits, changed, InBase, base_step, IsSound, worker_at, same_Some}
 use Rattle.fm_world.proofs.Words.{BaseReturns}
 use Rattle.fm_world.proofs.Returns.{base_does}
@@ -7,9 +7,9 @@ use Rattle.fm_core.proofs.Operated.{Comes, comes, base_is, base_returns, base_ro
 use Rattle.fm_core.proofs.state.State.base_returned.Goals.{In-Some, After-base_returned}
 use Rattle.fm_core.proofs.state.State.base_returned.Goals as goal
 
-at : (c : In-Some) → worker_at (the_view c.self.inside).workers c.args.worker ≡ Some (Worker.Base c.in-Some.operation)
+at : (c : In-Some) → worker_at (the_view c.self.inside).workers c.args.worker ≡ Some (Place.Base c.in-Some.operation)
 at c =
-    placed base_of Worker.Base c.args.worker c.in-Some.operation c.place.result c.base_of.result base_is c.self.view_is c.place.ensures c.base_of.ensures c.in-Some.is
+    placed base_of Place.Base c.args.worker c.in-Some.operation c.place.result c.base_of.result base_is c.self.view_is c.place.ensures c.base_of.ensures c.in-Some.is
 
 pub unreachable-requires : goal.unreachable-requires
 unreachable-requires c =

@@ -1,6 +1,6 @@
 use Rattle.fm_core.proofs.Words.{the_view, Some, ap, refl, subst, sym, ◌∙◌, ◌≡◌, context_at, IsSound, cleanup_in, worker_at}
 use Rattle.fm_world.proofs.Words.{Cleans}
-use Rattle.fm_world.specs.declared.worker.Worker.TheVariants.{Cleanup}
+use Rattle.fm_world.specs.declared.place.Place.TheVariants.{Cleanup}
 use Rattle.fm_world.proofs.Cleanups.{cleaned_does}
 use Rattle.fm_core.proofs.Cleaned.{cleanup_is, clean_tied, filter_same}
 use Rattle.fm_core.proofs.Operated.{placed, within_at}

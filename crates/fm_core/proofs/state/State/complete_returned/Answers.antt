@@ -1,4 +1,4 @@
-use Rattle.fm_core.proofs.Words.{complete_of, the_view, leaves_alike, sweeps_alike, Worker, Some, ap, refl, subst, sym, ◌∙◌, ◌≡◌, IsSound, worker_at}
+use Rattle.fm_core.proofs.Words.{complete_of, the_view, leaves_alike, sweeps_alike, Place, Some, ap, refl, subst, sym, ◌∙◌, ◌≡◌, IsSound, worker_at}
 use Rattle.fm_world.proofs.Words.{CompleteReturns}
 use Rattle.fm_stack.specs.Detaching.{is_in_complete}
 use Rattle.fm_stack.specs.Instances.{passes}
@@ -8,8 +8,8 @@ use Rattle.fm_core.proofs.Torn.{complete_is, swept_tied, left_tied}
 use Rattle.fm_core.proofs.state.State.complete_returned.Goals.{In-Some}
 use Rattle.fm_core.proofs.state.State.complete_returned.Goals as goal
 
-at : (c : In-Some) → worker_at (the_view c.self.inside).workers c.args.worker ≡ Some (Worker.Complete c.in-Some.instance)
-at c = placed complete_of Worker.Complete c.args.worker c.in-Some.instance c.place.result c.complete_of.result complete_is c.self.view_is c.place.ensures c.complete_of.ensures c.in-Some.is
+at : (c : In-Some) → worker_at (the_view c.self.inside).workers c.args.worker ≡ Some (Place.Complete c.in-Some.instance)
+at c = placed complete_of Place.Complete c.args.worker c.in-Some.instance c.place.result c.complete_of.result complete_is c.self.view_is c.place.ensures c.complete_of.ensures c.in-Some.is
 
 pub leave-requires : goal.leave-requires
 leave-requires c = within_at c.args.worker _ c.self.invariant (at (goal.at.leave-requires c).In-Some)

@@ -1,4 +1,4 @@
-use Rattle.fm_core.proofs.Words.{early_drain_of, the_view, leaves_alike, Worker, Some, refl, subst, sym, ◌≡◌, IsSound, worker_at}
+use Rattle.fm_core.proofs.Words.{early_drain_of, the_view, leaves_alike, Place, Some, refl, subst, sym, ◌≡◌, IsSound, worker_at}
 use Rattle.fm_world.proofs.Draining.{drain_done_does}
 use Rattle.fm_core.proofs.Operated.{placed, within_at}
 use Rattle.fm_core.proofs.Drained.{early_is, early_tied, runs_early}
@@ -6,9 +6,9 @@ use Rattle.fm_core.proofs.state.State.drain_done.Goals.{In-Some}
 use Rattle.fm_world.specs.EarlyDrains.{DrainReturns}
 use Rattle.fm_core.proofs.state.State.drain_done.Goals as goal
 
-at : (c : In-Some) → worker_at (the_view c.self.inside).workers c.args.worker ≡ Some (Worker.EarlyDrain c.in-Some.operation c.in-Some.instance)
+at : (c : In-Some) → worker_at (the_view c.self.inside).workers c.args.worker ≡ Some (Place.EarlyDrain c.in-Some.operation c.in-Some.instance)
 at c =
-    placed early_drain_of (λ p. Worker.EarlyDrain p.0 p.1) c.args.worker (c.in-Some.operation, c.in-Some.instance) c.place.result c.early_drain_of.result early_is
+    placed early_drain_of (λ p. Place.EarlyDrain p.0 p.1) c.args.worker (c.in-Some.operation, c.in-Some.instance) c.place.result c.early_drain_of.result early_is
     c.self.view_is c.place.ensures c.early_drain_of.ensures c.in-Some.is
 
 pub leave-requires : goal.leave-requires

@@ -1,4 +1,4 @@
-use Rattle.fm_core.proofs.Words.{ComesDown, the_view, idle_there, Worker, inl, refl, subst, sym, true, Below, World}
+use Rattle.fm_core.proofs.Words.{ComesDown, the_view, idle_there, Place, inl, refl, subst, sym, true, Below, World}
 use Rattle.fm_core.proofs.Operated.{next_requires, within_at}
 use Rattle.fm_core.proofs.Passed.{passed_down_hand, passed_down_state, passes_down}
 use Rattle.fm_core.proofs.state.State.pass_down.Goals.{After-laws}
@@ -15,7 +15,7 @@ pass_down-requires-clause-lies c =
 
 pub end_callback-requires-clause-within : goal.end_callback-requires-clause-within
 end_callback-requires-clause-within c =
-    let d = comes (goal.at.end_callback-requires-clause-within c).After-laws in within_at c.args.worker Worker.Idle c.self.invariant (idle_there _ c.args.worker d.idle)
+    let d = comes (goal.at.end_callback-requires-clause-within c).After-laws in within_at c.args.worker Place.Idle c.self.invariant (idle_there _ c.args.worker d.idle)
 
 pub invariant_of-self : goal.invariant_of-self
 invariant_of-self c =

@@ -1,4 +1,4 @@
-use Rattle.fm_core.proofs.Words.{IsTied, post_of, the_view, post_does, Worker, Result, Some, refl, subst, sym, ◌≡◌, Data, data_fits, FlowRecord}
+use Rattle.fm_core.proofs.Words.{IsTied, post_of, the_view, post_does, Place, Result, Some, refl, subst, sym, ◌≡◌, Data, data_fits, FlowRecord}
 use Rattle.fm_core.proofs.Words.{post_returned_of, changed, PostRunning, IsSound, worker_at}
 use Rattle.fm_world.proofs.Words.{PostReturns}
 use Rattle.fm_core.proofs.Holding.{tied_ends}
@@ -9,10 +9,10 @@ use Rattle.fm_core.proofs.state.State.post_data_returned.Goals as goal
 pub post_returned-requires : goal.post_returned-requires
 post_returned-requires c =
     stands_from c.args.operation c.self.inside.flow PostRunning (in_post _ c.args.worker c.args.operation c.args.instance c.self.invariant.sound
-    (located post_of (λ p. Worker.Post p.0 p.1) c.args.worker (c.args.operation, c.args.instance) post_is c.self.view_is c.requires))
+    (located post_of (λ p. Place.Post p.0 p.1) c.args.worker (c.args.operation, c.args.instance) post_is c.self.view_is c.requires))
 
-at : (c : After-post_returned) → worker_at (the_view c.self.inside).workers c.args.worker ≡ Some (Worker.Post c.args.operation c.args.instance)
-at c = located post_of (λ p. Worker.Post p.0 p.1) c.args.worker (c.args.operation, c.args.instance) post_is c.self.view_is c.requires
+at : (c : After-post_returned) → worker_at (the_view c.self.inside).workers c.args.worker ≡ Some (Place.Post c.args.operation c.args.instance)
+at c = located post_of (λ p. Place.Post p.0 p.1) c.args.worker (c.args.operation, c.args.instance) post_is c.self.view_is c.requires
 
 -- the data fits, or it is strange
 came : (c : After-post_returned) (answer : Result (Unit {0}) Data) → c.post_returned.result ≡ answer

@@ -1,4 +1,4 @@
-use Rattle.fm_core.proofs.Words.{IsTied, pre_of, the_view, pre_does, Worker, Result, Some, ap, refl, subst, sym, ◌∙◌, ◌≡◌, option_copied, Data, data_fits}
+use Rattle.fm_core.proofs.Words.{IsTied, pre_of, the_view, pre_does, Place, Result, Some, ap, refl, subst, sym, ◌∙◌, ◌≡◌, option_copied, Data, data_fits}
 use Rattle.fm_core.proofs.Words.{FlowRecord, pre_returned_of, changed, PreRunning, state_at, IsSound, worker_at}
 use Rattle.fm_world.proofs.Words.{PreReturns}
 use Rattle.fm_core.proofs.Holding.{tied_ends}
@@ -7,9 +7,9 @@ use Rattle.fm_core.proofs.Operated.{Comes, comes, in_pre, placed, pre_is, pre_re
 use Rattle.fm_core.proofs.state.State.pre_returned.Goals.{In-Some, After-pre_returned}
 use Rattle.fm_core.proofs.state.State.pre_returned.Goals as goal
 
-at : (c : In-Some) → worker_at (the_view c.self.inside).workers c.args.worker ≡ Some (Worker.Pre c.in-Some.operation c.in-Some.instance)
+at : (c : In-Some) → worker_at (the_view c.self.inside).workers c.args.worker ≡ Some (Place.Pre c.in-Some.operation c.in-Some.instance)
 at c =
-    placed pre_of (λ p. Worker.Pre p.0 p.1) c.args.worker (c.in-Some.operation, c.in-Some.instance) c.place.result c.pre_of.result pre_is c.self.view_is
+    placed pre_of (λ p. Place.Pre p.0 p.1) c.args.worker (c.in-Some.operation, c.in-Some.instance) c.place.result c.pre_of.result pre_is c.self.view_is
     c.place.ensures c.pre_of.ensures c.in-Some.is
 
 pub unreachable-requires : goal.unreachable-requires

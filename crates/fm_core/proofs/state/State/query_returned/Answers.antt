@@ -1,4 +1,4 @@
-use Rattle.fm_core.proofs.Words.{query_of, the_view, leaves_alike, Worker, Some, refl, subst, sym, ◌≡◌, IsSound, worker_at}
+use Rattle.fm_core.proofs.Words.{query_of, the_view, leaves_alike, Place, Some, refl, subst, sym, ◌≡◌, IsSound, worker_at}
 use Rattle.fm_world.proofs.Words.{QueryReturns}
 use Rattle.fm_world.proofs.Detaching.{query_does}
 use Rattle.fm_core.proofs.Operated.{placed, within_at}
@@ -6,8 +6,8 @@ use Rattle.fm_core.proofs.Torn.{left_tied, query_is}
 use Rattle.fm_core.proofs.state.State.query_returned.Goals.{In-Some}
 use Rattle.fm_core.proofs.state.State.query_returned.Goals as goal
 
-at : (c : In-Some) → worker_at (the_view c.self.inside).workers c.args.worker ≡ Some (Worker.Query c.in-Some.instance)
-at c = placed query_of Worker.Query c.args.worker c.in-Some.instance c.place.result c.query_of.result query_is c.self.view_is c.place.ensures c.query_of.ensures c.in-Some.is
+at : (c : In-Some) → worker_at (the_view c.self.inside).workers c.args.worker ≡ Some (Place.Query c.in-Some.instance)
+at c = placed query_of Place.Query c.args.worker c.in-Some.instance c.place.result c.query_of.result query_is c.self.view_is c.place.ensures c.query_of.ensures c.in-Some.is
 
 pub leave-requires : goal.leave-requires
 leave-requires c = within_at c.args.worker _ c.self.invariant (at (goal.at.leave-requires c).In-Some)

@@ -1,4 +1,4 @@
-use Rattle.fm_core.proofs.Words.{setup_of, the_view, leaves_alike, Worker, Some, refl, subst, sym, ◌≡◌, IsSound, worker_at, slice_get}
+use Rattle.fm_core.proofs.Words.{setup_of, the_view, leaves_alike, Place, Some, refl, subst, sym, ◌≡◌, IsSound, worker_at, slice_get}
 use Rattle.fm_world.proofs.Words.{SetsUp}
 use Rattle.fm_world.proofs.Keeps.{setup_place}
 use Rattle.fm_world.proofs.Owning.{setup_does}
@@ -7,9 +7,9 @@ use Rattle.fm_core.proofs.Operated.{placed, within_at}
 use Rattle.fm_core.proofs.state.State.setup_done.Goals.{In-Some}
 use Rattle.fm_core.proofs.state.State.setup_done.Goals as goal
 
-at : (c : In-Some) → worker_at (the_view c.self.inside).workers c.args.worker ≡ Some (Worker.Setup c.in-Some.instance)
+at : (c : In-Some) → worker_at (the_view c.self.inside).workers c.args.worker ≡ Some (Place.Setup c.in-Some.instance)
 at c =
-    placed setup_of Worker.Setup c.args.worker c.in-Some.instance c.place.result c.setup_of.result setup_is c.self.view_is c.place.ensures c.setup_of.ensures
+    placed setup_of Place.Setup c.args.worker c.in-Some.instance c.place.result c.setup_of.result setup_is c.self.view_is c.place.ensures c.setup_of.ensures
     c.in-Some.is
 
 pub leave-requires : goal.leave-requires

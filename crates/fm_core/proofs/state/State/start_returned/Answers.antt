@@ -1,4 +1,4 @@
-use Rattle.fm_core.proofs.Words.{start_of, the_view, leaves_alike, Worker, Some, refl, subst, sym, ◌≡◌, IsSound, worker_at, slice_get_within}
+use Rattle.fm_core.proofs.Words.{start_of, the_view, leaves_alike, Place, Some, refl, subst, sym, ◌≡◌, IsSound, worker_at, slice_get_within}
 use Rattle.fm_world.proofs.Words.{StartReturns}
 use Rattle.fm_world.proofs.Detaching.{start_place, start_returned_does}
 use Rattle.fm_core.proofs.Operated.{placed, within_at}
@@ -6,8 +6,8 @@ use Rattle.fm_core.proofs.Torn.{left_tied, start_is}
 use Rattle.fm_core.proofs.state.State.start_returned.Goals.{In-Some}
 use Rattle.fm_core.proofs.state.State.start_returned.Goals as goal
 
-at : (c : In-Some) → worker_at (the_view c.self.inside).workers c.args.worker ≡ Some (Worker.Start c.in-Some.instance)
-at c = placed start_of Worker.Start c.args.worker c.in-Some.instance c.place.result c.start_of.result start_is c.self.view_is c.place.ensures c.start_of.ensures c.in-Some.is
+at : (c : In-Some) → worker_at (the_view c.self.inside).workers c.args.worker ≡ Some (Place.Start c.in-Some.instance)
+at c = placed start_of Place.Start c.args.worker c.in-Some.instance c.place.result c.start_of.result start_is c.self.view_is c.place.ensures c.start_of.ensures c.in-Some.is
 
 pub leave-requires : goal.leave-requires
 leave-requires c = within_at c.args.worker _ c.self.invariant (at (goal.at.leave-requires c).In-Some)

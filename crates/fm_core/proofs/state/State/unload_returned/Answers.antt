@@ -1,4 +1,4 @@
-use Rattle.fm_core.proofs.Words.{unload_of, the_view, Worker, Some, refl, subst, sym, ◌≡◌, IsSound, worker_at}
+use Rattle.fm_core.proofs.Words.{unload_of, the_view, Place, Some, refl, subst, sym, ◌≡◌, IsSound, worker_at}
 use Rattle.fm_world.proofs.Words.{UnloadReturns}
 use Rattle.fm_world.proofs.Unloading.{unload_does}
 use Rattle.fm_core.proofs.Operated.{placed}
@@ -6,8 +6,8 @@ use Rattle.fm_core.proofs.Torn.{unload_is}
 use Rattle.fm_core.proofs.state.State.unload_returned.Goals.{In-Some}
 use Rattle.fm_core.proofs.state.State.unload_returned.Goals as goal
 
-at : (c : In-Some) → worker_at (the_view c.self.inside).workers c.args.worker ≡ Some (Worker.Unload c.in-Some.filter)
-at c = placed unload_of Worker.Unload c.args.worker c.in-Some.filter c.place.result c.unload_of.result unload_is c.self.view_is c.place.ensures c.unload_of.ensures c.in-Some.is
+at : (c : In-Some) → worker_at (the_view c.self.inside).workers c.args.worker ≡ Some (Place.Unload c.in-Some.filter)
+at c = placed unload_of Place.Unload c.args.worker c.in-Some.filter c.place.result c.unload_of.result unload_is c.self.view_is c.place.ensures c.unload_of.ensures c.in-Some.is
 
 pub returns-clause-event : goal.returns-clause-event
 unfolding UnloadReturns

@@ -1,4 +1,4 @@
-use Rattle.fm_local.proofs.Words.{LocalManager, subst, sym, WORKER, Worker}
+use Rattle.fm_local.proofs.Words.{LocalManager, subst, sym, WORKER, Place}
 use Rattle.fm_local.proofs.Places.{in_still}
 use Rattle.fm_local.proofs.StillWaiting.{drain_apart}
 use Rattle.fm_local.specs.Waits.{IsApart}
@@ -10,7 +10,7 @@ returns-clause-ends g c = (c.drain.new.self.desk.state, c.drain.ensures.far, c.e
 pub returns-clause-waits : goal.returns-clause-waits
 returns-clause-waits g c there waits =
     let mid = c.drain.new.self in
-    let still = in_still WORKER (Worker.Drain c.args.operation c.args.instance) c.args.self.now.desk.state mid.desk.state c.drain.ensures.far there in
+    let still = in_still WORKER (Place.Drain c.args.operation c.args.instance) c.args.self.now.desk.state mid.desk.state c.drain.ensures.far there in
     let waited = c.drain.ensures.waits waits in
     let apart = drain_apart mid.desk.state WORKER c.args.operation c.args.instance mid.desk.resumed.items.items mid.finished.items.items c.laws.ensures still waited in
     (c.end_post.ensures.waits waited, subst (λ (m : LocalManager g.row.F.Denot g.row.B.Denot). IsApart c.args.operation m) (sym c.end_post.ensures.kept) (apart))

@@ -1,4 +1,4 @@
-use Rattle.fm_local.proofs.Words.{◌∙◌, ap, LocalManager, subst, sym, WORKER, Worker}
+use Rattle.fm_local.proofs.Words.{◌∙◌, ap, LocalManager, subst, sym, WORKER, Place}
 use Rattle.fm_local.proofs.Places.{in_still}
 use Rattle.fm_local.proofs.StillWaiting.{pre_apart}
 use Rattle.fm_local.specs.Waits.{IsApart, Waiting}
@@ -17,7 +17,7 @@ returns-clause-waits g c there waits =
     let noted = c.note.new.self in
     let desk = asked.new.desk in
     let ended = c.args.self.now.finished.items.items in
-    let still = in_still WORKER (Worker.Pre c.args.operation c.args.instance) c.args.self.now.desk.state desk.state asked.ensures.rest.far there in
+    let still = in_still WORKER (Place.Pre c.args.operation c.args.instance) c.args.self.now.desk.state desk.state asked.ensures.rest.far there in
     let waited = asked.ensures.rest.waits ended waits in
     let apart = pre_apart desk.state WORKER c.args.operation c.args.instance desk.resumed.items.items ended c.laws-2.ensures still waited in
     let here = subst (λ (m : LocalManager g.row.F.Denot g.row.B.Denot). Waiting m × IsApart c.args.operation m) (sym c.note.ensures) (waited, apart) in

@@ -1,4 +1,4 @@
-use Rattle.fm_local.proofs.Words.{Ok, ◌∙◌, ap, subst, sym, StartReturns, Worker, numbered, WORKER, LocalManager}
+use Rattle.fm_local.proofs.Words.{Ok, ◌∙◌, ap, subst, sym, StartReturns, Place, numbered, WORKER, LocalManager}
 use Rattle.fm_local.specs.Places.{IsIn}
 use Rattle.fm_local.specs.declared.local_port.Desk.{Desk}
 use Rattle.fm_local.proofs.Places.{in_still, quiet_in, start_ends}
@@ -10,7 +10,7 @@ use Rattle.fm_local.proofs.manager.LocalManager.start.Goals as goal
 pub returns-clause-ends : goal.returns-clause-ends
 returns-clause-ends g c there =
     let told = c.tell.new.desk.state in
-    let still = in_still WORKER (Worker.Start c.args.instance) c.args.self.now.desk.state told c.tell.ensures.rest.far there in
+    let still = in_still WORKER (Place.Start c.args.instance) c.args.self.now.desk.state told c.tell.ensures.rest.far there in
     rw (ap (λ m. m.desk.state) c.note_left.ensures)
     (told, c.tell.ensures.rest.far, start_ends WORKER told c.start_returned.new.self c.start_returned.result c.args.instance still c.start_returned.ensures.event)
 
@@ -18,7 +18,7 @@ pub returns-clause-quiet : goal.returns-clause-quiet
 returns-clause-quiet g c plain there =
     let old = c.args.self.now in
     let same = c.tell.ensures.rest.quiet (quiet_in g.F.Minifilter.pre_may g.F.Minifilter.post_may g.F.Minifilter.is_quiet (numbered old.filters) old.desk.state.stack c.args.instance plain) in
-    let still = subst (λ (d : Desk). IsIn WORKER (Worker.Start c.args.instance) d.state) (sym same) there in
+    let still = subst (λ (d : Desk). IsIn WORKER (Place.Start c.args.instance) d.state) (sym same) there in
     let ends = start_ends WORKER c.tell.new.desk.state c.start_returned.new.self c.start_returned.result c.args.instance still c.start_returned.ensures.event in
     let returns = subst (λ (d : Desk). StartReturns d.state WORKER (Ok tt) c.start_returned.new.self) same ends in
     (rw (ap (λ m. m.desk.state) c.note_left.ensures) returns, ap (λ m. m.desk.resumed) c.note_left.ensures ∙ ap (λ d. d.resumed) same)

@@ -3,7 +3,7 @@ use Rattle.std.proofs.Common.{◌+◌, ◌-◌, ◌^◌, ◌<◌, ◌∙◌, min
 use Rattle.fm_ctx.proofs.Bags.{first_held}
 use Rattle.fm_ctx.proofs.Leaving.{LeavesSome, leave_none, leave_more, leave_all, no_first, hand_shorter}
 use Rattle.fm_ctx.proofs.Sound.{sound_leaks}
-use Rattle.fm_ctx.proofs.contexts.Contexts.leave.Goals as goal
+use Rattle.fm_ctx.proofs.contexts.Contexts.release_left.Goals as goal
 
 pub loop-id-init : goal.loop-id-init
 loop-id-init c = leave_none c.args.self.now c.args.worker.0 c.laws.ensures.lawful.workers

@@ -4,7 +4,7 @@ use fm_types::{CtxId, FilterId, InstanceId, OpId};
 
 /// Where a worker is: idle, or inside one callback of an instance, one call of the base or one cleanup of a context.
 #[derive(Clone, Copy, Debug, PartialEq, Eq)]
-pub enum Worker {
+pub enum Place {
     /// In none: it may be given any callback or call.
     Idle,
     /// In the setup callback of the instance.

@@ -1,6 +1,6 @@
 use Rattle.fm_ctx.proofs.Words.{length, hand_of}
 use Rattle.fm_ctx.proofs.Leaving.{LeavesSome}
-use Rattle.fm_ctx.proofs.contexts.Contexts.leave.Given as goal
+use Rattle.fm_ctx.proofs.contexts.Contexts.release_left.Given as goal
 
 abbrev pub invariant-loop-id : goal.invariant-loop-id
 invariant-loop-id l = LeavesSome l.initial.self l.self l.worker.0

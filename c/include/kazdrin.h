@@ -24,7 +24,7 @@ typedef struct {
 } KazdrinEvent;
 
 /* What an event answered. `has` says whether a context, an operation or a handle that may be absent is there; `length` is how many bytes there are, of which
- * as many are copied as there is room for. */
+ * as many are copied as there is room for. Of an event without an answer that was refused with 34, `number` says how many are in the way. */
 typedef struct {
     uint32_t slot, generation;
     uint64_t operation, handle, number, information, length;
@@ -108,6 +108,12 @@ enum { KZ_FINISHED, KZ_MORE_PROCESSING };
  * its context, if `has` isn't 0), give it a drain; nothing, ask again; nothing, a filter holds the operation; nothing, it is done. */
 enum { KZ_PRE, KZ_BASE, KZ_POST, KZ_DRAIN, KZ_MOVED, KZ_HELD, KZ_DONE };
 
+/* Of what kazdrin_phase tells the phase, in `mode`, and the phases. */
+enum { KZ_OF_INSTANCE, KZ_OF_FILTER, KZ_OF_VOLUME };
+enum { KZ_SETUP, KZ_ATTACHED, KZ_STOPPING, KZ_COMPLETING, KZ_EMPTYING, KZ_DETACHED };
+enum { KZ_LOADED, KZ_UNLOADING, KZ_FILTER_EMPTIED, KZ_NOT_LOADED };
+enum { KZ_MOUNTED, KZ_DISMOUNTING, KZ_VOLUME_EMPTIED, KZ_DISMOUNTED };
+
 /* What every call but kazdrin_open and kazdrin_close answers on a handle that is closed. */
 #define KZ_CLOSED 35
 
@@ -135,5 +141,11 @@ uint32_t kazdrin_answer(Kazdrin *kazdrin, const KazdrinEvent *event, const uint8
 uint32_t kazdrin_counts(Kazdrin *kazdrin, const KazdrinEvent *event, KazdrinCounts *counts);
 /* worker, len: the place in its hand; told: slot and generation, if `has` isn't 0 */
 uint32_t kazdrin_held_at(Kazdrin *kazdrin, const KazdrinEvent *event, KazdrinTold *told);
+/* worker, and an answer as kazdrin_answer has it: the call of the base returns with it, in place of kazdrin_base */
+uint32_t kazdrin_based(Kazdrin *kazdrin, const KazdrinEvent *event, const uint8_t *bytes, size_t length);
+/* mode: of what; instance, filter or volume; told: number, the phase, if `has` isn't 0 */
+uint32_t kazdrin_phase(Kazdrin *kazdrin, const KazdrinEvent *event, KazdrinTold *told);
+/* worker, len: the place among what its last callback left in its hand; told: slot and generation, if `has` isn't 0 */
+uint32_t kazdrin_left(Kazdrin *kazdrin, const KazdrinEvent *event, KazdrinTold *told);
 
 #endif

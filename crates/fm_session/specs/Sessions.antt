@@ -141,6 +141,15 @@ ReturnsBase carries old below k result new after (Some call) =
 abbrev pub LentBaseReturns : {D : Type 0} → (D → BaseCall → Answer → D → Type 0) → Lending → D → WorkerId → Result Status Status → Lending → D → Type 0
 LentBaseReturns carries old below k result new after = ReturnsBase carries old below k result new after (base_in (lent_to old.lent k))
 
+-- the call that was lent is given back with that answer
+abbrev pub AnswersBase : Lending → WorkerId → Answer → Result (Unit {0}) Status → Lending → Option BaseCall → Type 0
+AnswersBase old k answer result new None = NotLent old result new
+AnswersBase old k answer result new (Some call) =
+    BaseReturns old.world k call answer result new.world × (new.lent ≡ lent_after_return old.lent k result)
+
+abbrev pub LentBaseAnswered : Lending → WorkerId → Answer → Result (Unit {0}) Status → Lending → Type 0
+LentBaseAnswered old k answer result new = AnswersBase old k answer result new (base_in (lent_to old.lent k))
+
 -- ---- callbacks that answer where they are called
 
 -- the worker has room for what it is lent, and the operation comes to that instance

@@ -5,7 +5,7 @@ ghost use Rattle.fm_world.specs.World.{empty_world};
 ghost use Rattle.fm_world.specs.Events.{Attaches, BaseReturns, Collects, SetsUp};
 ghost use Rattle.fm_world.specs.Steps.{Steps};
 ghost use Rattle.fm_core.specs.Passing.{numbered};
-ghost use Rattle.fm_session.specs.Sessions.{MayPassDown, LentPassesDown, LentPassesUp, LendsNext, LentPreReturns, LentPostReturns, LentBaseReturns, LentChanges, LentAnswers, lent_to, lend, lent_by, given_by, pre_in, post_in, base_in, post_lent, lent_back};
+ghost use Rattle.fm_session.specs.Sessions.{MayPassDown, LentPassesDown, LentPassesUp, LendsNext, LentPreReturns, LentPostReturns, LentBaseReturns, LentBaseAnswered, LentChanges, LentAnswers, lent_to, lend, lent_by, given_by, pre_in, post_in, base_in, post_lent, lent_back};
 ghost use Rattle.fm_session.specs.declared.lent.Lent.{Lent};
 ghost use Rattle.fm_session.specs.declared.lent.Lent.TheVariants as lent;
 
@@ -247,6 +247,18 @@ impl Session {
         let status = answer.status;
         self.return_base(worker, call, answer)?;
         Ok(status)
+    }
+
+    /// The call that the worker was lent returns with an answer that the caller brings (`State::base_returned`), for a file system that no device here
+    /// stands for. Refused with 30, nothing changed, where the worker was lent no call. Where the event is refused it still has it.
+    #[tactic(auto, using(crate::proofs::Returns::base_back))]
+    pub fn base_answered(&mut self, worker: WorkerId, answer: Answer) -> Result<(), Status>
+        ensures { LentBaseAnswered self.old worker answer result self.new }
+    {
+        let Some(call) = self.take_base(worker) else {
+            return Err(Status::WrongStep);
+        };
+        self.return_base(worker, call, answer)
     }
 
     /// Hands out the answer of a done operation (`State::collect`).

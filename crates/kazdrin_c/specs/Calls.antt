@@ -1,5 +1,5 @@
 -- What a call of C makes of a session, and what C is told.
-use Rattle.std.specs.Prelude.{◌≡◌, ◌==◌, ℕ, List, Option, Some, None, Result, Ok, Err, cond, length}
+use Rattle.std.specs.Prelude.{◌≡◌, ◌==◌, ℕ, List, [], Option, Some, None, Result, Ok, Err, cond, length, unwrap_or}
 use Rattle.fm_types.specs.declared.status.Status.{Status}
 use Rattle.fm_world.specs.declared.step.Step.{Step}
 use Rattle.fm_world.specs.declared.step.StepReply.{StepReply}
@@ -11,7 +11,7 @@ use Rattle.fm_data.specs.declared.verdict.PreVerdict.{PreVerdict}
 use Rattle.fm_data.specs.declared.verdict.PostVerdict.{PostVerdict}
 use Rattle.fm_device.specs.Devices.{CarriesCall}
 use Rattle.fm_session.specs.declared.lent.Given.{Given}
-use Rattle.fm_session.specs.Sessions.{LendsNext, LentAnswers, LentBaseReturns, LentChanges, LentPostReturns, LentPreReturns}
+use Rattle.fm_session.specs.Sessions.{LendsNext, LentAnswers, LentBaseAnswered, LentBaseReturns, LentChanges, LentPostReturns, LentPreReturns}
 use Rattle.fm_types.specs.Statuses.{number_of}
 use Rattle.fm_data.specs.declared.params.Params.{Params}
 use Rattle.fm_session.specs.declared.lent.Lent.{Lent}
@@ -112,8 +112,23 @@ PutsAnswer e status bytes old result new =
 
 -- the callback puts a status and bytes in the answer, or what C passed is refused
 abbrev pub AnswersThat : KazdrinEvent → List ℕ → Face → ℕ → Face → Option Status → Type 0
-AnswersThat e bytes old result new None = RefusedFor (Unnamed (status_at e.status e.number)) old result new
+AnswersThat e bytes old result new None = RefusedFor (Unnamed (flag_in e) (status_at e.status e.number)) old result new
 AnswersThat e bytes old result new (Some status) = (status_at e.status e.number ≡ Some status) × PutsAnswer e status (bytes_given e bytes) old result new
 
 abbrev pub AnswerPut : KazdrinEvent → List ℕ → Face → ℕ → Face → Type 0
 AnswerPut e bytes old result new = (made : Option Status) × AnswersThat e bytes old result new made
+
+-- the call of the base that the worker was lent returns with that status, the number and those bytes
+abbrev pub ReturnsAnswer : KazdrinEvent → Status → Option (List ℕ) → Face → ℕ → Face → Type 0
+ReturnsAnswer e status bytes old result new =
+    (r : Result (Unit {0}) Status)
+    × LentBaseAnswered old.session (worker_in e) (record { status = status; information = e.offset; bytes = unwrap_or bytes [] }) r new.session
+    × (result ≡ outcome_of r) × (new.devices ≡ old.devices)
+
+-- C answers the call, or what C passed is refused
+abbrev pub BasedThat : KazdrinEvent → List ℕ → Face → ℕ → Face → Option Status → Type 0
+BasedThat e bytes old result new None = RefusedFor (Unnamed (flag_in e) (status_at e.status e.number)) old result new
+BasedThat e bytes old result new (Some status) = (status_at e.status e.number ≡ Some status) × ReturnsAnswer e status (bytes_given e bytes) old result new
+
+abbrev pub BasedTold : KazdrinEvent → List ℕ → Face → ℕ → Face → Type 0
+BasedTold e bytes old result new = (made : Option Status) × BasedThat e bytes old result new made

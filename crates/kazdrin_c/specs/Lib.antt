@@ -4,5 +4,6 @@ pub mod Data
 pub mod Handles
 pub mod Named
 pub mod Opened
+pub mod Phases
 pub mod Refusals
 pub mod Told

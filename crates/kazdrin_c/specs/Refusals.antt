@@ -1,5 +1,5 @@
 -- Why what C passes makes no event.
-use Rattle.std.specs.Prelude.{◌≡◌, ◌==◌, ◌||◌, ⊤, ℕ, List, Option, None, true}
+use Rattle.std.specs.Prelude.{Bool, ◌≡◌, ◌==◌, ◌||◌, ℕ, List, Option, None, true}
 use Rattle.fm_types.specs.declared.status.Status.{Status}
 use Rattle.fm_types.specs.declared.status.Status.TheVariants.{NoMemory, BadAltitude, BadName, BadPath, BadRequest}
 use Rattle.fm_types.specs.Names.{IsName}
@@ -9,17 +9,21 @@ use Rattle.fm_world.specs.declared.step.Step.{Step}
 use Rattle.kazdrin_c.specs.declared.event.KazdrinEvent.{KazdrinEvent}
 use Rattle.kazdrin_c.specs.Named.{step_named}
 
--- memory was refused, or the number names nothing
-abbrev pub Unnamed : {T : Type 0} → Option T → Status → Type 0
-Unnamed named NoMemory = ⊤
-Unnamed named BadRequest = named ≡ None
-Unnamed named _ = ⊥
+-- those that take memory for what C passes: a create, a write, an allocation, a write of a body
+abbrev pub takes_memory : KazdrinEvent → Bool
+takes_memory e = e.event == 4 || e.event == 7 || e.event == 18 || e.event == 25
+
+-- memory was refused, where some is taken, or the number names nothing
+abbrev pub Unnamed : {T : Type 0} → Bool → Option T → Status → Type 0
+Unnamed takes named NoMemory = takes ≡ true
+Unnamed takes named BadRequest = named ≡ None
+Unnamed takes named _ = ⊥
 
 -- that of kazdrin_step: or a text is no name of a filter or a volume, or no path of a create
 abbrev pub Unread : KazdrinEvent → List ℕ → Option Step → Status → Type 0
 Unread e bytes named BadName = ((e.event == 1 || e.event == 2) ≡ true) × (IsName bytes → ⊥)
 Unread e bytes named BadPath = (e.event ≡ 4) × (IsPath bytes → ⊥)
-Unread e bytes named status = Unnamed named status
+Unread e bytes named status = Unnamed (takes_memory e) named status
 
 -- that of kazdrin_attach: the name is read first
 abbrev pub UnreadTexts : List ℕ → List ℕ → Status → Type 0
@@ -30,4 +34,4 @@ UnreadTexts name altitude _ = ⊥
 -- that of parameters: the number is no operation's, or the text no path of a create
 abbrev pub UnreadParams : {T : Type 0} → KazdrinEvent → List ℕ → Option T → Status → Type 0
 UnreadParams e bytes named BadPath = (e.event ≡ 4) × (IsPath bytes → ⊥)
-UnreadParams e bytes named status = Unnamed named status
+UnreadParams e bytes named status = Unnamed (takes_memory e) named status

@@ -72,8 +72,13 @@ reply_outcome (reply.Body r) = outcome_of r
 reply_outcome (reply.Number r) = outcome_of r
 reply_outcome (reply.Due r) = outcome_of r
 
+-- of a refusal: how many are in the way, if it is Busy
+abbrev pub refusal_told : Status → KazdrinTold
+refusal_told status = record nothing_told { number = information_of status }
+
 -- an answer, but for its bytes
 abbrev pub told_of : StepReply → KazdrinTold
+told_of (reply.Done (Err status)) = refusal_told status
 told_of (reply.Filter (Ok f)) = record nothing_told { filter = f.0 }
 told_of (reply.Volume (Ok v)) = record nothing_told { volume = v.0 }
 told_of (reply.Instance (Ok i)) = record nothing_told { instance = i.0 }

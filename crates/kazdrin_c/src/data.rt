@@ -4,7 +4,7 @@ ghost use Rattle.std.specs.Prelude.{◌≡◌, IfErr, IfOk, Some};
 ghost use Rattle.kazdrin_c.specs.Data.{call_path, call_told, data_told, lent_bytes, lent_told, mode_number, nothing_lent, params_bytes, params_named, params_told};
 ghost use Rattle.kazdrin_c.specs.Refusals.{Unnamed, UnreadParams};
 ghost use Rattle.kazdrin_c.specs.Calls.{bytes_given};
-ghost use Rattle.kazdrin_c.specs.Named.{status_at};
+ghost use Rattle.kazdrin_c.specs.Named.{flag_in, status_at};
 
 use crate::event::{KazdrinEvent, create_mode_of, named, status_of};
 use fm_data::{BaseCall, CallbackData, Params};
@@ -216,7 +216,7 @@ impl KazdrinEvent {
     pub fn answer(&self, alloc: Global, bytes: &[u8]) -> Result<Given, Status>
         ensures status { IfOk result (λ given. status_at self.now.status self.now.number ≡ Some given.status) }
         ensures bytes { IfOk result (λ given. given.bytes ≡ bytes_given self.now bytes.now) }
-        ensures refused { IfErr result (λ status. Unnamed (status_at self.now.status self.now.number) status) }
+        ensures refused { IfErr result (λ status. Unnamed (flag_in self.now) (status_at self.now.status self.now.number) status) }
     {
         let status = named(status_of(self.status, self.number))?;
         if self.flag == 0 {

@@ -2,7 +2,7 @@
 
 ghost use Rattle.std.specs.Prelude.{◌≡◌, IfErr, IfOk, None};
 ghost use Rattle.kazdrin_c.specs.Named.{attach_named, completion_in, context_named, create_mode_named, file_named, kind_named, registration_in, request_named, set_mode_named, hold_named, status_at, step_named, teardown_named, unload_named, post_named, verdict_named, flag_in};
-ghost use Rattle.kazdrin_c.specs.Refusals.{Unnamed, Unread, UnreadTexts};
+ghost use Rattle.kazdrin_c.specs.Refusals.{Unnamed, Unread, UnreadTexts, takes_memory};
 
 use fm_altitude::Altitude;
 use fm_core::{Hold, SetMode, Step};
@@ -221,7 +221,7 @@ impl KazdrinEvent {
     // An operation on a handle.
     fn file_step(&self, alloc: Global, bytes: &[u8]) -> Result<Step, Status>
         ensures named { IfOk result (λ step. file_named self.now bytes.now ≡ Some step) }
-        ensures refused { IfErr result (λ status. Unnamed (file_named self.now bytes.now) status) }
+        ensures refused { IfErr result (λ status. Unnamed (takes_memory self.now) (file_named self.now bytes.now) status) }
     {
         let request = match self.event {
             6 => FileRequest::Read {
@@ -249,7 +249,7 @@ impl KazdrinEvent {
     // What a callback does with contexts, and what goes on.
     fn context_step(&self, alloc: Global, bytes: &[u8]) -> Result<Step, Status>
         ensures named { IfOk result (λ step. context_named self.now bytes.now ≡ Some step) }
-        ensures refused { IfErr result (λ status. Unnamed (context_named self.now bytes.now) status) }
+        ensures refused { IfErr result (λ status. Unnamed (takes_memory self.now) (context_named self.now bytes.now) status) }
     {
         let worker = WorkerId(self.worker);
         let step = match self.event {
@@ -304,7 +304,7 @@ impl KazdrinEvent {
     // What is held, what is due, and what is collected.
     fn hold_step(&self) -> Result<Step, Status>
         ensures named { IfOk result (λ step. request_named self.now ≡ Some step) }
-        ensures refused { IfErr result (λ status. Unnamed (request_named self.now) status) }
+        ensures refused { IfErr result (λ status. Unnamed (takes_memory self.now) (request_named self.now) status) }
     {
         let worker = WorkerId(self.worker);
         let operation = OpId(self.operation);
@@ -333,7 +333,7 @@ impl KazdrinEvent {
     // The end of an instance.
     fn teardown_step(&self) -> Result<Step, Status>
         ensures named { IfOk result (λ step. teardown_named self.now ≡ Some step) }
-        ensures refused { IfErr result (λ status. Unnamed (teardown_named self.now) status) }
+        ensures refused { IfErr result (λ status. Unnamed (takes_memory self.now) (teardown_named self.now) status) }
     {
         let worker = WorkerId(self.worker);
         let instance = InstanceId(self.instance);
@@ -358,7 +358,7 @@ impl KazdrinEvent {
     // The end of a filter, and of a volume.
     fn unload_step(&self) -> Result<Step, Status>
         ensures named { IfOk result (λ step. unload_named self.now ≡ Some step) }
-        ensures refused { IfErr result (λ status. Unnamed (unload_named self.now) status) }
+        ensures refused { IfErr result (λ status. Unnamed (takes_memory self.now) (unload_named self.now) status) }
     {
         let worker = WorkerId(self.worker);
         let filter = FilterId(self.filter);

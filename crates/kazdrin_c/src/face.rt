@@ -1,19 +1,25 @@
 //! What lies behind a handle: a session, and a file system in memory for each of its volumes.
 
 ghost use Rattle.std.specs.Prelude.{◌≡◌, IfErr, IfOk, slice_get};
-ghost use Rattle.kazdrin_c.specs.Calls.{AnswerPut, AttachTold, BaseTold, ChangeTold, LentTold, Makes, NextTold, PostTold, PreTold, PutsAnswer, StepTold};
+ghost use Rattle.kazdrin_c.specs.Calls.{AnswerPut, AttachTold, BaseTold, BasedTold, ChangeTold, LentTold, Makes, NextTold, PostTold, PreTold, PutsAnswer, ReturnsAnswer, StepTold};
 ghost use Rattle.kazdrin_c.specs.Counts.{counts_of, held_told};
 ghost use Rattle.kazdrin_c.specs.Opened.{IsFresh};
+ghost use Rattle.kazdrin_c.specs.Phases.{phase_named, phase_told};
+ghost use Rattle.kazdrin_c.specs.Told.{old_told};
+ghost use Rattle.std.specs.Prelude.{Option};
+ghost use Rattle.fm_types.specs.declared.ids.CtxId.{CtxId};
 ghost use Rattle.kazdrin_c.specs.Named.{post_named, verdict_named};
 
 use crate::counts::KazdrinCounts;
 use crate::data::{Given, KazdrinData, lent_bytes, lent_told};
 use crate::event::{KazdrinEvent, post_verdict_of};
+use crate::phase::{filter_code, instance_code, phase_told, volume_code};
 use crate::told::{KazdrinTold, given_told, old_told, outcome, outcome_of, put_bytes, tell};
 use fm_core::Step;
+use fm_data::Answer;
 use fm_device::MemoryDevices;
 use fm_session::Session;
-use fm_types::{OpId, Status, WorkerId};
+use fm_types::{Bytes, FilterId, InstanceId, OpId, Status, VolumeId, WorkerId};
 use std::alloc::Global;
 
 /// A session with its file systems.
@@ -123,6 +129,29 @@ impl Face {
         outcome(&self.session.call_base(worker, &mut self.devices))
     }
 
+    // The call of the base that the worker was lent returns with that status and those bytes.
+    fn return_answer(&mut self, event: &KazdrinEvent, given: Given) -> u32
+        ensures { ReturnsAnswer event.now given.status given.bytes self.old result self.new }
+    {
+        let answer = Answer {
+            status: given.status,
+            information: event.offset,
+            bytes: given.bytes.unwrap_or(Bytes::new(self.alloc)),
+        };
+        outcome(&self.session.base_answered(WorkerId(event.worker), answer))
+    }
+
+    /// C answers the call of the base that the worker was lent, and it returns: a status, a number, and bytes, if the flag says so. Refused with 32 for a
+    /// number that is no status's, with 1 if memory was refused, with 30 where the worker was lent no call, and as the event refuses it: nothing changes then.
+    pub fn based(&mut self, event: &KazdrinEvent, bytes: &[u8]) -> u32
+        ensures { BasedTold event.now bytes.now self.old result self.new }
+    {
+        match event.answer(self.alloc, bytes) {
+            Ok(given) => self.return_answer(event, given),
+            Err(status) => u32::from(status.number()),
+        }
+    }
+
     /// What the worker was lent, for its callback to look at. Refused with 30 if there is no such worker. Nothing changes.
     pub fn lent(&self, event: &KazdrinEvent, told: &mut KazdrinData, room: &mut [u8]) -> u32
         ensures { LentTold event.now self.now told.old room.old result self.now told.new room.new (slice_get self.now.session.lent event.now.worker) }
@@ -194,5 +223,33 @@ impl Face {
     {
         let state = self.session.state();
         old_told(state.held_at(WorkerId(event.worker), event.len as usize))
+    }
+
+    // The number of the phase of what the event names, if it is there.
+    fn phase_code(&self, event: &KazdrinEvent) -> Option<u64>
+        ensures { result ≡ phase_named self.now.session.world event.now event.now.mode }
+    {
+        let state = self.session.state();
+        match event.mode {
+            0 => state.phase(InstanceId(event.instance)).map(instance_code),
+            1 => state.filter_phase(FilterId(event.filter)).map(filter_code),
+            2 => state.volume_phase(VolumeId(event.volume)).map(volume_code),
+            _ => None,
+        }
+    }
+
+    /// How far the life of an instance, a filter or a volume has come: the event's mode says of which, 0, 1 or 2. Nothing is told of one that isn't there.
+    pub fn phase(&self, event: &KazdrinEvent) -> KazdrinTold
+        ensures { result ≡ phase_told (phase_named self.now.session.world event.now event.now.mode) }
+    {
+        phase_told(self.phase_code(event))
+    }
+
+    /// The context at that place among those that the worker's last callback left in its hand, if there were so many.
+    pub fn left(&self, event: &KazdrinEvent) -> KazdrinTold
+        ensures { (left : Option CtxId) × (result ≡ old_told left) }
+    {
+        let left = self.session.state().left(WorkerId(event.worker));
+        old_told(left.get(event.len as usize).copied())
     }
 }

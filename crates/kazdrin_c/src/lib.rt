@@ -3,8 +3,9 @@
 
 ghost use Rattle.std.specs.Prelude.{◌≡◌, ◌≢◌, IfSome, slice_get};
 ghost use Rattle.kazdrin_c.specs.Opened.{HasFresh, IsFresh, Opened};
-ghost use Rattle.kazdrin_c.specs.Calls.{AnswerPut, AttachTold, BaseTold, ChangeTold, LentTold, NextTold, PostTold, PreTold, StepTold};
+ghost use Rattle.kazdrin_c.specs.Calls.{AnswerPut, AttachTold, BaseTold, BasedTold, ChangeTold, LentTold, NextTold, PostTold, PreTold, StepTold};
 ghost use Rattle.kazdrin_c.specs.Counts.{CountsTold, HeldTold};
+ghost use Rattle.kazdrin_c.specs.Phases.{LeftTold, PhaseTold};
 ghost use Rattle.kazdrin_c.specs.Named.{post_named, verdict_named};
 
 mod counts;
@@ -13,6 +14,7 @@ mod event;
 mod face;
 mod handle;
 mod loose;
+mod phase;
 mod told;
 
 pub use crate::counts::KazdrinCounts;
@@ -185,6 +187,27 @@ pub extern "C" fn kazdrin_base(alloc: Global, kazdrin: &mut Kazdrin, event: &Kaz
     result
 }
 
+/// C answers the call of the base that the worker was lent, in place of the file system in memory: the status, the number in `offset`, and with the flag the
+/// bytes.
+#[unsafe(no_mangle)]
+pub extern "C" fn kazdrin_based(
+    alloc: Global,
+    kazdrin: &mut Kazdrin,
+    event: &KazdrinEvent,
+    bytes: &[u8],
+) -> u32
+    ensures open { kazdrin.old.is_open ≡ 1 → Opened kazdrin.old.kept.face kazdrin.new.kept.face (λ old new. BasedTold event.now bytes.now old result new) }
+    ensures stays { kazdrin.old.is_open ≡ 1 → kazdrin.new.is_open ≡ 1 }
+    ensures closed { kazdrin.old.is_open ≢ 1 → (result ≡ 35) × (kazdrin.new ≡ kazdrin.old) }
+{
+    let Some(mut face) = kazdrin.take(alloc) else {
+        return CLOSED;
+    };
+    let result = face.based(event, bytes);
+    kazdrin.put(face);
+    result
+}
+
 /// Looks at what the worker was lent: the parameters' bytes, or with the flag those of the answer so far (of a call of the base its file's path). Refused with
 /// 30 if there is no such worker. Nothing changes but what is told.
 #[unsafe(no_mangle)]
@@ -284,6 +307,46 @@ pub extern "C" fn kazdrin_held_at(
         return CLOSED;
     };
     *told = face.held_at(event);
+    kazdrin.put(face);
+    0
+}
+
+/// Reads how far the life of an instance, a filter or a volume has come. Nothing changes but what is told.
+#[unsafe(no_mangle)]
+pub extern "C" fn kazdrin_phase(
+    alloc: Global,
+    kazdrin: &mut Kazdrin,
+    event: &KazdrinEvent,
+    told: &mut KazdrinTold,
+) -> u32
+    ensures open { kazdrin.old.is_open ≡ 1 → Opened kazdrin.old.kept.face kazdrin.new.kept.face (λ old new. PhaseTold event.now old result new told.new) }
+    ensures stays { kazdrin.old.is_open ≡ 1 → kazdrin.new.is_open ≡ 1 }
+    ensures closed { kazdrin.old.is_open ≢ 1 → (result ≡ 35) × (kazdrin.new ≡ kazdrin.old) }
+{
+    let Some(face) = kazdrin.take(alloc) else {
+        return CLOSED;
+    };
+    *told = face.phase(event);
+    kazdrin.put(face);
+    0
+}
+
+/// Reads a context that the worker's last callback left in its hand, by its place there: none if there were fewer. Nothing changes but what is told.
+#[unsafe(no_mangle)]
+pub extern "C" fn kazdrin_left(
+    alloc: Global,
+    kazdrin: &mut Kazdrin,
+    event: &KazdrinEvent,
+    told: &mut KazdrinTold,
+) -> u32
+    ensures open { kazdrin.old.is_open ≡ 1 → Opened kazdrin.old.kept.face kazdrin.new.kept.face (λ old new. LeftTold old result new told.new) }
+    ensures stays { kazdrin.old.is_open ≡ 1 → kazdrin.new.is_open ≡ 1 }
+    ensures closed { kazdrin.old.is_open ≢ 1 → (result ≡ 35) × (kazdrin.new ≡ kazdrin.old) }
+{
+    let Some(face) = kazdrin.take(alloc) else {
+        return CLOSED;
+    };
+    *told = face.left(event);
     kazdrin.put(face);
     0
 }

@@ -1,7 +1,7 @@
 //! What C is told of an event: one structure for all answers.
 
 ghost use Rattle.std.specs.Prelude.{◌≡◌, ◌++◌, length, min, take, drop};
-ghost use Rattle.kazdrin_c.specs.Told.{bytes_in, code_of, completion_told, context_told, copied, given_told, nothing_told, old_told, outcome_of, reply_outcome, told_of};
+ghost use Rattle.kazdrin_c.specs.Told.{bytes_in, code_of, completion_told, context_told, copied, given_told, nothing_told, old_told, outcome_of, refusal_told, reply_outcome, told_of};
 
 use fm_core::{SetAnswer, StepReply};
 use fm_data::Completion;
@@ -29,8 +29,8 @@ pub struct KazdrinTold {
     pub has: u8,
 }
 
-// Nothing is told.
-fn nothing_told() -> KazdrinTold
+/// Nothing is told.
+pub fn nothing_told() -> KazdrinTold
     ensures { result ≡ nothing_told }
 {
     KazdrinTold {
@@ -119,11 +119,22 @@ pub fn outcome_of(reply: &StepReply) -> u32
     }
 }
 
+// What a refusal tells: how many are in the way, if it is Busy.
+fn refusal_told(status: &Status) -> KazdrinTold
+    ensures { result ≡ refusal_told status.now }
+{
+    KazdrinTold {
+        number: status.information(),
+        ..nothing_told()
+    }
+}
+
 // What an answer tells, but for its bytes.
 fn told_of(reply: &StepReply) -> KazdrinTold
     ensures { result ≡ told_of reply.now }
 {
     match reply {
+        StepReply::Done(Err(status)) => refusal_told(status),
         StepReply::Filter(Ok(filter)) => KazdrinTold {
             filter: filter.0,
             ..nothing_told()

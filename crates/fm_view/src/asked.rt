@@ -1,7 +1,7 @@
 //! What a line asks for, as the event that an `ok` makes of it.
 
 use crate::event::{Event, Kind};
-use fm_core::{State, Step, Place};
+use fm_core::{Place, State, Step};
 use fm_data::{FileRequest, PostVerdict, PreVerdict, Request};
 use fm_script::{ContextList, Task};
 use fm_types::{CtxId, OpId, WorkerId};

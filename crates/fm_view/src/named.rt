@@ -175,11 +175,11 @@ impl fmt::Display for Counted {
 
 /// Where a worker is: `in the drain of i1 scanner@320000 for o2`.
 #[derive(Clone, Copy)]
-pub struct Place<'a>(pub &'a Notes, pub Place);
+pub struct PlaceName<'a>(pub &'a Notes, pub Place);
 
-impl fmt::Display for Place<'_> {
+impl fmt::Display for PlaceName<'_> {
     fn fmt<W: fmt::Write>(&self, f: &mut fmt::Formatter<W>) -> fmt::Result {
-        let Place(notes, place) = self;
+        let PlaceName(notes, place) = self;
         match place {
             Place::Idle => f.write_str("idle"),
             Place::Setup(i) => write_in(f, notes, "setup", *i),

@@ -2,7 +2,7 @@
 
 use crate::event::{Event, Kind};
 use fm_altitude::Altitude;
-use fm_core::{FilterPhase, Phase, State, Step, VolumePhase, Place};
+use fm_core::{FilterPhase, Phase, Place, State, Step, VolumePhase};
 use fm_data::{FileRequest, PreVerdict, Request};
 use fm_script::Task;
 use fm_types::limits::SCRIPT_WORKERS;

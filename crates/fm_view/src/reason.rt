@@ -1,13 +1,13 @@
 //! Why a line was refused, as far as the manager's state and the notes tell.
 
 use crate::event::{Event, Kind};
-use crate::named::{Ascii, Named, Place, Stated};
+use crate::named::{Ascii, Named, PlaceName, Stated};
 use crate::notes::{InstanceNote, Notes};
 use crate::status::sentence;
 use crate::usage::usage;
 use crate::verdict::held_at;
 use crate::words::phase_word;
-use fm_core::{FilterPhase, Phase, State, Place};
+use fm_core::{FilterPhase, Phase, Place, State};
 use fm_script::{Keyword, split_at_byte};
 use fm_types::limits::LINE;
 use fm_types::{OpId, Status, WorkerId};
@@ -114,7 +114,7 @@ fn say_place(
     place: Place,
 ) -> Result<(), AllocError> {
     let since = refusal.notes.since(worker);
-    let place = Place(refusal.notes, place);
+    let place = PlaceName(refusal.notes, place);
     write!(text, "w{} is {place} since line {since}", worker.0)
 }
 

@@ -3,9 +3,9 @@
 ghost use Rattle.std.specs.Prelude.{◌≡◌};
 ghost use Rattle.fm_view.specs.Ends.{status_of};
 
-use crate::named::{Counted, Named, Place, Stated};
+use crate::named::{Counted, Named, PlaceName, Stated};
 use crate::notes::{LeakNote, Notes};
-use fm_core::{Entry, Hold, Phase, PostState, PreState, State, Place};
+use fm_core::{Entry, Hold, Phase, Place, PostState, PreState, State};
 use fm_script::ScriptEnd;
 use fm_types::{InstanceId, OpId, Status, WorkerId};
 use std::alloc::AllocError;
@@ -102,7 +102,7 @@ fn say_refusals(text: &mut String, notes: &Notes) -> Result<(), AllocError> {
 // A reference that was left behind.
 fn say_leak(text: &mut String, notes: &Notes, leak: &LeakNote) -> Result<(), AllocError> {
     let context = Named::Context(notes, leak.context);
-    let place = Place(notes, leak.place);
+    let place = PlaceName(notes, leak.place);
     write!(
         text,
         "  LEAKED {context}, {place}, which returned on line {}\n",
@@ -149,7 +149,7 @@ fn say_workers(text: &mut String, notes: &Notes, state: &State) -> Result<(), Al
                 write!(
                     text,
                     "  w{number} is {} since line {since}\n",
-                    Place(notes, place)
+                    PlaceName(notes, place)
                 )?;
             }
         }

@@ -1,11 +1,11 @@
 -- What the calls answer, and what a pass knows after them.
-use Rattle.std.specs.Prelude.{◌≡◌, ◌==◌, ◌||◌, ℕ, List, [], length, Result, Err, IfErr, MatchBool, MatchResult}
+use Rattle.std.specs.Prelude.{◌≡◌, ◌==◌, ◌||◌, ℕ, List, [], length, Option, Result, Err, IfErr, MatchBool, MatchOption, MatchResult}
 use Rattle.fm_types.specs.declared.status.Status.{Status}
 use Rattle.fm_types.specs.declared.status.Status.TheVariants.{NoMemory, BadRequest, TooMany}
 use Rattle.fm_queue.specs.declared.job.Job.{Job}
 use Rattle.fm_queue.specs.declared.tally.Tally.{Tally}
 use Rattle.fm_queue.specs.Jobs.{IsKept}
-use Rattle.fm_queue.specs.Tallies.{after_put}
+use Rattle.fm_queue.specs.Tallies.{after_put, after_take}
 
 -- a queue isn't made: with 32 exactly where it would hold no job or have no pass, else only for want of memory
 abbrev pub NewRefused : {T : Type 0} → ℕ → ℕ → Result T Status → Type 0
@@ -15,6 +15,10 @@ NewRefused capacity passes result =
 -- `put`: the pass has put the job; or the job is handed back with 29, and the pass is as it was
 abbrev pub Puts : Tally → Job → Result (Unit {0}) (Job × Status) → Tally → Type 0
 Puts old job result new = MatchResult result (λ _. new ≡ after_put old job) (λ back. (back ≡ (job, TooMany)) × (new ≡ old))
+
+-- `try_take`: the pass has taken the job; or there was none, and the pass is as it was
+abbrev pub MayTake : Tally → Option Job → Tally → Type 0
+MayTake old result new = MatchOption result (new ≡ old) (λ job. new ≡ after_take old job)
 
 -- the jobs that the pass put and hasn't taken are queued, as many as there is room for
 abbrev pub IsFull : ℕ → Tally → Type 0

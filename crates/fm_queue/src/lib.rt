@@ -2,6 +2,7 @@
 //! without a lock. What goes in comes out, as often as it went in.
 #![tactic(auto)]
 
+mod bell;
 mod ends;
 mod job;
 mod kept;

@@ -1,10 +1,11 @@
 //! The queue and its passes.
 
-ghost use Rattle.std.specs.Prelude.{◌≡◌, ◌<◌, IfOk, IfErr, All, length, sum_by};
+ghost use Rattle.std.specs.Prelude.{◌≡◌, ◌<◌, IfOk, IfErr, IfNone, All, length, sum_by};
 ghost use Rattle.fm_queue.specs.Tallies.{empty_tally, every_part, after_take, cut_tally, new_tally, joined};
 ghost use Rattle.fm_queue.specs.Passes.{tally_of, parts_of, IsPassOf, capacity_of, IsWhole};
-ghost use Rattle.fm_queue.specs.Calls.{NewRefused, Puts, IsFull, KeepsJobs};
+ghost use Rattle.fm_queue.specs.Calls.{NewRefused, Puts, IsFull, KeepsJobs, MayTake, TookAll};
 
+use crate::bell::Bell;
 use crate::ends::Ends;
 use crate::job::Job;
 use crate::kept::{Cut, Kept, Put, Take, Whole};
@@ -22,6 +23,7 @@ pub type JobPass = Pass<Job, Tally>;
 #[derive(Drop)]
 pub struct JobQueue {
     ends: Ends,
+    bell: Bell,
 }
 
 impl JobQueue {
@@ -57,6 +59,7 @@ impl JobQueue {
         let (sender, receiver, first) = bounded_with::<Job, Tally, Kept, Global>(alloc, capacity)?;
         let queue = JobQueue {
             ends: Ends { sender, receiver },
+            bell: Bell::new(),
         };
         Ok((queue, first))
     }
@@ -96,10 +99,27 @@ impl JobQueue {
         self.ends.sender.another::<Cut>(pass)
     }
 
-    /// Puts a job behind those queued. Where the queue is full, the job is handed back with 29, and the pass is as it was. Where the pass has
-    /// every part, a refusal tells that the jobs it put and hasn't taken are as many as the queue holds. Takes no memory and waits for no
-    /// room, only for another thread that is in the middle of its step on the same place.
+    /// Puts a job behind those queued, and wakes one thread that sleeps in `take`, unless another looks for this job already. Where the queue
+    /// is full, the job is handed back with 29, and the pass is as it was. Where the pass has every part, a refusal tells that the jobs it put
+    /// and hasn't taken are as many as the queue holds. Takes no memory and waits for no room, only for another thread that is in the middle of
+    /// its step on the same place.
     pub fn put<R: Wait>(&self, rt: &R, pass: &mut JobPass, job: Job) -> Result<(), (Job, Status)>
+        requires own { IsPassOf self.now pass.old }
+        ensures own { IsPassOf self.now pass.new }
+        ensures put { Puts (tally_of pass.old) job result (tally_of pass.new) }
+        ensures full { IfErr result (λ _. IsWhole pass.old → IsFull (capacity_of self.now) (tally_of pass.old)) }
+    {
+        let is_only = self.bell.announce();
+        let told = self.send(rt, pass, job);
+        match &told {
+            Ok(()) => self.bell.ring(is_only),
+            Err(_) => self.bell.withdraw(),
+        }
+        told
+    }
+
+    // Puts a job, and wakes nobody.
+    fn send<R: Wait>(&self, rt: &R, pass: &mut JobPass, job: Job) -> Result<(), (Job, Status)>
         requires own { IsPassOf self.now pass.old }
         ensures own { IsPassOf self.now pass.new }
         ensures put { Puts (tally_of pass.old) job result (tally_of pass.new) }
@@ -115,18 +135,51 @@ impl JobQueue {
         unreachable!()
     }
 
-    /// Takes the job in front, and waits for one where none is queued. Takes no memory.
+    /// Takes the job in front, and waits for one where none is queued: looks a while if no other thread does, and then sleeps. Takes no memory.
     pub fn take<R: Wait>(&self, rt: &R, pass: &mut JobPass) -> Job
         requires own { IsPassOf self.now pass.old }
         ensures own { IsPassOf self.now pass.new }
         ensures taken { tally_of pass.new ≡ after_take (tally_of pass.old) result }
     {
         'tries: for _ in rt.forever() {
-            if let Ok(job) = self.ends.receiver.recv_as::<Take, R>(rt, pass) {
+            self.bell.look();
+            if let Some(job) = self.try_take(rt, pass) {
+                return job;
+            }
+            if let Some(job) = self.take_or_sleep(rt, pass) {
                 return job;
             }
         }
         unreachable!()
+    }
+
+    /// Takes the job in front; None where none is queued, and the pass is as it was. Where the pass has every part, None tells that it took all
+    /// that it put. Takes no memory and waits for no job, only for another thread that is in the middle of its step on the same place.
+    pub fn try_take<R: Wait>(&self, rt: &R, pass: &mut JobPass) -> Option<Job>
+        requires own { IsPassOf self.now pass.old }
+        ensures own { IsPassOf self.now pass.new }
+        ensures taken { MayTake (tally_of pass.old) result (tally_of pass.new) }
+        ensures none { IfNone result (IsWhole pass.old → TookAll (tally_of pass.old)) }
+    {
+        match self.ends.receiver.try_recv_as::<Take, R>(rt, pass) {
+            Ok(job) => {
+                self.bell.taken();
+                Some(job)
+            }
+            Err(_) => None,
+        }
+    }
+
+    // Takes the job in front, or sleeps until a job is put. A put after the last try finds this thread counted.
+    fn take_or_sleep<R: Wait>(&self, rt: &R, pass: &mut JobPass) -> Option<Job>
+        requires own { IsPassOf self.now pass.old }
+        ensures own { IsPassOf self.now pass.new }
+        ensures taken { MayTake (tally_of pass.old) result (tally_of pass.new) }
+    {
+        let heard = self.bell.listen();
+        let taken = self.try_take(rt, pass);
+        self.bell.sleep(rt, heard, taken.is_none());
+        taken
     }
 
     /// Takes another pass in, with what it has put and taken: the way to a pass with every part, which knows the whole.

@@ -1,6 +1,6 @@
 use Rattle.fm_queue.specs.Passes.{tally_of, capacity_of}
 use Rattle.fm_queue.proofs.Rule.{puts, learns}
-use Rattle.fm_queue.proofs.queue.JobQueue.put.Goals as goal
+use Rattle.fm_queue.proofs.queue.JobQueue.send.Goals as goal
 
 pub try_send_as-requires-clause-rule : goal.try_send_as-requires-clause-rule
 try_send_as-requires-clause-rule g c =

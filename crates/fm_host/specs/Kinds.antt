@@ -5,10 +5,10 @@ use Rattle.std.specs.declared.io.Error.{Error}
 use Rattle.std.specs.declared.io.ErrorKind.TheVariants as kind
 use Rattle.fm_types.specs.Paths.{IsPath}
 
--- what lies there is a file of that size; a folder is none
+-- what lies there is a regular file of that size; nothing else is a file
 abbrev pub TellsSize : Bool → ℕ → Result ℕ Error → Type 0
-TellsSize is_folder len (Ok size) = (is_folder ≡ false) × (size ≡ len)
-TellsSize is_folder len (Err error) = (is_folder ≡ true) × (error_kind error ≡ kind.IsADirectory)
+TellsSize is_file len (Ok size) = (is_file ≡ true) × (size ≡ len)
+TellsSize is_file len (Err error) = (is_file ≡ false) × (error_kind error ≡ kind.Unsupported)
 
 -- what lies there is a folder; a file is none
 abbrev pub TellsFolder : Bool → Result (Unit {0}) Error → Type 0
@@ -17,12 +17,12 @@ TellsFolder is_folder (Err error) = (is_folder ≡ false) × (error_kind error �
 
 -- the entry went away before the host could tell what it is
 abbrev pub IsGone : Result Bool Error → Type 0
-IsGone (Ok is_folder) = ⊥
+IsGone (Ok may_be_file) = ⊥
 IsGone (Err error) = error_kind error ≡ kind.NotFound
 
--- an entry is listed where its name is a path and the host tells that it is no folder; it is left out where its name is no path, where it is a
--- folder, and where it went away; else the host's error is handed on
+-- an entry is listed where its name is a path and the host tells that it may be a file; it is left out where its name is no path, where it can
+-- be none, and where it went away; else the host's error is handed on
 abbrev pub Lists : List ℕ → Result Bool Error → Result (Option (List ℕ)) Error → Type 0
-Lists name is_folder (Ok (Some listed)) = IsPath name × (is_folder ≡ Ok false) × (listed ≡ name)
-Lists name is_folder (Ok None) = IsPath name → (is_folder ≡ Ok true) ⊎ IsGone is_folder
-Lists name is_folder (Err error) = IsPath name × (is_folder ≡ Err error) × (error_kind error ≢ kind.NotFound)
+Lists name may_be_file (Ok (Some listed)) = IsPath name × (may_be_file ≡ Ok true) × (listed ≡ name)
+Lists name may_be_file (Ok None) = IsPath name → (may_be_file ≡ Ok false) ⊎ IsGone may_be_file
+Lists name may_be_file (Err error) = IsPath name × (may_be_file ≡ Err error) × (error_kind error ≢ kind.NotFound)

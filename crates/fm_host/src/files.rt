@@ -1,5 +1,5 @@
 //! What each call of a base does with the files of the host. Every call opens the file that it names and
-//! closes it again.
+//! closes it again. It first looks what is there: to open a FIFO or a device may wait for ever.
 
 ghost use Rattle.std.specs.Prelude.{◌≤◌, IfOk, IfSome, length};
 
@@ -11,12 +11,13 @@ use std::io::{ErrorKind, Read, Seek, SeekFrom, Write};
 use std::rt::Files;
 use std::{fs, io};
 
-// How many bytes a file has; a folder is no file.
+// How many bytes a file has. What isn't a regular file is none.
 fn size_at(rt: &impl Files, path: &str) -> io::Result<u64> {
     let metadata = fs::metadata(rt, path)?;
-    file_size(metadata.is_dir(), metadata.len())
+    file_size(metadata.is_file(), metadata.len())
 }
 
+// Whether a file is there. Nothing is opened for it.
 fn open_existing(rt: &impl Files, path: &str) -> io::Result<()> {
     size_at(rt, path)?;
     Ok(())
@@ -27,7 +28,9 @@ fn make_new(rt: &impl Files, path: &str) -> io::Result<()> {
     Ok(())
 }
 
+// A file that is there, to be written.
 fn open_to_write<R: Files>(rt: &R, path: &str) -> io::Result<R::File> {
+    open_existing(rt, path)?;
     OpenOptions::new().write(true).open(rt, path)
 }
 
@@ -52,6 +55,44 @@ pub fn create<R: Files + AllocGlobal>(
     }
 }
 
+// Reads until the buffer is full or the file ends: how many bytes there were. A regular file gives them in one read.
+fn fill(file: &mut impl Read, buffer: &mut [u8]) -> io::Result<usize>
+    ensures { IfOk result (λ count. count ≤ length buffer.new) }
+{
+    let mut count = 0;
+    'reads: for _ in 0..u64::MAX {
+        if count == buffer.len() {
+            break 'reads;
+        }
+        match file.read(&mut buffer[count..]) {
+            Ok(0) => break 'reads,
+            Ok(more) => count += more,
+            Err(error) if error.kind() == ErrorKind::Interrupted => {}
+            Err(error) => return Err(error),
+        }
+    }
+    Ok(count)
+}
+
+// The bytes of a file from `offset` on: so many, or fewer where it ends before.
+fn read_part<R: Files + AllocGlobal>(
+    rt: &R,
+    path: &str,
+    offset: u64,
+    len: usize,
+) -> io::Result<Vec<u8>>
+    ensures { IfOk result (λ bytes. length bytes.items ≤ len) }
+{
+    let mut file = fs::open(rt, path)?;
+    if offset > 0 {
+        file.seek(SeekFrom::Start(offset))?;
+    }
+    let mut bytes = Vec::from_elem(rt.alloc(), 0u8, len)?;
+    let count = fill(&mut file, bytes.as_mut_slice())?;
+    bytes.truncate(count);
+    Ok(bytes)
+}
+
 /// The bytes from `offset` on, until there are `len` or the file ends; None where some are asked for and
 /// the file ends at `offset` or before it.
 pub fn read<R: Files + AllocGlobal>(
@@ -64,13 +105,11 @@ pub fn read<R: Files + AllocGlobal>(
     ensures { IfOk result (λ told. IfSome told (λ bytes. length bytes ≤ len)) }
 {
     let whole = joined(rt.alloc(), folder, path)?;
-    let mut bytes = Vec::new(rt.alloc());
-    if size_at(rt, whole.as_str())? > offset && len > 0 {
-        let mut file = fs::open(rt, whole.as_str())?;
-        file.seek(SeekFrom::Start(offset))?;
-        file.take(len as u64).read_to_end(&mut bytes)?;
-        bytes.truncate(len as usize);
-    }
+    let behind = size_at(rt, whole.as_str())?.saturating_sub(offset);
+    let bytes = match behind.min(len as u64) {
+        0 => Vec::new(rt.alloc()),
+        count => read_part(rt, whole.as_str(), offset, count as usize)?,
+    };
     if bytes.is_empty() && len > 0 {
         return Ok(None);
     }
@@ -121,5 +160,6 @@ pub fn flush<R: Files + AllocGlobal>(rt: &R, folder: &str, path: &RelPath) -> io
 /// Takes a file away.
 pub fn unlink<R: Files + AllocGlobal>(rt: &R, folder: &str, path: &RelPath) -> io::Result<()> {
     let whole = joined(rt.alloc(), folder, path)?;
+    open_existing(rt, whole.as_str())?;
     fs::remove_file(rt, whole.as_str())
 }

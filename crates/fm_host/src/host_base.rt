@@ -15,12 +15,13 @@ use std::marker::Model;
 use std::rt::Files;
 use std::{fs, io};
 
-/// A base over a folder of the host. Its files are the host's files below that folder; it makes no
-/// folders, and a folder isn't a file of it.
+/// A base over a folder of the host. Its files are the host's regular files below that folder; it makes no
+/// folders, and what else is there under a name (a folder, a FIFO, a device, a socket) is no file of it.
 ///
-/// A file, or a folder above it, that isn't there is 19; a file that is there already is 20; a growth of
-/// memory that was refused is 1; all else that the host refuses is 18, and is counted. Contracts see that
-/// count, and know nothing of what the folder holds.
+/// A file, or a folder above it, that isn't there is 19; a new file where anything is there already is 20; a
+/// growth of memory that was refused is 1; all else that the host refuses is 18, and is counted, also each
+/// other call on what is no file: nothing of that is opened, since it might wait. Contracts see that count,
+/// and know nothing of what the folder holds.
 #[derive(Drop)]
 pub struct HostBase<R: Files + AllocGlobal + Clone + Drop> {
     rt: R,

@@ -6,12 +6,12 @@ use fm_types::RelPath;
 use std::io;
 use std::io::ErrorKind;
 
-/// The size of what lies at the path of a file. A folder is no file.
-pub fn file_size(is_folder: bool, len: u64) -> io::Result<u64>
-    ensures { TellsSize is_folder len result }
+/// The size of what lies at the path of a file. Only a regular file is one.
+pub fn file_size(is_file: bool, len: u64) -> io::Result<u64>
+    ensures { TellsSize is_file len result }
 {
-    if is_folder {
-        return Err(io::Error::from(ErrorKind::IsADirectory));
+    if !is_file {
+        return Err(io::Error::from(ErrorKind::Unsupported));
     }
     Ok(len)
 }
@@ -27,16 +27,16 @@ pub fn folder_there(is_folder: bool) -> io::Result<()>
 }
 
 /// The name under which an entry of the folder is listed: every name that a base's file may have is, also
-/// one that begins with a dot, but for that of a folder and of what went away meanwhile.
-pub fn listed_name(name: &[u8], is_folder: io::Result<bool>) -> io::Result<Option<RelPath>>
-    ensures { Lists name.now is_folder result }
+/// one that begins with a dot, but for that of what can be no file and of what went away meanwhile.
+pub fn listed_name(name: &[u8], may_be_file: io::Result<bool>) -> io::Result<Option<RelPath>>
+    ensures { Lists name.now may_be_file result }
 {
     let Ok(path) = RelPath::read(name) else {
         return Ok(None);
     };
-    match is_folder {
-        Ok(true) => Ok(None),
-        Ok(false) => Ok(Some(path)),
+    match may_be_file {
+        Ok(false) => Ok(None),
+        Ok(true) => Ok(Some(path)),
         Err(error) => match error.kind() {
             ErrorKind::NotFound => Ok(None),
             _ => Err(error),

@@ -1,6 +1,6 @@
 //! The names of the files directly in a folder of the host.
 
-ghost use Rattle.std.specs.Prelude.{◌≡◌, ◌+◌, ◌≤◌, IfOk, OnOk, IfSome};
+ghost use Rattle.std.specs.Prelude.{◌≡◌, ◌+◌, ◌≤◌, ◌<◌, false, IfOk, OnOk, IfSome};
 ghost use Rattle.std.specs.List.{sum_by};
 ghost use Rattle.fm_base.specs.Folders.{lines_of};
 ghost use Rattle.fm_host.specs.Names.{line_length, IsListing};
@@ -13,17 +13,20 @@ use std::fs::DirEntry;
 use std::rt::Files;
 use std::{fs, io};
 
-// The name under which the entry is listed, if it is.
+// The name under which the entry is listed, if it is. A link may lead to a file: that isn't looked at here.
 fn name_of<R: Files + AllocGlobal + Clone + Drop>(
     entry: &DirEntry<R>,
 ) -> io::Result<Option<RelPath>> {
-    let is_folder = entry.file_type().map(|file_type| file_type.is_dir());
-    listed_name(entry.file_name().as_bytes(), is_folder)
+    let may_be_file = entry
+        .file_type()
+        .map(|file_type| file_type.is_file() || file_type.is_symlink());
+    listed_name(entry.file_name().as_bytes(), may_be_file)
 }
 
 // Keeps the name, if there is room for its line; whether there is.
 fn keep_name(names: &mut Vec<RelPath>, room: &mut usize, name: RelPath) -> Result<bool, AllocError>
-    ensures { OnOk result (room.new + sum_by line_length names.new.items ≡ room.old + sum_by line_length names.old.items) }
+    ensures room { OnOk result (room.new + sum_by line_length names.new.items ≡ room.old + sum_by line_length names.old.items) }
+    ensures full { IfOk result (λ is_kept. is_kept ≡ false → room.old < line_length name) }
 {
     let line = name.text().len() + 1;
     if line > *room {

@@ -5,8 +5,10 @@ use fm_base::{Base, FailNth};
 use fm_host::HostBase;
 use fm_types::{Bytes, CreateMode, RelPath, Status};
 use std::alloc::{AllocError, Global};
+use std::os::fd::{AsFd, AsRawFd};
+use std::os::unix::net::UnixListener;
 use std::rt::Files;
-use std::{env, fs};
+use std::{env, fs, io};
 
 // The path of a folder of the host for one test.
 fn folder_for(rt: &HostRuntime, test: &str) -> Option<String> {
@@ -224,12 +226,40 @@ const FOLDERS: &[Row] = &[
     (Call::Create(b"y", CreateMode::New), Answer::Done),
     (Call::Create(b".hidden", CreateMode::New), Answer::Done),
     (Call::List, Answer::Bytes(b".hidden\ny\n")),
-    (Call::Size(b"inner"), Answer::No(Status::DeviceFault)),
+];
+
+// What isn't a regular file is no file of a base. It is there, and each call but a new create is a fault.
+const NO_FILE: &[Row] = &[
+    (
+        Call::Create(b"inner", CreateMode::New),
+        Answer::No(Status::AlreadyExists),
+    ),
+    (
+        Call::Create(b"inner", CreateMode::Existing),
+        Answer::No(Status::DeviceFault),
+    ),
     (
         Call::Create(b"inner", CreateMode::Always),
         Answer::No(Status::DeviceFault),
     ),
+    (Call::Read(b"inner", 0, 1), Answer::No(Status::DeviceFault)),
+    (Call::Read(b"inner", 0, 0), Answer::No(Status::DeviceFault)),
+    (
+        Call::Write(b"inner", 0, b"x"),
+        Answer::No(Status::DeviceFault),
+    ),
+    (
+        Call::Write(b"inner", 0, b""),
+        Answer::No(Status::DeviceFault),
+    ),
+    (Call::Size(b"inner"), Answer::No(Status::DeviceFault)),
+    (Call::SetSize(b"inner", 0), Answer::No(Status::DeviceFault)),
+    (Call::Flush(b"inner"), Answer::No(Status::DeviceFault)),
+    (Call::Unlink(b"inner"), Answer::No(Status::DeviceFault)),
 ];
+
+// How many of these are faults.
+const FAULTS: u64 = 10;
 
 const EMPTIED: &[Row] = &[
     (Call::Unlink(b"inner/x"), Answer::Done),
@@ -245,8 +275,8 @@ fn are_removed(rt: &HostRuntime, folder: &str, inner: &str) -> bool {
     fs::remove_dir(rt, inner).is_ok() && fs::remove_dir(rt, folder).is_ok()
 }
 
-// Whether the folders can be made, what is told there as files come, what is said of `y`, which is no folder, what is told as they go, and whether the folders
-// are empty then.
+// Whether the folders can be made, what is told there as files come, what of the folder `inner`, what is said of `y`, which is no folder, what is told as the
+// files go, and whether the folders are empty then.
 fn told_among_folders(
     rt: &HostRuntime,
     folder: &str,
@@ -255,17 +285,20 @@ fn told_among_folders(
 ) -> (
     bool,
     Result<Told, Status>,
+    Result<Told, Status>,
     Option<Status>,
     Result<Told, Status>,
     bool,
 ) {
     let is_made = are_made(rt, folder, inner);
     let first = told_in(rt, folder, 0, FOLDERS);
+    let no_file = told_in(rt, folder, 0, NO_FILE);
     let refused = refusal(rt, file);
     let last = told_in(rt, folder, 0, EMPTIED);
     (
         is_made,
         first,
+        no_file,
         refused,
         last,
         are_removed(rt, folder, inner),
@@ -279,7 +312,63 @@ fn folders_are_no_files(rt: HostRuntime) {
     let file = inside(&rt, folder.as_str(), "y").expect(&rt, "a path");
     let told = told_among_folders(&rt, folder.as_str(), inner.as_str(), file.as_str());
     let refused = Some(Status::FileNotFound);
-    assert!(rt; told == (true, Ok((0, 2)), refused, Ok((0, 0)), true));
+    let done = Ok((0, 0));
+    assert!(rt; told == (true, done, Ok((0, FAULTS)), refused, done, true));
+}
+
+// A socket isn't listed either.
+const NONE_LISTED: &[Row] = &[(Call::List, Answer::Bytes(b""))];
+
+// What is told in a new folder with a socket `inner`, and whether both are there to be removed afterwards.
+fn told_of_socket(
+    rt: &HostRuntime,
+    folder: &str,
+    socket: &str,
+) -> io::Result<(Result<Told, Status>, Result<Told, Status>)> {
+    fs::create_dir(rt, folder)?;
+    let _listener = UnixListener::bind(rt, socket)?;
+    let no_file = told_in(rt, folder, 0, NO_FILE);
+    let listed = told_in(rt, folder, 0, NONE_LISTED);
+    fs::remove_file(rt, socket)?;
+    fs::remove_dir(rt, folder)?;
+    Ok((no_file, listed))
+}
+
+#[test]
+fn sockets_are_no_files(rt: HostRuntime) {
+    let folder = folder_for(&rt, "socket").expect(&rt, "a path");
+    let socket = inside(&rt, folder.as_str(), "inner").expect(&rt, "a path");
+    let told = told_of_socket(&rt, folder.as_str(), socket.as_str()).expect(&rt, "a socket");
+    assert!(rt; told == (Ok((0, FAULTS)), Ok((0, 0))));
+}
+
+// The same of a file with another path.
+fn left_at<B: Base>(base: &mut B, path: &RelPath, rows: &[Row]) -> usize {
+    let mut left = rows.len();
+    for (call, answer) in rows {
+        if !is_told(base, path, *call, *answer) {
+            return left;
+        }
+        left = left.saturating_sub(1);
+    }
+    left
+}
+
+// What a base over the open files of this program is told of an end of a pipe, which is a FIFO.
+fn told_of_pipe(rt: &HostRuntime) -> Option<Told> {
+    let (reader, writer) = io::pipe(rt).ok()?;
+    let number = reader.as_fd().as_raw_fd();
+    let name = format!(in rt.alloc(); "{number}").ok()?;
+    let path = RelPath::read(name.as_bytes()).ok()?;
+    let mut base = HostBase::new(rt, "/proc/self/fd").ok()?;
+    let left = left_at(&mut base, &path, NO_FILE);
+    let _ends = (reader, writer);
+    Some((left, base.failures()))
+}
+
+#[test]
+fn pipes_are_no_files(rt: HostRuntime) {
+    assert_eq!(rt; told_of_pipe(&rt), Some((0, FAULTS)));
 }
 
 const SLOW: &[Row] = &[
@@ -299,6 +388,17 @@ const FAILING: &[Row] = &[
     ),
     (Call::Size(b"memory"), Answer::No(Status::NoMemory)),
     (Call::Size(b"crowded"), Answer::No(Status::DeviceFault)),
+];
+
+// The host would open this one.
+const NOT_OPENED: &[Row] = &[
+    (Call::Read(b"fifo", 0, 1), Answer::No(Status::DeviceFault)),
+    (
+        Call::Write(b"fifo", 0, b"x"),
+        Answer::No(Status::DeviceFault),
+    ),
+    (Call::SetSize(b"fifo", 1), Answer::No(Status::DeviceFault)),
+    (Call::Flush(b"fifo"), Answer::No(Status::DeviceFault)),
 ];
 
 // Nothing is synced before the flush.
@@ -327,6 +427,7 @@ const SECOND: &[Row] = &[
 const HOSTS: &[(Way, u64, &[Row], u64)] = &[
     (Way::Plain, 0, SLOW, 0),
     (Way::FailsAt(4), 0, FAILING, 3),
+    (Way::Plain, 0, NOT_OPENED, 4),
     (Way::FailsToSync, 0, SYNCED, 1),
     (Way::Mixed, 0, MIXED, 0),
     (Way::NotText, 0, NOT_TEXT, 1),

@@ -29,8 +29,8 @@ pub enum Way {
 const ENOMEM: i32 = 12;
 
 /// Every path is that of a file of the 8 bytes `abcdefgh`, but for those that end in `root` and `folder`
-/// (folders), `gone` (not there), `memory` (a growth of this program's is refused) and `crowded` (the host
-/// wants memory).
+/// (folders), `fifo` (neither a file nor a folder), `gone` (not there), `memory` (a growth of this program's
+/// is refused) and `crowded` (the host wants memory).
 #[derive(Clone, Drop)]
 pub struct SlowHost {
     memory: Global,
@@ -187,6 +187,9 @@ impl Files for SlowHost {
     fn metadata(&self, path: &str) -> io::Result<Metadata> {
         if path.ends_with("root") || path.ends_with("folder") {
             return Ok(Metadata::of_dir());
+        }
+        if path.ends_with("fifo") {
+            return Ok(Metadata::of_symlink(8));
         }
         if path.ends_with("gone") {
             return Err(io::Error::from(ErrorKind::NotFound));

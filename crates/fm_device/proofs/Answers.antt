@@ -5,8 +5,24 @@ use Rattle.fm_types.specs.declared.status.Status.{Status}
 use Rattle.fm_types.specs.declared.status.Status.TheVariants.{Success, NoMemory, DeviceFault}
 use Rattle.fm_data.specs.declared.answer.Answer.{Answer}
 use Rattle.fm_base.specs.Folders.{Folder}
-use Rattle.fm_base.specs.Answers.{Makes, MakesKnown, Tells, TellsKnown}
-use Rattle.fm_device.specs.Devices.{bare, done_as, made_as, made_of, AnswersAs, KnownAs}
+use Rattle.fm_base.specs.Answers.{Makes, MakesKnown, Tells, TellsKnown, faults_after}
+use Rattle.fm_device.specs.Devices.{bare, faults_told, done_as, told_as, sized_as, made_as, made_of, AnswersAs, KnownAs}
+
+-- what a base counts is what its answer tells
+pub counted_done : (faults : ℕ) (result : Result (Unit {0}) Status) → faults_after faults result ≡ faults_told (done_as result).status faults
+counted_done faults (Ok done) = refl
+counted_done faults (Err DeviceFault) = refl
+counted_done faults (Err status) = refl
+
+pub counted_told : (faults : ℕ) (result : Result (List ℕ) Status) → faults_after faults result ≡ faults_told (told_as result).status faults
+counted_told faults (Ok bytes) = refl
+counted_told faults (Err DeviceFault) = refl
+counted_told faults (Err status) = refl
+
+pub counted_sized : (faults : ℕ) (result : Result ℕ Status) → faults_after faults result ≡ faults_told (sized_as result).status faults
+counted_sized faults (Ok size) = refl
+counted_sized faults (Err DeviceFault) = refl
+counted_sized faults (Err status) = refl
 
 -- bare answers of two statuses differ
 apart : (answer : Answer) (s t : Status) → answer ≡ bare s → answer ≡ bare t → s ≡ t

@@ -1,5 +1,5 @@
 -- A call that one of the bases answers, or none.
-use Rattle.std.specs.Prelude.{◌≡◌, ◌≢◌, ◌≤◌, ◌<◌, ◌+◌, ◌-◌, ◌^◌, ℕ, List, Option, Some, None, length, min, refl, slice_get, slice_set, slice_index_or}
+use Rattle.std.specs.Prelude.{◌≡◌, ◌≢◌, ◌≤◌, ◌<◌, ℕ, List, Option, Some, None, length, refl, slice_get, slice_set, slice_index_or}
 use Rattle.std.proofs.Common.{sym, subst, ap, ◌∙◌, inl, inr, arith, unwrap_or}
 use Rattle.std.specs.FinMap.{empty}
 use Rattle.std.proofs.lemmas.List.{ext_get_or, get_or-set_other, get_or-set_same, length-set}
@@ -10,21 +10,21 @@ use Rattle.fm_types.specs.declared.status.Status.TheVariants.{NoVolume, DeviceFa
 use Rattle.fm_data.specs.Calls.{BaseCall}
 use Rattle.fm_data.specs.declared.answer.Answer.{Answer}
 use Rattle.fm_base.specs.Folders.{Folder}
-use Rattle.fm_device.specs.Devices.{bare, CarriesAny, CarriesCall, KnownAs}
+use Rattle.fm_device.specs.Devices.{bare, faults_told, CarriesAny, CarriesCall, KnownAs}
 use Rattle.fm_device.specs.Bases.{BaseCarries, BasesCarry}
 
 module _ {B : Type 0} (folder : B → Option Folder) (faults : B → ℕ) (old : List B) (call : BaseCall) (answer : Answer) where
   -- the base of the volume answers, and nothing but it changes
   carried_there : (was is : B) → slice_get old call.volume.0 ≡ Some was
       → KnownAs (folder was) (folder is) (λ b a. CarriesAny call.path call.params b a answer)
-      → (answer ≡ bare DeviceFault → faults is ≡ min (faults was + 1) (2 ^ 64 - 1))
+      → faults is ≡ faults_told answer.status (faults was)
       → BasesCarry folder faults old call answer (slice_set old call.volume.0 is)
-  carried_there was is at known fault = record {
+  carried_there was is at known counts = record {
     absent = λ past. absurd (none (sym at ∙ slice_get_past old call.volume.0 past));
     carried = λ found here. (
       is,
       slice_get-set_same old call.volume.0 is within,
-      subst (λ (b : B). BaseCarries folder faults call answer b is) (same found here) (record { known = known; fault = fault }),
+      subst (λ (b : B). BaseCarries folder faults call answer b is) (same found here) (record { known = known; counts = counts }),
     );
     others = λ k other. slice_get-set_other old call.volume.0 k is other;
     same = length-set old call.volume.0 is;
@@ -41,11 +41,11 @@ module _ {B : Type 0} (folder : B → Option Folder) (faults : B → ℕ) (old :
 
   pub there : (n : ℕ) → n ≡ call.volume.0 → (was is : B) → n < length old → was ≡ slice_index_or old n was
       → KnownAs (folder was) (folder is) (λ b a. CarriesAny call.path call.params b a answer)
-      → (answer ≡ bare DeviceFault → faults is ≡ min (faults was + 1) (2 ^ 64 - 1))
+      → faults is ≡ faults_told answer.status (faults was)
       → BasesCarry folder faults old call answer (slice_set old n is)
-  there n at was is within value known fault =
+  there n at was is within value known counts =
       subst (λ (k : ℕ). BasesCarry folder faults old call answer (slice_set old k is)) (sym at)
-      (carried_there was is (subst (λ (k : ℕ). slice_get old k ≡ Some was) at (slice_get_read old (length old) n was refl within value)) known fault)
+      (carried_there was is (subst (λ (k : ℕ). slice_get old k ≡ Some was) at (slice_get_read old (length old) n was refl within value)) known counts)
 
   -- there is no base of that volume
   none_at : length old ≤ call.volume.0 → answer ≡ bare NoVolume → BasesCarry folder faults old call answer old
@@ -71,7 +71,7 @@ module _ (old new : List Folder) (call : BaseCall) (answer : Answer) (carry : Ba
   sound : answer ≢ bare DeviceFault
   sound fault =
       elim (slice_get_cases old at).1 [
-        | inl here ↦ let (is, there, one) = carry.carried here.0 here.2 in let none : 0 ≡ 1 = one.fault fault in absurd (omega (arith, none))
+        | inl here ↦ let (is, there, one) = carry.carried here.0 here.2 in let none : 0 ≡ 1 = one.counts ∙ ap (λ (a : Answer). faults_told a.status 0) fault in absurd (omega (arith, none))
         | inr past ↦ let refused = (carry.absent past.0).0 in let s : NoVolume ≡ DeviceFault = ap (λ (a : Answer). a.status) (sym refused ∙ fault) in cc
       ]
 

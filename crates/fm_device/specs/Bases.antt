@@ -1,15 +1,15 @@
 -- The bases of volumes as one device.
-use Rattle.std.specs.Prelude.{◌≡◌, ◌≤◌, List, Option, Some, length, slice_get, ℕ, ◌≢◌, ◌+◌, ◌-◌, ◌^◌, min}
+use Rattle.std.specs.Prelude.{◌≡◌, ◌≤◌, List, Option, Some, length, slice_get, ℕ, ◌≢◌}
 use Rattle.fm_base.specs.Folders.{Folder}
 use Rattle.fm_data.specs.Calls.{BaseCall}
 use Rattle.fm_data.specs.declared.answer.Answer.{Answer}
-use Rattle.fm_types.specs.declared.status.Status.TheVariants.{NoVolume, DeviceFault}
-use Rattle.fm_device.specs.Devices.{bare, CarriesAny, KnownAs}
+use Rattle.fm_types.specs.declared.status.Status.TheVariants.{NoVolume}
+use Rattle.fm_device.specs.Devices.{bare, faults_told, CarriesAny, KnownAs}
 
--- one base carries a call out as its folder says, if it knows it, and counts its faults
+-- one base carries a call out as its folder says, if it knows it, and counts its faults, and nothing else as one
 pub record BaseCarries {B : Type 0} (folder : B → Option Folder) (faults : B → ℕ) (call : BaseCall) (answer : Answer) (old new : B) : Type 0 where
   pub known : KnownAs (folder old) (folder new) (λ was is. CarriesAny call.path call.params was is answer)
-  pub fault : answer ≡ bare DeviceFault → faults new ≡ min (faults old + 1) (2 ^ 64 - 1)
+  pub counts : faults new ≡ faults_told answer.status (faults old)
 
 -- so does the base of the call's volume; all others stay, and a volume that isn't there is refused
 pub record BasesCarry {B : Type 0} (folder : B → Option Folder) (faults : B → ℕ) (old : List B) (call : BaseCall) (answer : Answer) (new : List B) : Type 0 where

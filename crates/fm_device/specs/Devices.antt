@@ -1,5 +1,5 @@
 -- What calls of the base are answered by folders, and what they make of them.
-use Rattle.std.specs.Prelude.{◌≡◌, ◌≢◌, ℕ, Bool, true, false, List, [], ◌<◌, ◌≤◌, length, slice_index_or, slice_set, Option, Some, None, Result, Ok, Err}
+use Rattle.std.specs.Prelude.{◌≡◌, ◌≢◌, ℕ, ◌+◌, ◌-◌, ◌^◌, min, Bool, true, false, List, [], ◌<◌, ◌≤◌, length, slice_index_or, slice_set, Option, Some, None, Result, Ok, Err}
 use Rattle.std.specs.FinMap.{empty}
 use Rattle.fm_types.specs.declared.status.Status.{Status}
 use Rattle.fm_types.specs.declared.status.Status.TheVariants.{Success, NoMemory, NoVolume, DeviceFault, BadRequest}
@@ -15,6 +15,11 @@ use Rattle.fm_base.specs.Folders.{Folder, created, changed, unlinked, told, byte
 -- an answer with nothing but a status
 abbrev pub bare : Status → Answer
 bare status = record { status = status; information = 0; bytes = [] }
+
+-- how many faults a base has met after a call that was answered with that status: one more if it is a fault, until the count is full, and else none
+abbrev pub faults_told : Status → ℕ → ℕ
+faults_told DeviceFault faults = min (faults + 1) (2 ^ 64 - 1)
+faults_told status faults = faults
 
 -- an answer that says no more than whether a call succeeded
 abbrev pub done_as : Result (Unit {0}) Status → Answer

@@ -1,9 +1,8 @@
 //! The call of a base, of whatever kind it is.
 
-ghost use Rattle.std.specs.Prelude.{◌≡◌, ◌≤◌, ◌+◌, ◌-◌, ◌^◌, length, min};
+ghost use Rattle.std.specs.Prelude.{◌≡◌, ◌≤◌, length};
 ghost use Rattle.fm_data.specs.Params.{is_within_limits};
-ghost use Rattle.fm_device.specs.Devices.{bare, done_as, told_as, sized_as, is_listing, KnownAs, CarriesWithin, CarriesAny};
-ghost use Rattle.fm_types.specs.declared.status.Status.TheVariants as status;
+ghost use Rattle.fm_device.specs.Devices.{bare, faults_told, done_as, told_as, sized_as, is_listing, KnownAs, CarriesWithin, CarriesAny};
 
 use fm_base::Base;
 use fm_data::{Answer, BaseCall, Params};
@@ -14,12 +13,12 @@ use std::alloc::Global;
 /// names no file and is no listing is answered with 32, and one past the limits too; these change nothing.
 /// Any other is answered, and changes the folder, as that says, unless memory is wanting (1) or the device
 /// failed (18). Memory is wanting only if nothing else refuses the call, never for a size, a flush or an
-/// unlink, and then nothing changes. A fault is counted; after it nothing is said of a file that the call
-/// changes, and all else stays. There are at most 32,768 bytes in the answer.
-#[tactic(auto)]
+/// unlink, and then nothing changes. A fault is counted, and nothing else is; after it nothing is said of a
+/// file that the call changes, and all else stays. There are at most 32,768 bytes in the answer.
+#[tactic(auto, using(crate::proofs::Answers::counted_told))]
 pub fn call_base<B: Base>(alloc: Global, base: &mut B, call: &BaseCall) -> Answer
     ensures carried { KnownAs (B.folder base.old) (B.folder base.new) (λ old new. CarriesAny call.now.path call.now.params old new result) }
-    ensures fault { result ≡ bare status.DeviceFault → B.faults base.new ≡ min (B.faults base.old + 1) (2 ^ 64 - 1) }
+    ensures counts { B.faults base.new ≡ faults_told result.status (B.faults base.old) }
     ensures within { length result.bytes ≤ 32768 }
 {
     if is_listing(call.params()) {
@@ -86,10 +85,10 @@ fn sized(alloc: Global, outcome: Result<u64, Status>) -> Answer
 }
 
 // The call of an operation on a file. A close that reaches the base unlinks the file.
-#[tactic(auto)]
+#[tactic(auto, using(crate::proofs::Answers::counted_done, crate::proofs::Answers::counted_told, crate::proofs::Answers::counted_sized))]
 fn on_file<B: Base>(alloc: Global, base: &mut B, path: &RelPath, call: &Params) -> Answer
     ensures carried { KnownAs (B.folder base.old) (B.folder base.new) (λ old new. CarriesWithin (is_within_limits call.now) path.now call.now old new result) }
-    ensures fault { result ≡ bare status.DeviceFault → B.faults base.new ≡ min (B.faults base.old + 1) (2 ^ 64 - 1) }
+    ensures counts { B.faults base.new ≡ faults_told result.status (B.faults base.old) }
     ensures within { length result.bytes ≤ 32768 }
 {
     if !call.is_within_limits() {

@@ -7,7 +7,7 @@ mod by_manager;
 
 use crate::by_manager::{Stored, is_same};
 use fm_script::{ScriptEnd, script};
-use fm_view::{Manner, show_script};
+use fm_view::{Manner, Shown, show_script};
 use std::alloc::{AllocError, Global};
 use std::io::Read;
 use std::sync::Wait;
@@ -157,7 +157,11 @@ fn is_shown(rt: &HostRuntime, name: &str, manner: Manner, ending: &str) -> io::R
     let input = fs::read(rt, format!(in alloc; "{name}.flt")?)?;
     let wanted = fs::read(rt, format!(in alloc; "{name}.{ending}")?)?;
     let mut bytes = Vec::new(alloc);
-    let _ = show_script(alloc, manner, input.as_slice(), &mut bytes);
+    let shown = Shown {
+        manner,
+        is_strict: false,
+    };
+    let _ = show_script(alloc, shown, input.as_slice(), &mut bytes);
     Ok(bytes.as_slice() == wanted.as_slice())
 }
 

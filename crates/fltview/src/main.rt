@@ -1,17 +1,18 @@
-//! Runs a script of the filter manager from standard input as `fltscript` does, and shows what happened: in words, as JSON, or as a picture. It ends with
-//! status 0, with 5 where a callback left a reference behind or a filter holds an operation, with 1 where there is no memory, with 3 where a read or a write
-//! fails, and with 2 where a word of the command line is none.
+//! Runs a script of the filter manager from standard input as `fltscript` does, and shows what happened: in words, as JSON, as a picture, or only what wasn't
+//! as the script expects. It ends with status 0, with 5 where a callback left a reference behind, a filter holds an operation, or a line gave back or resumed
+//! what it didn't have, with 6 where something wasn't as the script expects, with 1 where there is no memory, with 3 where a read or a write fails, and with 2
+//! where a word of the command line is none.
 #![tactic(auto)]
 
 use clap::{Arg, ArgAction, Command};
-use fm_view::{Manner, show_script};
+use fm_view::{Manner, Shown, show_script};
 use std::alloc::{AllocError, Global};
 use std::process::ExitCode;
 
 // What `--help` says at its top.
 const ABOUT: &str =
     "Runs a script from standard input, and shows what happened: each line with its answer in words, and at the end what is left. \
-Ends with status 5 where a reference was left behind or an operation is held.";
+Ends with status 5 where a reference was left behind or an operation is held, and with 6 where something wasn't as a line `#! expect TEXT` says.";
 
 // The words that the program takes.
 fn command<'a>(alloc: Global) -> Result<Command<'a>, AllocError> {
@@ -24,10 +25,22 @@ fn command<'a>(alloc: Global) -> Result<Command<'a>, AllocError> {
         .long("json")
         .help("Writes each answer as a JSON object, one a line")
         .action(ArgAction::SetTrue);
+    let check = Arg::new(alloc, "check")
+        .long("check")
+        .help("Writes only what wasn't as the script expects")
+        .action(ArgAction::SetTrue)
+        .conflicts_with("json")?
+        .conflicts_with("picture")?;
+    let strict = Arg::new(alloc, "strict")
+        .long("strict")
+        .help("A refusal that no line expects counts too")
+        .action(ArgAction::SetTrue);
     Command::new(alloc, "fltview")
         .about(ABOUT)
         .arg(picture)?
-        .arg(json)
+        .arg(json)?
+        .arg(check)?
+        .arg(strict)
 }
 
 fn main(rt: HostRuntime) -> anyhow::Result<ExitCode> {
@@ -44,8 +57,14 @@ fn main(rt: HostRuntime) -> anyhow::Result<ExitCode> {
         Manner::Picture
     } else if matches.get_flag("json") {
         Manner::Json
+    } else if matches.get_flag("check") {
+        Manner::Check
     } else {
         Manner::Words
     };
-    Ok(ExitCode::from(show_script(alloc, manner, rt.stdin(), rt.stdout())))
+    let shown = Shown {
+        manner,
+        is_strict: matches.get_flag("strict"),
+    };
+    Ok(ExitCode::from(show_script(alloc, shown, rt.stdin(), rt.stdout())))
 }

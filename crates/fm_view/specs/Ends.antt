@@ -4,7 +4,8 @@ use Rattle.fm_script.specs.Ends.{exit_status}
 use Rattle.fm_script.specs.declared.script_end.ScriptEnd.{ScriptEnd}
 use Rattle.fm_script.specs.declared.script_end.ScriptEnd.TheVariants.{Ended}
 
--- that of its end; 5 of one that ended well and left a reference behind or an operation that is held
-abbrev pub status_of : ScriptEnd → ℕ → ℕ → ℕ
-status_of Ended leaks held = cond (nat_lt 0 leaks || nat_lt 0 held) 5 0
-status_of end leaks held = exit_status end
+-- that of its end; of one that ended well 6 if an expectation wasn't met, and else 5 if it left a reference behind or an operation that is held, or a line gave
+-- back or resumed what it didn't have
+abbrev pub status_of : ScriptEnd → ℕ → ℕ → ℕ → ℕ → ℕ
+status_of Ended unmet leaks held misuses = cond (nat_lt 0 unmet) 6 (cond (nat_lt 0 leaks || nat_lt 0 held || nat_lt 0 misuses) 5 0)
+status_of end unmet leaks held misuses = exit_status end

@@ -3,6 +3,7 @@
 use crate::event::Event;
 use crate::named::{Ascii, kind_word};
 use crate::notes::Notes;
+use fm_core::State;
 use fm_data::PreVerdict;
 use serde_json::{Map, Value, json, put};
 use std::alloc::{AllocError, Global};
@@ -26,6 +27,53 @@ pub fn say_json(
     put_context(alloc, &mut members, notes, event)?;
     put_answer(alloc, &mut members, event)?;
     let line = Value::Object(members).to_string(alloc)?;
+    text.push_str(line.as_str())?;
+    text.push('\n')
+}
+
+/// Appends that an expectation wasn't met, as an object: what was expected, and what the line before printed.
+pub fn say_unmet_json(
+    alloc: Global,
+    text: &mut String,
+    line: u32,
+    expected: &[u8],
+    printed: &[u8],
+) -> Result<(), AllocError> {
+    let expected = format!(in alloc; "{}", Ascii(expected))?;
+    let answered = Value::Array(answers(alloc, printed)?);
+    let value = json!(in alloc; {"line": line, "event": "Unmet", "expected": expected.as_str()})?;
+    let Value::Object(mut members) = value else {
+        return Ok(());
+    };
+    put(&mut members, alloc, "answered", answered)?;
+    let line = Value::Object(members).to_string(alloc)?;
+    text.push_str(line.as_str())?;
+    text.push('\n')
+}
+
+// The lines of what was printed.
+fn answers(alloc: Global, printed: &[u8]) -> Result<Vec<Value>, AllocError> {
+    let mut all = Vec::new(alloc);
+    for answer in printed.split(|byte| *byte == b'\n') {
+        if !answer.is_empty() {
+            all.push(Value::String(format!(in alloc; "{}", Ascii(answer))?))?;
+        }
+    }
+    Ok(all)
+}
+
+/// Appends what is left at the end, as an object: contexts that were born and cleaned up, references that were left behind, how many operations filters hold,
+/// and the exit status.
+pub fn say_end_json(
+    alloc: Global,
+    text: &mut String,
+    state: &State,
+    lines: u32,
+    (held, status): (u64, u8),
+) -> Result<(), AllocError> {
+    let value =
+        json!(in alloc; {"line": lines, "event": "End", "born": state.born(), "cleaned": state.cleaned_count(), "leaks": state.leaks(), "held": held, "status": status})?;
+    let line = value.to_string(alloc)?;
     text.push_str(line.as_str())?;
     text.push('\n')
 }

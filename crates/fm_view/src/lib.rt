@@ -5,6 +5,7 @@ mod answer;
 mod asked;
 mod escape;
 mod event;
+mod expect;
 mod json;
 mod label;
 mod lanes;
@@ -21,4 +22,4 @@ mod words;
 
 pub use crate::answer::read_answer;
 pub use crate::verdict::exit_status;
-pub use crate::view::{Manner, show_script};
+pub use crate::view::{Manner, Shown, show_script};

@@ -3,6 +3,7 @@
 ghost use Rattle.std.specs.Prelude.{◌≡◌};
 ghost use Rattle.fm_view.specs.Ends.{status_of};
 
+use crate::expect::Expectations;
 use crate::named::{Counted, Named, PlaceName, Stated};
 use crate::notes::{LeakNote, Notes};
 use fm_core::{Entry, Hold, Phase, Place, PostState, PreState, State};
@@ -10,12 +11,14 @@ use fm_script::ScriptEnd;
 use fm_types::{InstanceId, OpId, Status, WorkerId};
 use std::alloc::AllocError;
 
-/// The exit status of a script that was shown: that of its end, but 5 if it ended well and left a reference behind, or an operation that a filter holds.
-pub fn exit_status(end: ScriptEnd, leaks: u64, held: u64) -> u8
-    ensures { result ≡ status_of end leaks held }
+/// The exit status of a script that was shown: that of its end. Of one that ended well it is 6 if an expectation wasn't met, and else 5 if it left a reference
+/// behind, or an operation that a filter holds, or if a line gave back or resumed what it didn't have.
+pub fn exit_status(end: ScriptEnd, unmet: u64, leaks: u64, held: u64, misuses: u64) -> u8
+    ensures { result ≡ status_of end unmet leaks held misuses }
 {
     match end {
-        ScriptEnd::Ended if leaks > 0 || held > 0 => 5,
+        ScriptEnd::Ended if unmet > 0 => 6,
+        ScriptEnd::Ended if leaks > 0 || held > 0 || misuses > 0 => 5,
         other => other.status(),
     }
 }
@@ -188,6 +191,36 @@ fn say_instances(text: &mut String, notes: &Notes) -> Result<(), AllocError> {
     } else {
         Ok(())
     }
+}
+
+/// Appends which expectations weren't met, and in a strict run which refusals nothing expects.
+pub fn say_expectations(
+    text: &mut String,
+    expectations: &Expectations,
+    is_strict: bool,
+) -> Result<(), AllocError> {
+    if expectations.misuses > 0 {
+        write!(
+            text,
+            "  {} gave back or resumed what it didn't have\n",
+            Counted(expectations.misuses, "line")
+        )?;
+    }
+    if expectations.unmet > 0 {
+        write!(
+            text,
+            "  {} not met\n",
+            Counted(expectations.unmet, "expectation")
+        )?;
+    }
+    if is_strict && expectations.surprises > 0 {
+        write!(
+            text,
+            "  {} that no line expects\n",
+            Counted(expectations.surprises, "refusal")
+        )?;
+    }
+    Ok(())
 }
 
 /// Why an end wasn't a good one.

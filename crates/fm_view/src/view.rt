@@ -7,13 +7,14 @@ ghost use Rattle.fm_view.specs.Lines.{Gives};
 use crate::answer::read_answer;
 use crate::asked::Asking;
 use crate::event::{Event, Kind};
-use crate::json::say_json;
+use crate::expect::{Expectations, expected_in};
+use crate::json::{say_end_json, say_json, say_unmet_json};
 use crate::named::Ascii;
 use crate::notes::Notes;
 use crate::picture::draw;
 use crate::reason::{Refusal, say_refusal};
 use crate::settled::settled;
-use crate::verdict::{exit_status, held, say_end, say_fault};
+use crate::verdict::{exit_status, held, say_end, say_expectations, say_fault};
 use crate::words::say;
 use fm_core::{Entry, Place};
 use fm_script::{Listener, Runner, Said, ScriptEnd, Task, is_silent, read_lines};
@@ -31,6 +32,17 @@ pub enum Manner {
     Json,
     /// As a picture, once the script has ended.
     Picture,
+    /// Only what wasn't as the script expects.
+    Check,
+}
+
+/// What is shown of a run, and how strictly it is judged.
+#[derive(Clone, Copy, Debug, PartialEq, Eq)]
+pub struct Shown {
+    /// How it is shown.
+    pub manner: Manner,
+    /// Whether a refusal that no line expects counts as an expectation that isn't met.
+    pub is_strict: bool,
 }
 
 // Where the worker of a line is before it, what it holds, and how many references were left behind so far.
@@ -50,13 +62,14 @@ struct View<W: Write + Drop> {
     events: Vec<Event>,
     line: u32,
     last: u32,
-    manner: Manner,
+    shown: Shown,
+    expectations: Expectations,
     writer: W,
 }
 
 impl<W: Write + Drop> View<W> {
     // A run of no line. It is NoMemory if there is no memory for it.
-    fn new(alloc: Global, manner: Manner, writer: W) -> Result<View<W>, ScriptEnd> {
+    fn new(alloc: Global, shown: Shown, writer: W) -> Result<View<W>, ScriptEnd> {
         Ok(View {
             alloc,
             runner: Runner::new(alloc, Vec::new(alloc))?,
@@ -64,7 +77,8 @@ impl<W: Write + Drop> View<W> {
             events: Vec::new(alloc),
             line: 0,
             last: 0,
-            manner,
+            shown,
+            expectations: Expectations::new(alloc),
             writer,
         })
     }
@@ -78,7 +92,72 @@ impl<W: Write + Drop> View<W> {
         let text = self
             .show_all(line, &task, asked, &before, printed.as_slice())
             .map_err(|_| ScriptEnd::NoMemory)?;
+        self.note_answers(asked, printed);
         self.write(text.as_str())
+    }
+
+    // Notes what a line printed, for what the script expects of it.
+    fn note_answers(&mut self, asked: Event, printed: Vec<u8>) {
+        let status = match self.events.last() {
+            Some(event) if event.kind == Kind::Refused => event.status,
+            _ => None,
+        };
+        let is_misuse = matches!(
+            (asked.kind, status),
+            (Kind::Released, Some(Status::NotHeld))
+                | (Kind::Resumed | Kind::PostResumed, Some(Status::NotPended))
+        );
+        self.expectations.take(printed, status.is_some(), is_misuse);
+    }
+
+    // A line says what the line before printed. It is told if that isn't so.
+    fn expect(&mut self, line: &[u8], expected: &[u8]) -> Result<(), ScriptEnd> {
+        let is_met = self.expectations.meet(expected);
+        let text = self
+            .expectation(line, expected, is_met)
+            .map_err(|_| ScriptEnd::NoMemory)?;
+        self.write(text.as_str())
+    }
+
+    // An expectation as it is shown.
+    fn expectation(
+        &self,
+        line: &[u8],
+        expected: &[u8],
+        is_met: bool,
+    ) -> Result<String, AllocError> {
+        let mut text = String::new(self.alloc);
+        let number = self.line;
+        match self.shown.manner {
+            Manner::Words => write!(text, "{number:>4}  {}\n", Ascii(line))?,
+            Manner::Json if !is_met => {
+                say_unmet_json(
+                    self.alloc,
+                    &mut text,
+                    number,
+                    expected,
+                    self.expectations.printed(),
+                )?;
+            }
+            _ => {}
+        }
+        if is_met || matches!(self.shown.manner, Manner::Json | Manner::Picture) {
+            return Ok(text);
+        }
+        write!(
+            text,
+            "NOT AS EXPECTED on line {number}: {}",
+            Ascii(expected)
+        )?;
+        let mut mark = "; it answered ";
+        for answer in self.expectations.printed().split(|byte| *byte == b'\n') {
+            if !answer.is_empty() {
+                write!(text, "{mark}{}", Ascii(answer))?;
+                mark = ", ";
+            }
+        }
+        text.push('\n')?;
+        Ok(text)
     }
 
     // Shows what a line printed, and notes it.
@@ -189,10 +268,10 @@ impl<W: Write + Drop> View<W> {
             Err(_) => self.notes.refuse(&event),
         }
         self.events.push(event)?;
-        match self.manner {
+        match self.shown.manner {
             Manner::Words => self.show_words(text, line, asked, &event, &said, is_first),
             Manner::Json => say_json(self.alloc, text, &self.notes, &event, line),
-            Manner::Picture => Ok(()),
+            Manner::Picture | Manner::Check => Ok(()),
         }
     }
 
@@ -261,6 +340,7 @@ impl<W: Write + Drop> View<W> {
 
     // Ends a run that ended so: writes the verdict or the picture. It gives the exit status.
     fn finish(mut self, end: ScriptEnd) -> u8 {
+        self.expectations.settle();
         let state = self.runner.interpreter().state();
         let (leaks, held) = (state.leaks(), held(state));
         let end = match self.last_text(end) {
@@ -270,22 +350,52 @@ impl<W: Write + Drop> View<W> {
             },
             Err(_) => ScriptEnd::NoMemory,
         };
-        exit_status(end, leaks, held)
+        let status = exit_status(end, self.unmet(), leaks, held, self.expectations.misuses);
+        self.expectations.status(status)
+    }
+
+    // How much wasn't as the script expects.
+    fn unmet(&self) -> u64 {
+        if self.shown.is_strict {
+            self.expectations
+                .unmet
+                .saturating_add(self.expectations.surprises)
+        } else {
+            self.expectations.unmet
+        }
     }
 
     // What is written at the end.
     fn last_text(&self, end: ScriptEnd) -> Result<String, AllocError> {
-        match self.manner {
+        match self.shown.manner {
             Manner::Words => {
                 let mut text = String::new(self.alloc);
                 let state = self.runner.interpreter().state();
                 say_end(&mut text, &self.notes, state, self.last)?;
+                say_expectations(&mut text, &self.expectations, self.shown.is_strict)?;
                 say_fault(&mut text, end)?;
                 Ok(text)
             }
-            Manner::Json => Ok(String::new(self.alloc)),
+            Manner::Check => {
+                let mut text = String::new(self.alloc);
+                say_expectations(&mut text, &self.expectations, self.shown.is_strict)?;
+                say_fault(&mut text, end)?;
+                Ok(text)
+            }
+            Manner::Json => self.last_object(end),
             Manner::Picture => draw(self.alloc, &self.notes, &self.events),
         }
+    }
+
+    // The last object: what is left, and the status.
+    fn last_object(&self, end: ScriptEnd) -> Result<String, AllocError> {
+        let mut text = String::new(self.alloc);
+        let state = self.runner.interpreter().state();
+        let (leaks, held) = (state.leaks(), held(state));
+        let status = exit_status(end, self.unmet(), leaks, held, self.expectations.misuses);
+        let status = self.expectations.status(status);
+        say_end_json(self.alloc, &mut text, state, self.last, (held, status))?;
+        Ok(text)
     }
 
     // Writes a text out.
@@ -311,15 +421,16 @@ fn run_line<W: Write + Drop>(runner: &mut Runner<W>, line: &[u8], writer: W) -> 
     runner.change_writer(writer)
 }
 
-/// Runs the script that a reader gives, and writes what happened to a writer. It gives the exit status: that of the script's end, and 5 of one that ended
-/// well and left a reference behind or an operation that a filter holds.
+/// Runs the script that a reader gives, and writes what happened to a writer. It gives the exit status: that of the script's end. Of one that ended well it is
+/// 6 if something wasn't as the script expects, and else 5 if it left a reference behind or an operation that a filter holds, or if a line gave back or resumed
+/// what it didn't have; where the script expects a status, it is 0 if that one came, and 6 if not.
 pub fn show_script<R: Read + Drop, W: Write + Drop>(
     alloc: Global,
-    manner: Manner,
+    shown: Shown,
     reader: R,
     writer: W,
 ) -> u8 {
-    let view = match View::new(alloc, manner, writer) {
+    let view = match View::new(alloc, shown, writer) {
         Ok(view) => view,
         Err(end) => return end.status(),
     };
@@ -336,7 +447,10 @@ impl<W: Write + Drop> Listener for View<W> {
         if !is_silent(line) {
             return self.run(line);
         }
-        if self.manner == Manner::Words && !line.is_empty() {
+        if let Some(expected) = expected_in(line) {
+            return self.expect(line, expected);
+        }
+        if self.shown.manner == Manner::Words && !line.is_empty() {
             let text = format!(in self.alloc; "{:>4}  {}\n", self.line, Ascii(line)).map_err(
                 |_| ScriptEnd::NoMemory,
             )?;

@@ -29,19 +29,19 @@ CarriesVerdict _ answer = answer ≡ NoCallback
 abbrev pub CarriesPre : Data → PreVerdict → Data → Type 0
 CarriesPre old answer new = CarriesVerdict (current_of old) answer × (new ≡ old)
 
--- a new context of the handle, with a body of one 0, is set unless one is there; without memory for it nothing is called
-abbrev pub MakesOwn : {P : Type 0} → port.Ghosts P → Option CtxId → P → P → Type 0
-MakesOwn p found old new = SetsUnlessThere p Handle (0 ∷ []) found old new ⊎ ((found ≡ None) × (new ≡ old))
+-- a new context of the handle, with a body of one 0, is set unless one is there; nothing is called if there is no memory for it, and for no other reason
+abbrev pub MakesOwn : {P : Type 0} → port.Ghosts P → Type 0 → Option CtxId → P → P → Type 0
+MakesOwn p refused found old new = SetsUnlessThere p Handle (0 ∷ []) found old new ⊎ (refused × (found ≡ None) × (new ≡ old))
 
 -- what is found once the handle's context was asked for: it is made if there is none, and after any other refusal nothing is found, and nothing more is called
-abbrev pub FindsAsked : {P : Type 0} → port.Ghosts P → Result CtxId Status → Option CtxId → P → P → Type 0
-FindsAsked p (Ok context) found old new = (found ≡ Some context) × (new ≡ old)
-FindsAsked p (Err NoContext) found old new = MakesOwn p found old new
-FindsAsked p (Err _) found old new = (found ≡ None) × (new ≡ old)
+abbrev pub FindsAsked : {P : Type 0} → port.Ghosts P → Type 0 → Result CtxId Status → Option CtxId → P → P → Type 0
+FindsAsked p refused (Ok context) found old new = (found ≡ Some context) × (new ≡ old)
+FindsAsked p refused (Err NoContext) found old new = MakesOwn p refused found old new
+FindsAsked p refused (Err _) found old new = (found ≡ None) × (new ≡ old)
 
 -- the handle's context is asked for, and found or made
-abbrev pub FindsOwn : {P : Type 0} → port.Ghosts P → Option CtxId → P → P → Type 0
-FindsOwn {P} p found old new = (answer : Result CtxId Status) × (asked : P) × p.gets old Handle answer asked × FindsAsked p answer found asked new
+abbrev pub FindsOwn : {P : Type 0} → port.Ghosts P → Type 0 → Option CtxId → P → P → Type 0
+FindsOwn {P} p refused found old new = (answer : Result CtxId Status) × (asked : P) × p.gets old Handle answer asked × FindsAsked p refused answer found asked new
 
 -- the context that was found goes along in completion number 1, and without one there is no postoperation
 abbrev pub sent_along : Option CtxId → PreVerdict
@@ -49,6 +49,6 @@ sent_along None = NoCallback
 sent_along (Some context) = WithCallback (record { number = 1; context = Some context })
 
 -- a read sends the handle's context along, and nothing is called for all else
-abbrev pub CarriesCalls : {P : Type 0} → port.Ghosts P → Params → PreVerdict → P → P → Type 0
-CarriesCalls p (params.Read offset len) answer old new = (found : Option CtxId) × FindsOwn p found old new × (answer ≡ sent_along found)
-CarriesCalls p _ answer old new = new ≡ old
+abbrev pub CarriesCalls : {P : Type 0} → port.Ghosts P → Type 0 → Params → PreVerdict → P → P → Type 0
+CarriesCalls p refused (params.Read offset len) answer old new = (found : Option CtxId) × FindsOwn p refused found old new × (answer ≡ sent_along found)
+CarriesCalls p refused _ answer old new = new ≡ old

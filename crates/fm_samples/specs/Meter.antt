@@ -28,16 +28,16 @@ abbrev pub CountsIn : {P : Type 0} → port.Ghosts P → ℕ → Option CtxId �
 CountsIn p place None old new = new ≡ old
 CountsIn {P} p place (Some context) old new = (sum : Result ℕ Status) × (counted : P) × p.bumps old context place 1 sum counted × Releases p context counted new
 
--- one operation is counted at a place of the stream's context, which is made, with 16 bytes of 0, if there is none
-abbrev pub Counts : {P : Type 0} → port.Ghosts P → ℕ → P → P → Type 0
-Counts {P} p place old new = (found : Option CtxId) × (at : P) × SetsUnlessThere p Stream (replicate 16 0) found old at × CountsIn p place found at new
+-- one operation is counted at a place of the stream's context, which is made, with that body, if there is none
+abbrev pub Counts : {P : Type 0} → port.Ghosts P → ℕ → List ℕ → P → P → Type 0
+Counts {P} p place body old new = (found : Option CtxId) × (at : P) × SetsUnlessThere p Stream body found old at × CountsIn p place found at new
 
--- so if there is memory for those bytes, and else nothing is called
-abbrev pub MayCount : {P : Type 0} → port.Ghosts P → ℕ → P → P → Type 0
-MayCount p place old new = Counts p place old new ⊎ (new ≡ old)
+-- a new context has 16 bytes of 0; nothing is called if there is no memory for them, and for no other reason
+abbrev pub MayCount : {P : Type 0} → port.Ghosts P → Type 0 → ℕ → P → P → Type 0
+MayCount p refused place old new = Counts p place (replicate 16 0) old new ⊎ (refused × (new ≡ old))
 
 -- a read is counted in the first number, a write in the second, and nothing is called for all else
-abbrev pub MetersCalls : {P : Type 0} → port.Ghosts P → Params → P → P → Type 0
-MetersCalls p (params.Read offset len) old new = MayCount p 0 old new
-MetersCalls p (params.Write offset bytes) old new = MayCount p 8 old new
-MetersCalls p _ old new = new ≡ old
+abbrev pub MetersCalls : {P : Type 0} → port.Ghosts P → Type 0 → Params → P → P → Type 0
+MetersCalls p refused (params.Read offset len) old new = MayCount p refused 0 old new
+MetersCalls p refused (params.Write offset bytes) old new = MayCount p refused 8 old new
+MetersCalls p refused _ old new = new ≡ old

@@ -63,9 +63,9 @@ IsQuietSample (Stay filter) = ⊥
 
 -- what its preoperation calls of its port
 abbrev pub SamplesCalls : {P : Type 0} → port.Ghosts P → Sample → Params → PreVerdict → P → P → Type 0
-SamplesCalls p (Meter filter) given answer old new = MetersCalls p given old new
+SamplesCalls p (Meter filter) given answer old new = MetersCalls p ⊤ given old new
 SamplesCalls p (Hold filter) given answer old new = HoldsCalls p given old new
-SamplesCalls p (Carry filter) given answer old new = CarriesCalls p given answer old new
+SamplesCalls p (Carry filter) given answer old new = CarriesCalls p ⊤ given answer old new
 SamplesCalls p (Stay filter) given answer old new = StaysCalls p given old new
 SamplesCalls p _ given answer old new = new ≡ old
 

@@ -1,12 +1,13 @@
 //! A filter whose reads take a context along.
 
-ghost use Rattle.std.specs.Prelude.{◌≡◌, ◌∷◌, [], IfOk};
+ghost use Rattle.std.specs.Prelude.{◌≡◌, ◌∷◌, [], IfOk, IfErr};
 ghost use Rattle.fm_data.specs.Data.{current_of};
 ghost use Rattle.fm_samples.specs.Calls.{ReleasesSent};
 ghost use Rattle.fm_samples.specs.Carry.{CarriesPre, CarriesCalls, FindsOwn, MakesOwn};
 ghost use Rattle.fm_samples.specs.Common.{IsBarePost};
 
 use crate::common::set_unless_there;
+use crate::memory::Memory;
 use fm_data::{CallbackData, Completion, Params, PostVerdict, PreVerdict};
 use fm_filter::{Agreeable, Port};
 use fm_types::{Bytes, ContextKind, ContextMask, CtxId, OpMask, Registration, Status};
@@ -16,26 +17,29 @@ use std::alloc::{AllocError, Global};
 /// the way up): a reference is in the hand again at the postoperation, or at the drain, which releases it.
 /// Where a call is refused the read goes on without a postoperation.
 #[derive(Clone, Copy)]
-pub struct Carry {
-    alloc: Global,
+pub struct Carry<M: Memory = Global> {
+    memory: M,
 }
 
-impl Carry {
+impl<M: Memory> Carry<M> {
     /// The filter, which takes memory for the body of each context.
-    pub fn new(alloc: Global) -> Carry {
-        Carry { alloc }
+    pub fn new(memory: M) -> Carry<M>
+        ensures { result ≡ record { memory = memory } }
+    {
+        Carry { memory }
     }
 
     // A body of one byte.
     fn blank(&self) -> Result<Bytes, AllocError>
-        ensures { IfOk result (λ body. body ≡ 0 ∷ []) }
+        ensures body { IfOk result (λ body. body ≡ 0 ∷ []) }
+        ensures refused { IfErr result (λ _. M.refuses self.now.memory) }
     {
-        Bytes::copy_of(self.alloc, &[0])
+        self.memory.body(&[0])
     }
 
     // The context of the callback's handle, with a reference in the hand; a new one if there is none. None if a call is refused.
     fn of_handle<P: Port>(&self, port: &mut P) -> Option<CtxId>
-        ensures calls { FindsOwn P.Port result port.old port.new }
+        ensures calls { FindsOwn P.Port (M.refuses self.now.memory) result port.old port.new }
         ensures far { P.kept port.new ≡ P.kept port.old }
     {
         match port.get(ContextKind::Handle) {
@@ -47,7 +51,7 @@ impl Carry {
 
     // A new context of the callback's handle, or the one that was set there first.
     fn new_of_handle<P: Port>(&self, port: &mut P) -> Option<CtxId>
-        ensures calls { MakesOwn P.Port result port.old port.new }
+        ensures calls { MakesOwn P.Port (M.refuses self.now.memory) result port.old port.new }
         ensures far { P.kept port.new ≡ P.kept port.old }
     {
         let Ok(body) = self.blank() else {
@@ -67,7 +71,7 @@ fn release<P: Port>(completion: Completion, port: &mut P)
     }
 }
 
-impl Agreeable for Carry {
+impl<M: Memory + Send + Sync> Agreeable for Carry<M> {
     ghost use Rattle.fm_samples.specs.Carry.{carry_registers, CarriesPre};
     ghost use Rattle.fm_samples.specs.Common.{IsBarePost, CountsNothing};
 
@@ -94,7 +98,7 @@ impl Agreeable for Carry {
     fn pre<P: Port>(&self, lent: &mut CallbackData, port: &mut P) -> PreVerdict
         ensures may { CarriesPre lent.old result lent.new }
         ensures kept { lent.new.received ≡ lent.old.received }
-        ensures calls { CarriesCalls P.Port (current_of lent.old) result port.old port.new }
+        ensures calls { CarriesCalls P.Port (M.refuses self.now.memory) (current_of lent.old) result port.old port.new }
         ensures far { P.kept port.new ≡ P.kept port.old }
     {
         let Params::Read { .. } = lent.params() else {

@@ -8,8 +8,8 @@ use fm_ctx::SetMode;
 use fm_data::{Completion, PreVerdict};
 use fm_filter::Port;
 use fm_flow::Hold;
-use fm_types::{Bytes, ContextKind, CtxId, OpId, Status};
 use fm_types::limits::OPERATIONS;
+use fm_types::{Bytes, ContextKind, CtxId, OpId, Status};
 use fm_world::SetAnswer;
 
 /// A completion that says nothing: its number is 0, and no context travels along.

@@ -1,11 +1,12 @@
 //! A filter that counts what is read and written.
 
-ghost use Rattle.std.specs.Prelude.{◌≡◌, IfOk, replicate};
+ghost use Rattle.std.specs.Prelude.{◌≡◌, IfOk, IfErr, replicate};
 ghost use Rattle.fm_data.specs.Data.{current_of};
 ghost use Rattle.fm_samples.specs.Common.{IsBarePre, IsBarePost};
-ghost use Rattle.fm_samples.specs.Meter.{MayCount, MetersCalls, counted_in};
+ghost use Rattle.fm_samples.specs.Meter.{Counts, MayCount, MetersCalls, counted_in};
 
 use crate::common::set_unless_there;
+use crate::memory::Memory;
 use fm_data::{CallbackData, Completion, Params, PostVerdict, PreVerdict};
 use fm_filter::{Agreeable, Port};
 use fm_types::{Bytes, ContextKind, ContextMask, OpMask, Registration};
@@ -15,37 +16,47 @@ use std::alloc::{AllocError, Global};
 /// does): a number of reads, then a number of writes, eight bytes each, the highest first. Where a call is
 /// refused it doesn't count. A context's cleanup returns how many operations it counted, modulo 2^64.
 #[derive(Clone, Copy)]
-pub struct Meter {
-    alloc: Global,
+pub struct Meter<M: Memory = Global> {
+    memory: M,
 }
 
-impl Meter {
+impl<M: Memory> Meter<M> {
     /// The filter, which takes memory for the body of each context.
-    pub fn new(alloc: Global) -> Meter {
-        Meter { alloc }
+    pub fn new(memory: M) -> Meter<M>
+        ensures { result ≡ record { memory = memory } }
+    {
+        Meter { memory }
     }
 
     // A body that has counted nothing.
     fn blank(&self) -> Result<Bytes, AllocError>
-        ensures { IfOk result (λ body. body ≡ replicate 16 0) }
+        ensures body { IfOk result (λ body. body ≡ replicate 16 0) }
+        ensures refused { IfErr result (λ _. M.refuses self.now.memory) }
     {
-        Bytes::copy_of(self.alloc, &[0; 16])
+        self.memory.body(&[0; 16])
     }
 
-    // Counts one operation in the number at that place of the stream's context.
-    fn count<P: Port>(&self, place: u64, port: &mut P)
-        ensures calls { MayCount P.Port place port.old port.new }
+    // Counts one operation in the number at that place of the stream's context, if there is memory for a body.
+    fn try_count<P: Port>(&self, place: u64, port: &mut P)
+        ensures calls { MayCount P.Port (M.refuses self.now.memory) place port.old port.new }
         ensures far { P.kept port.new ≡ P.kept port.old }
     {
-        let Ok(body) = self.blank() else {
-            return;
-        };
-        let Some(context) = set_unless_there(port, ContextKind::Stream, body) else {
-            return;
-        };
-        let _ = port.bump(context, place, 1);
-        let _ = port.release(context);
+        if let Ok(body) = self.blank() {
+            count(place, body, port);
+        }
     }
+}
+
+// Counts one operation in the number at that place of the stream's context. If there is none it is made, with that body.
+fn count<P: Port>(place: u64, body: Bytes, port: &mut P)
+    ensures calls { Counts P.Port place body port.old port.new }
+    ensures far { P.kept port.new ≡ P.kept port.old }
+{
+    let Some(context) = set_unless_there(port, ContextKind::Stream, body) else {
+        return;
+    };
+    let _ = port.bump(context, place, 1);
+    let _ = port.release(context);
 }
 
 // How many operations a body has counted, modulo 2^64; a body of less than 16 bytes counts none.
@@ -61,7 +72,7 @@ fn counted_in(body: &[u8]) -> u64
     u64::from_be_bytes(*reads).wrapping_add(u64::from_be_bytes(*writes))
 }
 
-impl Agreeable for Meter {
+impl<M: Memory + Send + Sync> Agreeable for Meter<M> {
     ghost use Rattle.fm_samples.specs.Meter.{meter_registers, MetersCleanup};
     ghost use Rattle.fm_samples.specs.Common.{IsBarePre, IsBarePost};
 
@@ -88,12 +99,12 @@ impl Agreeable for Meter {
     fn pre<P: Port>(&self, lent: &mut CallbackData, port: &mut P) -> PreVerdict
         ensures may { IsBarePre lent.old result lent.new }
         ensures kept { lent.new.received ≡ lent.old.received }
-        ensures calls { MetersCalls P.Port (current_of lent.old) port.old port.new }
+        ensures calls { MetersCalls P.Port (M.refuses self.now.memory) (current_of lent.old) port.old port.new }
         ensures far { P.kept port.new ≡ P.kept port.old }
     {
         match lent.params() {
-            Params::Read { .. } => self.count(0, port),
-            Params::Write { .. } => self.count(8, port),
+            Params::Read { .. } => self.try_count(0, port),
+            Params::Write { .. } => self.try_count(8, port),
             _ => {}
         }
         PreVerdict::NoCallback

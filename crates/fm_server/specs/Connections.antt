@@ -16,6 +16,15 @@ SendsText (Ok _) text output = output ≡ text
 SendsText (Err WriteFault) text output = IsPrefix output text
 SendsText (Err _) text output = ⊥
 
+-- what holds once all that a sink was given was handed on holds at this end if it held before, unless the sink failed
+abbrev pub HandsOnAt : ServeEnd → Type 0 → Type 0 → Type 0
+HandsOnAt WriteFault old new = Unit {0}
+HandsOnAt _ old new = old → new
+
+abbrev pub HandsOn : Result (Unit {0}) ServeEnd → Type 0 → Type 0 → Type 0
+HandsOn (Ok _) old new = old → new
+HandsOn (Err end) old new = HandsOnAt end old new
+
 -- the answer to a request was sent
 abbrev pub SendsAnswer : Result (Unit {0}) ServeEnd → ℕ → Frame → List ℕ → Type 0
 SendsAnswer (Err NoMemory) number answer output = output ≡ []

@@ -2,7 +2,7 @@
 
 ghost use Rattle.std.specs.Prelude.{◌≡◌, List, ℕ, Err};
 ghost use Rattle.std.specs.Io.KnownBytes.{Appends};
-ghost use Rattle.fm_server.specs.Connections.{Does, DoesAll};
+ghost use Rattle.fm_server.specs.Connections.{Does, DoesAll, HandsOn};
 ghost use Rattle.fm_server.specs.Replies.{AnswersTo};
 
 use crate::exec::Exec;
@@ -38,6 +38,7 @@ fn do_one<W: Sink, E: Exec>(
 ) -> Result<(), ServeEnd>
     ensures does { (output : List ℕ) × Appends (W.contents sink.old) (W.contents sink.new) output
         × Does E.answers result exec.old frame output exec.new }
+    ensures handed { HandsOn result (W.handed_on sink.old) (W.handed_on sink.new) }
     ensures fault { result ≡ Err ServeEnd.WriteFault → W.failed sink.new }
 {
     let number = frame.number;
@@ -58,6 +59,7 @@ pub(crate) fn do_all<W: Sink, E: Exec>(
 ) -> Result<(), ServeEnd>
     ensures does { (output : List ℕ) × Appends (W.contents sink.old) (W.contents sink.new) output
         × DoesAll E.answers result exec.old frames.items output exec.new }
+    ensures handed { HandsOn result (W.handed_on sink.old) (W.handed_on sink.new) }
     ensures fault { result ≡ Err ServeEnd.WriteFault → W.failed sink.new }
 {
     for frame in frames {

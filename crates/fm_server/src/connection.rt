@@ -2,7 +2,7 @@
 
 ghost use Rattle.std.specs.Prelude.{◌≡◌, ◌<◌, ◌≤◌, ◌+◌, ◌-◌, ◌^◌, ◌++◌, ◌⊎◌, Option, List, ℕ, Err, IfOk, OnOk, length};
 ghost use Rattle.std.specs.Io.KnownBytes.{Appends};
-ghost use Rattle.fm_server.specs.Connections.{Goes, LastEnd, Stands, Takes, TakesWhole, Waits};
+ghost use Rattle.fm_server.specs.Connections.{Goes, HandsOn, HandsOnAt, LastEnd, Stands, Takes, TakesWhole, Waits};
 ghost use Rattle.fm_server.specs.Serving.{Leaves};
 
 use crate::answering::do_all;
@@ -33,6 +33,7 @@ fn take_piece<W: Sink, E: Exec>(
     ensures takes { (first : E) (input before : List ℕ) → Stands E.answers first decoder.old input before exec.old →
         (output : List ℕ) × Appends (W.contents sink.old) (W.contents sink.new) output
         × Takes E.answers result first decoder.new piece.now (input ++ piece.now) (before ++ output) exec.new }
+    ensures handed { HandsOn result (W.handed_on sink.old) (W.handed_on sink.new) }
     ensures fault { result ≡ Err ServeEnd.WriteFault → W.failed sink.new }
     ensures never { result ≡ Err ServeEnd.ReadFault → ⊥ }
 {
@@ -54,6 +55,7 @@ fn take_whole<W: Sink, E: Exec>(
     ensures takes { (first : E) (input before : List ℕ) → Stands E.answers first decoder.old input before exec.old →
         (output : List ℕ) × Appends (W.contents sink.old) (W.contents sink.new) output
         × TakesWhole E.answers result first decoder.new (input ++ piece.now) (before ++ output) exec.new }
+    ensures handed { HandsOn result (W.handed_on sink.old) (W.handed_on sink.new) }
     ensures fault { result ≡ Err ServeEnd.WriteFault → W.failed sink.new }
     ensures never { result ≡ Err ServeEnd.ReadFault → ⊥ }
 {
@@ -84,6 +86,7 @@ fn turn<R: Source, W: Sink, E: Exec>(
     buffer: &mut [u8],
 ) -> Result<(), ServeEnd>
     requires { 0 < length buffer.old }
+    ensures handed { HandsOn result (W.handed_on sink.old) (W.handed_on sink.new) }
     ensures write_fault { result ≡ Err ServeEnd.WriteFault → W.failed sink.new }
     ensures read_fault { result ≡ Err ServeEnd.ReadFault → R.failed source.new }
     ensures counted { OnOk result (R.reads source.new ≡ R.reads source.old + 1) }
@@ -108,6 +111,7 @@ fn run<R: Source, W: Sink, E: Exec>(
     buffer: &mut [u8],
 ) -> ServeEnd
     requires { 0 < length buffer.old }
+    ensures handed { HandsOnAt result (W.handed_on sink.old) (W.handed_on sink.new) }
     ensures write_fault { result ≡ ServeEnd.WriteFault → W.failed sink.new }
     ensures read_fault { result ≡ ServeEnd.ReadFault → R.failed source.new ⊎ (R.reads source.old + (2 ^ 32 - 1) ≤ R.reads source.new) }
     ensures leaves { (first : E) (read written : Option (List ℕ)) →
@@ -139,6 +143,7 @@ fn serve_by<R: Source, W: Sink, E: Exec>(
     mut buffer: Vec<u8>,
 ) -> ServeEnd
     requires { 0 < length buffer.items }
+    ensures handed { HandsOnAt result (W.handed_on sink.old) (W.handed_on sink.new) }
     ensures write_fault { result ≡ ServeEnd.WriteFault → W.failed sink.new }
     ensures read_fault { result ≡ ServeEnd.ReadFault → R.failed source.new ⊎ (R.reads source.old + (2 ^ 32 - 1) ≤ R.reads source.new) }
     ensures leaves { Leaves E.answers result (R.remaining source.old) (W.contents sink.old) exec.old (R.remaining source.new) (W.contents sink.new) exec.new }
@@ -155,7 +160,7 @@ fn serve_by<R: Source, W: Sink, E: Exec>(
 }
 
 /// Serves one connection: reads frames from the source, has the exec answer each, and writes the replies to the sink, in order and with nothing
-/// else. One request at a time: a reply was written before the next frame is answered.
+/// else. One request at a time: a reply was written, and handed on by the sink, before the next frame is answered.
 ///
 /// A frame that refuses itself is answered with its status, one that only a server says with 32 (`BadRequest`), and an answer of the exec that
 /// has no spelling with 32 under the request's number. How it ends:
@@ -172,6 +177,7 @@ pub fn serve<R: Source, W: Sink, E: Exec>(
     sink: &mut W,
     exec: &mut E,
 ) -> ServeEnd
+    ensures handed { HandsOnAt result (W.handed_on sink.old) (W.handed_on sink.new) }
     ensures write_fault { result ≡ ServeEnd.WriteFault → W.failed sink.new }
     ensures read_fault { result ≡ ServeEnd.ReadFault → R.failed source.new ⊎ (R.reads source.old + (2 ^ 32 - 1) ≤ R.reads source.new) }
     ensures leaves { Leaves E.answers result (R.remaining source.old) (W.contents sink.old) exec.old (R.remaining source.new) (W.contents sink.new) exec.new }

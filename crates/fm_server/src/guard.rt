@@ -14,7 +14,8 @@ use fm_wire::Frame;
 use std::alloc::Global;
 
 /// Has the exec answer the frame under a pass of the volume, which is given back before this returns (`ExAcquireRundownProtection` and
-/// `ExReleaseRundownProtection` around a request). If the gate refuses the pass, its refusal is the reply and the exec isn't asked: 7 (`NoVolume`)
+/// `ExReleaseRundownProtection` around a request). The exec is asked exactly if the gate gives the pass, and its answer is the reply. If the gate
+/// refuses it, that refusal is the reply and the exec isn't asked: 7 (`NoVolume`)
 /// if the gate has no such volume, 33 (`Dismounting`) if it was found closing, as it is ever after the seat has seen that, 29 (`TooMany`) if the
 /// seat holds all its passes of the volume. The seat's passes are as before. The seat is one of this gate's.
 pub fn guarded<E: Exec>(
@@ -28,7 +29,7 @@ pub fn guarded<E: Exec>(
     requires own { IsSeatOf gate.now seat.old }
     ensures own { IsSeatOf gate.now seat.new }
     ensures passes { KeepsPasses (view_of seat.old) (view_of seat.new) }
-    ensures guards { nat_lt volume.0 (volumes_of gate.now) ≡ true → Guards E.answers volume.0 (view_of seat.old) exec.old frame result exec.new }
+    ensures guards { nat_lt volume.0 (volumes_of gate.now) ≡ true → Guards E.answers volume.0 (view_of seat.old) exec.old frame result (view_of seat.new) exec.new }
     ensures none { nat_lt volume.0 (volumes_of gate.now) ≡ false → (result ≡ bare_reply frame.number NoVolume) × (exec.new ≡ exec.old) }
 {
     match gate.enter(seat, volume) {

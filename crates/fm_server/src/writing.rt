@@ -2,7 +2,7 @@
 
 ghost use Rattle.std.specs.Prelude.{◌≡◌, ◌<◌, ◌≤◌, ℕ, List, [], Err, IfErr, IfOk, MatchResult, length, take};
 ghost use Rattle.std.specs.Io.KnownBytes.{Appends};
-ghost use Rattle.fm_server.specs.Connections.{SendsAnswer, SendsText, TellsFault};
+ghost use Rattle.fm_server.specs.Connections.{HandsOn, HandsOnAt, SendsAnswer, SendsText, TellsFault};
 
 use crate::replies::{bare_reply, text_of};
 use crate::serve_end::ServeEnd;
@@ -29,6 +29,7 @@ fn put_some<W: Sink>(sink: &mut W, text: &[u8]) -> Result<usize, ServeEnd>
 
 fn finish<W: Sink>(sink: &mut W) -> Result<(), ServeEnd>
     ensures appends { Appends (W.contents sink.old) (W.contents sink.new) [] }
+    ensures handed { IfOk result (λ _. W.handed_on sink.new) }
     ensures fault { IfErr result (λ end. (end ≡ ServeEnd.WriteFault) × W.failed sink.new) }
 {
     match sink.finish() {
@@ -37,9 +38,10 @@ fn finish<W: Sink>(sink: &mut W) -> Result<(), ServeEnd>
     }
 }
 
-/// Writes a text, all of it if the sink doesn't fail.
+/// Writes a text, all of it if the sink doesn't fail, and has it handed on.
 pub(crate) fn put_whole<W: Sink>(sink: &mut W, text: &[u8]) -> Result<(), ServeEnd>
     ensures sends { (output : List ℕ) × Appends (W.contents sink.old) (W.contents sink.new) output × SendsText result text.now output }
+    ensures handed { IfOk result (λ _. W.handed_on sink.new) }
     ensures fault { IfErr result (λ end. (end ≡ ServeEnd.WriteFault) × W.failed sink.new) }
 {
     let mut rest = text;
@@ -63,6 +65,7 @@ pub(crate) fn send<W: Sink>(
     answer: &Frame,
 ) -> Result<(), ServeEnd>
     ensures sends { (output : List ℕ) × Appends (W.contents sink.old) (W.contents sink.new) output × SendsAnswer result number answer.now output }
+    ensures handed { HandsOn result (W.handed_on sink.old) (W.handed_on sink.new) }
     ensures fault { result ≡ Err ServeEnd.WriteFault → W.failed sink.new }
 {
     match text_of(alloc, number, answer) {
@@ -74,6 +77,7 @@ pub(crate) fn send<W: Sink>(
 /// Answers a frame fault, which ends the connection.
 pub(crate) fn tell_fault<W: Sink>(alloc: Global, sink: &mut W) -> ServeEnd
     ensures tells { (output : List ℕ) × Appends (W.contents sink.old) (W.contents sink.new) output × TellsFault result output }
+    ensures handed { HandsOnAt result (W.handed_on sink.old) (W.handed_on sink.new) }
     ensures fault { result ≡ ServeEnd.WriteFault → W.failed sink.new }
 {
     match send(alloc, sink, 0, &bare_reply(alloc, 0, Status::BadRequest)) {

@@ -12,6 +12,7 @@ loop-frame-preserved g c =
       so_far.0 ++ one.0,
       appends_more _ _ _ so_far.0 one.0 so_far.1 one.1,
       does_more g.E.Exec.answers c.args.exec.now c.loop-frame.exec c.do_one.new.exec c.loop-frame.yielded c.in-Some.frame so_far.0 one.0 so_far.2 one.2,
+      λ before. c.in-Ok.ensures.handed (so_far.3 before),
     )
 
 pub returns-in-Err-clause-does : goal.returns-in-Err-clause-does

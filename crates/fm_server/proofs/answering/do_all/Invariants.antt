@@ -7,3 +7,4 @@ abbrev pub invariant-loop-frame : goal.invariant-loop-frame
 invariant-loop-frame g l =
     (output : List ℕ) × Appends (g.W.Sink.contents l.initial.sink) (g.W.Sink.contents l.sink) output
     × Answered g.E.Exec.answers l.initial.exec l.yielded output l.exec
+    × (g.W.Sink.handed_on l.initial.sink → g.W.Sink.handed_on l.sink)

@@ -8,6 +8,7 @@ invariant-loop g l = record {
   waits : (first : g.row.E.Denot) (read written : Option (List ℕ))
       → Waits g.E.Exec.answers first read written l.fn.decoder (g.R.Source.remaining l.fn.source) (g.W.Sink.contents l.fn.sink) l.fn.exec
       → Waits g.E.Exec.answers first read written l.decoder (g.R.Source.remaining l.source) (g.W.Sink.contents l.sink) l.exec;
+  handed : g.W.Sink.handed_on l.fn.sink → g.W.Sink.handed_on l.sink;
   room : 0 < length l.buffer;
   counted : g.R.Source.reads l.fn.source + l.counter ≤ g.R.Source.reads l.source;
 }

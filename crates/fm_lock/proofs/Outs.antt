@@ -1,5 +1,5 @@
 -- How many hands are out.
-use Rattle.fm_lock.proofs.Words.{Bool, HandView, List, [], and_parts, ap, arith, cond, count_by, false, is_roll, length, list_all, not, refl, slice_index_or}
+use Rattle.fm_lock.proofs.Words.{Bool, HandView, List, [], and_parts, ap, arith, cond, count_by, false, are_hired, length, list_all, not, refl, slice_index_or}
 use Rattle.fm_lock.proofs.Words.{slice_set, suc, true, zero, ℕ, ◌+◌, ◌<◌, ◌∷◌, ◌≡◌, ap, false≢true, sum_by-cons, sum_by-set}
 
 abbrev one : Bool → ℕ
@@ -14,14 +14,14 @@ within_out [] k out = absurd (false≢true out)
 within_out (b ∷ hired) zero out = omega arith
 within_out (b ∷ hired) (suc k) out = omega (arith, within_out hired k out)
 
--- one that is taken off the roll
+-- one that comes in
 pub one_fewer : (hired : List Bool) (k : ℕ) → slice_index_or hired k false ≡ true → count_by (λ b. b) (slice_set hired k false) + 1 ≡ count_by (λ b. b) hired
 one_fewer hired k out =
     omega (arith, sum_by-set one hired k false false (within_out hired k out), ap one out)
 
 -- hands that are all that are out are as many
-pub roll_counts : (hired : List Bool) (hands : List HandView) → is_roll hired hands ≡ true → length hands ≡ count_by (λ b. b) hired
-roll_counts hired [] h = grind (arith, nobody_out hired)
-roll_counts hired (hand ∷ hands) h =
-    let parts = and_parts (slice_index_or hired hand.worker.0 false) (is_roll (slice_set hired hand.worker.0 false) hands) h in
-    grind (arith, one_fewer hired hand.worker.0 parts.0, roll_counts (slice_set hired hand.worker.0 false) hands parts.1)
+pub hired_counts : (hired : List Bool) (hands : List HandView) → are_hired hired hands ≡ true → length hands ≡ count_by (λ b. b) hired
+hired_counts hired [] h = grind (arith, nobody_out hired)
+hired_counts hired (hand ∷ hands) h =
+    let parts = and_parts (slice_index_or hired hand.worker.0 false) (are_hired (slice_set hired hand.worker.0 false) hands) h in
+    grind (arith, one_fewer hired hand.worker.0 parts.0, hired_counts (slice_set hired hand.worker.0 false) hands parts.1)

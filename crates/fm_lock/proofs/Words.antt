@@ -1,5 +1,5 @@
 -- The words that the proofs share.
-pub use Rattle.fm_lock.specs.Rolls.{is_roll}
+pub use Rattle.fm_lock.specs.Hired.{are_hired}
 pub use Rattle.fm_lock.specs.Views.{HandView}
 pub use Rattle.fm_types.specs.declared.ids.WorkerId.{WorkerId}
 pub use Rattle.fm_world.proofs.Events.{idle_there}

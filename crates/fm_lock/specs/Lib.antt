@@ -1,4 +1,5 @@
 pub mod Views
-pub mod Rolls
+pub mod Hired
 pub mod Events
 pub mod Replies
+pub mod Turns

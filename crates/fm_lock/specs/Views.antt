@@ -10,7 +10,7 @@ pub record HandView : Type 0 where
   pub held : ℕ
 
 -- the state, which workers' hands are out, and which of the filters that were handed in each filter's number stands for
-pub record RoundView : Type 0 where
+pub record LockedView : Type 0 where
   pub world : World
   pub hired : List Bool
   pub loaded : List (Option ℕ)
@@ -22,13 +22,13 @@ pub record IsHand (h : HandView) (parts amount : ℕ) : Type 0 where
   pub worker : h.worker.0 < 48
 
 -- the book is the number of references that workers hold; one part stays in the lock, and so does that of each hand that isn't out
-pub record IsRound (w : World) (hired : List Bool) (total parts amount : ℕ) : Type 0 where
+pub record IsLocked (w : World) (hired : List Bool) (total parts amount : ℕ) : Type 0 where
   pub book : total ≡ worker_pairs w
   pub none : amount ≡ 0
   pub shares : parts + count_by (λ is_out. is_out) hired ≡ 49
 
 -- the hand's number is the state's
-abbrev pub IsTrueHand : HandView → RoundView → Type 0
+abbrev pub IsTrueHand : HandView → LockedView → Type 0
 IsTrueHand h r = h.held ≡ hand_len h.worker.0 r.world
 
 -- how many references a list of hands holds

@@ -4,14 +4,14 @@ ghost use Rattle.std.specs.Prelude.{◌≡◌, All, true, false, IfOk, IfErr, sl
 ghost use Rattle.fm_ctx.specs.Counting.{born, cleaned_count};
 ghost use Rattle.fm_world.specs.Ending.{busy_of, IsOver};
 ghost use Rattle.fm_world.specs.Hands.{worker_pairs};
-ghost use Rattle.fm_lock.specs.Rolls.{IsRoll, is_retired, is_roll};
+ghost use Rattle.fm_lock.specs.Hired.{AreHired, is_retired, are_hired};
 ghost use Rattle.fm_lock.specs.Views.{held_by};
 
 use crate::audit::audit;
 use crate::hand::Hand;
+use crate::hired::are_hired;
+use crate::locked::Locked;
 use crate::report::Report;
-use crate::roll::is_roll;
-use crate::round::Round;
 use fm_core::State;
 use fm_types::{Status, WorkerId};
 use std::sync::ledger::Ledger;
@@ -31,7 +31,7 @@ fn report_of(state: State) -> Report
     }
 }
 
-impl<L: Ledger> Round<L> {
+impl<L: Ledger> Locked<L> {
     /// Gives out the hand of a worker whose hand is in. It holds nothing. Refused with 29, nothing changed, if all 48 are out.
     pub fn hire(&mut self) -> Result<Hand<L>, Status>
         ensures ok { IfOk result (λ hand. (hand.held ≡ 0) × (slice_index_or self.old.hired hand.worker.0 true ≡ false) × (self.new ≡ record self.old { hired = slice_set self.old.hired hand.worker.0 true })) }
@@ -74,31 +74,31 @@ impl<L: Ledger> Round<L> {
     /// Ends the manager, if the hands are all that are out, each once, and nothing is left of its life. Beside that it shows that the hands hold together what
     /// the State says that workers hold. Refused with everything handed back: 32 if they aren't those hands, 34 with the number of operations, open handles,
     /// instances that aren't Detached and contexts that aren't cleaned up.
-    #[tactic(auto, using(crate::proofs::Outs::roll_counts))]
-    pub fn close(self, hands: Vec<Hand<L>>) -> Result<Report, (Round<L>, Vec<Hand<L>>, Status)>
+    #[tactic(auto, using(crate::proofs::Outs::hired_counts))]
+    pub fn close(self, hands: Vec<Hand<L>>) -> Result<Report, (Locked<L>, Vec<Hand<L>>, Status)>
         requires { L.parts ≡ 49 }
-        ensures sum { IsRoll self.hired hands.items → worker_pairs self.world ≡ held_by hands.items }
-        ensures ok { IfOk result (λ report. IsRoll self.hired hands.items × (report.state ≡ self.world) × IsOver self.world) }
+        ensures sum { AreHired self.hired hands.items → worker_pairs self.world ≡ held_by hands.items }
+        ensures ok { IfOk result (λ report. AreHired self.hired hands.items × (report.state ≡ self.world) × IsOver self.world) }
         ensures born { IfOk result (λ report. report.born ≡ born self.world.contexts.slots) }
         ensures cleaned { IfOk result (λ report. report.cleaned ≡ cleaned_count self.world.contexts.slots) }
         ensures leaks { IfOk result (λ report. report.leaks ≡ self.world.contexts.leaks) }
         ensures back { IfErr result (λ refused. (refused.0 ≡ self) × (refused.1.items ≡ hands.items)) }
-        ensures busy { IfErr result (λ refused. IsRoll self.hired hands.items → refused.2 ≡ Status.Busy (busy_of self.world)) }
-        ensures roll { IfErr result (λ refused. is_roll self.hired hands.items ≡ false → refused.2 ≡ Status.BadRequest) }
+        ensures busy { IfErr result (λ refused. AreHired self.hired hands.items → refused.2 ≡ Status.Busy (busy_of self.world)) }
+        ensures hired { IfErr result (λ refused. are_hired self.hired hands.items ≡ false → refused.2 ≡ Status.BadRequest) }
     {
-        let mut round = self;
+        let mut locked = self;
         let mut hands = hands;
-        let mut hired = round.hired;
-        if !is_roll(&mut hired, hands.as_slice()) {
-            return Err((round, hands, Status::BadRequest));
+        let mut hired = locked.hired;
+        if !are_hired(&mut hired, hands.as_slice()) {
+            return Err((locked, hands, Status::BadRequest));
         }
-        audit(&mut round.book, &mut round.rest, hands.as_mut_slice());
-        let busy = round.state.busy();
+        audit(&mut locked.book, &mut locked.rest, hands.as_mut_slice());
+        let busy = locked.state.busy();
         if busy != 0 {
-            return Err((round, hands, Status::Busy(busy)));
+            return Err((locked, hands, Status::Busy(busy)));
         }
-        round.state.end();
-        let Round { state, .. } = round;
+        locked.state.end();
+        let Locked { state, .. } = locked;
         Ok(report_of(state))
     }
 }

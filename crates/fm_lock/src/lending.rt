@@ -26,9 +26,9 @@ impl<F: Drop, L: Ledger> Manager<F, L> {
     ) -> Result<FlowAction, Status>
         ensures { Holding (More result given_by_next) hand.old hand.new }
     {
-        let action = self.round.lock(rt).next(hand, operation);
+        let action = self.locked(rt).next(hand, operation);
         if is_done(&action) {
-            self.changed.notify_all();
+            self.waiting.tell(operation);
         }
         action
     }
@@ -44,7 +44,7 @@ impl<F: Drop, L: Ledger> Manager<F, L> {
         ensures held { Holding (Nothing (status_of result)) hand.old hand.new }
         ensures back { IfErr result (λ refused. refused.handed_back ≡ lent) }
     {
-        self.round.lock(rt).pre_returned(hand, verdict, lent)
+        self.locked(rt).pre_returned(hand, verdict, lent)
     }
 
     /// The base call that the hand's worker is in returns. It answers as the State does, 30 and 32, with both handed back.
@@ -58,7 +58,7 @@ impl<F: Drop, L: Ledger> Manager<F, L> {
         ensures held { hand.new ≡ hand.old }
         ensures back { IfErr result (λ refused. refused.handed_back ≡ (call, given)) }
     {
-        self.round.lock(rt).base_returned(hand, call, given)
+        self.locked(rt).base_returned(hand, call, given)
     }
 
     /// The postoperation callback or the drain that the hand's worker is in returns: the hand is empty. It answers as the State does, 30 and 32, with the data
@@ -73,7 +73,7 @@ impl<F: Drop, L: Ledger> Manager<F, L> {
         ensures held { Holding (Nothing (status_of result)) hand.old hand.new }
         ensures back { IfErr result (λ refused. refused.handed_back ≡ lent) }
     {
-        self.round.lock(rt).post_returned(hand, verdict, lent)
+        self.locked(rt).post_returned(hand, verdict, lent)
     }
 
     /// Writes the bytes of a context that the hand has, which takes no memory. It answers as the State does: 30, 25, 32.
@@ -86,6 +86,6 @@ impl<F: Drop, L: Ledger> Manager<F, L> {
     ) -> Result<(), Status>
         ensures { hand.new ≡ hand.old }
     {
-        self.round.lock(rt).write_body(hand, context, bytes)
+        self.locked(rt).write_body(hand, context, bytes)
     }
 }

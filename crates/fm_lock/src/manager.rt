@@ -6,29 +6,33 @@ ghost use Rattle.fm_world.specs.Ending.{IsOver};
 ghost use Rattle.fm_world.specs.Hands.{worker_pairs};
 ghost use Rattle.fm_ctx.specs.Counting.{born, cleaned_count};
 ghost use Rattle.fm_lock.specs.Events.{HandAfter};
-ghost use Rattle.fm_lock.specs.Rolls.{place_called};
+ghost use Rattle.fm_lock.specs.Hired.{place_called};
 ghost use Rattle.fm_lock.specs.Views.{held_by};
 
 use crate::hand::Hand;
+use crate::locked::Locked;
 use crate::report::Report;
-use crate::round::Round;
+use crate::waiting::Waiting;
 use fm_data::Answer;
 use fm_filter::Minifilter;
 use fm_flow::FlowAction;
-use fm_types::{FilterId, Name, OpId, Status};
+use fm_types::{FilterId, InstanceId, Name, OpId, Status};
 use fm_world::{Refused, Step, StepReply};
 use std::alloc::Global;
 use std::sync::ledger::{Blank, Ledger};
-use std::sync::{Condvar, Mutex, Wait};
+use std::sync::{Mutex, MutexGuard, Wait};
+
+/// How often a thread looks for the lock before it sleeps.
+const LOOKS: usize = 13;
 
 /// A manager that threads share, over filters of one type. Each call takes the lock for one event of the State, and gives it back before it returns: so
-/// callbacks and base calls, which the caller makes between calls, run with no lock held. What holds of the State inside is `Round`'s; a caller learns the
+/// callbacks and base calls, which the caller makes between calls, run with no lock held. What holds of the State inside is `Locked`'s; a caller learns the
 /// answer, and how many references its hand holds.
 #[derive(Drop)]
 pub struct Manager<F: Drop, L: Ledger> {
     filters: Vec<(Name, F)>,
-    pub(crate) round: Mutex<Round<L>>,
-    pub(crate) changed: Condvar,
+    lock: Mutex<Locked<L>>,
+    pub(crate) waiting: Waiting,
 }
 
 fn is_called(own: &Name, name: &Name) -> bool
@@ -50,6 +54,14 @@ fn is_told_done(given: &Result<StepReply, Refused<Step>>) -> bool {
     }
 }
 
+/// The operation whose next turn an event asks for.
+fn asks_next(step: &Step) -> Option<OpId> {
+    match step {
+        Step::Next { operation, .. } => Some(*operation),
+        _ => None,
+    }
+}
+
 impl<F: Drop, L: Ledger> Manager<F, L> {
     /// A manager of these filters, each under its name, before its first event. The blank is this ledger's own, in 49 parts: one for each worker's hand, and one
     /// that stays. Refused with 1 alone, if memory is refused for the state.
@@ -64,15 +76,26 @@ impl<F: Drop, L: Ledger> Manager<F, L> {
         ensures filters { IfOk result (λ manager. manager.filters ≡ filters) }
         ensures memory { IfErr result (λ status. status ≡ Status.NoMemory) }
     {
-        let round = Round::new(alloc, blank)?;
+        let locked = Locked::new(alloc, blank)?;
         Ok(Manager {
             filters,
-            round: Mutex::new(round),
-            changed: Condvar::new(),
+            lock: Mutex::new(locked),
+            waiting: Waiting::new(),
         })
     }
 
-    /// Makes an event that names a worker, by that worker's hand, as `Round::step`. Who waits for an operation is told of a `next` that answers Done.
+    /// Takes the lock. An event is short: so a thread looks a few times, with pauses in which the one that has it makes several events, before it sleeps.
+    pub(crate) fn locked<R: Wait>(&self, rt: &R) -> MutexGuard<'_, Locked<L>> {
+        'looks: for _ in 0..LOOKS {
+            if let Some(locked) = self.lock.try_lock() {
+                return locked;
+            }
+            self.waiting.pause();
+        }
+        self.lock.lock(rt)
+    }
+
+    /// Makes an event that names a worker, by that worker's hand, as `Locked::step`. Who waits for an operation is told of a `next` that answers Done.
     #[tactic(auto, using(crate::proofs::Seen::event_seen))]
     pub fn step<R: Wait>(
         &self,
@@ -82,19 +105,22 @@ impl<F: Drop, L: Ledger> Manager<F, L> {
     ) -> Result<StepReply, Refused<Step>>
         ensures { HandAfter step hand.old result hand.new }
     {
-        let result = self.round.lock(rt).step(hand, step);
+        let asked = asks_next(&step);
+        let result = self.locked(rt).step(hand, step);
         if is_told_done(&result) {
-            self.changed.notify_all();
+            if let Some(operation) = asked {
+                self.waiting.tell(operation);
+            }
         }
         result
     }
 
-    /// Makes an event that names no worker, as `Round::step_alone`.
+    /// Makes an event that names no worker, as `Locked::step_alone`. A filter is registered by `register` alone, by its name.
     #[tactic(auto, using(crate::proofs::Seen::alone_seen))]
     pub fn step_alone<R: Wait>(&self, rt: &R, step: Step) -> Result<StepReply, Refused<Step>>
         ensures { IfErr result (λ refused. refused ≡ record { status = Status.WrongStep; handed_back = step }) }
     {
-        self.round.lock(rt).step_alone(step)
+        self.locked(rt).step_alone(step)
     }
 
     /// Waits until an operation is done, and takes its answer. Refused with 30, if the operation isn't there or its answer was handed out. It waits for ever
@@ -102,12 +128,23 @@ impl<F: Drop, L: Ledger> Manager<F, L> {
     pub fn wait_reply<R: Wait>(&self, rt: &R, operation: OpId) -> Result<Answer, Status>
         ensures { IfErr result (λ status. status ≡ Status.WrongStep) }
     {
-        let mut round = self.changed.wait_while(
+        self.waiting.enter(operation);
+        let answer = self.collect(rt, operation);
+        self.waiting.leave();
+        answer
+    }
+
+    // Sleeps at the operation's place until it is done, and takes its answer.
+    fn collect<R: Wait>(&self, rt: &R, operation: OpId) -> Result<Answer, Status>
+        ensures { IfErr result (λ status. status ≡ Status.WrongStep) }
+    {
+        let changed = &self.waiting.place(operation).changed;
+        let mut locked = changed.wait_while(
             rt,
-            self.round.lock(rt),
-            |round| round.must_wait(operation),
+            self.locked(rt),
+            |locked| locked.must_wait(operation),
         );
-        round.collect(operation)
+        locked.collect(operation)
     }
 
     /// Gives out the hand of a worker whose hand is in. It holds nothing. Refused with 29 if all 48 are out.
@@ -115,7 +152,7 @@ impl<F: Drop, L: Ledger> Manager<F, L> {
         ensures ok { IfOk result (λ hand. hand.held ≡ 0) }
         ensures err { IfErr result (λ status. status ≡ Status.TooMany) }
     {
-        self.round.lock(rt).hire()
+        self.locked(rt).hire()
     }
 
     /// Takes a hand back, which holds nothing. Refused with 30 and the hand handed back, if its worker isn't idle (a base call counts too) or its number isn't
@@ -124,7 +161,7 @@ impl<F: Drop, L: Ledger> Manager<F, L> {
         ensures ok { IfOk result (λ done. hand.held ≡ 0) }
         ensures err { IfErr result (λ refused. (refused.0 ≡ hand) × (refused.1 ≡ Status.WrongStep)) }
     {
-        self.round.lock(rt).retire(hand)
+        self.locked(rt).retire(hand)
     }
 
     // The place of the filter of that name.
@@ -134,11 +171,24 @@ impl<F: Drop, L: Ledger> Manager<F, L> {
         self.filters.iter().position(|row| is_called(&row.0, name))
     }
 
+    // The filter that was handed in at that place.
+    pub(crate) fn filter_at(&self, place: Option<usize>) -> Option<&F>
+        ensures { place ≡ None → result ≡ None }
+    {
+        let row = self.filters.get(place?)?;
+        Some(&row.1)
+    }
+
     /// The filter that a filter's number stands for; none where that number wasn't given.
     pub fn filter<R: Wait>(&self, rt: &R, filter: FilterId) -> Option<&F> {
-        let place = self.round.lock(rt).place_of(filter)?;
-        let row = self.filters.get(place)?;
-        Some(&row.1)
+        let place = self.locked(rt).place_of(filter);
+        self.filter_at(place)
+    }
+
+    /// The filter of an instance; none where the instance isn't there.
+    pub fn filter_of_instance<R: Wait>(&self, rt: &R, instance: InstanceId) -> Option<&F> {
+        let place = self.locked(rt).place_of_instance(instance);
+        self.filter_at(place)
     }
 
     /// Ends the manager, if the hands are all that are out, each once, and nothing is left of its life. The hands hold together what the State says that
@@ -159,16 +209,16 @@ impl<F: Drop, L: Ledger> Manager<F, L> {
     {
         let Manager {
             filters,
-            round,
-            changed,
+            lock,
+            waiting,
         } = self;
-        match round.into_inner().close(hands) {
+        match lock.into_inner().close(hands) {
             Ok(report) => Ok(report),
-            Err((round, hands, status)) => {
+            Err((locked, hands, status)) => {
                 let manager = Manager {
                     filters,
-                    round: Mutex::new(round),
-                    changed,
+                    lock: Mutex::new(locked),
+                    waiting,
                 };
                 Err((manager, hands, status))
             }
@@ -186,6 +236,6 @@ impl<F: Minifilter, L: Ledger> Manager<F, L> {
             return Err(Status::NoFilter);
         };
         let registration = self.filters[place].1.registration();
-        self.round.lock(rt).register(*name, registration, place)
+        self.locked(rt).register(*name, registration, place)
     }
 }

@@ -9,14 +9,14 @@ ghost use Rattle.fm_world.specs.StepHands.{More, Nothing};
 ghost use Rattle.fm_lock.specs.Events.{EventOr, Holding};
 
 use crate::hand::Hand;
-use crate::round::Round;
+use crate::locked::Locked;
 use fm_data::{Answer, BaseCall, CallbackData, PostVerdict, PreVerdict};
 use fm_flow::FlowAction;
 use fm_types::{CtxId, OpId, Status};
 use fm_world::Refused;
 use std::sync::ledger::Ledger;
 
-impl<L: Ledger> Round<L> {
+impl<L: Ledger> Locked<L> {
     /// What the hand's worker has to do next for an operation, as the State's `next`. Refused with 30 before the event, nothing changed, if the hand's number
     /// isn't the State's.
     pub fn next(&mut self, hand: &mut Hand<L>, operation: OpId) -> Result<FlowAction, Status>

@@ -13,7 +13,7 @@ impl<F: Drop, L: Ledger> Manager<F, L> {
     pub fn read<R: Wait, T, E: FnOnce(&State) -> T>(&self, rt: &R, look: E) -> T
         requires { E.IsAlwaysCallable look }
     {
-        look(self.round.lock(rt).state())
+        look(self.locked(rt).state())
     }
 
     /// How many filters were registered: the ids given out are those below.
@@ -84,6 +84,11 @@ impl<F: Drop, L: Ledger> Manager<F, L> {
     /// How many operations are in flight at an instance.
     pub fn in_flight<R: Wait>(&self, rt: &R, instance: InstanceId) -> u64 {
         self.read(rt, |state| state.in_flight(instance))
+    }
+
+    /// How many references a worker holds.
+    pub fn hand_len<R: Wait>(&self, rt: &R, worker: WorkerId) -> usize {
+        self.read(rt, |state| state.hand_len(worker))
     }
 
     /// How far a context's life has come.

@@ -1,11 +1,12 @@
 //! What stands behind the lock: the state, the book of all hands' references, and which hands are out.
 
-ghost use Rattle.std.specs.Prelude.{◌≡◌, ◌↔◌, false, Some, None, IsTrue, IfOk, IfErr, MatchResult, option_map, replicate, slice_index_or, slice_set};
+ghost use Rattle.std.specs.Prelude.{◌≡◌, ◌↔◌, false, Some, None, IsTrue, IfOk, IfErr, MatchResult, option_map, replicate, slice_set};
 ghost use Rattle.fm_flow.specs.Steps.{is_done};
 ghost use Rattle.fm_flow.specs.Table.{operation_at};
 ghost use Rattle.fm_world.specs.World.{empty_world};
 ghost use Rattle.fm_world.specs.Events.{Collects, Registers};
-ghost use Rattle.fm_lock.specs.Events.{EventAlone, EventBy, KeepsRolls, is_by};
+ghost use Rattle.fm_lock.specs.Events.{EventAlone, EventBy, KeepsHired, is_by, is_register};
+ghost use Rattle.fm_lock.specs.Turns.{place_of};
 ghost use Rattle.fm_lock.specs.Views.{HandView};
 
 use crate::hand::Hand;
@@ -20,7 +21,7 @@ use std::sync::ledger::{Blank, Book, Ledger, Share};
 
 /// What a manager's lock keeps. Each call is one event of the State, and its contract says which: so the Headline holds whenever the lock is free.
 #[derive(Drop)]
-pub struct Round<L: Ledger> {
+pub struct Locked<L: Ledger> {
     pub(crate) state: State,
     pub(crate) book: Book<L>,
     pub(crate) rest: Share<L>,
@@ -28,14 +29,14 @@ pub struct Round<L: Ledger> {
     pub(crate) loaded: [Option<usize>; FILTERS],
 }
 
-impl<L: Ledger> Model for Round<L> {
-    ghost use Rattle.fm_lock.specs.Views.{RoundView, IsRound};
+impl<L: Ledger> Model for Locked<L> {
+    ghost use Rattle.fm_lock.specs.Views.{LockedView, IsLocked};
 
-    ghost Value = { RoundView };
+    ghost Value = { LockedView };
 
     ghost view = { λ r. record { world = r.state; hired = r.hired; loaded = r.loaded } };
 
-    ghost invariant = { λ r. IsRound r.state r.hired r.book.total r.rest.parts r.rest.amount };
+    ghost invariant = { λ r. IsLocked r.state r.hired r.book.total r.rest.parts r.rest.amount };
 }
 
 /// Whether an event is that worker's.
@@ -48,19 +49,26 @@ fn is_by(worker: WorkerId, named: Option<WorkerId>) -> bool
     }
 }
 
-impl<L: Ledger> Round<L> {
+/// Whether an event registers a filter.
+fn is_register(step: &Step) -> bool
+    ensures { result ≡ is_register step.now }
+{
+    matches!(step, Step::Register { .. })
+}
+
+impl<L: Ledger> Locked<L> {
     /// Before the first event: all hands are in. The blank is this ledger's own, in 49 parts: one for each worker, and one that stays. Refused with 1 alone,
     /// if memory is refused for the state.
-    pub fn new(alloc: Global, blank: Blank) -> Result<Round<L>, Status>
+    pub fn new(alloc: Global, blank: Blank) -> Result<Locked<L>, Status>
         requires name { blank.name ≡ L.name }
         requires parts { blank.parts ≡ L.parts }
         requires all { blank.parts ≡ 49 }
-        ensures empty { IfOk result (λ round. round ≡ record { world = empty_world; hired = replicate 48 false; loaded = replicate 16 None }) }
+        ensures empty { IfOk result (λ locked. locked ≡ record { world = empty_world; hired = replicate 48 false; loaded = replicate 16 None }) }
         ensures memory { IfErr result (λ status. status ≡ Status.NoMemory) }
     {
         let state = State::new(alloc)?;
         let (book, rest) = blank.open::<L>();
-        Ok(Round {
+        Ok(Locked {
             state,
             book,
             rest,
@@ -94,12 +102,12 @@ impl<L: Ledger> Round<L> {
     }
 
     /// Makes an event that names no worker. It answers as the State does. Refused with 30 before the event, nothing changed and the event handed back: if
-    /// it names one.
+    /// it names one, or registers a filter, which `register` does.
     #[tactic(auto, using(fm_world::proofs::Handing::keeps_pairs))]
     pub fn step_alone(&mut self, step: Step) -> Result<StepReply, Refused<Step>>
         ensures { EventAlone step self.old result self.new }
     {
-        if step.worker().is_some() {
+        if step.worker().is_some() || is_register(&step) {
             return Err(Refused {
                 status: Status::WrongStep,
                 handed_back: step,
@@ -130,7 +138,7 @@ impl<L: Ledger> Round<L> {
 
     /// The place of the filter that a number stands for; none where that number wasn't given.
     pub fn place_of(&self, filter: FilterId) -> Option<usize>
-        ensures { result ≡ slice_index_or self.now.loaded filter.0 None }
+        ensures { result ≡ place_of self.now filter }
     {
         *self.loaded.get(usize::from(filter.0))?
     }
@@ -148,7 +156,7 @@ impl<L: Ledger> Round<L> {
     pub fn collect(&mut self, operation: OpId) -> Result<Answer, Status>
         ensures event { Collects self.old.world operation result self.new.world }
         ensures refused { IfErr result (λ status. status ≡ Status.WrongStep) }
-        ensures rolls { KeepsRolls self.old self.new }
+        ensures kept { KeepsHired self.old self.new }
     {
         self.state.collect(operation)
     }

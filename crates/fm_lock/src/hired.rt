@@ -2,7 +2,7 @@
 
 ghost use Rattle.std.specs.Prelude.{◌≡◌, false, not};
 ghost use Rattle.std.specs.List.{list_all};
-ghost use Rattle.fm_lock.specs.Rolls.{is_roll};
+ghost use Rattle.fm_lock.specs.Hired.{are_hired};
 
 use crate::hand::Hand;
 use fm_types::limits::WORKERS;
@@ -15,9 +15,9 @@ fn is_nobody_out(hired: &[bool; WORKERS]) -> bool
     hired.iter().all(|is_out| !*is_out)
 }
 
-/// Whether the hands are those that are out, each once. It takes each that it meets off the roll.
-pub(crate) fn is_roll<L: Ledger>(hired: &mut [bool; WORKERS], hands: &[Hand<L>]) -> bool
-    ensures { result ≡ is_roll hired.old hands.now }
+/// Whether the hands are those that are out, each once. It marks each that it meets as in.
+pub(crate) fn are_hired<L: Ledger>(hired: &mut [bool; WORKERS], hands: &[Hand<L>]) -> bool
+    ensures { result ≡ are_hired hired.old hands.now }
 {
     match hands.split_first() {
         None => is_nobody_out(hired),
@@ -27,7 +27,7 @@ pub(crate) fn is_roll<L: Ledger>(hired: &mut [bool; WORKERS], hands: &[Hand<L>])
                 return false;
             }
             hired[worker] = false;
-            is_roll(hired, others)
+            are_hired(hired, others)
         }
     }
 }

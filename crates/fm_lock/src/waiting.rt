@@ -1,0 +1,114 @@
+//! Where clients wait for the answers of their operations, and how a thread looks a while before it sleeps.
+
+ghost use Rattle.std.specs.Prelude.{◌<◌};
+
+use fm_types::OpId;
+use std::array;
+use std::sync::Condvar;
+use std::sync::atomic::{AtomicU64, Ordering};
+
+/// How many conditions clients wait by.
+const PLACES: usize = 32;
+
+/// How many loads a pause between two looks for the lock takes: some microseconds. Whoever has the lock makes several events meanwhile, while what they
+/// touch is in its processor's cache.
+const PAUSE: usize = 3_000;
+
+/// How many loads a client looks for its answer before it sleeps: some ten microseconds.
+const LOOK: usize = 8_000;
+
+/// How many clients sleep at once after one that looked in vain.
+const SKIPS: u64 = 15;
+
+/// A condition that clients wait by.
+#[derive(Drop)]
+pub(crate) struct Place {
+    pub(crate) changed: Condvar,
+    // The number of the operation that was last told done here. It is a hint alone.
+    told: AtomicU64,
+}
+
+impl Place {
+    fn new() -> Place {
+        Place {
+            changed: Condvar::new(),
+            told: AtomicU64::new(u64::MAX),
+        }
+    }
+
+    // Whether an operation is told done within a short while.
+    fn is_told_soon(&self, operation: OpId) -> bool {
+        'looks: for _ in 0..LOOK {
+            if self.told.load(Ordering::SeqCst) == operation.0 {
+                return true;
+            }
+        }
+        false
+    }
+}
+
+/// The places where clients wait: each at that of its operation's number. So the end of an operation wakes its own client, and few others.
+#[derive(Drop)]
+pub(crate) struct Waiting {
+    places: [Place; PLACES],
+    // How many clients wait.
+    clients: AtomicU64,
+    // How many clients more sleep at once.
+    skips: AtomicU64,
+}
+
+fn place_of(operation: OpId) -> usize
+    ensures { result < 32 }
+{
+    (operation.0 % 32) as usize
+}
+
+impl Waiting {
+    pub(crate) fn new() -> Waiting {
+        Waiting {
+            places: array::from_fn(|_| Place::new()),
+            clients: AtomicU64::new(0),
+            skips: AtomicU64::new(0),
+        }
+    }
+
+    /// The place of an operation.
+    pub(crate) fn place(&self, operation: OpId) -> &Place {
+        &self.places[place_of(operation)]
+    }
+
+    /// Tells the clients at an operation's place that it is done.
+    pub(crate) fn tell(&self, operation: OpId) {
+        let place = self.place(operation);
+        place.told.store(operation.0, Ordering::SeqCst);
+        place.changed.notify_all();
+    }
+
+    /// A client begins to wait for an operation. One that waits alone first looks a short while: its answer may come before it could fall asleep. Where
+    /// others wait too, or a look was in vain not long ago, the processors have better to do.
+    pub(crate) fn enter(&self, operation: OpId) {
+        if self.clients.fetch_add(1, Ordering::SeqCst) != 0 {
+            return;
+        }
+        let skips = self.skips.load(Ordering::SeqCst);
+        if skips > 0 {
+            self.skips.store(skips - 1, Ordering::SeqCst);
+        } else if !self.place(operation).is_told_soon(operation) {
+            self.skips.store(SKIPS, Ordering::SeqCst);
+        }
+    }
+
+    /// It has waited.
+    pub(crate) fn leave(&self) {
+        self.clients.fetch_sub(1, Ordering::SeqCst);
+    }
+
+    /// A pause of some microseconds. `spin_loop` does nothing here, and a loop that looks at nothing would be left out.
+    pub(crate) fn pause(&self) {
+        'pause: for _ in 0..PAUSE {
+            if self.clients.load(Ordering::SeqCst) == u64::MAX {
+                break 'pause;
+            }
+        }
+    }
+}

@@ -91,7 +91,7 @@ fn run_by_hands<L: Ledger, R: Wait>(
     requires parts { blank.parts ≡ L.parts }
     requires all { blank.parts ≡ 49 }
 {
-    let mut rows = Rows::<L>::new(rt, alloc, blank)?;
+    let mut rows = Rows::<L>::new(rt, alloc, stored.script, blank)?;
     let (start, rest) = before_resume(stored.script);
     rows.take(rt, start)?;
     let holds = holds_first(rt, &mut rows, stored.name);

@@ -2,6 +2,7 @@
 
 ghost use Rattle.std.specs.Prelude.{◌≡◌};
 
+use crate::declared::Declared;
 use fm_altitude::Altitude;
 use fm_core::{Action, Entry, State, Step, StepReply};
 use fm_data::{PostVerdict, PreVerdict};
@@ -28,7 +29,7 @@ const ATTACHER: WorkerId = WorkerId(0);
 /// A manager with the hands of a script's workers, what these were lent, the devices below, and what was printed.
 #[derive(Drop)]
 pub struct Driver<L: Ledger> {
-    manager: Manager<(), L>,
+    manager: Manager<Declared, L>,
     hands: Vec<Hand<L>>,
     lent: Vec<Lent>,
     devices: Devices,
@@ -50,13 +51,18 @@ fn known(state: &State, operation: OpId) -> Option<Status> {
 }
 
 impl<L: Ledger> Driver<L> {
-    /// A manager before its first event, with a hand for each of a script's workers. Refused with 1.
-    pub fn new<R: Wait>(rt: &R, alloc: Global, blank: Blank) -> Result<Driver<L>, Status>
+    /// A manager of these filters before its first event, with a hand for each of a script's workers. Refused with 1.
+    pub fn new<R: Wait>(
+        rt: &R,
+        alloc: Global,
+        filters: Vec<(Name, Declared)>,
+        blank: Blank,
+    ) -> Result<Driver<L>, Status>
         requires name { blank.name ≡ L.name }
         requires parts { blank.parts ≡ L.parts }
         requires all { blank.parts ≡ 49 }
     {
-        let manager = Manager::new(alloc, Vec::new(alloc), blank)?;
+        let manager = Manager::new(alloc, filters, blank)?;
         let mut hands = Vec::new(alloc);
         let mut lent = Vec::new(alloc);
         for _ in 0..WORKERS {
@@ -94,13 +100,20 @@ impl<L: Ledger> Driver<L> {
         }
     }
 
+    // Makes one event that names no worker.
+    fn step_alone<R: Wait>(&self, rt: &R, step: Step) -> Result<StepReply, Status> {
+        if let Step::Register { name, .. } = step {
+            return Ok(StepReply::Filter(self.manager.register(rt, &name)));
+        }
+        self.manager
+            .step_alone(rt, step)
+            .map_err(|refused| refused.status)
+    }
+
     /// Makes one event, by its worker's hand.
     pub fn step<R: Wait>(&mut self, rt: &R, step: Step) -> Result<StepReply, Status> {
         let Some(worker) = step.worker() else {
-            return self
-                .manager
-                .step_alone(rt, step)
-                .map_err(|refused| refused.status);
+            return self.step_alone(rt, step);
         };
         let Some(hand) = self.hands.get_mut(usize::from(worker.0)) else {
             return Err(Status::WrongStep);

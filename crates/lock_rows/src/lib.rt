@@ -2,6 +2,7 @@
 //! script can say of it.
 #![tactic(auto)]
 
+mod declared;
 mod driver;
 mod script;
 #[cfg(test)]

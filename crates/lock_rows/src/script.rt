@@ -2,11 +2,12 @@
 
 ghost use Rattle.std.specs.Prelude.{◌≡◌};
 
+use crate::declared::Declared;
 use crate::driver::Driver;
 use fm_core::{Step, StepReply};
-use fm_script::{Runner, ScriptEnd, is_silent};
-use fm_types::Status;
+use fm_script::{Runner, ScriptEnd, Task, is_silent};
 use fm_types::limits::LINE;
+use fm_types::{Name, Status};
 use std::alloc::Global;
 use std::sync::Wait;
 use std::sync::ledger::{Blank, Ledger};
@@ -18,15 +19,49 @@ pub struct Rows<L: Ledger> {
     driver: Driver<L>,
 }
 
+// The filter that a line loads, under its name.
+fn loaded_by(reader: &Runner<Vec<u8>>, line: &[u8]) -> Result<Option<(Name, Declared)>, ScriptEnd> {
+    if line.len() > LINE || is_silent(line) {
+        return Ok(None);
+    }
+    match reader.read(line).map_err(|_| ScriptEnd::NoMemory)? {
+        Ok(Task::Event(Step::Register { name, registration })) => {
+            Ok(Some((name, Declared { registration })))
+        }
+        _ => Ok(None),
+    }
+}
+
+// The filters that a script's lines load. A name that several load is the first one's.
+fn filters_of(
+    reader: &Runner<Vec<u8>>,
+    alloc: Global,
+    script: &[u8],
+) -> Result<Vec<(Name, Declared)>, ScriptEnd> {
+    let mut filters = Vec::new(alloc);
+    for line in script.split(|byte| *byte == b'\n') {
+        if let Some(filter) = loaded_by(reader, line)? {
+            filters.push(filter).map_err(|_| ScriptEnd::NoMemory)?;
+        }
+    }
+    Ok(filters)
+}
+
 impl<L: Ledger> Rows<L> {
-    /// Before the first line. The blank is the ledger's own, in 49 parts.
-    pub fn new<R: Wait>(rt: &R, alloc: Global, blank: Blank) -> Result<Rows<L>, ScriptEnd>
+    /// Before the first line of that script. The blank is the ledger's own, in 49 parts.
+    pub fn new<R: Wait>(
+        rt: &R,
+        alloc: Global,
+        script: &[u8],
+        blank: Blank,
+    ) -> Result<Rows<L>, ScriptEnd>
         requires name { blank.name ≡ L.name }
         requires parts { blank.parts ≡ L.parts }
         requires all { blank.parts ≡ 49 }
     {
         let reader = Runner::new(alloc, Vec::new(alloc))?;
-        let driver = Driver::new(rt, alloc, blank).map_err(|_| ScriptEnd::NoMemory)?;
+        let filters = filters_of(&reader, alloc, script)?;
+        let driver = Driver::new(rt, alloc, filters, blank).map_err(|_| ScriptEnd::NoMemory)?;
         Ok(Rows { reader, driver })
     }
 

@@ -7,7 +7,7 @@ ghost use Rattle.fm_world.specs.StepHands.{More, Nothing};
 ghost use Rattle.fm_lock.specs.Events.{Holding};
 
 use crate::hand::Hand;
-use crate::manager::{Manager, is_done};
+use crate::manager::Manager;
 use fm_data::{Answer, BaseCall, CallbackData, PostVerdict, PreVerdict};
 use fm_flow::FlowAction;
 use fm_types::{CtxId, OpId, Status};
@@ -17,7 +17,7 @@ use std::sync::ledger::Ledger;
 
 impl<F: Drop, L: Ledger> Manager<F, L> {
     /// What the hand's worker has to do next for an operation. It answers as the State does: 30. The context that a postoperation or a drain brings back is
-    /// one reference more in the hand. Who waits for the operation is told if it is done.
+    /// one reference more in the hand. Who waits for the operation is told as by `turn`.
     pub fn next<R: Wait>(
         &self,
         rt: &R,
@@ -26,11 +26,7 @@ impl<F: Drop, L: Ledger> Manager<F, L> {
     ) -> Result<FlowAction, Status>
         ensures { Holding (More result given_by_next) hand.old hand.new }
     {
-        let action = self.locked(rt).next(hand, operation);
-        if is_done(&action) {
-            self.waiting.tell(operation);
-        }
-        action
+        self.turn(rt, hand, operation).action
     }
 
     /// The preoperation callback that the hand's worker is in returns: the hand is empty. It answers as the State does, 30 and 32, with the data handed back.

@@ -7,6 +7,7 @@
 
 mod audit;
 mod calls;
+mod clients;
 mod ending;
 mod hand;
 mod hired;

@@ -4,7 +4,7 @@ ghost use Rattle.std.specs.Prelude.{◌≡◌, ◌↔◌, false, Some, None, IsT
 ghost use Rattle.fm_flow.specs.Steps.{is_done};
 ghost use Rattle.fm_flow.specs.Table.{operation_at};
 ghost use Rattle.fm_world.specs.World.{empty_world};
-ghost use Rattle.fm_world.specs.Events.{Collects, Registers};
+ghost use Rattle.fm_world.specs.Events.{Collects, Registers, sync_worker};
 ghost use Rattle.fm_lock.specs.Events.{EventAlone, EventBy, KeepsHired, is_by, is_register};
 ghost use Rattle.fm_lock.specs.Turns.{place_of};
 ghost use Rattle.fm_lock.specs.Views.{HandView};
@@ -148,6 +148,13 @@ impl<L: Ledger> Locked<L> {
         ensures { IsTrue result ↔ (option_map is_done (operation_at operation self.now.world.flow) ≡ Some false) }
     {
         self.state.is_done(operation) == Some(false)
+    }
+
+    /// Whether an operation's next postoperation is that worker's alone.
+    pub fn is_turn_of(&self, worker: WorkerId, operation: OpId) -> bool
+        ensures { result ≡ is_by worker (sync_worker self.now.world operation) }
+    {
+        is_by(worker, self.state.sync_worker(operation))
     }
 
     /// Takes the answer of an operation. It answers as the State does: refused with 30, nothing changed, if the operation isn't there, isn't done, or its

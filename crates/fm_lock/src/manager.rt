@@ -13,7 +13,6 @@ use crate::hand::Hand;
 use crate::locked::Locked;
 use crate::report::Report;
 use crate::waiting::Waiting;
-use fm_data::Answer;
 use fm_filter::Minifilter;
 use fm_flow::FlowAction;
 use fm_types::{FilterId, InstanceId, Name, OpId, Status};
@@ -121,30 +120,6 @@ impl<F: Drop, L: Ledger> Manager<F, L> {
         ensures { IfErr result (λ refused. refused ≡ record { status = Status.WrongStep; handed_back = step }) }
     {
         self.locked(rt).step_alone(step)
-    }
-
-    /// Waits until an operation is done, and takes its answer. Refused with 30, if the operation isn't there or its answer was handed out. It waits for ever
-    /// for one that nobody carries on.
-    pub fn wait_reply<R: Wait>(&self, rt: &R, operation: OpId) -> Result<Answer, Status>
-        ensures { IfErr result (λ status. status ≡ Status.WrongStep) }
-    {
-        self.waiting.enter(operation);
-        let answer = self.collect(rt, operation);
-        self.waiting.leave();
-        answer
-    }
-
-    // Sleeps at the operation's place until it is done, and takes its answer.
-    fn collect<R: Wait>(&self, rt: &R, operation: OpId) -> Result<Answer, Status>
-        ensures { IfErr result (λ status. status ≡ Status.WrongStep) }
-    {
-        let changed = &self.waiting.place(operation).changed;
-        let mut locked = changed.wait_while(
-            rt,
-            self.locked(rt),
-            |locked| locked.must_wait(operation),
-        );
-        locked.collect(operation)
     }
 
     /// Gives out the hand of a worker whose hand is in. It holds nothing. Refused with 29 if all 48 are out.

@@ -86,6 +86,16 @@ impl<F: Drop, L: Ledger> Manager<F, L> {
         self.read(rt, |state| state.in_flight(instance))
     }
 
+    /// Whether a preoperation or a postoperation of an instance runs in some worker, which may still answer that the instance holds its operation.
+    pub fn may_hold<R: Wait>(&self, rt: &R, instance: InstanceId) -> bool {
+        self.read(rt, |state| state.may_hold(instance))
+    }
+
+    /// The context at that place among those that a worker's last callback left behind, if it left so many.
+    pub fn left_at<R: Wait>(&self, rt: &R, worker: WorkerId, place: usize) -> Option<CtxId> {
+        self.read(rt, |state| state.left(worker).get(place).copied())
+    }
+
     /// How many references a worker holds.
     pub fn hand_len<R: Wait>(&self, rt: &R, worker: WorkerId) -> usize {
         self.read(rt, |state| state.hand_len(worker))

@@ -1,6 +1,6 @@
 //! An operation's next turn, with all that a worker has to know for it: one event, and what can be read at the same moment.
 
-ghost use Rattle.std.specs.Prelude.{◌≡◌, Err, None, MatchResult, option_and_then};
+ghost use Rattle.std.specs.Prelude.{◌≡◌, Err, None, MatchResult, length, nat_lt};
 ghost use Rattle.fm_world.specs.Events.{Nexts, sync_worker};
 ghost use Rattle.fm_world.specs.Hands.{given_by_next};
 ghost use Rattle.fm_world.specs.StepHands.{More};
@@ -24,6 +24,8 @@ pub struct Turn<T: Copy> {
     pub filter: Option<T>,
     /// Where the operation is refused: the worker that alone would be given its next postoperation, if there is one.
     pub bound_to: Option<WorkerId>,
+    /// Whether a context is due for its cleanup.
+    pub has_due: bool,
 }
 
 // The instance whose callback an action is.
@@ -69,13 +71,14 @@ impl<L: Ledger> Locked<L> {
         }
     }
 
-    /// What the hand's worker has to do next for an operation, as `next`; and at the same moment the place of the filter whose callback that is, and where it
-    /// is refused, whose turn the operation is.
+    /// What the hand's worker has to do next for an operation, as `next`; and at the same moment the place of the filter whose callback that is, whether
+    /// a context is due, and where the operation is refused, whose turn it is.
     pub fn turn(&mut self, hand: &mut Hand<L>, operation: OpId) -> Turn<usize>
         ensures event { EventOr (Err Status.WrongStep) (λ worker before r after. Nexts before worker operation r after) self.old hand.old result.action self.new hand.new }
         ensures held { Holding (More result.action given_by_next) hand.old hand.new }
         ensures filter { result.filter ≡ place_called_by self.new result.action }
         ensures bound { MatchResult result.action (λ _. result.bound_to ≡ None) (λ _. result.bound_to ≡ sync_worker self.new.world operation) }
+        ensures due { result.has_due ≡ nat_lt 0 (length self.new.world.contexts.due) }
     {
         let action = self.next(hand, operation);
         let filter = self.place_called_by(&action);
@@ -84,14 +87,15 @@ impl<L: Ledger> Locked<L> {
             action,
             filter,
             bound_to,
+            has_due: self.state.has_due(),
         }
     }
 }
 
 impl<F: Drop, L: Ledger> Manager<F, L> {
-    /// What the hand's worker has to do next for an operation, as `next`; and at the same moment the filter whose callback that is, and where it is refused,
-    /// whose turn the operation is: so a worker that has to call that filter, to leave the operation or to give it to another knows no more and no less than
-    /// the answer. Who waits for the operation is told if it is done.
+    /// What the hand's worker has to do next for an operation, as `next`; and at the same moment the filter whose callback that is, whether a context is
+    /// due, and where the operation is refused, whose turn it is: so a worker that has to call that filter, to leave the operation or to give it to another knows no more and no less than
+    /// the answer. Who waits for the operation is told if it is done, or is the turn of one that waits.
     pub fn turn<R: Wait>(&self, rt: &R, hand: &mut Hand<L>, operation: OpId) -> Turn<&F>
         ensures held { Holding (More result.action given_by_next) hand.old hand.new }
         ensures filter { called_by result.action ≡ None → result.filter ≡ None }
@@ -99,11 +103,14 @@ impl<F: Drop, L: Ledger> Manager<F, L> {
         let turn = self.locked(rt).turn(hand, operation);
         if is_done(&turn.action) {
             self.waiting.tell(operation);
+        } else if turn.bound_to.is_some() {
+            self.waiting.wake(operation);
         }
         Turn {
             filter: self.filter_at(turn.filter),
             action: turn.action,
             bound_to: turn.bound_to,
+            has_due: turn.has_due,
         }
     }
 }

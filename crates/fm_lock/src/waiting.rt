@@ -2,7 +2,7 @@
 
 ghost use Rattle.std.specs.Prelude.{◌<◌};
 
-use fm_types::OpId;
+use fm_types::{OpId, WorkerId};
 use std::array;
 use std::sync::Condvar;
 use std::sync::atomic::{AtomicU64, Ordering};
@@ -55,6 +55,13 @@ pub(crate) struct Waiting {
     clients: AtomicU64,
     // How many clients more sleep at once.
     skips: AtomicU64,
+    // Which workers take jobs, a bit for each.
+    workers: AtomicU64,
+}
+
+// The bit of a worker.
+fn bit_of(worker: WorkerId) -> u64 {
+    1_u64.checked_shl(u32::from(worker.0)).unwrap_or(0)
 }
 
 fn place_of(operation: OpId) -> usize
@@ -69,6 +76,7 @@ impl Waiting {
             places: array::from_fn(|_| Place::new()),
             clients: AtomicU64::new(0),
             skips: AtomicU64::new(0),
+            workers: AtomicU64::new(0),
         }
     }
 
@@ -79,9 +87,15 @@ impl Waiting {
 
     /// Tells the clients at an operation's place that it is done.
     pub(crate) fn tell(&self, operation: OpId) {
-        let place = self.place(operation);
-        place.told.store(operation.0, Ordering::SeqCst);
-        place.changed.notify_all();
+        self.place(operation)
+            .told
+            .store(operation.0, Ordering::SeqCst);
+        self.wake(operation);
+    }
+
+    /// Has the clients at an operation's place look again: it may be the turn of one of them.
+    pub(crate) fn wake(&self, operation: OpId) {
+        self.place(operation).changed.notify_all();
     }
 
     /// A client begins to wait for an operation. One that waits alone first looks a short while: its answer may come before it could fall asleep. Where
@@ -101,6 +115,21 @@ impl Waiting {
     /// It has waited.
     pub(crate) fn leave(&self) {
         self.clients.fetch_sub(1, Ordering::SeqCst);
+    }
+
+    /// From now on that worker takes jobs.
+    pub(crate) fn takes_jobs(&self, worker: WorkerId) {
+        self.workers.fetch_or(bit_of(worker), Ordering::SeqCst);
+    }
+
+    /// It takes none any more.
+    pub(crate) fn leaves_jobs(&self, worker: WorkerId) {
+        self.workers.fetch_and(!bit_of(worker), Ordering::SeqCst);
+    }
+
+    /// Whether it does.
+    pub(crate) fn is_taking_jobs(&self, worker: WorkerId) -> bool {
+        self.workers.load(Ordering::SeqCst) & bit_of(worker) != 0
     }
 
     /// A pause of some microseconds. `spin_loop` does nothing here, and a loop that looks at nothing would be left out.

@@ -18,10 +18,15 @@ pub struct Bench<'a, F: Drop, L: Ledger, R: Wait, D: Device> {
     pub(crate) pass: JobPass,
     pub(crate) devices: D,
     pub(crate) aside: Room,
+    // Whether it is a worker's.
+    pub(crate) takes_jobs: bool,
+    // Operations that went no further here and may become this thread's turn alone. A worker has none: such come to it as jobs.
+    pub(crate) bound: Room,
 }
 
 impl<'a, F: Drop, L: Ledger, R: Wait, D: Device> Bench<'a, F, L, R, D> {
-    /// A thread's bench at a manager: with its hand, its pass, its devices, a room for what its callbacks resume, and one for jobs that are set aside.
+    /// A thread's bench at a manager: with its hand, its pass, its devices, a room for what its callbacks resume, one for jobs that are set aside, and one
+    /// for operations that may become its turn alone.
     pub fn new(
         rt: &'a R,
         manager: &'a Manager<F, L>,
@@ -30,6 +35,7 @@ impl<'a, F: Drop, L: Ledger, R: Wait, D: Device> Bench<'a, F, L, R, D> {
         devices: D,
         room: Room,
         aside: Room,
+        bound: Room,
     ) -> Bench<'a, F, L, R, D>
         ensures hand { result.grip.hand ≡ hand }
         ensures room { result.grip.room ≡ room }
@@ -47,6 +53,8 @@ impl<'a, F: Drop, L: Ledger, R: Wait, D: Device> Bench<'a, F, L, R, D> {
             pass,
             devices,
             aside,
+            takes_jobs: false,
+            bound,
         }
     }
 
@@ -60,7 +68,7 @@ impl<'a, F: Drop, L: Ledger, R: Wait, D: Device> Bench<'a, F, L, R, D> {
             grip,
             pass,
             devices,
-            aside: _,
+            ..
         } = self;
         let Grip { hand, .. } = grip;
         (hand, pass, devices)

@@ -37,17 +37,17 @@ impl<'a, F: Minifilter, L: Ledger, R: Wait, G: Gate> Shop<'a, F, L, R, G> {
         }
     }
 
-    /// Calls the preoperation of an instance.
+    /// Calls a filter's preoperation.
     pub(crate) fn pre<D: Device>(
         &self,
         bench: &mut Bench<'a, F, L, R, D>,
-        instance: InstanceId,
+        filter: Option<&F>,
         mut lent: CallbackData,
     )
         requires own { IsPassOf self.now.queue.now bench.old.pass }
         ensures free { IsFree self.now.queue.now bench.new.grip.hand.held bench.new.pass }
     {
-        let verdict = ask_pre(self.filter_of(instance), &mut lent, &mut bench.grip);
+        let verdict = ask_pre(filter, &mut lent, &mut bench.grip);
         let hand = &mut bench.grip.hand;
         if self
             .manager
@@ -58,37 +58,32 @@ impl<'a, F: Minifilter, L: Ledger, R: Wait, G: Gate> Shop<'a, F, L, R, G> {
         }
     }
 
-    /// Calls the postoperation of an instance.
+    /// Calls a filter's postoperation.
     pub(crate) fn post<D: Device>(
         &self,
         bench: &mut Bench<'a, F, L, R, D>,
-        instance: InstanceId,
+        filter: Option<&F>,
         mut lent: CallbackData,
         completion: Completion,
     )
         requires own { IsPassOf self.now.queue.now bench.old.pass }
         ensures free { IsFree self.now.queue.now bench.new.grip.hand.held bench.new.pass }
     {
-        let verdict = ask_post(
-            self.filter_of(instance),
-            &mut lent,
-            completion,
-            &mut bench.grip,
-        );
+        let verdict = ask_post(filter, &mut lent, completion, &mut bench.grip);
         self.end_post(bench, verdict, Some(lent));
     }
 
-    /// Has an instance let go of what its completion names, in the place of its postoperation.
+    /// Has a filter let go of what its completion names, in the place of its postoperation.
     pub(crate) fn drain<D: Device>(
         &self,
         bench: &mut Bench<'a, F, L, R, D>,
-        instance: InstanceId,
+        filter: Option<&F>,
         completion: Completion,
     )
         requires own { IsPassOf self.now.queue.now bench.old.pass }
         ensures free { IsFree self.now.queue.now bench.new.grip.hand.held bench.new.pass }
     {
-        let_go(self.filter_of(instance), completion, &mut bench.grip);
+        let_go(filter, completion, &mut bench.grip);
         self.end_post(bench, PostVerdict::Finished, None);
     }
 

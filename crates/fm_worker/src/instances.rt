@@ -35,7 +35,7 @@ impl<'a, F: Minifilter, L: Ledger, R: Wait, G: Gate> Shop<'a, F, L, R, G> {
             .manager
             .attach(self.rt, hand, filter, volume, name, altitude)?;
         let accepted = self.setup(bench, instance);
-        self.settle(bench);
+        self.settle(bench, true);
         match accepted {
             Ok(()) => Ok(instance),
             Err(status) => {
@@ -77,7 +77,7 @@ impl<'a, F: Minifilter, L: Ledger, R: Wait, G: Gate> Shop<'a, F, L, R, G> {
         self.manager
             .ask_detach(self.rt, &mut bench.grip.hand, instance)?;
         let allowed = self.query(bench, instance);
-        self.settle(bench);
+        self.settle(bench, true);
         allowed
     }
 

@@ -56,6 +56,25 @@ impl<'a, F: Minifilter, L: Ledger, R: Wait, G: Gate> Shop<'a, F, L, R, G> {
 }
 
 impl<'a, F: Minifilter, L: Ledger, R: Wait, G: Gate> Shop<'a, F, L, R, G> {
+    // Waits for the answer of an operation. What of it is this thread's turn alone is done here.
+    fn wait<D: Device>(
+        &self,
+        bench: &mut Bench<'a, F, L, R, D>,
+        operation: OpId,
+    ) -> Result<Answer, Status>
+        requires free { IsFree self.now.queue.now bench.old.grip.hand.held bench.old.pass }
+        ensures free { IsFree self.now.queue.now bench.new.grip.hand.held bench.new.pass }
+    {
+        'turns: for _ in self.rt.forever() {
+            match self.manager.wait_turn(self.rt, &bench.grip.hand, operation) {
+                Ok(Some(answer)) => return Ok(answer),
+                Ok(None) => self.carry_here(bench, operation),
+                Err(status) => return Err(status),
+            }
+        }
+        unreachable!()
+    }
+
     // Puts all jobs that were set aside in the queue, as soon as there is room.
     fn put_all_aside<D: Device>(&self, bench: &mut Bench<'a, F, L, R, D>)
         requires free { IsFree self.now.queue.now bench.old.grip.hand.held bench.old.pass }
@@ -88,6 +107,7 @@ impl<'a, F: Minifilter, L: Ledger, R: Wait, G: Gate, D: Device> Post<'a, F, L, R
     {
         let room = Room::new(alloc)?;
         let aside = Room::new(alloc)?;
+        let bound = Room::new(alloc)?;
         let Some(pass) = take_pass(queue, passes) else {
             return Err(Status::TooMany);
         };
@@ -99,7 +119,7 @@ impl<'a, F: Minifilter, L: Ledger, R: Wait, G: Gate, D: Device> Post<'a, F, L, R
                 queue,
                 gate,
             },
-            bench: Bench::new(rt, manager, hand, pass, devices, room, aside),
+            bench: Bench::new(rt, manager, hand, pass, devices, room, aside, bound),
         })
     }
 
@@ -110,8 +130,9 @@ impl<'a, F: Minifilter, L: Ledger, R: Wait, G: Gate, D: Device> Post<'a, F, L, R
 
     /// Hands out the hand and the devices.
     pub fn into_parts(self) -> (Hand<L>, D) {
-        let Post { shop: _, bench } = self;
+        let Post { shop, bench } = self;
         let (hand, _pass, devices) = bench.into_parts();
+        shop.manager.leaves_jobs(&hand);
         (hand, devices)
     }
 
@@ -119,7 +140,7 @@ impl<'a, F: Minifilter, L: Ledger, R: Wait, G: Gate, D: Device> Post<'a, F, L, R
     pub fn answer(&mut self, request: Request) -> Result<Answer, Status> {
         let operation = self.shop.manager.begin(self.shop.rt, request)?;
         self.run(operation);
-        self.shop.manager.wait_reply(self.shop.rt, operation)
+        self.shop.wait(&mut self.bench, operation)
     }
 
     /// Has an operation that was begun carried on (`Shop::run_by`).
@@ -132,13 +153,15 @@ impl<'a, F: Minifilter, L: Ledger, R: Wait, G: Gate, D: Device> Post<'a, F, L, R
         self.shop.stop_worker(&mut self.bench);
     }
 
-    /// Puts jobs that were set aside in the queue, as many as it has room for (`Shop::put_aside`).
+    /// Puts jobs that were set aside in the queue, as many as it has room for (`Shop::put_aside`), after what became this thread's turn alone is carried on.
     pub fn put_aside(&mut self) {
+        self.shop.carry_bound(&mut self.bench);
         self.shop.put_aside(&mut self.bench);
     }
 
     /// Puts all of them in the queue: while it is full this waits for room. Whoever leaves a post to others calls it, so that no operation waits there.
     pub fn put_all_aside(&mut self) {
+        self.shop.carry_bound(&mut self.bench);
         self.shop.put_all_aside(&mut self.bench);
     }
 

@@ -47,6 +47,13 @@ impl Room {
         }
     }
 
+    /// How many operations are there.
+    pub fn len(&self) -> usize
+        ensures { result ≡ length self.now }
+    {
+        self.numbers.len()
+    }
+
     /// Whether an operation is there.
     pub fn has(&self, operation: OpId) -> bool
         ensures { result ≡ list_any (is_number operation) self.now }

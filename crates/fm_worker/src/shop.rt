@@ -40,8 +40,7 @@ impl<'a, F: Minifilter, L: Ledger, R: Wait, G: Gate> Shop<'a, F, L, R, G> {
 
     // The filter of an instance.
     pub(crate) fn filter_of(&self, instance: InstanceId) -> Option<&F> {
-        let filter = self.manager.filter_of(self.rt, instance)?;
-        self.manager.filter(self.rt, filter)
+        self.manager.filter_of_instance(self.rt, instance)
     }
 
     // Waits for ever: what came here has no answer that could be.

@@ -40,10 +40,26 @@ impl<'a, F: Minifilter, L: Ledger, R: Wait, G: Gate> Shop<'a, F, L, R, G> {
         ensures free { IsFree self.now.queue.now bench.new.grip.hand.held bench.new.pass }
         ensures settled { bench.new.grip.room ≡ [] }
     {
+        if let Some(number) = self.may_be_held(instance) {
+            self.settle(bench, true);
+            return Err(Status::Busy(number));
+        }
         self.begin_teardown(bench, instance);
         self.end_teardown(bench, instance)?;
         self.clean_up(bench);
         self.manager.finish(self.rt, instance)
+    }
+
+    // How many operations are in flight at an instance, if a callback of it runs that may still hold one. The start of a teardown has the filter let go of
+    // what it holds, so what it held after that nobody would let go. No such callback begins any more at an instance that is stopping.
+    fn may_be_held(&self, instance: InstanceId) -> Option<u64> {
+        self.manager.read(self.rt, |state| {
+            if state.may_hold(instance) {
+                Some(state.in_flight(instance))
+            } else {
+                None
+            }
+        })
     }
 
     /// The start of an instance's teardown, unless it was made before, and then all that its callbacks resumed.
@@ -57,7 +73,7 @@ impl<'a, F: Minifilter, L: Ledger, R: Wait, G: Gate> Shop<'a, F, L, R, G> {
         ensures settled { bench.new.grip.room ≡ [] }
     {
         self.start_and_drain(bench, instance);
-        self.settle(bench);
+        self.settle(bench, true);
     }
 
     // The start alone: the filter is told, and lets go of all that it waits for. Nothing that this resumed is carried on yet.
@@ -124,7 +140,7 @@ impl<'a, F: Minifilter, L: Ledger, R: Wait, G: Gate> Shop<'a, F, L, R, G> {
         self.manager
             .complete_teardown(self.rt, &mut bench.grip.hand, instance)?;
         self.complete(bench, instance);
-        self.settle(bench);
+        self.settle(bench, true);
         Ok(())
     }
 }

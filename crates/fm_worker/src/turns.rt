@@ -17,38 +17,56 @@ use std::sync::Wait;
 use std::sync::ledger::Ledger;
 
 impl<'a, F: Minifilter, L: Ledger, R: Wait, G: Gate> Shop<'a, F, L, R, G> {
-    /// Carries an operation on, until it is done, a filter holds it, or another thread has it. After each turn what the turn resumed is handed on.
-    pub(crate) fn carry<D: Device>(&self, bench: &mut Bench<'a, F, L, R, D>, operation: OpId)
+    /// Carries an operation on, until it is done, a filter holds it, or another thread has it. After each turn what the turn resumed is handed on. True if a
+    /// context is due then.
+    pub(crate) fn carry<D: Device>(
+        &self,
+        bench: &mut Bench<'a, F, L, R, D>,
+        operation: OpId,
+    ) -> bool
         requires free { IsFree self.now.queue.now bench.old.grip.hand.held bench.old.pass }
         ensures free { IsFree self.now.queue.now bench.new.grip.hand.held bench.new.pass }
     {
         'turns: for _ in self.rt.forever() {
-            let goes_on = self.take_turn(bench, operation);
+            let ended = self.take_turn(bench, operation);
             self.hand_on(bench);
-            if !goes_on {
-                break 'turns;
+            if let Some(has_due) = ended {
+                return has_due;
             }
         }
+        unreachable!()
     }
 
-    // One turn of an operation; false where there is none.
-    fn take_turn<D: Device>(&self, bench: &mut Bench<'a, F, L, R, D>, operation: OpId) -> bool
+    // One turn of an operation. None if the operation can go on; and else whether a context is due.
+    fn take_turn<D: Device>(
+        &self,
+        bench: &mut Bench<'a, F, L, R, D>,
+        operation: OpId,
+    ) -> Option<bool>
         requires free { IsFree self.now.queue.now bench.old.grip.hand.held bench.old.pass }
         ensures free { IsFree self.now.queue.now bench.new.grip.hand.held bench.new.pass }
     {
-        match self.manager.next(self.rt, &mut bench.grip.hand, operation) {
-            Ok(action) => self.act(bench, action),
+        let turn = self.manager.turn(self.rt, &mut bench.grip.hand, operation);
+        let goes_on = match turn.action {
+            Ok(action) => self.act(bench, operation, turn.filter, action),
             Err(Status::WrongStep) => {
-                let turn = self.manager.sync_worker(self.rt, operation);
-                self.put_back(bench, operation, turn);
+                self.put_back(bench, operation, turn.bound_to);
+                self.note(bench, operation);
                 false
             }
             Err(_) => false,
-        }
+        };
+        if goes_on { None } else { Some(turn.has_due) }
     }
 
-    // Makes the callback or the call of an action. True if the operation can go on.
-    fn act<D: Device>(&self, bench: &mut Bench<'a, F, L, R, D>, action: FlowAction) -> bool
+    // Makes the callback, which is that filter's, or the call of an action. True if the operation can go on.
+    fn act<D: Device>(
+        &self,
+        bench: &mut Bench<'a, F, L, R, D>,
+        operation: OpId,
+        filter: Option<&F>,
+        action: FlowAction,
+    ) -> bool
         requires own { IsPassOf self.now.queue.now bench.old.pass }
         requires held { bench.old.grip.hand.held ≡ given_by_next action }
         ensures free { IsFree self.now.queue.now bench.new.grip.hand.held bench.new.pass }
@@ -57,14 +75,16 @@ impl<'a, F: Minifilter, L: Ledger, R: Wait, G: Gate> Shop<'a, F, L, R, G> {
             self.gate.before(bench.grip.hand.worker(), &action);
         }
         match action {
-            FlowAction::Pre(instance, lent) => self.pre(bench, instance, lent),
+            FlowAction::Pre(_, lent) => self.pre(bench, filter, lent),
             FlowAction::Base(call) => self.call(bench, call),
-            FlowAction::Post(instance, lent, completion) => {
-                self.post(bench, instance, lent, completion);
-            }
-            FlowAction::Drain(instance, completion) => self.drain(bench, instance, completion),
+            FlowAction::Post(_, lent, completion) => self.post(bench, filter, lent, completion),
+            FlowAction::Drain(_, completion) => self.drain(bench, filter, completion),
             FlowAction::Moved => {}
-            FlowAction::Held | FlowAction::Done => return false,
+            FlowAction::Held => {
+                self.note(bench, operation);
+                return false;
+            }
+            FlowAction::Done => return false,
         }
         true
     }

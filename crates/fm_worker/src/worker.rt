@@ -25,11 +25,12 @@ pub fn work<'a, F: Minifilter, L: Ledger, R: Wait, G: Gate, D: Device>(
     devices: D,
     room: Room,
     aside: Room,
+    bound: Room,
 ) -> (Hand<L>, JobPass, D)
     requires free { IsFree queue.now hand.held pass }
     ensures free { IsFree queue.now result.0.held result.1 }
 {
     let shop = Shop::new(rt, manager, queue, gate);
-    let bench = Bench::new(rt, manager, hand, pass, devices, room, aside);
+    let bench = Bench::new(rt, manager, hand, pass, devices, room, aside, bound);
     shop.work(bench)
 }

@@ -1,0 +1,94 @@
+//! What clients wait for: the answers of their operations, and turns that are theirs alone. And which threads are no clients, but take jobs.
+
+ghost use Rattle.std.specs.Prelude.{◌≡◌, IfErr};
+
+use crate::hand::Hand;
+use crate::manager::Manager;
+use fm_data::Answer;
+use fm_types::{OpId, Status, WorkerId};
+use std::sync::Wait;
+use std::sync::ledger::Ledger;
+
+impl<F: Drop, L: Ledger> Manager<F, L> {
+    /// Waits until an operation is done, and takes its answer. Refused with 30, if the operation isn't there or its answer was handed out. It waits for ever
+    /// for one that nobody carries on.
+    pub fn wait_reply<R: Wait>(&self, rt: &R, operation: OpId) -> Result<Answer, Status>
+        ensures { IfErr result (λ status. status ≡ Status.WrongStep) }
+    {
+        self.waiting.enter(operation);
+        let answer = self.collect(rt, operation);
+        self.waiting.leave();
+        answer
+    }
+
+    // Sleeps at the operation's place until it is done, and takes its answer.
+    fn collect<R: Wait>(&self, rt: &R, operation: OpId) -> Result<Answer, Status>
+        ensures { IfErr result (λ status. status ≡ Status.WrongStep) }
+    {
+        let changed = &self.waiting.place(operation).changed;
+        let mut locked = changed.wait_while(
+            rt,
+            self.locked(rt),
+            |locked| locked.must_wait(operation),
+        );
+        locked.collect(operation)
+    }
+
+    /// Waits until an operation is done, and takes its answer, or until its next postoperation is the hand's worker's alone: None then, and it has to be
+    /// carried on by that hand. Refused as `wait_reply`.
+    pub fn wait_turn<R: Wait>(
+        &self,
+        rt: &R,
+        hand: &Hand<L>,
+        operation: OpId,
+    ) -> Result<Option<Answer>, Status>
+        ensures { IfErr result (λ status. status ≡ Status.WrongStep) }
+    {
+        self.waiting.enter(operation);
+        let answer = self.collect_unless_turn(rt, hand.worker(), operation);
+        self.waiting.leave();
+        answer
+    }
+
+    // The same, asleep.
+    fn collect_unless_turn<R: Wait>(
+        &self,
+        rt: &R,
+        worker: WorkerId,
+        operation: OpId,
+    ) -> Result<Option<Answer>, Status>
+        ensures { IfErr result (λ status. status ≡ Status.WrongStep) }
+    {
+        let changed = &self.waiting.place(operation).changed;
+        let mut locked = changed.wait_while(rt, self.locked(rt), |locked| {
+            locked.must_wait(operation) && !locked.is_turn_of(worker, operation)
+        });
+        if locked.must_wait(operation) {
+            return Ok(None);
+        }
+        match locked.collect(operation) {
+            Ok(answer) => Ok(Some(answer)),
+            Err(status) => Err(status),
+        }
+    }
+
+    /// Whether an operation's next postoperation is the hand's worker's alone.
+    pub fn is_turn_of<R: Wait>(&self, rt: &R, hand: &Hand<L>, operation: OpId) -> bool {
+        self.locked(rt).is_turn_of(hand.worker(), operation)
+    }
+
+    /// Notes that the hand's worker takes jobs: an operation that is its turn alone may be left to it as a job.
+    pub fn takes_jobs(&self, hand: &Hand<L>) {
+        self.waiting.takes_jobs(hand.worker());
+    }
+
+    /// Notes that it takes none any more.
+    pub fn leaves_jobs(&self, hand: &Hand<L>) {
+        self.waiting.leaves_jobs(hand.worker());
+    }
+
+    /// Whether a worker takes jobs. If not, it is a client's, and looks itself for what is its turn alone.
+    pub fn is_taking_jobs(&self, worker: WorkerId) -> bool {
+        self.waiting.is_taking_jobs(worker)
+    }
+}

@@ -51,7 +51,7 @@ unload_of (Some (place.Unload f)) = Some f
 unload_of _ = None
 
 -- whether a worker in that place may still say that the instance holds an operation
-pub may_hold : InstanceId → Place → Bool
+abbrev pub may_hold : InstanceId → Place → Bool
 may_hold i (place.Pre o j) = j.0 == i.0
 may_hold i (place.Post o j) = j.0 == i.0
 may_hold i _ = false

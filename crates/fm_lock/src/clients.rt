@@ -6,8 +6,20 @@ use crate::hand::Hand;
 use crate::manager::Manager;
 use fm_data::Answer;
 use fm_types::{OpId, Status, WorkerId};
-use std::sync::Wait;
 use std::sync::ledger::Ledger;
+use std::sync::{CondvarTimeouts, Wait};
+use std::time::{Clock, Duration};
+
+/// What a client's wait of limited time came to.
+#[derive(Drop)]
+pub enum Waited {
+    /// The operation was done: this is its answer.
+    Answer(Answer),
+    /// Its next postoperation is the client's alone: its own hand has to carry it on.
+    Turn,
+    /// The time is over, and neither came.
+    Late,
+}
 
 impl<F: Drop, L: Ledger> Manager<F, L> {
     /// Waits until an operation is done, and takes its answer. Refused with 30, if the operation isn't there or its answer was handed out. It waits for ever
@@ -68,6 +80,52 @@ impl<F: Drop, L: Ledger> Manager<F, L> {
         }
         match locked.collect(operation) {
             Ok(answer) => Ok(Some(answer)),
+            Err(status) => Err(status),
+        }
+    }
+
+    /// The same, but no longer than that time: who waits can look meanwhile whether anybody still wants the answer.
+    pub fn wait_turn_for<R: Wait + Clock>(
+        &self,
+        rt: &R,
+        hand: &Hand<L>,
+        operation: OpId,
+        time: Duration,
+    ) -> Result<Waited, Status>
+        ensures { IfErr result (λ status. status ≡ Status.WrongStep) }
+    {
+        self.waiting.enter(operation);
+        let waited = self.collect_within(rt, hand.worker(), operation, time);
+        self.waiting.leave();
+        waited
+    }
+
+    // The same, asleep.
+    fn collect_within<R: Wait + Clock>(
+        &self,
+        rt: &R,
+        worker: WorkerId,
+        operation: OpId,
+        time: Duration,
+    ) -> Result<Waited, Status>
+        ensures { IfErr result (λ status. status ≡ Status.WrongStep) }
+    {
+        let changed = &self.waiting.place(operation).changed;
+        let (mut locked, waited) = changed.wait_timeout_while(
+            rt,
+            self.locked(rt),
+            time,
+            |locked| { locked.must_wait(operation) && !locked.is_turn_of(worker, operation) },
+        );
+        if locked.must_wait(operation) {
+            return Ok(if waited.timed_out() {
+                Waited::Late
+            } else {
+                Waited::Turn
+            });
+        }
+        match locked.collect(operation) {
+            Ok(answer) => Ok(Waited::Answer(answer)),
             Err(status) => Err(status),
         }
     }

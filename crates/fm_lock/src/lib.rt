@@ -21,6 +21,7 @@ mod report;
 mod turn;
 mod waiting;
 
+pub use crate::clients::Waited;
 pub use crate::hand::Hand;
 pub use crate::locked::Locked;
 pub use crate::manager::Manager;

@@ -94,6 +94,13 @@ impl Decoder {
         self.held.is_empty()
     }
 
+    /// Whether the decoder met a frame fault, and takes nothing any more: the next piece would be refused with 32.
+    pub fn is_at_fault(&self) -> bool
+        ensures { IsTrue result ↔ (self.now ≡ None) }
+    {
+        self.is_broken
+    }
+
     /// Takes the next piece of the stream, and gives the frames that are whole now, in their order. A
     /// frame that says nothing is among them, as a refused one.
     ///

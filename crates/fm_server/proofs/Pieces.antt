@@ -2,11 +2,11 @@
 use Rattle.std.proofs.Common.{◌≡◌, ◌++◌, ◌∷◌, inl, inr, ℕ, List, [], Option, Some, None, Result, Ok, Err, refl, sym, ap, ◌∙◌, append_assoc, append-nil, arith, subst}
 use Rattle.fm_wire.specs.declared.frame.Frame.{Frame}
 use Rattle.fm_wire.specs.Stream.{Begins, Gives, IsFault, IsPartial, Keeps, Refuses, Splits}
-use Rattle.fm_wire.proofs.OneFrame.{one_reading, pieces}
+use Rattle.fm_wire.proofs.OneFrame.{pieces}
 use Rattle.fm_wire.proofs.Streams.{fault_is_long, out_of_range}
 use Rattle.fm_server.specs.Replies.{Answered}
 use Rattle.fm_server.specs.Serving.{AnswersAll, Serves, Until}
-use Rattle.fm_server.specs.Connections.{DoesAll, EndsPiece, Stands, Takes, TakesWhole, TellsFault}
+use Rattle.fm_server.specs.Connections.{DoesAll, EndsPiece, Stands, Takes, TakesWhole, TellsBehind, TellsFault}
 use Rattle.fm_server.specs.declared.serve_end.ServeEnd.{ServeEnd}
 use Rattle.fm_server.specs.declared.serve_end.ServeEnd.TheVariants.{BadFrame, WriteFault, NoMemory, Stopped}
 use Rattle.fm_server.proofs.Frames.{answered_more}
@@ -40,12 +40,6 @@ held_is (Some x) held rest keeps is = let same : x ≡ held = cc in (keeps.0, sy
 pub kept_is : (decoder : Option (List ℕ)) (rest : List ℕ) → Keeps decoder rest → IsPartial rest → decoder ≡ Some rest
 kept_is None rest keeps partial = absurd (partial_or_fault rest partial keeps)
 kept_is (Some x) rest keeps partial = ap (λ (t : List ℕ). Some t) keeps.1
-
--- less than a frame has no frames
-none_whole : (rest : List ℕ) (frames : List Frame) (other : List ℕ) → IsPartial rest → Splits (rest ++ []) frames other → frames ≡ []
-none_whole rest frames other partial splits =
-    let same : Splits rest frames other = rw (append-nil rest) at splits in
-    (one_reading rest frames [] other rest same (record { begins = refl; ends = inl partial })).0
 
 module _ {S : Type 0} (answers : S → Frame → Frame → S → Type 0) where
   until_more : (end : ServeEnd) (old mid new : S) (frames more : List Frame) (told output : List ℕ) → Answered answers old frames told mid
@@ -102,19 +96,16 @@ module _ {S : Type 0} (answers : S → Frame → Frame → S → Type 0) where
   -- a piece gave frames, and they were answered
   pub takes_frames : (r : Result (Unit {0}) ServeEnd) (first old new : S) (decoder after : Option (List ℕ)) (input told piece output : List ℕ) (frames : List Frame)
       → Stands answers first decoder input told old → Gives decoder piece frames after → DoesAll answers r old frames output new
-      → Takes answers r first after piece (input ++ piece) (told ++ output) new
+      → Takes answers r first after (input ++ piece) (told ++ output) new
   takes_frames (Ok _) first old new decoder after input told piece output frames s g d =
       let held = held_is decoder g.held s.rest s.keeps g.was in
-      let later : Splits (s.rest ++ piece) frames g.rest = subst (λ (t : List ℕ). Splits (t ++ piece) frames g.rest) held.1 g.splits in (
-        record {
-          frames = s.frames ++ frames;
-          rest = g.rest;
-          splits = pieces input piece s.frames frames s.rest g.rest s.splits later;
-          keeps = g.keeps;
-          answered = answered_more answers first old new s.frames frames told output s.answered d;
-        },
-        λ empty. g.told (none_whole s.rest frames g.rest held.0 (subst (λ (t : List ℕ). Splits (s.rest ++ t) frames g.rest) empty later)),
-      )
+      let later : Splits (s.rest ++ piece) frames g.rest = subst (λ (t : List ℕ). Splits (t ++ piece) frames g.rest) held.1 g.splits in record {
+        frames = s.frames ++ frames;
+        rest = g.rest;
+        splits = pieces input piece s.frames frames s.rest g.rest s.splits later;
+        keeps = g.keeps;
+        answered = answered_more answers first old new s.frames frames told output s.answered d;
+      }
   takes_frames (Err end) first old new decoder after input told piece output frames s g d =
       let held = held_is decoder g.held s.rest s.keeps g.was in
       let later : Splits (s.rest ++ piece) frames g.rest = subst (λ (t : List ℕ). Splits (t ++ piece) frames g.rest) held.1 g.splits in
@@ -166,10 +157,19 @@ module _ {S : Type 0} (answers : S → Frame → Frame → S → Type 0) where
     }),
   )
 
-  -- a piece, and then an empty one
+  -- a piece, and then the fault that stands behind it
   pub whole_more : (r : Result (Unit {0}) ServeEnd) (first new : S) (after : Option (List ℕ)) (input told output more : List ℕ)
-      → Takes answers r first after [] (input ++ []) ((told ++ output) ++ more) new → TakesWhole answers r first after input (told ++ (output ++ more)) new
-  whole_more (Ok _) first new after input told output more t =
-      let whole : TakesWhole answers (Ok tt) first after (input ++ []) ((told ++ output) ++ more) new = (t.0, t.1 refl) in
-      rw (append-nil input, append_assoc told output more) at whole
-  whole_more (Err end) first new after input told output more t = rw (append-nil input, append_assoc told output more) at t
+      → Stands answers first after input (told ++ output) new → TellsBehind r after more → TakesWhole answers r first after input (told ++ (output ++ more)) new
+  whole_more (Ok _) first new None input told output more s tells = absurd (tells.0 refl)
+  whole_more (Ok _) first new (Some held) input told output more s tells =
+      let whole : TakesWhole answers (Ok tt) first (Some held) input (told ++ output) new = (s, s.keeps.0) in
+      subst (λ (t : List ℕ). TakesWhole answers (Ok tt) first (Some held) input (told ++ t) new)
+      (sym (ap (λ (t : List ℕ). output ++ t) tells.1 ∙ append-nil output)) whole
+  whole_more (Err end) first new (Some held) input told output more s tells = absurd (some_is_not_none held tells.0)
+    where
+      some_is_not_none : (kept : List ℕ) → Some kept ≡ None → ⊥
+      some_is_not_none kept e = cc
+  whole_more (Err end) first new None input told output more s tells =
+      let ended : EndsPiece end × Serves answers end first (input ++ []) ((told ++ output) ++ more) new =
+      takes_fault end first new None input (told ++ output) [] more s tt tells.1 in
+      rw (append-nil input, append_assoc told output more) at ended

@@ -37,6 +37,11 @@ TellsFault WriteFault output = IsPrefix output fault_text
 TellsFault NoMemory output = output ≡ []
 TellsFault _ output = ⊥
 
+-- the fault that a decoder met was answered; nothing was sent if it met none
+abbrev pub TellsBehind : Result (Unit {0}) ServeEnd → Option (List ℕ) → List ℕ → Type 0
+TellsBehind (Ok _) decoder output = (decoder ≢ None) × (output ≡ [])
+TellsBehind (Err end) decoder output = (decoder ≡ None) × TellsFault end output
+
 -- serving may end so at a piece; the others are ends at a read
 abbrev pub EndsPiece : ServeEnd → Type 0
 EndsPiece BadFrame = Unit {0}
@@ -80,10 +85,10 @@ module _ {S : Type 0} (answers : S → Frame → Frame → S → Type 0) where
     pub keeps : Keeps decoder rest
     pub answered : Answered answers first frames output now
 
-  -- the connection stands after a piece, or serving ended. After an empty piece no fault is left untold.
-  abbrev pub Takes : Result (Unit {0}) ServeEnd → S → Option (List ℕ) → List ℕ → List ℕ → List ℕ → S → Type 0
-  Takes (Ok _) first decoder piece input output now = (stands : Stands first decoder input output now) × (piece ≡ [] → IsPartial stands.rest)
-  Takes (Err end) first decoder piece input output now = EndsPiece end × Serves answers end first input output now
+  -- the connection stands after a piece, or serving ended
+  abbrev pub Takes : Result (Unit {0}) ServeEnd → S → Option (List ℕ) → List ℕ → List ℕ → S → Type 0
+  Takes (Ok _) first decoder input output now = Stands first decoder input output now
+  Takes (Err end) first decoder input output now = EndsPiece end × Serves answers end first input output now
 
   -- the same, with less than a frame left
   abbrev pub TakesWhole : Result (Unit {0}) ServeEnd → S → Option (List ℕ) → List ℕ → List ℕ → S → Type 0

@@ -2,7 +2,7 @@
 
 ghost use Rattle.std.specs.Prelude.{◌≡◌, ◌<◌, ◌≤◌, ◌+◌, ◌-◌, ◌^◌, ◌++◌, ◌⊎◌, Option, List, ℕ, Err, IfOk, OnOk, length};
 ghost use Rattle.std.specs.Io.KnownBytes.{Appends};
-ghost use Rattle.fm_server.specs.Connections.{Goes, HandsOn, HandsOnAt, LastEnd, Stands, Takes, TakesWhole, Waits};
+ghost use Rattle.fm_server.specs.Connections.{Goes, HandsOn, HandsOnAt, LastEnd, Stands, Takes, TakesWhole, TellsBehind, Waits};
 ghost use Rattle.fm_server.specs.Serving.{Leaves};
 
 use crate::answering::do_all;
@@ -32,7 +32,7 @@ fn take_piece<W: Sink, E: Exec>(
 ) -> Result<(), ServeEnd>
     ensures takes { (first : E) (input before : List ℕ) → Stands E.answers first decoder.old input before exec.old →
         (output : List ℕ) × Appends (W.contents sink.old) (W.contents sink.new) output
-        × Takes E.answers result first decoder.new piece.now (input ++ piece.now) (before ++ output) exec.new }
+        × Takes E.answers result first decoder.new (input ++ piece.now) (before ++ output) exec.new }
     ensures handed { HandsOn result (W.handed_on sink.old) (W.handed_on sink.new) }
     ensures fault { result ≡ Err ServeEnd.WriteFault → W.failed sink.new }
     ensures never { result ≡ Err ServeEnd.ReadFault → ⊥ }
@@ -44,7 +44,21 @@ fn take_piece<W: Sink, E: Exec>(
     }
 }
 
-// Takes a piece, and then an empty one: by that a fault is told which stands after the frames of the piece.
+// Tells the fault that stands after the frames that came, if one does.
+fn tell_behind<W: Sink>(alloc: Global, decoder: &Decoder, sink: &mut W) -> Result<(), ServeEnd>
+    ensures tells { (output : List ℕ) × Appends (W.contents sink.old) (W.contents sink.new) output × TellsBehind result decoder.now output }
+    ensures handed { HandsOn result (W.handed_on sink.old) (W.handed_on sink.new) }
+    ensures fault { result ≡ Err ServeEnd.WriteFault → W.failed sink.new }
+    ensures never { result ≡ Err ServeEnd.ReadFault → ⊥ }
+{
+    if decoder.is_at_fault() {
+        Err(tell_fault(alloc, sink))
+    } else {
+        Ok(())
+    }
+}
+
+// Takes a piece, and tells the fault that stands after its frames, if one does.
 fn take_whole<W: Sink, E: Exec>(
     alloc: Global,
     decoder: &mut Decoder,
@@ -60,7 +74,7 @@ fn take_whole<W: Sink, E: Exec>(
     ensures never { result ≡ Err ServeEnd.ReadFault → ⊥ }
 {
     match take_piece(alloc, decoder, sink, exec, piece) {
-        Ok(()) => take_piece(alloc, decoder, sink, exec, &[]),
+        Ok(()) => tell_behind(alloc, decoder, sink),
         Err(end) => Err(end),
     }
 }

@@ -6,9 +6,9 @@ use Rattle.fm_server.proofs.connection.take_whole.Goals as goal
 pub returns-in-Ok-clause-takes : goal.returns-in-Ok-clause-takes
 returns-in-Ok-clause-takes g c first input before stands =
     let one = c.in-Ok.ensures.takes first input before stands in
-    let two = c.take_piece-in-Ok.ensures.takes first (input ++ c.args.piece.now) (before ++ one.0) one.2.0 in (
+    let two = c.tell_behind.ensures.tells in (
       one.0 ++ two.0,
       appends_more _ _ _ one.0 two.0 one.1 two.1,
-      whole_more g.E.Exec.answers c.take_piece-in-Ok.result first c.take_piece-in-Ok.new.exec c.take_piece-in-Ok.new.decoder (input ++ c.args.piece.now) before one.0
-          two.0 two.2,
+      whole_more g.E.Exec.answers c.tell_behind.result first c.take_piece.new.exec c.take_piece.new.decoder (input ++ c.args.piece.now) before one.0
+          two.0 one.2 two.2,
     )

@@ -15,7 +15,7 @@ use fm_queue::{JobPass, JobQueue};
 use fm_samples::Meter;
 use fm_types::limits::PARTS;
 use fm_types::{CreateMode, HandleId, Name, OpId, RelPath, SharedPath, Status, VolumeId};
-use fm_worker::{OpenGate, Post};
+use fm_worker::{OpenGate, Worker};
 use std::alloc::Global;
 use std::marker::Brand;
 use std::sync::Wait;
@@ -34,7 +34,7 @@ const BATCH: u64 = 128;
 const ROUNDS: u64 = 10_000;
 
 /// A client's or a worker's post.
-type Crew<'a, F, L, R> = Post<'a, F, L, R, OpenGate, Bases<MemoryBase>>;
+type Crew<'a, F, L, R> = Worker<'a, F, L, R, OpenGate, Bases<MemoryBase>>;
 
 fn folder(alloc: Global) -> Result<Bases<MemoryBase>, Status> {
     let mut bases = Bases::new(alloc)?;
@@ -58,7 +58,7 @@ fn read_batch<F: Minifilter, L: Ledger, R: Wait>(
                 request: FileRequest::Read { offset: 0, len: 0 },
             },
         )?;
-        client.run(operation);
+        client.submit(operation);
         begun.push(operation)?;
     }
     for operation in begun {
@@ -123,7 +123,7 @@ fn crew<'a, F: Minifilter, L: Ledger, R: Wait>(
     requires { All (λ pass. IsPassOf queue.now pass) passes.old.items }
     ensures { All (λ pass. IsPassOf queue.now pass) passes.new.items }
 {
-    Post::new(rt, manager, queue, gate, alloc, passes, folder(alloc)?)
+    Worker::new(rt, manager, queue, gate, alloc, passes, folder(alloc)?)
 }
 
 /// The posts of a client and of four workers.

@@ -7,12 +7,12 @@ use fm_device::Device;
 use fm_rundown::{GateSeat, RundownGate};
 use fm_samples::Sample;
 use fm_types::{HandleId, Status};
-use fm_worker::{OpenGate, Post};
+use fm_worker::{OpenGate, Worker};
 use std::sync::Wait;
 use std::sync::ledger::Ledger;
 
 /// A thread's post at the server's manager.
-pub(crate) type Crew<'a, L, R, D> = Post<'a, Sample, L, R, OpenGate, D>;
+pub(crate) type Crew<'a, L, R, D> = Worker<'a, Sample, L, R, OpenGate, D>;
 
 /// A seat at the rundown gate of the volumes.
 #[derive(Drop)]

@@ -19,7 +19,7 @@ use fm_samples::Sample;
 use fm_types::limits::{CONNECTIONS, JOBS, WORKERS};
 use fm_types::{FilterId, Name, Status};
 use fm_words::Fault;
-use fm_worker::{OpenGate, Post};
+use fm_worker::{OpenGate, Worker};
 use std::alloc::{AllocError, Global};
 use std::io::Write;
 use std::net::{Net, TcpListener, TcpStream};
@@ -59,7 +59,7 @@ impl<'a, L: Ledger, R: Wait> Floor<'a, L, R> {
         requires { All (λ pass. IsPassOf self.now.queue.now pass) passes.old.items }
         ensures { All (λ pass. IsPassOf self.now.queue.now pass) passes.new.items }
     {
-        Post::new(
+        Worker::new(
             self.rt,
             self.manager,
             self.queue,

@@ -9,14 +9,14 @@ use Rattle.fm_queue.specs.Tallies.{after_put}
 use Rattle.fm_types.specs.declared.ids.OpId.{OpId}
 use Rattle.fm_worker.specs.Jobs.{HandsOn}
 
-pub hands_none : (puts : List Job) (room : List OpId) → HandsOn puts room puts room
-hands_none puts room = record { moved = []; taken = refl; put = sym (append-nil puts) }
+pub hands_none : (puts : List Job) (waiting : List OpId) → HandsOn puts waiting puts waiting
+hands_none puts waiting = record { moved = []; taken = refl; put = sym (append-nil puts) }
 
 -- the first of those that are left becomes a job too
-hands_more : (puts after : List Job) (room left : List OpId) (o : OpId) → HandsOn puts room after left → slice_get left 0 ≡ Some o
-    → HandsOn puts room (after ++ Run o ∷ []) (drop 1 left)
-hands_more puts after room [] o on first = absurd (none-some o first)
-hands_more puts after room (x ∷ left) o on first =
+hands_more : (puts after : List Job) (waiting left : List OpId) (o : OpId) → HandsOn puts waiting after left → slice_get left 0 ≡ Some o
+    → HandsOn puts waiting (after ++ Run o ∷ []) (drop 1 left)
+hands_more puts after waiting [] o on first = absurd (none-some o first)
+hands_more puts after waiting (x ∷ left) o on first =
     let moved = on.moved in
     let same : x ≡ o = same_Some x o first in
     record {
@@ -26,14 +26,14 @@ hands_more puts after room (x ∷ left) o on first =
           ∙ ap (λ (js : List Job). puts ++ js) (sym (map-append Run moved (o ∷ [])));
     }
 
--- the same of a pass that put it, and a room that it was taken from
-pub put_on : (puts : List Job) (room left now next : List OpId) (o : OpId) (found : Option OpId) (was is : Tally) (is_put : Bool)
-    → HandsOn puts room was.puts left → found ≡ slice_get left 0 → found ≡ Some o → is ≡ cond is_put (after_put was (Run o)) was → is_put ≡ true
-    → now ≡ left → next ≡ drop 1 now → HandsOn puts room is.puts next
-put_on puts room left now next o found was is is_put on first some put done same rest =
-    rw rest rw same rw put rw done (hands_more puts was.puts room left o on (sym first ∙ some))
+-- the same of a pass that put it, and of those that it was taken from
+pub put_on : (puts : List Job) (waiting left now next : List OpId) (o : OpId) (found : Option OpId) (was is : Tally) (is_put : Bool)
+    → HandsOn puts waiting was.puts left → found ≡ slice_get left 0 → found ≡ Some o → is ≡ cond is_put (after_put was (Run o)) was → is_put ≡ true
+    → now ≡ left → next ≡ drop 1 now → HandsOn puts waiting is.puts next
+put_on puts waiting left now next o found was is is_put on first some put done same rest =
+    rw rest rw same rw put rw done (hands_more puts was.puts waiting left o on (sym first ∙ some))
 
 -- if none is first, none is left
-pub none_left : (room : List OpId) → slice_get room 0 ≡ None → drop 1 room ≡ []
+pub none_left : (waiting : List OpId) → slice_get waiting 0 ≡ None → drop 1 waiting ≡ []
 none_left [] none = refl
-none_left (x ∷ room) none = absurd (none-some x (sym none))
+none_left (x ∷ waiting) none = absurd (none-some x (sym none))

@@ -1,11 +1,11 @@
--- What is put into a room and taken out of it leaves each number there once.
+-- What is put behind the operations that wait, and taken from them, leaves each number there once.
 use Rattle.std.proofs.Common.{◌≡◌, ◌++◌, ◌∷◌, [], Bool, false, List, refl, arith}
 use Rattle.std.specs.List.{list_any}
 use Rattle.std.proofs.lemmas.Bool.{or_parts}
 use Rattle.std.proofs.lemmas.List.Folds.{list_any-append}
 use Rattle.std.proofs.lemmas.Bool.Decides.{nat_tests}
 use Rattle.fm_types.specs.declared.ids.OpId.{OpId}
-use Rattle.fm_worker.specs.Rooms.{is_number, IsOnce}
+use Rattle.fm_worker.specs.OpQueues.{is_number, IsOnce}
 
 -- one number isn't the other, and so the other isn't the one
 unlike : (o other : OpId) → is_number o other ≡ false → is_number other o ≡ false

@@ -6,7 +6,7 @@ use Rattle.fm_queue.specs.declared.tally.Tally.{Tally}
 use Rattle.fm_queue.specs.Tallies.{after_put}
 use Rattle.fm_types.specs.declared.ids.OpId.{OpId}
 use Rattle.fm_types.specs.declared.ids.WorkerId.{WorkerId}
-use Rattle.fm_worker.specs.Rooms.{put_in}
+use Rattle.fm_worker.specs.OpQueues.{put_in}
 
 -- an operation is the turn of another worker
 abbrev pub is_for_another : WorkerId → Option WorkerId → Bool
@@ -17,12 +17,12 @@ is_for_another own (Some worker) = not (worker.0 == own.0)
 abbrev pub IsKept : OpId → Tally → List OpId → Tally → List OpId → Type 0
 IsKept o tally aside after left = ((after ≡ after_put tally (Run o)) × (left ≡ aside)) ⊎ ((after ≡ tally) × (left ≡ put_in o aside))
 
--- the first operations of a room became jobs, in their order, and the others wait on
-pub record HandsOn (puts : List Job) (room : List OpId) (after : List Job) (left : List OpId) : Type 0 where
+-- the first operations that waited became jobs, in their order, and the others wait on
+pub record HandsOn (puts : List Job) (waiting : List OpId) (after : List Job) (left : List OpId) : Type 0 where
   pub moved : List OpId
-  pub taken : room ≡ moved ++ left
+  pub taken : waiting ≡ moved ++ left
   pub put : after ≡ puts ++ map Run moved
 
 -- nothing that a callback resumed waits here, if nothing did before
 abbrev pub LeavesNone : List OpId → List OpId → Type 0
-LeavesNone room left = room ≡ [] → left ≡ []
+LeavesNone waiting left = waiting ≡ [] → left ≡ []

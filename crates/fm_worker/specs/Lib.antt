@@ -1,4 +1,4 @@
-pub mod Rooms
+pub mod OpQueues
 pub mod Ports
-pub mod Benches
+pub mod Between
 pub mod Jobs

@@ -2,11 +2,11 @@
 
 ghost use Rattle.std.specs.Prelude.{◌≡◌};
 ghost use Rattle.fm_queue.specs.Passes.{IsPassOf};
-ghost use Rattle.fm_worker.specs.Benches.{IsFree};
+ghost use Rattle.fm_worker.specs.Between.{IsFree};
 
-use crate::bench::Bench;
 use crate::gate::Gate;
-use crate::shop::Shop;
+use crate::own::Own;
+use crate::shared::Shared;
 use fm_data::{CallbackData, Completion, PostVerdict};
 use fm_device::Device;
 use fm_filter::{
@@ -16,23 +16,23 @@ use fm_types::{FilterId, InstanceId, Status};
 use std::sync::Wait;
 use std::sync::ledger::Ledger;
 
-// The thread is in the callback when it ends it, so that a 30 there can't be: the thread sticks then. Other refusals are passed on.
-impl<'a, F: Minifilter, L: Ledger, R: Wait, G: Gate> Shop<'a, F, L, R, G> {
+// The thread is in the callback when it ends it, so that a 30 there can't be: the thread waits for ever then. Other refusals are passed on.
+impl<'a, F: Minifilter, L: Ledger, R: Wait, G: Gate> Shared<'a, F, L, R, G> {
     /// Calls the setup callback of a new instance. Refused as the end of that callback is.
     pub(crate) fn setup<D: Device>(
         &self,
-        bench: &mut Bench<'a, F, L, R, D>,
+        own: &mut Own<'a, F, L, R, D>,
         instance: InstanceId,
     ) -> Result<(), Status>
-        requires own { IsPassOf self.now.queue.now bench.old.pass }
-        ensures free { IsFree self.now.queue.now bench.new.grip.hand.held bench.new.pass }
+        requires pass { IsPassOf self.now.queue.now own.old.pass }
+        ensures free { IsFree self.now.queue.now own.new.port.hand.held own.new.pass }
     {
-        let accepts = ask_setup(self.filter_of(instance), &mut bench.grip);
+        let accepts = ask_setup(self.filter_of(instance), &mut own.port);
         match self
             .manager
-            .setup_done(self.rt, &mut bench.grip.hand, accepts)
+            .setup_done(self.rt, &mut own.port.hand, accepts)
         {
-            Err(Status::WrongStep) => self.stick(),
+            Err(Status::WrongStep) => self.wait_forever(),
             ended => ended,
         }
     }
@@ -40,157 +40,153 @@ impl<'a, F: Minifilter, L: Ledger, R: Wait, G: Gate> Shop<'a, F, L, R, G> {
     /// Calls a filter's preoperation.
     pub(crate) fn pre<D: Device>(
         &self,
-        bench: &mut Bench<'a, F, L, R, D>,
+        own: &mut Own<'a, F, L, R, D>,
         filter: Option<&F>,
         mut lent: CallbackData,
     )
-        requires own { IsPassOf self.now.queue.now bench.old.pass }
-        ensures free { IsFree self.now.queue.now bench.new.grip.hand.held bench.new.pass }
+        requires pass { IsPassOf self.now.queue.now own.old.pass }
+        ensures free { IsFree self.now.queue.now own.new.port.hand.held own.new.pass }
     {
-        let verdict = ask_pre(filter, &mut lent, &mut bench.grip);
-        let hand = &mut bench.grip.hand;
+        let verdict = ask_pre(filter, &mut lent, &mut own.port);
+        let hand = &mut own.port.hand;
         if self
             .manager
             .pre_returned(self.rt, hand, verdict, lent)
             .is_err()
         {
-            self.stick();
+            self.wait_forever();
         }
     }
 
     /// Calls a filter's postoperation.
     pub(crate) fn post<D: Device>(
         &self,
-        bench: &mut Bench<'a, F, L, R, D>,
+        own: &mut Own<'a, F, L, R, D>,
         filter: Option<&F>,
         mut lent: CallbackData,
         completion: Completion,
     )
-        requires own { IsPassOf self.now.queue.now bench.old.pass }
-        ensures free { IsFree self.now.queue.now bench.new.grip.hand.held bench.new.pass }
+        requires pass { IsPassOf self.now.queue.now own.old.pass }
+        ensures free { IsFree self.now.queue.now own.new.port.hand.held own.new.pass }
     {
-        let verdict = ask_post(filter, &mut lent, completion, &mut bench.grip);
-        self.end_post(bench, verdict, Some(lent));
+        let verdict = ask_post(filter, &mut lent, completion, &mut own.port);
+        self.end_post(own, verdict, Some(lent));
     }
 
     /// Has a filter let go of what its completion names, in the place of its postoperation.
     pub(crate) fn drain<D: Device>(
         &self,
-        bench: &mut Bench<'a, F, L, R, D>,
+        own: &mut Own<'a, F, L, R, D>,
         filter: Option<&F>,
         completion: Completion,
     )
-        requires own { IsPassOf self.now.queue.now bench.old.pass }
-        ensures free { IsFree self.now.queue.now bench.new.grip.hand.held bench.new.pass }
+        requires pass { IsPassOf self.now.queue.now own.old.pass }
+        ensures free { IsFree self.now.queue.now own.new.port.hand.held own.new.pass }
     {
-        let_go(filter, completion, &mut bench.grip);
-        self.end_post(bench, PostVerdict::Finished, None);
+        let_go(filter, completion, &mut own.port);
+        self.end_post(own, PostVerdict::Finished, None);
     }
 
     // The end of a postoperation, or of a drain in its place.
     fn end_post<D: Device>(
         &self,
-        bench: &mut Bench<'a, F, L, R, D>,
+        own: &mut Own<'a, F, L, R, D>,
         verdict: PostVerdict,
         back: Option<CallbackData>,
     )
-        requires own { IsPassOf self.now.queue.now bench.old.pass }
-        ensures free { IsFree self.now.queue.now bench.new.grip.hand.held bench.new.pass }
+        requires pass { IsPassOf self.now.queue.now own.old.pass }
+        ensures free { IsFree self.now.queue.now own.new.port.hand.held own.new.pass }
     {
-        let hand = &mut bench.grip.hand;
+        let hand = &mut own.port.hand;
         if self
             .manager
             .post_returned(self.rt, hand, verdict, back)
             .is_err()
         {
-            self.stick();
+            self.wait_forever();
         }
     }
 
     /// Has an instance let go of what its completion names, before the operation has come to its postoperation.
     pub(crate) fn drain_early<D: Device>(
         &self,
-        bench: &mut Bench<'a, F, L, R, D>,
+        own: &mut Own<'a, F, L, R, D>,
         instance: InstanceId,
         completion: Completion,
     )
-        requires own { IsPassOf self.now.queue.now bench.old.pass }
-        ensures free { IsFree self.now.queue.now bench.new.grip.hand.held bench.new.pass }
-        ensures same { bench.new.pass ≡ bench.old.pass }
+        requires pass { IsPassOf self.now.queue.now own.old.pass }
+        ensures free { IsFree self.now.queue.now own.new.port.hand.held own.new.pass }
+        ensures same { own.new.pass ≡ own.old.pass }
     {
-        let_go(self.filter_of(instance), completion, &mut bench.grip);
+        let_go(self.filter_of(instance), completion, &mut own.port);
         if self
             .manager
-            .drain_done(self.rt, &mut bench.grip.hand)
+            .drain_done(self.rt, &mut own.port.hand)
             .is_err()
         {
-            self.stick();
+            self.wait_forever();
         }
     }
 
     /// Calls the query callback of an instance. Refused as the end of that callback is.
     pub(crate) fn query<D: Device>(
         &self,
-        bench: &mut Bench<'a, F, L, R, D>,
+        own: &mut Own<'a, F, L, R, D>,
         instance: InstanceId,
     ) -> Result<(), Status>
-        requires own { IsPassOf self.now.queue.now bench.old.pass }
-        ensures free { IsFree self.now.queue.now bench.new.grip.hand.held bench.new.pass }
+        requires pass { IsPassOf self.now.queue.now own.old.pass }
+        ensures free { IsFree self.now.queue.now own.new.port.hand.held own.new.pass }
     {
-        let allows = ask_query(self.filter_of(instance), &mut bench.grip);
+        let allows = ask_query(self.filter_of(instance), &mut own.port);
         match self
             .manager
-            .query_returned(self.rt, &mut bench.grip.hand, allows)
+            .query_returned(self.rt, &mut own.port.hand, allows)
         {
-            Err(Status::WrongStep) => self.stick(),
+            Err(Status::WrongStep) => self.wait_forever(),
             ended => ended,
         }
     }
 
     /// Calls the callback that says that an instance's teardown starts.
-    pub(crate) fn start<D: Device>(&self, bench: &mut Bench<'a, F, L, R, D>, instance: InstanceId)
-        requires own { IsPassOf self.now.queue.now bench.old.pass }
-        ensures free { IsFree self.now.queue.now bench.new.grip.hand.held bench.new.pass }
-        ensures same { bench.new.pass ≡ bench.old.pass }
+    pub(crate) fn start<D: Device>(&self, own: &mut Own<'a, F, L, R, D>, instance: InstanceId)
+        requires pass { IsPassOf self.now.queue.now own.old.pass }
+        ensures free { IsFree self.now.queue.now own.new.port.hand.held own.new.pass }
+        ensures same { own.new.pass ≡ own.old.pass }
     {
-        tell_start(self.filter_of(instance), &mut bench.grip);
+        tell_start(self.filter_of(instance), &mut own.port);
         if self
             .manager
-            .start_returned(self.rt, &mut bench.grip.hand)
+            .start_returned(self.rt, &mut own.port.hand)
             .is_err()
         {
-            self.stick();
+            self.wait_forever();
         }
     }
 
     /// Calls the callback that says that an instance's teardown is complete.
-    pub(crate) fn complete<D: Device>(
-        &self,
-        bench: &mut Bench<'a, F, L, R, D>,
-        instance: InstanceId,
-    )
-        requires own { IsPassOf self.now.queue.now bench.old.pass }
-        ensures free { IsFree self.now.queue.now bench.new.grip.hand.held bench.new.pass }
+    pub(crate) fn complete<D: Device>(&self, own: &mut Own<'a, F, L, R, D>, instance: InstanceId)
+        requires pass { IsPassOf self.now.queue.now own.old.pass }
+        ensures free { IsFree self.now.queue.now own.new.port.hand.held own.new.pass }
     {
-        tell_complete(self.filter_of(instance), &mut bench.grip);
+        tell_complete(self.filter_of(instance), &mut own.port);
         if self
             .manager
-            .complete_returned(self.rt, &mut bench.grip.hand)
+            .complete_returned(self.rt, &mut own.port.hand)
             .is_err()
         {
-            self.stick();
+            self.wait_forever();
         }
     }
 
     /// Calls the unload callback of a filter. Refused as the end of that callback is.
     pub(crate) fn unloading<D: Device>(
         &self,
-        bench: &mut Bench<'a, F, L, R, D>,
+        own: &mut Own<'a, F, L, R, D>,
         filter: FilterId,
     ) -> Result<(), Status>
-        requires free { IsFree self.now.queue.now bench.old.grip.hand.held bench.old.pass }
-        ensures free { IsFree self.now.queue.now bench.new.grip.hand.held bench.new.pass }
-        ensures kept { bench.new.grip.room ≡ bench.old.grip.room }
+        requires free { IsFree self.now.queue.now own.old.port.hand.held own.old.pass }
+        ensures free { IsFree self.now.queue.now own.new.port.hand.held own.new.pass }
+        ensures kept { own.new.port.resumed ≡ own.old.port.resumed }
     {
         let allows = match self.manager.filter(self.rt, filter) {
             Some(filter) => filter.unload(),
@@ -198,9 +194,9 @@ impl<'a, F: Minifilter, L: Ledger, R: Wait, G: Gate> Shop<'a, F, L, R, G> {
         };
         match self
             .manager
-            .unload_returned(self.rt, &mut bench.grip.hand, allows)
+            .unload_returned(self.rt, &mut own.port.hand, allows)
         {
-            Err(Status::WrongStep) => self.stick(),
+            Err(Status::WrongStep) => self.wait_forever(),
             ended => ended,
         }
     }

@@ -1,53 +1,17 @@
 //! Cleaning up contexts that nobody refers to any more.
 
 ghost use Rattle.std.specs.Prelude.{◌≡◌};
-ghost use Rattle.fm_worker.specs.Benches.{IsFree};
 
-use crate::bench::Bench;
 use crate::gate::Gate;
-use crate::shop::Shop;
+use crate::shared::Shared;
+use crate::worker::Worker;
 use fm_ctx::{Due, Owner};
 use fm_device::Device;
 use fm_filter::Minifilter;
 use std::sync::Wait;
 use std::sync::ledger::Ledger;
 
-impl<'a, F: Minifilter, L: Ledger, R: Wait, G: Gate> Shop<'a, F, L, R, G> {
-    /// Cleans up every context that is due.
-    pub(crate) fn clean_up<D: Device>(&self, bench: &mut Bench<'a, F, L, R, D>)
-        requires free { IsFree self.now.queue.now bench.old.grip.hand.held bench.old.pass }
-        ensures free { IsFree self.now.queue.now bench.new.grip.hand.held bench.new.pass }
-        ensures kept { bench.new.grip.room ≡ bench.old.grip.room }
-    {
-        'contexts: for _ in self.rt.forever() {
-            if !self.clean_next(bench) {
-                break 'contexts;
-            }
-        }
-    }
-
-    // Cleans up the context that is due longest; false if none is due.
-    fn clean_next<D: Device>(&self, bench: &mut Bench<'a, F, L, R, D>) -> bool
-        requires free { IsFree self.now.queue.now bench.old.grip.hand.held bench.old.pass }
-        ensures free { IsFree self.now.queue.now bench.new.grip.hand.held bench.new.pass }
-        ensures kept { bench.new.grip.room ≡ bench.old.grip.room }
-    {
-        match self.manager.take_due(self.rt, &mut bench.grip.hand) {
-            Ok(Some(due)) => {
-                let number = self.cleanup(&due);
-                if self
-                    .manager
-                    .cleaned(self.rt, &mut bench.grip.hand, number)
-                    .is_err()
-                {
-                    self.stick();
-                }
-                true
-            }
-            Ok(None) | Err(_) => false,
-        }
-    }
-
+impl<'a, F: Minifilter, L: Ledger, R: Wait, G: Gate> Shared<'a, F, L, R, G> {
     // The cleanup callback of a context's filter: what it returns for its total.
     fn cleanup(&self, due: &Due) -> u64 {
         let filter = match due.owner {
@@ -57,6 +21,38 @@ impl<'a, F: Minifilter, L: Ledger, R: Wait, G: Gate> Shop<'a, F, L, R, G> {
         match filter {
             Some(filter) => filter.cleanup(due.kind, due.body.as_slice()),
             None => 0,
+        }
+    }
+}
+
+impl<'a, F: Minifilter, L: Ledger, R: Wait, G: Gate, D: Device> Worker<'a, F, L, R, G, D> {
+    /// Cleans up every context that is due.
+    pub(crate) fn clean_up(&mut self)
+        ensures kept { self.new.own.port.resumed ≡ self.old.own.port.resumed }
+    {
+        let rt = self.shared.rt;
+        'contexts: for _ in rt.forever() {
+            if !self.clean_next() {
+                break 'contexts;
+            }
+        }
+    }
+
+    // Cleans up the context that is due longest; false if none is due.
+    fn clean_next(&mut self) -> bool
+        ensures kept { self.new.own.port.resumed ≡ self.old.own.port.resumed }
+    {
+        let shared = &self.shared;
+        let hand = &mut self.own.port.hand;
+        match shared.manager.take_due(shared.rt, hand) {
+            Ok(Some(due)) => {
+                let number = shared.cleanup(&due);
+                if shared.manager.cleaned(shared.rt, hand, number).is_err() {
+                    shared.wait_forever();
+                }
+                true
+            }
+            Ok(None) | Err(_) => false,
         }
     }
 }

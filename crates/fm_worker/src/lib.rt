@@ -1,28 +1,24 @@
 //! What threads do with the manager that they share: workers carry operations on, and connections attach, detach, unload and dismount.
 //!
-//! A thread owns a `Bench`: its hand, what its callbacks resumed, its pass of the queue and its bases. What all threads share is their `Shop`. No lock is held
-//! while a callback or a base call runs.
+//! A thread has a `Worker`: its hand, what its callbacks resumed, its pass of the queue and its bases, and references to what all threads share. It is whole
+//! between two callbacks. No lock is held while a callback or a base call runs.
 #![tactic(auto)]
 
-mod bench;
 mod callbacks;
 mod cleanups;
 mod gate;
-mod grip;
 mod instances;
 mod jobs;
-mod post;
-mod room;
-mod shop;
+mod op_queue;
+mod own;
+mod port;
+mod shared;
 mod teardowns;
 mod turns;
 mod volumes;
 mod worker;
 
-pub use crate::bench::Bench;
 pub use crate::gate::{Gate, OpenGate};
-pub use crate::grip::Grip;
-pub use crate::post::Post;
-pub use crate::room::Room;
-pub use crate::shop::Shop;
-pub use crate::worker::work;
+pub use crate::op_queue::OpQueue;
+pub use crate::port::HandPort;
+pub use crate::worker::Worker;

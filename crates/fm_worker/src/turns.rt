@@ -3,11 +3,12 @@
 ghost use Rattle.std.specs.Prelude.{◌≡◌};
 ghost use Rattle.fm_queue.specs.Passes.{IsPassOf};
 ghost use Rattle.fm_world.specs.Hands.{given_by_next};
-ghost use Rattle.fm_worker.specs.Benches.{IsFree};
+ghost use Rattle.fm_worker.specs.Between.{IsFree};
 
-use crate::bench::Bench;
 use crate::gate::Gate;
-use crate::shop::Shop;
+use crate::own::{Own, Waiting};
+use crate::shared::Shared;
+use crate::worker::Worker;
 use fm_data::BaseCall;
 use fm_device::Device;
 use fm_filter::Minifilter;
@@ -16,72 +17,47 @@ use fm_types::{OpId, Status};
 use std::sync::Wait;
 use std::sync::ledger::Ledger;
 
-impl<'a, F: Minifilter, L: Ledger, R: Wait, G: Gate> Shop<'a, F, L, R, G> {
-    /// Carries an operation on, until it is done, a filter holds it, or another thread has it. After each turn what the turn resumed is handed on. True if a
-    /// context is due then.
-    pub(crate) fn carry<D: Device>(
-        &self,
-        bench: &mut Bench<'a, F, L, R, D>,
-        operation: OpId,
-    ) -> bool
-        requires free { IsFree self.now.queue.now bench.old.grip.hand.held bench.old.pass }
-        ensures free { IsFree self.now.queue.now bench.new.grip.hand.held bench.new.pass }
-    {
-        'turns: for _ in self.rt.forever() {
-            let ended = self.take_turn(bench, operation);
-            self.hand_on(bench);
-            if let Some(has_due) = ended {
-                return has_due;
-            }
+// Whether an action is a callback.
+fn is_callback(action: &FlowAction) -> bool {
+    matches!(
+        action,
+        FlowAction::Pre(..) | FlowAction::Post(..) | FlowAction::Drain(..)
+    )
+}
+
+impl Waiting {
+    // Notes an operation that goes no further here. It may become this thread's turn alone, and no job would tell a client so.
+    pub(crate) fn note(&mut self, operation: OpId) {
+        if !self.takes_jobs {
+            self.bound.put(operation);
         }
-        unreachable!()
     }
+}
 
-    // One turn of an operation. None if the operation can go on; and else whether a context is due.
-    fn take_turn<D: Device>(
-        &self,
-        bench: &mut Bench<'a, F, L, R, D>,
-        operation: OpId,
-    ) -> Option<bool>
-        requires free { IsFree self.now.queue.now bench.old.grip.hand.held bench.old.pass }
-        ensures free { IsFree self.now.queue.now bench.new.grip.hand.held bench.new.pass }
-    {
-        let turn = self.manager.turn(self.rt, &mut bench.grip.hand, operation);
-        let goes_on = match turn.action {
-            Ok(action) => self.act(bench, operation, turn.filter, action),
-            Err(Status::WrongStep) => {
-                self.put_back(bench, operation, turn.bound_to);
-                self.note(bench, operation);
-                false
-            }
-            Err(_) => false,
-        };
-        if goes_on { None } else { Some(turn.has_due) }
-    }
-
+impl<'a, F: Minifilter, L: Ledger, R: Wait, G: Gate> Shared<'a, F, L, R, G> {
     // Makes the callback, which is that filter's, or the call of an action. True if the operation can go on.
     fn act<D: Device>(
         &self,
-        bench: &mut Bench<'a, F, L, R, D>,
+        own: &mut Own<'a, F, L, R, D>,
         operation: OpId,
         filter: Option<&F>,
         action: FlowAction,
     ) -> bool
-        requires own { IsPassOf self.now.queue.now bench.old.pass }
-        requires held { bench.old.grip.hand.held ≡ given_by_next action }
-        ensures free { IsFree self.now.queue.now bench.new.grip.hand.held bench.new.pass }
+        requires pass { IsPassOf self.now.queue.now own.old.pass }
+        requires held { own.old.port.hand.held ≡ given_by_next action }
+        ensures free { IsFree self.now.queue.now own.new.port.hand.held own.new.pass }
     {
         if is_callback(&action) {
-            self.gate.before(bench.grip.hand.worker(), &action);
+            self.gate.before(own.port.hand.worker(), &action);
         }
         match action {
-            FlowAction::Pre(_, lent) => self.pre(bench, filter, lent),
-            FlowAction::Base(call) => self.call(bench, call),
-            FlowAction::Post(_, lent, completion) => self.post(bench, filter, lent, completion),
-            FlowAction::Drain(_, completion) => self.drain(bench, filter, completion),
+            FlowAction::Pre(_, lent) => self.pre(own, filter, lent),
+            FlowAction::Base(call) => self.call(own, call),
+            FlowAction::Post(_, lent, completion) => self.post(own, filter, lent, completion),
+            FlowAction::Drain(_, completion) => self.drain(own, filter, completion),
             FlowAction::Moved => {}
             FlowAction::Held => {
-                self.note(bench, operation);
+                own.waiting.note(operation);
                 return false;
             }
             FlowAction::Done => return false,
@@ -90,26 +66,52 @@ impl<'a, F: Minifilter, L: Ledger, R: Wait, G: Gate> Shop<'a, F, L, R, G> {
     }
 
     // The call of the base that an operation reached.
-    fn call<D: Device>(&self, bench: &mut Bench<'a, F, L, R, D>, call: BaseCall)
-        requires free { IsFree self.now.queue.now bench.old.grip.hand.held bench.old.pass }
-        ensures free { IsFree self.now.queue.now bench.new.grip.hand.held bench.new.pass }
+    fn call<D: Device>(&self, own: &mut Own<'a, F, L, R, D>, call: BaseCall)
+        requires free { IsFree self.now.queue.now own.old.port.hand.held own.old.pass }
+        ensures free { IsFree self.now.queue.now own.new.port.hand.held own.new.pass }
     {
-        let answer = bench.devices.call(&call);
-        let hand = &mut bench.grip.hand;
+        let answer = own.devices.call(&call);
+        let hand = &mut own.port.hand;
         if self
             .manager
             .base_returned(self.rt, hand, call, answer)
             .is_err()
         {
-            self.stick();
+            self.wait_forever();
         }
     }
 }
 
-// Whether an action is a callback.
-fn is_callback(action: &FlowAction) -> bool {
-    matches!(
-        action,
-        FlowAction::Pre(..) | FlowAction::Post(..) | FlowAction::Drain(..)
-    )
+impl<'a, F: Minifilter, L: Ledger, R: Wait, G: Gate, D: Device> Worker<'a, F, L, R, G, D> {
+    /// Carries an operation on, until it is done, a filter holds it, or another thread has it. After each turn what the turn resumed is handed on. True if a
+    /// context is due then.
+    pub(crate) fn carry(&mut self, operation: OpId) -> bool {
+        let rt = self.shared.rt;
+        'turns: for _ in rt.forever() {
+            let ended = self.take_turn(operation);
+            self.queue_resumed();
+            if let Some(has_due) = ended {
+                return has_due;
+            }
+        }
+        unreachable!()
+    }
+
+    // One turn of an operation. None if the operation can go on; and else whether a context is due.
+    fn take_turn(&mut self, operation: OpId) -> Option<bool> {
+        let shared = &self.shared;
+        let turn = shared
+            .manager
+            .turn(shared.rt, &mut self.own.port.hand, operation);
+        let goes_on = match turn.action {
+            Ok(action) => shared.act(&mut self.own, operation, turn.filter, action),
+            Err(Status::WrongStep) => {
+                shared.put_back(&mut self.own, operation, turn.bound_to);
+                self.own.waiting.note(operation);
+                false
+            }
+            Err(_) => false,
+        };
+        if goes_on { None } else { Some(turn.has_due) }
+    }
 }

@@ -1,36 +1,102 @@
-//! A worker's whole life, in one call.
+//! A worker, or a connection that does what workers do.
 
-ghost use Rattle.fm_worker.specs.Benches.{IsFree};
+ghost use Rattle.std.specs.Prelude.{◌≡◌, All, IfSome};
+ghost use Rattle.fm_queue.specs.Passes.{IsPassOf};
+ghost use Rattle.fm_worker.specs.Between.{IsFree};
 
-use crate::bench::Bench;
 use crate::gate::Gate;
-use crate::room::Room;
-use crate::shop::Shop;
+use crate::op_queue::OpQueue;
+use crate::own::Own;
+use crate::shared::Shared;
+use fm_data::{Answer, Request};
 use fm_device::Device;
 use fm_filter::Minifilter;
 use fm_lock::{Hand, Manager};
 use fm_queue::{JobPass, JobQueue};
+use fm_types::{OpId, Status};
+use std::alloc::Global;
 use std::sync::Wait;
 use std::sync::ledger::Ledger;
 
-/// What a worker does, from its first job to a Stop: `Shop::work` at a bench of its own. It takes a hand that holds nothing and a pass of the queue, and
-/// hands them out so again, with its devices. It takes no memory.
-pub fn work<'a, F: Minifilter, L: Ledger, R: Wait, G: Gate, D: Device>(
-    rt: &'a R,
-    manager: &'a Manager<F, L>,
-    queue: &'a JobQueue,
-    gate: &'a G,
-    hand: Hand<L>,
-    pass: JobPass,
-    devices: D,
-    room: Room,
-    aside: Room,
-    bound: Room,
-) -> (Hand<L>, JobPass, D)
-    requires free { IsFree queue.now hand.held pass }
-    ensures free { IsFree queue.now result.0.held result.1 }
+/// A thread that is between two callbacks, with all that it needs: what it shares with others, and its own. It can be moved into a closure as it is, since it
+/// says itself that its hand holds nothing and that its pass is of its queue: no clause of a closure has to, and none of the calls here.
+#[derive(Drop)]
+pub struct Worker<'a, F: Drop, L: Ledger, R: Wait, G: Gate, D: Device> {
+    pub(crate) shared: Shared<'a, F, L, R, G>,
+    pub(crate) own: Own<'a, F, L, R, D>,
+    ghost free: { IsFree shared.queue.now own.port.hand.held own.pass },
+}
+
+// Takes a pass of the queue.
+fn take_pass(queue: &JobQueue, passes: &mut Vec<JobPass>) -> Option<JobPass>
+    requires own { All (λ pass. IsPassOf queue.now pass) passes.old.items }
+    ensures own { All (λ pass. IsPassOf queue.now pass) passes.new.items }
+    ensures taken { IfSome result (λ pass. IsPassOf queue.now pass) }
 {
-    let shop = Shop::new(rt, manager, queue, gate);
-    let bench = Bench::new(rt, manager, hand, pass, devices, room, aside, bound);
-    shop.work(bench)
+    passes.pop()
+}
+
+impl<'a, F: Minifilter, L: Ledger, R: Wait, G: Gate, D: Device> Worker<'a, F, L, R, G, D> {
+    /// A worker at a manager, its queue and the gate before callbacks: with a hand that is hired for it, the last of those passes, these devices, and memory
+    /// for operations that wait at it. Refused with 29 if no pass is left or all hands are out, and with 1 if memory is refused; a pass that was taken by then
+    /// is dropped.
+    pub fn new(
+        rt: &'a R,
+        manager: &'a Manager<F, L>,
+        queue: &'a JobQueue,
+        gate: &'a G,
+        alloc: Global,
+        passes: &mut Vec<JobPass>,
+        devices: D,
+    ) -> Result<Worker<'a, F, L, R, G, D>, Status>
+        requires own { All (λ pass. IsPassOf queue.now pass) passes.old.items }
+        ensures own { All (λ pass. IsPassOf queue.now pass) passes.new.items }
+    {
+        let resumed = OpQueue::new(alloc)?;
+        let aside = OpQueue::new(alloc)?;
+        let bound = OpQueue::new(alloc)?;
+        let Some(pass) = take_pass(queue, passes) else {
+            return Err(Status::TooMany);
+        };
+        let hand = manager.hire(rt)?;
+        Ok(Worker {
+            shared: Shared {
+                rt,
+                manager,
+                queue,
+                gate,
+            },
+            own: Own::new(rt, manager, hand, pass, devices, resumed, aside, bound),
+        })
+    }
+
+    /// Hands out the hand and the devices. What still waits here is dropped.
+    pub fn into_parts(self) -> (Hand<L>, D) {
+        let Worker { shared, own } = self;
+        let (hand, _pass, devices) = own.into_parts();
+        shared.manager.leaves_jobs(&hand);
+        (hand, devices)
+    }
+
+    /// Begins an operation, has a worker carry it on (`submit`), and waits for its answer. What of it is this thread's turn alone is done here. Refused as its
+    /// beginning is.
+    pub fn answer(&mut self, request: Request) -> Result<Answer, Status> {
+        let operation = self.shared.manager.begin(self.shared.rt, request)?;
+        self.submit(operation);
+        self.wait(operation)
+    }
+
+    // Waits for the answer of an operation.
+    fn wait(&mut self, operation: OpId) -> Result<Answer, Status> {
+        let rt = self.shared.rt;
+        'turns: for _ in rt.forever() {
+            let hand = &self.own.port.hand;
+            match self.shared.manager.wait_turn(rt, hand, operation) {
+                Ok(Some(answer)) => return Ok(answer),
+                Ok(None) => self.carry_here(operation),
+                Err(status) => return Err(status),
+            }
+        }
+        unreachable!()
+    }
 }

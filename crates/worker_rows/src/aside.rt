@@ -104,7 +104,7 @@ fn put_later<L: Ledger, R: Wait + Clock, D: Device>(
     } = posts;
     if is_dropped {
         let _ = second.into_parts();
-        client.run(reading);
+        client.submit(reading);
     } else {
         second.put_aside();
     }

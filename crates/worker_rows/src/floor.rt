@@ -14,7 +14,7 @@ use fm_samples::{Sample, Shift};
 use fm_types::{
     Bytes, CreateMode, HandleId, InstanceId, Name, OpId, RelPath, SharedPath, Status, VolumeId,
 };
-use fm_worker::{Gate, Post};
+use fm_worker::{Gate, Worker};
 use std::alloc::Global;
 use std::sync::Wait;
 use std::sync::ledger::{Blank, Ledger};
@@ -105,7 +105,7 @@ pub fn house<F: Minifilter, L: Ledger, R: Wait>(
 }
 
 /// A post above a folder of its own.
-pub type Crew<'a, F, L, R, G> = Post<'a, F, L, R, G, Folder>;
+pub type Crew<'a, F, L, R, G> = Worker<'a, F, L, R, G, Folder>;
 
 /// A thread's post, above a folder of its own.
 pub fn crew<'a, F: Minifilter, L: Ledger, R: Wait, G: Gate>(
@@ -119,7 +119,7 @@ pub fn crew<'a, F: Minifilter, L: Ledger, R: Wait, G: Gate>(
     requires { All (λ pass. IsPassOf queue.now pass) passes.old.items }
     ensures { All (λ pass. IsPassOf queue.now pass) passes.new.items }
 {
-    Post::new(rt, manager, queue, gate, alloc, passes, folder(alloc)?)
+    Worker::new(rt, manager, queue, gate, alloc, passes, folder(alloc)?)
 }
 
 /// The posts of a client and of two workers. The first worker is worker 0.
@@ -130,7 +130,7 @@ pub struct Crews<'a, F: Drop, L: Ledger, R: Wait, G: Gate, D: Device> {
     /// The first worker's.
     pub first: Crew<'a, F, L, R, G>,
     /// The second worker's, above a file system of its own.
-    pub second: Post<'a, F, L, R, G, D>,
+    pub second: Worker<'a, F, L, R, G, D>,
 }
 
 /// Makes the three posts, at a manager whose hands are all in.
@@ -147,7 +147,7 @@ pub fn make_crews<'a, F: Minifilter, L: Ledger, R: Wait, G: Gate, D: Device>(
     ensures { All (λ pass. IsPassOf queue.now pass) passes.new.items }
 {
     let first = crew(rt, alloc, manager, queue, gate, passes)?;
-    let second = Post::new(rt, manager, queue, gate, alloc, passes, below)?;
+    let second = Worker::new(rt, manager, queue, gate, alloc, passes, below)?;
     let client = crew(rt, alloc, manager, queue, gate, passes)?;
     Ok(Crews {
         client,
@@ -158,7 +158,7 @@ pub fn make_crews<'a, F: Minifilter, L: Ledger, R: Wait, G: Gate, D: Device>(
 
 /// Loads the filter of that name, and attaches an instance of it to the only volume.
 pub fn attach<F, L, R, G, D>(
-    post: &mut Post<'_, F, L, R, G, D>,
+    post: &mut Worker<'_, F, L, R, G, D>,
     name: &[u8],
     altitude: &[u8],
 ) -> Result<InstanceId, Status>
@@ -178,7 +178,7 @@ where
 pub fn begin<F, L, R, G, D>(
     rt: &R,
     manager: &Manager<F, L>,
-    post: &mut Post<'_, F, L, R, G, D>,
+    post: &mut Worker<'_, F, L, R, G, D>,
     request: Request,
 ) -> Result<OpId, Status>
 where
@@ -189,7 +189,7 @@ where
     D: Device,
 {
     let operation = manager.begin(rt, request)?;
-    post.run(operation);
+    post.submit(operation);
     Ok(operation)
 }
 
@@ -210,8 +210,8 @@ pub fn collect<F: Minifilter, L: Ledger, R: Wait + Clock>(
 
 /// Has a worker work up to the Stop that the client puts now.
 pub fn work_off<F, L, R, G, C, D>(
-    client: &mut Post<'_, F, L, R, G, C>,
-    worker: &mut Post<'_, F, L, R, G, D>,
+    client: &mut Worker<'_, F, L, R, G, C>,
+    worker: &mut Worker<'_, F, L, R, G, D>,
 )
 where
     F: Minifilter,
@@ -229,8 +229,8 @@ where
 pub fn carried<F, L, R, G, C, D>(
     rt: &R,
     manager: &Manager<F, L>,
-    client: &mut Post<'_, F, L, R, G, C>,
-    worker: &mut Post<'_, F, L, R, G, D>,
+    client: &mut Worker<'_, F, L, R, G, C>,
+    worker: &mut Worker<'_, F, L, R, G, D>,
     request: Request,
 ) -> Result<Answer, Status>
 where
@@ -250,7 +250,7 @@ where
 pub fn alone<F, L, R, G, D>(
     rt: &R,
     manager: &Manager<F, L>,
-    post: &mut Post<'_, F, L, R, G, D>,
+    post: &mut Worker<'_, F, L, R, G, D>,
     operation: OpId,
 ) -> Result<Status, Status>
 where
@@ -260,7 +260,7 @@ where
     G: Gate,
     D: Device,
 {
-    post.run(operation);
+    post.submit(operation);
     post.stop_worker();
     post.work();
     Ok(collect(rt, manager, operation)?.status)

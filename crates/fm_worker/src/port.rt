@@ -3,7 +3,7 @@
 ghost use Rattle.std.specs.Prelude.{◌≡◌};
 ghost use Rattle.fm_worker.specs.Ports.{lacks_room};
 
-use crate::room::Room;
+use crate::op_queue::OpQueue;
 use fm_ctx::SetMode;
 use fm_data::PreVerdict;
 use fm_filter::Port;
@@ -17,23 +17,23 @@ use std::sync::ledger::Ledger;
 /// The port of the callbacks that one thread makes: its hand, and room for what they resume. Each call is one event of the manager, by the hand.
 /// A thread has one for its whole life.
 #[derive(Drop)]
-pub struct Grip<'a, F: Drop, L: Ledger, R: Wait> {
+pub struct HandPort<'a, F: Drop, L: Ledger, R: Wait> {
     pub(crate) rt: &'a R,
     pub(crate) manager: &'a Manager<F, L>,
     pub(crate) hand: Hand<L>,
-    pub(crate) room: Room,
+    pub(crate) resumed: OpQueue,
 }
 
-impl<'a, F: Drop, L: Ledger, R: Wait> Grip<'a, F, L, R> {
+impl<'a, F: Drop, L: Ledger, R: Wait> HandPort<'a, F, L, R> {
     // Whether there is no place for an operation that isn't there yet.
     fn lacks_room(&self, operation: OpId) -> bool
-        ensures { result ≡ lacks_room operation self.now.room }
+        ensures { result ≡ lacks_room operation self.now.resumed }
     {
-        self.room.is_full() && !self.room.has(operation)
+        self.resumed.is_full() && !self.resumed.has(operation)
     }
 }
 
-impl<'a, F: Drop, L: Ledger, R: Wait> Port for Grip<'a, F, L, R> {
+impl<'a, F: Drop, L: Ledger, R: Wait> Port for HandPort<'a, F, L, R> {
     ghost use Rattle.std.specs.Prelude.{◌≡◌, ◌+◌, None};
     ghost use Rattle.fm_lock.specs.Events.{Holding};
     ghost use Rattle.fm_world.specs.Hands.{given_by_set, given_with};
@@ -60,11 +60,11 @@ impl<'a, F: Drop, L: Ledger, R: Wait> Port for Grip<'a, F, L, R> {
 
     ghost finds_held = { λ old hold result new. new.hand ≡ old.hand };
 
-    ghost resumes_pre = { λ old operation verdict result new. ResumesPre verdict operation old.hand old.room result new.hand new.room };
+    ghost resumes_pre = { λ old operation verdict result new. ResumesPre verdict operation old.hand old.resumed result new.hand new.resumed };
 
-    ghost resumes_post = { λ old operation result new. ResumesPost operation old.hand old.room result new.hand new.room };
+    ghost resumes_post = { λ old operation result new. ResumesPost operation old.hand old.resumed result new.hand new.resumed };
 
-    ghost kept = { λ grip. record { worker = grip.hand.worker; standing = None } };
+    ghost kept = { λ port. record { worker = port.hand.worker; standing = None } };
 
     fn allocate(&mut self, kind: ContextKind, body: Bytes) -> Result<CtxId, Status> {
         self.manager.allocate(self.rt, &mut self.hand, kind, body)
@@ -116,7 +116,7 @@ impl<'a, F: Drop, L: Ledger, R: Wait> Port for Grip<'a, F, L, R> {
         }
         self.manager
             .resume_pre(self.rt, &mut self.hand, operation, verdict)?;
-        self.room.put(operation);
+        self.resumed.put(operation);
         Ok(())
     }
 
@@ -126,7 +126,7 @@ impl<'a, F: Drop, L: Ledger, R: Wait> Port for Grip<'a, F, L, R> {
         }
         self.manager
             .resume_post(self.rt, &mut self.hand, operation)?;
-        self.room.put(operation);
+        self.resumed.put(operation);
         Ok(())
     }
 }

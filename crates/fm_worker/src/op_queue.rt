@@ -1,8 +1,8 @@
-//! Room for operations that wait to be carried on.
+//! Operations that wait to be carried on.
 
 ghost use Rattle.std.specs.Prelude.{◌≡◌, [], IfOk, IfErr, drop, length, nat_le, slice_get};
 ghost use Rattle.std.specs.List.{list_any};
-ghost use Rattle.fm_worker.specs.Rooms.{is_number, put_in};
+ghost use Rattle.fm_worker.specs.OpQueues.{is_number, put_in};
 
 use fm_types::limits::OPERATIONS;
 use fm_types::{OpId, Status};
@@ -12,21 +12,21 @@ use std::marker::Model;
 
 /// The numbers of operations that wait to be carried on, each once, in the order in which they came; 256 at most. Its memory is taken once.
 #[derive(Drop)]
-pub struct Room {
+pub struct OpQueue {
     numbers: VecDeque<OpId>,
 }
 
-impl Model for Room {
+impl Model for OpQueue {
     ghost use Rattle.std.specs.Prelude.{List};
     ghost use Rattle.std.specs.VecDeque.{deque_capacity};
     ghost use Rattle.fm_types.specs.declared.ids.OpId.{OpId};
-    ghost use Rattle.fm_worker.specs.Rooms.{IsRoom};
+    ghost use Rattle.fm_worker.specs.OpQueues.{IsOpQueue};
 
     ghost Value = { List OpId };
 
-    ghost view = { λ room. room.numbers.items };
+    ghost view = { λ queue. queue.numbers.items };
 
-    ghost invariant = { λ room. IsRoom room.numbers.items (deque_capacity room.numbers) };
+    ghost invariant = { λ queue. IsOpQueue queue.numbers.items (deque_capacity queue.numbers) };
 }
 
 fn is_number(number: OpId, other: OpId) -> bool
@@ -35,14 +35,14 @@ fn is_number(number: OpId, other: OpId) -> bool
     number.0 == other.0
 }
 
-impl Room {
-    /// An empty room. Refused with 1 alone, if memory is refused.
-    pub fn new(alloc: Global) -> Result<Room, Status>
-        ensures empty { IfOk result (λ room. room ≡ []) }
+impl OpQueue {
+    /// An empty one. Refused with 1 alone, if memory is refused.
+    pub fn new(alloc: Global) -> Result<OpQueue, Status>
+        ensures empty { IfOk result (λ queue. queue ≡ []) }
         ensures memory { IfErr result (λ status. status ≡ Status.NoMemory) }
     {
         match VecDeque::with_capacity(alloc, OPERATIONS) {
-            Ok(numbers) => Ok(Room { numbers }),
+            Ok(numbers) => Ok(OpQueue { numbers }),
             Err(_) => Err(Status::NoMemory),
         }
     }

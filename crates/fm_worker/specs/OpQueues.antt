@@ -15,8 +15,8 @@ abbrev pub IsOnce : List OpId → Type 0
 IsOnce [] = ⊤
 IsOnce (o ∷ numbers) = (list_any (is_number o) numbers ≡ false) × IsOnce numbers
 
--- the numbers of a room, and for how many it has memory
-pub record IsRoom (numbers : List OpId) (places : ℕ) : Type 0 where
+-- the numbers of a queue of operations, and for how many it has memory
+pub record IsOpQueue (numbers : List OpId) (places : ℕ) : Type 0 where
   pub once : IsOnce numbers
   pub few : length numbers ≤ 256
   pub memory : 256 ≤ places

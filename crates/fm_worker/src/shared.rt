@@ -1,0 +1,40 @@
+//! What all threads share.
+
+use crate::gate::Gate;
+use fm_filter::Minifilter;
+use fm_lock::Manager;
+use fm_queue::JobQueue;
+use fm_types::{InstanceId, WorkerId};
+use std::sync::Wait;
+use std::sync::ledger::Ledger;
+
+/// What the threads that carry operations on share: the manager, the queue of jobs, and the gate before callbacks. Each thread has references to the same
+/// three.
+#[derive(Drop)]
+pub(crate) struct Shared<'a, F: Drop, L: Ledger, R: Wait, G: Gate> {
+    pub(crate) rt: &'a R,
+    pub(crate) manager: &'a Manager<F, L>,
+    pub(crate) queue: &'a JobQueue,
+    pub(crate) gate: &'a G,
+}
+
+impl<'a, F: Minifilter, L: Ledger, R: Wait, G: Gate> Shared<'a, F, L, R, G> {
+    // The filter of an instance.
+    pub(crate) fn filter_of(&self, instance: InstanceId) -> Option<&F> {
+        self.manager.filter_of_instance(self.rt, instance)
+    }
+
+    // Whether that is a thread that takes jobs.
+    pub(crate) fn is_taking_jobs(&self, turn: Option<WorkerId>) -> bool {
+        match turn {
+            Some(worker) => self.manager.is_taking_jobs(worker),
+            None => false,
+        }
+    }
+
+    // Waits for ever: what came here has no answer that could be.
+    pub(crate) fn wait_forever(&self) -> ! {
+        for _ in self.rt.forever() {}
+        unreachable!()
+    }
+}

@@ -9,9 +9,6 @@ use Rattle.fm_data.specs.declared.request.Reply.{Reply}
 use Rattle.fm_data.specs.declared.request.Request.{Request}
 use Rattle.fm_wire.specs.declared.frame.Control.{Control}
 use Rattle.fm_wire.specs.declared.frame.Control.TheVariants as control
-use Rattle.fm_wire.specs.declared.frame.Body.{Body}
-use Rattle.fm_wire.specs.declared.frame.Body.TheVariants as body
-use Rattle.fm_wire.specs.declared.frame.Frame.{Frame}
 use Rattle.fm_filter.specs.declared.minifilter.Minifilter as filter
 use Rattle.fm_base.specs.declared.base.Base as base
 use Rattle.fm_local.specs.declared.manager.LocalManager.{LocalManager}
@@ -49,7 +46,7 @@ module _ {F B : Type 0} (f : filter.Ghosts F) (b : base.Ghosts B) where
     pub quiet : UnloadsReady f b i old r new
     pub ready : StaysReadyAlike f b old new
 
-  -- ---- frames
+  -- ---- controls
 
   abbrev pub AnswersControl : Control → LocalManager F B → Reply → LocalManager F B → Type 0
   AnswersControl (control.Load name) old said new = (r : Result FilterId Status) × Loads name old r new × (said ≡ filter_reply r)
@@ -58,13 +55,3 @@ module _ {F B : Type 0} (f : filter.Ghosts F) (b : base.Ghosts B) where
   AnswersControl (control.Unload i) old said new = (r : Result (Unit {0}) Status) × Unloads i old r new × (said ≡ unit_reply r)
   AnswersControl (control.Dismount v) old said new = (said ≡ status_reply BadRequest) × (new ≡ old)
   AnswersControl control.Stop old said new = (said ≡ number_reply 0) × (new ≡ old)
-
-  abbrev pub AnswersBody : Body → LocalManager F B → Reply → LocalManager F B → Type 0
-  AnswersBody (body.Operation what) old said new = Answers what old said new
-  AnswersBody (body.Control c) old said new = AnswersControl c old said new
-  AnswersBody (body.Reply r) old said new = (said ≡ status_reply BadRequest) × (new ≡ old)
-  AnswersBody (body.Refused status) old said new = (said ≡ status_reply status) × (new ≡ old)
-
-  -- under the request's number
-  abbrev pub AnswersFrame : LocalManager F B → Frame → Frame → LocalManager F B → Type 0
-  AnswersFrame old frame answer new = (said : Reply) × AnswersBody frame.body old said new × (answer ≡ record { number = frame.number; body = body.Reply said })

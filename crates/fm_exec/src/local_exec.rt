@@ -1,24 +1,24 @@
 //! A one-thread manager that answers frames.
 
 ghost use Rattle.std.specs.Prelude.{◌≡◌};
-ghost use Rattle.fm_exec.specs.Locals.{AnswersBody, AnswersControl, AnswersFrame, Loads};
+ghost use Rattle.fm_exec.specs.Locals.{Answers, AnswersControl, Loads};
 
 use crate::said::{filter_reply, instance_reply, number_reply, status_reply, unit_reply};
 use fm_base::Base;
-use fm_data::Reply;
+use fm_data::{Reply, Request};
 use fm_filter::Minifilter;
 use fm_local::LocalManager;
 use fm_samples::Sample;
 use fm_server::Exec;
 use fm_types::{FilterId, Name, Status};
-use fm_wire::{Body, Control, Frame};
+use fm_wire::Control;
 use std::alloc::Global;
 
-/// Answers frames by a one-thread manager: a request by its `answer`, a load, an attach, a detach and an unload by the calls of these names. An
+/// Answers the frames of a server by a one-thread manager: a request by its `answer`, a load, an attach, a detach and an unload by the calls of these names. An
 /// operation that a filter holds is answered `Held`, and its reply stays with the manager. A dismount is answered 32 (`BadRequest`) and a Stop with
 /// success, both without a call.
 ///
-/// It is an `Exec` over the samples. Over other filters `answer_frame` says the same, and an `Exec` of one's own hands a frame on to it.
+/// It is an `Exec` over the samples. Over other filters `operate_by` and `control_by` say the same, and an `Exec` of one's own hands on to them.
 #[derive(Drop)]
 pub struct LocalExec<F, B> {
     alloc: Global,
@@ -48,7 +48,15 @@ impl<F: Minifilter, B: Base> LocalExec<F, B> {
         self.manager.load(name)
     }
 
-    fn control(&mut self, control: Control) -> Reply
+    /// Answers an operation, by the manager's `answer`.
+    pub fn operate_by(&mut self, request: Request) -> Reply
+        ensures { Answers F.Minifilter B.Base request self.old.manager result self.new.manager }
+    {
+        self.manager.answer(request)
+    }
+
+    /// Answers a control, by the call that it names.
+    pub fn control_by(&mut self, control: Control) -> Reply
         ensures { AnswersControl F.Minifilter B.Base control self.old.manager result self.new.manager }
     {
         match control {
@@ -73,36 +81,20 @@ impl<F: Minifilter, B: Base> LocalExec<F, B> {
             Control::Stop => number_reply(self.alloc, 0),
         }
     }
-
-    fn say(&mut self, body: Body) -> Reply
-        ensures { AnswersBody F.Minifilter B.Base body self.old.manager result self.new.manager }
-    {
-        match body {
-            Body::Operation(request) => self.manager.answer(request),
-            Body::Control(control) => self.control(control),
-            Body::Reply(_) => status_reply(self.alloc, Status::BadRequest),
-            Body::Refused(status) => status_reply(self.alloc, status),
-        }
-    }
-
-    /// Answers a frame, by the call that it names and under its number.
-    pub fn answer_frame(&mut self, frame: Frame) -> Frame
-        ensures { AnswersFrame F.Minifilter B.Base self.old.manager frame result self.new.manager }
-    {
-        let Frame { number, body } = frame;
-        Frame {
-            number,
-            body: Body::Reply(self.say(body)),
-        }
-    }
 }
 
 impl<B: Base> Exec for LocalExec<Sample, B> {
-    ghost use Rattle.fm_exec.specs.Locals.{AnswersFrame};
+    ghost use Rattle.fm_exec.specs.Locals.{Answers, AnswersControl};
 
-    ghost answers = { λ old frame answer new. AnswersFrame (⟦<Sample as Minifilter>⟧) B.Base old.manager frame answer new.manager };
+    ghost operates = { λ old request said new. Answers (⟦<Sample as Minifilter>⟧) B.Base request old.manager said new.manager };
 
-    fn answer(&mut self, frame: Frame) -> Frame {
-        self.answer_frame(frame)
+    ghost controls = { λ old control said new. AnswersControl (⟦<Sample as Minifilter>⟧) B.Base control old.manager said new.manager };
+
+    fn operate(&mut self, request: Request) -> Reply {
+        self.operate_by(request)
+    }
+
+    fn control(&mut self, control: Control) -> Reply {
+        self.control_by(control)
     }
 }

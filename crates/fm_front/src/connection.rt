@@ -1,21 +1,22 @@
 //! One connection: what it may ask for, and what it is answered.
 
-ghost use Rattle.std.specs.Prelude.{◌≡◌};
-ghost use Rattle.fm_front.specs.Answering.{AnswersOver, IsDone};
-ghost use Rattle.fm_wire.specs.declared.frame.Body.TheVariants as body;
+ghost use Rattle.fm_front.specs.Answering.{IsDone};
 
-use crate::desk::{Crew, Desk};
-use crate::exec::{ManagerExec, is_foreign, reply_of};
-use fm_data::Request;
+use crate::exec::{ManagerExec, is_foreign};
+use crate::gate_seat::{ServerWorker, VolumeSeat};
+use crate::leftovers::Leftovers;
+use crate::line::Line;
+use fm_data::{Reply, Request};
 use fm_device::Device;
 use fm_lock::Hand;
 use fm_rundown::Look;
-use fm_server::{Exec, bare_reply, guarded};
-use fm_types::{Bytes, HandleId, Status, VolumeId};
-use fm_wire::{Body, Control, Frame};
+use fm_server::{Exec, guarded, status_reply};
+use fm_types::{Status, VolumeId};
+use fm_wire::Control;
 use std::alloc::Global;
 use std::sync::Wait;
 use std::sync::ledger::Ledger;
+use std::time::Clock;
 
 /// The server's only volume.
 pub(crate) const VOLUME: VolumeId = VolumeId(0);
@@ -26,97 +27,95 @@ pub(crate) const VOLUME: VolumeId = VolumeId(0);
 pub(crate) struct Connection<'a, L: Ledger, R: Wait, D: Device> {
     alloc: Global,
     exec: ManagerExec<'a, L, R, D>,
-    desk: Desk<'a>,
+    seat: VolumeSeat<'a>,
+}
+
+// The volume that an operation is of: a handle's is the only one that there is.
+fn volume_of(request: &Request) -> VolumeId {
+    match request {
+        Request::Create { volume, .. } | Request::List { volume } => *volume,
+        Request::OnHandle { .. } => VOLUME,
+    }
 }
 
 impl<'a, L: Ledger, R: Wait, D: Device> Connection<'a, L, R, D> {
-    /// A connection by that post and that seat, with no handle yet.
+    /// A thread's place for connections, by that worker and that seat: nobody is connected yet.
     pub(crate) fn new(
         alloc: Global,
-        post: Crew<'a, L, R, D>,
-        desk: Desk<'a>,
+        worker: ServerWorker<'a, L, R, D>,
+        leftovers: &'a Leftovers,
+        seat: VolumeSeat<'a>,
     ) -> Connection<'a, L, R, D> {
         Connection {
             alloc,
-            exec: ManagerExec::new(alloc, post),
-            desk,
+            exec: ManagerExec::new(alloc, worker, leftovers),
+            seat,
         }
     }
 
-    /// Takes the handles that it still has.
-    pub(crate) fn take_handles(&mut self) -> Vec<HandleId> {
-        self.exec.take_handles()
+    /// A connection begins: its client is at the end of that line.
+    pub(crate) fn begin(&mut self, line: Line) {
+        self.exec.begin(line);
     }
 
-    /// Its post.
-    pub(crate) fn post(&mut self) -> &mut Crew<'a, L, R, D> {
-        self.exec.post()
+    /// The worker of its thread.
+    pub(crate) fn worker(&mut self) -> &mut ServerWorker<'a, L, R, D> {
+        self.exec.worker()
     }
 
-    /// Its hand, at the end.
+    /// The hand of its thread, at the end.
     pub(crate) fn into_hand(self) -> Hand<L> {
         let Connection { exec, .. } = self;
-        exec.into_post().into_parts().0
+        exec.into_worker().into_parts().0
     }
 
     /// Ends the dismount of the volume, if one began.
     pub(crate) fn end_dismount(&mut self) {
-        let Desk { rundown, seat, .. } = &mut self.desk;
+        let VolumeSeat { rundown, seat, .. } = &mut self.seat;
         if !matches!(rundown.look(seat, VOLUME), Ok(Look::Open)) {
-            let _ = self.exec.post().dismount(rundown, seat, VOLUME);
-        }
-    }
-
-    // The volume that an operation is of: a handle's is the only one that there is.
-    fn volume_of(request: &Request) -> VolumeId {
-        match request {
-            Request::Create { volume, .. } | Request::List { volume } => *volume,
-            Request::OnHandle { .. } => VOLUME,
-        }
-    }
-
-    // An operation, between its entry at the gate and its end there.
-    fn operate(&mut self, number: u32, request: Request) -> Frame
-        ensures replies { AnswersOver self.old.exec.handles.items (record { number = number; body = body.Operation request }) result }
-    {
-        if is_foreign(self.exec.handles(), &request) {
-            return bare_reply(self.alloc, number, Status::NoHandle);
-        }
-        let volume = Self::volume_of(&request);
-        let frame = Frame {
-            number,
-            body: Body::Operation(request),
-        };
-        let Desk { rundown, seat, .. } = &mut self.desk;
-        guarded(self.alloc, rundown, seat, volume, &mut self.exec, frame)
-    }
-
-    fn dismount(&mut self, number: u32, volume: VolumeId) -> Frame
-        ensures number { result.number ≡ number }
-        ensures done { IsDone result.body }
-    {
-        let Desk { rundown, seat, .. } = &mut self.desk;
-        match self.exec.post().dismount(rundown, seat, volume) {
-            Ok(()) => reply_of(number, Status::Success, 0, Bytes::new(self.alloc)),
-            Err(status) => bare_reply(self.alloc, number, status),
+            let _ = self.exec.worker().dismount(rundown, seat, VOLUME);
         }
     }
 }
 
-impl<L: Ledger, R: Wait, D: Device> Exec for Connection<'_, L, R, D> {
-    ghost use Rattle.fm_front.specs.Answering.{AnswersOver};
+impl<L: Ledger, R: Wait + Clock, D: Device> Connection<'_, L, R, D> {
+    /// The connection ends: its handles are closed.
+    pub(crate) fn end(&mut self) {
+        self.exec.end();
+    }
 
-    ghost answers = { λ old frame answer new. AnswersOver old.exec.handles.items frame answer };
+    fn dismount(&mut self, volume: VolumeId) -> Reply
+        ensures { IsDone result }
+    {
+        self.exec.collect_orphans();
+        let VolumeSeat { rundown, seat, .. } = &mut self.seat;
+        match self.exec.worker().dismount(rundown, seat, volume) {
+            Ok(()) => status_reply(self.alloc, Status::Success),
+            Err(status) => status_reply(self.alloc, status),
+        }
+    }
+}
 
-    fn answer(&mut self, frame: Frame) -> Frame {
-        let Frame { number, body } = frame;
-        match body {
-            Body::Operation(request) => self.operate(number, request),
-            Body::Control(Control::Dismount { volume }) => self.dismount(number, volume),
-            other => self.exec.answer(Frame {
-                number,
-                body: other,
-            }),
+impl<L: Ledger, R: Wait + Clock, D: Device> Exec for Connection<'_, L, R, D> {
+    ghost use Rattle.fm_front.specs.Answering.{IsDone, OperatesOver};
+
+    ghost operates = { λ old request answer new. OperatesOver old.exec.handles.items request answer };
+
+    ghost controls = { λ old control answer new. IsDone answer };
+
+    fn operate(&mut self, request: Request) -> Reply {
+        if is_foreign(self.exec.handles(), &request) {
+            return status_reply(self.alloc, Status::NoHandle);
+        }
+        let volume = volume_of(&request);
+        let VolumeSeat { rundown, seat, .. } = &mut self.seat;
+        guarded(self.alloc, rundown, seat, volume, &mut self.exec, request)
+    }
+
+    fn control(&mut self, control: Control) -> Reply {
+        match control {
+            Control::Dismount { volume } => self.dismount(volume),
+            other => self.exec.control(other),
         }
     }
 }

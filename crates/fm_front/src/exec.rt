@@ -1,41 +1,43 @@
-//! What answers a connection's frames: the manager that all connections share, by this connection's hand.
+//! What answers a connection: the manager that all connections share, by this connection's hand.
 
-ghost use Rattle.std.specs.Prelude.{◌≡◌};
-ghost use Rattle.fm_front.specs.Answering.{has_handle, is_foreign};
+ghost use Rattle.std.specs.Prelude.{◌≡◌, IfErr, IfOk};
+ghost use Rattle.fm_front.specs.Answering.{ClosesHandle, OpensHandle, has_handle, is_foreign};
 ghost use Rattle.fm_data.specs.declared.request.Reply.TheVariants as reply;
-ghost use Rattle.fm_wire.specs.declared.frame.Body.TheVariants as body;
 
-use crate::desk::{Crew, close};
+use crate::gate_seat::ServerWorker;
+use crate::leftovers::Leftovers;
+use crate::line::Line;
+use crate::waiting::{Unanswered, ask, close};
 use fm_data::{Answer, FileRequest, Reply, Request};
 use fm_device::Device;
-use fm_server::{Exec, bare_reply};
+use fm_server::{Exec, status_reply};
 use fm_types::{Bytes, HandleId, Status};
-use fm_wire::{Body, Control, Frame};
+use fm_wire::Control;
 use std::alloc::Global;
 use std::mem;
 use std::sync::Wait;
 use std::sync::ledger::Ledger;
+use std::time::Clock;
 
 /// Answers by the shared manager: operations become jobs for the workers, and are waited for; filters are loaded, attached, detached and unloaded here.
 /// It knows the handles that its connection opened.
 #[derive(Drop)]
 pub(crate) struct ManagerExec<'a, L: Ledger, R: Wait, D: Device> {
     alloc: Global,
-    post: Crew<'a, L, R, D>,
+    worker: ServerWorker<'a, L, R, D>,
+    leftovers: &'a Leftovers,
+    line: Line,
     handles: Vec<HandleId>,
 }
 
-/// A reply of that number: a status, what it says beside it, and bytes.
-pub(crate) fn reply_of(number: u32, status: Status, information: u64, bytes: Bytes) -> Frame
-    ensures { result ≡ record { number = number; body = body.Reply (reply.Done status information bytes) } }
+// A reply: a status, what it says beside it, and bytes.
+fn reply_of(status: Status, information: u64, bytes: Bytes) -> Reply
+    ensures { result ≡ reply.Done status information bytes }
 {
-    Frame {
-        number,
-        body: Body::Reply(Reply::Done {
-            status,
-            information,
-            bytes,
-        }),
+    Reply::Done {
+        status,
+        information,
+        bytes,
     }
 }
 
@@ -57,11 +59,17 @@ pub(crate) fn is_foreign(handles: &[HandleId], request: &Request) -> bool
 }
 
 impl<'a, L: Ledger, R: Wait, D: Device> ManagerExec<'a, L, R, D> {
-    /// A connection's, with no handle yet.
-    pub(crate) fn new(alloc: Global, post: Crew<'a, L, R, D>) -> ManagerExec<'a, L, R, D> {
+    /// That of no connection yet, with no handle.
+    pub(crate) fn new(
+        alloc: Global,
+        worker: ServerWorker<'a, L, R, D>,
+        leftovers: &'a Leftovers,
+    ) -> ManagerExec<'a, L, R, D> {
         ManagerExec {
             alloc,
-            post,
+            worker,
+            leftovers,
+            line: Line::cut(),
             handles: Vec::new(alloc),
         }
     }
@@ -73,91 +81,131 @@ impl<'a, L: Ledger, R: Wait, D: Device> ManagerExec<'a, L, R, D> {
         self.handles.as_slice()
     }
 
-    /// Takes the handles away: the connection has none after it.
-    pub(crate) fn take_handles(&mut self) -> Vec<HandleId> {
-        mem::replace(&mut self.handles, Vec::new(self.alloc))
+    /// A connection begins: its client is at the end of that line.
+    pub(crate) fn begin(&mut self, line: Line) {
+        self.line = line;
     }
 
-    /// The post of its thread.
-    pub(crate) fn post(&mut self) -> &mut Crew<'a, L, R, D> {
-        &mut self.post
+    /// The worker of its thread.
+    pub(crate) fn worker(&mut self) -> &mut ServerWorker<'a, L, R, D> {
+        &mut self.worker
     }
 
-    /// The post of its thread, at the end.
-    pub(crate) fn into_post(self) -> Crew<'a, L, R, D> {
-        let ManagerExec { post, .. } = self;
-        post
+    /// The worker of its thread, at the end.
+    pub(crate) fn into_worker(self) -> ServerWorker<'a, L, R, D> {
+        let ManagerExec { worker, .. } = self;
+        worker
+    }
+}
+
+impl<L: Ledger, R: Wait + Clock, D: Device> ManagerExec<'_, L, R, D> {
+    /// The connection ends: its line is cut, its handles are closed, and operations whose clients are gone are looked at.
+    pub(crate) fn end(&mut self) {
+        self.line = Line::cut();
+        let handles = mem::replace(&mut self.handles, Vec::new(self.alloc));
+        self.leftovers.close_all(&mut self.worker, handles);
+        self.leftovers.collect_orphans(&mut self.worker);
+        self.leftovers.close_left(&mut self.worker);
+        self.worker.put_all_aside();
+    }
+
+    /// Looks at the operations whose clients are gone.
+    pub(crate) fn collect_orphans(&mut self) {
+        self.leftovers.collect_orphans(&mut self.worker);
     }
 
     // A create. Room for its handle is taken before it begins: without it the create is refused with 1, and nothing began.
-    fn create(&mut self, request: Request) -> Result<Answer, Status> {
-        self.handles.reserve(1)?;
-        let answer = self.post.answer(request)?;
+    fn create(&mut self, request: Request) -> Result<Answer, Unanswered>
+        ensures opens { IfOk result (λ answer. OpensHandle answer self.old.handles.items self.new.handles.items) }
+        ensures refused { IfErr result (λ _. self.new.handles.items ≡ self.old.handles.items) }
+    {
+        let Ok(()) = self.handles.reserve(1) else {
+            return Err(Unanswered::Refused(Status::NoMemory));
+        };
+        let answer = match ask(&mut self.worker, &self.line, request) {
+            Ok(answer) => answer,
+            Err(unanswered) => return Err(unanswered),
+        };
         if answer.status == Status::Success {
-            let _ = self.handles.push(HandleId(answer.information));
+            self.handles.push_reserved(HandleId(answer.information));
         }
         Ok(answer)
     }
 
-    // A close. Once it begins, the handle isn't the connection's any more.
-    fn close(&mut self, handle: HandleId) -> Result<Answer, Status> {
-        let answer = close(&mut self.post, handle)?;
+    // A close. Once it is done, the handle isn't the connection's any more.
+    fn close(&mut self, handle: HandleId) -> Result<Answer, Unanswered>
+        ensures closes { IfOk result (λ _. ClosesHandle handle self.old.handles.items self.new.handles.items) }
+        ensures refused { IfErr result (λ _. self.new.handles.items ≡ self.old.handles.items) }
+    {
+        let answer = match close(&mut self.worker, &self.line, handle) {
+            Ok(answer) => answer,
+            Err(unanswered) => return Err(unanswered),
+        };
         self.handles.retain(|own| own.0 != handle.0);
         Ok(answer)
     }
 
-    fn run(&mut self, request: Request) -> Result<Answer, Status> {
+    fn run(&mut self, request: Request) -> Result<Answer, Unanswered> {
         match request {
             Request::Create { .. } => self.create(request),
             Request::OnHandle {
                 handle,
                 request: FileRequest::Close,
             } => self.close(handle),
-            other => self.post.answer(other),
+            other => ask(&mut self.worker, &self.line, other),
+        }
+    }
+
+    // The answer of an operation. One that is left has none yet: it is noted, and 34 says so to nobody.
+    fn answer_of(&mut self, request: Request) -> Result<Answer, Status> {
+        match self.run(request) {
+            Ok(answer) => Ok(answer),
+            Err(Unanswered::Refused(status)) => Err(status),
+            Err(Unanswered::Left(orphan)) => {
+                self.leftovers.note(self.worker.rt(), orphan);
+                Err(Status::Busy(1))
+            }
         }
     }
 
     // What a control asks for, and the number that its success says.
-    fn control(&mut self, control: Control) -> Result<u64, Status> {
+    fn done_of(&mut self, control: Control) -> Result<u64, Status> {
         match control {
-            Control::Load { name } => Ok(u64::from(self.post.load(&name)?.0)),
+            Control::Load { name } => Ok(u64::from(self.worker.load(&name)?.0)),
             Control::Attach {
                 filter,
                 volume,
                 name,
                 altitude,
-            } => Ok(u64::from(self.post.attach(filter, volume, name, altitude)?.0)),
-            Control::Detach { instance } => self.post.detach(instance).map(|()| 0),
-            Control::Unload { filter } => self.post.unload(filter).map(|()| 0),
+            } => Ok(u64::from(self.worker.attach(filter, volume, name, altitude)?.0)),
+            Control::Detach { instance } => self.worker.detach(instance).map(|()| 0),
+            Control::Unload { filter } => self.worker.unload(filter).map(|()| 0),
             Control::Dismount { volume: _ } => Err(Status::BadRequest),
             Control::Stop => Ok(0),
         }
     }
 }
 
-impl<L: Ledger, R: Wait, D: Device> Exec for ManagerExec<'_, L, R, D> {
-    ghost use Rattle.fm_front.specs.Answering.{Replies};
+impl<L: Ledger, R: Wait + Clock, D: Device> Exec for ManagerExec<'_, L, R, D> {
+    ghost use Rattle.fm_front.specs.Answering.{IsDone};
 
-    ghost answers = { λ old frame answer new. Replies frame answer };
+    ghost operates = { λ old request answer new. IsDone answer };
 
-    fn answer(&mut self, frame: Frame) -> Frame {
-        let Frame { number, body } = frame;
-        self.post.put_aside();
-        match body {
-            Body::Operation(request) => match self.run(request) {
-                Ok(answer) => reply_of(number, answer.status, answer.information, answer.bytes),
-                Err(status) => bare_reply(self.alloc, number, status),
-            },
-            Body::Control(control) => match self.control(control) {
-                Ok(information) => reply_of(
-                    number,
-                    Status::Success,
-                    information,
-                    Bytes::new(self.alloc),
-                ),
-                Err(status) => bare_reply(self.alloc, number, status),
-            },
-            Body::Reply(_) | Body::Refused(_) => bare_reply(self.alloc, number, Status::BadRequest),
+    ghost controls = { λ old control answer new. IsDone answer };
+
+    fn operate(&mut self, request: Request) -> Reply {
+        self.worker.put_aside();
+        match self.answer_of(request) {
+            Ok(answer) => reply_of(answer.status, answer.information, answer.bytes),
+            Err(status) => status_reply(self.alloc, status),
+        }
+    }
+
+    fn control(&mut self, control: Control) -> Reply {
+        self.worker.put_aside();
+        match self.done_of(control) {
+            Ok(information) => reply_of(Status::Success, information, Bytes::new(self.alloc)),
+            Err(status) => status_reply(self.alloc, status),
         }
     }
 }

@@ -5,17 +5,20 @@
 //! of them share.
 #![tactic(auto)]
 
-mod asking;
 mod connection;
-mod desk;
+mod connections;
+mod endpoint;
 mod exec;
 mod faults;
-mod hall;
-mod house;
+mod gate_seat;
+mod leftovers;
+mod line;
+mod program;
+mod request;
 mod samples;
-mod serving;
-mod site;
+mod server;
+mod waiting;
 
-pub use crate::asking::client;
-pub use crate::serving::front;
-pub use crate::site::{Folder, Site, prepare};
+pub use crate::endpoint::{Endpoint, Folder, prepare};
+pub use crate::program::{front, show_usage};
+pub use crate::request::{CLIENT_USAGE, client};

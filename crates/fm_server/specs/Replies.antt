@@ -3,7 +3,10 @@ use Rattle.std.specs.Prelude.{◌≡◌, ◌⊎◌, ℕ, Bool, true, false, List
 use Rattle.fm_types.specs.Statuses.{information_of}
 use Rattle.fm_types.specs.declared.status.Status.{Status}
 use Rattle.fm_types.specs.declared.status.Status.TheVariants.{BadRequest}
+use Rattle.fm_data.specs.declared.request.Request.{Request}
+use Rattle.fm_data.specs.declared.request.Reply.{Reply}
 use Rattle.fm_data.specs.declared.request.Reply.TheVariants as reply
+use Rattle.fm_wire.specs.declared.frame.Control.{Control}
 use Rattle.fm_wire.specs.declared.frame.Control.TheVariants as control
 use Rattle.fm_wire.specs.declared.frame.Body.{Body}
 use Rattle.fm_wire.specs.declared.frame.Body.TheVariants as body
@@ -12,8 +15,15 @@ use Rattle.fm_wire.specs.Grammar.{IsSpelled}
 use Rattle.fm_wire.specs.Spelling.{spelling_of}
 
 -- a status alone; of Busy its count goes out as the information
+abbrev pub status_reply : Status → Reply
+status_reply status = reply.Done status (information_of status) []
+
+-- a reply under the number of its request
+abbrev pub replied : ℕ → Reply → Frame
+replied number said = record { number = number; body = body.Reply said }
+
 abbrev pub bare_reply : ℕ → Status → Frame
-bare_reply number status = record { number = number; body = body.Reply (reply.Done status (information_of status) []) }
+bare_reply number status = replied number (status_reply status)
 
 abbrev pub is_stop : Body → Bool
 is_stop (body.Control control.Stop) = true
@@ -32,7 +42,17 @@ abbrev pub NoneStops : List Frame → Type 0
 NoneStops [] = Unit {0}
 NoneStops (frame ∷ frames) = (is_stop frame.body ≡ false) × NoneStops frames
 
--- what answers operations and controls
+-- what answers operations and controls answers a frame by the one that it asks for, under its number
+module _ {S : Type 0} (operates : S → Request → Reply → S → Type 0) (controls : S → Control → Reply → S → Type 0) where
+  abbrev pub SaysBody : S → Body → Reply → S → Type 0
+  SaysBody old (body.Operation request) said new = operates old request said new
+  SaysBody old (body.Control control) said new = controls old control said new
+  SaysBody old _ said new = ⊥
+
+  abbrev pub Says : S → Frame → Frame → S → Type 0
+  Says old frame answer new = (said : Reply) × SaysBody old frame.body said new × (answer ≡ replied frame.number said)
+
+-- what answers frames
 module _ {S : Type 0} (answers : S → Frame → Frame → S → Type 0) where
   -- a refused frame is answered with its status, and one that only a server sends with 32; all others are answered by what answers
   abbrev pub AnswersBody : S → ℕ → Body → Frame → S → Type 0

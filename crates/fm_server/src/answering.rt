@@ -3,10 +3,10 @@
 ghost use Rattle.std.specs.Prelude.{◌≡◌, List, ℕ, Err};
 ghost use Rattle.std.specs.Io.KnownBytes.{Appends};
 ghost use Rattle.fm_server.specs.Connections.{Does, DoesAll, HandsOn};
-ghost use Rattle.fm_server.specs.Replies.{AnswersTo};
+ghost use Rattle.fm_server.specs.Replies.{AnswersTo, Says};
 
 use crate::exec::Exec;
-use crate::replies::{bare_reply, is_stop};
+use crate::replies::{bare_reply, is_stop, replied};
 use crate::serve_end::ServeEnd;
 use crate::sink::Sink;
 use crate::writing::send;
@@ -14,18 +14,16 @@ use fm_types::Status;
 use fm_wire::{Body, Frame};
 use std::alloc::Global;
 
-// The answer to a frame: the server's own to one that refuses itself, and else the exec's.
+// The answer to a frame: the server's own to one that refuses itself, and else the exec's, under the frame's number.
 fn answer_to<E: Exec>(alloc: Global, exec: &mut E, frame: Frame) -> Frame
-    ensures { AnswersTo E.answers exec.old frame result exec.new }
+    ensures { AnswersTo (Says E.operates E.controls) exec.old frame result exec.new }
 {
     let Frame { number, body } = frame;
     match body {
+        Body::Operation(request) => replied(number, exec.operate(request)),
+        Body::Control(control) => replied(number, exec.control(control)),
         Body::Refused(status) => bare_reply(alloc, number, status),
         Body::Reply(_) => bare_reply(alloc, number, Status::BadRequest),
-        asked => exec.answer(Frame {
-            number,
-            body: asked,
-        }),
     }
 }
 
@@ -37,7 +35,7 @@ fn do_one<W: Sink, E: Exec>(
     frame: Frame,
 ) -> Result<(), ServeEnd>
     ensures does { (output : List ℕ) × Appends (W.contents sink.old) (W.contents sink.new) output
-        × Does E.answers result exec.old frame output exec.new }
+        × Does (Says E.operates E.controls) result exec.old frame output exec.new }
     ensures handed { HandsOn result (W.handed_on sink.old) (W.handed_on sink.new) }
     ensures fault { result ≡ Err ServeEnd.WriteFault → W.failed sink.new }
 {
@@ -58,7 +56,7 @@ pub(crate) fn do_all<W: Sink, E: Exec>(
     frames: Vec<Frame>,
 ) -> Result<(), ServeEnd>
     ensures does { (output : List ℕ) × Appends (W.contents sink.old) (W.contents sink.new) output
-        × DoesAll E.answers result exec.old frames.items output exec.new }
+        × DoesAll (Says E.operates E.controls) result exec.old frames.items output exec.new }
     ensures handed { HandsOn result (W.handed_on sink.old) (W.handed_on sink.new) }
     ensures fault { result ≡ Err ServeEnd.WriteFault → W.failed sink.new }
 {

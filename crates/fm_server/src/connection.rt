@@ -3,6 +3,7 @@
 ghost use Rattle.std.specs.Prelude.{◌≡◌, ◌<◌, ◌≤◌, ◌+◌, ◌-◌, ◌^◌, ◌++◌, ◌⊎◌, Option, List, ℕ, Err, IfOk, OnOk, length};
 ghost use Rattle.std.specs.Io.KnownBytes.{Appends};
 ghost use Rattle.fm_server.specs.Connections.{Goes, HandsOn, HandsOnAt, LastEnd, Stands, Takes, TakesWhole, TellsBehind, Waits};
+ghost use Rattle.fm_server.specs.Replies.{Says};
 ghost use Rattle.fm_server.specs.Serving.{Leaves};
 
 use crate::answering::do_all;
@@ -30,9 +31,9 @@ fn take_piece<W: Sink, E: Exec>(
     exec: &mut E,
     piece: &[u8],
 ) -> Result<(), ServeEnd>
-    ensures takes { (first : E) (input before : List ℕ) → Stands E.answers first decoder.old input before exec.old →
+    ensures takes { (first : E) (input before : List ℕ) → Stands (Says E.operates E.controls) first decoder.old input before exec.old →
         (output : List ℕ) × Appends (W.contents sink.old) (W.contents sink.new) output
-        × Takes E.answers result first decoder.new (input ++ piece.now) (before ++ output) exec.new }
+        × Takes (Says E.operates E.controls) result first decoder.new (input ++ piece.now) (before ++ output) exec.new }
     ensures handed { HandsOn result (W.handed_on sink.old) (W.handed_on sink.new) }
     ensures fault { result ≡ Err ServeEnd.WriteFault → W.failed sink.new }
     ensures never { result ≡ Err ServeEnd.ReadFault → ⊥ }
@@ -66,9 +67,9 @@ fn take_whole<W: Sink, E: Exec>(
     exec: &mut E,
     piece: &[u8],
 ) -> Result<(), ServeEnd>
-    ensures takes { (first : E) (input before : List ℕ) → Stands E.answers first decoder.old input before exec.old →
+    ensures takes { (first : E) (input before : List ℕ) → Stands (Says E.operates E.controls) first decoder.old input before exec.old →
         (output : List ℕ) × Appends (W.contents sink.old) (W.contents sink.new) output
-        × TakesWhole E.answers result first decoder.new (input ++ piece.now) (before ++ output) exec.new }
+        × TakesWhole (Says E.operates E.controls) result first decoder.new (input ++ piece.now) (before ++ output) exec.new }
     ensures handed { HandsOn result (W.handed_on sink.old) (W.handed_on sink.new) }
     ensures fault { result ≡ Err ServeEnd.WriteFault → W.failed sink.new }
     ensures never { result ≡ Err ServeEnd.ReadFault → ⊥ }
@@ -105,8 +106,8 @@ fn turn<R: Source, W: Sink, E: Exec>(
     ensures read_fault { result ≡ Err ServeEnd.ReadFault → R.failed source.new }
     ensures counted { OnOk result (R.reads source.new ≡ R.reads source.old + 1) }
     ensures goes { (first : E) (read written : Option (List ℕ)) →
-        Waits E.answers first read written decoder.old (R.remaining source.old) (W.contents sink.old) exec.old →
-        Goes E.answers result first read written decoder.new (R.remaining source.new) (W.contents sink.new) exec.new }
+        Waits (Says E.operates E.controls) first read written decoder.old (R.remaining source.old) (W.contents sink.old) exec.old →
+        Goes (Says E.operates E.controls) result first read written decoder.new (R.remaining source.new) (W.contents sink.new) exec.new }
 {
     match receive(source, buffer) {
         Got::Piece(count) => take_whole(alloc, decoder, sink, exec, &buffer[..count]),
@@ -129,8 +130,8 @@ fn run<R: Source, W: Sink, E: Exec>(
     ensures write_fault { result ≡ ServeEnd.WriteFault → W.failed sink.new }
     ensures read_fault { result ≡ ServeEnd.ReadFault → R.failed source.new ⊎ (R.reads source.old + (2 ^ 32 - 1) ≤ R.reads source.new) }
     ensures leaves { (first : E) (read written : Option (List ℕ)) →
-        Waits E.answers first read written decoder.old (R.remaining source.old) (W.contents sink.old) exec.old →
-        Leaves E.answers result read written first (R.remaining source.new) (W.contents sink.new) exec.new }
+        Waits (Says E.operates E.controls) first read written decoder.old (R.remaining source.old) (W.contents sink.old) exec.old →
+        Leaves (Says E.operates E.controls) result read written first (R.remaining source.new) (W.contents sink.new) exec.new }
 {
     for _ in 0..MOST_READS {
         match turn(alloc, source, decoder, sink, exec, buffer) {
@@ -160,7 +161,7 @@ fn serve_by<R: Source, W: Sink, E: Exec>(
     ensures handed { HandsOnAt result (W.handed_on sink.old) (W.handed_on sink.new) }
     ensures write_fault { result ≡ ServeEnd.WriteFault → W.failed sink.new }
     ensures read_fault { result ≡ ServeEnd.ReadFault → R.failed source.new ⊎ (R.reads source.old + (2 ^ 32 - 1) ≤ R.reads source.new) }
-    ensures leaves { Leaves E.answers result (R.remaining source.old) (W.contents sink.old) exec.old (R.remaining source.new) (W.contents sink.new) exec.new }
+    ensures leaves { Leaves (Says E.operates E.controls) result (R.remaining source.old) (W.contents sink.old) exec.old (R.remaining source.new) (W.contents sink.new) exec.new }
 {
     let mut decoder = Decoder::new(alloc);
     run(
@@ -194,7 +195,7 @@ pub fn serve<R: Source, W: Sink, E: Exec>(
     ensures handed { HandsOnAt result (W.handed_on sink.old) (W.handed_on sink.new) }
     ensures write_fault { result ≡ ServeEnd.WriteFault → W.failed sink.new }
     ensures read_fault { result ≡ ServeEnd.ReadFault → R.failed source.new ⊎ (R.reads source.old + (2 ^ 32 - 1) ≤ R.reads source.new) }
-    ensures leaves { Leaves E.answers result (R.remaining source.old) (W.contents sink.old) exec.old (R.remaining source.new) (W.contents sink.new) exec.new }
+    ensures leaves { Leaves (Says E.operates E.controls) result (R.remaining source.old) (W.contents sink.old) exec.old (R.remaining source.new) (W.contents sink.new) exec.new }
 {
     match new_buffer(alloc) {
         Ok(buffer) => serve_by(alloc, source, sink, exec, buffer),

@@ -1,16 +1,26 @@
-//! What answers frames.
+//! What answers requests.
 
-use fm_wire::Frame;
+use fm_data::{Reply, Request};
+use fm_wire::Control;
 
-/// Answers one frame after the other. `serve` asks it what operations and controls ask for, and answers by itself what a frame refuses
-/// and what only a server says.
+/// Answers one request after the other. `serve` opens each frame: it asks what operations and controls ask for, answers by itself what a frame refuses and what
+/// only a server says, and sends each reply under its request's number. A reply that has no spelling goes out as 32.
 pub trait Exec {
-    ghost use Rattle.fm_wire.specs.declared.frame.Frame.{Frame};
+    ghost use Rattle.fm_data.specs.declared.request.Request.{Request};
+    ghost use Rattle.fm_data.specs.declared.request.Reply.{Reply};
+    ghost use Rattle.fm_wire.specs.declared.frame.Control.{Control};
 
-    /// From the first state the frame may be answered so, which leaves the second state.
-    ghost answers: { Self → Frame → Frame → Self → Type 0 };
+    /// From the first state an operation may be answered so, which leaves the second state.
+    ghost operates: { Self → Request → Reply → Self → Type 0 };
 
-    /// Answers the frame. If the answer has no spelling, 32 goes out in its place.
-    fn answer(&mut self, frame: Frame) -> Frame
-        ensures { answers self.old frame result self.new };
+    /// The same of a control.
+    ghost controls: { Self → Control → Reply → Self → Type 0 };
+
+    /// Answers an operation.
+    fn operate(&mut self, request: Request) -> Reply
+        ensures { operates self.old request result self.new };
+
+    /// Answers a control.
+    fn control(&mut self, control: Control) -> Reply
+        ensures { controls self.old control result self.new };
 }

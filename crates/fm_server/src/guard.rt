@@ -1,19 +1,20 @@
-//! A frame that is answered under a pass of its volume, so that a dismount can wait until no request of it is under way.
+//! An operation that is answered under a pass of its volume, so that a dismount can wait until no request of it is under way.
 
-ghost use Rattle.std.specs.Prelude.{◌≡◌, true, false, nat_lt};
+ghost use Rattle.std.specs.Prelude.{◌≡◌, ◌⊎◌, true, false, nat_lt};
+ghost use Rattle.fm_types.specs.declared.status.Status.{Status};
 ghost use Rattle.fm_types.specs.declared.status.Status.TheVariants.{NoVolume};
 ghost use Rattle.fm_rundown.specs.Seats.{IsSeatOf, view_of, volumes_of};
 ghost use Rattle.fm_server.specs.Guards.{Guards, KeepsPasses};
-ghost use Rattle.fm_server.specs.Replies.{bare_reply};
+ghost use Rattle.fm_server.specs.Replies.{status_reply};
 
 use crate::exec::Exec;
-use crate::replies::bare_reply;
+use crate::replies::status_reply;
+use fm_data::{Reply, Request};
 use fm_rundown::{GateSeat, RundownGate};
 use fm_types::VolumeId;
-use fm_wire::Frame;
 use std::alloc::Global;
 
-/// Has the exec answer the frame under a pass of the volume, which is given back before this returns (`ExAcquireRundownProtection` and
+/// Has the exec answer the operation under a pass of the volume, which is given back before this returns (`ExAcquireRundownProtection` and
 /// `ExReleaseRundownProtection` around a request). The exec is asked exactly if the gate gives the pass, and its answer is the reply. If the gate
 /// refuses it, that refusal is the reply and the exec isn't asked: 7 (`NoVolume`)
 /// if the gate has no such volume, 33 (`Dismounting`) if it was found closing, as it is ever after the seat has seen that, 29 (`TooMany`) if the
@@ -24,20 +25,21 @@ pub fn guarded<E: Exec>(
     seat: &mut GateSeat,
     volume: VolumeId,
     exec: &mut E,
-    frame: Frame,
-) -> Frame
+    request: Request,
+) -> Reply
     requires own { IsSeatOf gate.now seat.old }
     ensures own { IsSeatOf gate.now seat.new }
     ensures passes { KeepsPasses (view_of seat.old) (view_of seat.new) }
-    ensures guards { nat_lt volume.0 (volumes_of gate.now) ≡ true → Guards E.answers volume.0 (view_of seat.old) exec.old frame result (view_of seat.new) exec.new }
-    ensures none { nat_lt volume.0 (volumes_of gate.now) ≡ false → (result ≡ bare_reply frame.number NoVolume) × (exec.new ≡ exec.old) }
+    ensures says { ((status : Status) × (result ≡ status_reply status) × (exec.new ≡ exec.old)) ⊎ E.operates exec.old request result exec.new }
+    ensures guards { nat_lt volume.0 (volumes_of gate.now) ≡ true → Guards E.operates volume.0 (view_of seat.old) exec.old request result (view_of seat.new) exec.new }
+    ensures none { nat_lt volume.0 (volumes_of gate.now) ≡ false → (result ≡ status_reply NoVolume) × (exec.new ≡ exec.old) }
 {
     match gate.enter(seat, volume) {
         Ok(()) => {
-            let answer = exec.answer(frame);
+            let answer = exec.operate(request);
             let _ = gate.leave(seat, volume);
             answer
         }
-        Err(status) => bare_reply(alloc, frame.number, status),
+        Err(status) => status_reply(alloc, status),
     }
 }

@@ -16,7 +16,7 @@ mod writing;
 pub use crate::connection::{MOST_READS, serve};
 pub use crate::exec::Exec;
 pub use crate::guard::guarded;
-pub use crate::replies::bare_reply;
+pub use crate::replies::{bare_reply, status_reply};
 pub use crate::serve_end::ServeEnd;
 pub use crate::sink::{Sink, WriterSink};
 pub use crate::source::{ReaderSource, Source};

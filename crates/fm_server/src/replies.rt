@@ -1,7 +1,7 @@
 //! Replies of the server's own, and the bytes of an answer.
 
 ghost use Rattle.std.specs.Prelude.{◌≡◌, MatchResult};
-ghost use Rattle.fm_server.specs.Replies.{Sends, bare_reply, is_stop};
+ghost use Rattle.fm_server.specs.Replies.{Sends, bare_reply, is_stop, replied, status_reply};
 
 use crate::serve_end::ServeEnd;
 use fm_data::Reply;
@@ -9,22 +9,36 @@ use fm_types::{Bytes, Status};
 use fm_wire::{Body, Control, Frame, encode};
 use std::alloc::Global;
 
-/// The reply under that number that says a status, with the count of a busy one, and has no bytes.
-pub fn bare_reply(alloc: Global, number: u32, status: Status) -> Frame
-    ensures { result ≡ bare_reply number status }
+/// The reply that says a status, with the count of a busy one, and has no bytes.
+pub fn status_reply(alloc: Global, status: Status) -> Reply
+    ensures { result ≡ status_reply status }
 {
     let information = match status {
         Status::Busy(count) => count,
         _ => 0,
     };
+    Reply::Done {
+        status,
+        information,
+        bytes: Bytes::new(alloc),
+    }
+}
+
+/// A reply under its request's number.
+pub(crate) fn replied(number: u32, said: Reply) -> Frame
+    ensures { result ≡ replied number said }
+{
     Frame {
         number,
-        body: Body::Reply(Reply::Done {
-            status,
-            information,
-            bytes: Bytes::new(alloc),
-        }),
+        body: Body::Reply(said),
     }
+}
+
+/// The reply that says a status, under a request's number.
+pub fn bare_reply(alloc: Global, number: u32, status: Status) -> Frame
+    ensures { result ≡ bare_reply number status }
+{
+    replied(number, status_reply(alloc, status))
 }
 
 /// Whether a client asks the server to end.

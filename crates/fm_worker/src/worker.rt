@@ -11,12 +11,13 @@ use crate::shared::Shared;
 use fm_data::{Answer, Request};
 use fm_device::Device;
 use fm_filter::Minifilter;
-use fm_lock::{Hand, Manager};
+use fm_lock::{Hand, Manager, Waited};
 use fm_queue::{JobPass, JobQueue};
 use fm_types::{OpId, Status};
 use std::alloc::Global;
 use std::sync::Wait;
 use std::sync::ledger::Ledger;
+use std::time::{Clock, Duration};
 
 /// A thread that is between two callbacks, with all that it needs: what it shares with others, and its own. It can be moved into a closure as it is, since it
 /// says itself that its hand holds nothing and that its pass is of its queue: no clause of a closure has to, and none of the calls here.
@@ -78,11 +79,22 @@ impl<'a, F: Minifilter, L: Ledger, R: Wait, G: Gate, D: Device> Worker<'a, F, L,
         (hand, devices)
     }
 
+    /// The runtime.
+    pub fn rt(&self) -> &'a R {
+        self.shared.rt
+    }
+
+    /// Begins an operation, and has a worker carry it on (`submit`): `wait_for` tells its answer. Refused as its beginning is.
+    pub fn begin(&mut self, request: Request) -> Result<OpId, Status> {
+        let operation = self.shared.manager.begin(self.shared.rt, request)?;
+        self.submit(operation);
+        Ok(operation)
+    }
+
     /// Begins an operation, has a worker carry it on (`submit`), and waits for its answer. What of it is this thread's turn alone is done here. Refused as its
     /// beginning is.
     pub fn answer(&mut self, request: Request) -> Result<Answer, Status> {
-        let operation = self.shared.manager.begin(self.shared.rt, request)?;
-        self.submit(operation);
+        let operation = self.begin(request)?;
         self.wait(operation)
     }
 
@@ -94,6 +106,24 @@ impl<'a, F: Minifilter, L: Ledger, R: Wait, G: Gate, D: Device> Worker<'a, F, L,
             match self.shared.manager.wait_turn(rt, hand, operation) {
                 Ok(Some(answer)) => return Ok(answer),
                 Ok(None) => self.carry_here(operation),
+                Err(status) => return Err(status),
+            }
+        }
+        unreachable!()
+    }
+}
+
+impl<'a, F: Minifilter, L: Ledger, R: Wait + Clock, G: Gate, D: Device> Worker<'a, F, L, R, G, D> {
+    /// Waits for the answer of an operation that was begun and submitted, but no longer than that time: none then, and it can be waited for again. What of it
+    /// is this thread's turn alone is done here. Refused with 30, if the operation isn't there or its answer was handed out.
+    pub fn wait_for(&mut self, operation: OpId, time: Duration) -> Result<Option<Answer>, Status> {
+        let rt = self.shared.rt;
+        'turns: for _ in rt.forever() {
+            let hand = &self.own.port.hand;
+            match self.shared.manager.wait_turn_for(rt, hand, operation, time) {
+                Ok(Waited::Answer(answer)) => return Ok(Some(answer)),
+                Ok(Waited::Late) => return Ok(None),
+                Ok(Waited::Turn) => self.carry_here(operation),
                 Err(status) => return Err(status),
             }
         }

@@ -1,6 +1,6 @@
 //! Conversations over a socket: what the client prints for each request, and what the server says at its end.
 
-use fm_front::{Folder, Site, client, front, prepare};
+use fm_front::{Endpoint, Folder, client, front, prepare};
 use fm_wire::encode;
 use fm_words::{Fault, Front, request_of};
 use std::alloc::{AllocError, Global};
@@ -191,7 +191,7 @@ fn meet<R>(
     rt: &R,
     alloc: Global,
     at: &Front,
-    site: Result<Site<'_, Folder<HostRuntime>>, Fault>,
+    endpoint: Result<Endpoint<Folder<HostRuntime>>, Fault>,
     talk: Talk,
 ) -> (bool, u8, Vec<u8>)
 where
@@ -200,7 +200,7 @@ where
     let mut printed = Vec::new(alloc);
     let (status, is_well) = thread::join(
         rt,
-        || front(rt, alloc, site, &mut printed),
+        || front(rt, alloc, endpoint, &mut printed),
         || converse(rt, alloc, at, talk),
     );
     (is_well, status, printed)
@@ -282,13 +282,13 @@ fn a_cut_connection_closes_its_handles(rt: HostRuntime) {
 fn refuses<R>(
     host: &R,
     alloc: Global,
-    site: Result<Site<'_, Folder<HostRuntime>>, Fault>,
+    endpoint: Result<Endpoint<Folder<HostRuntime>>, Fault>,
 ) -> (u8, Vec<u8>)
 where
-    R: Threads + Wait + Sync + Net<Listener = TcpListener, Stream = TcpStream>,
+    R: Threads + Wait + Sync + Clock + Net<Listener = TcpListener, Stream = TcpStream>,
 {
     let mut printed = Vec::new(alloc);
-    let status = front(host, alloc, site, &mut printed);
+    let status = front(host, alloc, endpoint, &mut printed);
     (status, printed)
 }
 

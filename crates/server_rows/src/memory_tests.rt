@@ -1,32 +1,31 @@
 //! What the server and the readers of words make of refused memory.
 
 use crate::pipes::{BYTE_BY_BYTE, Pieces, Taken};
-use fm_data::Reply;
-use fm_server::{Exec, ReaderSource, ServeEnd, WriterSink, serve};
-use fm_types::{Bytes, Status};
-use fm_wire::{Body, Frame, encode};
+use fm_data::{Reply, Request};
+use fm_server::{Exec, ReaderSource, ServeEnd, WriterSink, serve, status_reply};
+use fm_types::Status;
+use fm_wire::{Control, encode};
 use fm_words::{front_of, request_of};
 use std::alloc::Global;
 use std::process::Abort;
 
-// Answers each frame with success, without memory.
+// Answers each request with success, without memory.
 #[derive(Drop)]
 struct Agreeing {
     alloc: Global,
 }
 
 impl Exec for Agreeing {
-    ghost answers = { λ old frame answer new. Unit {0} };
+    ghost operates = { λ old request said new. Unit {0} };
 
-    fn answer(&mut self, frame: Frame) -> Frame {
-        Frame {
-            number: frame.number,
-            body: Body::Reply(Reply::Done {
-                status: Status::Success,
-                information: 0,
-                bytes: Bytes::new(self.alloc),
-            }),
-        }
+    ghost controls = { λ old control said new. Unit {0} };
+
+    fn operate(&mut self, _request: Request) -> Reply {
+        status_reply(self.alloc, Status::Success)
+    }
+
+    fn control(&mut self, _control: Control) -> Reply {
+        status_reply(self.alloc, Status::Success)
     }
 }
 

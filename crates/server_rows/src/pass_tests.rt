@@ -1,13 +1,13 @@
-//! Each operation's frame stands between its entry at the gate before a volume and its end there.
+//! Each operation stands between its entry at the gate before a volume and its end there.
 
 ghost use Rattle.std.specs.Prelude.{All, IfSome};
 ghost use Rattle.fm_rundown.specs.Seats.{IsSeatOf};
 
 use fm_data::{Reply, Request};
 use fm_rundown::{GateSeat, Look, RundownGate};
-use fm_server::{Exec, guarded};
-use fm_types::{Bytes, Status, VolumeId};
-use fm_wire::{Body, Frame};
+use fm_server::{Exec, guarded, status_reply};
+use fm_types::{Status, VolumeId};
+use fm_wire::Control;
 use std::alloc::Global;
 
 /// The only volume.
@@ -27,37 +27,29 @@ struct Closing<'a> {
 impl Exec for Closing<'_> {
     ghost use Rattle.std.specs.Prelude.{⊤};
 
-    ghost answers = { λ _ _ _ _. ⊤ };
+    ghost operates = { λ _ _ _ _. ⊤ };
 
-    fn answer(&mut self, frame: Frame) -> Frame {
+    ghost controls = { λ _ _ _ _. ⊤ };
+
+    fn operate(&mut self, _request: Request) -> Reply {
         let _ = self.gate.close(&mut self.seat, VOLUME);
         self.seen = self.gate.look(&mut self.seat, VOLUME).ok();
         self.answers = self.answers.saturating_add(1);
-        Frame {
-            number: frame.number,
-            body: Body::Reply(Reply::Done {
-                status: Status::Success,
-                information: 0,
-                bytes: Bytes::new(self.alloc),
-            }),
-        }
+        status_reply(self.alloc, Status::Success)
+    }
+
+    fn control(&mut self, _control: Control) -> Reply {
+        status_reply(self.alloc, Status::BadRequest)
     }
 }
 
-fn listing(number: u32) -> Frame {
-    Frame {
-        number,
-        body: Body::Operation(Request::List { volume: VOLUME }),
-    }
+fn listing() -> Request {
+    Request::List { volume: VOLUME }
 }
 
-// The status of a reply under that number.
-fn status_in(frame: Frame, number: u32) -> Option<Status> {
-    if frame.number != number {
-        return None;
-    }
-    match frame.body {
-        Body::Reply(Reply::Done { status, .. }) => Some(status),
+fn status_in(said: Reply) -> Option<Status> {
+    match said {
+        Reply::Done { status, .. } => Some(status),
         _ => None,
     }
 }
@@ -71,7 +63,7 @@ fn take_seat(gate: &RundownGate, seats: &mut Vec<GateSeat>) -> Option<GateSeat>
     seats.pop()
 }
 
-/// What two frames are answered, what was seen while the first one was, what is seen after it, and how often the exec answered.
+/// What two operations are answered, what was seen while the first one was, what is seen after it, and how often the exec answered.
 #[derive(Clone, Copy)]
 struct Seen {
     first: Option<Status>,
@@ -82,7 +74,7 @@ struct Seen {
 }
 
 // Two listings; the volume is closed while the first one is answered.
-fn two_frames(alloc: Global) -> Result<Seen, Status> {
+fn two_listings(alloc: Global) -> Result<Seen, Status> {
     let (gate, mut seats) = RundownGate::new(alloc, 1, 2)?;
     let Some(mut own) = take_seat(&gate, &mut seats) else {
         return Err(Status::TooMany);
@@ -97,12 +89,12 @@ fn two_frames(alloc: Global) -> Result<Seen, Status> {
         seen: None,
         answers: 0,
     };
-    let first = guarded(alloc, &gate, &mut own, VOLUME, &mut exec, listing(1));
+    let first = guarded(alloc, &gate, &mut own, VOLUME, &mut exec, listing());
     let after = gate.look(&mut own, VOLUME).ok();
-    let second = guarded(alloc, &gate, &mut own, VOLUME, &mut exec, listing(2));
+    let second = guarded(alloc, &gate, &mut own, VOLUME, &mut exec, listing());
     Ok(Seen {
-        first: status_in(first, 1),
-        second: status_in(second, 2),
+        first: status_in(first),
+        second: status_in(second),
         during: exec.seen,
         after,
         answers: exec.answers,
@@ -111,7 +103,7 @@ fn two_frames(alloc: Global) -> Result<Seen, Status> {
 
 #[test]
 fn pass_brackets(rt: HostRuntime) {
-    let seen = two_frames(rt.alloc()).expect(&rt, "a gate of two seats");
+    let seen = two_listings(rt.alloc()).expect(&rt, "a gate of two seats");
     assert!(rt; seen.first == Some(Status::Success) && seen.second == Some(Status::Dismounting));
     assert!(rt;
         matches!(seen.during, Some(Look::Closing)) && matches!(seen.after, Some(Look::Drained))

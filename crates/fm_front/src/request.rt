@@ -1,7 +1,7 @@
 //! The client program: one request, and its reply.
 
 use crate::faults::{fault_of, outside};
-use crate::serving::tell;
+use crate::program::{show_usage, tell};
 use fm_data::Reply;
 use fm_text::write_hex;
 use fm_types::Status;
@@ -12,10 +12,13 @@ use std::io::{Read, Write};
 use std::net::{Net, TcpListener, TcpStream};
 use std::os::unix::net::UnixStream;
 
+/// How the client is used.
+pub const CLIENT_USAGE: &str = "usage: fltc SOCKET WORDS";
+
 /// How many bytes are read at once.
 const PIECE: usize = 4096;
 
-// Reads the frames that come next, at least one. A stream that ends before, or that is none of frames, is a fault.
+// Reads the frames that come next, at least one. A stream that ends before, that has bytes behind them, or that is none of frames, is a fault.
 fn read_frames(alloc: Global, stream: &UnixStream) -> Result<Vec<Frame>, Fault> {
     let mut decoder = Decoder::new(alloc);
     let mut piece = vec![in alloc; 0u8; PIECE]?;
@@ -30,13 +33,17 @@ fn read_frames(alloc: Global, stream: &UnixStream) -> Result<Vec<Frame>, Fault> 
         }
         let frames = decoder.feed(&piece[..count]).map_err(fault_of)?;
         if !frames.is_empty() {
-            return Ok(frames);
+            return if decoder.is_between_frames() {
+                Ok(frames)
+            } else {
+                Err(fault_of(Status::DeviceFault))
+            };
         }
     }
     Err(fault_of(Status::EndOfFile))
 }
 
-// Sends the request, and takes its reply. An answer that isn't one frame is a fault.
+// Sends the request, and takes its reply. An answer that isn't one frame under the request's number is a fault.
 fn ask<R>(rt: &R, alloc: Global, socket: &str, request: &Frame) -> Result<Frame, Fault>
 where
     R: Net<Listener = TcpListener, Stream = TcpStream>,
@@ -48,7 +55,7 @@ where
     writer.flush().map_err(outside)?;
     let mut frames = read_frames(alloc, &stream)?;
     match frames.pop() {
-        Some(frame) if frames.is_empty() => Ok(frame),
+        Some(frame) if frames.is_empty() && frame.number == request.number => Ok(frame),
         _ => Err(fault_of(Status::DeviceFault)),
     }
 }
@@ -124,7 +131,7 @@ where
         Ok(_) => 4,
         Err(fault) => {
             if matches!(fault, Fault::Words) {
-                let _ = out.write_all(b"usage: fltc SOCKET WORDS\n");
+                return show_usage(CLIENT_USAGE, 2, out);
             }
             tell(&fault, out)
         }

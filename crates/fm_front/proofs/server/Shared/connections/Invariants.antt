@@ -1,7 +1,7 @@
 use Rattle.std.specs.Prelude.{All}
 use Rattle.fm_queue.specs.Passes.{IsPassOf}
 use Rattle.fm_rundown.specs.Seats.{IsSeatOf}
-use Rattle.fm_front.proofs.house.Floor.connections.Given as goal
+use Rattle.fm_front.proofs.server.Shared.connections.Given as goal
 
 abbrev pub invariant-connections : goal.invariant-connections
 invariant-connections g l =

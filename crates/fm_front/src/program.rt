@@ -1,0 +1,104 @@
+//! The server program: from what it stands on to its exit status.
+
+ghost use Rattle.std.specs.Prelude.{◌≡◌};
+
+use crate::endpoint::Endpoint;
+use crate::faults::outside;
+use crate::server::run_server;
+use fm_device::Device;
+use fm_types::limits::PARTS;
+use fm_words::Fault;
+use std::alloc::Global;
+use std::io::{self, Write};
+use std::marker::Brand;
+use std::net::{Net, TcpListener, TcpStream};
+use std::sync::Wait;
+use std::sync::ledger::Blank;
+use std::thread::Threads;
+use std::time::Clock;
+
+/// What a server says at its end.
+#[derive(Clone, Copy, Drop)]
+pub(crate) struct Tally {
+    pub(crate) born: u64,
+    pub(crate) cleaned: u64,
+    pub(crate) leaks: u64,
+    pub(crate) is_clean: bool,
+}
+
+// Serves at that endpoint.
+fn serve<R, D, W>(rt: &R, alloc: Global, endpoint: Endpoint<D>, out: W) -> (Result<Tally, Fault>, W)
+where
+    R: Threads + Wait + Sync + Clock + Net<Listener = TcpListener, Stream = TcpStream>,
+    D: Device + Send,
+    W: Write + Drop,
+{
+    run_server::<Brand, R, D, W>(rt, alloc, Blank::new(PARTS), endpoint, out)
+}
+
+// Says what became of contexts.
+fn say<W: Write>(alloc: Global, tally: &Tally, out: &mut W) -> io::Result<()> {
+    let line = format!(in alloc;
+        "born {} cleaned {} leaks {}\n",
+        tally.born, tally.cleaned, tally.leaks
+    )?;
+    out.write_all(line.as_bytes())?;
+    out.flush()
+}
+
+// The exit status of a server that ended so, once it has said what became of contexts, or that something failed.
+fn finish<W: Write>(alloc: Global, served: Result<Tally, Fault>, out: &mut W) -> u8 {
+    let told = match served {
+        Ok(tally) => match say(alloc, &tally, out) {
+            Ok(()) if tally.is_clean => return 0,
+            Ok(()) => return 1,
+            Err(error) => outside(error),
+        },
+        Err(fault) => fault,
+    };
+    tell(&told, out)
+}
+
+/// The server program, at what `prepare` made: the folder is volume 0, named v0, behind the Unix socket, and so many workers carry operations on. It prints
+/// `ready` once its threads are there and it takes connections, and at a Stop, after the last connection has ended and every filter was unloaded, how many
+/// contexts were allocated and cleaned up and how many references were left behind. The exit status: 0; 1 if a growth was refused, a thread couldn't be made, or
+/// something couldn't be closed at the end; 3, and `fault` is printed, if the folder, the socket or the writer failed.
+pub fn front<R, D, W>(rt: &R, alloc: Global, endpoint: Result<Endpoint<D>, Fault>, out: W) -> u8
+where
+    R: Threads + Wait + Sync + Clock + Net<Listener = TcpListener, Stream = TcpStream>,
+    D: Device + Send,
+    W: Write + Drop,
+{
+    let mut out = out;
+    match endpoint {
+        Ok(endpoint) => {
+            let (served, mut out) = serve(rt, alloc, endpoint, out);
+            finish(alloc, served, &mut out)
+        }
+        Err(fault) => tell(&fault, &mut out),
+    }
+}
+
+/// Prints `fault` for a fault from outside; the exit status of any.
+pub(crate) fn tell<W: Write>(fault: &Fault, out: &mut W) -> u8 {
+    if matches!(fault, Fault::Outside(_)) {
+        let _ = out.write_all(b"fault\n");
+        let _ = out.flush();
+    }
+    fault.status()
+}
+
+// A line, written out.
+fn write_line<W: Write>(text: &str, out: &mut W) -> io::Result<()> {
+    out.write_all(text.as_bytes())?;
+    out.write_all(b"\n")?;
+    out.flush()
+}
+
+/// Prints how a program is used. The exit status is the one that is passed, or 3 if that can't be written.
+pub fn show_usage<W: Write>(text: &str, status: u8, out: &mut W) -> u8 {
+    match write_line(text, out) {
+        Ok(()) => status,
+        Err(_) => 3,
+    }
+}

@@ -1,0 +1,517 @@
+//! A server's threads, from the first to the last.
+
+ghost use Rattle.std.specs.Prelude.{◌≡◌, All, IfSome};
+ghost use Rattle.fm_queue.specs.Passes.{IsPassOf};
+ghost use Rattle.fm_rundown.specs.Seats.{IsSeatOf};
+
+use crate::connection::Connection;
+use crate::connections::{Connections, Incoming};
+use crate::endpoint::Endpoint;
+use crate::faults::{fault_of, outside};
+use crate::gate_seat::{ServerWorker, VolumeSeat};
+use crate::leftovers::Leftovers;
+use crate::program::Tally;
+use crate::samples::samples;
+use fm_device::Device;
+use fm_lock::{Hand, Manager};
+use fm_queue::{JobPass, JobQueue};
+use fm_rundown::{GateSeat, RundownGate};
+use fm_samples::Sample;
+use fm_types::limits::{CONNECTIONS, JOBS, WORKERS};
+use fm_types::{FilterId, Name, Status};
+use fm_words::Fault;
+use fm_worker::{OpenGate, Worker};
+use std::alloc::{AllocError, Global};
+use std::io::Write;
+use std::net::{Net, TcpListener, TcpStream};
+use std::os::unix::net::UnixListener;
+use std::sync::Wait;
+use std::sync::ledger::{Blank, Ledger};
+use std::thread;
+use std::thread::Threads;
+use std::time::{Clock, Duration};
+
+/// How many milliseconds the accept rests after an error.
+const REST: u64 = 20;
+
+/// How often operations whose clients are gone are looked at, at the end, and how many milliseconds lie between two looks: five seconds in all.
+const LOOKS: u32 = 500;
+
+const PAUSE: u64 = 10;
+
+/// What all threads of a server share.
+#[derive(Drop)]
+struct Shared<'a, L: Ledger, R: Wait> {
+    rt: &'a R,
+    alloc: Global,
+    manager: &'a Manager<Sample, L>,
+    queue: &'a JobQueue,
+    rundown: &'a RundownGate,
+    gate: &'a OpenGate,
+    leftovers: &'a Leftovers,
+}
+
+// Takes a seat at the rundown gate.
+fn take_seat(rundown: &RundownGate, seats: &mut Vec<GateSeat>) -> Option<GateSeat>
+    requires own { All (λ seat. IsSeatOf rundown.now seat) seats.old.items }
+    ensures own { All (λ seat. IsSeatOf rundown.now seat) seats.new.items }
+    ensures taken { IfSome result (λ seat. IsSeatOf rundown.now seat) }
+{
+    seats.pop()
+}
+
+impl<'a, L: Ledger, R: Wait> Shared<'a, L, R> {
+    // The worker of a thread, over those devices.
+    fn worker<D: Device>(
+        &self,
+        passes: &mut Vec<JobPass>,
+        devices: D,
+    ) -> Result<ServerWorker<'a, L, R, D>, Status>
+        requires { All (λ pass. IsPassOf self.now.queue.now pass) passes.old.items }
+        ensures { All (λ pass. IsPassOf self.now.queue.now pass) passes.new.items }
+    {
+        Worker::new(
+            self.rt,
+            self.manager,
+            self.queue,
+            self.gate,
+            self.alloc,
+            passes,
+            devices,
+        )
+    }
+
+    // The workers.
+    fn workers<D: Device>(
+        &self,
+        passes: &mut Vec<JobPass>,
+        below: Vec<D>,
+    ) -> Result<Vec<ServerWorker<'a, L, R, D>>, Status>
+        requires { All (λ pass. IsPassOf self.now.queue.now pass) passes.old.items }
+        ensures { All (λ pass. IsPassOf self.now.queue.now pass) passes.new.items }
+    {
+        let mut workers = Vec::with_capacity(self.alloc, WORKERS)?;
+        'workers: for devices in below {
+            let worker = self.worker(passes, devices)?;
+            workers.push(worker)?;
+        }
+        Ok(workers)
+    }
+
+    // A thread's place for connections, with its worker and its seat.
+    fn connection<D: Device>(
+        &self,
+        passes: &mut Vec<JobPass>,
+        seats: &mut Vec<GateSeat>,
+        devices: D,
+    ) -> Result<Connection<'a, L, R, D>, Status>
+        requires passes { All (λ pass. IsPassOf self.now.queue.now pass) passes.old.items }
+        requires seats { All (λ seat. IsSeatOf self.now.rundown.now seat) seats.old.items }
+        ensures passes { All (λ pass. IsPassOf self.now.queue.now pass) passes.new.items }
+        ensures seats { All (λ seat. IsSeatOf self.now.rundown.now seat) seats.new.items }
+    {
+        let Some(seat) = take_seat(self.rundown, seats) else {
+            return Err(Status::TooMany);
+        };
+        let worker = self.worker(passes, devices)?;
+        let seat = VolumeSeat::new(self.rundown, seat);
+        Ok(Connection::new(self.alloc, worker, self.leftovers, seat))
+    }
+
+    // All of them.
+    fn connections<D: Device>(
+        &self,
+        passes: &mut Vec<JobPass>,
+        seats: &mut Vec<GateSeat>,
+        below: Vec<D>,
+    ) -> Result<Vec<Connection<'a, L, R, D>>, Status>
+        requires passes { All (λ pass. IsPassOf self.now.queue.now pass) passes.old.items }
+        requires seats { All (λ seat. IsSeatOf self.now.rundown.now seat) seats.old.items }
+    {
+        let mut all = Vec::with_capacity(self.alloc, CONNECTIONS)?;
+        'connections: for devices in below {
+            let connection = self.connection(passes, seats, devices)?;
+            all.push(connection)?;
+        }
+        Ok(all)
+    }
+}
+
+impl<'a, L: Ledger, R: Wait> Shared<'a, L, R> {
+    // What the threads own.
+    fn staff<D: Device>(
+        &self,
+        passes: &mut Vec<JobPass>,
+        seats: &mut Vec<GateSeat>,
+        workers: Vec<D>,
+        connections: Vec<D>,
+    ) -> Result<Staff<'a, L, R, D>, Status>
+        requires passes { All (λ pass. IsPassOf self.now.queue.now pass) passes.old.items }
+        requires seats { All (λ seat. IsSeatOf self.now.rundown.now seat) seats.old.items }
+    {
+        let workers = self.workers(passes, workers)?;
+        let connections = self.connections(passes, seats, connections)?;
+        Ok(Staff {
+            workers,
+            connections,
+        })
+    }
+}
+
+// Takes connections until a Stop came. The socket is closed after it, and so is the end at which they come in: the threads inside end once they have served who
+// is there. An error ends nothing but that try.
+fn accept<R: Wait + Clock>(
+    connections: &Connections<'_, R>,
+    listener: UnixListener,
+    incoming: Incoming,
+) {
+    for stream in listener.incoming() {
+        if connections.is_stopping() {
+            break;
+        }
+        match stream {
+            Ok(stream) => connections.admit(&incoming, stream),
+            Err(_) => thread::sleep(connections.rt(), Duration::from_millis(REST)),
+        }
+    }
+}
+
+// Says that connections are taken.
+fn say_ready<W: Write>(out: &mut W) -> Result<(), Fault> {
+    out.write_all(b"ready\n").map_err(outside)?;
+    out.flush().map_err(outside)
+}
+
+// Unloads each filter, after the end of a dismount that began.
+fn unload_all<L: Ledger, R: Wait, D: Device>(
+    connection: &mut Connection<'_, L, R, D>,
+    filters: usize,
+) {
+    connection.end_dismount();
+    let worker = connection.worker();
+    for filter in 0..u8::try_from(filters).unwrap_or(u8::MAX) {
+        let _ = worker.force_unload(FilterId(filter));
+    }
+}
+
+// Takes the answers of operations whose clients are gone. Where a filter holds some, it is unloaded beside the workers, which has it let them go: they are
+// looked at again, for five seconds at most.
+fn end_orphans<L: Ledger, R: Wait + Clock, D: Device>(
+    leftovers: &Leftovers,
+    connection: &mut Connection<'_, L, R, D>,
+    filters: usize,
+) {
+    let rt = connection.worker().rt();
+    'looks: for _ in 0..LOOKS {
+        leftovers.collect_orphans(connection.worker());
+        if !leftovers.has_orphans(rt) {
+            break 'looks;
+        }
+        unload_all(connection, filters);
+        thread::sleep(rt, Duration::from_millis(PAUSE));
+    }
+}
+
+// After the last connection: what is left of connections is ended, and the workers end. Whether nothing is left.
+fn end_connections<L: Ledger, R: Wait + Clock, D: Device>(
+    leftovers: &Leftovers,
+    all: &mut [Connection<'_, L, R, D>],
+    filters: usize,
+    workers: usize,
+) -> bool {
+    let Some(connection) = all.first_mut() else {
+        return false;
+    };
+    end_orphans(leftovers, connection, filters);
+    let worker = connection.worker();
+    let is_clean = leftovers.close_left(worker) && !leftovers.has_orphans(worker.rt());
+    worker.put_all_aside();
+    for _ in 0..workers {
+        worker.stop_worker();
+    }
+    is_clean
+}
+
+// After the last worker, so that none still cleans up: each filter is unloaded.
+fn end_filters<L: Ledger, R: Wait, D: Device>(all: &mut [Connection<'_, L, R, D>], filters: usize) {
+    if let Some(connection) = all.first_mut() {
+        unload_all(connection, filters);
+    }
+}
+
+// The hands of these threads. There is room for them.
+fn gather_hands<L: Ledger, R: Wait, D: Device>(
+    staff: Staff<'_, L, R, D>,
+    hands: &mut Vec<Hand<L>>,
+) {
+    let Staff {
+        workers,
+        connections,
+    } = staff;
+    gather_workers(workers, hands);
+    for connection in connections {
+        let _ = hands.push(connection.into_hand());
+    }
+}
+
+// The hands of these workers. There is room for them.
+fn gather_workers<L: Ledger, R: Wait, D: Device>(
+    workers: Vec<ServerWorker<'_, L, R, D>>,
+    hands: &mut Vec<Hand<L>>,
+) {
+    for worker in workers {
+        let _ = hands.push(worker.into_parts().0);
+    }
+}
+
+/// How a server's threads ended: whether nothing stayed open, and whether all of them could be made and `ready` be said.
+#[derive(Drop)]
+struct Outcome {
+    is_clean: bool,
+    served: Result<(), Fault>,
+}
+
+/// What the threads of a server own: workers, and places for connections.
+#[derive(Drop)]
+struct Staff<'a, L: Ledger, R: Wait, D: Device> {
+    workers: Vec<ServerWorker<'a, L, R, D>>,
+    connections: Vec<Connection<'a, L, R, D>>,
+}
+
+// A thread for each connection that may be there, and then the accept beside them, once `ready` is said. It ends after the last connection.
+fn serve_connections<L, R, D, W>(
+    connections: &Connections<'_, R>,
+    all: &mut [Connection<'_, L, R, D>],
+    listener: UnixListener,
+    incoming: Incoming,
+    out: W,
+) -> (Result<(), Fault>, W)
+where
+    L: Ledger + Send + Sync,
+    R: Threads + Wait + Sync + Clock + Net<Listener = TcpListener, Stream = TcpStream>,
+    D: Device + Send,
+    W: Write + Drop,
+{
+    let rt = connections.rt();
+    let every = all.iter_mut();
+    thread::scope(thread::scope_env(), rt, |scope| {
+        let mut out = out;
+        for connection in every {
+            if scope
+                .spawn(move || connections.serve_thread(connection))
+                .is_err()
+            {
+                return (Err(Fault::Memory(AllocError)), out);
+            }
+        }
+        let told = say_ready(&mut out);
+        if told.is_ok() {
+            accept(connections, listener, incoming);
+        }
+        (told, out)
+    })
+}
+
+// A thread for each worker, and the connections beside them. If a thread can't be made, no connection is taken.
+fn serve_beside<'a, L, R, D, W>(
+    connections: &Connections<'_, R>,
+    leftovers: &Leftovers,
+    manager: &Manager<Sample, L>,
+    staff: Staff<'a, L, R, D>,
+    listener: UnixListener,
+    incoming: Incoming,
+    out: W,
+) -> (Outcome, Staff<'a, L, R, D>, W)
+where
+    L: Ledger + Send + Sync,
+    R: Threads + Wait + Sync + Clock + Net<Listener = TcpListener, Stream = TcpStream>,
+    D: Device + Send,
+    W: Write + Drop,
+{
+    let Staff {
+        mut workers,
+        connections: mut all,
+    } = staff;
+    let rt = connections.rt();
+    let every = workers.iter_mut();
+    let (outcome, mut all, out) = thread::scope(thread::scope_env(), rt, |scope| {
+        let mut out = out;
+        let mut started = 0_usize;
+        let mut served = Ok(());
+        'workers: for worker in every {
+            if scope.spawn(move || worker.work()).is_err() {
+                served = Err(Fault::Memory(AllocError));
+                break 'workers;
+            }
+            started = started.saturating_add(1);
+        }
+        if served.is_ok() {
+            (served, out) = serve_connections(connections, &mut all, listener, incoming, out);
+        }
+        let is_clean = end_connections(leftovers, &mut all, manager.filters(rt), started);
+        (Outcome { is_clean, served }, all, out)
+    });
+    end_filters(&mut all, manager.filters(rt));
+    (
+        outcome,
+        Staff {
+            workers,
+            connections: all,
+        },
+        out,
+    )
+}
+
+// A server's threads over that manager, from their workers to their hands.
+fn run_threads<'a, L, R, D, W>(
+    rt: &'a R,
+    alloc: Global,
+    manager: &'a Manager<Sample, L>,
+    endpoint: Endpoint<D>,
+    out: W,
+) -> (Result<(Outcome, Vec<Hand<L>>), Status>, W)
+where
+    L: Ledger + Send + Sync,
+    R: Threads + Wait + Sync + Clock + Net<Listener = TcpListener, Stream = TcpStream>,
+    D: Device + Send,
+    W: Write + Drop,
+{
+    let Endpoint {
+        workers,
+        connections,
+        listener,
+        bell,
+    } = endpoint;
+    let (queue, mut passes) = match JobQueue::new(alloc, JOBS, WORKERS) {
+        Ok(made) => made,
+        Err(status) => return (Err(status), out),
+    };
+    let (rundown, mut seats) = match RundownGate::new(alloc, 1, CONNECTIONS) {
+        Ok(made) => made,
+        Err(status) => return (Err(status), out),
+    };
+    let leftovers = match Leftovers::new(alloc) {
+        Ok(leftovers) => leftovers,
+        Err(status) => return (Err(status), out),
+    };
+    let gate = OpenGate;
+    let shared = Shared {
+        rt,
+        alloc,
+        manager,
+        queue: &queue,
+        rundown: &rundown,
+        gate: &gate,
+        leftovers: &leftovers,
+    };
+    let mut hands = match Vec::with_capacity(alloc, WORKERS) {
+        Ok(hands) => hands,
+        Err(_) => return (Err(Status::NoMemory), out),
+    };
+    let staff = match shared.staff(&mut passes, &mut seats, workers, connections) {
+        Ok(staff) => staff,
+        Err(status) => return (Err(status), out),
+    };
+    let (connections, incoming) = match Connections::new(rt, alloc, bell) {
+        Ok(made) => made,
+        Err(status) => return (Err(status), out),
+    };
+    let (outcome, staff, out) = serve_beside(
+        &connections,
+        &leftovers,
+        manager,
+        staff,
+        listener,
+        incoming,
+        out,
+    );
+    gather_hands(staff, &mut hands);
+    (Ok((outcome, hands)), out)
+}
+
+/// A server: its manager, the threads over it, and what it says at its end. `Memory` if a growth was refused, `Outside` if the socket, the writer or the start
+/// of a thread failed. The writer is handed back.
+pub(crate) fn run_server<L, R, D, W>(
+    rt: &R,
+    alloc: Global,
+    blank: Blank,
+    endpoint: Endpoint<D>,
+    out: W,
+) -> (Result<Tally, Fault>, W)
+where
+    L: Ledger + Send + Sync,
+    R: Threads + Wait + Sync + Clock + Net<Listener = TcpListener, Stream = TcpStream>,
+    D: Device + Send,
+    W: Write + Drop,
+    requires name { blank.name ≡ L.name }
+    requires parts { blank.parts ≡ L.parts }
+    requires all { blank.parts ≡ 49 }
+{
+    let manager = match mounted::<L, R>(rt, alloc, blank) {
+        Ok(manager) => manager,
+        Err(status) => return (Err(fault_of(status)), out),
+    };
+    let (ended, out) = run_threads(rt, alloc, &manager, endpoint, out);
+    match ended {
+        Ok(
+            (
+                Outcome {
+                    is_clean,
+                    served: Ok(()),
+                },
+                hands,
+            ),
+        ) => (Ok(end(rt, manager, hands, is_clean)), out),
+        Ok(
+            (
+                Outcome {
+                    served: Err(fault),
+                    ..
+                },
+                _hands,
+            ),
+        ) => (Err(fault), out),
+        Err(status) => (Err(fault_of(status)), out),
+    }
+}
+
+// A manager of the samples, with the only volume.
+fn mounted<L: Ledger, R: Wait>(
+    rt: &R,
+    alloc: Global,
+    blank: Blank,
+) -> Result<Manager<Sample, L>, Status>
+    requires name { blank.name ≡ L.name }
+    requires parts { blank.parts ≡ L.parts }
+    requires all { blank.parts ≡ 49 }
+{
+    let filters = samples(alloc)?;
+    let manager = Manager::<Sample, L>::new(alloc, filters, blank)?;
+    manager.mount(rt, Name::read(b"v0")?)?;
+    Ok(manager)
+}
+
+// The end of a manager. If it can't end, it says itself what it has.
+fn end<L: Ledger, R: Wait>(
+    rt: &R,
+    manager: Manager<Sample, L>,
+    hands: Vec<Hand<L>>,
+    is_clean: bool,
+) -> Tally
+    requires { L.parts ≡ 49 }
+{
+    match manager.shutdown(hands) {
+        Ok(report) => Tally {
+            born: report.born,
+            cleaned: report.cleaned,
+            leaks: report.leaks,
+            is_clean,
+        },
+        Err((manager, _hands, _status)) => Tally {
+            born: manager.born(rt),
+            cleaned: manager.cleaned_count(rt),
+            leaks: manager.leaks(rt),
+            is_clean: false,
+        },
+    }
+}

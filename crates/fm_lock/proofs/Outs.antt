@@ -1,6 +1,6 @@
 -- How many hands are out.
 use Rattle.fm_lock.proofs.Words.{Bool, HandView, List, [], and_parts, ap, arith, cond, count_by, false, are_hired, length, list_all, not, refl, slice_index_or}
-use Rattle.fm_lock.proofs.Words.{slice_set, suc, true, zero, ℕ, ◌+◌, ◌<◌, ◌∷◌, ◌≡◌, ap, false≢true, sum_by-cons, sum_by-set}
+use Rattle.fm_lock.proofs.Words.{slice_set, suc, true, zero, ℕ, ◌+◌, ◌<◌, ◌∷◌, ◌≡◌, ap, false≢true, sum_by-set}
 
 abbrev one : Bool → ℕ
 one b = cond b 1 0

@@ -1,5 +1,4 @@
-use Rattle.std.proofs.Common.{length, ◌≡◌, ◌+◌, ◌<◌, ℕ, ◌-◌, ◌*◌, ◌≤◌}
-use Rattle.fm_lock.specs.Views.{held_by}
+use Rattle.std.proofs.Common.{length}
 use Rattle.fm_lock.proofs.audit.+audit.Given as goal
 
 -- proposed from what the function passes where it calls itself

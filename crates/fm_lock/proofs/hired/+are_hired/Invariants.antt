@@ -1,6 +1,4 @@
-use Rattle.std.proofs.Common.{length, ◌≡◌, false, not, ℕ, ◌+◌, ◌-◌, ◌*◌, ◌<◌, ◌≤◌}
-use Rattle.std.specs.List.{list_all}
-use Rattle.fm_lock.specs.Hired.{are_hired}
+use Rattle.std.proofs.Common.{length}
 use Rattle.fm_lock.proofs.hired.+are_hired.Given as goal
 
 -- proposed from what the function passes where it calls itself

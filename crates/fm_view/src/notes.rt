@@ -113,6 +113,8 @@ pub struct Change {
 #[derive(Drop)]
 pub struct Notes {
     pub filters: Vec<Loaded<FilterPhase>>,
+    /// For each filter whether it has a query and an unload routine.
+    pub routines: Vec<(bool, bool)>,
     pub volumes: Vec<Loaded<VolumePhase>>,
     pub instances: Vec<InstanceNote>,
     pub operations: Vec<OperationNote>,
@@ -133,6 +135,7 @@ impl Notes {
     pub fn new(alloc: Global) -> Notes {
         Notes {
             filters: Vec::new(alloc),
+            routines: Vec::new(alloc),
             volumes: Vec::new(alloc),
             instances: Vec::new(alloc),
             operations: Vec::new(alloc),
@@ -183,12 +186,14 @@ impl Notes {
     fn name(&mut self, event: &Event, task: &Task) -> Result<(), AllocError> {
         let since = event.line;
         match task {
-            Task::Event(Step::Register { name, .. }) => {
+            Task::Event(Step::Register { name, registration }) => {
                 self.filters.push(Loaded {
                     name: *name,
                     phase: FilterPhase::Loaded,
                     since,
                 })?;
+                self.routines
+                    .push((registration.query, registration.unload))?;
             }
             Task::Event(Step::Mount { name }) => {
                 self.volumes.push(Loaded {

@@ -2,16 +2,19 @@
 
 use crate::event::{Event, Kind};
 use crate::named::{Ascii, Named, PlaceName, Stated};
-use crate::notes::{InstanceNote, Notes};
+use crate::notes::{InstanceNote, Notes, What};
 use crate::status::sentence;
 use crate::usage::usage;
 use crate::verdict::held_at;
 use crate::words::phase_word;
-use fm_core::{FilterPhase, Phase, Place, State};
+use fm_altitude::Altitude;
+use fm_core::{Entry, FilterPhase, Phase, Place, State, VolumePhase};
 use fm_script::{Keyword, split_at_byte};
-use fm_types::limits::LINE;
-use fm_types::{OpId, Status, WorkerId};
+use fm_text::read_id;
+use fm_types::limits::{LINE, SCRIPT_WORKERS};
+use fm_types::{FilterId, InstanceId, OpId, Status, WorkerId};
 use std::alloc::{AllocError, Global};
+use std::fmt;
 use strsim::osa_distance;
 
 /// A line that was refused, beside what is known.
@@ -25,6 +28,8 @@ pub struct Refusal<'a> {
     pub asked: Event,
     /// The line.
     pub line: &'a [u8],
+    /// The context that the refusal named.
+    pub context: Option<u64>,
 }
 
 /// Appends that a line was refused, by the status and its name, and why.
@@ -35,19 +40,168 @@ pub fn say_refusal(
     status: Status,
 ) -> Result<(), AllocError> {
     write!(text, "REFUSED {}: ", Stated(status))?;
-    match (refusal.asked.kind, status) {
-        (Kind::Refused, Status::BadRequest) => say_unread(alloc, text, refusal.line),
-        (Kind::Refused, Status::WrongStep) => {
-            write!(text, "no operation has that number, or workers end at w15")
-        }
-        (Kind::Refused, Status::NotHeld) => write!(text, "no context has that number"),
-        (Kind::Refused, _) => write!(text, "{}", sentence(status)),
-        (_, Status::WrongStep) => say_wrong_step(text, refusal),
-        (_, Status::DeletingObject | Status::NoInstance) => say_going(text, refusal),
-        (_, Status::NotPended) => say_not_held(text, refusal),
-        (_, Status::Busy(count)) => say_busy(text, refusal, count),
+    if refusal.asked.kind == Kind::Refused {
+        return say_unasked(alloc, text, refusal, status);
+    }
+    match status {
+        Status::WrongStep => say_wrong_step(text, refusal),
+        Status::DeletingObject | Status::NoInstance => say_going(text, refusal),
+        Status::NotPended => say_not_held(text, refusal),
+        Status::Busy(count) => say_busy(text, refusal, count),
+        Status::BadRequest => write!(text, "{}", past_a_limit(refusal.asked.kind)),
+        Status::NoHandle => say_no_handle(text, refusal),
+        Status::DoNotDetach => say_unwilling(text, refusal),
+        Status::AlreadyDefined => say_defined(text, refusal),
+        Status::NameCollision | Status::AltitudeCollision => say_collision(text, refusal, status),
         _ => write!(text, "{}", sentence(status)),
     }
+}
+
+// A line that was refused before any event.
+fn say_unasked(
+    alloc: Global,
+    text: &mut String,
+    refusal: &Refusal<'_>,
+    status: Status,
+) -> Result<(), AllocError> {
+    match status {
+        Status::BadRequest => say_unread(alloc, text, refusal.line),
+        Status::WrongStep => say_unknown(text, refusal),
+        Status::NotHeld => write!(text, "no context has that number"),
+        Status::NoHandle => write!(text, "no handle of that number was given"),
+        _ => write!(text, "{}", sentence(status)),
+    }
+}
+
+// Which limit or rule a line passes that could be read.
+fn past_a_limit(kind: Kind) -> &'static str {
+    match kind {
+        Kind::Began =>
+            "one read or write has at most 32,768 bytes, and a file ends at 2^40 at most",
+        Kind::Written => "the body has another length",
+        Kind::Bumped => "the body ends before eight bytes from there",
+        Kind::WillFail => "device calls count from 1",
+        _ => "it doesn't fit what it is asked of",
+    }
+}
+
+// Which number of a line was never given.
+fn say_unknown(text: &mut String, refusal: &Refusal<'_>) -> Result<(), AllocError> {
+    for word in refusal.line.split(|byte| *byte == b' ') {
+        if let Some(operation) = read_id(b'o', word) {
+            if operation >= refusal.state.operations_begun() {
+                return write!(text, "no o{operation} was begun");
+            }
+        }
+        if let Some(worker) = read_id(b'w', word) {
+            if worker >= SCRIPT_WORKERS {
+                return write!(text, "there is no w{worker}: workers are w0 to w15");
+            }
+        }
+    }
+    write!(text, "{}", sentence(Status::WrongStep))
+}
+
+// Why a handle isn't open for it.
+fn say_no_handle(text: &mut String, refusal: &Refusal<'_>) -> Result<(), AllocError> {
+    let Some(handle) = refusal.asked.handle else {
+        return write!(text, "{}", sentence(Status::NoHandle));
+    };
+    if handle >= refusal.state.handles_given() {
+        return write!(text, "no h{handle} was given");
+    }
+    let mut number = 0u64;
+    let mut last = None;
+    for note in &refusal.notes.operations {
+        match note.what {
+            What::Cleanup(other) if other == handle => last = Some(("cleanup", number, note.line)),
+            What::Close(other) if other == handle => last = Some(("close", number, note.line)),
+            _ => {}
+        }
+        number = number.saturating_add(1);
+    }
+    match last {
+        Some((what, operation, line)) => {
+            write!(
+                text,
+                "the {what} of h{handle}, o{operation}, began on line {line}"
+            )
+        }
+        None => write!(text, "h{handle} was closed by the dismount"),
+    }
+}
+
+// Whether a filter was asked at all.
+fn say_unwilling(text: &mut String, refusal: &Refusal<'_>) -> Result<(), AllocError> {
+    let asks = match refusal.asked.kind {
+        Kind::InQuery => refusal
+            .asked
+            .instance
+            .and_then(|instance| refusal.state.filter_of(InstanceId(instance))),
+        _ => refusal.asked.filter.map(FilterId),
+    };
+    let routines = match asks {
+        Some(filter) => refusal.notes.routines.get(usize::from(filter.0)).copied(),
+        None => None,
+    };
+    match (refusal.asked.kind, routines) {
+        (Kind::InQuery, Some((false, _))) => {
+            write!(text, "the filter has no query routine, so nobody was asked")
+        }
+        (Kind::InUnload, Some((_, false))) => {
+            write!(
+                text,
+                "the filter has no unload routine, so nobody was asked"
+            )
+        }
+        _ => write!(text, "{}", sentence(Status::DoNotDetach)),
+    }
+}
+
+// Which context is set there already, and whether a reference to it came into the hand.
+fn say_defined(text: &mut String, refusal: &Refusal<'_>) -> Result<(), AllocError> {
+    match refusal.context {
+        Some(context) => {
+            let named = Named::Context(refusal.notes, context);
+            write!(
+                text,
+                "{named} is set there already, and one reference to it came into the hand"
+            )
+        }
+        None => write!(text, "{}", sentence(Status::AlreadyDefined)),
+    }
+}
+
+// Which instance has the name or the altitude.
+fn say_collision(
+    text: &mut String,
+    refusal: &Refusal<'_>,
+    status: Status,
+) -> Result<(), AllocError> {
+    write!(text, "{}", sentence(status))?;
+    let mut number = 0u16;
+    for note in &refusal.notes.instances {
+        let is_there = note.phase != Phase::Detached && Some(note.volume) == refusal.asked.volume;
+        if is_there && is_spelled(note, refusal.line, status) {
+            return write!(text, ": {}", Named::Instance(refusal.notes, number));
+        }
+        number = number.saturating_add(1);
+    }
+    Ok(())
+}
+
+// Whether a word of the line is the instance's name, or its altitude.
+fn is_spelled(note: &InstanceNote, line: &[u8], status: Status) -> bool {
+    for word in line.split(|byte| *byte == b' ').skip(3) {
+        let is_same = match status {
+            Status::NameCollision => word == note.name.text(),
+            _ => Altitude::read(word) == Ok(note.altitude),
+        };
+        if is_same {
+            return true;
+        }
+    }
+    false
 }
 
 // A line that can't be read: which word isn't one.
@@ -56,8 +210,26 @@ fn say_unread(alloc: Global, text: &mut String, line: &[u8]) -> Result<(), Alloc
         return write!(text, "a line has at most {LINE} bytes");
     }
     let (word, _) = split_at_byte(line, b' ');
+    if has_empty_word(line) {
+        write!(text, "it has a space too many; ")?;
+    }
     match Keyword::read(word) {
         Some(keyword) => write!(text, "it is {} {}", Ascii(word), usage(keyword)),
+        None if word == b"detach".as_slice() => {
+            write!(
+                text,
+                "a detach is query, queried, start, started, complete, completed and finish"
+            )
+        }
+        None if word == b"help".as_slice() => {
+            write!(
+                text,
+                "the commands stand in docs/SCRIPT.md; the end of the input ends a script"
+            )
+        }
+        None if word == b"quit".as_slice() || word == b"exit".as_slice() => {
+            write!(text, "the end of the input ends a script")
+        }
         None => {
             write!(text, "'{}' is no command", Ascii(word))?;
             say_nearest(alloc, text, word)
@@ -65,10 +237,15 @@ fn say_unread(alloc: Global, text: &mut String, line: &[u8]) -> Result<(), Alloc
     }
 }
 
+// Whether two spaces stand side by side, or one at an end.
+fn has_empty_word(line: &[u8]) -> bool {
+    line.split(|byte| *byte == b' ').any(|word| word.is_empty())
+}
+
 // The command that is spelled most alike.
 fn say_nearest(alloc: Global, text: &mut String, word: &[u8]) -> Result<(), AllocError> {
     let word = format!(in alloc; "{}", Ascii(word))?;
-    let mut least = 4;
+    let mut least = word.len().min(4);
     let mut nearest = None;
     for keyword in Keyword::ALL {
         let spelled = format!(in alloc; "{}", Ascii(keyword.spelling()))?;
@@ -181,6 +358,26 @@ fn say_instance(text: &mut String, refusal: &Refusal<'_>) -> Result<(), AllocErr
     }
 }
 
+// The words for how far a filter's life is.
+fn filter_word(phase: FilterPhase) -> &'static str {
+    match phase {
+        FilterPhase::Loaded => "has to be unloaded first: it is loaded",
+        FilterPhase::Unloading => "is being unloaded",
+        FilterPhase::Emptied => "has lost its volume contexts",
+        FilterPhase::NotLoaded => "isn't loaded any more",
+    }
+}
+
+// The words for how far a volume's life is.
+fn volume_word(phase: VolumePhase) -> &'static str {
+    match phase {
+        VolumePhase::Mounted => "has to be dismounted first: it is mounted",
+        VolumePhase::Dismounting => "is being dismounted",
+        VolumePhase::Emptied => "has lost its contexts",
+        VolumePhase::Finished => "is dismounted",
+    }
+}
+
 // How far the life of a filter or a volume is.
 fn say_object(text: &mut String, refusal: &Refusal<'_>) -> Result<(), AllocError> {
     let notes = refusal.notes;
@@ -189,8 +386,9 @@ fn say_object(text: &mut String, refusal: &Refusal<'_>) -> Result<(), AllocError
             let named = Named::Volume(notes, volume);
             return write!(
                 text,
-                "{named} is {:?} since line {}",
-                note.phase, note.since
+                "{named} {} since line {}",
+                volume_word(note.phase),
+                note.since
             );
         }
     }
@@ -199,8 +397,9 @@ fn say_object(text: &mut String, refusal: &Refusal<'_>) -> Result<(), AllocError
             let named = Named::Filter(notes, filter);
             return write!(
                 text,
-                "{named} is {:?} since line {}",
-                note.phase, note.since
+                "{named} {} since line {}",
+                filter_word(note.phase),
+                note.since
             );
         }
     }
@@ -258,14 +457,100 @@ fn say_not_held(text: &mut String, refusal: &Refusal<'_>) -> Result<(), AllocErr
 
 // What is in the way.
 fn say_busy(text: &mut String, refusal: &Refusal<'_>, count: u64) -> Result<(), AllocError> {
-    let what = match refusal.asked.kind {
-        Kind::InComplete => "operations are in flight at it",
-        Kind::Finished => "of its contexts aren't cleaned up",
-        Kind::FilterEmptied => "of its instances aren't detached",
-        Kind::FilterFinished | Kind::VolumeFinished => "volume contexts aren't cleaned up",
-        Kind::Dismounting => "of its operations weren't collected",
-        Kind::VolumeEmptied => "handles are open and instances not detached",
-        _ => "are in the way",
+    match refusal.asked.kind {
+        Kind::InComplete => {
+            write!(text, "{} in flight at it", Verb(count, "operation"))?;
+            say_flights(text, refusal, count)
+        }
+        Kind::Finished => write!(text, "{count} of its contexts aren't cleaned up"),
+        Kind::FilterEmptied => {
+            write!(text, "{count} of its instances aren't detached")?;
+            say_attached(text, refusal)
+        }
+        Kind::FilterFinished | Kind::VolumeFinished => {
+            write!(text, "{count} volume contexts aren't cleaned up")
+        }
+        Kind::Dismounting => write!(text, "{count} of its operations weren't collected"),
+        Kind::VolumeEmptied => say_left_open(text, refusal, count),
+        _ => write!(text, "{count} are in the way"),
+    }
+}
+
+// The operations in flight at an instance, if the notes tell them all.
+fn say_flights(text: &mut String, refusal: &Refusal<'_>, count: u64) -> Result<(), AllocError> {
+    let Some(instance) = refusal.asked.instance else {
+        return Ok(());
     };
-    write!(text, "{count} {what}")
+    let flies = |number: u64| {
+        refusal.state.is_done(OpId(number)) == Some(false)
+            && is_visited(refusal.state, OpId(number), InstanceId(instance))
+    };
+    let all = refusal.state.operations_begun();
+    if (0..all).filter(|number| flies(*number)).count() as u64 != count {
+        return Ok(());
+    }
+    let mut mark = ": ";
+    for number in 0..all {
+        if flies(number) {
+            write!(text, "{mark}{}", Named::Operation(refusal.notes, number))?;
+            mark = ", ";
+        }
+    }
+    Ok(())
+}
+
+// Whether an instance's preoperation saw an operation.
+fn is_visited(state: &State, operation: OpId, instance: InstanceId) -> bool {
+    match state.trace(operation) {
+        Some(trace) => trace.iter().any(
+            |entry| matches!(entry, Entry::Pre(visit) if visit.instance == instance),
+        ),
+        None => false,
+    }
+}
+
+// The instances of a filter that aren't detached.
+fn say_attached(text: &mut String, refusal: &Refusal<'_>) -> Result<(), AllocError> {
+    let mut mark = ": ";
+    let mut number = 0u16;
+    for note in &refusal.notes.instances {
+        let filter = refusal.state.filter_of(InstanceId(number));
+        if note.phase != Phase::Detached && filter.map(|id| id.0) == refusal.asked.filter {
+            write!(text, "{mark}{}", Named::Instance(refusal.notes, number))?;
+            mark = ", ";
+        }
+        number = number.saturating_add(1);
+    }
+    Ok(())
+}
+
+// What keeps a volume from being emptied: instances, and handles.
+fn say_left_open(text: &mut String, refusal: &Refusal<'_>, count: u64) -> Result<(), AllocError> {
+    let mut attached = 0u64;
+    for note in &refusal.notes.instances {
+        if note.phase != Phase::Detached && Some(note.volume) == refusal.asked.volume {
+            attached = attached.saturating_add(1);
+        }
+    }
+    let open = count.saturating_sub(attached);
+    write!(
+        text,
+        "{} open, and {} not detached",
+        Verb(open, "handle"),
+        Verb(attached, "instance")
+    )
+}
+
+// So many of a thing, with its verb: `1 handle is`, `2 handles are`.
+#[derive(Clone, Copy)]
+struct Verb(u64, &'static str);
+
+impl fmt::Display for Verb {
+    fn fmt<W: fmt::Write>(&self, f: &mut fmt::Formatter<W>) -> fmt::Result {
+        let Verb(count, what) = self;
+        match count {
+            1 => write!(f, "1 {what} is"),
+            _ => write!(f, "{count} {what}s are"),
+        }
+    }
 }

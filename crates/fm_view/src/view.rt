@@ -330,6 +330,7 @@ impl<W: Write + Drop> View<W> {
                     state: self.runner.interpreter().state(),
                     asked,
                     line,
+                    context: event.context,
                 };
                 say_refusal(self.alloc, text, &refusal, status)?;
             }

@@ -42,6 +42,9 @@ pub fn say(
         Kind::VolumeEmptied => write!(text, "the contexts on {volume} are taken off"),
         Kind::VolumeFinished => write!(text, "{volume} is dismounted"),
         Kind::Leaks => write!(text, "{} left behind", Counted(number(event), "reference")),
+        Kind::WillFail if number(event) == 0 => {
+            write!(text, "device calls count from 1, so none will fail")
+        }
         Kind::WillFail => write!(text, "device call {} will fail", number(event)),
         Kind::Failures => write!(text, "{} failed", Counted(number(event), "device call")),
         _ => say_of_operation(text, notes, event, bytes),

@@ -1,11 +1,13 @@
 #!/usr/bin/env bash
-# c/build.sh PROGRAM DRIVER.c.. : builds a program that runs requests through those drivers. Each is loaded by the name of its file, without .c.
+# c/build.sh PROGRAM DRIVER.. : builds a program that runs requests through those drivers. A driver is a file of C or C++, or a folder with such files; each is loaded by
+# the name of its file or folder. Behind --driver, up to the next one, the files are one driver, by the name of the first.
 #
-# CC is the compiler (cc), CFLAGS are more words for it, KAZDRIN_LIB the archive of crates/kazdrin_c (made by c/archive.sh), KZ_MAIN the main program.
+# CC is the compiler (cc), CXX that of C++ (c++), CFLAGS are more words for the drivers and the host, KZAPI what the drivers see (KZAPI="-DNTDDI_VERSION=0x06000000 -DDBG=0"),
+# KAZDRIN_LIB the archive of crates/kazdrin_c (made by c/archive.sh), KZ_MAIN the main program, KZ_HOST the host's objects where they are built already.
 set -eu
 here=$(cd "$(dirname "$0")" && pwd)
 if [ $# -lt 2 ]; then
-    echo "usage: c/build.sh PROGRAM DRIVER.c.." >&2
+    echo "usage: c/build.sh PROGRAM DRIVER.c..  or  PROGRAM FOLDER..  or  PROGRAM --driver FILE.c FILE.c.." >&2
     exit 2
 fi
 program=$1
@@ -13,27 +15,82 @@ shift
 cc=${CC:-cc}
 library=${KAZDRIN_LIB:-$here/../crates/kazdrin_c/out/libkazdrin_c.a}
 if [ ! -f "$library" ]; then
-    echo "c/build.sh: there is no $library; make it by c/archive.sh" >&2
+    echo "c/build.sh: there is no $library; make it by c/archive.sh, or name one as KAZDRIN_LIB" >&2
     exit 1
 fi
 kit=${KIT:-$(dirname "$(rt doc | head -1)")}
-words="-std=gnu11 -fshort-wchar -O1 -g -Wall -Wextra -Werror -I$here/include ${CFLAGS:-}"
+common="-fshort-wchar -fno-strict-aliasing -O1 -g -I$here/include ${CFLAGS:-}"
+own="-std=gnu11 -Wall -Wextra -Werror $common"
+# A driver's warnings are its author's; pointers are taken as the kit's compiler takes them. What the kit's projects set is set.
+driver="-fwrapv -fms-extensions -Wno-incompatible-pointer-types -Wno-int-conversion -Wno-multichar -Wno-unknown-pragmas -Wno-missing-braces $common \
+-D_WIN64=1 -D_M_AMD64=100 -D_M_X64=100 -D_AMD64_=1 -D_WIN32_WINNT=0x0A00 -DWINVER=0x0A00 -DNTDDI_VERSION=0x0A000002 -DDBG=1 -D_KERNEL_MODE=1 -DKZ_DRIVER=1 -include ntdef.h ${KZAPI:-}"
 room=$(mktemp -d)
 trap 'rm -rf "$room"' EXIT
-declarations=""
-entries=""
-for source in "$@"; do
-    name=$(basename "$source" .c)
-    # All but the driver's entry is its own, so that two drivers may use one name.
-    $cc $words -DDriverEntry="${name}_DriverEntry" -c -o "$room/driver_$name.o" "$source"
-    objcopy --keep-global-symbol="${name}_DriverEntry" "$room/driver_$name.o"
-    declarations="$declarations DRIVER_INITIALIZE ${name}_DriverEntry;"
-    entries="$entries {\"$name\", ${name}_DriverEntry},"
+count=0
+: > "$room/declarations"
+: > "$room/entries"
+
+# One driver: its name, and its files. All but its entry is its own, so that two drivers may use one name; the C library's calls of wide text are the host's.
+add() {
+    local name=$1 file objects="" entry=kz_entry_$count
+    shift
+    for file in "$@"; do
+        local object="$room/${count}_$(basename "$file").o"
+        case "$file" in
+        *.cpp | *.cc | *.cxx) ${CXX:-c++} -std=gnu++17 -fno-exceptions -fno-rtti -w $driver -DDriverEntry="$entry" -c -o "$object" "$file" ;;
+        *) $cc -std=gnu11 -Wall $driver -DDriverEntry="$entry" -c -o "$object" "$file" ;;
+        esac
+        objects="$objects $object"
+    done
+    $cc -nostdlib -r -o "$room/driver_$count.o" $objects
+    if ! nm "$room/driver_$count.o" | grep -q " T $entry\$"; then
+        echo "c/build.sh: $name has no DriverEntry" >&2
+        exit 1
+    fi
+    objcopy --keep-global-symbol="$entry" $renamed "$room/driver_$count.o"
+    echo "DRIVER_INITIALIZE $entry;" >> "$room/declarations"
+    echo "{\"$name\", $entry}," >> "$room/entries"
+    count=$((count + 1))
+}
+renamed=""
+for pair in wcslen:KzWcslen wcsnlen:KzWcsnlen wcscmp:KzWcscmp wcsncmp:KzWcsncmp wcscpy:KzWcscpy wcsncpy:KzWcsncpy wcscat:KzWcscat wcsncat:KzWcsncat wcschr:KzWcschr \
+    wcsrchr:KzWcsrchr wcsstr:KzWcsstr wcspbrk:KzWcspbrk wcsspn:KzWcsspn wcscspn:KzWcscspn wcscasecmp:KzWcsicmp wcsncasecmp:KzWcsnicmp wmemset:KzWmemset \
+    wcstol:KzWcstol wcstoul:KzWcstoul swprintf:KzSwprintfRoom vswprintf:KzVsnwprintf towupper:KzTowupper towlower:KzTowlower; do
+    renamed="$renamed --redefine-sym ${pair%:*}=${pair#*:}"
+done
+
+name_of() {
+    local name
+    name=$(basename "$1")
+    echo "${name%.*}"
+}
+while [ $# -gt 0 ]; do
+    if [ "$1" = --driver ]; then
+        shift
+        files=()
+        while [ $# -gt 0 ] && [ "$1" != --driver ]; do
+            files+=("$1")
+            shift
+        done
+        if [ ${#files[@]} = 0 ]; then
+            echo "c/build.sh: no file behind --driver" >&2
+            exit 2
+        fi
+        add "$(name_of "${files[0]}")" "${files[@]}"
+    elif [ -d "$1" ]; then
+        add "$(basename "$(cd "$1" && pwd)")" $(find "$1" -maxdepth 1 -name '*.c' -o -maxdepth 1 -name '*.cpp' | sort)
+        shift
+    else
+        add "$(name_of "$1")" "$1"
+        shift
+    fi
 done
 {
     echo "#include <kzflt.h>"
-    echo "$declarations"
-    echo "const KzDriver kz_drivers[] = {$entries};"
+    cat "$room/declarations"
+    echo "const KzDriver kz_drivers[] = {"
+    cat "$room/entries"
+    echo "};"
     echo "const size_t kz_drivers_count = sizeof kz_drivers / sizeof kz_drivers[0];"
 } > "$room/drivers.c"
 sources=""
@@ -43,4 +100,4 @@ done
 if [ -n "${KZ_HOST:-}" ]; then
     sources=$KZ_HOST
 fi
-$cc $words -o "$program" "$room/drivers.c" "$room"/driver_*.o $sources "${KZ_MAIN:-$here/host/main.c}" "$library" "$kit/c/libos_c.a" "$kit/c/liblibc_c.a"
+$cc $own -o "$program" "$room/drivers.c" "$room"/driver_*.o $sources "${KZ_MAIN:-$here/host/main.c}" "$library" "$kit/c/libos_c.a" "$kit/c/liblibc_c.a"

@@ -46,7 +46,7 @@ look() {
     [ $? != 99 ] || { cat "$room/$name.valgrind"; false; }
     tell $? "$name under valgrind"
 }
-words="-std=gnu11 -fshort-wchar -O1 -g -Wall -Wextra -Werror -Ic/include"
+words="-std=gnu11 -fshort-wchar -fno-strict-aliasing -O1 -g -Wall -Wextra -Werror -Ic/include"
 for source in c/host/*.c; do
     cc $words -c -o "$room/host_$(basename "$source" .c).o" "$source"
     tell $? "$source, as it was built,"
@@ -74,10 +74,6 @@ done
 KZ_MAIN=c/tests/run.c c/build.sh "$room/run" c/samples/passthrough.c
 tell $? "run, as it was built,"
 try run "$room/run"
-
-# A driver that needs what isn't modelled doesn't compile.
-! c/build.sh "$room/unmodelled" c/misuse/unmodelled.c > "$room/unmodelled.log" 2>&1 && grep -q "IRP_MJ_CREATE_NAMED_PIPE. undeclared" "$room/unmodelled.log"
-tell $? "unmodelled"
 
 KZ_MAIN=c/tests/fuzz.c c/build.sh "$room/fuzz" c/samples/*.c
 tell $? "fuzz, as it was built,"

@@ -1,28 +1,43 @@
-/* Contexts. A context's body is memory of the host; the manager's body is the address of its header, and the manager alone decides when it is cleaned up. */
+/* Contexts. A context's body is memory of the host; the manager's body is the address of its header, and the manager alone decides when no object and no callback has it.
+ *
+ * The manager knows references of the callback that runs, and lets go of what that leaves behind. A driver may keep one longer, in a list or in a structure that goes to
+ * its postoperation: then the host keeps it for the driver, and the context isn't cleaned up before it was released. What is never released is told at the filter's end,
+ * with the callback that left it behind. */
 #include "host.h"
 
 #include <stdlib.h>
 
-/* How many headers of contexts that were cleaned up are kept, to tell their use. */
-#define KEPT 256
+/* How many headers of contexts that were cleaned up are remembered, to tell their use. */
+#define REMEMBERED 256
+
+/* A reference that the host keeps for the driver, and where it was left. */
+typedef struct Kept {
+    struct Kept *next;
+    KzPlace place;
+} Kept;
 
 typedef struct Header {
     struct Header *next;
     PVOID body;
     uint32_t slot, generation;
     uint8_t kind;
+    bool is_known; /* to the manager: not before it is set, if no callback of an instance allocated it, and not once it was cleaned up there */
+    bool is_in_cleanup;
     FLT_CONTEXT_TYPE type;
     PFLT_FILTER filter;
-    PFLT_CONTEXT_CLEANUP_CALLBACK cleanup;
+    const FLT_CONTEXT_REGISTRATION *how;
+    Kept *kept;
 } Header;
 
 static Header *live;
-static Header dead[KEPT];
+static Header dead[REMEMBERED];
 static size_t dead_next;
 
 static const char *const kind_names[] = {"volume", "instance", "stream", "stream handle"};
 
-/* The manager's number of a kind of context, or 4. */
+/* ---- Registration. */
+
+/* The manager's number of a kind of context; 4 of a kind that it lacks, 5 of none. */
 static uint8_t kind_of(FLT_CONTEXT_TYPE type)
 {
     switch (type) {
@@ -34,32 +49,54 @@ static uint8_t kind_of(FLT_CONTEXT_TYPE type)
         return 2;
     case FLT_STREAMHANDLE_CONTEXT:
         return 3;
-    default:
+    case FLT_FILE_CONTEXT:
+    case FLT_TRANSACTION_CONTEXT:
+    case FLT_SECTION_CONTEXT:
         return 4;
+    default:
+        return 5;
     }
 }
 
-bool kz_registration_of_contexts(const FLT_REGISTRATION *registration, uint8_t *mask)
+static bool is_twice(const FLT_CONTEXT_REGISTRATION *first, const FLT_CONTEXT_REGISTRATION *one)
 {
+    for (const FLT_CONTEXT_REGISTRATION *other = first; other < one; other++)
+        if (other->ContextType == one->ContextType && other->Size == one->Size)
+            return true;
+    return false;
+}
+
+NTSTATUS kz_registration_of_contexts(PFLT_FILTER filter, uint8_t *mask)
+{
+    const FLT_CONTEXT_REGISTRATION *first = filter->registration.ContextRegistration, *one = first;
     *mask = 0;
-    const FLT_CONTEXT_REGISTRATION *one = registration->ContextRegistration;
     for (; one && one->ContextType != FLT_CONTEXT_END; one++) {
-        if (kind_of(one->ContextType) > 3 || one->ContextAllocateCallback || one->ContextFreeCallback)
-            return false;
-        *mask |= 1 << kind_of(one->ContextType);
+        uint8_t kind = kind_of(one->ContextType);
+        if (kind == 5) {
+            kz_tell(KZ_NO_END, "FltRegisterFilter", "context type 0x%04x is none (is FLT_CONTEXT_END missing?)", one->ContextType);
+            return STATUS_FLT_INVALID_CONTEXT_REGISTRATION;
+        }
+        if (is_twice(first, one)) {
+            kz_tell(KZ_TWO_CONTEXTS, "FltRegisterFilter", "context type 0x%04x is registered twice with one size", one->ContextType);
+            return STATUS_FLT_INVALID_CONTEXT_REGISTRATION;
+        }
+        if (kind < 4)
+            *mask |= (uint8_t)(1 << kind);
     }
-    return true;
+    return STATUS_SUCCESS;
 }
 
 static const FLT_CONTEXT_REGISTRATION *registered(PFLT_FILTER filter, FLT_CONTEXT_TYPE type, SIZE_T size)
 {
     const FLT_CONTEXT_REGISTRATION *one = filter->registration.ContextRegistration;
     for (; one && one->ContextType != FLT_CONTEXT_END; one++)
-        if (one->ContextType == type && (one->Size == size || one->Size == FLT_VARIABLE_SIZED_CONTEXTS))
+        if (one->ContextType == type && (one->Size == size || one->Size == FLT_VARIABLE_SIZED_CONTEXTS ||
+                                         (one->Flags & FLTFL_CONTEXT_REGISTRATION_NO_EXACT_SIZE_MATCH && size <= one->Size)))
             return one;
     return NULL;
 }
 
+/* ---- Finding. */
 static Header *find(PVOID body)
 {
     for (Header *one = live; one; one = one->next)
@@ -74,87 +111,232 @@ static Header *context_of(PVOID body, const char *call)
     Header *found = find(body);
     if (found)
         return found;
-    for (size_t at = 0; at < KEPT; at++)
+    for (size_t at = 0; at < REMEMBERED; at++)
         if (body && dead[at].body == body) {
-            kz_tell(call, "a %s context that was cleaned up", kind_names[dead[at].kind]);
+            kz_tell(KZ_CLEANED_UP, call, "a %s context that was cleaned up", kind_names[dead[at].kind]);
             return NULL;
         }
-    kz_tell(call, "no context");
+    kz_tell(KZ_NO_CONTEXT_THERE, call, "no context");
+    return NULL;
+}
+
+static Header *known(uint32_t slot, uint32_t generation)
+{
+    for (Header *one = live; one; one = one->next)
+        if (one->is_known && one->slot == slot && one->generation == generation)
+            return one;
     return NULL;
 }
 
 static PVOID body_of(uint32_t slot, uint32_t generation)
 {
-    for (Header *one = live; one; one = one->next)
-        if (one->slot == slot && one->generation == generation)
-            return one->body;
-    return NULL;
+    Header *one = known(slot, generation);
+    return one ? one->body : NULL;
+}
+
+/* ---- References that the host keeps. */
+static void keep(Header *context, const KzPlace *place)
+{
+    Kept *made = kz_memory(sizeof *made);
+    *made = (Kept){context->kept, *place};
+    context->kept = made;
+}
+
+static void drop(Header *context)
+{
+    Kept *gone = context->kept;
+    context->kept = gone->next;
+    free(gone);
+}
+
+/* ---- The end of a context: its filter's cleanup callback is called, and then its memory is freed. */
+static void finish(Header *context)
+{
+    KzPlace before = kz_enter(KZ_IN_CLEANUP, context->filter, NULL, NULL, NULL);
+    context->is_in_cleanup = true;
+    if (context->how->ContextCleanupCallback)
+        context->how->ContextCleanupCallback(context->body, context->type);
+    kz_leave(before);
+    for (Header **at = &live; *at; at = &(*at)->next)
+        if (*at == context) {
+            *at = context->next;
+            break;
+        }
+    if (context->how->ContextFreeCallback)
+        context->how->ContextFreeCallback(context->body, context->type);
+    else
+        kz_give_back(context->body);
+    dead[dead_next] = *context;
+    dead_next = (dead_next + 1) % REMEMBERED;
+    while (context->kept)
+        drop(context);
+    free(context);
+}
+
+/* What is due in the manager: another worker takes it. As in the kit, it is called inside the call that gave up the last reference. */
+void kz_clean_up(void)
+{
+    uint8_t worker = kz_helper();
+    while (kz_event((KazdrinEvent){.event = KZ_TAKE_DUE, .worker = worker}) == KZ_OK && kz.told.has) {
+        Header *context;
+        memcpy(&context, kz.room, sizeof context);
+        context->is_known = false;
+        uint8_t own = kz.place.worker;
+        kz.place.worker = worker;
+        if (!context->kept)
+            finish(context);
+        kz.place.worker = own;
+        kz_event((KazdrinEvent){.event = KZ_CLEANED, .worker = worker});
+    }
+    kz_helped();
+}
+
+/* ---- Allocation. */
+static PVOID new_body(const FLT_CONTEXT_REGISTRATION *how, SIZE_T size, POOL_TYPE pool)
+{
+    if (how->ContextAllocateCallback)
+        return how->ContextAllocateCallback(pool, size, how->ContextType);
+    return kz_take_memory(KZ_CONTEXT, size, 0xcc, how->PoolTag); /* as in the kit, it isn't zeroed */
+}
+
+/* The manager gets to know a context, and the callback holds it. */
+static uint32_t make_known(Header *context)
+{
+    uint32_t status = kz_event_with((KazdrinEvent){.event = KZ_ALLOCATE, .kind = context->kind}, &context, sizeof context);
+    if (status == KZ_OK) {
+        context->slot = kz.told.slot;
+        context->generation = kz.told.generation;
+        context->is_known = true;
+    }
+    return status;
 }
 
 NTSTATUS FltAllocateContext(PFLT_FILTER Filter, FLT_CONTEXT_TYPE ContextType, SIZE_T ContextSize, POOL_TYPE PoolType, PFLT_CONTEXT *ReturnedContext)
 {
-    (void)PoolType;
     *ReturnedContext = NULL;
-    if (!Filter || Filter != kz.place.filter) {
-        kz_tell(__func__, "of a filter that isn't the callback's own");
+    if (!Filter || Filter != kz.place.filter || !Filter->is_registered) {
+        kz_tell(KZ_OTHER_FILTER, __func__, "of a filter that isn't the callback's own");
         return STATUS_INVALID_PARAMETER;
     }
     const FLT_CONTEXT_REGISTRATION *how = registered(Filter, ContextType, ContextSize);
     if (!how)
         return STATUS_FLT_CONTEXT_ALLOCATION_NOT_FOUND;
+    if (kind_of(ContextType) > 3) {
+        kz_tell(KZ_NO_SUCH_CONTEXTS, __func__, "contexts of files, transactions and sections aren't modelled: it answers STATUS_NOT_SUPPORTED");
+        return STATUS_NOT_SUPPORTED;
+    }
+    PVOID body = new_body(how, ContextSize, PoolType);
+    if (!body)
+        return STATUS_INSUFFICIENT_RESOURCES;
     Header *made = kz_memory(sizeof *made);
-    uint32_t status = kz_event_with((KazdrinEvent){.event = KZ_ALLOCATE, .kind = kind_of(ContextType)}, &made, sizeof made);
-    if (status != KZ_OK) {
+    *made = (Header){.next = live, .body = body, .kind = kind_of(ContextType), .type = ContextType, .filter = Filter, .how = how};
+    live = made;
+    uint32_t status = make_known(made);
+    if (status == KZ_WRONG_STEP || status == KZ_HAND_FULL) {
+        keep(made, &kz.place); /* in no callback of an instance, or where 16 are held: the manager gets to know it once it is set */
+    } else if (status != KZ_OK) {
+        live = made->next;
+        if (how->ContextFreeCallback)
+            how->ContextFreeCallback(body, ContextType);
+        else
+            kz_give_back(body);
         free(made);
-        kz_tell_refused("FltAllocateContext", status);
+        kz_tell_refused(__func__, status);
         return kz_ntstatus(status);
     }
-    *made = (Header){live, kz_memory(ContextSize), kz.told.slot, kz.told.generation, kind_of(ContextType), ContextType, Filter, how->ContextCleanupCallback};
-    memset(made->body, 0xcc, ContextSize); /* as in the kit, it isn't zeroed */
-    live = made;
-    *ReturnedContext = made->body;
+    *ReturnedContext = body;
     return STATUS_SUCCESS;
 }
 
-static void count_reference(PFLT_CONTEXT body, uint32_t event, const char *call)
+/* ---- Counting. */
+VOID FltReferenceContext(PFLT_CONTEXT Context)
 {
-    Header *context = context_of(body, call);
+    Header *context = context_of(Context, __func__);
     if (!context)
         return;
-    kz_tell_refused(call, kz_event((KazdrinEvent){.event = event, .slot = context->slot, .generation = context->generation}));
+    bool is_counted =
+        context->is_known && kz_event((KazdrinEvent){.event = KZ_REFERENCE, .slot = context->slot, .generation = context->generation}) == KZ_OK;
+    if (!is_counted)
+        keep(context, &kz.place);
 }
 
-void FltReferenceContext(PFLT_CONTEXT Context)
+VOID FltReleaseContext(PFLT_CONTEXT Context)
 {
-    count_reference(Context, KZ_REFERENCE, "FltReferenceContext");
+    Header *context = context_of(Context, __func__);
+    if (!context)
+        return;
+    if (context->is_in_cleanup) {
+        kz_tell(KZ_OWN_CLEANUP, __func__, "a %s context in its own cleanup callback", kind_names[context->kind]);
+        return;
+    }
+    if (context->is_known && kz_event((KazdrinEvent){.event = KZ_RELEASE, .slot = context->slot, .generation = context->generation}) == KZ_OK) {
+        kz_clean_up();
+        return;
+    }
+    if (!context->kept) {
+        kz_tell(KZ_RELEASED_TWICE, __func__, "a %s context to which no reference is held (released twice?)", kind_names[context->kind]);
+        return;
+    }
+    drop(context);
+    if (!context->kept && !context->is_known)
+        finish(context);
 }
 
-void FltReleaseContext(PFLT_CONTEXT Context)
+/* ---- Objects. The manager knows those of the callback alone; the host asks it for others of volumes and instances as from their own callback. */
+static PFILE_OBJECT own_file(void)
 {
-    count_reference(Context, KZ_RELEASE, "FltReleaseContext");
+    return kz.place.op ? &kz.place.op->file->object : NULL;
 }
 
-/* Whether those are the callback's own objects: the manager knows of no others. */
-static bool is_own(const char *call, PFLT_INSTANCE instance, PFLT_VOLUME volume, PFILE_OBJECT file)
+static bool is_own(PFLT_INSTANCE instance, PFLT_VOLUME volume, PFILE_OBJECT file)
 {
     PFLT_INSTANCE own = kz.place.instance;
-    PFILE_OBJECT own_file = kz.place.op && kz.place.op->file ? &kz.place.op->file->object : NULL;
-    bool is = own && (!instance || instance == own) && (!volume || volume == own->volume) && (!file || file == own_file);
-    if (!is)
-        kz_tell(call, "of an object that isn't the callback's own");
-    return is;
+    return own && (!instance || instance == own) && (!volume || volume == own->volume) && (!file || file == own_file());
+}
+
+static bool is_object(PFLT_INSTANCE instance, PFLT_VOLUME volume, PFILE_OBJECT file)
+{
+    bool is_volume = !volume;
+    for (size_t at = 0; at < kz.volumes_count; at++)
+        is_volume |= kz.volumes[at] == volume;
+    return is_volume && (!instance || kz_is_instance(instance)) && (!file || kz_file_with(file));
+}
+
+/* Tells that it is none of the callback's own objects. */
+static NTSTATUS refuse(const char *call, PFLT_INSTANCE instance, PFLT_VOLUME volume, PFILE_OBJECT file)
+{
+    if (!is_object(instance, volume, file)) {
+        kz_tell(KZ_NO_FILTER_OBJECT, call, "no object of the filter manager");
+        return STATUS_INVALID_PARAMETER;
+    }
+    kz_tell(KZ_NOT_OWN_OBJECT, call, "of an object that isn't the callback's own: it answers STATUS_NOT_SUPPORTED");
+    return STATUS_NOT_SUPPORTED;
+}
+
+static PFLT_INSTANCE instance_on(PFLT_FILTER filter, PFLT_VOLUME volume)
+{
+    for (size_t at = 0; at < kz.instances_count; at++)
+        if (kz.instances[at]->filter == filter && kz.instances[at]->volume == volume && kz.instances[at]->phase == KZ_ATTACHED && !kz.instances[at]->is_asked)
+            return kz.instances[at];
+    return NULL;
 }
 
 static NTSTATUS set(const char *call, uint8_t kind, FLT_SET_CONTEXT_OPERATION how, PFLT_CONTEXT body, PFLT_CONTEXT *old)
 {
-    if (old)
-        *old = NULL;
     Header *context = context_of(body, call);
     if (!context)
         return STATUS_INVALID_PARAMETER;
     if (context->kind != kind) {
-        kz_tell(call, "a %s context", kind_names[context->kind]);
+        kz_tell(KZ_OTHER_KIND, call, "a %s context", kind_names[context->kind]);
         return STATUS_INVALID_PARAMETER;
+    }
+    if (!context->is_known) {
+        uint32_t made = make_known(context);
+        if (made != KZ_OK) {
+            kz_tell(KZ_KEPT_SET, call, "a context that was kept from another callback can't be set here: it answers STATUS_NOT_SUPPORTED");
+            return STATUS_NOT_SUPPORTED;
+        }
+        drop(context);
     }
     uint32_t status = kz_event((KazdrinEvent){.event = KZ_SET,
                                               .slot = context->slot,
@@ -163,13 +345,17 @@ static NTSTATUS set(const char *call, uint8_t kind, FLT_SET_CONTEXT_OPERATION ho
                                               .flag = old != NULL});
     if (old && (status == KZ_OK || status == KZ_ALREADY_DEFINED) && kz.told.has)
         *old = body_of(kz.told.slot, kz.told.generation);
+    if (status == KZ_NOT_HELD && context->kept)
+        return STATUS_FLT_CONTEXT_ALREADY_LINKED; /* the manager holds it by a link alone */
+    if (status == KZ_NOT_HELD)
+        kz_tell(KZ_NOT_REFERENCED, call, "a %s context to which no reference is held", kind_names[kind]);
     kz_tell_refused(call, status);
+    kz_clean_up();
     return kz_ntstatus(status);
 }
 
 static NTSTATUS get(const char *call, uint8_t kind, PFLT_CONTEXT *found)
 {
-    *found = NULL;
     uint32_t status = kz_event((KazdrinEvent){.event = KZ_GET, .kind = kind});
     if (status == KZ_OK)
         *found = body_of(kz.told.slot, kz.told.generation);
@@ -177,162 +363,287 @@ static NTSTATUS get(const char *call, uint8_t kind, PFLT_CONTEXT *found)
     return kz_ntstatus(status);
 }
 
+/* The context of a volume or an instance that isn't the callback's own: the host keeps the reference. */
+static NTSTATUS get_elsewhere(const char *call, uint8_t kind, PFLT_INSTANCE instance, PFLT_VOLUME volume, PFLT_CONTEXT *found)
+{
+    PFLT_INSTANCE at = instance ? instance : instance_on(kz.place.filter, volume);
+    uint8_t worker = kz_helper(), own = kz.place.worker;
+    if (!is_object(instance, volume, NULL) || !at || at->filter != kz.place.filter || !kz_enter_query(at, worker)) {
+        kz_helped();
+        return refuse(call, instance, volume, NULL);
+    }
+    kz.place.worker = worker;
+    NTSTATUS status = get(call, kind, found);
+    if (*found)
+        keep(find(*found), &kz.place);
+    kz.place.worker = own;
+    kz_leave_query(at, worker);
+    kz_helped();
+    return status;
+}
+
 static NTSTATUS take_off(const char *call, uint8_t kind, PFLT_CONTEXT *old)
 {
-    if (old)
-        *old = NULL;
     uint32_t status = kz_event((KazdrinEvent){.event = KZ_DELETE, .kind = kind, .flag = old != NULL});
     if (old && status == KZ_OK && kz.told.has)
         *old = body_of(kz.told.slot, kz.told.generation);
     kz_tell_refused(call, status);
+    kz_clean_up();
     return kz_ntstatus(status);
 }
 
 NTSTATUS FltSetVolumeContext(PFLT_VOLUME Volume, FLT_SET_CONTEXT_OPERATION Operation, PFLT_CONTEXT NewContext, PFLT_CONTEXT *OldContext)
 {
-    return is_own(__func__, NULL, Volume, NULL) ? set(__func__, 0, Operation, NewContext, OldContext) : STATUS_NOT_SUPPORTED;
+    if (OldContext)
+        *OldContext = NULL;
+    return is_own(NULL, Volume, NULL) ? set(__func__, 0, Operation, NewContext, OldContext) : refuse(__func__, NULL, Volume, NULL);
 }
 
 NTSTATUS FltSetInstanceContext(PFLT_INSTANCE Instance, FLT_SET_CONTEXT_OPERATION Operation, PFLT_CONTEXT NewContext, PFLT_CONTEXT *OldContext)
 {
-    return is_own(__func__, Instance, NULL, NULL) ? set(__func__, 1, Operation, NewContext, OldContext) : STATUS_NOT_SUPPORTED;
+    if (OldContext)
+        *OldContext = NULL;
+    return is_own(Instance, NULL, NULL) ? set(__func__, 1, Operation, NewContext, OldContext) : refuse(__func__, Instance, NULL, NULL);
 }
 
 NTSTATUS FltSetStreamContext(PFLT_INSTANCE Instance, PFILE_OBJECT FileObject, FLT_SET_CONTEXT_OPERATION Operation, PFLT_CONTEXT NewContext,
                              PFLT_CONTEXT *OldContext)
 {
-    return is_own(__func__, Instance, NULL, FileObject) ? set(__func__, 2, Operation, NewContext, OldContext) : STATUS_NOT_SUPPORTED;
+    if (OldContext)
+        *OldContext = NULL;
+    return is_own(Instance, NULL, FileObject) ? set(__func__, 2, Operation, NewContext, OldContext) : refuse(__func__, Instance, NULL, FileObject);
 }
 
 NTSTATUS FltSetStreamHandleContext(PFLT_INSTANCE Instance, PFILE_OBJECT FileObject, FLT_SET_CONTEXT_OPERATION Operation, PFLT_CONTEXT NewContext,
                                    PFLT_CONTEXT *OldContext)
 {
-    return is_own(__func__, Instance, NULL, FileObject) ? set(__func__, 3, Operation, NewContext, OldContext) : STATUS_NOT_SUPPORTED;
+    if (OldContext)
+        *OldContext = NULL;
+    return is_own(Instance, NULL, FileObject) ? set(__func__, 3, Operation, NewContext, OldContext) : refuse(__func__, Instance, NULL, FileObject);
 }
 
 NTSTATUS FltGetVolumeContext(PFLT_FILTER Filter, PFLT_VOLUME Volume, PFLT_CONTEXT *Context)
 {
     (void)Filter;
-    return is_own(__func__, NULL, Volume, NULL) ? get(__func__, 0, Context) : STATUS_NOT_SUPPORTED;
+    *Context = NULL;
+    return is_own(NULL, Volume, NULL) ? get(__func__, 0, Context) : get_elsewhere(__func__, 0, NULL, Volume, Context);
 }
 
 NTSTATUS FltGetInstanceContext(PFLT_INSTANCE Instance, PFLT_CONTEXT *Context)
 {
-    return is_own(__func__, Instance, NULL, NULL) ? get(__func__, 1, Context) : STATUS_NOT_SUPPORTED;
+    *Context = NULL;
+    return is_own(Instance, NULL, NULL) ? get(__func__, 1, Context) : get_elsewhere(__func__, 1, Instance, NULL, Context);
 }
 
 NTSTATUS FltGetStreamContext(PFLT_INSTANCE Instance, PFILE_OBJECT FileObject, PFLT_CONTEXT *Context)
 {
-    return is_own(__func__, Instance, NULL, FileObject) ? get(__func__, 2, Context) : STATUS_NOT_SUPPORTED;
+    *Context = NULL;
+    return is_own(Instance, NULL, FileObject) ? get(__func__, 2, Context) : refuse(__func__, Instance, NULL, FileObject);
 }
 
 NTSTATUS FltGetStreamHandleContext(PFLT_INSTANCE Instance, PFILE_OBJECT FileObject, PFLT_CONTEXT *Context)
 {
-    return is_own(__func__, Instance, NULL, FileObject) ? get(__func__, 3, Context) : STATUS_NOT_SUPPORTED;
+    *Context = NULL;
+    return is_own(Instance, NULL, FileObject) ? get(__func__, 3, Context) : refuse(__func__, Instance, NULL, FileObject);
 }
 
 NTSTATUS FltDeleteVolumeContext(PFLT_FILTER Filter, PFLT_VOLUME Volume, PFLT_CONTEXT *OldContext)
 {
     (void)Filter;
-    return is_own(__func__, NULL, Volume, NULL) ? take_off(__func__, 0, OldContext) : STATUS_NOT_SUPPORTED;
+    if (OldContext)
+        *OldContext = NULL;
+    return is_own(NULL, Volume, NULL) ? take_off(__func__, 0, OldContext) : refuse(__func__, NULL, Volume, NULL);
 }
 
 NTSTATUS FltDeleteInstanceContext(PFLT_INSTANCE Instance, PFLT_CONTEXT *OldContext)
 {
-    return is_own(__func__, Instance, NULL, NULL) ? take_off(__func__, 1, OldContext) : STATUS_NOT_SUPPORTED;
+    if (OldContext)
+        *OldContext = NULL;
+    return is_own(Instance, NULL, NULL) ? take_off(__func__, 1, OldContext) : refuse(__func__, Instance, NULL, NULL);
 }
 
 NTSTATUS FltDeleteStreamContext(PFLT_INSTANCE Instance, PFILE_OBJECT FileObject, PFLT_CONTEXT *OldContext)
 {
-    return is_own(__func__, Instance, NULL, FileObject) ? take_off(__func__, 2, OldContext) : STATUS_NOT_SUPPORTED;
+    if (OldContext)
+        *OldContext = NULL;
+    return is_own(Instance, NULL, FileObject) ? take_off(__func__, 2, OldContext) : refuse(__func__, Instance, NULL, FileObject);
 }
 
 NTSTATUS FltDeleteStreamHandleContext(PFLT_INSTANCE Instance, PFILE_OBJECT FileObject, PFLT_CONTEXT *OldContext)
 {
-    return is_own(__func__, Instance, NULL, FileObject) ? take_off(__func__, 3, OldContext) : STATUS_NOT_SUPPORTED;
+    if (OldContext)
+        *OldContext = NULL;
+    return is_own(Instance, NULL, FileObject) ? take_off(__func__, 3, OldContext) : refuse(__func__, Instance, NULL, FileObject);
 }
 
+/* Takes a context off its object, if that is the callback's own. The caller's reference stays. */
+VOID FltDeleteContext(PFLT_CONTEXT Context)
+{
+    Header *context = context_of(Context, __func__);
+    PFLT_CONTEXT there = NULL;
+    if (!context || get(__func__, context->kind, &there) != STATUS_SUCCESS)
+        return;
+    if (there == Context)
+        kz_event((KazdrinEvent){.event = KZ_DELETE, .kind = context->kind});
+    else
+        kz_tell(KZ_NOT_OWN_OBJECT, __func__, "a context of an object that isn't the callback's own: it stays there");
+    FltReleaseContext(there);
+}
+
+/* ---- All of them at once. */
+VOID FltGetContexts(PCFLT_RELATED_OBJECTS FltObjects, FLT_CONTEXT_TYPE DesiredContexts, PFLT_RELATED_CONTEXTS Contexts)
+{
+    memset(Contexts, 0, sizeof *Contexts);
+    if (DesiredContexts & FLT_VOLUME_CONTEXT && FltObjects->Volume)
+        FltGetVolumeContext(FltObjects->Filter, FltObjects->Volume, &Contexts->VolumeContext);
+    if (DesiredContexts & FLT_INSTANCE_CONTEXT && FltObjects->Instance)
+        FltGetInstanceContext(FltObjects->Instance, &Contexts->InstanceContext);
+    if (DesiredContexts & FLT_STREAM_CONTEXT && FltObjects->FileObject)
+        FltGetStreamContext(FltObjects->Instance, FltObjects->FileObject, &Contexts->StreamContext);
+    if (DesiredContexts & FLT_STREAMHANDLE_CONTEXT && FltObjects->FileObject)
+        FltGetStreamHandleContext(FltObjects->Instance, FltObjects->FileObject, &Contexts->StreamHandleContext);
+}
+
+VOID FltReleaseContexts(PFLT_RELATED_CONTEXTS Contexts)
+{
+    PFLT_CONTEXT all[] = {Contexts->VolumeContext, Contexts->InstanceContext, Contexts->StreamContext, Contexts->StreamHandleContext};
+    for (size_t at = 0; at < sizeof all / sizeof all[0]; at++)
+        if (all[at])
+            FltReleaseContext(all[at]);
+    memset(Contexts, 0, sizeof *Contexts);
+}
+
+NTSTATUS FltGetContextsEx(PCFLT_RELATED_OBJECTS FltObjects, FLT_CONTEXT_TYPE DesiredContexts, SIZE_T ContextsSize, PFLT_RELATED_CONTEXTS_EX Contexts)
+{
+    if (ContextsSize < sizeof(FLT_RELATED_CONTEXTS))
+        return STATUS_INVALID_PARAMETER;
+    memset(Contexts, 0, ContextsSize);
+    FltGetContexts(FltObjects, DesiredContexts, (PFLT_RELATED_CONTEXTS)Contexts);
+    return STATUS_SUCCESS;
+}
+
+VOID FltReleaseContextsEx(SIZE_T ContextsSize, PFLT_RELATED_CONTEXTS_EX Contexts)
+{
+    (void)ContextsSize;
+    FltReleaseContexts((PFLT_RELATED_CONTEXTS)Contexts);
+}
+
+BOOLEAN FltSupportsFileContexts(PFILE_OBJECT FileObject)
+{
+    (void)FileObject;
+    return FALSE;
+}
+
+BOOLEAN FltSupportsFileContextsEx(PFILE_OBJECT FileObject, PFLT_INSTANCE Instance)
+{
+    (void)FileObject, (void)Instance;
+    return FALSE;
+}
+
+BOOLEAN FltSupportsStreamContexts(PFILE_OBJECT FileObject)
+{
+    KzFile *file = kz_file_with(FileObject);
+    return file && !file->is_directory;
+}
+
+BOOLEAN FltSupportsStreamHandleContexts(PFILE_OBJECT FileObject)
+{
+    return FltSupportsStreamContexts(FileObject);
+}
+
+/* ---- What a callback holds as it returns. */
 static uint64_t held_count(void)
 {
     KazdrinCounts counts = {0};
-    kazdrin_counts(&kz.manager, &(KazdrinEvent){0}, &counts);
+    kazdrin_counts(&kz.manager, &(KazdrinEvent){.worker = kz.place.worker}, &counts);
     return counts.held;
 }
 
 static bool held_at(uint32_t place, uint32_t *slot, uint32_t *generation)
 {
     KazdrinTold told = {0};
-    kazdrin_held_at(&kz.manager, &(KazdrinEvent){.len = place}, &told);
+    kazdrin_held_at(&kz.manager, &(KazdrinEvent){.len = place, .worker = kz.place.worker}, &told);
     *slot = told.slot;
     *generation = told.generation;
     return told.has;
 }
 
-/* Which reference a completion takes along: that to the context that it points to, or else the last one in the hand. */
-bool kz_sends(PVOID completion, KazdrinEvent *event)
+/* Which reference a completion takes along in the manager: that to the context that it points to, or else the last one that the callback holds. Others the host keeps. */
+bool kz_sends(KzOp *op, PVOID completion, KazdrinEvent *event)
 {
     event->number = (uintptr_t)completion;
-    uint64_t count = held_count();
-    if (!completion || count == 0)
-        return false;
-    Header *named = find(completion);
+    uint64_t count = completion ? held_count() : 0;
+    Header *named = count ? find(completion) : NULL;
     uint32_t slot, generation;
     for (uint32_t place = 0; place < count; place++) {
-        bool is_last = place + 1 == count;
         if (!held_at(place, &slot, &generation))
             continue;
-        if ((named && named->slot == slot && named->generation == generation) || (!named && is_last)) {
+        if (named ? named->slot == slot && named->generation == generation : place + 1 == count) {
             event->slot = slot;
             event->generation = generation;
             event->flag = 1;
         }
     }
+    if (event->flag && !named) {
+        KzSent *sent = kz_block(op, sizeof *sent);
+        *sent = (KzSent){op->sent, body_of(event->slot, event->generation), kz.place};
+        op->sent = sent;
+    }
     return event->flag;
 }
 
-/* What the callback that is about to return leaves in its hand, but for one reference that its completion takes along. */
-void kz_tell_leaks(const KazdrinEvent *sent)
+/* Where a reference was left: in the preoperation that sent it beside something else, or here. */
+static KzPlace left_in(PVOID body)
+{
+    for (KzSent **at = kz.place.op ? &kz.place.op->sent : NULL; at && *at; at = &(*at)->next)
+        if ((*at)->body == body && (*at)->place.instance == kz.place.instance) {
+            KzPlace place = (*at)->place;
+            *at = (*at)->next;
+            return place;
+        }
+    return kz.place;
+}
+
+/* The callback is about to return: the host keeps what it still holds, but for the one reference that its completion takes along. */
+void kz_keep_rest(const KazdrinEvent *sent)
 {
     bool is_to_go = sent && sent->flag;
     uint64_t count = held_count();
-    for (uint32_t place = 0; place < count; place++) {
+    for (uint32_t at = 0; at < count; at++) {
         uint32_t slot, generation;
-        if (!held_at(place, &slot, &generation))
+        if (!held_at(at, &slot, &generation))
             continue;
         if (is_to_go && sent->slot == slot && sent->generation == generation) {
             is_to_go = false;
             continue;
         }
-        Header *context = find(body_of(slot, generation));
-        kz_tell("FltReleaseContext", "never called for a reference to a %s context", context ? kind_names[context->kind] : "lost");
+        Header *context = known(slot, generation);
+        if (!context)
+            continue;
+        KzPlace place = left_in(context->body);
+        keep(context, &place);
     }
 }
 
-/* The manager gives what is due: its filter's cleanup callback is called, and then its memory is freed. */
-static void clean_up(Header *context)
+/* A filter ends: what it kept it never released. */
+void kz_tell_kept(PFLT_FILTER filter)
 {
-    KzPlace before = kz_enter(KZ_IN_CLEANUP, context->filter, NULL, NULL, NULL);
-    if (context->cleanup)
-        context->cleanup(context->body, context->type);
-    kz_event((KazdrinEvent){.event = KZ_CLEANED});
-    kz.place = before;
-    for (Header **at = &live; *at; at = &(*at)->next)
-        if (*at == context) {
-            *at = context->next;
-            break;
+    for (Header *one = live, *next; one; one = next) {
+        next = one->next;
+        if (one->filter != filter || !one->kept)
+            continue;
+        for (Kept *kept = one->kept; kept; kept = kept->next) {
+            KzPlace before = kz_enter_again(&kept->place);
+            kz_tell(KZ_LEAK, "FltReleaseContext", "never called for a reference to a %s context", kind_names[one->kind]);
+            kz.place = before;
+            kz.counts.leaked++;
         }
-    free(context->body);
-    dead[dead_next] = *context;
-    dead_next = (dead_next + 1) % KEPT;
-    free(context);
-}
-
-void kz_clean_up(void)
-{
-    while (kz_event((KazdrinEvent){.event = KZ_TAKE_DUE}) == KZ_OK && kz.told.has) {
-        Header *context;
-        memcpy(&context, kz.room, sizeof context);
-        clean_up(context);
+        while (one->kept)
+            drop(one);
+        if (!one->is_known) {
+            finish(one);
+            next = live; /* its callback may have let go of others */
+        }
     }
 }
 
@@ -341,7 +652,8 @@ void kz_free_contexts(void)
     while (live) {
         Header *one = live;
         live = one->next;
-        free(one->body);
+        while (one->kept)
+            drop(one);
         free(one);
     }
     memset(dead, 0, sizeof dead);

@@ -3,11 +3,16 @@
 
 #include <stdlib.h>
 
+/* Memory that lives as long as its operation, between red zones. */
 void *kz_block(KzOp *op, size_t size)
 {
-    KzBlock *block = kz_memory(sizeof *block + size);
-    block->next = op->blocks;
+    KzBlock *block = kz_memory(sizeof *block);
+    *block = (KzBlock){op->blocks, kz_take_memory(KZ_BUFFER, size, 0, 0)};
     op->blocks = block;
+    if (!block->bytes) {
+        fprintf(stderr, "no memory\n");
+        exit(1);
+    }
     return block->bytes;
 }
 
@@ -23,7 +28,58 @@ static size_t least(size_t a, size_t b)
     return a < b ? a : b;
 }
 
-/* ---- The buffers of a read. Each instance on the way down receives the buffer that is in force above it, and may put another in its place. */
+/* ---- The structure itself. */
+FLT_CALLBACK_DATA *kz_new_data(PETHREAD thread, PFLT_IO_PARAMETER_BLOCK iopb)
+{
+    FLT_CALLBACK_DATA fresh = {.Flags = FLTFL_CALLBACK_DATA_IRP_OPERATION, .Thread = thread, .Iopb = iopb, .RequestorMode = UserMode};
+    FLT_CALLBACK_DATA *made = kz_take_memory(KZ_DATA, sizeof fresh, 0, 0);
+    memcpy(made, &fresh, sizeof fresh);
+    return made;
+}
+
+/* A filter completed what it held: its structures aren't its any more. They are filled, and the operation goes on with others. */
+void kz_renew_data(KzOp *op)
+{
+    PFLT_IO_PARAMETER_BLOCK iopb = kz_take_memory(KZ_DATA, sizeof *iopb, 0, 0);
+    *iopb = *op->iopb;
+    FLT_CALLBACK_DATA *data = kz_new_data(op->thread, iopb);
+    data->Flags = op->data->Flags;
+    data->IoStatus = op->data->IoStatus;
+    kz_give_back(op->iopb);
+    kz_give_back(op->data);
+    op->iopb = iopb;
+    op->data = data;
+}
+
+/* ---- Buffers that the answer comes into: of a read, a listing, a query. Each instance on the way down receives the one that is in force above it, and may put another in
+ * its place. */
+static PVOID *buffer_in(KzOp *op, FLT_PARAMETERS *parameters, PMDL **mdl, ULONG **length)
+{
+    static PMDL none;
+    switch (op->event) {
+    case KZ_READ:
+        *mdl = &parameters->Read.MdlAddress;
+        *length = &parameters->Read.Length;
+        return &parameters->Read.ReadBuffer;
+    case KZ_LIST:
+        *mdl = &parameters->DirectoryControl.QueryDirectory.MdlAddress;
+        *length = &parameters->DirectoryControl.QueryDirectory.Length;
+        return &parameters->DirectoryControl.QueryDirectory.DirectoryBuffer;
+    case KZ_QUERY_SIZE:
+        *mdl = &none;
+        none = NULL;
+        *length = &parameters->QueryFileInformation.Length;
+        return &parameters->QueryFileInformation.InfoBuffer;
+    default:
+        return NULL;
+    }
+}
+
+static bool has_buffer(const KzOp *op)
+{
+    return op->event == KZ_READ || op->event == KZ_LIST || op->event == KZ_QUERY_SIZE;
+}
+
 static void visit(KzOp *op, PFLT_INSTANCE instance)
 {
     KzVisit *above = op->visits, *made = kz_memory(sizeof *made);
@@ -31,6 +87,8 @@ static void visit(KzOp *op, PFLT_INSTANCE instance)
     if (above) {
         made->received = above->swapped ? above->swapped : above->received;
         made->room = above->swapped ? above->swapped_room : above->room;
+        made->received_mdl = above->swapped ? (op->mdls && op->mdls->mdl && MmGetMdlVirtualAddress(op->mdls->mdl) == above->swapped ? op->mdls->mdl : NULL)
+                                            : above->received_mdl;
     }
     op->visits = made;
 }
@@ -52,10 +110,23 @@ void kz_forget_swap(KzOp *op, PFLT_INSTANCE instance)
         at->swapped = kz_block(op, at->swapped_room);
         if (below)
             for (KzVisit *lower = op->visits; lower != at; lower = lower->above)
-                if (lower->received == gone)
+                if (lower->received == gone) {
                     lower->received = at->swapped;
-        if (op->event == KZ_READ && op->iopb.Parameters.Read.ReadBuffer == gone)
-            op->iopb.Parameters.Read.ReadBuffer = op->shown.Parameters.Read.ReadBuffer = at->swapped;
+                    lower->received_mdl = NULL;
+                }
+        for (KzMdl *one = op->mdls; one; one = one->next)
+            if (one->mdl && MmGetMdlVirtualAddress(one->mdl) == gone) {
+                IoFreeMdl(one->mdl);
+                one->mdl = NULL;
+            }
+        PMDL *mdl;
+        ULONG *length;
+        PVOID *buffer = buffer_in(op, &op->iopb->Parameters, &mdl, &length);
+        if (buffer && *buffer == gone) {
+            *buffer = at->swapped;
+            *mdl = NULL;
+            op->shown = *op->iopb;
+        }
     }
 }
 
@@ -64,10 +135,14 @@ void kz_free_data(KzOp *op)
     while (op->visits)
         leave_visit(op);
     for (; op->mdls; op->mdls = op->mdls->next)
-        IoFreeMdl(op->mdls->mdl);
+        if (op->mdls->mdl)
+            IoFreeMdl(op->mdls->mdl);
+    kz_give_back(op->iopb);
+    kz_give_back(op->data);
     while (op->blocks) {
         KzBlock *block = op->blocks;
         op->blocks = block->next;
+        kz_give_back(block->bytes);
         free(block);
     }
 }
@@ -75,7 +150,19 @@ void kz_free_data(KzOp *op)
 /* ---- What is asked for. */
 static ULONG options_of(uint8_t mode)
 {
-    return (ULONG)(mode == 0 ? FILE_OPEN : mode == 1 ? FILE_CREATE : FILE_OPEN_IF) << 24;
+    return (ULONG)(mode == 0 ? FILE_OPEN : mode == 1 ? FILE_CREATE : FILE_OPEN_IF) << 24 | FILE_NON_DIRECTORY_FILE | FILE_SYNCHRONOUS_IO_NONALERT;
+}
+
+#define ACCESS (FILE_GENERIC_READ | FILE_GENERIC_WRITE | DELETE)
+
+static void show_create(KzOp *op, FLT_PARAMETERS *shown)
+{
+    op->access = (ACCESS_STATE){.RemainingDesiredAccess = ACCESS, .OriginalDesiredAccess = ACCESS};
+    op->security = (IO_SECURITY_CONTEXT){.AccessState = &op->access, .DesiredAccess = ACCESS};
+    shown->Create.SecurityContext = &op->security;
+    shown->Create.Options = options_of(op->lent.mode);
+    shown->Create.FileAttributes = FILE_ATTRIBUTE_NORMAL;
+    shown->Create.ShareAccess = FILE_SHARE_VALID_FLAGS;
 }
 
 static void show_information(KzOp *op, FLT_PARAMETERS *shown)
@@ -95,16 +182,25 @@ static void show_information(KzOp *op, FLT_PARAMETERS *shown)
     shown->SetFileInformation.InfoBuffer = op->asked;
 }
 
+static void show_buffer(KzOp *op, FLT_PARAMETERS *shown)
+{
+    PMDL *mdl;
+    ULONG *length;
+    PVOID *buffer = buffer_in(op, shown, &mdl, &length);
+    *buffer = op->visits->received;
+    *mdl = op->visits->received_mdl;
+}
+
 static void show_parameters(KzOp *op, FLT_PARAMETERS *shown)
 {
     switch (op->event) {
     case KZ_CREATE:
-        shown->Create.Options = options_of(op->lent.mode);
+        show_create(op, shown);
         break;
     case KZ_READ:
         shown->Read.Length = op->lent.len;
         shown->Read.ByteOffset.QuadPart = (LONGLONG)op->lent.offset;
-        shown->Read.ReadBuffer = op->visits->received;
+        show_buffer(op, shown);
         break;
     case KZ_WRITE:
         op->asked = copied(op, kz.room, op->lent.length);
@@ -116,7 +212,7 @@ static void show_parameters(KzOp *op, FLT_PARAMETERS *shown)
     case KZ_QUERY_SIZE:
         shown->QueryFileInformation.Length = sizeof(FILE_STANDARD_INFORMATION);
         shown->QueryFileInformation.FileInformationClass = FileStandardInformation;
-        shown->QueryFileInformation.InfoBuffer = kz_block(op, sizeof(FILE_STANDARD_INFORMATION));
+        show_buffer(op, shown);
         break;
     case KZ_SET_SIZE:
     case KZ_SET_DELETE:
@@ -124,38 +220,80 @@ static void show_parameters(KzOp *op, FLT_PARAMETERS *shown)
         break;
     case KZ_LIST:
         shown->DirectoryControl.QueryDirectory.FileInformationClass = FileNamesInformation;
+        shown->DirectoryControl.QueryDirectory.Length = op->visits->room;
+        show_buffer(op, shown);
         break;
+    }
+}
+
+static ULONG irp_flags_of(uint8_t event)
+{
+    switch (event) {
+    case KZ_CREATE:
+        return IRP_CREATE_OPERATION | IRP_SYNCHRONOUS_API | IRP_DEFER_IO_COMPLETION;
+    case KZ_READ:
+        return IRP_READ_OPERATION | IRP_DEFER_IO_COMPLETION;
+    case KZ_WRITE:
+        return IRP_WRITE_OPERATION | IRP_DEFER_IO_COMPLETION;
+    case KZ_CLOSE:
+    case KZ_CLEANUP:
+        return IRP_CLOSE_OPERATION | IRP_SYNCHRONOUS_API;
+    case KZ_QUERY_SIZE:
+    case KZ_SET_SIZE:
+    case KZ_SET_DELETE:
+        return IRP_BUFFERED_IO | IRP_SYNCHRONOUS_API;
+    default:
+        return IRP_SYNCHRONOUS_API;
     }
 }
 
 /* Fills the kit's structures from what the worker was lent. */
 static void show(KzOp *op, PFLT_INSTANCE instance)
 {
-    kazdrin_lent(&kz.manager, &(KazdrinEvent){0}, &op->lent, kz.room, sizeof kz.room);
-    memset(&op->iopb, 0, sizeof op->iopb);
-    op->iopb.MajorFunction = kz_major(op->event);
-    op->iopb.MinorFunction = op->event == KZ_LIST ? IRP_MN_QUERY_DIRECTORY : IRP_MN_NORMAL;
-    op->iopb.TargetFileObject = op->file ? &op->file->object : NULL;
-    op->iopb.TargetInstance = instance;
+    kazdrin_lent(&kz.manager, &(KazdrinEvent){.worker = kz.place.worker}, &op->lent, kz.room, sizeof kz.room);
+    memset(op->iopb, 0, sizeof *op->iopb);
+    op->iopb->IrpFlags = irp_flags_of(op->event);
+    op->iopb->MajorFunction = kz_major(op->event);
+    op->iopb->MinorFunction = op->event == KZ_LIST ? IRP_MN_QUERY_DIRECTORY : IRP_MN_NORMAL;
+    op->iopb->OperationFlags = op->event == KZ_LIST ? SL_RESTART_SCAN : 0;
+    op->iopb->TargetFileObject = &op->file->object;
+    op->iopb->TargetInstance = instance;
     op->asked = NULL;
     op->asked_length = 0;
-    show_parameters(op, &op->iopb.Parameters);
+    show_parameters(op, &op->iopb->Parameters);
     op->pristine = op->asked ? copied(op, op->asked, op->asked_length) : NULL;
-    op->shown = op->iopb;
+    op->shown = *op->iopb;
     op->data->Flags = FLTFL_CALLBACK_DATA_IRP_OPERATION;
+    if (irp_flags_of(op->event) & IRP_BUFFERED_IO)
+        op->data->Flags |= FLTFL_CALLBACK_DATA_SYSTEM_BUFFER;
+}
+
+/* What the manager doesn't look at isn't lost: a completion that wasn't seen by any postoperation yet is put in the answer. */
+static void put_served(KzOp *op)
+{
+    if (!op->is_served)
+        return;
+    op->is_served = false;
+    KazdrinEvent put = {.worker = kz.place.worker, .status = op->lent.status, .number = op->lent.number, .offset = op->served, .flag = op->served_bytes != NULL};
+    if (kazdrin_answer(&kz.manager, &put, op->served_bytes ? op->served_bytes : (const uint8_t *)"", op->served_length) != KZ_OK)
+        kz_tell(KZ_LONG_ANSWER, "FLT_PREOP_COMPLETE", "an answer past a limit: it doesn't count");
+    kazdrin_lent(&kz.manager, &(KazdrinEvent){.flag = 1, .worker = kz.place.worker}, &op->lent, kz.room, sizeof kz.room);
 }
 
 void kz_show_pre(KzOp *op, PFLT_INSTANCE instance)
 {
-    if (op->event == KZ_READ)
+    if (has_buffer(op))
         visit(op, instance);
     show(op, instance);
-    op->data->IoStatus = op->status_shown = (IO_STATUS_BLOCK){STATUS_SUCCESS, 0};
+    op->data->IoStatus = op->status_shown = (IO_STATUS_BLOCK){.Status = STATUS_SUCCESS};
 }
 
 /* ---- What a preoperation left. */
 static void keep_mdl(KzOp *op, PMDL mdl)
 {
+    for (KzMdl *one = op->mdls; one; one = one->next)
+        if (one->mdl == mdl)
+            return;
     KzMdl *kept = kz_block(op, sizeof *kept);
     *kept = (KzMdl){op->mdls, mdl};
     op->mdls = kept;
@@ -164,38 +302,43 @@ static void keep_mdl(KzOp *op, PMDL mdl)
 static void note_swap(KzOp *op, bool has_post)
 {
     KzVisit *visited = op->visits;
-    PMDL mdl = op->iopb.Parameters.Read.MdlAddress;
-    if (mdl) {
-        keep_mdl(op, mdl);
-        visited->swapped = mdl->Address;
-    } else if (op->iopb.Parameters.Read.ReadBuffer != visited->received) {
-        visited->swapped = op->iopb.Parameters.Read.ReadBuffer;
+    PMDL *mdl, *mdl_shown;
+    ULONG *length, *length_shown;
+    PVOID *buffer = buffer_in(op, &op->iopb->Parameters, &mdl, &length);
+    PVOID *buffer_shown = buffer_in(op, &op->shown.Parameters, &mdl_shown, &length_shown);
+    if (op->event != KZ_QUERY_SIZE && *mdl && *mdl != visited->received_mdl) {
+        keep_mdl(op, *mdl);
+        visited->swapped = MmGetMdlVirtualAddress(*mdl);
+    } else if (*buffer != *buffer_shown) {
+        visited->swapped = *buffer;
     }
-    visited->swapped_room = op->iopb.Parameters.Read.Length;
+    visited->swapped_room = *length;
     if (visited->swapped && !has_post)
-        kz_tell("FltSetCallbackDataDirty", "a buffer was swapped and no postoperation is asked for: what is read never comes to the caller's");
+        kz_tell(KZ_LOST_SWAP, "FltSetCallbackDataDirty", "a buffer was swapped and no postoperation is asked for: what comes into it never comes to the caller's");
 }
 
 static const uint8_t *written(KzOp *op)
 {
-    PMDL mdl = op->iopb.Parameters.Write.MdlAddress;
+    PMDL mdl = op->iopb->Parameters.Write.MdlAddress;
     if (!mdl)
-        return op->iopb.Parameters.Write.WriteBuffer;
+        return op->iopb->Parameters.Write.WriteBuffer;
     keep_mdl(op, mdl);
-    return mdl->Address;
+    return MmGetMdlVirtualAddress(mdl);
 }
 
 /* The parameters that the callback left, as the manager's event; false for what it hasn't. */
 static bool changed(KzOp *op, KazdrinEvent *event, const uint8_t **bytes, size_t *length)
 {
-    const FLT_PARAMETERS *now = &op->iopb.Parameters;
-    *event = (KazdrinEvent){.event = op->event};
+    const FLT_PARAMETERS *now = &op->iopb->Parameters;
+    *event = (KazdrinEvent){.event = op->event, .worker = kz.place.worker};
     switch (op->event) {
-    case KZ_CREATE:
+    case KZ_CREATE: {
+        ULONG disposition = now->Create.Options >> 24;
         *bytes = (const uint8_t *)op->file->path;
         *length = strlen(op->file->path);
-        event->mode = (uint8_t)((now->Create.Options >> 24) - FILE_OPEN);
-        return true;
+        event->mode = (uint8_t)(disposition == FILE_CREATE ? 1 : disposition == FILE_OPEN ? 0 : 2);
+        return disposition >= FILE_OPEN && disposition <= FILE_OPEN_IF;
+    }
     case KZ_READ:
         event->offset = (uint64_t)now->Read.ByteOffset.QuadPart;
         event->len = now->Read.Length;
@@ -216,28 +359,62 @@ static bool changed(KzOp *op, KazdrinEvent *event, const uint8_t **bytes, size_t
     }
 }
 
+static bool is_in_place(KzOp *op)
+{
+    return op->asked && memcmp(op->asked, op->pristine, op->asked_length) != 0;
+}
+
 /* Whether the parameters differ from those that the callback was shown, or from those that it left. */
 bool kz_is_touched(KzOp *op)
 {
-    return memcmp(&op->iopb, &op->shown, sizeof op->iopb) != 0 || (op->asked && memcmp(op->asked, op->pristine, op->asked_length) != 0);
+    return memcmp(op->iopb, &op->shown, sizeof *op->iopb) != 0 || is_in_place(op);
 }
 
-void kz_take_pre(KzOp *op, bool has_post)
+/* The target may be another instance of the filter, or another file: the manager sends it nowhere else. */
+static void check_target(KzOp *op, bool is_dirty)
+{
+    bool is_same = op->iopb->TargetInstance == op->shown.TargetInstance && op->iopb->TargetFileObject == op->shown.TargetFileObject;
+    if (is_same)
+        return;
+    if (!kz_is_instance(op->iopb->TargetInstance) || !kz_file_with(op->iopb->TargetFileObject))
+        kz_tell(KZ_NO_TARGET, "FLT_IO_PARAMETER_BLOCK", "TargetInstance or TargetFileObject was changed to what is none");
+    else if (is_dirty)
+        kz_tell(KZ_REDIRECTED, "FLT_IO_PARAMETER_BLOCK", "an operation goes to no other instance or file: TargetInstance and TargetFileObject stay");
+    op->iopb->TargetInstance = op->shown.TargetInstance;
+    op->iopb->TargetFileObject = op->shown.TargetFileObject;
+}
+
+/* Bytes that were changed in the caller's own buffer are written, as in the kit. */
+static void take_in_place(KzOp *op)
+{
+    kz_tell(KZ_WRITE_IN_PLACE, "FLT_IO_PARAMETER_BLOCK", "the bytes of WriteBuffer were changed in place: that is the caller's own memory");
+    KazdrinEvent event = {.event = KZ_WRITE, .worker = kz.place.worker, .offset = op->lent.offset};
+    kazdrin_change(&kz.manager, &event, op->asked, op->asked_length);
+    memcpy(op->pristine, op->asked, op->asked_length);
+}
+
+void kz_take_pre(KzOp *op, bool has_post, bool is_completed)
 {
     const uint8_t *bytes = (const uint8_t *)"";
     size_t length = 0;
     KazdrinEvent event;
-    if (!(op->data->Flags & FLTFL_CALLBACK_DATA_DIRTY)) {
-        if (kz_is_touched(op))
-            kz_tell("FltSetCallbackDataDirty", "never called, though parameters were changed: they don't count");
-        op->iopb = op->shown;
+    bool is_dirty = op->data->Flags & FLTFL_CALLBACK_DATA_DIRTY;
+    check_target(op, is_dirty);
+    if (!is_completed && (op->data->IoStatus.Status != op->status_shown.Status || op->data->IoStatus.Information != op->status_shown.Information))
+        kz_tell(KZ_STATUS_NOT_COMPLETED, "FLT_CALLBACK_DATA", "IoStatus was set by a preoperation that doesn't complete: it doesn't count");
+    if (op->event == KZ_WRITE && is_in_place(op) && !is_completed)
+        take_in_place(op);
+    if (!is_dirty) {
+        if (kz_is_touched(op) && !is_completed)
+            kz_tell(KZ_NOT_DIRTY, "FltSetCallbackDataDirty", "never called, though parameters were changed: they don't count");
+        *op->iopb = op->shown;
         return;
     }
-    if (op->event == KZ_READ)
+    if (has_buffer(op))
         note_swap(op, has_post);
     if (!changed(op, &event, &bytes, &length) || kazdrin_change(&kz.manager, &event, bytes, length) != KZ_OK)
-        kz_tell("FltSetCallbackDataDirty", "parameters of another operation, or past a limit: they don't count");
-    op->shown = op->iopb;
+        kz_tell(KZ_OTHER_PARAMETERS, "FltSetCallbackDataDirty", "parameters of another operation, or past a limit of the manager: they don't count");
+    op->shown = *op->iopb;
     if (op->asked)
         memcpy(op->pristine, op->asked, op->asked_length);
 }
@@ -245,45 +422,38 @@ void kz_take_pre(KzOp *op, bool has_post)
 /* ---- The answer. A listing is the kit's chain of names, and the manager's names, each before a line's end. */
 static size_t entry_size(size_t letters)
 {
-    return (FIELD_OFFSET(FILE_NAMES_INFORMATION, FileName) + letters * sizeof(WCHAR) + 7) & ~(size_t)7;
+    return (offsetof(FILE_NAMES_INFORMATION, FileName) + letters * sizeof(WCHAR) + 7) & ~(size_t)7;
 }
 
-static size_t chain_size(const uint8_t *names, size_t length)
+/* How many bytes of a chain fit in a buffer. */
+static size_t show_names(const uint8_t *names, size_t length, uint8_t *chain, size_t room)
 {
-    size_t size = 0, start = 0;
-    for (size_t at = 0; at < length; at++)
-        if (names[at] == '\n') {
-            size += entry_size(at - start);
-            start = at + 1;
-        }
-    return size;
-}
-
-static void show_names(KzOp *op, const uint8_t *names, size_t length)
-{
-    size_t size = chain_size(names, length), place = 0, start = 0;
-    uint8_t *chain = kz_block(op, size);
+    size_t place = 0, start = 0;
+    PFILE_NAMES_INFORMATION before = NULL;
     for (size_t at = 0; at < length; at++) {
         if (names[at] != '\n')
             continue;
+        if (place + entry_size(at - start) > room)
+            break;
         PFILE_NAMES_INFORMATION entry = (PFILE_NAMES_INFORMATION)(chain + place);
+        memset(entry, 0, entry_size(at - start));
         entry->FileNameLength = (ULONG)((at - start) * sizeof(WCHAR));
         for (size_t letter = start; letter < at; letter++)
             entry->FileName[letter - start] = names[letter];
+        if (before)
+            before->NextEntryOffset = (ULONG)((uint8_t *)entry - (uint8_t *)before);
+        before = entry;
         place += entry_size(at - start);
-        entry->NextEntryOffset = place < size ? (ULONG)entry_size(at - start) : 0;
         start = at + 1;
     }
-    op->iopb.Parameters.DirectoryControl.QueryDirectory.DirectoryBuffer = chain;
-    op->iopb.Parameters.DirectoryControl.QueryDirectory.Length = (ULONG)size;
-    op->data->IoStatus.Information = size;
+    return place;
 }
 
 /* The names that a chain has, in `room`; how many bytes they take. */
 static size_t names_in(const uint8_t *chain, size_t size, uint8_t *room, size_t space)
 {
     size_t length = 0, place = 0;
-    while (place + FIELD_OFFSET(FILE_NAMES_INFORMATION, FileName) <= size) {
+    while (place + offsetof(FILE_NAMES_INFORMATION, FileName) <= size) {
         const FILE_NAMES_INFORMATION *entry = (const FILE_NAMES_INFORMATION *)(chain + place);
         size_t letters = entry->FileNameLength / sizeof(WCHAR);
         if (entry_size(letters) > size - place || length + letters + 1 > space)
@@ -298,68 +468,105 @@ static size_t names_in(const uint8_t *chain, size_t size, uint8_t *room, size_t 
     return length;
 }
 
+static void show_size(PFILE_STANDARD_INFORMATION info, uint64_t size)
+{
+    *info = (FILE_STANDARD_INFORMATION){
+        .AllocationSize.QuadPart = (LONGLONG)((size + 511) & ~(uint64_t)511), .EndOfFile.QuadPart = (LONGLONG)size, .NumberOfLinks = 1};
+}
+
 static void show_answer(KzOp *op)
 {
+    KzVisit *visited = op->visits;
+    uint8_t *below = visited ? visited->swapped ? visited->swapped : visited->received : NULL;
+    size_t room = visited ? visited->swapped ? visited->swapped_room : visited->room : 0;
     op->data->IoStatus.Information = op->lent.information;
     switch (op->event) {
     case KZ_CREATE:
         op->data->IoStatus.Information = op->lent.status ? 0 : op->lent.mode == 1 ? FILE_CREATED : FILE_OPENED;
         break;
-    case KZ_READ: {
-        KzVisit *visited = op->visits;
-        PVOID below = visited->swapped ? visited->swapped : visited->received;
-        memcpy(below, op->answered, least(op->answered_length, visited->swapped ? visited->swapped_room : visited->room));
+    case KZ_READ:
+        memcpy(below, op->answered, least(op->answered_length, room));
         break;
-    }
     case KZ_QUERY_SIZE:
-        ((PFILE_STANDARD_INFORMATION)op->iopb.Parameters.QueryFileInformation.InfoBuffer)->EndOfFile.QuadPart = (LONGLONG)op->lent.information;
-        op->data->IoStatus.Information = op->lent.status ? 0 : sizeof(FILE_STANDARD_INFORMATION);
+        op->data->IoStatus.Information = 0;
+        if (op->lent.status == KZ_OK && room >= sizeof(FILE_STANDARD_INFORMATION)) {
+            show_size((PFILE_STANDARD_INFORMATION)below, op->lent.information);
+            op->data->IoStatus.Information = sizeof(FILE_STANDARD_INFORMATION);
+        }
         break;
     case KZ_LIST:
-        show_names(op, op->answered, op->answered_length);
+        op->data->IoStatus.Information = show_names(op->answered, op->answered_length, below, room);
         break;
     }
 }
 
 void kz_show_post(KzOp *op, PFLT_INSTANCE instance)
 {
-    while (op->event == KZ_READ && op->visits && op->visits->instance != instance)
+    while (has_buffer(op) && op->visits && op->visits->instance != instance)
         leave_visit(op);
-    if (op->event == KZ_READ && !op->visits)
+    if (has_buffer(op) && !op->visits)
         visit(op, instance);
     show(op, instance);
-    kazdrin_lent(&kz.manager, &(KazdrinEvent){.flag = 1}, &op->lent, kz.room, sizeof kz.room);
+    kazdrin_lent(&kz.manager, &(KazdrinEvent){.flag = 1, .worker = kz.place.worker}, &op->lent, kz.room, sizeof kz.room);
+    put_served(op);
     op->answered = copied(op, kz.room, op->lent.length);
     op->answered_length = op->lent.length;
     op->data->Flags |= FLTFL_CALLBACK_DATA_POST_OPERATION;
-    op->data->IoStatus.Status = op->other && op->lent.status == KZ_DEVICE_FAULT ? op->other : kz_ntstatus(op->lent.status);
+    op->data->IoStatus.Status = op->other ? op->other : kz_ntstatus(op->lent.status);
     show_answer(op);
     op->status_shown = op->data->IoStatus;
-    op->shown = op->iopb;
+    op->shown = *op->iopb;
 }
 
-/* The answer that a postoperation left: its information, and where its bytes are. */
-static const uint8_t *answer_left(KzOp *op, uint64_t *information, size_t *length)
+/* The answer that a callback left in the buffer that it received: its number for the manager, and where its bytes are. */
+static const uint8_t *answer_in(KzOp *op, uint64_t said, uint64_t *information, size_t *length)
 {
-    const FLT_PARAMETERS *now = &op->shown.Parameters;
-    uint64_t said = op->data->IoStatus.Information;
+    PMDL *mdl;
+    ULONG *asked;
+    PVOID *buffer = has_buffer(op) ? buffer_in(op, &op->shown.Parameters, &mdl, &asked) : NULL;
+    size_t room = op->visits ? op->visits->room : 0;
     *length = 0;
     switch (op->event) {
     case KZ_READ:
-        *information = said;
-        *length = least(said, op->visits->room);
-        return op->visits->received;
+        *length = least(said, room);
+        *information = *length;
+        return *buffer;
     case KZ_QUERY_SIZE:
-        *information = (uint64_t)((PFILE_STANDARD_INFORMATION)now->QueryFileInformation.InfoBuffer)->EndOfFile.QuadPart;
+        *information = said >= sizeof(FILE_STANDARD_INFORMATION) ? (uint64_t)((PFILE_STANDARD_INFORMATION)*buffer)->EndOfFile.QuadPart : 0;
         return NULL;
     case KZ_LIST:
-        *length = said ? names_in(now->DirectoryControl.QueryDirectory.DirectoryBuffer, now->DirectoryControl.QueryDirectory.Length, kz.room, KZ_BYTES) : 0;
+        *length = said ? names_in(*buffer, least(said, room), kz.room, KZ_BYTES) : 0;
         *information = *length;
         return kz.room;
     default:
-        *information = said == op->status_shown.Information ? op->lent.information : said;
+        *information = said;
         return NULL;
     }
+}
+
+static size_t most_of(KzOp *op)
+{
+    return has_buffer(op) ? op->visits->room : op->event == KZ_WRITE ? op->shown.Parameters.Write.Length : SIZE_MAX;
+}
+
+static void check_length(KzOp *op, const char *call)
+{
+    uint64_t said = op->data->IoStatus.Information;
+    if (said > most_of(op))
+        kz_tell(KZ_PAST_LENGTH, call, "IoStatus.Information %llu is past the %llu bytes that were asked for", (unsigned long long)said,
+                (unsigned long long)most_of(op));
+}
+
+/* A preoperation completed it: what is beside the status waits until the manager can be told. */
+void kz_serve(KzOp *op)
+{
+    uint64_t said = op->data->IoStatus.Information;
+    check_length(op, "FLT_PREOP_COMPLETE");
+    if (!NT_SUCCESS(op->data->IoStatus.Status) || op->event == KZ_CREATE || op->event == KZ_CLEANUP || op->event == KZ_CLOSE)
+        return;
+    const uint8_t *bytes = answer_in(op, least(said, most_of(op)), &op->served, &op->served_length);
+    op->served_bytes = bytes ? copied(op, bytes, op->served_length) : NULL;
+    op->is_served = said != 0;
 }
 
 static bool is_same(KzOp *op, uint64_t information, const uint8_t *bytes, size_t length)
@@ -369,38 +576,51 @@ static bool is_same(KzOp *op, uint64_t information, const uint8_t *bytes, size_t
     return !bytes || (length == op->answered_length && memcmp(bytes, op->answered, length) == 0);
 }
 
-void kz_take_post(KzOp *op)
+/* The number of a status, and the kit's own where that stands for another. */
+static uint32_t status_of(KzOp *op, NTSTATUS status)
 {
-    uint64_t information;
-    size_t length;
-    const uint8_t *bytes = answer_left(op, &information, &length);
-    if (op->data->Flags & FLTFL_CALLBACK_DATA_DIRTY)
-        kz_tell("FltSetCallbackDataDirty", "in a postoperation: parameters don't count any more");
-    if (is_same(op, information, bytes, length))
-        return;
-    if (op->event == KZ_CREATE || op->event == KZ_CLEANUP || op->event == KZ_CLOSE) {
-        kz_tell("FLT_CALLBACK_DATA", "IoStatus of a create, a cleanup or a close, changed in a postoperation: it doesn't count");
-        return;
-    }
     bool is_exact;
-    uint32_t status = op->lent.status;
-    if (op->data->IoStatus.Status != op->status_shown.Status) {
-        status = kz_number(op->data->IoStatus.Status, &is_exact);
-        op->other = is_exact ? STATUS_SUCCESS : op->data->IoStatus.Status;
-        if (!is_exact)
-            kz_tell("FLT_CALLBACK_DATA", "IoStatus.Status 0x%08x counts as 0x%08x", (unsigned)op->other, (unsigned)kz_ntstatus(status));
-    }
-    KazdrinEvent put = {.status = (uint8_t)status, .number = op->lent.number, .offset = information, .flag = bytes != NULL};
-    if (kazdrin_answer(&kz.manager, &put, bytes ? bytes : (const uint8_t *)"", length) != KZ_OK)
-        kz_tell("FLT_CALLBACK_DATA", "an answer past a limit: it doesn't count");
+    uint32_t number = kz_number(status, &is_exact);
+    op->other = is_exact ? STATUS_SUCCESS : status;
+    return number;
 }
 
-void FltSetCallbackDataDirty(PFLT_CALLBACK_DATA Data)
+void kz_take_post(KzOp *op)
+{
+    uint64_t information, said = op->data->IoStatus.Information;
+    size_t length;
+    check_target(op, op->data->Flags & FLTFL_CALLBACK_DATA_DIRTY);
+    check_length(op, "FLT_CALLBACK_DATA");
+    const uint8_t *bytes = answer_in(op, said, &information, &length);
+    if (!has_buffer(op) && said == op->status_shown.Information)
+        information = op->lent.information;
+    if (op->event == KZ_QUERY_SIZE && !NT_SUCCESS(op->data->IoStatus.Status))
+        information = op->lent.information;
+    if (kz_is_touched(op) && op->data->Flags & FLTFL_CALLBACK_DATA_DIRTY)
+        kz_tell(KZ_DIRTY_POST, "FltSetCallbackDataDirty", "parameters that a postoperation changes don't count");
+    if (is_same(op, information, bytes, length))
+        return;
+    if (op->data->IoStatus.Status == STATUS_PENDING) {
+        kz_tell(KZ_COMPLETED_PENDING, "FLT_CALLBACK_DATA", "IoStatus.Status is STATUS_PENDING: it doesn't count");
+        return;
+    }
+    if (op->event == KZ_CREATE || op->event == KZ_CLEANUP || op->event == KZ_CLOSE) {
+        kz_tell(KZ_CREATE_ANSWER, "FLT_CALLBACK_DATA", "IoStatus of a create, a cleanup or a close, changed in a postoperation: it doesn't count");
+        return;
+    }
+    uint32_t status = op->data->IoStatus.Status == op->status_shown.Status ? op->lent.status : status_of(op, op->data->IoStatus.Status);
+    KazdrinEvent put = {.worker = kz.place.worker, .status = (uint8_t)status, .number = op->lent.number, .offset = information, .flag = bytes != NULL};
+    if (kazdrin_answer(&kz.manager, &put, bytes ? bytes : (const uint8_t *)"", length) != KZ_OK)
+        kz_tell(KZ_LONG_ANSWER, "FLT_CALLBACK_DATA", "an answer past a limit of the manager: it doesn't count");
+}
+
+/* ---- What a driver asks of its data. */
+VOID FltSetCallbackDataDirty(PFLT_CALLBACK_DATA Data)
 {
     Data->Flags |= FLTFL_CALLBACK_DATA_DIRTY;
 }
 
-void FltClearCallbackDataDirty(PFLT_CALLBACK_DATA Data)
+VOID FltClearCallbackDataDirty(PFLT_CALLBACK_DATA Data)
 {
     Data->Flags &= ~FLTFL_CALLBACK_DATA_DIRTY;
 }
@@ -408,4 +628,175 @@ void FltClearCallbackDataDirty(PFLT_CALLBACK_DATA Data)
 BOOLEAN FltIsCallbackDataDirty(PFLT_CALLBACK_DATA Data)
 {
     return (Data->Flags & FLTFL_CALLBACK_DATA_DIRTY) != 0;
+}
+
+/* The buffer of an operation, as the kit hands out pointers to its fields. */
+NTSTATUS FltDecodeParameters(PFLT_CALLBACK_DATA CallbackData, PMDL **MdlAddressPointer, PVOID **Buffer, PULONG *Length, LOCK_OPERATION *DesiredAccess)
+{
+    FLT_PARAMETERS *now = &CallbackData->Iopb->Parameters;
+    PMDL *mdl = NULL;
+    PVOID *buffer;
+    ULONG *length;
+    LOCK_OPERATION access = IoWriteAccess;
+    switch (CallbackData->Iopb->MajorFunction) {
+    case IRP_MJ_READ:
+        mdl = &now->Read.MdlAddress;
+        buffer = &now->Read.ReadBuffer;
+        length = &now->Read.Length;
+        break;
+    case IRP_MJ_WRITE:
+        mdl = &now->Write.MdlAddress;
+        buffer = &now->Write.WriteBuffer;
+        length = &now->Write.Length;
+        access = IoReadAccess;
+        break;
+    case IRP_MJ_DIRECTORY_CONTROL:
+        mdl = &now->DirectoryControl.QueryDirectory.MdlAddress;
+        buffer = &now->DirectoryControl.QueryDirectory.DirectoryBuffer;
+        length = &now->DirectoryControl.QueryDirectory.Length;
+        break;
+    case IRP_MJ_QUERY_INFORMATION:
+        buffer = &now->QueryFileInformation.InfoBuffer;
+        length = &now->QueryFileInformation.Length;
+        break;
+    case IRP_MJ_SET_INFORMATION:
+        buffer = &now->SetFileInformation.InfoBuffer;
+        length = &now->SetFileInformation.Length;
+        access = IoReadAccess;
+        break;
+    default:
+        return STATUS_INVALID_PARAMETER;
+    }
+    if (MdlAddressPointer)
+        *MdlAddressPointer = mdl;
+    if (Buffer)
+        *Buffer = buffer;
+    if (Length)
+        *Length = length;
+    if (DesiredAccess)
+        *DesiredAccess = access;
+    return STATUS_SUCCESS;
+}
+
+/* A description of the buffer, which the manager frees. It changes no parameter. */
+NTSTATUS FltLockUserBuffer(PFLT_CALLBACK_DATA CallbackData)
+{
+    PMDL *mdl;
+    PVOID *buffer;
+    PULONG length;
+    KzOp *op = kz_op_with(CallbackData);
+    if (!op) {
+        kz_tell(KZ_NOT_OWN_DATA, __func__, "callback data of no operation");
+        return STATUS_INVALID_PARAMETER;
+    }
+    NTSTATUS status = FltDecodeParameters(CallbackData, &mdl, &buffer, &length, NULL);
+    if (!NT_SUCCESS(status) || !mdl || *mdl || !*buffer || !*length)
+        return status;
+    PFLT_FILTER filter = kz.place.filter;
+    kz.place.filter = NULL;
+    PMDL made = IoAllocateMdl(*buffer, *length, FALSE, FALSE, NULL);
+    if (made) {
+        made->MdlFlags |= MDL_PAGES_LOCKED;
+        keep_mdl(op, made);
+        *mdl = made;
+        *(PMDL *)((PUCHAR)&op->shown + ((PUCHAR)mdl - (PUCHAR)op->iopb)) = made;
+        if (op->visits && *buffer == op->visits->received)
+            op->visits->received_mdl = made;
+    }
+    kz.place.filter = filter;
+    return made ? STATUS_SUCCESS : STATUS_INSUFFICIENT_RESOURCES;
+}
+
+PVOID FltGetSwappedBufferMdlAddress(PFLT_CALLBACK_DATA CallbackData)
+{
+    KzOp *op = kz_op_with(CallbackData);
+    return op && op->mdls ? op->mdls->mdl : NULL;
+}
+
+/* The driver frees it itself. */
+VOID FltRetainSwappedBufferMdlAddress(PFLT_CALLBACK_DATA CallbackData)
+{
+    KzOp *op = kz_op_with(CallbackData);
+    if (op && op->mdls)
+        op->mdls->mdl = NULL;
+}
+
+/* The IRQL is low enough: it is done at once. */
+BOOLEAN FltDoCompletionProcessingWhenSafe(PFLT_CALLBACK_DATA Data, PCFLT_RELATED_OBJECTS FltObjects, PVOID CompletionContext, FLT_POST_OPERATION_FLAGS Flags,
+                                          PFLT_POST_OPERATION_CALLBACK SafePostCallback, PFLT_POSTOP_CALLBACK_STATUS RetPostOperationStatus)
+{
+    if (Flags & FLTFL_POST_OPERATION_DRAINING) {
+        kz_tell(KZ_HELD_DRAIN, __func__, "in a drain, where it mustn't be called");
+        *RetPostOperationStatus = FLT_POSTOP_FINISHED_PROCESSING;
+        return FALSE;
+    }
+    *RetPostOperationStatus = SafePostCallback(Data, FltObjects, CompletionContext, Flags);
+    return TRUE;
+}
+
+HANDLE FltGetRequestorProcessIdEx(PFLT_CALLBACK_DATA CallbackData)
+{
+    return PsGetThreadProcessId(CallbackData->Thread);
+}
+
+ULONG FltGetRequestorProcessId(PFLT_CALLBACK_DATA CallbackData)
+{
+    return HandleToULong(FltGetRequestorProcessIdEx(CallbackData));
+}
+
+PEPROCESS FltGetRequestorProcess(PFLT_CALLBACK_DATA CallbackData)
+{
+    return IoThreadToProcess(CallbackData->Thread);
+}
+
+NTSTATUS FltGetRequestorSessionId(PFLT_CALLBACK_DATA CallbackData, PULONG SessionId)
+{
+    (void)CallbackData;
+    *SessionId = 1;
+    return STATUS_SUCCESS;
+}
+
+/* No operation answers STATUS_PENDING to the filter that asked to be told, so that the routine isn't called. */
+NTSTATUS FltRequestOperationStatusCallback(PFLT_CALLBACK_DATA Data, PFLT_GET_OPERATION_STATUS_CALLBACK CallbackRoutine, PVOID RequesterContext)
+{
+    (void)Data, (void)CallbackRoutine, (void)RequesterContext;
+    kz_tell(KZ_STATUS_LOST, __func__, "the routine is never called");
+    return STATUS_SUCCESS;
+}
+
+NTSTATUS FltIsDirectory(PFILE_OBJECT FileObject, PFLT_INSTANCE Instance, PBOOLEAN IsDirectory)
+{
+    (void)Instance;
+    KzFile *file = kz_file_with(FileObject);
+    *IsDirectory = file && file->is_directory;
+    return file ? STATUS_SUCCESS : STATUS_INVALID_PARAMETER;
+}
+
+BOOLEAN FltIsOperationSynchronous(PFLT_CALLBACK_DATA CallbackData)
+{
+    (void)CallbackData;
+    return TRUE;
+}
+
+BOOLEAN FltIs32bitProcess(PFLT_CALLBACK_DATA CallbackData)
+{
+    (void)CallbackData;
+    return FALSE;
+}
+
+BOOLEAN FltIsIoCanceled(PFLT_CALLBACK_DATA CallbackData)
+{
+    (void)CallbackData;
+    return FALSE;
+}
+
+PCHAR FltGetIrpName(UCHAR IrpMajorCode)
+{
+    static const char *const names[] = {"IRP_MJ_CREATE", "IRP_MJ_CREATE_NAMED_PIPE", "IRP_MJ_CLOSE", "IRP_MJ_READ", "IRP_MJ_WRITE",
+                                        "IRP_MJ_QUERY_INFORMATION", "IRP_MJ_SET_INFORMATION", "IRP_MJ_QUERY_EA", "IRP_MJ_SET_EA", "IRP_MJ_FLUSH_BUFFERS",
+                                        "IRP_MJ_QUERY_VOLUME_INFORMATION", "IRP_MJ_SET_VOLUME_INFORMATION", "IRP_MJ_DIRECTORY_CONTROL",
+                                        "IRP_MJ_FILE_SYSTEM_CONTROL", "IRP_MJ_DEVICE_CONTROL", "IRP_MJ_INTERNAL_DEVICE_CONTROL", "IRP_MJ_SHUTDOWN",
+                                        "IRP_MJ_LOCK_CONTROL", "IRP_MJ_CLEANUP", "IRP_MJ_CREATE_MAILSLOT", "IRP_MJ_QUERY_SECURITY", "IRP_MJ_SET_SECURITY",
+                                        "IRP_MJ_POWER", "IRP_MJ_SYSTEM_CONTROL", "IRP_MJ_DEVICE_CHANGE", "IRP_MJ_QUERY_QUOTA", "IRP_MJ_SET_QUOTA", "IRP_MJ_PNP"};
+    return (PCHAR)(IrpMajorCode < sizeof names / sizeof names[0] ? names[IrpMajorCode] : "IRP_MJ_OTHER");
 }

@@ -65,57 +65,130 @@ const FLT_OPERATION_REGISTRATION *kz_registered(PFLT_FILTER filter, UCHAR major)
     return NULL;
 }
 
-/* ---- Registration. */
-static bool has_unmodelled(const FLT_REGISTRATION *one)
+/* ---- Registration. What the kit refuses is told, and refused with its status. */
+static bool is_size_of(USHORT version, USHORT size)
 {
-    return one->GenerateFileNameCallback || one->NormalizeNameComponentCallback || one->NormalizeContextCleanupCallback ||
-           one->TransactionNotificationCallback || one->NormalizeNameComponentExCallback || one->SectionNotificationCallback;
+    switch (version) {
+    case FLT_REGISTRATION_VERSION_0200:
+        return size >= offsetof(FLT_REGISTRATION, TransactionNotificationCallback) && size <= sizeof(FLT_REGISTRATION);
+    case FLT_REGISTRATION_VERSION_0201:
+    case FLT_REGISTRATION_VERSION_0202:
+        return size >= offsetof(FLT_REGISTRATION, SectionNotificationCallback) && size <= sizeof(FLT_REGISTRATION);
+    default:
+        return version == FLT_REGISTRATION_VERSION_0203 && size == sizeof(FLT_REGISTRATION);
+    }
+}
+
+static bool is_major(UCHAR major)
+{
+    return major <= IRP_MJ_MAXIMUM_FUNCTION || (major >= IRP_MJ_VOLUME_DISMOUNT && major <= IRP_MJ_FAST_IO_CHECK_IF_POSSIBLE) || major >= IRP_MJ_QUERY_OPEN;
+}
+
+static NTSTATUS check_operations(const FLT_OPERATION_REGISTRATION *first)
+{
+    bool is_there[256] = {false};
+    for (const FLT_OPERATION_REGISTRATION *one = first; one && one->MajorFunction != IRP_MJ_OPERATION_END; one++) {
+        if (!is_major(one->MajorFunction)) {
+            kz_tell(KZ_NO_END, "FltRegisterFilter", "major function 0x%02x is none (is IRP_MJ_OPERATION_END missing?)", one->MajorFunction);
+            return STATUS_INVALID_PARAMETER;
+        }
+        if (is_there[one->MajorFunction])
+            kz_tell(KZ_TWO_OPERATIONS, "FltRegisterFilter", "%s is registered twice: the first one counts", FltGetIrpName(one->MajorFunction));
+        is_there[one->MajorFunction] = true;
+    }
+    return STATUS_SUCCESS;
+}
+
+static NTSTATUS check_registration(const FLT_REGISTRATION *one, PFLT_FILTER filter, uint8_t *contexts)
+{
+    if (!is_size_of(one->Version, one->Size)) {
+        kz_tell(KZ_BAD_REGISTRATION, "FltRegisterFilter", "a FLT_REGISTRATION of size %u and version 0x%04x", one->Size, one->Version);
+        return STATUS_INVALID_PARAMETER;
+    }
+    memset(&filter->registration, 0, sizeof filter->registration);
+    memcpy(&filter->registration, one, one->Size);
+    NTSTATUS status = check_operations(filter->registration.OperationRegistration);
+    return NT_SUCCESS(status) ? kz_registration_of_contexts(filter, contexts) : status;
+}
+
+static void tell_unmodelled(const FLT_REGISTRATION *one)
+{
+    if (one->GenerateFileNameCallback || one->NormalizeNameComponentCallback || one->NormalizeContextCleanupCallback ||
+        one->TransactionNotificationCallback || one->NormalizeNameComponentExCallback || one->SectionNotificationCallback)
+        kz_tell(KZ_CALLBACKS, "FltRegisterFilter", "callbacks of names, transactions and sections are never called");
+}
+
+/* The manager's names are of letters, digits, _ and -, up to 32: others stand in for what a file's name may have beside them. */
+static void name_of(PFLT_FILTER filter, char *name)
+{
+    size_t length = 0;
+    for (const char *from = filter->driver->name; *from && length < 32; from++)
+        name[length++] = (char)((*from >= 'a' && *from <= 'z') || (*from >= 'A' && *from <= 'Z') || (*from >= '0' && *from <= '9') || *from == '-' ? *from : '_');
+    name[length] = 0;
 }
 
 static uint32_t register_with_manager(PFLT_FILTER filter, uint8_t contexts)
 {
-    const char *name = filter->driver->name;
+    char name[40];
     KazdrinEvent event = {.event = KZ_REGISTER, .contexts = contexts};
     const FLT_OPERATION_REGISTRATION *one = filter->registration.OperationRegistration;
     for (; one && one->MajorFunction != IRP_MJ_OPERATION_END; one++) {
+        if (kz_registered(filter, one->MajorFunction) != one)
+            continue;
         if (one->PreOperation || one->PostOperation)
             event.pre |= mask_of(one->MajorFunction);
         if (one->PostOperation)
             event.post |= mask_of(one->MajorFunction);
     }
-    event.query = filter->registration.InstanceQueryTeardownCallback != NULL;
+    event.query = 1; /* the host asks it for work items too, and the filter's callback itself */
     event.unload = filter->registration.FilterUnloadCallback != NULL;
+    name_of(filter, name);
     return kz_event_with(event, name, strlen(name));
 }
 
-NTSTATUS FltRegisterFilter(PDRIVER_OBJECT Driver, const FLT_REGISTRATION *Registration, PFLT_FILTER *RetFilter)
+NTSTATUS FltRegisterFilter(PDRIVER_OBJECT Driver, CONST FLT_REGISTRATION *Registration, PFLT_FILTER *RetFilter)
 {
     (void)Driver;
     *RetFilter = NULL;
     PFLT_FILTER filter = kz.place.filter;
     uint8_t contexts;
     if (kz.place.callback != KZ_IN_ENTRY || filter->is_registered) {
-        kz_tell(__func__, "outside DriverEntry, or called twice");
+        kz_tell(KZ_REGISTERED_OUTSIDE, __func__, "outside DriverEntry, or called twice");
         return STATUS_INVALID_PARAMETER;
     }
-    if (has_unmodelled(Registration) || !kz_registration_of_contexts(Registration, &contexts)) {
-        kz_tell(__func__, "a callback or a kind of context that isn't modelled");
-        return STATUS_NOT_SUPPORTED;
-    }
-    filter->registration = *Registration;
+    NTSTATUS checked = check_registration(Registration, filter, &contexts);
+    if (!NT_SUCCESS(checked))
+        return checked;
+    tell_unmodelled(&filter->registration);
     uint32_t status = register_with_manager(filter, contexts);
     if (status != KZ_OK)
         return kz_ntstatus(status);
     filter->id = kz.told.filter;
     filter->phase = KZ_LOADED;
     filter->is_registered = true;
+    kz.filters[kz.filters_count++] = filter;
     *RetFilter = filter;
     return STATUS_SUCCESS;
 }
 
+bool kz_is_filter(PFLT_FILTER filter)
+{
+    for (size_t at = 0; at < kz.filters_count; at++)
+        if (kz.filters[at] == filter)
+            return true;
+    return false;
+}
+
 NTSTATUS FltStartFiltering(PFLT_FILTER Filter)
 {
+    if (!kz_is_filter(Filter) || Filter->phase != KZ_LOADED) {
+        kz_tell(KZ_NO_FILTER_OBJECT, __func__, "no filter");
+        return STATUS_INVALID_PARAMETER;
+    }
+    bool is_first = !Filter->is_started;
     Filter->is_started = true;
+    for (size_t at = 0; is_first && at < kz.volumes_count; at++)
+        kz_attach_by_itself(Filter, kz.volumes[at], FLTFL_INSTANCE_SETUP_AUTOMATIC_ATTACHMENT);
     return STATUS_SUCCESS;
 }
 
@@ -128,17 +201,29 @@ static void stop_instances(PFLT_FILTER filter)
             kz.instances[at]->phase = KZ_STOPPING;
 }
 
-/* From where its end is: the status that stops it, or 0. */
-static uint32_t end(PFLT_FILTER filter)
+static uint32_t end_instances(PFLT_FILTER filter)
 {
     FLT_INSTANCE_TEARDOWN_FLAGS reason = filter->is_mandatory ? FLTFL_INSTANCE_TEARDOWN_MANDATORY_FILTER_UNLOAD : FLTFL_INSTANCE_TEARDOWN_FILTER_UNLOAD;
+    uint32_t first = KZ_OK;
     for (size_t at = 0; at < kz.instances_count; at++) {
         PFLT_INSTANCE instance = kz.instances[at];
         uint32_t status = instance->filter == filter && instance->phase != KZ_DETACHED ? kz_tear_down(instance, reason) : KZ_OK;
-        if (status != KZ_OK)
-            return status;
+        first = first == KZ_OK ? status : first;
     }
-    uint32_t status = kz_event((KazdrinEvent){.event = KZ_EMPTY_FILTER, .filter = filter->id});
+    return first;
+}
+
+/* From where its end is: the status that stops it, or 0. What else runs here, work items above all, goes on while it waits. */
+static uint32_t end(PFLT_FILTER filter)
+{
+    uint32_t status = end_instances(filter);
+    while (status == KZ_BUSY && (kz_run_dpc() || kz_work())) {
+        kz_settle();
+        status = end_instances(filter);
+    }
+    if (status != KZ_OK)
+        return status;
+    status = kz_event((KazdrinEvent){.event = KZ_EMPTY_FILTER, .filter = filter->id});
     if (status != KZ_OK)
         return status;
     kz_clean_up();
@@ -155,20 +240,47 @@ static void force(PFLT_FILTER filter)
         stop_instances(filter);
 }
 
-/* Inside the unload callback it ends that in the manager, and tears down what is left; in DriverEntry it takes the registration back. */
-void FltUnregisterFilter(PFLT_FILTER Filter)
+/* Inside the unload callback it ends that in the manager, and tears down what is left; in DriverEntry, and in a mandatory unload, it takes the registration back. */
+VOID FltUnregisterFilter(PFLT_FILTER Filter)
 {
     KzPlace place = kz.place;
-    if (Filter != place.filter || Filter->phase != KZ_LOADED || (place.callback != KZ_IN_UNLOAD && place.callback != KZ_IN_ENTRY)) {
-        kz_tell(__func__, "outside the unload callback of the filter, or called twice");
+    if (Filter != place.filter || !Filter || Filter->phase != KZ_LOADED || (place.callback != KZ_IN_UNLOAD && place.callback != KZ_IN_ENTRY)) {
+        kz_tell(KZ_UNREGISTERED_OUTSIDE, __func__, "outside the unload callback of the filter, or called twice");
         return;
     }
-    if (place.callback == KZ_IN_ENTRY)
+    if (place.callback == KZ_IN_ENTRY || Filter->is_mandatory)
         force(Filter);
     else if (kz_event((KazdrinEvent){.event = KZ_UNLOAD_RETURNED, .flag = 1}) == KZ_OK)
         stop_instances(Filter);
     Filter->end = end(Filter);
     kz.place = place;
+    if (Filter->end == KZ_BUSY)
+        kz_tell(KZ_UNREGISTER_WAITS, __func__, "operations are in flight at an instance: it returns before they end");
+    if (Filter->phase == KZ_ENDED)
+        kz_tell_kept(Filter);
+}
+
+/* Calls the unload callback. */
+static void call_unload(PFLT_FILTER filter, FLT_FILTER_UNLOAD_FLAGS flags)
+{
+    KzPlace before = kz_enter(KZ_IN_UNLOAD, filter, NULL, NULL, NULL);
+    NTSTATUS said = filter->registration.FilterUnloadCallback(flags);
+    if (filter->phase == KZ_LOADED && NT_SUCCESS(said)) {
+        kz_tell(KZ_AGREED_REGISTERED, "FltUnregisterFilter", "never called by an unload callback that agreed");
+        FltUnregisterFilter(filter);
+    } else if (filter->phase != KZ_LOADED && !NT_SUCCESS(said)) {
+        kz_tell(KZ_REFUSED_UNREGISTERED, "FltUnregisterFilter", "called by an unload callback that refused");
+    }
+    kz_leave(before);
+}
+
+/* What a driver that is unloaded mustn't leave behind. */
+static void tell_left(PFLT_FILTER filter)
+{
+    kz_tell_kept(filter);
+    kz_tell_work(filter);
+    kz_forget_timers(filter);
+    kz_tell_ports(filter);
 }
 
 static uint32_t ask(PFLT_FILTER filter)
@@ -176,15 +288,9 @@ static uint32_t ask(PFLT_FILTER filter)
     uint32_t status = kz_event((KazdrinEvent){.event = KZ_ASK_UNLOAD, .filter = filter->id});
     if (status != KZ_OK)
         return status;
-    KzPlace before = kz_enter(KZ_IN_UNLOAD, filter, NULL, NULL, NULL);
-    NTSTATUS said = filter->registration.FilterUnloadCallback(0);
-    if (filter->phase == KZ_LOADED && NT_SUCCESS(said)) {
-        kz_tell("FltUnregisterFilter", "never called by an unload callback that agreed");
-        FltUnregisterFilter(filter);
-    } else if (filter->phase != KZ_LOADED && !NT_SUCCESS(said)) {
-        kz_tell("FltUnregisterFilter", "called by an unload callback that refused");
-    }
-    kz.place = before;
+    call_unload(filter, 0);
+    if (filter->phase == KZ_ENDED)
+        tell_left(filter);
     if (filter->phase != KZ_LOADED)
         return filter->end;
     return kz_event((KazdrinEvent){.event = KZ_UNLOAD_RETURNED, .flag = 0});
@@ -192,40 +298,62 @@ static uint32_t ask(PFLT_FILTER filter)
 
 uint32_t kz_unload(PFLT_FILTER filter)
 {
-    if (filter->phase == KZ_UNLOADING)
-        return filter->end = end(filter);
-    return ask(filter);
+    if (filter->phase != KZ_UNLOADING)
+        return ask(filter);
+    filter->end = end(filter);
+    if (filter->phase == KZ_ENDED)
+        tell_left(filter);
+    return filter->end;
 }
 
+/* At the end every filter goes: one that refuses is asked again as the kit asks it then, and its answer doesn't count. */
 void kz_unload_all(void)
 {
     for (size_t at = 0; at < kz.filters_count; at++) {
         PFLT_FILTER filter = kz.filters[at];
         if (filter->phase != KZ_ENDED)
             kz_unload(filter);
+        if (filter->phase != KZ_LOADED)
+            continue;
+        filter->is_mandatory = true;
+        if (filter->registration.FilterUnloadCallback)
+            call_unload(filter, FLTFL_FILTER_UNLOAD_MANDATORY);
         if (filter->phase == KZ_LOADED) {
             force(filter);
-            end(filter);
+            filter->end = end(filter);
         }
+        tell_left(filter);
     }
 }
 
 /* ---- Loading. */
+static void name_driver(PFLT_FILTER filter)
+{
+    char text[120];
+    snprintf(text, sizeof text, "/Driver/%.60s", filter->driver->name);
+    kz_wide(&filter->object.DriverName, filter->names[0], text);
+    snprintf(text, sizeof text, "/REGISTRY/MACHINE/SYSTEM/ControlSet001/Services/%.60s", filter->driver->name);
+    kz_wide(&filter->registry_path, filter->names[1], text);
+    filter->object.Type = 4;
+    filter->object.Size = sizeof(DRIVER_OBJECT);
+}
+
 static uint32_t enter(PFLT_FILTER filter)
 {
-    DRIVER_OBJECT driver = {{0, 0, NULL}};
-    UNICODE_STRING registry = {0, 0, NULL};
     KzPlace before = kz_enter(KZ_IN_ENTRY, filter, NULL, NULL, NULL);
-    NTSTATUS said = filter->driver->entry(&driver, &registry);
+    name_driver(filter);
+    NTSTATUS said = filter->driver->entry(&filter->object, &filter->registry_path);
     if (NT_SUCCESS(said) && !filter->is_registered)
-        kz_tell("FltRegisterFilter", "never called by a DriverEntry that succeeded");
+        kz_tell(KZ_NEVER_REGISTERED, "FltRegisterFilter", "never called by a DriverEntry that succeeded");
     else if (NT_SUCCESS(said) && !filter->is_started)
-        kz_tell("FltStartFiltering", "never called by a DriverEntry that succeeded");
+        kz_tell(KZ_NEVER_STARTED, "FltStartFiltering", "never called by a DriverEntry that succeeded");
     else if (!NT_SUCCESS(said) && filter->phase == KZ_LOADED) {
-        kz_tell("FltUnregisterFilter", "never called by a DriverEntry that failed");
+        kz_tell(KZ_FAILED_REGISTERED, "FltUnregisterFilter", "never called by a DriverEntry that failed");
         FltUnregisterFilter(filter);
     }
-    kz.place = before;
+    kz_leave(before);
+    if (!NT_SUCCESS(said))
+        tell_left(filter);
     bool is_exact;
     return NT_SUCCESS(said) ? KZ_OK : kz_number(said, &is_exact);
 }
@@ -239,7 +367,8 @@ static bool is_loaded(const KzDriver *driver)
     return false;
 }
 
-uint32_t kz_load(const char *name, uint64_t *number)
+/* With an altitude it is attached by itself, as an INF file says: to each volume that is there once it starts filtering, and to each that is mounted from then on. */
+uint32_t kz_load(const char *name, const char *altitude, uint64_t *number)
 {
     const KzDriver *driver = NULL;
     for (size_t at = 0; at < kz.drivers_count; at++)
@@ -254,12 +383,14 @@ uint32_t kz_load(const char *name, uint64_t *number)
     PFLT_FILTER filter = kz_memory(sizeof *filter);
     filter->driver = driver;
     filter->phase = KZ_ENDED;
+    snprintf(filter->altitude, sizeof filter->altitude, "%s", altitude);
     uint32_t status = enter(filter);
+    kz_settle();
     if (!filter->is_registered) {
+        kz_tell_pools(filter);
         free(filter);
         return status;
     }
-    kz.filters[kz.filters_count++] = filter;
     *number = filter->id;
     return status;
 }

@@ -4,6 +4,7 @@
 
 #include "kazdrin.h"
 #include "kzflt.h"
+#include "messages.h"
 
 #include <stdbool.h>
 
@@ -31,6 +32,9 @@ enum {
 };
 
 #define KZ_BYTES 32768
+/* A listing's buffer, and the most that a driver is given at once. */
+#define KZ_LIST_BYTES 65536
+#define KZ_LARGEST ((size_t)1 << 30)
 
 typedef enum {
     KZ_IN_NOTHING,
@@ -43,20 +47,27 @@ typedef enum {
     KZ_IN_START,
     KZ_IN_COMPLETE,
     KZ_IN_UNLOAD,
-    KZ_IN_CLEANUP
+    KZ_IN_CLEANUP,
+    KZ_IN_WORK,
+    KZ_IN_TIMER
 } KzCallback;
 
 typedef struct KzOp KzOp;
 
-/* The callback that runs. */
+/* The callback that runs, with a number of its own. `worker` is that of the manager which is in it. */
 typedef struct {
     KzCallback callback;
     PFLT_FILTER filter;
     PFLT_INSTANCE instance;
     KzOp *op;
+    uint64_t op_id;
     PFLT_CALLBACK_DATA data;
+    uint64_t number;
+    unsigned depth;
+    uint8_t worker;
 } KzPlace;
 
+/* How far a filter's end came, and an instance's. The manager knows it too: these are its phases as the host saw them last. */
 typedef enum { KZ_LOADED, KZ_UNLOADING, KZ_ENDED } KzFilterPhase;
 
 struct _FLT_FILTER {
@@ -66,12 +77,20 @@ struct _FLT_FILTER {
     KzFilterPhase phase;
     bool is_registered, is_started, is_mandatory;
     uint32_t end; /* how far its end came: 0, or the status that stopped it */
+    char altitude[68]; /* where it is attached by itself; empty if it isn't */
+    DRIVER_OBJECT object;
+    UNICODE_STRING registry_path;
+    WCHAR names[2][128];
 };
 
 struct _FLT_VOLUME {
     uint8_t id;
     char name[40];
     bool is_dismounting;
+    DEVICE_OBJECT device, disk;
+    FLT_FILESYSTEM_TYPE type;
+    USHORT sector;
+    bool is_read_only, is_snapshot;
 };
 
 typedef enum { KZ_SETTING_UP, KZ_ATTACHED, KZ_STOPPING, KZ_EMPTYING, KZ_DETACHED } KzPhase;
@@ -82,14 +101,17 @@ struct _FLT_INSTANCE {
     PFLT_VOLUME volume;
     KzPhase phase;
     bool was_started; /* its teardown-start callback was called */
+    bool is_asked;    /* a worker is in its query callback */
+    char name[40], altitude[68];
 };
 
 /* An open file, as filters see it: the kit's structure first. */
 typedef struct KzFile {
     FILE_OBJECT object;
+    SECTION_OBJECT_POINTERS sections;
     struct KzFile *next;
     uint64_t handle;
-    bool has_handle;
+    bool has_handle, is_directory;
     unsigned users; /* operations, and the handle */
     PFLT_VOLUME volume;
     char path[256];
@@ -98,14 +120,15 @@ typedef struct KzFile {
 /* Memory that lives as long as its operation. */
 typedef struct KzBlock {
     struct KzBlock *next;
-    uint8_t bytes[];
+    void *bytes;
 } KzBlock;
 
-/* An instance that a read passed on its way down: the buffer that it received, and the one that it put in its place, if it did. */
+/* An instance that an operation with an answer's buffer passed on its way down: the buffer that it received, and the one that it put in its place, if it did. */
 typedef struct KzVisit {
     struct KzVisit *above;
     PFLT_INSTANCE instance;
     PVOID received, swapped;
+    PMDL received_mdl;
     ULONG room, swapped_room;
 } KzVisit;
 
@@ -115,38 +138,61 @@ typedef struct KzMdl {
     PMDL mdl;
 } KzMdl;
 
+/* A reference that goes along to a postoperation beside a completion that isn't its context: who sent it. */
+typedef struct KzSent {
+    struct KzSent *next;
+    PVOID body;
+    KzPlace place;
+} KzSent;
+
 typedef enum { KZ_NOT_HELD_NOW, KZ_HELD_PRE, KZ_HELD_POST } KzHold;
 
 struct KzOp {
     KzOp *next;
     uint64_t id;
     uint8_t event;
-    KzFile *file; /* none of a listing */
+    KzFile *file;
     PFLT_VOLUME volume;
-    FLT_IO_PARAMETER_BLOCK iopb, shown;
+    PETHREAD thread;
+    IO_SECURITY_CONTEXT security;
+    ACCESS_STATE access;
+    PFLT_IO_PARAMETER_BLOCK iopb;
+    FLT_IO_PARAMETER_BLOCK shown;
     FLT_CALLBACK_DATA *data;
     IO_STATUS_BLOCK status_shown;
     KazdrinData lent;
-    NTSTATUS other; /* the kit's status that the manager counts as a device fault */
+    NTSTATUS other; /* the kit's status that the manager counts as another */
+    /* What a completion left beside its status, until the manager has it: a number, and whether bytes lie in the buffer. */
+    bool is_served;
+    uint64_t served;
+    const uint8_t *served_bytes;
+    size_t served_length;
     KzBlock *blocks;
     KzVisit *visits;
     KzMdl *mdls;
-    PVOID caller; /* the buffer of a read's caller */
+    KzSent *sent;
+    PVOID caller; /* the buffer of the caller */
     ULONG caller_room;
     uint8_t *asked, *pristine, *answered; /* the bytes that a callback was shown, and what they were before it */
     size_t asked_length, answered_length;
     KzHold held;
     PFLT_INSTANCE holder;
     bool is_resumed, was_told_held;
+    /* Completed by the preoperation that is to pend it, or by what that called: the verdict waits for its return. */
+    bool is_early, is_in_pre;
+    FLT_PREOP_CALLBACK_STATUS early;
+    PVOID early_context;
     KzOp *next_resumed;
 };
 
-/* All of the host. */
+/* All of the host. One thread at a time uses it, and what its modules keep beside it. */
 typedef struct {
     Kazdrin manager;
     const KzDriver *drivers;
     size_t drivers_count;
     KzPlace place;
+    uint64_t places;
+    unsigned helpers;
     PFLT_FILTER filters[16];
     PFLT_VOLUME volumes[8];
     PFLT_INSTANCE *instances;
@@ -155,76 +201,152 @@ typedef struct {
     KzFile *files;
     KzCounts counts;
     KazdrinTold told;
-    uint8_t room[KZ_BYTES + 64];
+    uint64_t process, thread; /* who asks */
+    uint8_t room[KZ_LIST_BYTES + 64];
 } KzHost;
 
 extern KzHost kz;
 
-/* host.c: events, and memory that must be there. */
+/* host.c: events, and memory that must be there. An event is the current callback's worker's unless it says another. */
 uint32_t kz_event(KazdrinEvent event);
 uint32_t kz_event_with(KazdrinEvent event, const void *bytes, size_t length);
+uint8_t kz_helper(void);
+void kz_helped(void);
 void *kz_memory(size_t size);
 void kz_say(const char *format, ...) __attribute__((format(printf, 1, 2)));
 
-/* told.c: misuse is told. */
-void kz_tell(const char *call, const char *format, ...) __attribute__((format(printf, 2, 3)));
+/* told.c: what is told, and where. */
+void kz_tell(KzMessage message, const char *call, const char *format, ...) __attribute__((format(printf, 3, 4)));
 void kz_tell_refused(const char *call, uint32_t status);
 KzPlace kz_enter(KzCallback callback, PFLT_FILTER filter, PFLT_INSTANCE instance, KzOp *op, PFLT_CALLBACK_DATA data);
+KzPlace kz_enter_again(const KzPlace *place);
+void kz_leave(KzPlace before);
+size_t kz_place_text(char *room, size_t size);
+void kz_free_told(void);
+
+/* crash.c */
+void kz_watch_crashes(void);
+
+/* format.c, text.c */
+typedef void (*KzPut)(void *sink, WCHAR letter);
+void kz_format(KzPut put, void *sink, const void *format, bool is_wide, va_list *arguments);
 
 /* status.c */
 NTSTATUS kz_ntstatus(uint32_t number);
 uint32_t kz_number(NTSTATUS status, bool *is_exact);
 
-/* kernel.c */
+/* guard.c */
+typedef enum { KZ_POOL, KZ_CONTEXT, KZ_NAME, KZ_BUFFER, KZ_DATA } KzMemory;
+typedef struct KzPiece {
+    struct KzPiece *next, *before;
+    size_t size;
+    PFLT_FILTER filter;
+    ULONG tag;
+    KzMemory kind;
+    bool is_told;
+} __attribute__((aligned(16))) KzPiece;
+void *kz_take_memory(KzMemory kind, size_t size, int fill, ULONG tag);
+void kz_give_back(void *memory);
+KzPiece *kz_piece_of(const void *memory);
+const char *kz_tag(ULONG tag, char *room);
+void kz_check_piece(KzPiece *piece);
+void kz_check_memory(PFLT_FILTER filter);
+void kz_check_blocks(const KzOp *op);
 void kz_tell_pools(PFLT_FILTER filter);
-void kz_free_pools(void);
+void kz_tell_gone(void);
+void kz_free_memory(void);
+
+/* lock.c */
 void kz_tell_locks(void);
-void kz_wide(PUNICODE_STRING to, WCHAR *room, const char *text);
+void kz_free_locks(void);
+
+/* clock.c */
+void kz_tick(void);
+void kz_pass(uint64_t milliseconds);
+bool kz_run_dpc(void);
+void kz_forget_timers(PFLT_FILTER filter);
+void kz_free_clock(void);
+
+/* object.c */
+void kz_take_object(PVOID object, bool is_flt, const char *call);
+void kz_tell_objects(void);
+void kz_free_objects(void);
+
+/* registry.c */
+bool kz_read_registry(const char *path);
+void kz_tell_keys(void);
+void kz_free_registry(void);
+
+/* work.c */
+bool kz_work(void);
+void kz_tell_work(PFLT_FILTER filter);
+void kz_free_work(void);
+
+/* left.c */
+void kz_tell_ports(PFLT_FILTER filter);
+void kz_free_ports(void);
 
 /* context.c */
-bool kz_registration_of_contexts(const FLT_REGISTRATION *registration, uint8_t *mask);
-bool kz_sends(PVOID completion, KazdrinEvent *event);
-void kz_tell_leaks(const KazdrinEvent *sent);
+NTSTATUS kz_registration_of_contexts(PFLT_FILTER filter, uint8_t *mask);
+bool kz_sends(KzOp *op, PVOID completion, KazdrinEvent *event);
+void kz_keep_rest(const KazdrinEvent *sent);
 void kz_clean_up(void);
+void kz_tell_kept(PFLT_FILTER filter);
 void kz_free_contexts(void);
 
 /* data.c */
 void kz_show_pre(KzOp *op, PFLT_INSTANCE instance);
 void kz_show_post(KzOp *op, PFLT_INSTANCE instance);
-void kz_take_pre(KzOp *op, bool has_post);
+void kz_take_pre(KzOp *op, bool has_post, bool is_completed);
 void kz_take_post(KzOp *op);
+void kz_serve(KzOp *op);
 bool kz_is_touched(KzOp *op);
+void kz_renew_data(KzOp *op);
 void kz_forget_swap(KzOp *op, PFLT_INSTANCE instance);
 void kz_free_data(KzOp *op);
 void *kz_block(KzOp *op, size_t size);
+FLT_CALLBACK_DATA *kz_new_data(PETHREAD thread, PFLT_IO_PARAMETER_BLOCK iopb);
 
 /* names.c */
+void kz_wide(PUNICODE_STRING to, WCHAR *room, const char *text);
+size_t kz_narrow(char *room, size_t size, PCUNICODE_STRING text);
 void kz_tell_names(PFLT_FILTER filter);
 void kz_free_names(void);
+
+/* volume.c */
+bool kz_set_volume(PFLT_VOLUME volume, const char *word);
+void kz_new_volume(PFLT_VOLUME volume);
 
 /* operation.c */
 KzReply kz_perform(KazdrinEvent asked, const void *bytes, size_t length, const char *path);
 KzReply kz_close_file(uint64_t handle);
 void kz_settle(void);
-void kz_print_reply(KzReply reply, const uint8_t *bytes, size_t length);
+void kz_print_reply(KzReply reply, NTSTATUS other, const uint8_t *bytes, size_t length);
 bool kz_drain_next(PFLT_INSTANCE instance);
 FLT_RELATED_OBJECTS kz_objects(PFLT_INSTANCE instance, KzFile *file);
+KzOp *kz_op_with(PFLT_CALLBACK_DATA data);
+KzFile *kz_file_with(PFILE_OBJECT object);
 void kz_tell_held(void);
 void kz_free_ops(void);
 void kz_drop_file(uint64_t handle);
 
 /* filter.c */
-uint32_t kz_load(const char *name, uint64_t *number);
+uint32_t kz_load(const char *name, const char *altitude, uint64_t *number);
 uint32_t kz_unload(PFLT_FILTER filter);
 void kz_unload_all(void);
 const FLT_OPERATION_REGISTRATION *kz_registered(PFLT_FILTER filter, UCHAR major);
 UCHAR kz_major(uint8_t event);
+bool kz_is_filter(PFLT_FILTER filter);
 
 /* instance.c */
 uint32_t kz_mount(const char *name, uint64_t *number);
-uint32_t kz_attach(PFLT_FILTER filter, PFLT_VOLUME volume, const char *name, const char *altitude, uint64_t *number);
+uint32_t kz_attach(PFLT_FILTER filter, PFLT_VOLUME volume, const char *name, const char *altitude, FLT_INSTANCE_SETUP_FLAGS flags, uint64_t *number);
+void kz_attach_by_itself(PFLT_FILTER filter, PFLT_VOLUME volume, FLT_INSTANCE_SETUP_FLAGS flags);
 uint32_t kz_detach(PFLT_INSTANCE instance);
 uint32_t kz_tear_down(PFLT_INSTANCE instance, FLT_INSTANCE_TEARDOWN_FLAGS reason);
 uint32_t kz_dismount(PFLT_VOLUME volume);
+bool kz_is_instance(PFLT_INSTANCE instance);
+bool kz_enter_query(PFLT_INSTANCE instance, uint8_t worker);
+void kz_leave_query(PFLT_INSTANCE instance, uint8_t worker);
 
 #endif

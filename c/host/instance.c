@@ -10,28 +10,31 @@ uint32_t kz_mount(const char *name, uint64_t *number)
         return status;
     PFLT_VOLUME volume = kz_memory(sizeof *volume);
     volume->id = kz.told.volume;
-    strncpy(volume->name, name, sizeof volume->name - 1);
+    snprintf(volume->name, sizeof volume->name, "%s", name);
+    kz_new_volume(volume);
     kz.volumes[kz.volumes_count++] = volume;
     *number = volume->id;
     return KZ_OK;
 }
 
 /* ---- Attaching. */
-static bool set_up(PFLT_INSTANCE instance)
+static bool set_up(PFLT_INSTANCE instance, FLT_INSTANCE_SETUP_FLAGS flags)
 {
     PFLT_INSTANCE_SETUP_CALLBACK callback = instance->filter->registration.InstanceSetupCallback;
     KzPlace before = kz_enter(KZ_IN_SETUP, instance->filter, instance, NULL, NULL);
     FLT_RELATED_OBJECTS objects = kz_objects(instance, NULL);
-    NTSTATUS said = callback ? callback(&objects, FLTFL_INSTANCE_SETUP_MANUAL_ATTACHMENT, FILE_DEVICE_DISK_FILE_SYSTEM, FLT_FSTYPE_UNKNOWN) : STATUS_SUCCESS;
-    kz_tell_leaks(NULL);
-    kz.place = before;
+    NTSTATUS said = callback ? callback(&objects, flags, instance->volume->device.DeviceType, instance->volume->type) : STATUS_SUCCESS;
+    kz_keep_rest(NULL);
+    kz_leave(before);
     return NT_SUCCESS(said);
 }
 
-static PFLT_INSTANCE new_instance(PFLT_FILTER filter, PFLT_VOLUME volume)
+static PFLT_INSTANCE new_instance(PFLT_FILTER filter, PFLT_VOLUME volume, const char *name, const char *altitude)
 {
     PFLT_INSTANCE made = kz_memory(sizeof *made);
     *made = (struct _FLT_INSTANCE){.id = kz.told.instance, .filter = filter, .volume = volume};
+    snprintf(made->name, sizeof made->name, "%s", name);
+    snprintf(made->altitude, sizeof made->altitude, "%s", altitude);
     size_t size = (kz.instances_count + 1) * sizeof *kz.instances;
     PFLT_INSTANCE *all = realloc(kz.instances, size);
     if (!all)
@@ -41,21 +44,80 @@ static PFLT_INSTANCE new_instance(PFLT_FILTER filter, PFLT_VOLUME volume)
     return made;
 }
 
-uint32_t kz_attach(PFLT_FILTER filter, PFLT_VOLUME volume, const char *name, const char *altitude, uint64_t *number)
+bool kz_is_instance(PFLT_INSTANCE instance)
 {
-    KazdrinEvent event = {.filter = filter->id, .volume = volume->id};
+    for (size_t at = 0; at < kz.instances_count; at++)
+        if (kz.instances[at] == instance)
+            return true;
+    return false;
+}
+
+uint32_t kz_attach(PFLT_FILTER filter, PFLT_VOLUME volume, const char *name, const char *altitude, FLT_INSTANCE_SETUP_FLAGS flags, uint64_t *number)
+{
+    KazdrinEvent event = {.filter = filter->id, .volume = volume->id, .worker = kz.place.worker};
     uint32_t status = kazdrin_attach(&kz.manager, &event, (const uint8_t *)name, strlen(name), (const uint8_t *)altitude, strlen(altitude), &kz.told, kz.room,
                                      sizeof kz.room);
     if (status != KZ_OK)
         return status;
-    PFLT_INSTANCE instance = new_instance(filter, volume);
+    PFLT_INSTANCE instance = new_instance(filter, volume, name, altitude);
     *number = instance->id;
-    bool is_accepted = set_up(instance);
+    bool is_accepted = set_up(instance, flags);
     status = kz_event((KazdrinEvent){.event = KZ_SETUP_DONE, .flag = is_accepted});
     instance->phase = status == KZ_OK ? KZ_ATTACHED : KZ_EMPTYING;
     kz_settle();
     if (status != KZ_OK && kz_event((KazdrinEvent){.event = KZ_FINISH, .instance = instance->id}) == KZ_OK)
         instance->phase = KZ_DETACHED;
+    return status;
+}
+
+void kz_attach_by_itself(PFLT_FILTER filter, PFLT_VOLUME volume, FLT_INSTANCE_SETUP_FLAGS flags)
+{
+    if (!*filter->altitude || filter->phase != KZ_LOADED || !filter->is_started || volume->is_dismounting)
+        return;
+    char name[40];
+    uint64_t number = 0;
+    snprintf(name, sizeof name, "%.24s-auto", filter->driver->name);
+    for (char *letter = name; *letter; letter++)
+        if (*letter == '.' || *letter == ' ')
+            *letter = '_';
+    uint32_t status = kz_attach(filter, volume, name, filter->altitude, flags, &number);
+    kz_say("%s at %s on %s: status %u info %llu\n", filter->driver->name, filter->altitude, volume->name, status, (unsigned long long)(status ? 0 : number));
+}
+
+/* ---- The question whether an instance may be detached. A filter without the callback doesn't agree; a work item, and whoever completes what an instance holds, is in it as
+ * in any callback of the instance, and it is refused behind that. */
+bool kz_enter_query(PFLT_INSTANCE instance, uint8_t worker)
+{
+    if (instance->is_asked || kz_event((KazdrinEvent){.event = KZ_ASK_DETACH, .instance = instance->id, .worker = worker}) != KZ_OK)
+        return false;
+    return instance->is_asked = true;
+}
+
+void kz_leave_query(PFLT_INSTANCE instance, uint8_t worker)
+{
+    instance->is_asked = false;
+    kz_event((KazdrinEvent){.event = KZ_QUERY_RETURNED, .worker = worker, .flag = 0});
+    kz_clean_up();
+}
+
+static uint32_t ask(PFLT_INSTANCE instance)
+{
+    if (!instance->filter->registration.InstanceQueryTeardownCallback)
+        return instance->phase == KZ_ATTACHED ? KZ_DO_NOT_DETACH : KZ_NO_INSTANCE;
+    uint32_t status = kz_event((KazdrinEvent){.event = KZ_ASK_DETACH, .instance = instance->id});
+    if (status != KZ_OK)
+        return status;
+    instance->is_asked = true;
+    KzPlace before = kz_enter(KZ_IN_QUERY, instance->filter, instance, NULL, NULL);
+    FLT_RELATED_OBJECTS objects = kz_objects(instance, NULL);
+    NTSTATUS said = instance->filter->registration.InstanceQueryTeardownCallback(&objects, 0);
+    kz_keep_rest(NULL);
+    kz_leave(before);
+    instance->is_asked = false;
+    status = kz_event((KazdrinEvent){.event = KZ_QUERY_RETURNED, .flag = NT_SUCCESS(said)});
+    if (status == KZ_OK)
+        instance->phase = KZ_STOPPING;
+    kz_settle();
     return status;
 }
 
@@ -66,10 +128,11 @@ static void tell_teardown(PFLT_INSTANCE instance, KzCallback place, PFLT_INSTANC
     FLT_RELATED_OBJECTS objects = kz_objects(instance, NULL);
     if (callback)
         callback(&objects, reason);
-    kz_tell_leaks(NULL);
-    kz.place = before;
+    kz_keep_rest(NULL);
+    kz_leave(before);
 }
 
+/* Work items that are queued run before the callback returns in the manager, so that they may complete what the instance holds. */
 static void start(PFLT_INSTANCE instance, FLT_INSTANCE_TEARDOWN_FLAGS reason)
 {
     if (instance->was_started || kz_event((KazdrinEvent){.event = KZ_START_TEARDOWN, .instance = instance->id}) != KZ_OK)
@@ -82,8 +145,8 @@ static void start(PFLT_INSTANCE instance, FLT_INSTANCE_TEARDOWN_FLAGS reason)
     kz_settle();
 }
 
-/* From where the teardown is: the status that stops it, or 0. */
-uint32_t kz_tear_down(PFLT_INSTANCE instance, FLT_INSTANCE_TEARDOWN_FLAGS reason)
+/* Up to the cleanup of its contexts: the status that stops it, or 0. */
+static uint32_t stop(PFLT_INSTANCE instance, FLT_INSTANCE_TEARDOWN_FLAGS reason)
 {
     start(instance, reason);
     if (instance->phase == KZ_STOPPING) {
@@ -95,6 +158,11 @@ uint32_t kz_tear_down(PFLT_INSTANCE instance, FLT_INSTANCE_TEARDOWN_FLAGS reason
         instance->phase = KZ_EMPTYING;
         kz_settle();
     }
+    return KZ_OK;
+}
+
+static uint32_t finish(PFLT_INSTANCE instance)
+{
     kz_clean_up();
     uint32_t status = kz_event((KazdrinEvent){.event = KZ_FINISH, .instance = instance->id});
     if (status == KZ_OK)
@@ -102,21 +170,11 @@ uint32_t kz_tear_down(PFLT_INSTANCE instance, FLT_INSTANCE_TEARDOWN_FLAGS reason
     return status;
 }
 
-static uint32_t ask(PFLT_INSTANCE instance)
+/* From where the teardown is: the status that stops it, or 0. */
+uint32_t kz_tear_down(PFLT_INSTANCE instance, FLT_INSTANCE_TEARDOWN_FLAGS reason)
 {
-    uint32_t status = kz_event((KazdrinEvent){.event = KZ_ASK_DETACH, .instance = instance->id});
-    if (status != KZ_OK)
-        return status;
-    KzPlace before = kz_enter(KZ_IN_QUERY, instance->filter, instance, NULL, NULL);
-    FLT_RELATED_OBJECTS objects = kz_objects(instance, NULL);
-    NTSTATUS said = instance->filter->registration.InstanceQueryTeardownCallback(&objects, 0);
-    kz_tell_leaks(NULL);
-    kz.place = before;
-    status = kz_event((KazdrinEvent){.event = KZ_QUERY_RETURNED, .flag = NT_SUCCESS(said)});
-    if (status == KZ_OK)
-        instance->phase = KZ_STOPPING;
-    kz_settle();
-    return status;
+    uint32_t status = stop(instance, reason);
+    return status == KZ_OK ? finish(instance) : status;
 }
 
 uint32_t kz_detach(PFLT_INSTANCE instance)
@@ -126,7 +184,7 @@ uint32_t kz_detach(PFLT_INSTANCE instance)
     return status == KZ_OK ? kz_tear_down(instance, FLTFL_INSTANCE_TEARDOWN_MANUAL) : status;
 }
 
-/* ---- Dismount. */
+/* ---- Dismount, in the order of fm_worker's dismount_by: the instances are stopped, the handles are dropped, and then the instances end. */
 static uint32_t start_dismount(PFLT_VOLUME volume)
 {
     uint32_t status = kz_event((KazdrinEvent){.event = KZ_START_DISMOUNT, .volume = volume->id});
@@ -145,15 +203,33 @@ static void drop_handles(PFLT_VOLUME volume)
         kz_drop_file(kz.told.handle);
 }
 
+/* Each instance on the volume goes a step: the status that stops one, or 0. */
+static uint32_t each(PFLT_VOLUME volume, uint32_t (*step)(PFLT_INSTANCE))
+{
+    for (size_t at = 0; at < kz.instances_count; at++) {
+        uint32_t status = kz.instances[at]->volume == volume && kz.instances[at]->phase != KZ_DETACHED ? step(kz.instances[at]) : KZ_OK;
+        if (status != KZ_OK)
+            return status;
+    }
+    return KZ_OK;
+}
+
+static uint32_t stop_for_dismount(PFLT_INSTANCE instance)
+{
+    return stop(instance, FLTFL_INSTANCE_TEARDOWN_VOLUME_DISMOUNT);
+}
+
 uint32_t kz_dismount(PFLT_VOLUME volume)
 {
     uint32_t status = volume->is_dismounting ? KZ_OK : start_dismount(volume);
-    for (size_t at = 0; at < kz.instances_count && status == KZ_OK; at++)
-        if (kz.instances[at]->volume == volume && kz.instances[at]->phase != KZ_DETACHED)
-            status = kz_tear_down(kz.instances[at], FLTFL_INSTANCE_TEARDOWN_VOLUME_DISMOUNT);
+    if (status == KZ_OK)
+        status = each(volume, stop_for_dismount);
     if (status != KZ_OK)
         return status;
     drop_handles(volume);
+    status = each(volume, finish);
+    if (status != KZ_OK)
+        return status;
     status = kz_event((KazdrinEvent){.event = KZ_EMPTY_VOLUME, .volume = volume->id});
     if (status != KZ_OK)
         return status;

@@ -14,22 +14,48 @@ static KzFile *file_of(uint64_t handle)
     return NULL;
 }
 
-static KzFile *new_file(PFLT_VOLUME volume, const char *path)
+KzFile *kz_file_with(PFILE_OBJECT object)
+{
+    for (KzFile *file = kz.files; file; file = file->next)
+        if (&file->object == object)
+            return file;
+    return NULL;
+}
+
+static KzFile *new_file(PFLT_VOLUME volume, const char *path, bool is_directory)
 {
     KzFile *file = kz_memory(sizeof *file + sizeof(WCHAR) * 260);
     char text[260] = "/";
     file->volume = volume;
+    file->is_directory = is_directory;
     strncpy(file->path, path, sizeof file->path - 1);
     memcpy(text + 1, file->path, sizeof file->path);
     kz_wide(&file->object.FileName, (WCHAR *)(file + 1), text);
+    file->object.Type = 5;
+    file->object.Size = sizeof(FILE_OBJECT);
+    file->object.DeviceObject = &volume->disk;
+    file->object.SectionObjectPointer = &file->sections;
+    file->object.Flags = FO_SYNCHRONOUS_IO;
+    InitializeListHead(&file->object.IrpList);
     file->next = kz.files;
     kz.files = file;
     return file;
 }
 
+/* The file system opened it: what it keeps with a file object is there. */
+static void open_file(KzFile *file)
+{
+    PFILE_OBJECT object = &file->object;
+    object->FsContext = file;
+    object->FsContext2 = &file->sections;
+    object->Flags |= FO_HANDLE_CREATED | FO_CACHE_SUPPORTED;
+    object->ReadAccess = object->WriteAccess = object->DeleteAccess = TRUE;
+    object->SharedRead = object->SharedWrite = object->SharedDelete = TRUE;
+}
+
 static void let_go(KzFile *file)
 {
-    if (!file || --file->users > 0)
+    if (--file->users > 0)
         return;
     for (KzFile **at = &kz.files; *at; at = &(*at)->next)
         if (*at == file) {
@@ -57,7 +83,7 @@ static KzOp *op_of(uint64_t id)
     return NULL;
 }
 
-static KzOp *op_with(PFLT_CALLBACK_DATA data)
+KzOp *kz_op_with(PFLT_CALLBACK_DATA data)
 {
     for (KzOp *op = kz.ops; op; op = op->next)
         if (op->data == data)
@@ -65,22 +91,33 @@ static KzOp *op_with(PFLT_CALLBACK_DATA data)
     return NULL;
 }
 
+static ULONG caller_room(KazdrinEvent asked)
+{
+    switch (asked.event) {
+    case KZ_READ:
+        return asked.len;
+    case KZ_LIST:
+        return KZ_LIST_BYTES;
+    case KZ_QUERY_SIZE:
+        return sizeof(FILE_STANDARD_INFORMATION);
+    default:
+        return 0;
+    }
+}
+
 static KzOp *new_op(uint64_t id, KazdrinEvent asked, KzFile *file, PFLT_VOLUME volume)
 {
     KzOp *op = kz_memory(sizeof *op);
-    FLT_CALLBACK_DATA fresh = {.Iopb = &op->iopb};
     op->id = id;
     op->event = (uint8_t)asked.event;
     op->file = file;
     op->volume = volume;
-    op->data = kz_memory(sizeof fresh);
-    memcpy(op->data, &fresh, sizeof fresh);
-    if (file)
-        file->users++;
-    if (asked.event == KZ_READ) {
-        op->caller_room = asked.len;
-        op->caller = kz_block(op, asked.len);
-    }
+    op->thread = PsGetCurrentThread();
+    op->iopb = kz_take_memory(KZ_DATA, sizeof *op->iopb, 0, 0);
+    op->data = kz_new_data(op->thread, op->iopb);
+    file->users++;
+    op->caller_room = caller_room(asked);
+    op->caller = kz_block(op, op->caller_room);
     op->next = kz.ops;
     kz.ops = op;
     return op;
@@ -95,13 +132,12 @@ static void free_op(KzOp *op)
         }
     kz_free_data(op);
     let_go(op->file);
-    free(op->data);
     free(op);
 }
 
 FLT_RELATED_OBJECTS kz_objects(PFLT_INSTANCE instance, KzFile *file)
 {
-    return (FLT_RELATED_OBJECTS){sizeof(FLT_RELATED_OBJECTS), instance->filter, instance->volume, instance, file ? &file->object : NULL};
+    return (FLT_RELATED_OBJECTS){sizeof(FLT_RELATED_OBJECTS), 0, instance->filter, instance->volume, instance, file ? &file->object : NULL, NULL};
 }
 
 /* ---- A preoperation. */
@@ -116,28 +152,36 @@ static void complete(KzOp *op, KazdrinEvent *verdict)
     IO_STATUS_BLOCK said = op->data->IoStatus;
     bool is_exact;
     verdict->mode = KZ_COMPLETE;
+    if (said.Status == STATUS_PENDING) {
+        kz_tell(KZ_COMPLETED_PENDING, "FLT_PREOP_COMPLETE", "IoStatus.Status is STATUS_PENDING: it counts as STATUS_SUCCESS");
+        said.Status = STATUS_SUCCESS;
+    }
     verdict->status = (uint8_t)kz_number(said.Status, &is_exact);
     op->other = is_exact ? STATUS_SUCCESS : said.Status;
-    if (op->event == KZ_CLEANUP || op->event == KZ_CLOSE)
-        kz_tell("FLT_PREOP_COMPLETE", "of a cleanup or a close, which can't fail: it counts as FLT_PREOP_SUCCESS_NO_CALLBACK");
-    else if (op->event == KZ_CREATE && NT_SUCCESS(said.Status))
-        kz_tell("FLT_PREOP_COMPLETE", "of a create with success: it counts as STATUS_ACCESS_DENIED");
-    else if (!is_exact)
-        kz_tell("FLT_PREOP_COMPLETE", "IoStatus.Status 0x%08x counts as 0x%08x", (unsigned)said.Status, (unsigned)kz_ntstatus(verdict->status));
-    else if (said.Information)
-        kz_tell("FLT_PREOP_COMPLETE", "IoStatus.Information %llu counts as 0", (unsigned long long)said.Information);
+    if (op->event == KZ_CLEANUP || op->event == KZ_CLOSE) {
+        op->other = STATUS_SUCCESS;
+        if (NT_SUCCESS(said.Status))
+            kz_tell(KZ_CLOSE_COMPLETED, "FLT_PREOP_COMPLETE", "of a cleanup or a close: it counts as FLT_PREOP_SUCCESS_NO_CALLBACK");
+        else
+            kz_tell(KZ_FAILED_CLOSE, "FLT_PREOP_COMPLETE", "of a cleanup or a close with 0x%08x: these can't fail", (unsigned)said.Status);
+    } else if (op->event == KZ_CREATE && NT_SUCCESS(said.Status)) {
+        op->other = STATUS_SUCCESS;
+        kz_tell(KZ_CREATE_COMPLETED, "FLT_PREOP_COMPLETE", "of a create with success: it counts as STATUS_ACCESS_DENIED");
+    } else {
+        kz_serve(op);
+    }
 }
 
 static KazdrinEvent verdict_of(KzOp *op, PFLT_INSTANCE instance, FLT_PREOP_CALLBACK_STATUS said, PVOID completion)
 {
-    KazdrinEvent verdict = {.mode = KZ_NO_CALLBACK, .operation = op->id};
+    KazdrinEvent verdict = {.mode = KZ_NO_CALLBACK, .operation = op->id, .worker = kz.place.worker};
     switch (said) {
     case FLT_PREOP_SUCCESS_WITH_CALLBACK:
     case FLT_PREOP_SYNCHRONIZE:
         verdict.mode = said == FLT_PREOP_SYNCHRONIZE ? KZ_SYNCHRONIZE : KZ_WITH_CALLBACK;
-        kz_sends(completion, &verdict);
+        kz_sends(op, completion, &verdict);
         if (!kz_registered(instance->filter, kz_major(op->event))->PostOperation)
-            kz_tell("FLT_PREOP_SUCCESS_WITH_CALLBACK", "no postoperation is registered: it counts as FLT_PREOP_SUCCESS_NO_CALLBACK");
+            kz_tell(KZ_NO_POST, "FLT_PREOP_SUCCESS_WITH_CALLBACK", "no postoperation is registered: it counts as FLT_PREOP_SUCCESS_NO_CALLBACK");
         break;
     case FLT_PREOP_SUCCESS_NO_CALLBACK:
         break;
@@ -148,73 +192,90 @@ static KazdrinEvent verdict_of(KzOp *op, PFLT_INSTANCE instance, FLT_PREOP_CALLB
         complete(op, &verdict);
         break;
     default:
-        kz_tell("PFLT_PRE_OPERATION_CALLBACK", "%d is no verdict: it counts as FLT_PREOP_SUCCESS_NO_CALLBACK", (int)said);
+        kz_tell(KZ_NO_VERDICT, "PFLT_PRE_OPERATION_CALLBACK", "%d is no verdict for an IRP: it counts as FLT_PREOP_SUCCESS_NO_CALLBACK", (int)said);
     }
     return verdict;
 }
 
-/* A filter that registered the postoperation alone is taken past as if its preoperation had asked for it. */
+/* A filter that registered the postoperation alone is taken past as if its preoperation had asked for it. A preoperation that pends may have been completed before it
+ * returns: then that is its verdict. */
 static FLT_PREOP_CALLBACK_STATUS ask_pre(KzOp *op, PFLT_INSTANCE instance, PVOID *completion)
 {
     PFLT_PRE_OPERATION_CALLBACK callback = kz_registered(instance->filter, kz_major(op->event))->PreOperation;
     if (!callback)
         return FLT_PREOP_SUCCESS_WITH_CALLBACK;
     FLT_RELATED_OBJECTS objects = kz_objects(instance, op->file);
+    op->is_in_pre = true;
+    op->is_early = false;
     FLT_PREOP_CALLBACK_STATUS said = callback(op->data, &objects, completion);
-    kz_take_pre(op, asks_for_post(said) || said == FLT_PREOP_PENDING);
+    op->is_in_pre = false;
+    if (op->is_early && said == FLT_PREOP_PENDING) {
+        said = op->early;
+        *completion = op->early_context;
+    } else if (op->is_early) {
+        kz_tell(KZ_COMPLETED_NOT_PENDED, "FltCompletePendedPreOperation", "called for an operation that the preoperation doesn't pend");
+    }
+    kz_take_pre(op, asks_for_post(said) || said == FLT_PREOP_PENDING, said == FLT_PREOP_COMPLETE || said == FLT_PREOP_PENDING);
     return said;
 }
 
 static void pre(KzOp *op, PFLT_INSTANCE instance)
 {
     PVOID completion = NULL;
-    kz_show_pre(op, instance);
     KzPlace before = kz_enter(KZ_IN_PRE, instance->filter, instance, op, op->data);
+    kz_show_pre(op, instance);
     FLT_PREOP_CALLBACK_STATUS said = ask_pre(op, instance, &completion);
     KazdrinEvent verdict = verdict_of(op, instance, said, completion);
-    kz_tell_leaks(&verdict);
-    kz.place = before;
+    kz_keep_rest(&verdict);
+    kz_leave(before);
     if (kazdrin_pre_returned(&kz.manager, &verdict) == KZ_OK && said == FLT_PREOP_PENDING) {
         op->held = KZ_HELD_PRE;
         op->holder = instance;
     }
+    kz_clean_up();
 }
 
 /* ---- A postoperation, and a drain in its place. */
 static void post(KzOp *op, PFLT_INSTANCE instance, PVOID completion)
 {
-    kz_show_post(op, instance);
     KzPlace before = kz_enter(KZ_IN_POST, instance->filter, instance, op, op->data);
+    kz_show_post(op, instance);
+    if (op->event == KZ_CREATE && NT_SUCCESS(op->data->IoStatus.Status))
+        open_file(op->file);
     FLT_RELATED_OBJECTS objects = kz_objects(instance, op->file);
     PFLT_POST_OPERATION_CALLBACK callback = kz_registered(instance->filter, kz_major(op->event))->PostOperation;
     FLT_POSTOP_CALLBACK_STATUS said = callback(op->data, &objects, completion, 0);
     kz_take_post(op);
-    kz_tell_leaks(NULL);
+    kz_keep_rest(NULL);
     bool is_more = said == FLT_POSTOP_MORE_PROCESSING_REQUIRED;
     if (!is_more && said != FLT_POSTOP_FINISHED_PROCESSING)
-        kz_tell("PFLT_POST_OPERATION_CALLBACK", "%d is no verdict: it counts as FLT_POSTOP_FINISHED_PROCESSING", (int)said);
-    kz.place = before;
+        kz_tell(KZ_NO_VERDICT, "PFLT_POST_OPERATION_CALLBACK", "%d is no verdict: it counts as FLT_POSTOP_FINISHED_PROCESSING", (int)said);
+    kz_leave(before);
     op->status_shown = op->data->IoStatus;
-    if (kazdrin_post_returned(&kz.manager, &(KazdrinEvent){.mode = is_more ? KZ_MORE_PROCESSING : KZ_FINISHED}) == KZ_OK && is_more) {
+    KazdrinEvent verdict = {.mode = is_more ? KZ_MORE_PROCESSING : KZ_FINISHED, .worker = kz.place.worker};
+    if (kazdrin_post_returned(&kz.manager, &verdict) == KZ_OK && is_more) {
         op->held = KZ_HELD_POST;
         op->holder = instance;
     }
+    kz_clean_up();
 }
 
 /* The callback data of a drain is its own, since another filter may hold the operation: it says only what the operation is. */
 static void drain(KzOp *op, PFLT_INSTANCE instance, PVOID completion)
 {
-    FLT_IO_PARAMETER_BLOCK iopb = {.MajorFunction = kz_major(op->event), .TargetInstance = instance};
-    iopb.TargetFileObject = op->file ? &op->file->object : NULL;
-    FLT_CALLBACK_DATA data = {.Flags = FLTFL_CALLBACK_DATA_IRP_OPERATION | FLTFL_CALLBACK_DATA_POST_OPERATION | FLTFL_CALLBACK_DATA_DRAINING_IO, .Iopb = &iopb};
+    FLT_IO_PARAMETER_BLOCK iopb = {.MajorFunction = kz_major(op->event), .TargetInstance = instance, .TargetFileObject = &op->file->object};
+    FLT_CALLBACK_DATA data = {.Flags = FLTFL_CALLBACK_DATA_IRP_OPERATION | FLTFL_CALLBACK_DATA_POST_OPERATION | FLTFL_CALLBACK_DATA_DRAINING_IO,
+                              .Thread = op->thread,
+                              .Iopb = &iopb,
+                              .RequestorMode = UserMode};
     KzPlace before = kz_enter(KZ_IN_DRAIN, instance->filter, instance, op, &data);
     FLT_RELATED_OBJECTS objects = kz_objects(instance, op->file);
     PFLT_POST_OPERATION_CALLBACK callback = kz_registered(instance->filter, kz_major(op->event))->PostOperation;
     if (callback(&data, &objects, completion, FLTFL_POST_OPERATION_DRAINING) != FLT_POSTOP_FINISHED_PROCESSING)
-        kz_tell("FLTFL_POST_OPERATION_DRAINING", "a drain can't be held: it counts as FLT_POSTOP_FINISHED_PROCESSING");
+        kz_tell(KZ_HELD_DRAIN, "FLTFL_POST_OPERATION_DRAINING", "a drain can't be held: it counts as FLT_POSTOP_FINISHED_PROCESSING");
     kz_forget_swap(op, instance);
-    kz_tell_leaks(NULL);
-    kz.place = before;
+    kz_keep_rest(NULL);
+    kz_leave(before);
 }
 
 /* Has a stopping instance let go of what the first operation owes it, before its turn; false if none does. */
@@ -227,6 +288,7 @@ bool kz_drain_next(PFLT_INSTANCE instance)
     if (op)
         drain(op, instance, completion);
     kz_event((KazdrinEvent){.event = KZ_DRAIN_DONE});
+    kz_clean_up();
     return true;
 }
 
@@ -234,7 +296,7 @@ bool kz_drain_next(PFLT_INSTANCE instance)
 static Turn turn(KzOp *op)
 {
     KazdrinTold told = {0};
-    KazdrinEvent next = {.operation = op->id};
+    KazdrinEvent next = {.operation = op->id, .worker = kz.place.worker};
     if (kazdrin_next(&kz.manager, &next, &told) != KZ_OK)
         return HELD;
     PFLT_INSTANCE instance = told.instance < kz.instances_count ? kz.instances[told.instance] : NULL;
@@ -245,13 +307,15 @@ static Turn turn(KzOp *op)
         return GOES;
     case KZ_BASE:
         kazdrin_base(&kz.manager, &next);
+        kz_clean_up(); /* a close ends here, and with it the contexts of its handle */
         return GOES;
     case KZ_POST:
         post(op, instance, completion);
         return GOES;
     case KZ_DRAIN:
         drain(op, instance, completion);
-        kazdrin_post_returned(&kz.manager, &(KazdrinEvent){.mode = KZ_FINISHED});
+        kazdrin_post_returned(&kz.manager, &(KazdrinEvent){.mode = KZ_FINISHED, .worker = kz.place.worker});
+        kz_clean_up();
         return GOES;
     case KZ_MOVED:
         return GOES;
@@ -271,28 +335,42 @@ static Turn carry(KzOp *op)
     return made;
 }
 
-/* ---- Replies. */
-void kz_print_reply(KzReply reply, const uint8_t *bytes, size_t length)
+/* ---- Replies. The kit's own status stands behind a number that stands for another. */
+void kz_print_reply(KzReply reply, NTSTATUS other, const uint8_t *bytes, size_t length)
 {
     if (reply.held) {
         kz_say("held %llu\n", (unsigned long long)reply.operation);
         return;
     }
-    kz_say("status %u info %llu bytes ", reply.status, (unsigned long long)reply.information);
+    kz_say("status %u", reply.status);
+    if (other)
+        kz_say(" (0x%08x)", (unsigned)other);
+    kz_say(" info %llu bytes ", (unsigned long long)reply.information);
     for (size_t at = 0; at < length; at++)
         kz_say("%02x", bytes[at]);
     kz_say(length ? "\n" : "-\n");
 }
 
-/* The answer of a done operation, which is forgotten. */
-static KzReply collect(KzOp *op)
+/* The answer of a done operation, which is forgotten. Its bytes lie in kz.room, and its own status of the kit in `other`. */
+static KzReply collect(KzOp *op, NTSTATUS *other)
 {
     kz_event((KazdrinEvent){.event = KZ_COLLECT, .operation = op->id});
     KzReply reply = {.status = kz.told.status, .information = kz.told.information, .operation = op->id};
+    *other = op->other;
+    if (op->is_served) {
+        reply.information = op->served;
+        kz.told.length = op->served_bytes ? op->served_length : 0;
+        memcpy(kz.room, op->served_bytes ? op->served_bytes : (const uint8_t *)"", kz.told.length);
+    }
     if (op->event == KZ_CREATE && reply.status == KZ_OK) {
+        open_file(op->file);
         op->file->handle = reply.information;
         op->file->has_handle = true;
         op->file->users++;
+    } else if (op->event == KZ_SET_DELETE && reply.status == KZ_OK) {
+        op->file->object.DeletePending = TRUE;
+    } else if (op->event == KZ_CLEANUP && reply.status == KZ_OK) {
+        op->file->object.Flags |= FO_CLEANUP_COMPLETE;
     } else if (op->event == KZ_CLOSE && reply.status == KZ_OK) {
         kz_drop_file(op->file->handle);
     }
@@ -300,46 +378,53 @@ static KzReply collect(KzOp *op)
     return reply;
 }
 
-void kz_settle(void)
+static void carry_resumed(void)
 {
-    while (kz.resumed) {
-        KzOp *op = kz.resumed;
-        kz.resumed = op->next_resumed;
-        if (!kz.resumed)
-            kz.resumed_end = &kz.resumed;
-        op->is_resumed = false;
-        if (carry(op) != DONE)
-            continue;
-        kz_say("operation %llu: ", (unsigned long long)op->id);
-        KzReply reply = collect(op);
-        kz_print_reply(reply, kz.room, kz.told.length);
-    }
-    kz_clean_up();
+    KzOp *op = kz.resumed;
+    NTSTATUS other;
+    kz.resumed = op->next_resumed;
+    if (!kz.resumed)
+        kz.resumed_end = &kz.resumed;
+    op->is_resumed = false;
+    if (carry(op) != DONE)
+        return;
+    kz_say("operation %llu: ", (unsigned long long)op->id);
+    KzReply reply = collect(op, &other);
+    kz_print_reply(reply, other, kz.room, kz.told.length);
 }
 
-/* Begins an operation and carries it on. Without `op` it was refused. */
-static KzReply run(KazdrinEvent asked, const void *bytes, size_t length, const char *path)
+/* What was let go on, what is due, and what waits for its turn, until nothing of it is left. */
+void kz_settle(void)
 {
+    do {
+        while (kz.resumed)
+            carry_resumed();
+        kz_clean_up();
+    } while (kz_run_dpc() || kz_work() || kz.resumed);
+}
+
+/* Begins an operation and carries it on. Refused, it has no reply but the status. */
+static KzReply run(KazdrinEvent asked, const void *bytes, size_t length, const char *path, NTSTATUS *other)
+{
+    *other = STATUS_SUCCESS;
     uint32_t status = kz_event_with(asked, bytes, length);
     if (status != KZ_OK)
         return (KzReply){.status = status};
     uint64_t id = kz.told.operation;
     bool is_on_volume = asked.event == KZ_CREATE || asked.event == KZ_LIST;
-    KzFile *file = is_on_volume ? NULL : file_of(asked.handle);
-    PFLT_VOLUME volume = is_on_volume ? kz.volumes[asked.volume] : file->volume;
-    if (asked.event == KZ_CREATE)
-        file = new_file(volume, path);
-    KzOp *op = new_op(id, asked, file, volume);
+    KzFile *file = is_on_volume ? new_file(kz.volumes[asked.volume], asked.event == KZ_LIST ? "" : path, asked.event == KZ_LIST) : file_of(asked.handle);
+    KzOp *op = new_op(id, asked, file, file->volume);
     if (carry(op) == DONE)
-        return collect(op);
+        return collect(op, other);
     return (KzReply){.held = 1, .operation = id};
 }
 
 KzReply kz_perform(KazdrinEvent asked, const void *bytes, size_t length, const char *path)
 {
+    NTSTATUS other;
     kz.told.length = 0;
-    KzReply reply = run(asked, bytes, length, path);
-    kz_print_reply(reply, kz.room, kz.told.length);
+    KzReply reply = run(asked, bytes, length, path, &other);
+    kz_print_reply(reply, other, kz.room, kz.told.length);
     kz_settle();
     return reply;
 }
@@ -347,11 +432,12 @@ KzReply kz_perform(KazdrinEvent asked, const void *bytes, size_t length, const c
 /* A cleanup and then the close; the close alone if the cleanup was made before. */
 KzReply kz_close_file(uint64_t handle)
 {
+    NTSTATUS other;
     kz.told.length = 0;
-    KzReply reply = run((KazdrinEvent){.event = KZ_CLEANUP, .handle = handle}, "", 0, NULL);
+    KzReply reply = run((KazdrinEvent){.event = KZ_CLEANUP, .handle = handle}, "", 0, NULL, &other);
     if (!reply.held && (reply.status == KZ_OK || reply.status == KZ_WRONG_STEP))
-        reply = run((KazdrinEvent){.event = KZ_CLOSE, .handle = handle}, "", 0, NULL);
-    kz_print_reply(reply, kz.room, 0);
+        reply = run((KazdrinEvent){.event = KZ_CLOSE, .handle = handle}, "", 0, NULL, &other);
+    kz_print_reply(reply, other, kz.room, 0);
     kz_settle();
     return reply;
 }
@@ -364,47 +450,78 @@ static void resume(KzOp *op)
     op->next_resumed = NULL;
     *kz.resumed_end = op;
     kz.resumed_end = &op->next_resumed;
+    kz_renew_data(op);
 }
 
-/* Whether that operation is one that goes on; else why it doesn't is told. */
-static bool went_on(const char *call, uint32_t status)
+/* Makes the event from a callback of the instance that holds the operation: the one that runs, or else the question whether it may be detached, which is refused behind it.
+ * Whoever completes an operation in the kit may do so from anywhere. */
+static bool resume_from(const char *call, KzOp *op, KazdrinEvent event)
 {
-    if (status == KZ_OK)
-        return true;
-    if (status == KZ_NOT_PENDED)
-        kz_tell(call, "an operation that this instance doesn't hold (completed twice?)");
-    else if (status == KZ_BAD_REQUEST)
-        kz_tell(call, "a verdict that is none of a held operation's");
-    else
-        kz_tell(call, "not in a callback of its instance: it stays held");
-    return false;
+    if (kz.place.instance == op->holder) {
+        event.worker = kz.place.worker;
+        uint32_t status = kz_event(event);
+        if (status != KZ_WRONG_STEP) {
+            if (status == KZ_BAD_REQUEST)
+                kz_tell(KZ_NO_HELD_VERDICT, call, "a verdict that is none of a held operation's");
+            return status == KZ_OK;
+        }
+    }
+    uint8_t worker = kz_helper();
+    bool is_in = kz_enter_query(op->holder, worker);
+    event.worker = worker;
+    event.flag = 0; /* a reference of another callback's doesn't go along */
+    uint32_t status = is_in ? kz_event(event) : KZ_WRONG_STEP;
+    if (is_in)
+        kz_leave_query(op->holder, worker);
+    kz_helped();
+    if (status == KZ_BAD_REQUEST)
+        kz_tell(KZ_NO_HELD_VERDICT, call, "a verdict that is none of a held operation's");
+    else if (status != KZ_OK)
+        kz_tell(KZ_NOWHERE_TO_RESUME, call, "no callback of the instance that holds the operation runs, and it is being torn down: it stays held");
+    return status == KZ_OK;
 }
 
-void FltCompletePendedPreOperation(PFLT_CALLBACK_DATA CallbackData, FLT_PREOP_CALLBACK_STATUS CallbackStatus, PVOID Context)
+VOID FltCompletePendedPreOperation(PFLT_CALLBACK_DATA CallbackData, FLT_PREOP_CALLBACK_STATUS CallbackStatus, PVOID Context)
 {
-    KzOp *op = op_with(CallbackData);
-    if (!op || op->held != KZ_HELD_PRE) {
-        kz_tell(__func__, "no operation that a preoperation holds (completed twice?)");
+    KzOp *op = kz_op_with(CallbackData);
+    bool is_verdict = CallbackStatus == FLT_PREOP_SUCCESS_WITH_CALLBACK || CallbackStatus == FLT_PREOP_SUCCESS_NO_CALLBACK || CallbackStatus == FLT_PREOP_COMPLETE;
+    if (!op || (op->held != KZ_HELD_PRE && (!op->is_in_pre || op->is_early))) {
+        kz_tell(KZ_COMPLETED_TWICE, __func__, "no operation that a preoperation holds (completed twice?)");
         return;
     }
-    if (kz_is_touched(op))
-        kz_tell(__func__, "parameters that were changed after the operation was held don't count");
+    if (!is_verdict) {
+        kz_tell(KZ_NO_HELD_VERDICT, __func__, "%d is none of a held operation's verdicts: it stays held", (int)CallbackStatus);
+        return;
+    }
+    if (op->is_in_pre) {
+        op->is_early = true;
+        op->early = CallbackStatus;
+        op->early_context = Context;
+        return;
+    }
+    bool is_touched = kz_is_touched(op) && CallbackStatus != FLT_PREOP_COMPLETE;
+    if (is_touched && op->data->Flags & FLTFL_CALLBACK_DATA_DIRTY)
+        kz_tell(KZ_CHANGED_WHILE_HELD, __func__, "parameters that were changed while the operation was held don't count");
+    else if (is_touched)
+        kz_tell(KZ_NOT_DIRTY, "FltSetCallbackDataDirty", "never called, though parameters were changed: they don't count");
+    KzPlace before = kz.place;
     KazdrinEvent verdict = verdict_of(op, op->holder, CallbackStatus, Context);
+    kz.place = before;
     verdict.event = KZ_RESUME_PRE;
-    if (went_on(__func__, kz_event(verdict)))
+    if (resume_from(__func__, op, verdict))
         resume(op);
 }
 
-void FltCompletePendedPostOperation(PFLT_CALLBACK_DATA CallbackData)
+VOID FltCompletePendedPostOperation(PFLT_CALLBACK_DATA CallbackData)
 {
-    KzOp *op = op_with(CallbackData);
+    KzOp *op = kz_op_with(CallbackData);
     if (!op || op->held != KZ_HELD_POST) {
-        kz_tell(__func__, "no operation that a postoperation holds (completed twice?)");
+        kz_tell(KZ_COMPLETED_TWICE, __func__, "no operation that a postoperation holds (completed twice?)");
         return;
     }
-    if (memcmp(&op->data->IoStatus, &op->status_shown, sizeof op->status_shown) != 0)
-        kz_tell(__func__, "an answer that was changed after the operation was held doesn't count");
-    if (went_on(__func__, kz_event((KazdrinEvent){.event = KZ_RESUME_POST, .operation = op->id})))
+    if (op->data->IoStatus.Status != op->status_shown.Status || op->data->IoStatus.Information != op->status_shown.Information)
+        kz_tell(KZ_CHANGED_WHILE_HELD, __func__, "an answer that was changed while the operation was held doesn't count");
+    if (resume_from(__func__, op, (KazdrinEvent){.event = KZ_RESUME_POST, .operation = op->id}))
         resume(op);
 }
 
@@ -415,7 +532,7 @@ void kz_tell_held(void)
             continue;
         bool is_pre = op->held == KZ_HELD_PRE;
         KzPlace before = kz_enter(is_pre ? KZ_IN_PRE : KZ_IN_POST, op->holder->filter, op->holder, op, NULL);
-        kz_tell(is_pre ? "FltCompletePendedPreOperation" : "FltCompletePendedPostOperation", "never called for an operation that is held");
+        kz_tell(KZ_NEVER_COMPLETED, is_pre ? "FltCompletePendedPreOperation" : "FltCompletePendedPostOperation", "never called for an operation that is held");
         kz.place = before;
     }
 }

@@ -7,6 +7,7 @@ NTSTATUS FltCbdqInitialize(PFLT_INSTANCE Instance, PFLT_CALLBACK_DATA_QUEUE Cbdq
                            PFLT_CALLBACK_DATA_QUEUE_COMPLETE_CANCELED_IO CbdqCompleteCanceledIo)
 {
     *Cbdq = (FLT_CALLBACK_DATA_QUEUE){
+        .Flags = FLTFL_CALLBACK_DATA_QUEUE_VALID,
         .Instance = Instance,
         .InsertIo = CbdqInsertIo,
         .RemoveIo = CbdqRemoveIo,
@@ -18,23 +19,21 @@ NTSTATUS FltCbdqInitialize(PFLT_INSTANCE Instance, PFLT_CALLBACK_DATA_QUEUE Cbdq
     return STATUS_SUCCESS;
 }
 
-void FltCbdqEnable(PFLT_CALLBACK_DATA_QUEUE Cbdq)
+VOID FltCbdqEnable(PFLT_CALLBACK_DATA_QUEUE Cbdq)
 {
-    Cbdq->IsDisabled = FALSE;
+    Cbdq->Flags &= ~FLTFL_CALLBACK_DATA_QUEUE_DISABLED;
 }
 
-void FltCbdqDisable(PFLT_CALLBACK_DATA_QUEUE Cbdq)
+VOID FltCbdqDisable(PFLT_CALLBACK_DATA_QUEUE Cbdq)
 {
-    Cbdq->IsDisabled = TRUE;
+    Cbdq->Flags |= FLTFL_CALLBACK_DATA_QUEUE_DISABLED;
 }
 
 NTSTATUS FltCbdqInsertIo(PFLT_CALLBACK_DATA_QUEUE Cbdq, PFLT_CALLBACK_DATA Cbd, PFLT_CALLBACK_DATA_QUEUE_IO_CONTEXT Context, PVOID InsertContext)
 {
     KIRQL irql = 0;
-    if (Cbdq->IsDisabled)
-        return STATUS_FLT_CBDQ_DISABLED;
     Cbdq->Acquire(Cbdq, &irql);
-    NTSTATUS status = Cbdq->InsertIo(Cbdq, Cbd, InsertContext);
+    NTSTATUS status = Cbdq->Flags & FLTFL_CALLBACK_DATA_QUEUE_DISABLED ? STATUS_FLT_CBDQ_DISABLED : Cbdq->InsertIo(Cbdq, Cbd, InsertContext);
     if (Context)
         Context->Cbd = NT_SUCCESS(status) ? Cbd : NULL;
     Cbdq->Release(Cbdq, irql);

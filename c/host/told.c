@@ -1,50 +1,150 @@
-/* Misuse is told: a line with the kit's call, and with filter, instance, callback and operation. */
+/* What is told: a line with a number that stays, the kit's call, filter, instance, callback and operation. TOLD is a mistake on Windows too; LIMIT is where Kazdrin
+ * differs, and is told once for each filter and call. */
 #include "host.h"
 
 #include <stdarg.h>
+#include <stdlib.h>
 
-static const char *const callbacks[] = {"no callback",  "DriverEntry", "setup",    "preoperation",      "postoperation", "drain",
-                                        "query",        "teardown start", "teardown complete", "unload", "context cleanup"};
+static const char *const callbacks[] = {"no callback",  "DriverEntry",    "setup",             "preoperation", "postoperation", "drain", "query",
+                                        "teardown start", "teardown complete", "unload",       "context cleanup", "work item", "timer"};
 
+static bool is_allowed[KZ_MESSAGES];
+static bool is_strict;
+
+typedef struct Limit {
+    struct Limit *next;
+    KzMessage message;
+    PFLT_FILTER filter;
+    char call[48];
+} Limit;
+
+static Limit *limits;
+
+bool kz_allow(const char *id)
+{
+    char *end;
+    unsigned long number = strncmp(id, "KZ", 2) == 0 ? strtoul(id + 2, &end, 10) : 0;
+    if (!number || *end || number >= KZ_MESSAGES)
+        return false;
+    is_allowed[number] = true;
+    return true;
+}
+
+void kz_be_strict(bool is)
+{
+    is_strict = is;
+}
+
+/* ---- Where it happens. */
 KzPlace kz_enter(KzCallback callback, PFLT_FILTER filter, PFLT_INSTANCE instance, KzOp *op, PFLT_CALLBACK_DATA data)
 {
     KzPlace before = kz.place;
-    kz.place = (KzPlace){callback, filter, instance, op, data};
+    kz.place = (KzPlace){callback, filter, instance, op, op ? op->id : 0, data, ++kz.places, before.depth + 1, before.worker};
     return before;
 }
 
-static void tell_place(void)
+/* Back to where something began that is told only now. Its operation may be gone: its number is there. */
+KzPlace kz_enter_again(const KzPlace *place)
+{
+    KzPlace before = kz.place;
+    kz.place = *place;
+    return before;
+}
+
+/* A callback returns: what it left is looked at. */
+void kz_leave(KzPlace before)
+{
+    kz_tell_locks();
+    kz_check_memory(kz.place.filter);
+    if (kz.place.op)
+        kz_check_blocks(kz.place.op);
+    kz.place = before;
+}
+
+size_t kz_place_text(char *room, size_t size)
 {
     KzPlace place = kz.place;
-    printf(": filter %s", place.filter ? place.filter->driver->name : "none");
-    if (place.instance)
-        printf(", instance %u", place.instance->id);
-    printf(", %s", callbacks[place.callback]);
-    if (place.op)
-        printf(", operation %llu", (unsigned long long)place.op->id);
-    printf("\n");
+    int used = snprintf(room, size, "filter %s", place.filter ? place.filter->driver->name : "none");
+    if (place.instance && used < (int)size)
+        used += snprintf(room + used, size - (size_t)used, ", instance %u", place.instance->id);
+    if (used < (int)size)
+        used += snprintf(room + used, size - (size_t)used, ", %s", callbacks[place.callback]);
+    if (place.op && used < (int)size)
+        used += snprintf(room + used, size - (size_t)used, ", operation %llu", (unsigned long long)place.op_id);
+    return used < (int)size ? (size_t)used : size - 1;
 }
 
-void kz_tell(const char *call, const char *format, ...)
+/* ---- Telling. */
+static bool was_told(KzMessage message, const char *call)
 {
+    for (Limit *one = limits; one; one = one->next)
+        if (one->message == message && one->filter == kz.place.filter && strcmp(one->call, call) == 0)
+            return true;
+    Limit *made = kz_memory(sizeof *made);
+    *made = (Limit){.next = limits, .message = message, .filter = kz.place.filter};
+    snprintf(made->call, sizeof made->call, "%s", call);
+    limits = made;
+    return false;
+}
+
+void kz_tell(KzMessage message, const char *call, const char *format, ...)
+{
+    bool is_limit = KZ_IS_LIMIT(message);
+    if (is_allowed[message] || (is_limit && was_told(message, call)))
+        return;
+    if (is_limit)
+        kz.counts.limits++;
+    if (!is_limit || is_strict)
+        kz.counts.told++;
+    if (is_limit && kz_is_quiet && !is_strict)
+        return;
+    char place[256];
     va_list arguments;
     va_start(arguments, format);
-    printf("TOLD %s: ", call);
+    kz_place_text(place, sizeof place);
+    printf("%s KZ%04d %s: ", is_limit ? "LIMIT" : "TOLD", message, call);
     vprintf(format, arguments);
+    printf(": %s\n", place);
     va_end(arguments);
-    tell_place();
-    kz.counts.told++;
 }
 
-/* A refusal that a filter brings about by a call out of its place, or past a bound of the manager. Others are answers that it deals with. */
+/* A refusal that a filter brings about by a call past a bound of the manager. Others are answers that it deals with. */
 void kz_tell_refused(const char *call, uint32_t status)
 {
-    if (status == KZ_WRONG_STEP)
-        kz_tell(call, "not in a callback of an instance");
-    else if (status == KZ_NOT_HELD)
-        kz_tell(call, "a context to which the callback holds no reference (released twice?)");
-    else if (status == KZ_HAND_FULL)
-        kz_tell(call, "more references than the 16 that a callback holds at most");
+    if (status == KZ_HAND_FULL)
+        kz_tell(KZ_HAND_IS_FULL, call, "more references than the 16 that a callback holds at most");
     else if (status == KZ_TOO_MANY)
-        kz_tell(call, "more contexts than the manager has room for");
+        kz_tell(KZ_TOO_MANY_CONTEXTS, call, "more contexts than the manager has room for");
+}
+
+void kz_free_told(void)
+{
+    while (limits) {
+        Limit *one = limits;
+        limits = one->next;
+        free(one);
+    }
+}
+
+/* ---- What the driver says itself. */
+void KzAssertFailed(PCSTR Expression, PCSTR File, int Line)
+{
+    const char *slash = strrchr(File, '/');
+    kz_tell(KZ_ASSERT, "ASSERT", "%s doesn't hold (%s:%d)", Expression, slash ? slash + 1 : File, Line);
+}
+
+void KzBreak(void)
+{
+    kz_tell(KZ_BUG_CHECK, "DbgBreakPoint", "the driver breaks into a debugger");
+}
+
+void KzBugCheck(ULONG Code)
+{
+    kz_tell(KZ_BUG_CHECK, "KeBugCheckEx", "the driver stops the system with 0x%08x", Code);
+    abort();
+}
+
+VOID ExRaiseStatus(NTSTATUS Status)
+{
+    kz_tell(KZ_EXCEPTION, "ExRaiseStatus", "0x%08x: there are no structured exceptions, and the call returns", (unsigned)Status);
 }

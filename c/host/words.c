@@ -42,7 +42,7 @@ static const KzReply bad = {.status = KZ_BAD_REQUEST};
 
 static KzReply said(KzReply reply)
 {
-    kz_print_reply(reply, NULL, 0);
+    kz_print_reply(reply, STATUS_SUCCESS, NULL, 0);
     return reply;
 }
 
@@ -54,15 +54,69 @@ static KzReply outcome(uint32_t status, uint64_t number)
 static KzReply ask_load(char **words)
 {
     uint64_t number = 0;
-    uint32_t status = kz_load(words[1], &number);
+    uint32_t status = kz_load(words[1], words[2] ? words[2] : "", &number);
     return outcome(status, number);
 }
 
+static bool set_volume(PFLT_VOLUME volume, char **words)
+{
+    for (; *words; words++)
+        if (!kz_set_volume(volume, *words))
+            return false;
+    return true;
+}
+
+/* Filters that are attached by themselves are, once it has its properties. */
 static KzReply ask_mount(char **words)
 {
     uint64_t number = 0;
+    struct _FLT_VOLUME tried;
+    kz_new_volume(&tried);
+    if (!set_volume(&tried, words + 2))
+        return said(bad);
     uint32_t status = kz_mount(words[1], &number);
+    if (status != KZ_OK)
+        return outcome(status, 0);
+    set_volume(kz.volumes[number], words + 2);
+    for (size_t at = 0; at < kz.filters_count; at++)
+        kz_attach_by_itself(kz.filters[at], kz.volumes[number], FLTFL_INSTANCE_SETUP_AUTOMATIC_ATTACHMENT | FLTFL_INSTANCE_SETUP_NEWLY_MOUNTED_VOLUME);
     return outcome(status, number);
+}
+
+static KzReply ask_volume(char **words)
+{
+    uint64_t at;
+    if (!read_number(words[1], 256, &at) || at >= kz.volumes_count || !set_volume(kz.volumes[at], words + 2))
+        return said(bad);
+    return outcome(KZ_OK, 0);
+}
+
+/* Who asks from then on: `as process 42`, `as process 42 thread 7`. */
+static KzReply ask_as(char **words)
+{
+    uint64_t process, thread;
+    if (strcmp(words[1], "process") != 0 || !read_number(words[2], UINT32_MAX, &process) || (words[3] && (strcmp(words[3], "thread") != 0 || !words[4])))
+        return said(bad);
+    if (!read_number(words[3] ? words[4] : "0", UINT32_MAX, &thread))
+        return said(bad);
+    kz.process = process;
+    kz.thread = words[3] ? thread : process + 4;
+    return outcome(KZ_OK, 0);
+}
+
+static KzReply ask_time(char **words)
+{
+    uint64_t milliseconds;
+    if (!read_number(words[1], (uint64_t)1 << 40, &milliseconds))
+        return said(bad);
+    kz_pass(milliseconds);
+    kz_settle();
+    return outcome(KZ_OK, 0);
+}
+
+static KzReply ask_registry(char **words)
+{
+    return kz_read_registry(words[1]) ? outcome(KZ_OK, 0) : said(bad);
 }
 
 static KzReply ask_attach(char **words)
@@ -74,7 +128,7 @@ static KzReply ask_attach(char **words)
         return outcome(KZ_NO_FILTER, 0);
     if (volume >= kz.volumes_count)
         return outcome(KZ_NO_VOLUME, 0);
-    uint32_t status = kz_attach(kz.filters[filter], kz.volumes[volume], words[3], words[4], &number);
+    uint32_t status = kz_attach(kz.filters[filter], kz.volumes[volume], words[3], words[4], FLTFL_INSTANCE_SETUP_MANUAL_ATTACHMENT, &number);
     return outcome(status, number);
 }
 
@@ -177,15 +231,17 @@ static KzReply ask_close(char **words)
     return read_number(words[1], UINT64_MAX, &handle) ? kz_close_file(handle) : said(bad);
 }
 
+/* How many words each has, with its name: at least, and at most. */
 static const struct {
     const char *name;
-    size_t words;
+    size_t least, most;
     KzReply (*ask)(char **words);
 } requests[] = {
-    {"load", 2, ask_load},           {"mount", 2, ask_mount},         {"attach", 5, ask_attach},       {"detach", 2, ask_detach},
-    {"unload", 2, ask_unload},       {"dismount", 2, ask_dismount},   {"create", 4, ask_create},       {"list", 2, ask_list},
-    {"read", 4, ask_read},           {"write", 4, ask_write},         {"setsize", 3, ask_set_size},    {"querysize", 2, ask_query_size},
-    {"flush", 2, ask_flush},         {"setdelete", 2, ask_set_delete}, {"close", 2, ask_close},
+    {"load", 2, 3, ask_load},         {"mount", 2, 6, ask_mount},         {"volume", 3, 7, ask_volume},         {"attach", 5, 5, ask_attach},
+    {"detach", 2, 2, ask_detach},     {"unload", 2, 2, ask_unload},       {"dismount", 2, 2, ask_dismount},     {"create", 4, 4, ask_create},
+    {"list", 2, 2, ask_list},         {"read", 4, 4, ask_read},           {"write", 4, 4, ask_write},           {"setsize", 3, 3, ask_set_size},
+    {"querysize", 2, 2, ask_query_size}, {"flush", 2, 2, ask_flush},      {"setdelete", 2, 2, ask_set_delete},  {"close", 2, 2, ask_close},
+    {"as", 3, 5, ask_as},             {"time", 2, 2, ask_time},           {"registry", 2, 2, ask_registry},
 };
 
 /* ---- Lines. */
@@ -194,26 +250,28 @@ static size_t split(char *line, char **words)
     size_t count = 0;
     for (char *word = strtok(line, " \t\r\n"); word && count < WORDS; word = strtok(NULL, " \t\r\n"))
         words[count++] = word;
+    words[count] = NULL;
     return count;
 }
 
 KzReply kz_request(const char *line)
 {
     static char room[LINE];
-    char *words[WORDS];
+    char *words[WORDS + 1];
     if (strlen(line) >= sizeof room)
         return said(bad);
     strcpy(room, line);
     size_t count = split(room, words);
     if (count == 0 || words[0][0] == '#')
         return (KzReply){0};
+    kz_tick();
     kz_say(">");
     for (size_t at = 0; at < count; at++)
         kz_say(" %s", words[at]);
     kz_say("\n");
     for (size_t at = 0; at < sizeof requests / sizeof requests[0]; at++)
         if (strcmp(requests[at].name, words[0]) == 0)
-            return requests[at].words == count ? requests[at].ask(words) : said(bad);
+            return count >= requests[at].least && count <= requests[at].most ? requests[at].ask(words) : said(bad);
     return said(bad);
 }
 

@@ -3,8 +3,11 @@
 #define KZFLT_H
 
 #include <fltKernel.h>
+#include <stdbool.h>
 #include <stddef.h>
 #include <stdio.h>
+
+KZ_BEGIN
 
 /* A driver, and the name by which it is loaded. */
 typedef struct {
@@ -15,8 +18,8 @@ typedef struct {
 /* Runs requests, one a line, in the words of docs/C.md, and writes each with its reply to the standard output. Volume 0, `v0`, is there from the start. After the last
  * request every filter is unloaded, and the counts of contexts are written.
  *
- * Misuse of the kit's calls is told in a line of its own that begins with TOLD. The answer is an exit status: 0, or 5 if something was told, or 1 if memory was
- * refused. */
+ * A mistake is told in a line of its own that begins with TOLD, and what differs from Windows in one that begins with LIMIT. The answer is an exit status: 0, or 5 if a
+ * mistake was told, or 1 if memory was refused. */
 int kz_run(const KzDriver *drivers, size_t count, const char *const *requests, size_t length);
 
 /* The same with the lines of a file. The answer is 3 if it can't be read. */
@@ -36,10 +39,16 @@ KzReply kz_request(const char *line);
 int kz_close(void);
 extern int kz_is_quiet;
 
-/* How many lines were told so far, and how many contexts were born and cleaned up; of a run that was closed, at its end. */
+/* How many mistakes and limits were told so far, and how many contexts were born and cleaned up; of a run that was closed, at its end. */
 typedef struct {
-    uint64_t told, born, cleaned, leaked;
+    uint64_t told, limits, born, cleaned, leaked;
 } KzCounts;
 KzCounts kz_counts(void);
+
+/* A message that isn't told, by its number, as "KZ0107"; false if there is none. It holds for all runs from then on. Strict: what differs from Windows (LIMIT) counts as told. */
+bool kz_allow(const char *id);
+void kz_be_strict(bool is);
+
+KZ_END
 
 #endif

@@ -20,7 +20,7 @@ typedef struct _AUDIT_DATA {
     LIST_ENTRY Records;
     FAST_MUTEX Lock;
     LONG LastNumber;
-    ULONG Dropped;
+    LONG Dropped;
 } AUDIT_DATA;
 
 static AUDIT_DATA AuditData;

@@ -1,0 +1,87 @@
+/* A crash says where it was, and then ends the program as it would have. Only calls that are safe in a signal's handler are made. */
+#include "host.h"
+
+#include <signal.h>
+#include <unistd.h>
+
+static const int signals[] = {SIGSEGV, SIGBUS, SIGABRT, SIGFPE, SIGILL};
+static struct sigaction before[sizeof signals / sizeof signals[0]];
+static uint8_t stack[65536];
+static volatile sig_atomic_t was_told;
+
+static void put(const char *text)
+{
+    ssize_t written = write(STDOUT_FILENO, text, strlen(text));
+    (void)written;
+}
+
+static void tell(const char *what)
+{
+    char place[256];
+    if (was_told)
+        return;
+    was_told = 1;
+    put("CRASH ");
+    put(what);
+    put(": ");
+    kz_place_text(place, sizeof place);
+    put(place);
+    if (kz.place.data && kz.place.op) {
+        put(", ");
+        put(FltGetIrpName(kz_major(kz.place.op->event)));
+    }
+    put("\n");
+}
+
+static const char *name_of(int signal)
+{
+    switch (signal) {
+    case SIGSEGV:
+        return "SIGSEGV";
+    case SIGBUS:
+        return "SIGBUS";
+    case SIGABRT:
+        return "SIGABRT";
+    case SIGFPE:
+        return "SIGFPE";
+    default:
+        return "SIGILL";
+    }
+}
+
+/* What was there before goes on: a sanitizer's report, or the end. */
+static void handle(int signal, siginfo_t *information, void *context)
+{
+    tell(name_of(signal));
+    for (size_t at = 0; at < sizeof signals / sizeof signals[0]; at++) {
+        if (signals[at] != signal)
+            continue;
+        if (before[at].sa_flags & SA_SIGINFO && before[at].sa_sigaction) {
+            before[at].sa_sigaction(signal, information, context);
+            return;
+        }
+        sigaction(signal, &(struct sigaction){.sa_handler = SIG_DFL}, NULL);
+    }
+    raise(signal);
+}
+
+/* The address sanitizer calls this before its report. */
+void __asan_on_error(void);
+void __asan_on_error(void)
+{
+    tell("address sanitizer");
+}
+
+void kz_watch_crashes(void)
+{
+    static bool is_watched;
+    setvbuf(stdout, NULL, _IOLBF, 0);
+    was_told = 0;
+    if (is_watched)
+        return;
+    is_watched = true;
+    sigaltstack(&(stack_t){.ss_sp = stack, .ss_size = sizeof stack}, NULL);
+    struct sigaction action = {.sa_sigaction = handle, .sa_flags = SA_SIGINFO | SA_ONSTACK | SA_RESETHAND};
+    for (size_t at = 0; at < sizeof signals / sizeof signals[0]; at++)
+        sigaction(signals[at], &action, &before[at]);
+}

@@ -1,0 +1,195 @@
+/* Memory that drivers see: each piece lies between two red zones, and is filled before its first use and after its last one. What is written where it mustn't be is told.
+ * Under the address sanitizer the zones are its own, and it tells. */
+#include "host.h"
+
+#include <stdlib.h>
+
+/* There under the address sanitizer alone. */
+extern void __asan_poison_memory_region(const volatile void *start, size_t size) __attribute__((weak));
+extern void __asan_unpoison_memory_region(const volatile void *start, size_t size) __attribute__((weak));
+
+enum { ZONE = 32, ZONE_BYTE = 0xfd, GONE_BYTE = 0xdd };
+/* How much of what was given back is kept, to see whether it is written. */
+enum { KEPT = 64, KEPT_BYTES = 65536 };
+
+/* All pieces, the newest first, and those that were given back. Whoever has the manager has these too. */
+static KzPiece *pieces;
+static KzPiece *gone[KEPT];
+static size_t gone_next;
+
+static uint8_t *body_of(const KzPiece *piece)
+{
+    return (uint8_t *)piece + sizeof *piece + ZONE;
+}
+
+static size_t all_of(const KzPiece *piece)
+{
+    return sizeof *piece + ZONE + piece->size + ZONE;
+}
+
+static void shut(const KzPiece *piece)
+{
+    if (__asan_poison_memory_region) {
+        __asan_poison_memory_region(body_of(piece) - ZONE, ZONE);
+        __asan_poison_memory_region(body_of(piece) + piece->size, ZONE);
+    }
+}
+
+static void open_all(const KzPiece *piece)
+{
+    if (__asan_unpoison_memory_region)
+        __asan_unpoison_memory_region(body_of(piece) - ZONE, ZONE + piece->size + ZONE);
+}
+
+void *kz_take_memory(KzMemory kind, size_t size, int fill, ULONG tag)
+{
+    if (size > KZ_LARGEST)
+        return NULL;
+    KzPiece *piece = malloc(sizeof *piece + ZONE + size + ZONE);
+    if (!piece)
+        return NULL;
+    *piece = (KzPiece){.next = pieces, .size = size, .kind = kind, .filter = kz.place.filter, .tag = tag};
+    if (pieces)
+        pieces->before = piece;
+    pieces = piece;
+    memset(body_of(piece) - ZONE, ZONE_BYTE, ZONE);
+    memset(body_of(piece), fill, size);
+    memset(body_of(piece) + size, ZONE_BYTE, ZONE);
+    shut(piece);
+    return body_of(piece);
+}
+
+KzPiece *kz_piece_of(const void *memory)
+{
+    for (KzPiece *piece = pieces; piece; piece = piece->next)
+        if (body_of(piece) == memory)
+            return piece;
+    return NULL;
+}
+
+static bool is_filled(const uint8_t *bytes, size_t size, uint8_t byte)
+{
+    for (size_t at = 0; at < size; at++)
+        if (bytes[at] != byte)
+            return false;
+    return true;
+}
+
+const char *kz_tag(ULONG tag, char *room)
+{
+    for (int at = 0; at < 4; at++) {
+        char letter = (char)(tag >> 8 * at & 127);
+        room[at] = letter < ' ' || letter == 127 ? '.' : letter;
+    }
+    room[4] = 0;
+    return room;
+}
+
+void kz_check_piece(KzPiece *piece)
+{
+    if (__asan_poison_memory_region || piece->is_told)
+        return;
+    bool is_before = !is_filled(body_of(piece) - ZONE, ZONE, ZONE_BYTE), is_behind = !is_filled(body_of(piece) + piece->size, ZONE, ZONE_BYTE);
+    if (!is_before && !is_behind)
+        return;
+    piece->is_told = true;
+    const char *where = is_behind ? "past" : "before";
+    char tag[8];
+    unsigned long long size = piece->size;
+    if (piece->kind == KZ_POOL)
+        kz_tell(KZ_PAST_POOL, "ExAllocatePoolWithTag", "memory %s the %llu bytes of a pool was written, tag '%s'", where, size, kz_tag(piece->tag, tag));
+    else if (piece->kind == KZ_CONTEXT)
+        kz_tell(KZ_PAST_CONTEXT, "FltAllocateContext", "memory %s the %llu bytes of a context was written", where, size);
+    else
+        kz_tell(KZ_PAST_BUFFER, "FLT_CALLBACK_DATA", "memory %s a buffer of %llu bytes was written", where, size);
+}
+
+/* Looks at the memory of a filter, as its callback returns. */
+void kz_check_memory(PFLT_FILTER filter)
+{
+    for (KzPiece *piece = pieces; piece; piece = piece->next)
+        if (piece->filter == filter)
+            kz_check_piece(piece);
+}
+
+/* And at the buffers of its operation. */
+void kz_check_blocks(const KzOp *op)
+{
+    for (const KzBlock *block = op->blocks; block; block = block->next)
+        kz_check_piece((KzPiece *)((uint8_t *)block->bytes - ZONE - sizeof(KzPiece)));
+}
+
+static void forget(size_t place)
+{
+    KzPiece *piece = gone[place];
+    gone[place] = NULL;
+    if (!piece)
+        return;
+    if (!is_filled(body_of(piece), piece->size, GONE_BYTE)) {
+        KzPlace before = kz_enter(KZ_IN_NOTHING, piece->filter, NULL, NULL, NULL);
+        char tag[8];
+        if (piece->kind == KZ_POOL)
+            kz_tell(KZ_WRITTEN_FREED, "ExFreePoolWithTag", "%llu bytes of a pool were written after they were freed, tag '%s'", (unsigned long long)piece->size,
+                    kz_tag(piece->tag, tag));
+        else if (piece->kind == KZ_DATA)
+            kz_tell(KZ_WRITTEN_DATA, "FltCompletePendedPreOperation", "callback data was written after the operation was completed");
+        else
+            kz_tell(KZ_WRITTEN_CONTEXT, "FltReleaseContext", "%llu bytes were written after they were cleaned up", (unsigned long long)piece->size);
+        kz.place = before;
+    }
+    free(piece);
+}
+
+void kz_give_back(void *memory)
+{
+    KzPiece *piece = memory ? (KzPiece *)((uint8_t *)memory - ZONE - sizeof(KzPiece)) : NULL;
+    if (!piece)
+        return;
+    kz_check_piece(piece);
+    *(piece->before ? &piece->before->next : &pieces) = piece->next;
+    if (piece->next)
+        piece->next->before = piece->before;
+    open_all(piece);
+    if (__asan_poison_memory_region || piece->size > KEPT_BYTES) {
+        memset(piece, GONE_BYTE, all_of(piece));
+        free(piece);
+        return;
+    }
+    memset(body_of(piece), GONE_BYTE, piece->size);
+    forget(gone_next);
+    gone[gone_next] = piece;
+    gone_next = (gone_next + 1) % KEPT;
+}
+
+/* At the end: what was written after its last use is told. */
+void kz_tell_gone(void)
+{
+    for (size_t at = 0; at < KEPT; at++)
+        forget((gone_next + at) % KEPT);
+}
+
+/* Memory of a pool that a filter took and never freed. */
+void kz_tell_pools(PFLT_FILTER filter)
+{
+    KzPlace before = kz_enter(KZ_IN_NOTHING, filter, NULL, NULL, NULL);
+    char tag[8];
+    for (KzPiece *piece = pieces; piece; piece = piece->next)
+        if (piece->kind == KZ_POOL && piece->filter == filter)
+            kz_tell(KZ_POOL_LEAK, "ExFreePoolWithTag", "never called for %llu bytes of a pool, tag '%s'", (unsigned long long)piece->size, kz_tag(piece->tag, tag));
+    kz.place = before;
+}
+
+void kz_free_memory(void)
+{
+    while (pieces) {
+        KzPiece *piece = pieces;
+        pieces = piece->next;
+        open_all(piece);
+        free(piece);
+    }
+    for (size_t at = 0; at < KEPT; at++) {
+        free(gone[at]);
+        gone[at] = NULL;
+    }
+    gone_next = 0;
+}

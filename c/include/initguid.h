@@ -1,0 +1,8 @@
+/* After it DEFINE_GUID defines, and doesn't only declare. */
+#ifndef INITGUID
+#define INITGUID
+#endif
+#include <ntdef.h>
+#undef DEFINE_GUID
+#define DEFINE_GUID(name, l, w1, w2, b1, b2, b3, b4, b5, b6, b7, b8) \
+    KZ_EXTERN_C const GUID name __attribute__((weak)) = {(l), (w1), (w2), {(b1), (b2), (b3), (b4), (b5), (b6), (b7), (b8)}}

@@ -215,16 +215,21 @@ impl<'a, F: Minifilter, L: Ledger, R: Wait, G: Gate, D: Device> Worker<'a, F, L,
 
     /// Has one worker end, once it comes to that job: while the queue is full this waits for room.
     pub fn stop_worker(&mut self) {
-        let shared = &self.shared;
-        'tries: for _ in shared.rt.forever() {
-            if shared
-                .queue
-                .put(shared.rt, &mut self.own.pass, Job::Stop)
-                .is_ok()
-            {
+        let rt = self.shared.rt;
+        'tries: for _ in rt.forever() {
+            if self.put_stop() {
                 break 'tries;
             }
             thread::yield_now();
         }
+    }
+
+    // Puts a Stop; false if the queue is full.
+    fn put_stop(&mut self) -> bool {
+        let shared = &self.shared;
+        shared
+            .queue
+            .put(shared.rt, &mut self.own.pass, Job::Stop)
+            .is_ok()
     }
 }

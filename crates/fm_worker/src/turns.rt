@@ -13,6 +13,7 @@ use fm_data::BaseCall;
 use fm_device::Device;
 use fm_filter::Minifilter;
 use fm_flow::FlowAction;
+use fm_lock::Turn;
 use fm_types::{OpId, Status};
 use std::sync::Wait;
 use std::sync::ledger::Ledger;
@@ -100,18 +101,23 @@ impl<'a, F: Minifilter, L: Ledger, R: Wait, G: Gate, D: Device> Worker<'a, F, L,
     // One turn of an operation. None if the operation can go on; and else whether a context is due.
     fn take_turn(&mut self, operation: OpId) -> Option<bool> {
         let shared = &self.shared;
-        let turn = shared
+        let Turn {
+            action,
+            filter,
+            bound_to,
+            has_due,
+        } = shared
             .manager
             .turn(shared.rt, &mut self.own.port.hand, operation);
-        let goes_on = match turn.action {
-            Ok(action) => shared.act(&mut self.own, operation, turn.filter, action),
+        let goes_on = match action {
+            Ok(action) => shared.act(&mut self.own, operation, filter, action),
             Err(Status::WrongStep) => {
-                shared.put_back(&mut self.own, operation, turn.bound_to);
+                shared.put_back(&mut self.own, operation, bound_to);
                 self.own.waiting.note(operation);
                 false
             }
             Err(_) => false,
         };
-        if goes_on { None } else { Some(turn.has_due) }
+        if goes_on { None } else { Some(has_due) }
     }
 }

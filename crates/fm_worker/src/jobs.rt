@@ -1,6 +1,6 @@
 //! Jobs: what workers take, and what becomes of operations that were resumed, or that another thread has to carry on.
 
-ghost use Rattle.std.specs.Prelude.{◌≡◌, ◌⊎◌, [], MatchBool, cond};
+ghost use Rattle.std.specs.Prelude.{◌≡◌, ◌&&◌, [], MatchBool, cond};
 ghost use Rattle.fm_queue.specs.Passes.{tally_of};
 ghost use Rattle.fm_queue.specs.Tallies.{after_put};
 ghost use Rattle.fm_worker.specs.Between.{IsFree};
@@ -42,19 +42,20 @@ impl<'a, F: Minifilter, L: Ledger, R: Wait, G: Gate> Shared<'a, F, L, R, G> {
             .is_ok()
     }
 
-    /// What becomes of an operation that was refused with 30, when at that moment it was that worker's turn: one that another worker alone may carry on becomes
-    /// a job again, or is set aside if the queue is full. A client whose turn it is has been told. Any other isn't this thread's any more.
+    /// What becomes of an operation that was refused with 30, when at that moment it was that worker's turn: one that another worker alone may carry on, which
+    /// takes jobs, becomes a job again, or is set aside if the queue is full. A client whose turn it is has been told. Any other isn't this thread's any more.
     pub(crate) fn put_back<D: Device>(
         &self,
         own: &mut Own<'a, F, L, R, D>,
         operation: OpId,
         turn: Option<WorkerId>,
+        takes_jobs: bool,
     )
         requires free { IsFree self.now.queue.now own.old.port.hand.held own.old.pass }
         ensures free { IsFree self.now.queue.now own.new.port.hand.held own.new.pass }
-        ensures back { MatchBool (is_for_another own.old.port.hand.worker turn) ((own.new ≡ own.old) ⊎ IsKept operation (tally_of own.old.pass) own.old.waiting.aside (tally_of own.new.pass) own.new.waiting.aside) (own.new ≡ own.old) }
+        ensures back { MatchBool (is_for_another own.old.port.hand.worker turn && takes_jobs) (IsKept operation (tally_of own.old.pass) own.old.waiting.aside (tally_of own.new.pass) own.new.waiting.aside) (own.new ≡ own.old) }
     {
-        if is_for_another(own.port.hand.worker(), turn) && self.is_taking_jobs(turn) {
+        if is_for_another(own.port.hand.worker(), turn) && takes_jobs {
             self.keep(own, operation);
         }
     }

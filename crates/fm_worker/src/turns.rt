@@ -112,7 +112,8 @@ impl<'a, F: Minifilter, L: Ledger, R: Wait, G: Gate, D: Device> Worker<'a, F, L,
         let goes_on = match action {
             Ok(action) => shared.act(&mut self.own, operation, filter, action),
             Err(Status::WrongStep) => {
-                shared.put_back(&mut self.own, operation, bound_to);
+                let takes_jobs = shared.is_taking_jobs(bound_to);
+                shared.put_back(&mut self.own, operation, bound_to, takes_jobs);
                 self.own.waiting.note(operation);
                 false
             }

@@ -1,4 +1,5 @@
-//! A queue that is full: an operation is carried on by whoever begins it, and one that a callback resumes by whoever made the callback.
+//! A queue that is full: an operation is carried on by whoever begins it, and one that a callback resumes by whoever made the callback. What is then a client's
+//! turn alone the client does itself.
 
 ghost use Rattle.std.specs.Prelude.{◌≡◌};
 
@@ -65,6 +66,66 @@ fn full_queue_is_carried_on_here(rt: HostRuntime) {
                 queued: Some(false),
                 held: Some(false),
                 resumed: Some(true)
+            })
+        )
+    );
+}
+
+/// Whether the read is done once another thread has resumed it, and once the client has looked; and which worker made its postoperation.
+#[derive(Clone, Copy)]
+struct Bound {
+    resumed: Option<bool>,
+    looked: Option<bool>,
+    last: u64,
+}
+
+// The read is synchronized at the client and held there. The other thread resumes it and carries it to its base: its postoperation is the client's alone.
+fn come_back<L: Ledger, R: Wait>(
+    rt: &R,
+    alloc: Global,
+    manager: &Manager<Ties, L>,
+    client: &mut Crew<'_, Ties, L, R, Watch>,
+    other: &mut Crew<'_, Ties, L, R, Watch>,
+    gate: &Watch,
+) -> Result<Bound, Status> {
+    attach(client, b"own", b"200")?;
+    attach(client, b"holds", b"100")?;
+    begin(rt, manager, client, Request::List { volume: VOLUME })?;
+    begin(rt, manager, client, create(alloc, b"x")?)?;
+    let reading = begin(rt, manager, client, read(0, 0))?;
+    begin(rt, manager, other, on_file(FileRequest::Flush))?;
+    let resumed = manager.is_done(rt, reading);
+    client.put_aside();
+    Ok(Bound {
+        resumed,
+        looked: manager.is_done(rt, reading),
+        last: gate.last(),
+    })
+}
+
+fn bound_day<L: Ledger, R: Wait>(rt: &R, alloc: Global, blank: Blank) -> Result<Bound, Status>
+    requires name { blank.name ≡ L.name }
+    requires parts { blank.parts ≡ L.parts }
+    requires all { blank.parts ≡ 49 }
+{
+    let manager = house::<Ties, L, R>(rt, alloc, filters(alloc)?, blank)?;
+    let (queue, mut passes) = JobQueue::new(alloc, 1, 2)?;
+    let gate = Watch::new();
+    let mut client = crew(rt, alloc, &manager, &queue, &gate, &mut passes)?;
+    let mut other = crew(rt, alloc, &manager, &queue, &gate, &mut passes)?;
+    come_back(rt, alloc, &manager, &mut client, &mut other, &gate)
+}
+
+#[test]
+fn clients_own_turn(rt: HostRuntime) {
+    let seen = bound_day::<Brand, _>(&rt, rt.alloc(), Blank::new(PARTS));
+    assert!(rt;
+        matches!(
+            seen,
+            Ok(Bound {
+                resumed: Some(false),
+                looked: Some(true),
+                last: 1
             })
         )
     );

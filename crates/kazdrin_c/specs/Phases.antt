@@ -1,5 +1,5 @@
 -- How far the life of an instance, a filter or a volume has come, as C is told it, and what C is told of a callback's leaks.
-use Rattle.std.specs.Prelude.{◌≡◌, ℕ, Option, Some, None, option_map, slice_get}
+use Rattle.std.specs.Prelude.{◌≡◌, ◌==◌, ℕ, Option, Some, None, cond, option_map, slice_get}
 use Rattle.fm_types.specs.declared.ids.CtxId.{CtxId}
 use Rattle.fm_stack.specs.declared.filter.Filter.{Filter}
 use Rattle.fm_stack.specs.declared.filter.FilterPhase.{FilterPhase}
@@ -42,10 +42,10 @@ phase_told None = nothing_told
 
 -- of the instance, the filter or the volume that an event names, by its mode: 0, 1 or 2; of no other
 abbrev pub phase_named : World → KazdrinEvent → ℕ → Option ℕ
-phase_named w e 0 = option_map (λ (row : Instance). instance_code row.phase) (slice_get w.stack.instances e.instance)
-phase_named w e 1 = option_map (λ (row : Filter). filter_code row.phase) (slice_get w.stack.filters e.filter)
-phase_named w e 2 = option_map (λ (row : Volume). volume_code row.phase) (slice_get w.stack.volumes e.volume)
-phase_named w e _ = None
+phase_named w e mode =
+    cond (mode == 0) (option_map (λ (row : Instance). instance_code row.phase) (slice_get w.stack.instances e.instance))
+    (cond (mode == 1) (option_map (λ (row : Filter). filter_code row.phase) (slice_get w.stack.filters e.filter))
+    (cond (mode == 2) (option_map (λ (row : Volume). volume_code row.phase) (slice_get w.stack.volumes e.volume)) None))
 
 -- kazdrin_phase: nothing changes but what is told
 abbrev pub PhaseTold : KazdrinEvent → Face → ℕ → Face → KazdrinTold → Type 0

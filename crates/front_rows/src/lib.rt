@@ -2,4 +2,14 @@
 #![tactic(auto)]
 
 #[cfg(test)]
+mod fakes;
+#[cfg(test)]
+mod lines;
+#[cfg(test)]
+mod peer;
+#[cfg(test)]
 mod sockets;
+#[cfg(test)]
+mod steps;
+#[cfg(test)]
+mod talks;

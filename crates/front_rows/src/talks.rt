@@ -1,0 +1,215 @@
+//! What clients do with a server until it ends.
+
+use crate::lines::{DONE, Line, ask, ask_all, comes, wait_for_server};
+use crate::peer::{exchange, follow, is_done, send};
+use crate::steps::{BEGINS, CLOSES, ENDS, HOLDS, REFUSED, SHARES, WRITES};
+use fm_words::Front;
+use std::alloc::{AllocError, Global};
+use std::fs;
+use std::io::Write;
+use std::net::{Net, TcpListener, TcpStream};
+use std::os::unix::net::UnixStream;
+use std::rt::Files;
+use std::time::Clock;
+
+/// What a client does.
+#[derive(Clone, Copy)]
+pub enum Talk {
+    /// Makes these requests, the last of which ends the server.
+    Lines(&'static [Line]),
+    /// Fills the server with connections.
+    Crowd,
+    /// Leaves in the middle of a frame.
+    Cut,
+    /// Two connections ask for all that there is.
+    Pair,
+    /// A create is refused.
+    Refused,
+    /// The volume goes beside an open handle.
+    Dismounted,
+    /// The socket's file goes before the Stop.
+    Removed,
+    /// A client leaves its read behind, and every other place is taken.
+    Vanished,
+    /// A Stop comes in a dismount that has begun.
+    Begun,
+}
+
+// So many connections.
+fn connect<R>(rt: &R, alloc: Global, at: &Front, count: usize) -> Option<Vec<UnixStream>>
+where
+    R: Net<Listener = TcpListener, Stream = TcpStream>,
+{
+    let mut streams = Vec::new(alloc);
+    for _ in 0..count {
+        streams.push(UnixStream::connect(rt, at.socket).ok()?).ok()?;
+    }
+    Some(streams)
+}
+
+// As many connections as there may be: a further one is closed at once, and taken once one of them has ended.
+fn crowd<R>(rt: &R, alloc: Global, at: &Front) -> Option<bool>
+where
+    R: Net<Listener = TcpListener, Stream = TcpStream> + Clock,
+{
+    let mut streams = connect(rt, alloc, at, 32)?;
+    let (status, printed) = ask(rt, alloc, at, &["list", "0"]);
+    streams.pop();
+    Some(
+        status == 3
+            && printed.as_slice() == b"fault\n".as_slice()
+            && comes(rt, alloc, at, &["list", "0"], (0, DONE)),
+    )
+}
+
+// A file that is to go with its last handle, and a connection that is cut in the middle of a frame: the file goes.
+fn cut<R>(rt: &R, alloc: Global, at: &Front) -> Option<bool>
+where
+    R: Net<Listener = TcpListener, Stream = TcpStream> + Clock,
+{
+    let stream = UnixStream::connect(rt, at.socket).ok()?;
+    exchange(alloc, &stream, &["create", "0", "always", "x"])?;
+    exchange(alloc, &stream, &["setdelete", "0"])?;
+    let (_, listed) = ask(rt, alloc, at, &["list", "0"]);
+    let mut writer = &stream;
+    writer.write_all(&[0, 0]).ok()?;
+    drop(stream);
+    Some(
+        listed.as_slice() == b"status 0 info 2 bytes 780a\n".as_slice()
+            && comes(rt, alloc, at, &["list", "0"], (0, DONE)),
+    )
+}
+
+fn path_of(alloc: Global, at: &Front, name: &str) -> Result<String, AllocError> {
+    format!(in alloc; "{}/{name}", at.folder)
+}
+
+// Whether the host's file has these bytes.
+fn has_bytes<R>(rt: &R, alloc: Global, at: &Front, name: &str, bytes: &[u8]) -> bool
+where
+    R: Files + AllocGlobal,
+{
+    let Ok(path) = path_of(alloc, at, name) else {
+        return false;
+    };
+    match fs::read(rt, path.as_str()) {
+        Ok(read) => read.as_slice() == bytes,
+        Err(_) => false,
+    }
+}
+
+// Two connections ask for all that there is, and the host's file has the bytes that the filter makes of theirs.
+fn pair<R>(rt: &R, alloc: Global, at: &Front) -> Option<bool>
+where
+    R: Files + AllocGlobal + Net<Listener = TcpListener, Stream = TcpStream>,
+{
+    let streams = connect(rt, alloc, at, 2)?;
+    let streams = streams.as_slice();
+    Some(
+        follow(alloc, streams, &WRITES)
+            && has_bytes(rt, alloc, at, "x", b"bc\0")
+            && follow(alloc, streams, &SHARES)
+            && has_bytes(rt, alloc, at, "x", b"bc")
+            && follow(alloc, streams, &ENDS)
+            && !has_bytes(rt, alloc, at, "x", b"bc")
+            && has_bytes(rt, alloc, at, "y", b""),
+    )
+}
+
+// One connection is refused what another has.
+fn refused<R>(rt: &R, alloc: Global, at: &Front) -> Option<bool>
+where
+    R: Net<Listener = TcpListener, Stream = TcpStream>,
+{
+    let streams = connect(rt, alloc, at, 2)?;
+    Some(follow(alloc, streams.as_slice(), &REFUSED))
+}
+
+// A dismount closes a handle: its file stays, though it was to go with it.
+fn dismounted<R>(rt: &R, alloc: Global, at: &Front) -> Option<bool>
+where
+    R: Files + AllocGlobal + Net<Listener = TcpListener, Stream = TcpStream>,
+{
+    let streams = connect(rt, alloc, at, 2)?;
+    Some(follow(alloc, streams.as_slice(), &CLOSES) && has_bytes(rt, alloc, at, "x", b"a"))
+}
+
+// A Stop, once nothing leads to the server any more.
+fn removed<R>(rt: &R, alloc: Global, at: &Front) -> Option<bool>
+where
+    R: Files + Net<Listener = TcpListener, Stream = TcpStream>,
+{
+    let stream = UnixStream::connect(rt, at.socket).ok()?;
+    fs::remove_file(rt, at.socket).ok()?;
+    Some(is_done(alloc, &stream, &["stop"]))
+}
+
+// A client leaves a read that a filter holds. Its handle is closed: the file, which was to go with it, is gone.
+fn leave_read<R>(rt: &R, alloc: Global, at: &Front) -> Option<bool>
+where
+    R: Net<Listener = TcpListener, Stream = TcpStream> + Clock,
+{
+    let streams = connect(rt, alloc, at, 1)?;
+    let is_well = follow(alloc, streams.as_slice(), &HOLDS);
+    send(alloc, streams.first()?, &["read", "0", "0", "1"])?;
+    drop(streams);
+    Some(is_well && comes(rt, alloc, at, &["list", "0"], (0, DONE)))
+}
+
+// The same where all other places are taken: its place is free again.
+fn vanished<R>(rt: &R, alloc: Global, at: &Front) -> Option<bool>
+where
+    R: Net<Listener = TcpListener, Stream = TcpStream> + Clock,
+{
+    let streams = connect(rt, alloc, at, 31)?;
+    let is_well = leave_read(rt, alloc, at);
+    drop(streams);
+    is_well
+}
+
+// A dismount begins beside the read that is left, and then the server is stopped.
+fn begun<R>(rt: &R, alloc: Global, at: &Front) -> Option<bool>
+where
+    R: Net<Listener = TcpListener, Stream = TcpStream> + Clock,
+{
+    let is_well = leave_read(rt, alloc, at)?;
+    let streams = connect(rt, alloc, at, 1)?;
+    Some(follow(alloc, streams.as_slice(), &BEGINS) && is_well)
+}
+
+// Whether a client is told what it should be, in a talk that stops the server itself.
+fn talk_to_end<R>(rt: &R, alloc: Global, at: &Front, talk: Talk) -> Option<bool>
+where
+    R: Files + AllocGlobal + Net<Listener = TcpListener, Stream = TcpStream> + Clock,
+{
+    match talk {
+        Talk::Lines(lines) => Some(ask_all(rt, alloc, at, lines)),
+        Talk::Pair => pair(rt, alloc, at),
+        Talk::Refused => refused(rt, alloc, at),
+        Talk::Dismounted => dismounted(rt, alloc, at),
+        Talk::Removed => removed(rt, alloc, at),
+        Talk::Begun => begun(rt, alloc, at),
+        Talk::Crowd | Talk::Cut | Talk::Vanished => None,
+    }
+}
+
+/// Whether a client is told what it should be. The server is stopped in any case.
+pub fn converse<R>(rt: &R, alloc: Global, at: &Front, talk: Talk) -> bool
+where
+    R: Files + AllocGlobal + Net<Listener = TcpListener, Stream = TcpStream> + Clock,
+{
+    wait_for_server(rt, alloc, at);
+    let is_well = match talk {
+        Talk::Crowd => crowd(rt, alloc, at),
+        Talk::Cut => cut(rt, alloc, at),
+        Talk::Vanished => vanished(rt, alloc, at),
+        other => {
+            let is_well = talk_to_end(rt, alloc, at, other) == Some(true);
+            if !is_well {
+                let _ = ask(rt, alloc, at, &["stop"]);
+            }
+            return is_well;
+        }
+    };
+    comes(rt, alloc, at, &["stop"], (0, DONE)) && is_well == Some(true)
+}

@@ -3,67 +3,290 @@
 
     python3 clients/kazdrin.py SOCKET
 
-shows one conversation: a file is created, written and read, and the folder is listed.
+shows one conversation: a file is created, written and read, and the folder is listed. It ends with status 0, with 2 if
+its words are others, and with 3 if the server can't be reached or what it answers is no reply.
+
+As a module:
+
+    with Client("here.sock", timeout=5) as client:
+        handle = client.create("notes").information
+        print(client.write(handle, 0, b"hello").name)
+
+Each request gives a Reply: its status, what it says beside it, its bytes, and the name of its status. A status other
+than 0 is a reply as well, and no error. What can go wrong beside that is one of these:
+
+    Unreachable   nobody takes connections at that path
+    Lost          the server closed the connection
+    TimedOut      no reply came in time: the connection is closed, for the reply may still come
+    NoReply       the server sent something that is no reply to the request: the connection is closed
+    NoRequest     the request can't be written as a frame, and nothing was sent
+    Closed        the connection was closed before
 """
 import socket
 import struct
 import sys
+from typing import NamedTuple
 
 CREATE, READ, WRITE, QUERY_SIZE, SET_SIZE, FLUSH, LIST, SET_DELETE, CLOSE = range(1, 10)
 LOAD, ATTACH, DETACH, UNLOAD, DISMOUNT, STOP = range(16, 22)
-REPLY = 128
+REPLY, HELD_REPLY = 128, 129
 EXISTING, NEW, ALWAYS = range(3)
+
+SHORTEST, LONGEST = 5, 33_000
+REPLY_HEAD = 14
+
+NAMES = (
+    "Success NoMemory BadAltitude BadName NameCollision AltitudeCollision NoFilter NoVolume NoInstance NotLoaded "
+    "AlreadyLoaded DoNotAttach DoNotDetach DeletingObject NoHandle BadPath DeletePending AccessDenied DeviceFault "
+    "FileNotFound AlreadyExists NotRegistered AlreadyDefined AlreadyLinked NoContext NotHeld HandFull NoObject NotPended "
+    "TooMany WrongStep EndOfFile BadRequest Dismounting Busy"
+).split()
+
+
+class Error(Exception):
+    """What can go wrong with a connection."""
+
+
+class Unreachable(Error):
+    """Nobody takes connections at that path."""
+
+
+class Lost(Error):
+    """The server closed the connection."""
+
+
+class TimedOut(Error):
+    """No reply came in time."""
+
+
+class NoReply(Error):
+    """The server sent something that is no reply to the request."""
+
+
+class NoRequest(Error):
+    """The request can't be written as a frame."""
+
+
+class Closed(Error):
+    """The connection was closed before."""
+
+
+class Reply(NamedTuple):
+    """A reply: its status, what it says beside it, and its bytes."""
+
+    status: int
+    information: int
+    data: bytes
+
+    @property
+    def name(self):
+        """The name of its status."""
+        return NAMES[self.status]
+
+
+def pack(form, *values):
+    """The fields of a request, the highest byte of each number first."""
+    try:
+        return struct.pack(">" + form, *values)
+    except struct.error as error:
+        raise NoRequest(f"a number is too large for its field: {error}") from error
+
+
+def text(words):
+    """The bytes of a text."""
+    if isinstance(words, bytes):
+        return words
+    try:
+        return words.encode()
+    except UnicodeEncodeError as error:
+        raise NoRequest("the text isn't UTF-8") from error
 
 
 class Client:
-    """One connection. Each call sends a request, waits for its reply, and gives status, information and bytes."""
+    """One connection. Each request is sent, and its reply is waited for: for ever, or as many seconds as timeout says."""
 
-    def __init__(self, path):
-        self.socket = socket.socket(socket.AF_UNIX)
-        self.socket.connect(path)
+    def __init__(self, path, timeout=None):
         self.number = 0
+        self.socket = socket.socket(socket.AF_UNIX)
+        self.socket.settimeout(timeout)
+        try:
+            self.socket.connect(path)
+        except (OSError, ValueError) as error:
+            self.hang_up()
+            raise Unreachable(f"{path}: {error}") from error
+
+    def __enter__(self):
+        return self
+
+    def __exit__(self, *_):
+        self.hang_up()
+
+    def hang_up(self):
+        """Ends the connection, and with it its handles."""
+        if self.socket is not None:
+            self.socket.close()
+            self.socket = None
 
     def ask(self, code, fields=b""):
-        self.number += 1
-        body = struct.pack(">BI", code, self.number) + fields
-        self.socket.sendall(struct.pack(">I", len(body)) + body)
+        """Sends a request, and takes its reply."""
+        self.send(code, fields)
+        return self.take()
+
+    def send(self, code, fields=b""):
+        """Sends a request alone. Its reply is to be taken before the next one."""
+        number = self.number % 0xFFFF_FFFF + 1
+        body = pack("BI", code, number) + fields
+        if len(body) > LONGEST:
+            raise NoRequest(f"a frame has at most {LONGEST} bytes, and this one {len(body)}")
+        self.number = number
+        self.send_bytes(struct.pack(">I", len(body)) + body)
+
+    def send_bytes(self, data):
+        """Sends bytes, whatever they say."""
+        if self.socket is None:
+            raise Closed("the connection was closed before")
+        try:
+            self.socket.sendall(data)
+        except TimeoutError as error:
+            self.hang_up()
+            raise TimedOut("the server didn't read the request in time") from error
+        except OSError as error:
+            self.hang_up()
+            raise Lost(f"the server closed the connection: {error}") from error
+
+    def take(self):
+        """Takes the reply to the request that was sent last."""
         (length,) = struct.unpack(">I", self.receive(4))
+        if not SHORTEST <= length <= LONGEST:
+            raise self.odd(f"a frame of {length} bytes, and none has so many")
         body = self.receive(length)
-        code, number, status, information = struct.unpack(">BIBQ", body[:14])
-        if code != REPLY or number != self.number:
-            raise ConnectionError("the answer is no reply to this request")
-        return status, information, body[14:]
+        code, number = struct.unpack(">BI", body[:5])
+        if code == HELD_REPLY:
+            raise self.odd("that an operation is held, where a server waits until it is done")
+        if code != REPLY:
+            raise self.odd(f"a frame of code {code}, which is no reply")
+        if length < REPLY_HEAD:
+            raise self.odd("a reply that ends too early")
+        status, information = struct.unpack(">BQ", body[5:REPLY_HEAD])
+        if status >= len(NAMES):
+            raise self.odd(f"a reply of status {status}, which is none")
+        if number == 0 and status == 32:
+            raise self.odd("that it found a length which no frame has, and reads no more")
+        if number != self.number:
+            raise self.odd(f"a reply to request {number}, and this was request {self.number}")
+        return Reply(status, information, body[REPLY_HEAD:])
+
+    def odd(self, words):
+        """The error of an answer that is no reply. Nothing behind it can be trusted."""
+        self.hang_up()
+        return NoReply(f"the server said: {words}")
 
     def receive(self, count):
+        """So many bytes."""
+        if self.socket is None:
+            raise Closed("the connection was closed before")
         received = b""
         while len(received) < count:
-            piece = self.socket.recv(count - len(received))
+            try:
+                piece = self.socket.recv(count - len(received))
+            except TimeoutError as error:
+                self.hang_up()
+                raise TimedOut("no reply came in time") from error
+            except OSError as error:
+                self.hang_up()
+                raise Lost(f"the server closed the connection: {error}") from error
             if not piece:
-                raise ConnectionError("the server closed the connection")
+                self.hang_up()
+                raise Lost("the server closed the connection")
             received += piece
         return received
 
     def create(self, path, mode=ALWAYS, volume=0):
-        return self.ask(CREATE, bytes([volume, mode]) + path.encode())
+        """Opens a file; the information of a success is its handle."""
+        return self.ask(CREATE, pack("BB", volume, mode) + text(path))
 
     def read(self, handle, offset, length):
-        return self.ask(READ, struct.pack(">QQI", handle, offset, length))
+        """Reads so many bytes at most."""
+        return self.ask(READ, pack("QQI", handle, offset, length))
 
     def write(self, handle, offset, data):
-        return self.ask(WRITE, struct.pack(">QQ", handle, offset) + data)
+        """Writes bytes; the information of a success is how many."""
+        return self.ask(WRITE, pack("QQ", handle, offset) + data)
+
+    def query_size(self, handle):
+        """Asks for the file's size; it is the information of a success."""
+        return self.ask(QUERY_SIZE, pack("Q", handle))
+
+    def set_size(self, handle, size):
+        """Sets the file's size."""
+        return self.ask(SET_SIZE, pack("QQ", handle, size))
+
+    def flush(self, handle):
+        """Flushes the file."""
+        return self.ask(FLUSH, pack("Q", handle))
 
     def list(self, volume=0):
-        return self.ask(LIST, bytes([volume]))
+        """Lists the files, each name before a line's end."""
+        return self.ask(LIST, pack("B", volume))
+
+    def set_delete(self, handle):
+        """Marks the file: it goes with its last handle."""
+        return self.ask(SET_DELETE, pack("Q", handle))
 
     def close(self, handle):
-        return self.ask(CLOSE, struct.pack(">Q", handle))
+        """Closes a handle."""
+        return self.ask(CLOSE, pack("Q", handle))
+
+    def load(self, name):
+        """Loads a filter; the information of a success is its number."""
+        return self.ask(LOAD, text(name))
+
+    def attach(self, filter, volume, name, altitude):
+        """Attaches an instance of a filter; the information of a success is its number."""
+        name = text(name)
+        return self.ask(ATTACH, pack("BBB", filter, volume, len(name)) + name + text(altitude))
+
+    def detach(self, instance):
+        """Detaches an instance."""
+        return self.ask(DETACH, pack("H", instance))
+
+    def unload(self, filter):
+        """Unloads a filter."""
+        return self.ask(UNLOAD, pack("B", filter))
+
+    def dismount(self, volume=0):
+        """Dismounts a volume."""
+        return self.ask(DISMOUNT, pack("B", volume))
+
+    def stop(self):
+        """Ends the server."""
+        return self.ask(STOP)
+
+
+def show(path):
+    """Shows one conversation."""
+    with Client(path, timeout=10) as client:
+        created = client.create("notes")
+        print("create", created.status, "handle", created.information)
+        handle = created.information
+        print("write ", tuple(client.write(handle, 0, b"hello")))
+        print("read  ", tuple(client.read(handle, 0, 100)))
+        print("list  ", tuple(client.list()))
+        print("close ", tuple(client.close(handle)))
+
+
+def main(words):
+    """The program: its exit status."""
+    if len(words) != 1 or words[0] in ("-h", "--help"):
+        print("usage: python3 clients/kazdrin.py SOCKET", file=sys.stderr)
+        return 2
+    try:
+        show(words[0])
+    except Error as error:
+        print(f"kazdrin.py: {error}", file=sys.stderr)
+        return 3
+    return 0
 
 
 if __name__ == "__main__":
-    client = Client(sys.argv[1])
-    status, handle, _ = client.create("notes")
-    print("create", status, "handle", handle)
-    print("write ", client.write(handle, 0, b"hello"))
-    print("read  ", client.read(handle, 0, 100))
-    print("list  ", client.list())
-    print("close ", client.close(handle))
+    sys.exit(main(sys.argv[1:]))

@@ -24,7 +24,8 @@ sys.path.insert(0, os.path.join(TOP, "clients"))
 import kazdrin  # noqa: E402
 
 SAMPLES = "guard meter shift hold carry stay".split()
-PATHS = "a b c d/e frozen/x".split()
+FOLDERS = "d deny".split()
+PATHS = "a b c d/e deny/e nowhere/e".split()
 END = 30
 READY = 30
 
@@ -38,7 +39,8 @@ class Life:
         self.place = tempfile.mkdtemp(prefix="kazdrin-")
         self.folder = os.path.join(self.place, "files")
         self.socket = os.path.join(self.place, "s")
-        os.mkdir(self.folder)
+        for name in [""] + FOLDERS:
+            os.mkdir(os.path.join(self.folder, name))
         self.workers = self.random.choice([1, 1, 2, 4, 16])
         self.over = threading.Event()
         self.asked = 0

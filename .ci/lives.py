@@ -1,6 +1,7 @@
 #!/usr/bin/env python3
 """Lives of a server, in each of which all that may be asked races: operations, loads, attaches, detaches, unloads, a
-dismount, connections that are cut, and at last a Stop.
+dismount, connections that are cut, and at last a Stop. In some the server is halted now and then, as a busy machine
+does it, for longer than its own patience.
 
     .ci/lives.py [LIVES] [--seed N] [--only LIFE] [--program FLTD]
 
@@ -13,6 +14,7 @@ import os
 import random
 import re
 import shutil
+import signal
 import subprocess
 import sys
 import tempfile
@@ -132,6 +134,14 @@ class Life:
             if client.dismount(0).status != 34 or self.over.wait(0.01):
                 return
 
+    def halt(self, own):
+        """Halts the server now and then, until it is gone."""
+        while self.server.poll() is None:
+            self.server.send_signal(signal.SIGSTOP)
+            time.sleep(own.choice([0.01, 0.12, 0.25]))
+            self.server.send_signal(signal.SIGCONT)
+            time.sleep(own.random() * 0.05)
+
     def stop(self):
         """Stops the server: whether it said so. Where all places are taken the Stop is sent again."""
         until = time.monotonic() + END
@@ -158,6 +168,8 @@ class Life:
         racers = [threading.Thread(target=self.race, args=(act, self.random.random()), daemon=True) for act in acts]
         for racer in racers:
             racer.start()
+        if self.random.random() < 0.3:
+            threading.Thread(target=self.halt, args=(random.Random(self.random.random()),), daemon=True).start()
         time.sleep(self.random.choice([0, 0.02, 0.1, 0.3, 0.6, 1.0]))
         if self.random.random() < 0.2:
             return self.end(racers, self.cut_off())
@@ -231,8 +243,9 @@ def main(arguments):
             return 1
         program = built.stdout.strip()
     print(f"seed {asked.seed}", flush=True)
+    lives = range(asked.lives) if asked.only is None else [asked.only]
     requests = failed = 0
-    for number in range(asked.lives) if asked.only is None else [asked.only]:
+    for number in lives:
         life = Life(program, asked.seed, number)
         try:
             wrong = life.run()
@@ -242,7 +255,7 @@ def main(arguments):
         if wrong:
             failed += 1
             print(f"life {number}, {life.workers} workers: the server {wrong}", flush=True)
-    print(f"{failed} lives of {asked.lives} ended wrong, after {requests} requests")
+    print(f"{failed} lives of {len(lives)} ended wrong, after {requests} requests")
     return 1 if failed else 0
 
 

@@ -18,9 +18,12 @@ pub(crate) struct Leftovers {
     orphans: Mutex<Vec<Orphan>>,
 }
 
-// Whether a handle is still there after its close was refused so: the close may be made again.
+// Whether a handle is still there after its close was refused so, with 30 as its cleanup is under way: the close may be made again.
 fn stays_open(status: Status) -> bool {
-    matches!(status, Status::NoMemory | Status::TooMany)
+    matches!(
+        status,
+        Status::NoMemory | Status::TooMany | Status::WrongStep
+    )
 }
 
 impl Leftovers {
@@ -39,8 +42,8 @@ impl Leftovers {
         let _ = self.orphans.lock(rt).push(orphan);
     }
 
-    /// Whether operations are there whose clients are gone.
-    pub(crate) fn has_orphans<R: Wait>(&self, rt: &R) -> bool {
+    // Whether operations are there whose clients are gone.
+    fn has_orphans<R: Wait>(&self, rt: &R) -> bool {
         !self.orphans.lock(rt).is_empty()
     }
 
@@ -141,5 +144,17 @@ impl Leftovers {
                 self.collect(worker, orphan);
             }
         }
+    }
+
+    /// Takes the answers of those operations that are done, and once all are tries to close the handles that were left open. Whether nothing is left.
+    pub(crate) fn end_all<L: Ledger, R: Wait + Clock, D: Device>(
+        &self,
+        worker: &mut ServerWorker<'_, L, R, D>,
+    ) -> bool {
+        self.collect_orphans(worker);
+        if self.has_orphans(worker.rt()) {
+            return false;
+        }
+        self.close_left(worker)
     }
 }

@@ -34,7 +34,7 @@ use std::time::{Clock, Duration};
 /// How many milliseconds the accept rests after an error.
 const REST: u64 = 20;
 
-/// How often operations whose clients are gone are looked at, at the end, and how many milliseconds lie between two looks: five seconds in all.
+/// How often what connections left is looked at, at the end, and how many milliseconds lie between two looks: five seconds in all.
 const LOOKS: u32 = 500;
 
 const PAUSE: u64 = 10;
@@ -194,22 +194,22 @@ fn unload_all<L: Ledger, R: Wait, D: Device>(
     }
 }
 
-// Takes the answers of operations whose clients are gone. Where a filter holds some, it is unloaded beside the workers, which has it let them go: they are
-// looked at again, for five seconds at most.
-fn end_orphans<L: Ledger, R: Wait + Clock, D: Device>(
+// Takes the answers of operations whose clients are gone, and closes the handles that were left open. Where a filter holds some, it is unloaded beside the
+// workers, which has it let them go: they are looked at again, for five seconds at most. Whether nothing is left.
+fn end_leftovers<L: Ledger, R: Wait + Clock, D: Device>(
     leftovers: &Leftovers,
     connection: &mut Connection<'_, L, R, D>,
     filters: usize,
-) {
+) -> bool {
     let rt = connection.worker().rt();
-    'looks: for _ in 0..LOOKS {
-        leftovers.collect_orphans(connection.worker());
-        if !leftovers.has_orphans(rt) {
-            break 'looks;
+    for _ in 0..LOOKS {
+        if leftovers.end_all(connection.worker()) {
+            return true;
         }
         unload_all(connection, filters);
         thread::sleep(rt, Duration::from_millis(PAUSE));
     }
+    false
 }
 
 // After the last connection: what is left of connections is ended, and the workers end. Whether nothing is left.
@@ -222,9 +222,8 @@ fn end_connections<L: Ledger, R: Wait + Clock, D: Device>(
     let Some(connection) = all.first_mut() else {
         return false;
     };
-    end_orphans(leftovers, connection, filters);
+    let is_clean = end_leftovers(leftovers, connection, filters);
     let worker = connection.worker();
-    let is_clean = leftovers.close_left(worker) && !leftovers.has_orphans(worker.rt());
     worker.put_all_aside();
     for _ in 0..workers {
         worker.stop_worker();

@@ -46,7 +46,7 @@ impl<F: Drop, L: Ledger> Manager<F, L> {
         self.read(rt, |state| state.handle_of(operation))
     }
 
-    /// Whether an operation is done, so that its answer may be collected; none where it isn't there.
+    /// Whether an operation is done; none where it isn't there. Its answer may have been handed out already, while a drain of it runs.
     pub fn is_done<R: Wait>(&self, rt: &R, operation: OpId) -> Option<bool> {
         self.read(rt, |state| state.is_done(operation))
     }

@@ -81,6 +81,7 @@ impl<'a, F: Minifilter, L: Ledger, R: Wait, G: Gate, D: Device> Worker<'a, F, L,
         let rt = self.shared.rt;
         self.shared.manager.takes_jobs(&self.own.port.hand);
         self.own.waiting.takes_jobs = true;
+        self.carry_bound();
         'jobs: for _ in rt.forever() {
             self.requeue();
             match self.next_job() {

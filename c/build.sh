@@ -22,7 +22,7 @@ kit=${KIT:-$(dirname "$(rt doc | head -1)")}
 common="-fshort-wchar -fno-strict-aliasing -O1 -g -I$here/include ${CFLAGS:-}"
 own="-std=gnu11 -Wall -Wextra -Werror $common"
 # A driver's warnings are its author's; pointers are taken as the kit's compiler takes them. What the kit's projects set is set.
-driver="-fwrapv -fms-extensions -Wno-incompatible-pointer-types -Wno-int-conversion -Wno-multichar -Wno-unknown-pragmas -Wno-missing-braces $common \
+driver="-fwrapv -fms-extensions $common \
 -D_WIN64=1 -D_M_AMD64=100 -D_M_X64=100 -D_AMD64_=1 -D_WIN32_WINNT=0x0A00 -DWINVER=0x0A00 -DNTDDI_VERSION=0x0A000002 -DDBG=1 -D_KERNEL_MODE=1 -DKZ_DRIVER=1 -include ntdef.h ${KZAPI:-}"
 room=$(mktemp -d)
 trap 'rm -rf "$room"' EXIT
@@ -38,7 +38,7 @@ add() {
         local object="$room/${count}_$(basename "$file").o"
         case "$file" in
         *.cpp | *.cc | *.cxx) ${CXX:-c++} -std=gnu++17 -fno-exceptions -fno-rtti -w $driver -DDriverEntry="$entry" -c -o "$object" "$file" ;;
-        *) $cc -std=gnu11 -Wall $driver -DDriverEntry="$entry" -c -o "$object" "$file" ;;
+        *) $cc -std=gnu11 -Wall -Wno-incompatible-pointer-types -Wno-int-conversion -Wno-multichar -Wno-unknown-pragmas -Wno-missing-braces $driver -DDriverEntry="$entry" -c -o "$object" "$file" ;;
         esac
         objects="$objects $object"
     done

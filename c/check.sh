@@ -63,8 +63,9 @@ for requests in c/requests/*.txt; do
     name=$(basename "$requests" .txt)
     drivers=""
     for driver in $(sed -n 's/^# drivers: //p' "$requests" | grep . || echo "$name"); do
-        drivers="$drivers $(ls c/samples/"$driver".c c/misuse/"$driver".c c/tests/"$driver".c 2> /dev/null)"
+        drivers="$drivers $(ls -d c/samples/"$driver".c c/misuse/"$driver".c c/tests/"$driver".c c/tests/"$driver".cpp c/tests/"$driver" 2> /dev/null)"
     done
+    case "$drivers" in *.cpp) command -v c++ > /dev/null || continue ;; esac
     c/build.sh "$room/$name" $drivers
     tell $? "$name, as it was built,"
     try "$name" "$room/$name" "$requests"
@@ -74,6 +75,28 @@ done
 KZ_MAIN=c/tests/run.c c/build.sh "$room/run" c/samples/passthrough.c
 tell $? "run, as it was built,"
 try run "$room/run"
+
+# A crash says where it was, and ends the program as it would have.
+c/build.sh "$room/crash" c/misuse/crash.c
+tell $? "crash, as it was built,"
+printf 'load crash\nattach 0 0 c 100\ncreate 0 new a\nread 0 0 1\n' > "$room/crash.txt"
+try crash "$room/crash" "$room/crash.txt" 2> /dev/null
+
+# Limits count if they are to, and what is allowed isn't told.
+"$room/left" --strict c/requests/left.txt > "$room/strict.out"
+[ $? = 5 ] && tail -n 1 "$room/strict.out" | grep -q "told 12, limits 12"
+tell $? "strict"
+"$room/answers" --allow KZ0130 c/requests/answers.txt > "$room/allow.out"
+[ $? = 5 ] && ! grep -q KZ0130 "$room/allow.out" && tail -n 1 "$room/allow.out" | grep -q "told 7, limits 3"
+tell $? "allow"
+
+# Names of files that are none of C, and a driver of files that are named one by one.
+mkdir "$room/odd"
+cp c/samples/ctx.c "$room/odd/2my.odd-name.c"
+c/build.sh "$room/names" "$room/odd/2my.odd-name.c" --driver c/tests/two-files/main.c c/tests/two-files/count.c
+tell $? "names, as it was built,"
+printf 'load 2my.odd-name\nload main\nunload 0\nunload 1\n' | "$room/names" > "$room/names.out" && tail -n 1 "$room/names.out" | grep -q "told 0, limits 0"
+tell $? "names"
 
 KZ_MAIN=c/tests/fuzz.c c/build.sh "$room/fuzz" c/samples/*.c
 tell $? "fuzz, as it was built,"

@@ -22,7 +22,7 @@ typedef struct Header {
     uint32_t slot, generation;
     uint8_t kind;
     bool is_known; /* to the manager: not before it is set, if no callback of an instance allocated it, and not once it was cleaned up there */
-    bool is_in_cleanup;
+    bool is_in_cleanup, is_told;
     FLT_CONTEXT_TYPE type;
     PFLT_FILTER filter;
     const FLT_CONTEXT_REGISTRATION *how;
@@ -33,7 +33,7 @@ static Header *live;
 static Header dead[REMEMBERED];
 static size_t dead_next;
 
-static const char *const kind_names[] = {"volume", "instance", "stream", "stream handle"};
+static const char *const kind_names[] = {"a volume", "an instance", "a stream", "a stream handle"};
 
 /* ---- Registration. */
 
@@ -113,7 +113,7 @@ static Header *context_of(PVOID body, const char *call)
         return found;
     for (size_t at = 0; at < REMEMBERED; at++)
         if (body && dead[at].body == body) {
-            kz_tell(KZ_CLEANED_UP, call, "a %s context that was cleaned up", kind_names[dead[at].kind]);
+            kz_tell(KZ_CLEANED_UP, call, "%s context that was cleaned up", kind_names[dead[at].kind]);
             return NULL;
         }
     kz_tell(KZ_NO_CONTEXT_THERE, call, "no context");
@@ -266,7 +266,7 @@ VOID FltReleaseContext(PFLT_CONTEXT Context)
     if (!context)
         return;
     if (context->is_in_cleanup) {
-        kz_tell(KZ_OWN_CLEANUP, __func__, "a %s context in its own cleanup callback", kind_names[context->kind]);
+        kz_tell(KZ_OWN_CLEANUP, __func__, "%s context in its own cleanup callback", kind_names[context->kind]);
         return;
     }
     if (context->is_known && kz_event((KazdrinEvent){.event = KZ_RELEASE, .slot = context->slot, .generation = context->generation}) == KZ_OK) {
@@ -274,7 +274,7 @@ VOID FltReleaseContext(PFLT_CONTEXT Context)
         return;
     }
     if (!context->kept) {
-        kz_tell(KZ_RELEASED_TWICE, __func__, "a %s context to which no reference is held (released twice?)", kind_names[context->kind]);
+        kz_tell(KZ_RELEASED_TWICE, __func__, "%s context to which no reference is held (released twice?)", kind_names[context->kind]);
         return;
     }
     drop(context);
@@ -327,7 +327,7 @@ static NTSTATUS set(const char *call, uint8_t kind, FLT_SET_CONTEXT_OPERATION ho
     if (!context)
         return STATUS_INVALID_PARAMETER;
     if (context->kind != kind) {
-        kz_tell(KZ_OTHER_KIND, call, "a %s context", kind_names[context->kind]);
+        kz_tell(KZ_OTHER_KIND, call, "%s context", kind_names[context->kind]);
         return STATUS_INVALID_PARAMETER;
     }
     if (!context->is_known) {
@@ -348,7 +348,7 @@ static NTSTATUS set(const char *call, uint8_t kind, FLT_SET_CONTEXT_OPERATION ho
     if (status == KZ_NOT_HELD && context->kept)
         return STATUS_FLT_CONTEXT_ALREADY_LINKED; /* the manager holds it by a link alone */
     if (status == KZ_NOT_HELD)
-        kz_tell(KZ_NOT_REFERENCED, call, "a %s context to which no reference is held", kind_names[kind]);
+        kz_tell(KZ_NOT_REFERENCED, call, "%s context to which no reference is held", kind_names[kind]);
     kz_tell_refused(call, status);
     kz_clean_up();
     return kz_ntstatus(status);
@@ -625,26 +625,45 @@ void kz_keep_rest(const KazdrinEvent *sent)
     }
 }
 
-/* A filter ends: what it kept it never released. */
+static void tell_leaks(Header *context)
+{
+    for (Kept *kept = context->kept; kept; kept = kept->next) {
+        KzPlace before = kz_enter_again(&kept->place);
+        kz_tell(KZ_LEAK, "FltReleaseContext", "never called for a reference to %s context", kind_names[context->kind]);
+        kz.place = before;
+        kz.counts.leaked++;
+    }
+}
+
+static Header *told_and_kept(PFLT_FILTER filter)
+{
+    for (Header *one = live; one; one = one->next)
+        if (one->filter == filter && one->is_told && one->kept && !one->is_known)
+            return one;
+    return NULL;
+}
+
+/* A filter ends: what it kept it never released. Its cleanup callbacks are called all the same, so that what the contexts hold isn't told once more; what those allocate
+ * and leave is told, and no more. */
 void kz_tell_kept(PFLT_FILTER filter)
 {
-    for (Header *one = live, *next; one; one = next) {
-        next = one->next;
-        if (one->filter != filter || !one->kept)
-            continue;
-        for (Kept *kept = one->kept; kept; kept = kept->next) {
-            KzPlace before = kz_enter_again(&kept->place);
-            kz_tell(KZ_LEAK, "FltReleaseContext", "never called for a reference to a %s context", kind_names[one->kind]);
-            kz.place = before;
-            kz.counts.leaked++;
+    for (Header *one = live; one; one = one->next)
+        if (one->filter == filter && one->kept && !one->is_told) {
+            one->is_told = true;
+            tell_leaks(one);
         }
+    for (Header *one = told_and_kept(filter); one; one = told_and_kept(filter)) {
         while (one->kept)
             drop(one);
-        if (!one->is_known) {
-            finish(one);
-            next = live; /* its callback may have let go of others */
-        }
+        finish(one);
     }
+    for (Header *one = live; one; one = one->next)
+        if (one->filter == filter && one->kept && !one->is_told) {
+            one->is_told = true;
+            tell_leaks(one);
+            while (one->kept)
+                drop(one);
+        }
 }
 
 void kz_free_contexts(void)
@@ -654,6 +673,8 @@ void kz_free_contexts(void)
         live = one->next;
         while (one->kept)
             drop(one);
+        if (one->how->ContextFreeCallback)
+            one->how->ContextFreeCallback(one->body, one->type);
         free(one);
     }
     memset(dead, 0, sizeof dead);

@@ -45,6 +45,7 @@ void kz_renew_data(KzOp *op)
     FLT_CALLBACK_DATA *data = kz_new_data(op->thread, iopb);
     data->Flags = op->data->Flags;
     data->IoStatus = op->data->IoStatus;
+    kz_piece_of(op->data)->filter = kz_piece_of(op->iopb)->filter = op->holder->filter;
     kz_give_back(op->iopb);
     kz_give_back(op->data);
     op->iopb = iopb;

@@ -104,12 +104,15 @@ void kz_check_piece(KzPiece *piece)
         kz_tell(KZ_PAST_BUFFER, "FLT_CALLBACK_DATA", "memory %s a buffer of %llu bytes was written", where, size);
 }
 
+static void look_at_last(PFLT_FILTER filter);
+
 /* Looks at the memory of a filter, as its callback returns. */
 void kz_check_memory(PFLT_FILTER filter)
 {
     for (KzPiece *piece = pieces; piece; piece = piece->next)
         if (piece->filter == filter)
             kz_check_piece(piece);
+    look_at_last(filter);
 }
 
 /* And at the buffers of its operation. */
@@ -119,24 +122,41 @@ void kz_check_blocks(const KzOp *op)
         kz_check_piece((KzPiece *)((uint8_t *)block->bytes - ZONE - sizeof(KzPiece)));
 }
 
+/* Whether memory that was given back was written since: then that is told, once. */
+static void look_at(KzPiece *piece)
+{
+    char tag[8];
+    if (is_filled(body_of(piece), piece->size, GONE_BYTE))
+        return;
+    if (piece->kind == KZ_POOL)
+        kz_tell(KZ_WRITTEN_FREED, "ExFreePoolWithTag", "%llu bytes of a pool were written after they were freed, tag '%s'", (unsigned long long)piece->size,
+                kz_tag(piece->tag, tag));
+    else if (piece->kind == KZ_DATA)
+        kz_tell(KZ_WRITTEN_DATA, "FltCompletePendedPreOperation", "callback data was written after the operation was completed");
+    else
+        kz_tell(KZ_WRITTEN_CONTEXT, "FltReleaseContext", "%llu bytes were written after they were cleaned up", (unsigned long long)piece->size);
+    memset(body_of(piece), GONE_BYTE, piece->size);
+}
+
+/* The last few that a filter gave back, as its callback returns. */
+static void look_at_last(PFLT_FILTER filter)
+{
+    for (size_t at = 1; at <= 8; at++) {
+        KzPiece *piece = gone[(gone_next + KEPT - at) % KEPT];
+        if (piece && piece->filter == filter && piece->size <= 256)
+            look_at(piece);
+    }
+}
+
 static void forget(size_t place)
 {
     KzPiece *piece = gone[place];
     gone[place] = NULL;
     if (!piece)
         return;
-    if (!is_filled(body_of(piece), piece->size, GONE_BYTE)) {
-        KzPlace before = kz_enter(KZ_IN_NOTHING, piece->filter, NULL, NULL, NULL);
-        char tag[8];
-        if (piece->kind == KZ_POOL)
-            kz_tell(KZ_WRITTEN_FREED, "ExFreePoolWithTag", "%llu bytes of a pool were written after they were freed, tag '%s'", (unsigned long long)piece->size,
-                    kz_tag(piece->tag, tag));
-        else if (piece->kind == KZ_DATA)
-            kz_tell(KZ_WRITTEN_DATA, "FltCompletePendedPreOperation", "callback data was written after the operation was completed");
-        else
-            kz_tell(KZ_WRITTEN_CONTEXT, "FltReleaseContext", "%llu bytes were written after they were cleaned up", (unsigned long long)piece->size);
-        kz.place = before;
-    }
+    KzPlace before = kz_enter(KZ_IN_NOTHING, piece->filter, NULL, NULL, NULL);
+    look_at(piece);
+    kz.place = before;
     free(piece);
 }
 

@@ -172,6 +172,9 @@ NONE(KZ_SECURITY, FltQuerySecurityObject, PFLT_INSTANCE Instance, PFILE_OBJECT F
      PSECURITY_DESCRIPTOR SecurityDescriptor, ULONG Length, PULONG LengthNeeded)
 NONE(KZ_SECURITY, FltSetSecurityObject, PFLT_INSTANCE Instance, PFILE_OBJECT FileObject, SECURITY_INFORMATION SecurityInformation,
      PSECURITY_DESCRIPTOR SecurityDescriptor)
+NONE(KZ_OWN_IO, FltFlushBuffers2, PFLT_INSTANCE Instance, PFILE_OBJECT FileObject, ULONG FlushType, PFLT_CALLBACK_DATA CallbackData)
+NONE(KZ_OWN_IO, FltNotifyFilterChangeDirectory, PVOID NotifySync, PLIST_ENTRY NotifyList, PVOID FsContext, PVOID FullDirectoryName, BOOLEAN WatchTree,
+     BOOLEAN IgnoreBuffer, ULONG CompletionFilter, PFLT_CALLBACK_DATA NotifyCallbackData, PVOID TraverseCallback, PVOID SubjectContext, PVOID FilterCallback)
 NONE(KZ_OWN_IO, FltFlushBuffers, PFLT_INSTANCE Instance, PFILE_OBJECT FileObject)
 NONE(KZ_OWN_IO, FltFsControlFile, PFLT_INSTANCE Instance, PFILE_OBJECT FileObject, ULONG FsControlCode, PVOID InputBuffer, ULONG InputBufferLength,
      PVOID OutputBuffer, ULONG OutputBufferLength, PULONG LengthReturned)
@@ -365,6 +368,19 @@ NTSTATUS PsSetCreateProcessNotifyRoutineEx(PCREATE_PROCESS_NOTIFY_ROUTINE_EX Not
     return STATUS_SUCCESS;
 }
 
+NTSTATUS ObOpenObjectByPointer(PVOID Object, ULONG HandleAttributes, PVOID PassedAccessState, ACCESS_MASK DesiredAccess, POBJECT_TYPE ObjectType,
+                               KPROCESSOR_MODE AccessMode, PHANDLE Handle)
+{
+    *Handle = NULL;
+    return none(KZ_SECURITY, __func__);
+}
+
+NTSTATUS SeLocateProcessImageName(PEPROCESS Process, PUNICODE_STRING *ImageFileName)
+{
+    *ImageFileName = NULL;
+    return none(KZ_SECURITY, __func__);
+}
+
 NTSTATUS SeQueryInformationToken(PACCESS_TOKEN Token, ULONG TokenInformationClass, PVOID *TokenInformation)
 {
     *TokenInformation = NULL;
@@ -379,6 +395,53 @@ PACCESS_TOKEN PsReferencePrimaryToken(PEPROCESS Process)
 
 VOID PsDereferencePrimaryToken(PACCESS_TOKEN PrimaryToken)
 {
+}
+
+/* A routine that an older filter manager lacks: whoever asks for one copes with none. */
+PVOID FltGetRoutineAddress(PCSTR FltMgrRoutineName)
+{
+    return NULL;
+}
+
+/* Devices of a driver's own. */
+NTSTATUS IoCreateDevice(PDRIVER_OBJECT DriverObject, ULONG DeviceExtensionSize, PUNICODE_STRING DeviceName, DEVICE_TYPE DeviceType, ULONG DeviceCharacteristics,
+                        BOOLEAN Exclusive, PDEVICE_OBJECT *DeviceObject)
+{
+    kz_tell(KZ_DEVICE, __func__, "the device is made, and nobody ever opens it");
+    PDEVICE_OBJECT made = ExAllocatePoolZero(NonPagedPool, sizeof *made + DeviceExtensionSize, 'iveD');
+    *DeviceObject = made;
+    if (!made)
+        return STATUS_INSUFFICIENT_RESOURCES;
+    made->Type = 3;
+    made->Size = (USHORT)(sizeof *made + DeviceExtensionSize);
+    made->DriverObject = DriverObject;
+    made->DeviceType = DeviceType;
+    made->Characteristics = DeviceCharacteristics;
+    made->DeviceExtension = made + 1;
+    made->Flags = DO_DEVICE_INITIALIZING;
+    made->NextDevice = DriverObject->DeviceObject;
+    DriverObject->DeviceObject = made;
+    return STATUS_SUCCESS;
+}
+
+VOID IoDeleteDevice(PDEVICE_OBJECT DeviceObject)
+{
+    ExFreePoolWithTag(DeviceObject, 'iveD');
+}
+
+NTSTATUS IoCreateSymbolicLink(PUNICODE_STRING SymbolicLinkName, PUNICODE_STRING DeviceName)
+{
+    return STATUS_SUCCESS;
+}
+
+NTSTATUS IoDeleteSymbolicLink(PUNICODE_STRING SymbolicLinkName)
+{
+    return STATUS_SUCCESS;
+}
+
+BOOLEAN IoIs32bitProcess(PIRP Irp)
+{
+    return FALSE;
 }
 
 /* The manager's own requests, made by a driver. */

@@ -109,6 +109,7 @@ typedef enum {
     KZ_EXCEPTION = 242,
     KZ_NOTIFY = 243,
     KZ_ATTACH = 244,
+    KZ_DEVICE = 245,
     KZ_MESSAGES = 300
 } KzMessage;
 

@@ -347,3 +347,45 @@ NTSTATUS FltGetBottomInstance(PFLT_VOLUME Volume, PFLT_INSTANCE *Instance)
 {
     return give_instance(outermost(Volume, -1), Instance, __func__);
 }
+
+/* The next one above (1) or below (-1). */
+static PFLT_INSTANCE next_to(PFLT_INSTANCE from, int side)
+{
+    PFLT_INSTANCE found = NULL;
+    for (size_t at = 0; at < kz.instances_count; at++) {
+        PFLT_INSTANCE one = kz.instances[at];
+        if (is_there(one, from->volume, NULL) && compare_altitudes(one->altitude, from->altitude) == side &&
+            (!found || compare_altitudes(found->altitude, one->altitude) == side))
+            found = one;
+    }
+    return found;
+}
+
+NTSTATUS FltGetUpperInstance(PFLT_INSTANCE CurrentInstance, PFLT_INSTANCE *UpperInstance)
+{
+    NTSTATUS status = give_instance(next_to(CurrentInstance, 1), UpperInstance, __func__);
+    return NT_SUCCESS(status) ? status : STATUS_NO_MORE_ENTRIES;
+}
+
+NTSTATUS FltGetLowerInstance(PFLT_INSTANCE CurrentInstance, PFLT_INSTANCE *LowerInstance)
+{
+    NTSTATUS status = give_instance(next_to(CurrentInstance, -1), LowerInstance, __func__);
+    return NT_SUCCESS(status) ? status : STATUS_NO_MORE_ENTRIES;
+}
+
+NTSTATUS FltEnumerateFilters(PFLT_FILTER *FilterList, ULONG FilterListSize, PULONG NumberFiltersReturned)
+{
+    ULONG count = 0;
+    for (size_t at = 0; at < kz.filters_count; at++)
+        count += kz.filters[at]->phase == KZ_LOADED;
+    *NumberFiltersReturned = count;
+    if (!FilterList || FilterListSize < count)
+        return STATUS_BUFFER_TOO_SMALL;
+    count = 0;
+    for (size_t at = 0; at < kz.filters_count; at++)
+        if (kz.filters[at]->phase == KZ_LOADED) {
+            FilterList[count++] = kz.filters[at];
+            kz_take_object(kz.filters[at], true, __func__);
+        }
+    return STATUS_SUCCESS;
+}

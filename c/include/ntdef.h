@@ -392,6 +392,11 @@ KZ_BEGIN
     UNICODE_STRING name = {0, (letters) * sizeof(WCHAR), name##_buffer}
 #define DECLARE_GLOBAL_CONST_UNICODE_STRING(name, text) static const UNICODE_STRING name = RTL_CONSTANT_STRING(text)
 #define ROUND_TO_SIZE(n, to) ((((ULONG_PTR)(n)) + ((to) - 1)) & ~(ULONG_PTR)((to) - 1))
+#define IS_ALIGNED(p, to) (((ULONG_PTR)(p) & ((to) - 1)) == 0)
+#define WORD_ALIGN(n) ALIGN_UP_BY(n, 2)
+#define LONG_ALIGN(n) ALIGN_UP_BY(n, 4)
+#define LongAlign(n) ALIGN_UP_BY(n, 4)
+#define QuadAlign(n) ALIGN_UP_BY(n, 8)
 #define ALIGN_DOWN_BY(n, to) ((ULONG_PTR)(n) & ~((ULONG_PTR)(to) - 1))
 #define ALIGN_UP_BY(n, to) ALIGN_DOWN_BY((ULONG_PTR)(n) + (to) - 1, to)
 #define ALIGN_DOWN(n, type) ALIGN_DOWN_BY(n, sizeof(type))

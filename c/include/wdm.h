@@ -883,6 +883,54 @@ struct DECLSPEC_ALIGN(16) _DEVICE_OBJECT {
     PVOID Reserved;
 };
 KZ_ASSERT(sizeof(DEVICE_OBJECT) == 0x150, "layout");
+/* A device of the driver's own is made, and nobody ever opens it. Of an IRP the answer alone is there. */
+struct _IRP {
+    CSHORT Type;
+    USHORT Size;
+    PMDL MdlAddress;
+    ULONG Flags;
+    PVOID SystemBuffer;
+    LIST_ENTRY ThreadListEntry;
+    IO_STATUS_BLOCK IoStatus;
+    KPROCESSOR_MODE RequestorMode;
+    PVOID UserBuffer;
+    struct _IO_STACK_LOCATION *CurrentStackLocation;
+};
+typedef struct _IO_STACK_LOCATION {
+    UCHAR MajorFunction;
+    UCHAR MinorFunction;
+    UCHAR Flags;
+    UCHAR Control;
+    union {
+        struct {
+            ULONG OutputBufferLength;
+            ULONG POINTER_ALIGNMENT InputBufferLength;
+            ULONG POINTER_ALIGNMENT IoControlCode;
+            PVOID Type3InputBuffer;
+        } DeviceIoControl;
+        struct {
+            ULONG Length;
+            ULONG POINTER_ALIGNMENT Key;
+            LARGE_INTEGER ByteOffset;
+        } Read;
+        struct {
+            PVOID Argument1;
+            PVOID Argument2;
+            PVOID Argument3;
+            PVOID Argument4;
+        } Others;
+    } Parameters;
+    PDEVICE_OBJECT DeviceObject;
+    struct _FILE_OBJECT *FileObject;
+} IO_STACK_LOCATION, *PIO_STACK_LOCATION;
+#define IoGetCurrentIrpStackLocation(irp) ((irp)->CurrentStackLocation)
+#define IoCompleteRequest(irp, boost) ((void)(irp), (void)(boost))
+NTSTATUS IoCreateDevice(PDRIVER_OBJECT DriverObject, ULONG DeviceExtensionSize, PUNICODE_STRING DeviceName, DEVICE_TYPE DeviceType, ULONG DeviceCharacteristics,
+                        BOOLEAN Exclusive, PDEVICE_OBJECT *DeviceObject);
+VOID IoDeleteDevice(PDEVICE_OBJECT DeviceObject);
+NTSTATUS IoCreateSymbolicLink(PUNICODE_STRING SymbolicLinkName, PUNICODE_STRING DeviceName);
+NTSTATUS IoDeleteSymbolicLink(PUNICODE_STRING SymbolicLinkName);
+BOOLEAN IoIs32bitProcess(PIRP Irp);
 #define DO_VERIFY_VOLUME 0x00000002
 #define DO_BUFFERED_IO 0x00000004
 #define DO_EXCLUSIVE 0x00000008
@@ -1031,7 +1079,6 @@ BOOLEAN RtlIsNtDdiVersionAvailable(ULONG Version);
 ULONG RtlRandomEx(PULONG Seed);
 #define RtlRandom RtlRandomEx
 #define RtlRaiseStatus ExRaiseStatus
-BOOLEAN ExGetPreviousMode_(VOID);
 KPROCESSOR_MODE ExGetPreviousMode(VOID);
 NTSTATUS ExUuidCreate(GUID *Uuid);
 

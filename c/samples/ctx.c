@@ -7,18 +7,18 @@
 #define CTX_INSTANCE_TAG 'cIxC'
 
 typedef struct _CTX_INSTANCE_CONTEXT {
-    ULONG Streams;
+    LONG Streams;
 } CTX_INSTANCE_CONTEXT, *PCTX_INSTANCE_CONTEXT;
 
 typedef struct _CTX_STREAM_CONTEXT {
     UNICODE_STRING FileName;
-    ULONG Creates;
-    ULONG Writes;
-    ULONG Reads;
+    LONG Creates;
+    LONG Writes;
+    LONG Reads;
 } CTX_STREAM_CONTEXT, *PCTX_STREAM_CONTEXT;
 
 typedef struct _CTX_STREAMHANDLE_CONTEXT {
-    ULONG Written;
+    LONG Written;
 } CTX_STREAMHANDLE_CONTEXT, *PCTX_STREAMHANDLE_CONTEXT;
 
 PFLT_FILTER gFilterHandle;
@@ -102,7 +102,7 @@ static NTSTATUS CtxFindOrCreateStreamContext(_In_ PFLT_CALLBACK_DATA Data, _In_ 
             FltReleaseContext(streamContext);
             return status;
         } else if (NT_SUCCESS(FltGetInstanceContext(FltObjects->Instance, (PFLT_CONTEXT *)&instanceContext))) {
-            instanceContext->Streams++;
+            InterlockedIncrement(&instanceContext->Streams);
             FltReleaseContext(instanceContext);
         }
     }
@@ -145,7 +145,7 @@ static FLT_POSTOP_CALLBACK_STATUS CtxPostCreate(_Inout_ PFLT_CALLBACK_DATA Data,
         return FLT_POSTOP_FINISHED_PROCESSING;
     }
     if (NT_SUCCESS(CtxFindOrCreateStreamContext(Data, FltObjects, &streamContext))) {
-        streamContext->Creates++;
+        InterlockedIncrement(&streamContext->Creates);
         FltReleaseContext(streamContext);
     }
     CtxSetStreamHandleContext(FltObjects);
@@ -161,11 +161,11 @@ static FLT_PREOP_CALLBACK_STATUS CtxPreWrite(_Inout_ PFLT_CALLBACK_DATA Data, _I
     UNREFERENCED_PARAMETER(CompletionContext);
 
     if (NT_SUCCESS(FltGetStreamContext(FltObjects->Instance, FltObjects->FileObject, (PFLT_CONTEXT *)&streamContext))) {
-        streamContext->Writes++;
+        InterlockedIncrement(&streamContext->Writes);
         FltReleaseContext(streamContext);
     }
     if (NT_SUCCESS(FltGetStreamHandleContext(FltObjects->Instance, FltObjects->FileObject, (PFLT_CONTEXT *)&streamHandleContext))) {
-        streamHandleContext->Written += Data->Iopb->Parameters.Write.Length;
+        InterlockedExchangeAdd(&streamHandleContext->Written, (LONG)Data->Iopb->Parameters.Write.Length);
         FltReleaseContext(streamHandleContext);
     }
     return FLT_PREOP_SUCCESS_NO_CALLBACK;
@@ -195,7 +195,7 @@ static FLT_POSTOP_CALLBACK_STATUS CtxPostRead(_Inout_ PFLT_CALLBACK_DATA Data, _
     UNREFERENCED_PARAMETER(FltObjects);
 
     if (!FlagOn(Flags, FLTFL_POST_OPERATION_DRAINING)) {
-        streamContext->Reads++;
+        InterlockedIncrement(&streamContext->Reads);
     }
     FltReleaseContext(streamContext);
     return FLT_POSTOP_FINISHED_PROCESSING;

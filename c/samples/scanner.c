@@ -5,7 +5,7 @@
 #define SCANNER_TAG 'nacS'
 
 typedef struct _SCANNER_STREAM_HANDLE_CONTEXT {
-    ULONG Denied;
+    LONG Denied;
 } SCANNER_STREAM_HANDLE_CONTEXT, *PSCANNER_STREAM_HANDLE_CONTEXT;
 
 PFLT_FILTER gFilterHandle;
@@ -90,7 +90,7 @@ static FLT_PREOP_CALLBACK_STATUS ScannerPreWrite(_Inout_ PFLT_CALLBACK_DATA Data
     }
     if (ScannerIsFoul(buffer, Data->Iopb->Parameters.Write.Length)) {
         DbgPrint("Scanner: a foul write of %u bytes is denied\n", Data->Iopb->Parameters.Write.Length);
-        scannerContext->Denied++;
+        InterlockedIncrement(&scannerContext->Denied);
         Data->IoStatus.Status = STATUS_ACCESS_DENIED;
         Data->IoStatus.Information = 0;
         returnStatus = FLT_PREOP_COMPLETE;

@@ -14,8 +14,8 @@
 
 typedef struct _VOLUME_CONTEXT {
     UNICODE_STRING Name;
-    ULONG Reads;
-    ULONG Writes;
+    LONG Reads;
+    LONG Writes;
 } VOLUME_CONTEXT, *PVOLUME_CONTEXT;
 
 typedef struct _PRE_2_POST_CONTEXT {
@@ -82,34 +82,38 @@ static NTSTATUS InstanceSetup(_In_ PCFLT_RELATED_OBJECTS FltObjects, _In_ FLT_IN
     return status;
 }
 
-/* A buffer with its description; NULL if there is no memory. */
-static PVOID NewBuffer(_In_ ULONG Length, _Outptr_ PMDL *Mdl)
-{
-    PVOID buffer = ExAllocatePoolWithTag(NonPagedPool, Length, BUFFER_SWAP_TAG);
-
-    *Mdl = NULL;
-    if (buffer == NULL) {
-        return NULL;
-    }
-    *Mdl = IoAllocateMdl(buffer, Length, FALSE, FALSE, NULL);
-    if (*Mdl == NULL) {
-        ExFreePoolWithTag(buffer, BUFFER_SWAP_TAG);
-        return NULL;
-    }
-    MmBuildMdlForNonPagedPool(*Mdl);
-    return buffer;
-}
-
-/* What goes along to the postoperation: the buffer and the volume context, with its reference. */
-static FLT_PREOP_CALLBACK_STATUS Hand(_In_ PVOLUME_CONTEXT VolCtx, _In_ PVOID Buffer, _Flt_CompletionContext_Outptr_ PVOID *CompletionContext)
+/* What goes along to the postoperation: a buffer, and the volume context with its reference. NULL if there is no memory. */
+static PPRE_2_POST_CONTEXT NewSwap(_In_ PVOLUME_CONTEXT VolCtx, _In_ ULONG Length, _Outptr_ PMDL *Mdl)
 {
     PPRE_2_POST_CONTEXT p2pCtx = ExAllocateFromNPagedLookasideList(&Pre2PostContextList);
 
-    FLT_ASSERT(p2pCtx != NULL);
-    p2pCtx->SwappedBuffer = Buffer;
+    *Mdl = NULL;
+    if (p2pCtx == NULL) {
+        return NULL;
+    }
     p2pCtx->VolCtx = VolCtx;
-    *CompletionContext = p2pCtx;
-    return FLT_PREOP_SUCCESS_WITH_CALLBACK;
+    p2pCtx->SwappedBuffer = ExAllocatePoolWithTag(NonPagedPool, Length, BUFFER_SWAP_TAG);
+    if (p2pCtx->SwappedBuffer != NULL) {
+        *Mdl = IoAllocateMdl(p2pCtx->SwappedBuffer, Length, FALSE, FALSE, NULL);
+    }
+    if (*Mdl == NULL) {
+        if (p2pCtx->SwappedBuffer != NULL) {
+            ExFreePoolWithTag(p2pCtx->SwappedBuffer, BUFFER_SWAP_TAG);
+        }
+        ExFreeToNPagedLookasideList(&Pre2PostContextList, p2pCtx);
+        return NULL;
+    }
+    MmBuildMdlForNonPagedPool(*Mdl);
+    return p2pCtx;
+}
+
+/* Without memory the operation fails: what is written mustn't come to the disk as it is. */
+static FLT_PREOP_CALLBACK_STATUS Fail(_Inout_ PFLT_CALLBACK_DATA Data, _In_ PVOLUME_CONTEXT VolCtx)
+{
+    FltReleaseContext(VolCtx);
+    Data->IoStatus.Status = STATUS_INSUFFICIENT_RESOURCES;
+    Data->IoStatus.Information = 0;
+    return FLT_PREOP_COMPLETE;
 }
 
 static VOID LetGo(_In_ PPRE_2_POST_CONTEXT P2pCtx)
@@ -123,22 +127,22 @@ static FLT_PREOP_CALLBACK_STATUS SwapPreReadBuffers(_Inout_ PFLT_CALLBACK_DATA D
                                                     _Flt_CompletionContext_Outptr_ PVOID *CompletionContext)
 {
     PFLT_IO_PARAMETER_BLOCK iopb = Data->Iopb;
+    PPRE_2_POST_CONTEXT p2pCtx;
     PVOLUME_CONTEXT volCtx;
-    PVOID newBuf;
     PMDL newMdl;
 
     if (iopb->Parameters.Read.Length == 0 || !NT_SUCCESS(FltGetVolumeContext(FltObjects->Filter, FltObjects->Volume, (PFLT_CONTEXT *)&volCtx))) {
         return FLT_PREOP_SUCCESS_NO_CALLBACK;
     }
-    newBuf = NewBuffer(iopb->Parameters.Read.Length, &newMdl);
-    if (newBuf == NULL) {
-        FltReleaseContext(volCtx);
-        return FLT_PREOP_SUCCESS_NO_CALLBACK;
+    p2pCtx = NewSwap(volCtx, iopb->Parameters.Read.Length, &newMdl);
+    if (p2pCtx == NULL) {
+        return Fail(Data, volCtx);
     }
-    iopb->Parameters.Read.ReadBuffer = newBuf;
+    iopb->Parameters.Read.ReadBuffer = p2pCtx->SwappedBuffer;
     iopb->Parameters.Read.MdlAddress = newMdl;
     FltSetCallbackDataDirty(Data);
-    return Hand(volCtx, newBuf, CompletionContext);
+    *CompletionContext = p2pCtx;
+    return FLT_PREOP_SUCCESS_WITH_CALLBACK;
 }
 
 static FLT_POSTOP_CALLBACK_STATUS SwapPostReadBuffers(_Inout_ PFLT_CALLBACK_DATA Data, _In_ PCFLT_RELATED_OBJECTS FltObjects,
@@ -151,7 +155,7 @@ static FLT_POSTOP_CALLBACK_STATUS SwapPostReadBuffers(_Inout_ PFLT_CALLBACK_DATA
     UNREFERENCED_PARAMETER(FltObjects);
 
     if (!FlagOn(Flags, FLTFL_POST_OPERATION_DRAINING)) {
-        p2pCtx->VolCtx->Reads++;
+        InterlockedIncrement(&p2pCtx->VolCtx->Reads);
         if (NT_SUCCESS(Data->IoStatus.Status) && Data->IoStatus.Information != 0) {
             origBuf = iopb->Parameters.Read.MdlAddress != NULL ? MmGetSystemAddressForMdlSafe(iopb->Parameters.Read.MdlAddress, NormalPagePriority)
                                                                : iopb->Parameters.Read.ReadBuffer;
@@ -166,24 +170,24 @@ static FLT_PREOP_CALLBACK_STATUS SwapPreWriteBuffers(_Inout_ PFLT_CALLBACK_DATA 
                                                      _Flt_CompletionContext_Outptr_ PVOID *CompletionContext)
 {
     PFLT_IO_PARAMETER_BLOCK iopb = Data->Iopb;
+    PPRE_2_POST_CONTEXT p2pCtx;
     PVOLUME_CONTEXT volCtx;
-    PVOID newBuf;
     PMDL newMdl;
 
     if (iopb->Parameters.Write.Length == 0 || !NT_SUCCESS(FltGetVolumeContext(FltObjects->Filter, FltObjects->Volume, (PFLT_CONTEXT *)&volCtx))) {
         return FLT_PREOP_SUCCESS_NO_CALLBACK;
     }
-    newBuf = NewBuffer(iopb->Parameters.Write.Length, &newMdl);
-    if (newBuf == NULL) {
-        FltReleaseContext(volCtx);
-        return FLT_PREOP_SUCCESS_NO_CALLBACK;
+    p2pCtx = NewSwap(volCtx, iopb->Parameters.Write.Length, &newMdl);
+    if (p2pCtx == NULL) {
+        return Fail(Data, volCtx);
     }
-    TurnBytes(newBuf, iopb->Parameters.Write.WriteBuffer, iopb->Parameters.Write.Length);
-    iopb->Parameters.Write.WriteBuffer = newBuf;
+    TurnBytes(p2pCtx->SwappedBuffer, iopb->Parameters.Write.WriteBuffer, iopb->Parameters.Write.Length);
+    iopb->Parameters.Write.WriteBuffer = p2pCtx->SwappedBuffer;
     iopb->Parameters.Write.MdlAddress = newMdl;
     FltSetCallbackDataDirty(Data);
-    volCtx->Writes++;
-    return Hand(volCtx, newBuf, CompletionContext);
+    InterlockedIncrement(&volCtx->Writes);
+    *CompletionContext = p2pCtx;
+    return FLT_PREOP_SUCCESS_WITH_CALLBACK;
 }
 
 static FLT_POSTOP_CALLBACK_STATUS SwapPostWriteBuffers(_Inout_ PFLT_CALLBACK_DATA Data, _In_ PCFLT_RELATED_OBJECTS FltObjects,

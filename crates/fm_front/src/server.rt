@@ -139,19 +139,19 @@ impl<'a, L: Ledger, R: Wait> Shared<'a, L, R> {
 
 impl<'a, L: Ledger, R: Wait> Shared<'a, L, R> {
     // What the threads own.
-    fn staff<D: Device>(
+    fn parts<D: Device>(
         &self,
         passes: &mut Vec<JobPass>,
         seats: &mut Vec<GateSeat>,
         workers: Vec<D>,
         connections: Vec<D>,
-    ) -> Result<Staff<'a, L, R, D>, Status>
+    ) -> Result<Parts<'a, L, R, D>, Status>
         requires passes { All (λ pass. IsPassOf self.now.queue.now pass) passes.old.items }
         requires seats { All (λ seat. IsSeatOf self.now.rundown.now seat) seats.old.items }
     {
         let workers = self.workers(passes, workers)?;
         let connections = self.connections(passes, seats, connections)?;
-        Ok(Staff {
+        Ok(Parts {
             workers,
             connections,
         })
@@ -240,13 +240,13 @@ fn end_filters<L: Ledger, R: Wait, D: Device>(all: &mut [Connection<'_, L, R, D>
 
 // The hands of these threads. There is room for them.
 fn gather_hands<L: Ledger, R: Wait, D: Device>(
-    staff: Staff<'_, L, R, D>,
+    parts: Parts<'_, L, R, D>,
     hands: &mut Vec<Hand<L>>,
 ) {
-    let Staff {
+    let Parts {
         workers,
         connections,
-    } = staff;
+    } = parts;
     gather_workers(workers, hands);
     for connection in connections {
         let _ = hands.push(connection.into_hand());
@@ -272,7 +272,7 @@ struct Outcome {
 
 /// What the threads of a server own: workers, and places for connections.
 #[derive(Drop)]
-struct Staff<'a, L: Ledger, R: Wait, D: Device> {
+struct Parts<'a, L: Ledger, R: Wait, D: Device> {
     workers: Vec<ServerWorker<'a, L, R, D>>,
     connections: Vec<Connection<'a, L, R, D>>,
 }
@@ -316,21 +316,21 @@ fn serve_beside<'a, L, R, D, W>(
     connections: &Connections<'_, R>,
     leftovers: &Leftovers,
     manager: &Manager<Sample, L>,
-    staff: Staff<'a, L, R, D>,
+    parts: Parts<'a, L, R, D>,
     listener: UnixListener,
     incoming: Incoming,
     out: W,
-) -> (Outcome, Staff<'a, L, R, D>, W)
+) -> (Outcome, Parts<'a, L, R, D>, W)
 where
     L: Ledger + Send + Sync,
     R: Threads + Wait + Sync + Clock + Net<Listener = TcpListener, Stream = TcpStream>,
     D: Device + Send,
     W: Write + Drop,
 {
-    let Staff {
+    let Parts {
         mut workers,
         connections: mut all,
-    } = staff;
+    } = parts;
     let rt = connections.rt();
     let every = workers.iter_mut();
     let (outcome, mut all, out) = thread::scope(thread::scope_env(), rt, |scope| {
@@ -353,7 +353,7 @@ where
     end_filters(&mut all, manager.filters(rt));
     (
         outcome,
-        Staff {
+        Parts {
             workers,
             connections: all,
         },
@@ -407,24 +407,24 @@ where
         Ok(hands) => hands,
         Err(_) => return (Err(Status::NoMemory), out),
     };
-    let staff = match shared.staff(&mut passes, &mut seats, workers, connections) {
-        Ok(staff) => staff,
+    let parts = match shared.parts(&mut passes, &mut seats, workers, connections) {
+        Ok(parts) => parts,
         Err(status) => return (Err(status), out),
     };
     let (connections, incoming) = match Connections::new(rt, alloc, bell) {
         Ok(made) => made,
         Err(status) => return (Err(status), out),
     };
-    let (outcome, staff, out) = serve_beside(
+    let (outcome, parts, out) = serve_beside(
         &connections,
         &leftovers,
         manager,
-        staff,
+        parts,
         listener,
         incoming,
         out,
     );
-    gather_hands(staff, &mut hands);
+    gather_hands(parts, &mut hands);
     (Ok((outcome, hands)), out)
 }
 

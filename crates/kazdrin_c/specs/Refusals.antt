@@ -7,7 +7,6 @@ use Rattle.fm_types.specs.Paths.{IsPath}
 use Rattle.fm_altitude.specs.Grammar.{IsAltitude}
 use Rattle.fm_world.specs.declared.step.Step.{Step}
 use Rattle.kazdrin_c.specs.declared.event.KazdrinEvent.{KazdrinEvent}
-use Rattle.kazdrin_c.specs.Named.{step_named}
 
 -- those that take memory for what C passes: a create, a write, an allocation, a write of a body
 abbrev pub takes_memory : KazdrinEvent → Bool

@@ -149,6 +149,11 @@ fn a_stop_in_a_begun_dismount(rt: HostRuntime) {
     assert!(rt; goes_well(&rt, &rt, "begun", Talk::Begun) == Some(true));
 }
 
+#[test]
+fn a_held_read_waits_for_a_flush(rt: HostRuntime) {
+    assert!(rt; goes_well(&rt, &rt, "waits", Talk::Waits) == Some(true));
+}
+
 // What a server prints that can't serve, and its exit status.
 fn refuses<R>(
     host: &R,

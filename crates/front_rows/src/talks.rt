@@ -1,7 +1,7 @@
 //! What clients do with a server until it ends.
 
 use crate::lines::{DONE, Line, ask, ask_all, comes, wait_for_server};
-use crate::peer::{exchange, follow, is_done, send};
+use crate::peer::{exchange, follow, is_done, send, take};
 use crate::steps::{BEGINS, CLOSES, ENDS, HOLDS, REFUSED, SHARES, WRITES};
 use fm_words::Front;
 use std::alloc::{AllocError, Global};
@@ -10,7 +10,12 @@ use std::io::Write;
 use std::net::{Net, TcpListener, TcpStream};
 use std::os::unix::net::UnixStream;
 use std::rt::Files;
-use std::time::Clock;
+use std::time::{Clock, Duration};
+
+/// How many milliseconds a reply is waited for that may not come, and how often a file is flushed then.
+const PATIENCE: u64 = 30;
+
+const FLUSHES: u32 = 1_000;
 
 /// What a client does.
 #[derive(Clone, Copy)]
@@ -33,6 +38,8 @@ pub enum Talk {
     Vanished,
     /// A Stop comes in a dismount that has begun.
     Begun,
+    /// A read waits for another connection's flush.
+    Waits,
 }
 
 // So many connections.
@@ -177,6 +184,33 @@ where
     Some(follow(alloc, streams.as_slice(), &BEGINS) && is_well)
 }
 
+// A read that a filter holds has no answer, until another connection flushes another file.
+fn waits<R>(rt: &R, alloc: Global, at: &Front) -> Option<bool>
+where
+    R: Net<Listener = TcpListener, Stream = TcpStream>,
+{
+    let streams = connect(rt, alloc, at, 2)?;
+    let (reader, other) = (streams.first()?, streams.get(1)?);
+    let is_well = follow(alloc, streams.as_slice(), &HOLDS);
+    exchange(alloc, other, &["create", "0", "new", "y"])?;
+    reader
+        .set_read_timeout(Some(Duration::from_millis(PATIENCE)))
+        .ok()?;
+    send(alloc, reader, &["read", "0", "0", "9"])?;
+    if take(alloc, reader).is_some() {
+        return Some(false);
+    }
+    for _ in 0..FLUSHES {
+        exchange(alloc, other, &["flush", "1"])?;
+        if let Some((status, information, bytes)) = take(alloc, reader) {
+            return Some(
+                is_well && status == 0 && information == 1 && bytes.as_slice() == b"a".as_slice(),
+            );
+        }
+    }
+    None
+}
+
 // Whether a client is told what it should be, in a talk that stops the server itself.
 fn talk_to_end<R>(rt: &R, alloc: Global, at: &Front, talk: Talk) -> Option<bool>
 where
@@ -189,7 +223,7 @@ where
         Talk::Dismounted => dismounted(rt, alloc, at),
         Talk::Removed => removed(rt, alloc, at),
         Talk::Begun => begun(rt, alloc, at),
-        Talk::Crowd | Talk::Cut | Talk::Vanished => None,
+        Talk::Crowd | Talk::Cut | Talk::Vanished | Talk::Waits => None,
     }
 }
 
@@ -203,6 +237,7 @@ where
         Talk::Crowd => crowd(rt, alloc, at),
         Talk::Cut => cut(rt, alloc, at),
         Talk::Vanished => vanished(rt, alloc, at),
+        Talk::Waits => waits(rt, alloc, at),
         other => {
             let is_well = talk_to_end(rt, alloc, at, other) == Some(true);
             if !is_well {

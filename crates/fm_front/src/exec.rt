@@ -48,6 +48,13 @@ fn has(handles: &[HandleId], handle: HandleId) -> bool
     handles.iter().any(|own| own.0 == handle.0)
 }
 
+// Takes the handle of that number away from these.
+fn forget(handles: &mut Vec<HandleId>, handle: HandleId)
+    ensures { ClosesHandle handle handles.old.items handles.new.items }
+{
+    handles.retain(|own| own.0 != handle.0);
+}
+
 /// Whether an operation is asked for on a handle that is none of these.
 pub(crate) fn is_foreign(handles: &[HandleId], request: &Request) -> bool
     ensures { result ≡ is_foreign handles.now request.now }
@@ -141,7 +148,7 @@ impl<L: Ledger, R: Wait + Clock, D: Device> ManagerExec<'_, L, R, D> {
             Ok(answer) => answer,
             Err(unanswered) => return Err(unanswered),
         };
-        self.handles.retain(|own| own.0 != handle.0);
+        forget(&mut self.handles, handle);
         Ok(answer)
     }
 

@@ -495,9 +495,14 @@ static void show_answer(KzOp *op)
             op->data->IoStatus.Information = sizeof(FILE_STANDARD_INFORMATION);
         }
         break;
-    case KZ_LIST:
-        op->data->IoStatus.Information = show_names(op->answered, op->answered_length, below, room);
+    case KZ_LIST: {
+        size_t size = show_names(op->answered, op->answered_length, below, room);
+        op->data->IoStatus.Information = size;
+        /* Names that have no room in the buffer aren't shown, and aren't lost: what the callback saw is what its answer is compared with. */
+        op->answered_length = names_in(below, size, op->answered, op->answered_length);
+        op->lent.information = op->answered_length;
         break;
+    }
     }
 }
 

@@ -10,7 +10,7 @@ extern void __asan_unpoison_memory_region(const volatile void *start, size_t siz
 
 enum { ZONE = 32, ZONE_BYTE = 0xfd, GONE_BYTE = 0xdd };
 /* How much of what was given back is kept, to see whether it is written. */
-enum { KEPT = 64, KEPT_BYTES = 65536 };
+enum { KEPT = 64, KEPT_BYTES = 4096 };
 
 /* All pieces, the newest first, and those that were given back. Whoever has the manager has these too. */
 static KzPiece *pieces;
@@ -20,11 +20,6 @@ static size_t gone_next;
 static uint8_t *body_of(const KzPiece *piece)
 {
     return (uint8_t *)piece + sizeof *piece + ZONE;
-}
-
-static size_t all_of(const KzPiece *piece)
-{
-    return sizeof *piece + ZONE + piece->size + ZONE;
 }
 
 static void shut(const KzPiece *piece)
@@ -171,7 +166,6 @@ void kz_give_back(void *memory)
         piece->next->before = piece->before;
     open_all(piece);
     if (__asan_poison_memory_region || piece->size > KEPT_BYTES) {
-        memset(piece, GONE_BYTE, all_of(piece));
         free(piece);
         return;
     }

@@ -33,7 +33,7 @@ enum {
 
 #define KZ_BYTES 32768
 /* A listing's buffer, and the most that a driver is given at once. */
-#define KZ_LIST_BYTES 65536
+#define KZ_LIST_BYTES 16384
 #define KZ_LARGEST ((size_t)1 << 30)
 
 typedef enum {
@@ -202,7 +202,7 @@ typedef struct {
     KzCounts counts;
     KazdrinTold told;
     uint64_t process, thread; /* who asks */
-    uint8_t room[KZ_LIST_BYTES + 64];
+    uint8_t room[KZ_BYTES + 64];
 } KzHost;
 
 extern KzHost kz;

@@ -358,13 +358,15 @@ NONE(KZ_THREAD, PsTerminateSystemThread, NTSTATUS ExitStatus)
 
 NTSTATUS PsSetCreateProcessNotifyRoutine(PCREATE_PROCESS_NOTIFY_ROUTINE NotifyRoutine, BOOLEAN Remove)
 {
-    kz_tell(KZ_NOTIFY, __func__, "no process begins or ends: the routine is never called");
+    if (!Remove)
+        kz_tell(KZ_NOTIFY, __func__, "no process begins or ends: the routine is never called");
     return STATUS_SUCCESS;
 }
 
 NTSTATUS PsSetCreateProcessNotifyRoutineEx(PCREATE_PROCESS_NOTIFY_ROUTINE_EX NotifyRoutine, BOOLEAN Remove)
 {
-    kz_tell(KZ_NOTIFY, __func__, "no process begins or ends: the routine is never called");
+    if (!Remove)
+        kz_tell(KZ_NOTIFY, __func__, "no process begins or ends: the routine is never called");
     return STATUS_SUCCESS;
 }
 
@@ -379,6 +381,33 @@ NTSTATUS SeLocateProcessImageName(PEPROCESS Process, PUNICODE_STRING *ImageFileN
 {
     *ImageFileName = NULL;
     return none(KZ_SECURITY, __func__);
+}
+
+NONE(KZ_SECURITY, ZwQueryInformationProcess, HANDLE ProcessHandle, ULONG ProcessInformationClass, PVOID ProcessInformation, ULONG ProcessInformationLength,
+     PULONG ReturnLength)
+NONE(KZ_SECTION, ZwMapViewOfSection, HANDLE SectionHandle, HANDLE ProcessHandle, PVOID *BaseAddress, ULONG_PTR ZeroBits, SIZE_T CommitSize,
+     PLARGE_INTEGER SectionOffset, PSIZE_T ViewSize, ULONG InheritDisposition, ULONG AllocationType, ULONG Win32Protect)
+NONE(KZ_SECTION, ZwUnmapViewOfSection, HANDLE ProcessHandle, PVOID BaseAddress)
+NONE(KZ_OWN_IO, FsRtlGetFileSize, PFILE_OBJECT FileObject, PLARGE_INTEGER FileSize)
+
+/* No file is opened in a transaction. */
+PTXN_PARAMETER_BLOCK IoGetTransactionParameterBlock(PFILE_OBJECT FileObject)
+{
+    return NULL;
+}
+
+#define NEVER(name, ...)                                                                    NTSTATUS name(__VA_ARGS__)                                                              {                                                                                           kz_tell(KZ_NOTIFY, #name, "nothing of that happens: the routine is never called");         return STATUS_SUCCESS;                                                              }
+NEVER(PsSetCreateThreadNotifyRoutine, PCREATE_THREAD_NOTIFY_ROUTINE NotifyRoutine)
+NEVER(PsSetLoadImageNotifyRoutine, PLOAD_IMAGE_NOTIFY_ROUTINE NotifyRoutine)
+
+NTSTATUS PsRemoveCreateThreadNotifyRoutine(PCREATE_THREAD_NOTIFY_ROUTINE NotifyRoutine)
+{
+    return STATUS_SUCCESS;
+}
+
+NTSTATUS PsRemoveLoadImageNotifyRoutine(PLOAD_IMAGE_NOTIFY_ROUTINE NotifyRoutine)
+{
+    return STATUS_SUCCESS;
 }
 
 NTSTATUS SeQueryInformationToken(PACCESS_TOKEN Token, ULONG TokenInformationClass, PVOID *TokenInformation)

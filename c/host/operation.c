@@ -307,7 +307,6 @@ static Turn turn(KzOp *op)
         return GOES;
     case KZ_BASE:
         kazdrin_base(&kz.manager, &next);
-        kz_clean_up(); /* a close ends here, and with it the contexts of its handle */
         return GOES;
     case KZ_POST:
         post(op, instance, completion);
@@ -354,6 +353,7 @@ void kz_print_reply(KzReply reply, NTSTATUS other, const uint8_t *bytes, size_t 
 /* The answer of a done operation, which is forgotten. Its bytes lie in kz.room, and its own status of the kit in `other`. */
 static KzReply collect(KzOp *op, NTSTATUS *other)
 {
+    kz_clean_up(); /* a close is over, and with it the contexts of its handle: the caller is told behind that */
     kz_event((KazdrinEvent){.event = KZ_COLLECT, .operation = op->id});
     KzReply reply = {.status = kz.told.status, .information = kz.told.information, .operation = op->id};
     *other = op->other;

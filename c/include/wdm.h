@@ -159,6 +159,18 @@ KZ_BEGIN
 #define FILE_SHARE_WRITE 0x00000002
 #define FILE_SHARE_DELETE 0x00000004
 #define FILE_SHARE_VALID_FLAGS 0x00000007
+#define SECTION_QUERY 0x0001
+#define SECTION_MAP_WRITE 0x0002
+#define SECTION_MAP_READ 0x0004
+#define SECTION_MAP_EXECUTE 0x0008
+#define SECTION_ALL_ACCESS 0x000F001F
+#define SEC_COMMIT 0x8000000
+#define SEC_IMAGE 0x1000000
+#define PAGE_NOACCESS 0x01
+#define PAGE_READONLY 0x02
+#define PAGE_READWRITE 0x04
+#define PAGE_EXECUTE 0x10
+#define PAGE_EXECUTE_READ 0x20
 #define KEY_QUERY_VALUE 0x0001
 #define KEY_SET_VALUE 0x0002
 #define KEY_CREATE_SUB_KEY 0x0004
@@ -923,6 +935,36 @@ typedef struct _IO_STACK_LOCATION {
     PDEVICE_OBJECT DeviceObject;
     struct _FILE_OBJECT *FileObject;
 } IO_STACK_LOCATION, *PIO_STACK_LOCATION;
+typedef struct _FAST_IO_DISPATCH {
+    ULONG SizeOfFastIoDispatch;
+    PVOID FastIoCheckIfPossible;
+    PVOID FastIoRead;
+    PVOID FastIoWrite;
+    PVOID FastIoQueryBasicInfo;
+    PVOID FastIoQueryStandardInfo;
+    PVOID FastIoLock;
+    PVOID FastIoUnlockSingle;
+    PVOID FastIoUnlockAll;
+    PVOID FastIoUnlockAllByKey;
+    PVOID FastIoDeviceControl;
+    PVOID AcquireFileForNtCreateSection;
+    PVOID ReleaseFileForNtCreateSection;
+    PVOID FastIoDetachDevice;
+    PVOID FastIoQueryNetworkOpenInfo;
+    PVOID AcquireForModWrite;
+    PVOID MdlRead;
+    PVOID MdlReadComplete;
+    PVOID PrepareMdlWrite;
+    PVOID MdlWriteComplete;
+    PVOID FastIoReadCompressed;
+    PVOID FastIoWriteCompressed;
+    PVOID MdlReadCompleteCompressed;
+    PVOID MdlWriteCompleteCompressed;
+    PVOID FastIoQueryOpen;
+    PVOID ReleaseForModWrite;
+    PVOID AcquireForCcFlush;
+    PVOID ReleaseForCcFlush;
+} FAST_IO_DISPATCH, *PFAST_IO_DISPATCH;
 #define IoGetCurrentIrpStackLocation(irp) ((irp)->CurrentStackLocation)
 #define IoCompleteRequest(irp, boost) ((void)(irp), (void)(boost))
 NTSTATUS IoCreateDevice(PDRIVER_OBJECT DriverObject, ULONG DeviceExtensionSize, PUNICODE_STRING DeviceName, DEVICE_TYPE DeviceType, ULONG DeviceCharacteristics,
@@ -1186,11 +1228,26 @@ NTSTATUS PsCreateSystemThread(PHANDLE ThreadHandle, ULONG DesiredAccess, POBJECT
 NTSTATUS PsTerminateSystemThread(NTSTATUS ExitStatus);
 #define KeSetPriorityThread(thread, priority) ((void)(thread), (void)(priority), (KPRIORITY)8)
 #define THREAD_ALL_ACCESS 0x001FFFFF
-typedef struct _PS_CREATE_NOTIFY_INFO *PPS_CREATE_NOTIFY_INFO;
+typedef struct _PS_CREATE_NOTIFY_INFO {
+    SIZE_T Size;
+    ULONG Flags;
+    HANDLE ParentProcessId;
+    CLIENT_ID CreatingThreadId;
+    struct _FILE_OBJECT *FileObject;
+    PCUNICODE_STRING ImageFileName;
+    PCUNICODE_STRING CommandLine;
+    NTSTATUS CreationStatus;
+} PS_CREATE_NOTIFY_INFO, *PPS_CREATE_NOTIFY_INFO;
+typedef VOID (*PCREATE_THREAD_NOTIFY_ROUTINE)(HANDLE ProcessId, HANDLE ThreadId, BOOLEAN Create);
+typedef VOID (*PLOAD_IMAGE_NOTIFY_ROUTINE)(PUNICODE_STRING FullImageName, HANDLE ProcessId, PVOID ImageInfo);
 typedef VOID (*PCREATE_PROCESS_NOTIFY_ROUTINE)(HANDLE ParentId, HANDLE ProcessId, BOOLEAN Create);
 typedef VOID (*PCREATE_PROCESS_NOTIFY_ROUTINE_EX)(PEPROCESS Process, HANDLE ProcessId, PPS_CREATE_NOTIFY_INFO CreateInfo);
 NTSTATUS PsSetCreateProcessNotifyRoutine(PCREATE_PROCESS_NOTIFY_ROUTINE NotifyRoutine, BOOLEAN Remove);
 NTSTATUS PsSetCreateProcessNotifyRoutineEx(PCREATE_PROCESS_NOTIFY_ROUTINE_EX NotifyRoutine, BOOLEAN Remove);
+NTSTATUS PsSetCreateThreadNotifyRoutine(PCREATE_THREAD_NOTIFY_ROUTINE NotifyRoutine);
+NTSTATUS PsRemoveCreateThreadNotifyRoutine(PCREATE_THREAD_NOTIFY_ROUTINE NotifyRoutine);
+NTSTATUS PsSetLoadImageNotifyRoutine(PLOAD_IMAGE_NOTIFY_ROUTINE NotifyRoutine);
+NTSTATUS PsRemoveLoadImageNotifyRoutine(PLOAD_IMAGE_NOTIFY_ROUTINE NotifyRoutine);
 
 KZ_END
 

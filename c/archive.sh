@@ -1,7 +1,11 @@
 #!/usr/bin/env bash
-# c/archive.sh : makes crates/kazdrin_c/out/libkazdrin_c.a. `rt ci` leaves the libraries of the crates below in this checkout: over them the crate is proved once
+# c/archive.sh [--unproved] : with --unproved an archive from the sources alone, without proofs and with run-time checks, in a minute; its path is printed, and c/build.sh takes it
+# where there is no proved one. Without that word it makes crates/kazdrin_c/out/libkazdrin_c.a. `rt ci` leaves the libraries of the crates below in this checkout: over them the crate is proved once
 # more, and built, in some five minutes of a processor. Without them `rt lib` proves every crate below first.
 set -eu
+if [ "${1:-}" = --unproved ]; then
+    exec "$(dirname "$0")/../tools/unproved" --archive
+fi
 cd "$(dirname "$0")/../crates/kazdrin_c"
 kit=${KIT:-$(dirname "$(rt doc | head -1)")}
 words=()

@@ -3,7 +3,7 @@
 # the name of its file or folder. Behind --driver, up to the next one, the files are one driver, by the name of the first.
 #
 # CC is the compiler (cc), CXX that of C++ (c++), CFLAGS are more words for the drivers and the host, KZAPI what the drivers see (KZAPI="-DNTDDI_VERSION=0x06000000 -DDBG=0"),
-# KAZDRIN_LIB the archive of crates/kazdrin_c (made by c/archive.sh), KZ_MAIN the main program, KZ_HOST the host's objects where they are built already.
+# KAZDRIN_LIB the archive of crates/kazdrin_c (else that of c/archive.sh, or one without proofs), KZ_MAIN the main program, KZ_HOST the host's objects where they are built already.
 set -eu
 here=$(cd "$(dirname "$0")" && pwd)
 if [ $# -lt 2 ]; then
@@ -13,7 +13,12 @@ fi
 program=$1
 shift
 cc=${CC:-cc}
-library=${KAZDRIN_LIB:-$here/../crates/kazdrin_c/out/libkazdrin_c.a}
+library=${KAZDRIN_LIB:-$here/../lib/libkazdrin_c.a}
+[ -n "${KAZDRIN_LIB:-}" ] || [ -f "$library" ] || library=$here/../crates/kazdrin_c/out/libkazdrin_c.a
+if [ -z "${KAZDRIN_LIB:-}" ] && [ ! -f "$library" ]; then
+    echo "c/build.sh: the manager's archive isn't proved here (c/archive.sh proves it): taking one without proofs" >&2
+    library=$("$here/archive.sh" --unproved)
+fi
 if [ ! -f "$library" ]; then
     echo "c/build.sh: there is no $library; make it by c/archive.sh, or name one as KAZDRIN_LIB" >&2
     exit 1

@@ -74,7 +74,10 @@ impl Expectations {
     /// Whether an expectation is met: the last line printed it, behind what earlier expectations of the line found. That on the status is met at the end.
     pub fn meet(&mut self, expected: &[u8]) -> bool {
         if expected.starts_with(STATUS) {
-            self.status = expected.get(STATUS.len()..).and_then(read_number);
+            self.status = match expected.get(STATUS.len()..) {
+                Some(word) => read_number(word),
+                None => None,
+            };
             return self.status.is_some();
         }
         let is_met = self.find(expected);

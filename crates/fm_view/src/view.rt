@@ -149,11 +149,11 @@ impl<W: Write + Drop> View<W> {
             "NOT AS EXPECTED on line {number}: {}",
             Ascii(expected)
         )?;
-        let mut mark = "; it answered ";
+        let mut is_first = true;
         for answer in self.expectations.printed().split(|byte| *byte == b'\n') {
             if !answer.is_empty() {
-                write!(text, "{mark}{}", Ascii(answer))?;
-                mark = ", ";
+                write!(text, "{}{}", between(is_first), Ascii(answer))?;
+                is_first = false;
             }
         }
         text.push('\n')?;
@@ -405,6 +405,11 @@ impl<W: Write + Drop> View<W> {
             .write_all(text.as_bytes())
             .map_err(|_| ScriptEnd::WriteFault)
     }
+}
+
+// What stands before an answer in a list of them.
+fn between(is_first: bool) -> &'static str {
+    if is_first { "; it answered " } else { ", " }
 }
 
 fn last_entry(trace: Option<&[Entry]>) -> Option<Entry> {

@@ -11,7 +11,6 @@ use fm_words::Fault;
 use std::alloc::Global;
 use std::io::{self, Write};
 use std::marker::Brand;
-use std::net::{Net, TcpListener, TcpStream};
 use std::sync::Wait;
 use std::sync::ledger::Blank;
 use std::thread::Threads;
@@ -29,7 +28,7 @@ pub(crate) struct Tally {
 // Serves at that endpoint.
 fn serve<R, D, W>(rt: &R, alloc: Global, endpoint: Endpoint<D>, out: W) -> (Result<Tally, Fault>, W)
 where
-    R: Threads + Wait + Sync + Clock + Net<Listener = TcpListener, Stream = TcpStream>,
+    R: Threads + Wait + Sync + Clock,
     D: Device + Send,
     W: Write + Drop,
 {
@@ -65,7 +64,7 @@ fn finish<W: Write>(alloc: Global, served: Result<Tally, Fault>, out: &mut W) ->
 /// something couldn't be closed at the end; 3, and `fault` is printed, if the folder, the socket or the writer failed.
 pub fn front<R, D, W>(rt: &R, alloc: Global, endpoint: Result<Endpoint<D>, Fault>, out: W) -> u8
 where
-    R: Threads + Wait + Sync + Clock + Net<Listener = TcpListener, Stream = TcpStream>,
+    R: Threads + Wait + Sync + Clock,
     D: Device + Send,
     W: Write + Drop,
 {

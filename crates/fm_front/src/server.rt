@@ -23,12 +23,12 @@ use fm_words::Fault;
 use fm_worker::{OpenGate, Worker};
 use std::alloc::{AllocError, Global};
 use std::io::Write;
-use std::net::{Net, TcpListener, TcpStream};
 use std::os::unix::net::UnixListener;
+use std::slice::IterMut;
 use std::sync::Wait;
 use std::sync::ledger::{Blank, Ledger};
 use std::thread;
-use std::thread::Threads;
+use std::thread::{Scope, Threads};
 use std::time::{Clock, Duration};
 
 /// How many milliseconds the accept rests after an error.
@@ -277,6 +277,54 @@ struct Parts<'a, L: Ledger, R: Wait, D: Device> {
     connections: Vec<Connection<'a, L, R, D>>,
 }
 
+// Starts the thread of a worker. Whether it could be made.
+fn start_worker<'s, 'a: 's, E, L, R, D>(
+    scope: &Scope<'s, E>,
+    worker: &'s mut ServerWorker<'a, L, R, D>,
+) -> bool
+where
+    L: Ledger + Send + Sync + 's,
+    R: Wait + Sync + 's,
+    D: Device + Send + 's,
+{
+    scope.spawn(move || worker.work()).is_ok()
+}
+
+// Starts the thread of connections, one after the other. Whether it could be made.
+fn start_connection<'s, 'a: 's, 'c: 's, E, L, R, D>(
+    scope: &Scope<'s, E>,
+    connections: &'s Connections<'c, R>,
+    connection: &'s mut Connection<'a, L, R, D>,
+) -> bool
+where
+    L: Ledger + Send + Sync + 's,
+    R: Wait + Sync + Clock + 's,
+    D: Device + Send + 's,
+{
+    scope
+        .spawn(move || connections.serve_thread(connection))
+        .is_ok()
+}
+
+// Starts a thread for each of these. Whether all could be made.
+fn start_connections<'s, 'a: 's, 'c: 's, E, L, R, D>(
+    scope: &Scope<'s, E>,
+    connections: &'s Connections<'c, R>,
+    every: IterMut<'s, Connection<'a, L, R, D>>,
+) -> bool
+where
+    L: Ledger + Send + Sync + 's,
+    R: Wait + Sync + Clock + 's,
+    D: Device + Send + 's,
+{
+    for connection in every {
+        if !start_connection(scope, connections, connection) {
+            return false;
+        }
+    }
+    true
+}
+
 // A thread for each connection that may be there, and then the accept beside them, once `ready` is said. It ends after the last connection.
 fn serve_connections<L, R, D, W>(
     connections: &Connections<'_, R>,
@@ -287,7 +335,7 @@ fn serve_connections<L, R, D, W>(
 ) -> (Result<(), Fault>, W)
 where
     L: Ledger + Send + Sync,
-    R: Threads + Wait + Sync + Clock + Net<Listener = TcpListener, Stream = TcpStream>,
+    R: Threads + Wait + Sync + Clock,
     D: Device + Send,
     W: Write + Drop,
 {
@@ -295,13 +343,8 @@ where
     let every = all.iter_mut();
     thread::scope(thread::scope_env(), rt, |scope| {
         let mut out = out;
-        for connection in every {
-            if scope
-                .spawn(move || connections.serve_thread(connection))
-                .is_err()
-            {
-                return (Err(Fault::Memory(AllocError)), out);
-            }
+        if !start_connections(scope, connections, every) {
+            return (Err(Fault::Memory(AllocError)), out);
         }
         let told = say_ready(&mut out);
         if told.is_ok() {
@@ -323,7 +366,7 @@ fn serve_beside<'a, L, R, D, W>(
 ) -> (Outcome, Parts<'a, L, R, D>, W)
 where
     L: Ledger + Send + Sync,
-    R: Threads + Wait + Sync + Clock + Net<Listener = TcpListener, Stream = TcpStream>,
+    R: Threads + Wait + Sync + Clock,
     D: Device + Send,
     W: Write + Drop,
 {
@@ -338,7 +381,7 @@ where
         let mut started = 0_usize;
         let mut served = Ok(());
         'workers: for worker in every {
-            if scope.spawn(move || worker.work()).is_err() {
+            if !start_worker(scope, worker) {
                 served = Err(Fault::Memory(AllocError));
                 break 'workers;
             }
@@ -371,7 +414,7 @@ fn run_threads<'a, L, R, D, W>(
 ) -> (Result<(Outcome, Vec<Hand<L>>), Status>, W)
 where
     L: Ledger + Send + Sync,
-    R: Threads + Wait + Sync + Clock + Net<Listener = TcpListener, Stream = TcpStream>,
+    R: Threads + Wait + Sync + Clock,
     D: Device + Send,
     W: Write + Drop,
 {
@@ -439,7 +482,7 @@ pub(crate) fn run_server<L, R, D, W>(
 ) -> (Result<Tally, Fault>, W)
 where
     L: Ledger + Send + Sync,
-    R: Threads + Wait + Sync + Clock + Net<Listener = TcpListener, Stream = TcpStream>,
+    R: Threads + Wait + Sync + Clock,
     D: Device + Send,
     W: Write + Drop,
     requires name { blank.name ≡ L.name }

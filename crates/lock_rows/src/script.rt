@@ -19,15 +19,24 @@ pub struct Rows<L: Ledger> {
     driver: Driver<L>,
 }
 
+// The filter that an event loads, under its name.
+fn declared_by(step: Step) -> Option<(Name, Declared)> {
+    match step {
+        Step::Register { name, registration } => Some((name, Declared { registration })),
+        _ => None,
+    }
+}
+
 // The filter that a line loads, under its name.
 fn loaded_by(reader: &Runner<Vec<u8>>, line: &[u8]) -> Result<Option<(Name, Declared)>, ScriptEnd> {
     if line.len() > LINE || is_silent(line) {
         return Ok(None);
     }
-    match reader.read(line).map_err(|_| ScriptEnd::NoMemory)? {
-        Ok(Task::Event(Step::Register { name, registration })) => {
-            Ok(Some((name, Declared { registration })))
-        }
+    let Ok(task) = reader.read(line).map_err(|_| ScriptEnd::NoMemory)? else {
+        return Ok(None);
+    };
+    match task {
+        Task::Event(step) => Ok(declared_by(step)),
         _ => Ok(None),
     }
 }

@@ -290,6 +290,26 @@ where
     scope.spawn(move || worker.work()).is_ok()
 }
 
+// Starts a thread for each of these workers. How many could be made, and whether those are all.
+fn start_workers<'s, 'a: 's, E, L, R, D>(
+    scope: &Scope<'s, E>,
+    every: IterMut<'s, ServerWorker<'a, L, R, D>>,
+) -> (usize, bool)
+where
+    L: Ledger + Send + Sync + 's,
+    R: Wait + Sync + 's,
+    D: Device + Send + 's,
+{
+    let mut started = 0_usize;
+    for worker in every {
+        if !start_worker(scope, worker) {
+            return (started, false);
+        }
+        started = started.saturating_add(1);
+    }
+    (started, true)
+}
+
 // Starts the thread of connections, one after the other. Whether it could be made.
 fn start_connection<'s, 'a: 's, 'c: 's, E, L, R, D>(
     scope: &Scope<'s, E>,
@@ -378,16 +398,9 @@ where
     let every = workers.iter_mut();
     let (outcome, mut all, out) = thread::scope(thread::scope_env(), rt, |scope| {
         let mut out = out;
-        let mut started = 0_usize;
-        let mut served = Ok(());
-        'workers: for worker in every {
-            if !start_worker(scope, worker) {
-                served = Err(Fault::Memory(AllocError));
-                break 'workers;
-            }
-            started = started.saturating_add(1);
-        }
-        if served.is_ok() {
+        let mut served = Err(Fault::Memory(AllocError));
+        let (started, are_all) = start_workers(scope, every);
+        if are_all {
             (served, out) = serve_connections(connections, &mut all, listener, incoming, out);
         }
         let is_clean = end_connections(leftovers, &mut all, manager.filters(rt), started);

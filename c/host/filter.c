@@ -127,13 +127,20 @@ static void name_of(PFLT_FILTER filter, char *name)
     name[length] = 0;
 }
 
+/* Reads and writes here are cached, and of files: a filter that asks to be left out of those never sees one. */
+static bool is_skipped(const FLT_OPERATION_REGISTRATION *one)
+{
+    bool is_data = one->MajorFunction == IRP_MJ_READ || one->MajorFunction == IRP_MJ_WRITE;
+    return is_data && one->Flags & (FLTFL_OPERATION_REGISTRATION_SKIP_CACHED_IO | FLTFL_OPERATION_REGISTRATION_SKIP_NON_DASD_IO);
+}
+
 static uint32_t register_with_manager(PFLT_FILTER filter, uint8_t contexts)
 {
     char name[40];
     KazdrinEvent event = {.event = KZ_REGISTER, .contexts = contexts};
     const FLT_OPERATION_REGISTRATION *one = filter->registration.OperationRegistration;
     for (; one && one->MajorFunction != IRP_MJ_OPERATION_END; one++) {
-        if (kz_registered(filter, one->MajorFunction) != one)
+        if (kz_registered(filter, one->MajorFunction) != one || is_skipped(one))
             continue;
         if (one->PreOperation || one->PostOperation)
             event.pre |= mask_of(one->MajorFunction);
@@ -338,7 +345,7 @@ static void name_driver(PFLT_FILTER filter)
     filter->object.Size = sizeof(DRIVER_OBJECT);
 }
 
-static uint32_t enter(PFLT_FILTER filter)
+static uint32_t enter(PFLT_FILTER filter, NTSTATUS *other)
 {
     KzPlace before = kz_enter(KZ_IN_ENTRY, filter, NULL, NULL, NULL);
     name_driver(filter);
@@ -355,7 +362,9 @@ static uint32_t enter(PFLT_FILTER filter)
     if (!NT_SUCCESS(said))
         tell_left(filter);
     bool is_exact;
-    return NT_SUCCESS(said) ? KZ_OK : kz_number(said, &is_exact);
+    uint32_t number = NT_SUCCESS(said) ? KZ_OK : kz_number(said, &is_exact);
+    *other = NT_SUCCESS(said) || is_exact ? STATUS_SUCCESS : said;
+    return number;
 }
 
 /* A driver has one set of globals, so that it is loaded once at a time. */
@@ -368,8 +377,9 @@ static bool is_loaded(const KzDriver *driver)
 }
 
 /* With an altitude it is attached by itself, as an INF file says: to each volume that is there once it starts filtering, and to each that is mounted from then on. */
-uint32_t kz_load(const char *name, const char *altitude, uint64_t *number)
+uint32_t kz_load(const char *name, const char *altitude, uint64_t *number, NTSTATUS *other)
 {
+    *other = STATUS_SUCCESS;
     const KzDriver *driver = NULL;
     for (size_t at = 0; at < kz.drivers_count; at++)
         if (strcmp(kz.drivers[at].name, name) == 0)
@@ -384,7 +394,7 @@ uint32_t kz_load(const char *name, const char *altitude, uint64_t *number)
     filter->driver = driver;
     filter->phase = KZ_ENDED;
     snprintf(filter->altitude, sizeof filter->altitude, "%s", altitude);
-    uint32_t status = enter(filter);
+    uint32_t status = enter(filter, other);
     kz_settle();
     if (!filter->is_registered) {
         kz_tell_pools(filter);

@@ -331,7 +331,7 @@ void kz_free_ops(void);
 void kz_drop_file(uint64_t handle);
 
 /* filter.c */
-uint32_t kz_load(const char *name, const char *altitude, uint64_t *number);
+uint32_t kz_load(const char *name, const char *altitude, uint64_t *number, NTSTATUS *other);
 uint32_t kz_unload(PFLT_FILTER filter);
 void kz_unload_all(void);
 const FLT_OPERATION_REGISTRATION *kz_registered(PFLT_FILTER filter, UCHAR major);

@@ -54,8 +54,11 @@ static KzReply outcome(uint32_t status, uint64_t number)
 static KzReply ask_load(char **words)
 {
     uint64_t number = 0;
-    uint32_t status = kz_load(words[1], words[2] ? words[2] : "", &number);
-    return outcome(status, number);
+    NTSTATUS other;
+    uint32_t status = kz_load(words[1], words[2] ? words[2] : "", &number, &other);
+    KzReply reply = {.status = status, .information = status == KZ_OK ? number : 0};
+    kz_print_reply(reply, other, NULL, 0);
+    return reply;
 }
 
 static bool set_volume(PFLT_VOLUME volume, char **words)

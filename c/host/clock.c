@@ -14,16 +14,19 @@ static size_t dpcs_count;
 
 VOID KeQuerySystemTime(PLARGE_INTEGER CurrentTime)
 {
+    KZ_INSIDE();
     CurrentTime->QuadPart = BEGINS + passed;
 }
 
 ULONGLONG KeQueryInterruptTime(VOID)
 {
+    KZ_INSIDE();
     return (ULONGLONG)passed;
 }
 
 VOID KeQueryTickCount(PLARGE_INTEGER CurrentCount)
 {
+    KZ_INSIDE();
     CurrentCount->QuadPart = passed / (LONGLONG)KeQueryTimeIncrement();
 }
 
@@ -34,6 +37,7 @@ ULONG KeQueryTimeIncrement(VOID)
 
 LARGE_INTEGER KeQueryPerformanceCounter(PLARGE_INTEGER PerformanceFrequency)
 {
+    KZ_INSIDE();
     if (PerformanceFrequency)
         PerformanceFrequency->QuadPart = 10000000;
     return (LARGE_INTEGER){.QuadPart = passed};
@@ -92,19 +96,22 @@ VOID KeInitializeDpc(PRKDPC Dpc, PKDEFERRED_ROUTINE DeferredRoutine, PVOID Defer
 
 BOOLEAN KeInsertQueueDpc(PRKDPC Dpc, PVOID SystemArgument1, PVOID SystemArgument2)
 {
+    KZ_CALL();
     if (Dpc->DpcData || dpcs_count == sizeof dpcs / sizeof dpcs[0])
         return FALSE;
     Dpc->SystemArgument1 = SystemArgument1;
     Dpc->SystemArgument2 = SystemArgument2;
-    Dpc->DpcData = kz.place.filter;
+    Dpc->DpcData = kz_me->place.filter;
     if (!Dpc->DpcData)
         Dpc->DpcData = Dpc;
     dpcs[dpcs_count++] = Dpc;
+    kz_scheduler->touch(Dpc, 0, KZ_GIVES);
     return TRUE;
 }
 
 BOOLEAN KeRemoveQueueDpc(PRKDPC Dpc)
 {
+    KZ_CALL();
     for (size_t at = 0; at < dpcs_count; at++)
         if (dpcs[at] == Dpc) {
             memmove(dpcs + at, dpcs + at + 1, (--dpcs_count - at) * sizeof dpcs[0]);
@@ -112,6 +119,11 @@ BOOLEAN KeRemoveQueueDpc(PRKDPC Dpc)
             return TRUE;
         }
     return FALSE;
+}
+
+bool kz_has_dpc(void)
+{
+    return dpcs_count > 0;
 }
 
 bool kz_run_dpc(void)
@@ -123,7 +135,10 @@ bool kz_run_dpc(void)
     KeRemoveQueueDpc(dpc);
     KzPlace before = kz_enter(KZ_IN_TIMER, filter, NULL, NULL, NULL);
     KIRQL irql = KfRaiseIrql(DISPATCH_LEVEL);
+    kz_scheduler->touch(dpc, 0, KZ_TAKES);
+    unsigned depth = kz_let_driver("timer");
     dpc->DeferredRoutine(dpc, dpc->DeferredContext, dpc->SystemArgument1, dpc->SystemArgument2);
+    kz_driver_returned(depth, "timer returns");
     KeLowerIrql(irql);
     kz_leave(before);
     return true;
@@ -131,6 +146,7 @@ bool kz_run_dpc(void)
 
 VOID KeFlushQueuedDpcs(VOID)
 {
+    KZ_INSIDE();
     while (kz_run_dpc())
         ;
 }
@@ -148,6 +164,7 @@ VOID KeInitializeTimer(PKTIMER Timer)
 
 BOOLEAN KeCancelTimer(PKTIMER Timer)
 {
+    KZ_CALL();
     for (size_t at = 0; at < timers_count; at++)
         if (timers[at] == Timer) {
             memmove(timers + at, timers + at + 1, (--timers_count - at) * sizeof timers[0]);
@@ -158,13 +175,14 @@ BOOLEAN KeCancelTimer(PKTIMER Timer)
 
 BOOLEAN KeSetTimerEx(PKTIMER Timer, LARGE_INTEGER DueTime, LONG Period, PKDPC Dpc)
 {
+    KZ_CALL();
     BOOLEAN was_set = KeCancelTimer(Timer);
     LONGLONG due = DueTime.QuadPart < 0 ? passed - DueTime.QuadPart : DueTime.QuadPart - BEGINS;
     Timer->DueTime.QuadPart = (ULONGLONG)due;
     Timer->Period = Period;
     Timer->Dpc = Dpc;
     Timer->Header.SignalState = 0;
-    Timer->TimerListEntry.Flink = (PLIST_ENTRY)kz.place.filter;
+    Timer->TimerListEntry.Flink = (PLIST_ENTRY)kz_me->place.filter;
     if (timers_count < sizeof timers / sizeof timers[0])
         timers[timers_count++] = Timer;
     return was_set;
@@ -177,6 +195,7 @@ BOOLEAN KeSetTimer(PKTIMER Timer, LARGE_INTEGER DueTime, PKDPC Dpc)
 
 BOOLEAN KeReadStateTimer(PKTIMER Timer)
 {
+    KZ_INSIDE();
     return Timer->Header.SignalState != 0;
 }
 
@@ -202,10 +221,10 @@ static void fire(PKTIMER timer)
             timers[timers_count++] = timer;
     }
     if (timer->Dpc) {
-        KzPlace before = kz.place;
-        kz.place.filter = filter;
+        KzPlace before = kz_me->place;
+        kz_me->place.filter = filter;
         KeInsertQueueDpc(timer->Dpc, NULL, NULL);
-        kz.place = before;
+        kz_me->place = before;
     }
 }
 
@@ -237,7 +256,7 @@ void kz_forget_timers(PFLT_FILTER filter)
         if ((PFLT_FILTER)timers[at]->TimerListEntry.Flink == filter) {
             KzPlace before = kz_enter(KZ_IN_NOTHING, filter, NULL, NULL, NULL);
             kz_tell(KZ_TIMER_LEFT, "KeCancelTimer", "never called for a timer that is set: it would fire in a driver that is gone");
-            kz.place = before;
+            kz_me->place = before;
             KeCancelTimer(timers[at]);
         }
 }
@@ -256,26 +275,33 @@ VOID KeInitializeEvent(PRKEVENT Event, EVENT_TYPE Type, BOOLEAN State)
 
 LONG KeSetEvent(PRKEVENT Event, KPRIORITY Increment, BOOLEAN Wait)
 {
+    KZ_CALL();
     (void)Increment, (void)Wait;
     LONG before = Event->Header.SignalState;
     Event->Header.SignalState = 1;
+    kz_scheduler->touch(Event, 0, KZ_GIVES);
     return before;
 }
 
 LONG KeResetEvent(PRKEVENT Event)
 {
+    KZ_CALL();
     LONG before = Event->Header.SignalState;
     Event->Header.SignalState = 0;
+    kz_scheduler->touch(Event, 0, KZ_TAKES);
     return before;
 }
 
 VOID KeClearEvent(PRKEVENT Event)
 {
+    KZ_CALL();
     Event->Header.SignalState = 0;
 }
 
 LONG KeReadStateEvent(PRKEVENT Event)
 {
+    KZ_CALL();
+    kz_scheduler->touch(Event, 0, KZ_TAKES);
     return Event->Header.SignalState;
 }
 
@@ -286,8 +312,10 @@ VOID KeInitializeSemaphore(PRKSEMAPHORE Semaphore, LONG Count, LONG Limit)
 
 LONG KeReleaseSemaphore(PRKSEMAPHORE Semaphore, KPRIORITY Increment, LONG Adjustment, BOOLEAN Wait)
 {
+    KZ_CALL();
     (void)Increment, (void)Wait;
     LONG before = Semaphore->Header.SignalState;
+    kz_scheduler->touch(Semaphore, 0, KZ_GIVES);
     if (before > Semaphore->Limit - Adjustment)
         kz_tell(KZ_LOCK_NOT_HELD, __func__, "past the limit of the semaphore");
     else
@@ -303,6 +331,7 @@ VOID KeInitializeMutex(PRKMUTEX Mutex, ULONG Level)
 
 LONG KeReleaseMutex(PRKMUTEX Mutex, BOOLEAN Wait)
 {
+    KZ_CALL();
     (void)Wait;
     LONG before = Mutex->Header.SignalState;
     KzLetGo(Mutex, __func__);
@@ -320,6 +349,7 @@ static bool is_there(PDISPATCHER_HEADER object)
     }
     if (object->SignalState <= 0)
         return false;
+    kz_scheduler->touch(object, 0, KZ_TAKES);
     if (object->Type == SEMAPHORE)
         object->SignalState--;
     else if (object->Type == EVENT_RESETS || object->Type == TIMER_RESETS)
@@ -332,16 +362,34 @@ static LONGLONG units_of(PLARGE_INTEGER timeout)
     return timeout->QuadPart <= 0 ? -timeout->QuadPart : timeout->QuadPart - BEGINS - passed;
 }
 
+static bool is_signalled(void *object)
+{
+    PDISPATCHER_HEADER header = object;
+    return header->Type == MUTANT ? !kz_is_taken(object) : header->SignalState > 0;
+}
+
+/* Beside other clients it waits for one of them, or for as long as it is to. */
+static NTSTATUS wait_for(PDISPATCHER_HEADER object, bool is_timed)
+{
+    bool is_over = is_timed && kz_scheduler->choose(2, "the time is over");
+    if (is_over || !kz_wait(is_signalled, object, "KeWaitForSingleObject", 0))
+        return STATUS_TIMEOUT;
+    return is_there(object) ? STATUS_SUCCESS : STATUS_TIMEOUT;
+}
+
 /* What else runs here, work items and timers, goes on meanwhile. */
 NTSTATUS KeWaitForSingleObject(PVOID Object, KWAIT_REASON WaitReason, KPROCESSOR_MODE WaitMode, BOOLEAN Alertable, PLARGE_INTEGER Timeout)
 {
+    KZ_CALL();
     (void)WaitReason, (void)WaitMode, (void)Alertable;
-    if (is_there(Object))
+    if (is_signalled(Object) && is_there(Object))
         return STATUS_SUCCESS;
     if (Timeout && units_of(Timeout) <= 0)
         return STATUS_TIMEOUT;
     if (KeGetCurrentIrql() > APC_LEVEL)
         kz_tell(KZ_IRQL, __func__, "a wait at IRQL %u", KeGetCurrentIrql());
+    if (kz_has_others())
+        return wait_for(Object, Timeout != NULL);
     while (kz_run_dpc() || kz_work())
         if (is_there(Object))
             return STATUS_SUCCESS;
@@ -381,8 +429,9 @@ NTSTATUS KeWaitForMultipleObjects(ULONG Count, PVOID Object[], WAIT_TYPE WaitTyp
 
 NTSTATUS KeDelayExecutionThread(KPROCESSOR_MODE WaitMode, BOOLEAN Alertable, PLARGE_INTEGER Interval)
 {
+    KZ_CALL();
     (void)WaitMode, (void)Alertable;
-    while (kz_work())
+    while (!kz_has_others() && kz_work())
         ;
     pass(units_of(Interval));
     return STATUS_SUCCESS;

@@ -134,6 +134,15 @@ static PVOID body_of(uint32_t slot, uint32_t generation)
     return one ? one->body : NULL;
 }
 
+/* The same, for a callback that gets a reference. */
+static PVOID taken_body(uint32_t slot, uint32_t generation)
+{
+    Header *one = known(slot, generation);
+    if (one)
+        kz_scheduler->touch(one, 0, KZ_TAKES);
+    return one ? one->body : NULL;
+}
+
 /* ---- References that the host keeps. */
 static void keep(Header *context, const KzPlace *place)
 {
@@ -154,8 +163,12 @@ static void finish(Header *context)
 {
     KzPlace before = kz_enter(KZ_IN_CLEANUP, context->filter, NULL, NULL, NULL);
     context->is_in_cleanup = true;
-    if (context->how->ContextCleanupCallback)
+    kz_scheduler->touch(context, 0, KZ_TAKES);
+    if (context->how->ContextCleanupCallback) {
+        unsigned depth = kz_let_driver("context cleanup");
         context->how->ContextCleanupCallback(context->body, context->type);
+        kz_driver_returned(depth, "context cleanup returns");
+    }
     kz_leave(before);
     for (Header **at = &live; *at; at = &(*at)->next)
         if (*at == context) {
@@ -177,18 +190,21 @@ static void finish(Header *context)
 void kz_clean_up(void)
 {
     uint8_t worker = kz_helper();
-    while (kz_event((KazdrinEvent){.event = KZ_TAKE_DUE, .worker = worker}) == KZ_OK && kz.told.has) {
+    while (kz_event((KazdrinEvent){.event = KZ_TAKE_DUE, .worker = worker}) == KZ_OK && kz_me->told.has) {
         Header *context;
-        memcpy(&context, kz.room, sizeof context);
+        memcpy(&context, kz_me->room, sizeof context);
         context->is_known = false;
-        uint8_t own = kz.place.worker;
-        kz.place.worker = worker;
+        uint8_t own = kz_me->place.worker;
+        kz_me->place.worker = worker;
+        KazdrinTold told = kz_me->told;
         if (!context->kept)
             finish(context);
-        kz.place.worker = own;
+        kz_me->told = told;
+        kz_me->place.worker = own;
         kz_event((KazdrinEvent){.event = KZ_CLEANED, .worker = worker});
+        kz.changes++;
     }
-    kz_helped();
+    kz_helped(worker);
 }
 
 /* ---- Allocation. */
@@ -204,8 +220,8 @@ static uint32_t make_known(Header *context)
 {
     uint32_t status = kz_event_with((KazdrinEvent){.event = KZ_ALLOCATE, .kind = context->kind}, &context, sizeof context);
     if (status == KZ_OK) {
-        context->slot = kz.told.slot;
-        context->generation = kz.told.generation;
+        context->slot = kz_me->told.slot;
+        context->generation = kz_me->told.generation;
         context->is_known = true;
     }
     return status;
@@ -213,8 +229,9 @@ static uint32_t make_known(Header *context)
 
 NTSTATUS FltAllocateContext(PFLT_FILTER Filter, FLT_CONTEXT_TYPE ContextType, SIZE_T ContextSize, POOL_TYPE PoolType, PFLT_CONTEXT *ReturnedContext)
 {
+    KZ_INSIDE();
     *ReturnedContext = NULL;
-    if (!Filter || Filter != kz.place.filter || !Filter->is_registered) {
+    if (!Filter || Filter != kz_me->place.filter || !Filter->is_registered) {
         kz_tell(KZ_OTHER_FILTER, __func__, "of a filter that isn't the callback's own");
         return STATUS_INVALID_PARAMETER;
     }
@@ -233,7 +250,7 @@ NTSTATUS FltAllocateContext(PFLT_FILTER Filter, FLT_CONTEXT_TYPE ContextType, SI
     live = made;
     uint32_t status = make_known(made);
     if (status == KZ_WRONG_STEP || status == KZ_HAND_FULL) {
-        keep(made, &kz.place); /* in no callback of an instance, or where 16 are held: the manager gets to know it once it is set */
+        keep(made, &kz_me->place); /* in no callback of an instance, or where 16 are held: the manager gets to know it once it is set */
     } else if (status != KZ_OK) {
         live = made->next;
         if (how->ContextFreeCallback)
@@ -251,17 +268,19 @@ NTSTATUS FltAllocateContext(PFLT_FILTER Filter, FLT_CONTEXT_TYPE ContextType, SI
 /* ---- Counting. */
 VOID FltReferenceContext(PFLT_CONTEXT Context)
 {
+    KZ_INSIDE();
     Header *context = context_of(Context, __func__);
     if (!context)
         return;
     bool is_counted =
         context->is_known && kz_event((KazdrinEvent){.event = KZ_REFERENCE, .slot = context->slot, .generation = context->generation}) == KZ_OK;
     if (!is_counted)
-        keep(context, &kz.place);
+        keep(context, &kz_me->place);
 }
 
 VOID FltReleaseContext(PFLT_CONTEXT Context)
 {
+    KZ_CALL();
     Header *context = context_of(Context, __func__);
     if (!context)
         return;
@@ -269,6 +288,7 @@ VOID FltReleaseContext(PFLT_CONTEXT Context)
         kz_tell(KZ_OWN_CLEANUP, __func__, "%s context in its own cleanup callback", kind_names[context->kind]);
         return;
     }
+    kz_scheduler->touch(context, 0, KZ_GIVES);
     if (context->is_known && kz_event((KazdrinEvent){.event = KZ_RELEASE, .slot = context->slot, .generation = context->generation}) == KZ_OK) {
         kz_clean_up();
         return;
@@ -285,12 +305,12 @@ VOID FltReleaseContext(PFLT_CONTEXT Context)
 /* ---- Objects. The manager knows those of the callback alone; the host asks it for others of volumes and instances as from their own callback. */
 static PFILE_OBJECT own_file(void)
 {
-    return kz.place.op ? &kz.place.op->file->object : NULL;
+    return kz_me->place.op ? &kz_me->place.op->file->object : NULL;
 }
 
 static bool is_own(PFLT_INSTANCE instance, PFLT_VOLUME volume, PFILE_OBJECT file)
 {
-    PFLT_INSTANCE own = kz.place.instance;
+    PFLT_INSTANCE own = kz_me->place.instance;
     return own && (!instance || instance == own) && (!volume || volume == own->volume) && (!file || file == own_file());
 }
 
@@ -316,7 +336,7 @@ static NTSTATUS refuse(const char *call, PFLT_INSTANCE instance, PFLT_VOLUME vol
 static PFLT_INSTANCE instance_on(PFLT_FILTER filter, PFLT_VOLUME volume)
 {
     for (size_t at = 0; at < kz.instances_count; at++)
-        if (kz.instances[at]->filter == filter && kz.instances[at]->volume == volume && kz.instances[at]->phase == KZ_ATTACHED && !kz.instances[at]->is_asked)
+        if (kz.instances[at]->filter == filter && kz.instances[at]->volume == volume && kz_phase(kz.instances[at]) == KZ_INSTANCE_ATTACHED && !kz.instances[at]->is_asked)
             return kz.instances[at];
     return NULL;
 }
@@ -338,13 +358,14 @@ static NTSTATUS set(const char *call, uint8_t kind, FLT_SET_CONTEXT_OPERATION ho
         }
         drop(context);
     }
+    kz_scheduler->touch(context, 0, KZ_GIVES);
     uint32_t status = kz_event((KazdrinEvent){.event = KZ_SET,
                                               .slot = context->slot,
                                               .generation = context->generation,
                                               .mode = how == FLT_SET_CONTEXT_REPLACE_IF_EXISTS,
                                               .flag = old != NULL});
-    if (old && (status == KZ_OK || status == KZ_ALREADY_DEFINED) && kz.told.has)
-        *old = body_of(kz.told.slot, kz.told.generation);
+    if (old && (status == KZ_OK || status == KZ_ALREADY_DEFINED) && kz_me->told.has)
+        *old = taken_body(kz_me->told.slot, kz_me->told.generation);
     if (status == KZ_NOT_HELD && context->kept)
         return STATUS_FLT_CONTEXT_ALREADY_LINKED; /* the manager holds it by a link alone */
     if (status == KZ_NOT_HELD)
@@ -358,7 +379,7 @@ static NTSTATUS get(const char *call, uint8_t kind, PFLT_CONTEXT *found)
 {
     uint32_t status = kz_event((KazdrinEvent){.event = KZ_GET, .kind = kind});
     if (status == KZ_OK)
-        *found = body_of(kz.told.slot, kz.told.generation);
+        *found = taken_body(kz_me->told.slot, kz_me->told.generation);
     kz_tell_refused(call, status);
     return kz_ntstatus(status);
 }
@@ -366,27 +387,27 @@ static NTSTATUS get(const char *call, uint8_t kind, PFLT_CONTEXT *found)
 /* The context of a volume or an instance that isn't the callback's own: the host keeps the reference. */
 static NTSTATUS get_elsewhere(const char *call, uint8_t kind, PFLT_INSTANCE instance, PFLT_VOLUME volume, PFLT_CONTEXT *found)
 {
-    PFLT_INSTANCE at = instance ? instance : instance_on(kz.place.filter, volume);
-    uint8_t worker = kz_helper(), own = kz.place.worker;
-    if (!is_object(instance, volume, NULL) || !at || at->filter != kz.place.filter || !kz_enter_query(at, worker)) {
-        kz_helped();
+    PFLT_INSTANCE at = instance ? instance : instance_on(kz_me->place.filter, volume);
+    uint8_t worker = kz_helper(), own = kz_me->place.worker;
+    if (!is_object(instance, volume, NULL) || !at || at->filter != kz_me->place.filter || !kz_enter_query(at, worker)) {
+        kz_helped(worker);
         return refuse(call, instance, volume, NULL);
     }
-    kz.place.worker = worker;
+    kz_me->place.worker = worker;
     NTSTATUS status = get(call, kind, found);
     if (*found)
-        keep(find(*found), &kz.place);
-    kz.place.worker = own;
+        keep(find(*found), &kz_me->place);
+    kz_me->place.worker = own;
     kz_leave_query(at, worker);
-    kz_helped();
+    kz_helped(worker);
     return status;
 }
 
 static NTSTATUS take_off(const char *call, uint8_t kind, PFLT_CONTEXT *old)
 {
     uint32_t status = kz_event((KazdrinEvent){.event = KZ_DELETE, .kind = kind, .flag = old != NULL});
-    if (old && status == KZ_OK && kz.told.has)
-        *old = body_of(kz.told.slot, kz.told.generation);
+    if (old && status == KZ_OK && kz_me->told.has)
+        *old = taken_body(kz_me->told.slot, kz_me->told.generation);
     kz_tell_refused(call, status);
     kz_clean_up();
     return kz_ntstatus(status);
@@ -394,6 +415,7 @@ static NTSTATUS take_off(const char *call, uint8_t kind, PFLT_CONTEXT *old)
 
 NTSTATUS FltSetVolumeContext(PFLT_VOLUME Volume, FLT_SET_CONTEXT_OPERATION Operation, PFLT_CONTEXT NewContext, PFLT_CONTEXT *OldContext)
 {
+    KZ_CALL();
     if (OldContext)
         *OldContext = NULL;
     return is_own(NULL, Volume, NULL) ? set(__func__, 0, Operation, NewContext, OldContext) : refuse(__func__, NULL, Volume, NULL);
@@ -401,6 +423,7 @@ NTSTATUS FltSetVolumeContext(PFLT_VOLUME Volume, FLT_SET_CONTEXT_OPERATION Opera
 
 NTSTATUS FltSetInstanceContext(PFLT_INSTANCE Instance, FLT_SET_CONTEXT_OPERATION Operation, PFLT_CONTEXT NewContext, PFLT_CONTEXT *OldContext)
 {
+    KZ_CALL();
     if (OldContext)
         *OldContext = NULL;
     return is_own(Instance, NULL, NULL) ? set(__func__, 1, Operation, NewContext, OldContext) : refuse(__func__, Instance, NULL, NULL);
@@ -409,6 +432,7 @@ NTSTATUS FltSetInstanceContext(PFLT_INSTANCE Instance, FLT_SET_CONTEXT_OPERATION
 NTSTATUS FltSetStreamContext(PFLT_INSTANCE Instance, PFILE_OBJECT FileObject, FLT_SET_CONTEXT_OPERATION Operation, PFLT_CONTEXT NewContext,
                              PFLT_CONTEXT *OldContext)
 {
+    KZ_CALL();
     if (OldContext)
         *OldContext = NULL;
     return is_own(Instance, NULL, FileObject) ? set(__func__, 2, Operation, NewContext, OldContext) : refuse(__func__, Instance, NULL, FileObject);
@@ -417,6 +441,7 @@ NTSTATUS FltSetStreamContext(PFLT_INSTANCE Instance, PFILE_OBJECT FileObject, FL
 NTSTATUS FltSetStreamHandleContext(PFLT_INSTANCE Instance, PFILE_OBJECT FileObject, FLT_SET_CONTEXT_OPERATION Operation, PFLT_CONTEXT NewContext,
                                    PFLT_CONTEXT *OldContext)
 {
+    KZ_CALL();
     if (OldContext)
         *OldContext = NULL;
     return is_own(Instance, NULL, FileObject) ? set(__func__, 3, Operation, NewContext, OldContext) : refuse(__func__, Instance, NULL, FileObject);
@@ -424,6 +449,7 @@ NTSTATUS FltSetStreamHandleContext(PFLT_INSTANCE Instance, PFILE_OBJECT FileObje
 
 NTSTATUS FltGetVolumeContext(PFLT_FILTER Filter, PFLT_VOLUME Volume, PFLT_CONTEXT *Context)
 {
+    KZ_CALL();
     (void)Filter;
     *Context = NULL;
     return is_own(NULL, Volume, NULL) ? get(__func__, 0, Context) : get_elsewhere(__func__, 0, NULL, Volume, Context);
@@ -431,24 +457,28 @@ NTSTATUS FltGetVolumeContext(PFLT_FILTER Filter, PFLT_VOLUME Volume, PFLT_CONTEX
 
 NTSTATUS FltGetInstanceContext(PFLT_INSTANCE Instance, PFLT_CONTEXT *Context)
 {
+    KZ_CALL();
     *Context = NULL;
     return is_own(Instance, NULL, NULL) ? get(__func__, 1, Context) : get_elsewhere(__func__, 1, Instance, NULL, Context);
 }
 
 NTSTATUS FltGetStreamContext(PFLT_INSTANCE Instance, PFILE_OBJECT FileObject, PFLT_CONTEXT *Context)
 {
+    KZ_CALL();
     *Context = NULL;
     return is_own(Instance, NULL, FileObject) ? get(__func__, 2, Context) : refuse(__func__, Instance, NULL, FileObject);
 }
 
 NTSTATUS FltGetStreamHandleContext(PFLT_INSTANCE Instance, PFILE_OBJECT FileObject, PFLT_CONTEXT *Context)
 {
+    KZ_CALL();
     *Context = NULL;
     return is_own(Instance, NULL, FileObject) ? get(__func__, 3, Context) : refuse(__func__, Instance, NULL, FileObject);
 }
 
 NTSTATUS FltDeleteVolumeContext(PFLT_FILTER Filter, PFLT_VOLUME Volume, PFLT_CONTEXT *OldContext)
 {
+    KZ_CALL();
     (void)Filter;
     if (OldContext)
         *OldContext = NULL;
@@ -457,6 +487,7 @@ NTSTATUS FltDeleteVolumeContext(PFLT_FILTER Filter, PFLT_VOLUME Volume, PFLT_CON
 
 NTSTATUS FltDeleteInstanceContext(PFLT_INSTANCE Instance, PFLT_CONTEXT *OldContext)
 {
+    KZ_CALL();
     if (OldContext)
         *OldContext = NULL;
     return is_own(Instance, NULL, NULL) ? take_off(__func__, 1, OldContext) : refuse(__func__, Instance, NULL, NULL);
@@ -464,6 +495,7 @@ NTSTATUS FltDeleteInstanceContext(PFLT_INSTANCE Instance, PFLT_CONTEXT *OldConte
 
 NTSTATUS FltDeleteStreamContext(PFLT_INSTANCE Instance, PFILE_OBJECT FileObject, PFLT_CONTEXT *OldContext)
 {
+    KZ_CALL();
     if (OldContext)
         *OldContext = NULL;
     return is_own(Instance, NULL, FileObject) ? take_off(__func__, 2, OldContext) : refuse(__func__, Instance, NULL, FileObject);
@@ -471,6 +503,7 @@ NTSTATUS FltDeleteStreamContext(PFLT_INSTANCE Instance, PFILE_OBJECT FileObject,
 
 NTSTATUS FltDeleteStreamHandleContext(PFLT_INSTANCE Instance, PFILE_OBJECT FileObject, PFLT_CONTEXT *OldContext)
 {
+    KZ_CALL();
     if (OldContext)
         *OldContext = NULL;
     return is_own(Instance, NULL, FileObject) ? take_off(__func__, 3, OldContext) : refuse(__func__, Instance, NULL, FileObject);
@@ -479,6 +512,7 @@ NTSTATUS FltDeleteStreamHandleContext(PFLT_INSTANCE Instance, PFILE_OBJECT FileO
 /* Takes a context off its object, if that is the callback's own. The caller's reference stays. */
 VOID FltDeleteContext(PFLT_CONTEXT Context)
 {
+    KZ_CALL();
     Header *context = context_of(Context, __func__);
     PFLT_CONTEXT there = NULL;
     if (!context || get(__func__, context->kind, &there) != STATUS_SUCCESS)
@@ -542,6 +576,7 @@ BOOLEAN FltSupportsFileContextsEx(PFILE_OBJECT FileObject, PFLT_INSTANCE Instanc
 
 BOOLEAN FltSupportsStreamContexts(PFILE_OBJECT FileObject)
 {
+    KZ_INSIDE();
     KzFile *file = kz_file_with(FileObject);
     return file && !file->is_directory;
 }
@@ -555,14 +590,14 @@ BOOLEAN FltSupportsStreamHandleContexts(PFILE_OBJECT FileObject)
 static uint64_t held_count(void)
 {
     KazdrinCounts counts = {0};
-    kazdrin_counts(&kz.manager, &(KazdrinEvent){.worker = kz.place.worker}, &counts);
+    kazdrin_counts(&kz.manager, &(KazdrinEvent){.worker = kz_me->place.worker}, &counts);
     return counts.held;
 }
 
 static bool held_at(uint32_t place, uint32_t *slot, uint32_t *generation)
 {
     KazdrinTold told = {0};
-    kazdrin_held_at(&kz.manager, &(KazdrinEvent){.len = place, .worker = kz.place.worker}, &told);
+    kazdrin_held_at(&kz.manager, &(KazdrinEvent){.len = place, .worker = kz_me->place.worker}, &told);
     *slot = told.slot;
     *generation = told.generation;
     return told.has;
@@ -586,7 +621,7 @@ bool kz_sends(KzOp *op, PVOID completion, KazdrinEvent *event)
     }
     if (event->flag && !named) {
         KzSent *sent = kz_block(op, sizeof *sent);
-        *sent = (KzSent){op->sent, body_of(event->slot, event->generation), kz.place};
+        *sent = (KzSent){op->sent, body_of(event->slot, event->generation), kz_me->place};
         op->sent = sent;
     }
     return event->flag;
@@ -595,13 +630,13 @@ bool kz_sends(KzOp *op, PVOID completion, KazdrinEvent *event)
 /* Where a reference was left: in the preoperation that sent it beside something else, or here. */
 static KzPlace left_in(PVOID body)
 {
-    for (KzSent **at = kz.place.op ? &kz.place.op->sent : NULL; at && *at; at = &(*at)->next)
-        if ((*at)->body == body && (*at)->place.instance == kz.place.instance) {
+    for (KzSent **at = kz_me->place.op ? &kz_me->place.op->sent : NULL; at && *at; at = &(*at)->next)
+        if ((*at)->body == body && (*at)->place.instance == kz_me->place.instance) {
             KzPlace place = (*at)->place;
             *at = (*at)->next;
             return place;
         }
-    return kz.place;
+    return kz_me->place;
 }
 
 /* The callback is about to return: the host keeps what it still holds, but for the one reference that its completion takes along. */
@@ -630,7 +665,7 @@ static void tell_leaks(Header *context)
     for (Kept *kept = context->kept; kept; kept = kept->next) {
         KzPlace before = kz_enter_again(&kept->place);
         kz_tell(KZ_LEAK, "FltReleaseContext", "never called for a reference to %s context", kind_names[context->kind]);
-        kz.place = before;
+        kz_me->place = before;
         kz.counts.leaked++;
     }
 }

@@ -26,9 +26,9 @@ static void tell(const char *what)
     put(": ");
     kz_place_text(place, sizeof place);
     put(place);
-    if (kz.place.data && kz.place.op) {
+    if (kz_me->place.data && kz_me->place.op) {
         put(", ");
-        put(FltGetIrpName(kz_major(kz.place.op->event)));
+        put(FltGetIrpName(kz_major(kz_me->place.op->event)));
     }
     put("\n");
 }

@@ -204,7 +204,7 @@ static void show_parameters(KzOp *op, FLT_PARAMETERS *shown)
         show_buffer(op, shown);
         break;
     case KZ_WRITE:
-        op->asked = copied(op, kz.room, op->lent.length);
+        op->asked = copied(op, kz_me->room, op->lent.length);
         op->asked_length = op->lent.length;
         shown->Write.Length = (ULONG)op->asked_length;
         shown->Write.ByteOffset.QuadPart = (LONGLONG)op->lent.offset;
@@ -251,7 +251,7 @@ static ULONG irp_flags_of(uint8_t event)
 /* Fills the kit's structures from what the worker was lent. */
 static void show(KzOp *op, PFLT_INSTANCE instance)
 {
-    kazdrin_lent(&kz.manager, &(KazdrinEvent){.worker = kz.place.worker}, &op->lent, kz.room, sizeof kz.room);
+    kazdrin_lent(&kz.manager, &(KazdrinEvent){.worker = kz_me->place.worker}, &op->lent, kz_me->room, sizeof kz_me->room);
     memset(op->iopb, 0, sizeof *op->iopb);
     op->iopb->IrpFlags = irp_flags_of(op->event);
     op->iopb->MajorFunction = kz_major(op->event);
@@ -275,10 +275,10 @@ static void put_served(KzOp *op)
     if (!op->is_served)
         return;
     op->is_served = false;
-    KazdrinEvent put = {.worker = kz.place.worker, .status = op->lent.status, .number = op->lent.number, .offset = op->served, .flag = op->served_bytes != NULL};
+    KazdrinEvent put = {.worker = kz_me->place.worker, .status = op->lent.status, .number = op->lent.number, .offset = op->served, .flag = op->served_bytes != NULL};
     if (kazdrin_answer(&kz.manager, &put, op->served_bytes ? op->served_bytes : (const uint8_t *)"", op->served_length) != KZ_OK)
         kz_tell(KZ_LONG_ANSWER, "FLT_PREOP_COMPLETE", "an answer past a limit: it doesn't count");
-    kazdrin_lent(&kz.manager, &(KazdrinEvent){.flag = 1, .worker = kz.place.worker}, &op->lent, kz.room, sizeof kz.room);
+    kazdrin_lent(&kz.manager, &(KazdrinEvent){.flag = 1, .worker = kz_me->place.worker}, &op->lent, kz_me->room, sizeof kz_me->room);
 }
 
 void kz_show_pre(KzOp *op, PFLT_INSTANCE instance)
@@ -331,7 +331,7 @@ static const uint8_t *written(KzOp *op)
 static bool changed(KzOp *op, KazdrinEvent *event, const uint8_t **bytes, size_t *length)
 {
     const FLT_PARAMETERS *now = &op->iopb->Parameters;
-    *event = (KazdrinEvent){.event = op->event, .worker = kz.place.worker};
+    *event = (KazdrinEvent){.event = op->event, .worker = kz_me->place.worker};
     switch (op->event) {
     case KZ_CREATE: {
         ULONG disposition = now->Create.Options >> 24;
@@ -389,7 +389,7 @@ static void check_target(KzOp *op, bool is_dirty)
 static void take_in_place(KzOp *op)
 {
     kz_tell(KZ_WRITE_IN_PLACE, "FLT_IO_PARAMETER_BLOCK", "the bytes of WriteBuffer were changed in place: that is the caller's own memory");
-    KazdrinEvent event = {.event = KZ_WRITE, .worker = kz.place.worker, .offset = op->lent.offset};
+    KazdrinEvent event = {.event = KZ_WRITE, .worker = kz_me->place.worker, .offset = op->lent.offset};
     kazdrin_change(&kz.manager, &event, op->asked, op->asked_length);
     memcpy(op->pristine, op->asked, op->asked_length);
 }
@@ -513,9 +513,9 @@ void kz_show_post(KzOp *op, PFLT_INSTANCE instance)
     if (has_buffer(op) && !op->visits)
         visit(op, instance);
     show(op, instance);
-    kazdrin_lent(&kz.manager, &(KazdrinEvent){.flag = 1, .worker = kz.place.worker}, &op->lent, kz.room, sizeof kz.room);
+    kazdrin_lent(&kz.manager, &(KazdrinEvent){.flag = 1, .worker = kz_me->place.worker}, &op->lent, kz_me->room, sizeof kz_me->room);
     put_served(op);
-    op->answered = copied(op, kz.room, op->lent.length);
+    op->answered = copied(op, kz_me->room, op->lent.length);
     op->answered_length = op->lent.length;
     op->data->Flags |= FLTFL_CALLBACK_DATA_POST_OPERATION;
     op->data->IoStatus.Status = op->other ? op->other : kz_ntstatus(op->lent.status);
@@ -541,9 +541,9 @@ static const uint8_t *answer_in(KzOp *op, uint64_t said, uint64_t *information, 
         *information = said >= sizeof(FILE_STANDARD_INFORMATION) ? (uint64_t)((PFILE_STANDARD_INFORMATION)*buffer)->EndOfFile.QuadPart : 0;
         return NULL;
     case KZ_LIST:
-        *length = said ? names_in(*buffer, least(said, room), kz.room, KZ_BYTES) : 0;
+        *length = said ? names_in(*buffer, least(said, room), kz_me->room, KZ_BYTES) : 0;
         *information = *length;
-        return kz.room;
+        return kz_me->room;
     default:
         *information = said;
         return NULL;
@@ -615,7 +615,7 @@ void kz_take_post(KzOp *op)
         return;
     }
     uint32_t status = op->data->IoStatus.Status == op->status_shown.Status ? op->lent.status : status_of(op, op->data->IoStatus.Status);
-    KazdrinEvent put = {.worker = kz.place.worker, .status = (uint8_t)status, .number = op->lent.number, .offset = information, .flag = bytes != NULL};
+    KazdrinEvent put = {.worker = kz_me->place.worker, .status = (uint8_t)status, .number = op->lent.number, .offset = information, .flag = bytes != NULL};
     if (kazdrin_answer(&kz.manager, &put, bytes ? bytes : (const uint8_t *)"", length) != KZ_OK)
         kz_tell(KZ_LONG_ANSWER, "FLT_CALLBACK_DATA", "an answer past a limit of the manager: it doesn't count");
 }
@@ -687,6 +687,7 @@ NTSTATUS FltDecodeParameters(PFLT_CALLBACK_DATA CallbackData, PMDL **MdlAddressP
 /* A description of the buffer, which the manager frees. It changes no parameter. */
 NTSTATUS FltLockUserBuffer(PFLT_CALLBACK_DATA CallbackData)
 {
+    KZ_INSIDE();
     PMDL *mdl;
     PVOID *buffer;
     PULONG length;
@@ -698,8 +699,8 @@ NTSTATUS FltLockUserBuffer(PFLT_CALLBACK_DATA CallbackData)
     NTSTATUS status = FltDecodeParameters(CallbackData, &mdl, &buffer, &length, NULL);
     if (!NT_SUCCESS(status) || !mdl || *mdl || !*buffer || !*length)
         return status;
-    PFLT_FILTER filter = kz.place.filter;
-    kz.place.filter = NULL;
+    PFLT_FILTER filter = kz_me->place.filter;
+    kz_me->place.filter = NULL;
     PMDL made = IoAllocateMdl(*buffer, *length, FALSE, FALSE, NULL);
     if (made) {
         made->MdlFlags |= MDL_PAGES_LOCKED;
@@ -709,12 +710,13 @@ NTSTATUS FltLockUserBuffer(PFLT_CALLBACK_DATA CallbackData)
         if (op->visits && *buffer == op->visits->received)
             op->visits->received_mdl = made;
     }
-    kz.place.filter = filter;
+    kz_me->place.filter = filter;
     return made ? STATUS_SUCCESS : STATUS_INSUFFICIENT_RESOURCES;
 }
 
 PVOID FltGetSwappedBufferMdlAddress(PFLT_CALLBACK_DATA CallbackData)
 {
+    KZ_INSIDE();
     KzOp *op = kz_op_with(CallbackData);
     return op && op->mdls ? op->mdls->mdl : NULL;
 }
@@ -722,6 +724,7 @@ PVOID FltGetSwappedBufferMdlAddress(PFLT_CALLBACK_DATA CallbackData)
 /* The driver frees it itself. */
 VOID FltRetainSwappedBufferMdlAddress(PFLT_CALLBACK_DATA CallbackData)
 {
+    KZ_INSIDE();
     KzOp *op = kz_op_with(CallbackData);
     if (op && op->mdls)
         op->mdls->mdl = NULL;
@@ -742,16 +745,19 @@ BOOLEAN FltDoCompletionProcessingWhenSafe(PFLT_CALLBACK_DATA Data, PCFLT_RELATED
 
 HANDLE FltGetRequestorProcessIdEx(PFLT_CALLBACK_DATA CallbackData)
 {
+    KZ_INSIDE();
     return PsGetThreadProcessId(CallbackData->Thread);
 }
 
 ULONG FltGetRequestorProcessId(PFLT_CALLBACK_DATA CallbackData)
 {
+    KZ_INSIDE();
     return HandleToULong(FltGetRequestorProcessIdEx(CallbackData));
 }
 
 PEPROCESS FltGetRequestorProcess(PFLT_CALLBACK_DATA CallbackData)
 {
+    KZ_INSIDE();
     return IoThreadToProcess(CallbackData->Thread);
 }
 
@@ -772,6 +778,7 @@ NTSTATUS FltRequestOperationStatusCallback(PFLT_CALLBACK_DATA Data, PFLT_GET_OPE
 
 NTSTATUS FltIsDirectory(PFILE_OBJECT FileObject, PFLT_INSTANCE Instance, PBOOLEAN IsDirectory)
 {
+    KZ_INSIDE();
     (void)Instance;
     KzFile *file = kz_file_with(FileObject);
     *IsDirectory = file && file->is_directory;

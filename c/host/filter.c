@@ -157,9 +157,10 @@ NTSTATUS FltRegisterFilter(PDRIVER_OBJECT Driver, CONST FLT_REGISTRATION *Regist
 {
     (void)Driver;
     *RetFilter = NULL;
-    PFLT_FILTER filter = kz.place.filter;
+    KZ_INSIDE();
+    PFLT_FILTER filter = kz_me->place.filter;
     uint8_t contexts;
-    if (kz.place.callback != KZ_IN_ENTRY || filter->is_registered) {
+    if (kz_me->place.callback != KZ_IN_ENTRY || filter->is_registered) {
         kz_tell(KZ_REGISTERED_OUTSIDE, __func__, "outside DriverEntry, or called twice");
         return STATUS_INVALID_PARAMETER;
     }
@@ -170,12 +171,30 @@ NTSTATUS FltRegisterFilter(PDRIVER_OBJECT Driver, CONST FLT_REGISTRATION *Regist
     uint32_t status = register_with_manager(filter, contexts);
     if (status != KZ_OK)
         return kz_ntstatus(status);
-    filter->id = kz.told.filter;
-    filter->phase = KZ_LOADED;
+    filter->id = kz_me->told.filter;
     filter->is_registered = true;
     kz.filters[kz.filters_count++] = filter;
     *RetFilter = filter;
     return STATUS_SUCCESS;
+}
+
+/* How far it is in the manager. */
+uint64_t kz_filter_phase(PFLT_FILTER filter)
+{
+    KazdrinTold told = {0};
+    if (filter->is_registered)
+        kazdrin_phase(&kz.manager, &(KazdrinEvent){.mode = KZ_OF_FILTER, .filter = filter->id}, &told);
+    return told.has ? told.number : KZ_FILTER_NOT_LOADED;
+}
+
+static bool is_loaded(PFLT_FILTER filter)
+{
+    return kz_filter_phase(filter) == KZ_FILTER_LOADED;
+}
+
+static bool is_gone(PFLT_FILTER filter)
+{
+    return kz_filter_phase(filter) == KZ_FILTER_NOT_LOADED;
 }
 
 bool kz_is_filter(PFLT_FILTER filter)
@@ -188,7 +207,8 @@ bool kz_is_filter(PFLT_FILTER filter)
 
 NTSTATUS FltStartFiltering(PFLT_FILTER Filter)
 {
-    if (!kz_is_filter(Filter) || Filter->phase != KZ_LOADED) {
+    KZ_CALL();
+    if (!kz_is_filter(Filter) || !is_loaded(Filter)) {
         kz_tell(KZ_NO_FILTER_OBJECT, __func__, "no filter");
         return STATUS_INVALID_PARAMETER;
     }
@@ -200,21 +220,13 @@ NTSTATUS FltStartFiltering(PFLT_FILTER Filter)
 }
 
 /* ---- The end of a filter. */
-static void stop_instances(PFLT_FILTER filter)
-{
-    filter->phase = KZ_UNLOADING;
-    for (size_t at = 0; at < kz.instances_count; at++)
-        if (kz.instances[at]->filter == filter && kz.instances[at]->phase == KZ_ATTACHED)
-            kz.instances[at]->phase = KZ_STOPPING;
-}
-
 static uint32_t end_instances(PFLT_FILTER filter)
 {
     FLT_INSTANCE_TEARDOWN_FLAGS reason = filter->is_mandatory ? FLTFL_INSTANCE_TEARDOWN_MANDATORY_FILTER_UNLOAD : FLTFL_INSTANCE_TEARDOWN_FILTER_UNLOAD;
     uint32_t first = KZ_OK;
     for (size_t at = 0; at < kz.instances_count; at++) {
         PFLT_INSTANCE instance = kz.instances[at];
-        uint32_t status = instance->filter == filter && instance->phase != KZ_DETACHED ? kz_tear_down(instance, reason) : KZ_OK;
+        uint32_t status = instance->filter == filter && kz_phase(instance) != KZ_INSTANCE_DETACHED ? kz_tear_down(instance, reason) : KZ_OK;
         first = first == KZ_OK ? status : first;
     }
     return first;
@@ -224,46 +236,45 @@ static uint32_t end_instances(PFLT_FILTER filter)
 static uint32_t end(PFLT_FILTER filter)
 {
     uint32_t status = end_instances(filter);
-    while (status == KZ_BUSY && (kz_run_dpc() || kz_work())) {
+    while (status == KZ_BUSY && !kz_has_others() && (kz_run_dpc() || kz_work())) {
         kz_settle();
         status = end_instances(filter);
     }
     if (status != KZ_OK)
         return status;
-    status = kz_event((KazdrinEvent){.event = KZ_EMPTY_FILTER, .filter = filter->id});
+    status = kz_until_free((KazdrinEvent){.event = KZ_EMPTY_FILTER, .filter = filter->id}, NULL);
     if (status != KZ_OK)
         return status;
     kz_clean_up();
-    status = kz_event((KazdrinEvent){.event = KZ_FINISH_FILTER, .filter = filter->id});
-    if (status == KZ_OK)
-        filter->phase = KZ_ENDED;
+    status = kz_until_free((KazdrinEvent){.event = KZ_FINISH_FILTER, .filter = filter->id}, NULL);
+    kz_scheduler->touch(filter, 0, KZ_TAKES);
     return status;
 }
 
 static void force(PFLT_FILTER filter)
 {
     filter->is_mandatory = true;
-    if (kz_event((KazdrinEvent){.event = KZ_FORCE_UNLOAD, .filter = filter->id}) == KZ_OK)
-        stop_instances(filter);
+    kz_event((KazdrinEvent){.event = KZ_FORCE_UNLOAD, .filter = filter->id});
 }
 
 /* Inside the unload callback it ends that in the manager, and tears down what is left; in DriverEntry, and in a mandatory unload, it takes the registration back. */
 VOID FltUnregisterFilter(PFLT_FILTER Filter)
 {
-    KzPlace place = kz.place;
-    if (Filter != place.filter || !Filter || Filter->phase != KZ_LOADED || (place.callback != KZ_IN_UNLOAD && place.callback != KZ_IN_ENTRY)) {
+    KZ_CALL();
+    KzPlace place = kz_me->place;
+    if (Filter != place.filter || !Filter || !is_loaded(Filter) || (place.callback != KZ_IN_UNLOAD && place.callback != KZ_IN_ENTRY)) {
         kz_tell(KZ_UNREGISTERED_OUTSIDE, __func__, "outside the unload callback of the filter, or called twice");
         return;
     }
     if (place.callback == KZ_IN_ENTRY || Filter->is_mandatory)
         force(Filter);
-    else if (kz_event((KazdrinEvent){.event = KZ_UNLOAD_RETURNED, .flag = 1}) == KZ_OK)
-        stop_instances(Filter);
+    else
+        kz_event((KazdrinEvent){.event = KZ_UNLOAD_RETURNED, .flag = 1});
     Filter->end = end(Filter);
-    kz.place = place;
+    kz_me->place = place;
     if (Filter->end == KZ_BUSY)
         kz_tell(KZ_UNREGISTER_WAITS, __func__, "operations are in flight at an instance: it returns before they end");
-    if (Filter->phase == KZ_ENDED)
+    if (is_gone(Filter))
         kz_tell_kept(Filter);
 }
 
@@ -271,11 +282,13 @@ VOID FltUnregisterFilter(PFLT_FILTER Filter)
 static void call_unload(PFLT_FILTER filter, FLT_FILTER_UNLOAD_FLAGS flags)
 {
     KzPlace before = kz_enter(KZ_IN_UNLOAD, filter, NULL, NULL, NULL);
+    unsigned depth = kz_let_driver("unload");
     NTSTATUS said = filter->registration.FilterUnloadCallback(flags);
-    if (filter->phase == KZ_LOADED && NT_SUCCESS(said)) {
+    kz_driver_returned(depth, "unload returns");
+    if (is_loaded(filter) && NT_SUCCESS(said)) {
         kz_tell(KZ_AGREED_REGISTERED, "FltUnregisterFilter", "never called by an unload callback that agreed");
         FltUnregisterFilter(filter);
-    } else if (filter->phase != KZ_LOADED && !NT_SUCCESS(said)) {
+    } else if (!is_loaded(filter) && !NT_SUCCESS(said)) {
         kz_tell(KZ_REFUSED_UNREGISTERED, "FltUnregisterFilter", "called by an unload callback that refused");
     }
     kz_leave(before);
@@ -296,19 +309,20 @@ static uint32_t ask(PFLT_FILTER filter)
     if (status != KZ_OK)
         return status;
     call_unload(filter, 0);
-    if (filter->phase == KZ_ENDED)
+    if (is_gone(filter))
         tell_left(filter);
-    if (filter->phase != KZ_LOADED)
+    if (!is_loaded(filter))
         return filter->end;
     return kz_event((KazdrinEvent){.event = KZ_UNLOAD_RETURNED, .flag = 0});
 }
 
 uint32_t kz_unload(PFLT_FILTER filter)
 {
-    if (filter->phase != KZ_UNLOADING)
+    uint64_t phase = kz_filter_phase(filter);
+    if (kz_has_others() || (phase != KZ_FILTER_UNLOADING && phase != KZ_FILTER_EMPTIED))
         return ask(filter);
     filter->end = end(filter);
-    if (filter->phase == KZ_ENDED)
+    if (is_gone(filter))
         tell_left(filter);
     return filter->end;
 }
@@ -318,14 +332,14 @@ void kz_unload_all(void)
 {
     for (size_t at = 0; at < kz.filters_count; at++) {
         PFLT_FILTER filter = kz.filters[at];
-        if (filter->phase != KZ_ENDED)
+        if (!is_gone(filter))
             kz_unload(filter);
-        if (filter->phase != KZ_LOADED)
+        if (!is_loaded(filter))
             continue;
         filter->is_mandatory = true;
         if (filter->registration.FilterUnloadCallback)
             call_unload(filter, FLTFL_FILTER_UNLOAD_MANDATORY);
-        if (filter->phase == KZ_LOADED) {
+        if (is_loaded(filter)) {
             force(filter);
             filter->end = end(filter);
         }
@@ -349,12 +363,15 @@ static uint32_t enter(PFLT_FILTER filter, NTSTATUS *other)
 {
     KzPlace before = kz_enter(KZ_IN_ENTRY, filter, NULL, NULL, NULL);
     name_driver(filter);
+    unsigned depth = kz_let_driver("DriverEntry");
     NTSTATUS said = filter->driver->entry(&filter->object, &filter->registry_path);
+    kz_driver_returned(depth, "DriverEntry returns");
+    kz_scheduler->touch(&filter->is_started, 0, KZ_GIVES);
     if (NT_SUCCESS(said) && !filter->is_registered)
         kz_tell(KZ_NEVER_REGISTERED, "FltRegisterFilter", "never called by a DriverEntry that succeeded");
     else if (NT_SUCCESS(said) && !filter->is_started)
         kz_tell(KZ_NEVER_STARTED, "FltStartFiltering", "never called by a DriverEntry that succeeded");
-    else if (!NT_SUCCESS(said) && filter->phase == KZ_LOADED) {
+    else if (!NT_SUCCESS(said) && is_loaded(filter)) {
         kz_tell(KZ_FAILED_REGISTERED, "FltUnregisterFilter", "never called by a DriverEntry that failed");
         FltUnregisterFilter(filter);
     }
@@ -368,10 +385,10 @@ static uint32_t enter(PFLT_FILTER filter, NTSTATUS *other)
 }
 
 /* A driver has one set of globals, so that it is loaded once at a time. */
-static bool is_loaded(const KzDriver *driver)
+static bool is_in_use(const KzDriver *driver)
 {
     for (size_t at = 0; at < kz.filters_count; at++)
-        if (kz.filters[at]->driver == driver && kz.filters[at]->phase != KZ_ENDED)
+        if (kz.filters[at]->driver == driver && !is_gone(kz.filters[at]))
             return true;
     return false;
 }
@@ -386,13 +403,12 @@ uint32_t kz_load(const char *name, const char *altitude, uint64_t *number, NTSTA
             driver = &kz.drivers[at];
     if (!driver)
         return KZ_NO_FILTER;
-    if (is_loaded(driver))
+    if (is_in_use(driver))
         return KZ_ALREADY_LOADED;
     if (kz.filters_count == sizeof kz.filters / sizeof kz.filters[0])
         return KZ_TOO_MANY;
     PFLT_FILTER filter = kz_memory(sizeof *filter);
     filter->driver = driver;
-    filter->phase = KZ_ENDED;
     snprintf(filter->altitude, sizeof filter->altitude, "%s", altitude);
     uint32_t status = enter(filter, other);
     kz_settle();

@@ -196,21 +196,34 @@ void kz_format(KzPut put, void *sink, const void *format, bool is_wide, va_list 
     }
 }
 
-/* ---- To the standard output. */
+/* ---- To where all is said, a piece at a time. */
+typedef struct {
+    size_t length;
+    char text[512];
+} Piece;
+
 static void put_out(void *sink, WCHAR letter)
 {
-    (void)sink;
-    putchar(letter < 127 ? letter : '?');
+    Piece *piece = sink;
+    if (piece->length + 1 == sizeof piece->text) {
+        kz_put(piece->text);
+        piece->length = 0;
+    }
+    piece->text[piece->length++] = (char)(letter < 127 ? letter : '?');
+    piece->text[piece->length] = 0;
 }
 
 ULONG vDbgPrintExWithPrefix(PCSTR Prefix, ULONG ComponentId, ULONG Level, PCSTR Format, va_list Arguments)
 {
     (void)ComponentId, (void)Level;
+    KZ_INSIDE();
+    Piece piece = {0};
     va_list arguments;
     va_copy(arguments, Arguments);
     if (!kz_is_quiet) {
-        fputs(Prefix, stdout);
-        kz_format(put_out, NULL, Format, false, &arguments);
+        kz_put(Prefix);
+        kz_format(put_out, &piece, Format, false, &arguments);
+        kz_put(piece.text);
     }
     va_end(arguments);
     return (ULONG)STATUS_SUCCESS;

@@ -43,7 +43,7 @@ void *kz_take_memory(KzMemory kind, size_t size, int fill, ULONG tag)
     KzPiece *piece = malloc(sizeof *piece + ZONE + size + ZONE);
     if (!piece)
         return NULL;
-    *piece = (KzPiece){.next = pieces, .size = size, .kind = kind, .filter = kz.place.filter, .tag = tag};
+    *piece = (KzPiece){.next = pieces, .size = size, .kind = kind, .filter = kz_me->place.filter, .tag = tag};
     if (pieces)
         pieces->before = piece;
     pieces = piece;
@@ -151,7 +151,7 @@ static void forget(size_t place)
         return;
     KzPlace before = kz_enter(KZ_IN_NOTHING, piece->filter, NULL, NULL, NULL);
     look_at(piece);
-    kz.place = before;
+    kz_me->place = before;
     free(piece);
 }
 
@@ -190,7 +190,7 @@ void kz_tell_pools(PFLT_FILTER filter)
     for (KzPiece *piece = pieces; piece; piece = piece->next)
         if (piece->kind == KZ_POOL && piece->filter == filter)
             kz_tell(KZ_POOL_LEAK, "ExFreePoolWithTag", "never called for %llu bytes of a pool, tag '%s'", (unsigned long long)piece->size, kz_tag(piece->tag, tag));
-    kz.place = before;
+    kz_me->place = before;
 }
 
 void kz_free_memory(void)

@@ -10,8 +10,8 @@ int kz_is_quiet;
 uint32_t kz_event_with(KazdrinEvent event, const void *bytes, size_t length)
 {
     if (!event.worker)
-        event.worker = kz.place.worker;
-    return kazdrin_step(&kz.manager, &event, bytes, length, &kz.told, kz.room, sizeof kz.room);
+        event.worker = kz_me->place.worker;
+    return kazdrin_step(&kz.manager, &event, bytes, length, &kz_me->told, kz_me->room, sizeof kz_me->room);
 }
 
 uint32_t kz_event(KazdrinEvent event)
@@ -19,15 +19,43 @@ uint32_t kz_event(KazdrinEvent event)
     return kz_event_with(event, "", 0);
 }
 
+typedef struct {
+    PFLT_INSTANCE instance;
+    uint64_t changes;
+} Busy;
+
+static bool is_free(void *busy)
+{
+    const Busy *one = busy;
+    return kz.changes != one->changes && (!one->instance || !one->instance->in_flight);
+}
+
+/* An event that waits for what is in flight, or for contexts: others may end that meanwhile. */
+uint32_t kz_until_free(KazdrinEvent event, PFLT_INSTANCE instance)
+{
+    kz_pause("end");
+    Busy busy = {instance, kz.changes};
+    uint32_t status = kz_event(event);
+    while (status == KZ_BUSY && kz_has_others() && kz_wait(is_free, &busy, instance ? "what is in flight at an instance" : "what goes on still", instance ? instance->id : 0)) {
+        busy.changes = kz.changes;
+        status = kz_event(event);
+    }
+    return status;
+}
+
 /* Another worker of the session, which is idle: it cleans up, or is in a callback, while the current one is in its own. */
 uint8_t kz_helper(void)
 {
-    return (uint8_t)(16 + kz.helpers++ % 32);
+    uint8_t place = 0;
+    while (place < 31 && kz.helpers >> place & 1)
+        place++;
+    kz.helpers |= (uint32_t)1 << place;
+    return (uint8_t)(16 + place);
 }
 
-void kz_helped(void)
+void kz_helped(uint8_t worker)
 {
-    kz.helpers--;
+    kz.helpers &= ~((uint32_t)1 << (worker - 16));
 }
 
 /* Memory that is all zeros. A test program has no use of going on without. */
@@ -43,12 +71,20 @@ void *kz_memory(size_t size)
 
 void kz_say(const char *format, ...)
 {
+    char text[1024];
     if (kz_is_quiet)
         return;
     va_list arguments;
     va_start(arguments, format);
-    vprintf(format, arguments);
+    vsnprintf(text, sizeof text, format, arguments);
     va_end(arguments);
+    kz_put(text);
+}
+
+/* What is said goes where the scheduler puts it. */
+void kz_put(const char *text)
+{
+    kz_scheduler->put(text);
 }
 
 KzCounts kz_counts(void)
@@ -63,8 +99,9 @@ KzCounts kz_counts(void)
 
 int kz_open(const KzDriver *drivers, size_t count)
 {
-    kz = (KzHost){.drivers = drivers, .drivers_count = count, .process = 100, .thread = 104};
+    kz = (KzHost){.drivers = drivers, .drivers_count = count};
     kz.resumed_end = &kz.resumed;
+    kz_new_client(kz_me, "first", 0);
     kz_watch_crashes();
     if (kazdrin_open(&kz.manager) != KZ_OK)
         return 1;

@@ -53,6 +53,7 @@ typedef enum {
 } KzCallback;
 
 typedef struct KzOp KzOp;
+typedef struct KzClient KzClient;
 
 /* The callback that runs, with a number of its own. `worker` is that of the manager which is in it. */
 typedef struct {
@@ -67,14 +68,10 @@ typedef struct {
     uint8_t worker;
 } KzPlace;
 
-/* How far a filter's end came, and an instance's. The manager knows it too: these are its phases as the host saw them last. */
-typedef enum { KZ_LOADED, KZ_UNLOADING, KZ_ENDED } KzFilterPhase;
-
 struct _FLT_FILTER {
     uint8_t id;
     const KzDriver *driver;
     FLT_REGISTRATION registration;
-    KzFilterPhase phase;
     bool is_registered, is_started, is_mandatory;
     uint32_t end; /* how far its end came: 0, or the status that stopped it */
     char altitude[68]; /* where it is attached by itself; empty if it isn't */
@@ -93,15 +90,13 @@ struct _FLT_VOLUME {
     bool is_read_only, is_snapshot;
 };
 
-typedef enum { KZ_SETTING_UP, KZ_ATTACHED, KZ_STOPPING, KZ_EMPTYING, KZ_DETACHED } KzPhase;
-
 struct _FLT_INSTANCE {
     uint16_t id;
     PFLT_FILTER filter;
     PFLT_VOLUME volume;
-    KzPhase phase;
-    bool was_started; /* its teardown-start callback was called */
-    bool is_asked;    /* a worker is in its query callback */
+    bool is_asked;          /* a worker is in its query callback */
+    unsigned in_flight;     /* operations that owe it a postoperation or a drain, or that it holds or looks at */
+    KzClient *torn_down_by; /* who takes it through its teardown */
     char name[40], altitude[68];
 };
 
@@ -111,7 +106,7 @@ typedef struct KzFile {
     SECTION_OBJECT_POINTERS sections;
     struct KzFile *next;
     uint64_t handle;
-    bool has_handle, is_directory;
+    bool has_handle, is_directory, is_close_due;
     unsigned users; /* operations, and the handle */
     PFLT_VOLUME volume;
     char path[256];
@@ -177,22 +172,23 @@ struct KzOp {
     size_t asked_length, answered_length;
     KzHold held;
     PFLT_INSTANCE holder;
-    bool is_resumed, was_told_held;
-    /* Completed by the preoperation that is to pend it, or by what that called: the verdict waits for its return. */
-    bool is_early, is_in_pre;
+    KzClient *runner; /* who carries it on, also while it is held */
+    unsigned users;   /* callbacks that look at it beside its runner */
+    bool is_resumed, is_over;
+    /* Completed by the callback that is to hold it, or meanwhile: that waits for its return. */
+    bool is_early, is_in_pre, is_in_post;
     FLT_PREOP_CALLBACK_STATUS early;
     PVOID early_context;
     KzOp *next_resumed;
 };
 
-/* All of the host. One thread at a time uses it, and what its modules keep beside it. */
+/* All of the host, with what its modules keep beside it: that of the client that is inside. */
 typedef struct {
     Kazdrin manager;
     const KzDriver *drivers;
     size_t drivers_count;
-    KzPlace place;
     uint64_t places;
-    unsigned helpers;
+    uint32_t helpers; /* a bit for each that is busy */
     PFLT_FILTER filters[16];
     PFLT_VOLUME volumes[8];
     PFLT_INSTANCE *instances;
@@ -200,9 +196,7 @@ typedef struct {
     KzOp *ops, *resumed, **resumed_end;
     KzFile *files;
     KzCounts counts;
-    KazdrinTold told;
-    uint64_t process, thread; /* who asks */
-    uint8_t room[KZ_BYTES + 64];
+    uint64_t changes; /* how often something ended that somebody may wait for */
 } KzHost;
 
 extern KzHost kz;
@@ -210,10 +204,12 @@ extern KzHost kz;
 /* host.c: events, and memory that must be there. An event is the current callback's worker's unless it says another. */
 uint32_t kz_event(KazdrinEvent event);
 uint32_t kz_event_with(KazdrinEvent event, const void *bytes, size_t length);
+uint32_t kz_until_free(KazdrinEvent event, PFLT_INSTANCE instance);
 uint8_t kz_helper(void);
-void kz_helped(void);
+void kz_helped(uint8_t worker);
 void *kz_memory(size_t size);
 void kz_say(const char *format, ...) __attribute__((format(printf, 1, 2)));
+void kz_put(const char *text);
 
 /* told.c: what is told, and where. */
 void kz_tell(KzMessage message, const char *call, const char *format, ...) __attribute__((format(printf, 3, 4)));
@@ -257,6 +253,7 @@ void kz_tell_gone(void);
 void kz_free_memory(void);
 
 /* lock.c */
+bool kz_is_taken(const void *lock);
 void kz_tell_locks(void);
 void kz_free_locks(void);
 
@@ -264,6 +261,7 @@ void kz_free_locks(void);
 void kz_tick(void);
 void kz_pass(uint64_t milliseconds);
 bool kz_run_dpc(void);
+bool kz_has_dpc(void);
 void kz_forget_timers(PFLT_FILTER filter);
 void kz_free_clock(void);
 
@@ -279,6 +277,7 @@ void kz_free_registry(void);
 
 /* work.c */
 bool kz_work(void);
+bool kz_has_work(void);
 void kz_tell_work(PFLT_FILTER filter);
 void kz_free_work(void);
 
@@ -331,6 +330,7 @@ void kz_free_ops(void);
 void kz_drop_file(uint64_t handle);
 
 /* filter.c */
+uint64_t kz_filter_phase(PFLT_FILTER filter);
 uint32_t kz_load(const char *name, const char *altitude, uint64_t *number, NTSTATUS *other);
 uint32_t kz_unload(PFLT_FILTER filter);
 void kz_unload_all(void);
@@ -339,6 +339,7 @@ UCHAR kz_major(uint8_t event);
 bool kz_is_filter(PFLT_FILTER filter);
 
 /* instance.c */
+uint64_t kz_phase(PFLT_INSTANCE instance);
 uint32_t kz_mount(const char *name, uint64_t *number);
 uint32_t kz_attach(PFLT_FILTER filter, PFLT_VOLUME volume, const char *name, const char *altitude, FLT_INSTANCE_SETUP_FLAGS flags, uint64_t *number);
 void kz_attach_by_itself(PFLT_FILTER filter, PFLT_VOLUME volume, FLT_INSTANCE_SETUP_FLAGS flags);
@@ -348,5 +349,7 @@ uint32_t kz_dismount(PFLT_VOLUME volume);
 bool kz_is_instance(PFLT_INSTANCE instance);
 bool kz_enter_query(PFLT_INSTANCE instance, uint8_t worker);
 void kz_leave_query(PFLT_INSTANCE instance, uint8_t worker);
+
+#include "client.h"
 
 #endif

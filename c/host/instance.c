@@ -9,12 +9,20 @@ uint32_t kz_mount(const char *name, uint64_t *number)
     if (status != KZ_OK)
         return status;
     PFLT_VOLUME volume = kz_memory(sizeof *volume);
-    volume->id = kz.told.volume;
+    volume->id = kz_me->told.volume;
     snprintf(volume->name, sizeof volume->name, "%s", name);
     kz_new_volume(volume);
     kz.volumes[kz.volumes_count++] = volume;
     *number = volume->id;
     return KZ_OK;
+}
+
+/* How far it is in the manager. */
+uint64_t kz_phase(PFLT_INSTANCE instance)
+{
+    KazdrinTold told = {0};
+    kazdrin_phase(&kz.manager, &(KazdrinEvent){.mode = KZ_OF_INSTANCE, .instance = instance->id}, &told);
+    return told.has ? told.number : KZ_INSTANCE_DETACHED;
 }
 
 /* ---- Attaching. */
@@ -23,16 +31,21 @@ static bool set_up(PFLT_INSTANCE instance, FLT_INSTANCE_SETUP_FLAGS flags)
     PFLT_INSTANCE_SETUP_CALLBACK callback = instance->filter->registration.InstanceSetupCallback;
     KzPlace before = kz_enter(KZ_IN_SETUP, instance->filter, instance, NULL, NULL);
     FLT_RELATED_OBJECTS objects = kz_objects(instance, NULL);
+    unsigned depth = kz_let_driver("setup");
     NTSTATUS said = callback ? callback(&objects, flags, instance->volume->device.DeviceType, instance->volume->type) : STATUS_SUCCESS;
+    kz_driver_returned(depth, "setup returns");
+    kz_scheduler->touch(&instance->id, 0, KZ_GIVES);
     kz_keep_rest(NULL);
     kz_leave(before);
     return NT_SUCCESS(said);
 }
 
+static uint32_t finish(PFLT_INSTANCE instance);
+
 static PFLT_INSTANCE new_instance(PFLT_FILTER filter, PFLT_VOLUME volume, const char *name, const char *altitude)
 {
     PFLT_INSTANCE made = kz_memory(sizeof *made);
-    *made = (struct _FLT_INSTANCE){.id = kz.told.instance, .filter = filter, .volume = volume};
+    *made = (struct _FLT_INSTANCE){.id = kz_me->told.instance, .filter = filter, .volume = volume};
     snprintf(made->name, sizeof made->name, "%s", name);
     snprintf(made->altitude, sizeof made->altitude, "%s", altitude);
     size_t size = (kz.instances_count + 1) * sizeof *kz.instances;
@@ -54,25 +67,24 @@ bool kz_is_instance(PFLT_INSTANCE instance)
 
 uint32_t kz_attach(PFLT_FILTER filter, PFLT_VOLUME volume, const char *name, const char *altitude, FLT_INSTANCE_SETUP_FLAGS flags, uint64_t *number)
 {
-    KazdrinEvent event = {.filter = filter->id, .volume = volume->id, .worker = kz.place.worker};
-    uint32_t status = kazdrin_attach(&kz.manager, &event, (const uint8_t *)name, strlen(name), (const uint8_t *)altitude, strlen(altitude), &kz.told, kz.room,
-                                     sizeof kz.room);
+    KazdrinEvent event = {.filter = filter->id, .volume = volume->id, .worker = kz_me->place.worker};
+    uint32_t status = kazdrin_attach(&kz.manager, &event, (const uint8_t *)name, strlen(name), (const uint8_t *)altitude, strlen(altitude), &kz_me->told, kz_me->room,
+                                     sizeof kz_me->room);
     if (status != KZ_OK)
         return status;
     PFLT_INSTANCE instance = new_instance(filter, volume, name, altitude);
     *number = instance->id;
     bool is_accepted = set_up(instance, flags);
     status = kz_event((KazdrinEvent){.event = KZ_SETUP_DONE, .flag = is_accepted});
-    instance->phase = status == KZ_OK ? KZ_ATTACHED : KZ_EMPTYING;
     kz_settle();
-    if (status != KZ_OK && kz_event((KazdrinEvent){.event = KZ_FINISH, .instance = instance->id}) == KZ_OK)
-        instance->phase = KZ_DETACHED;
+    if (status != KZ_OK)
+        finish(instance);
     return status;
 }
 
 void kz_attach_by_itself(PFLT_FILTER filter, PFLT_VOLUME volume, FLT_INSTANCE_SETUP_FLAGS flags)
 {
-    if (!*filter->altitude || filter->phase != KZ_LOADED || !filter->is_started || volume->is_dismounting)
+    if (!*filter->altitude || kz_filter_phase(filter) != KZ_FILTER_LOADED || !filter->is_started || volume->is_dismounting)
         return;
     char name[40];
     uint64_t number = 0;
@@ -103,20 +115,21 @@ void kz_leave_query(PFLT_INSTANCE instance, uint8_t worker)
 static uint32_t ask(PFLT_INSTANCE instance)
 {
     if (!instance->filter->registration.InstanceQueryTeardownCallback)
-        return instance->phase == KZ_ATTACHED ? KZ_DO_NOT_DETACH : KZ_NO_INSTANCE;
+        return kz_phase(instance) == KZ_INSTANCE_ATTACHED ? KZ_DO_NOT_DETACH : KZ_NO_INSTANCE;
     uint32_t status = kz_event((KazdrinEvent){.event = KZ_ASK_DETACH, .instance = instance->id});
     if (status != KZ_OK)
         return status;
     instance->is_asked = true;
     KzPlace before = kz_enter(KZ_IN_QUERY, instance->filter, instance, NULL, NULL);
     FLT_RELATED_OBJECTS objects = kz_objects(instance, NULL);
+    unsigned depth = kz_let_driver("query");
     NTSTATUS said = instance->filter->registration.InstanceQueryTeardownCallback(&objects, 0);
+    kz_driver_returned(depth, "query returns");
     kz_keep_rest(NULL);
     kz_leave(before);
     instance->is_asked = false;
     status = kz_event((KazdrinEvent){.event = KZ_QUERY_RETURNED, .flag = NT_SUCCESS(said)});
-    if (status == KZ_OK)
-        instance->phase = KZ_STOPPING;
+    kz.changes++;
     kz_settle();
     return status;
 }
@@ -126,8 +139,11 @@ static void tell_teardown(PFLT_INSTANCE instance, KzCallback place, PFLT_INSTANC
 {
     KzPlace before = kz_enter(place, instance->filter, instance, NULL, NULL);
     FLT_RELATED_OBJECTS objects = kz_objects(instance, NULL);
-    if (callback)
+    if (callback) {
+        unsigned depth = kz_let_driver(place == KZ_IN_START ? "teardown start" : "teardown complete");
         callback(&objects, reason);
+        kz_driver_returned(depth, place == KZ_IN_START ? "teardown start returns" : "teardown complete returns");
+    }
     kz_keep_rest(NULL);
     kz_leave(before);
 }
@@ -135,9 +151,8 @@ static void tell_teardown(PFLT_INSTANCE instance, KzCallback place, PFLT_INSTANC
 /* Work items that are queued run before the callback returns in the manager, so that they may complete what the instance holds. */
 static void start(PFLT_INSTANCE instance, FLT_INSTANCE_TEARDOWN_FLAGS reason)
 {
-    if (instance->was_started || kz_event((KazdrinEvent){.event = KZ_START_TEARDOWN, .instance = instance->id}) != KZ_OK)
+    if (kz_phase(instance) != KZ_INSTANCE_STOPPING || kz_event((KazdrinEvent){.event = KZ_START_TEARDOWN, .instance = instance->id}) != KZ_OK)
         return;
-    instance->was_started = true;
     tell_teardown(instance, KZ_IN_START, instance->filter->registration.InstanceTeardownStartCallback, reason);
     kz_event((KazdrinEvent){.event = KZ_START_RETURNED});
     while (kz_drain_next(instance))
@@ -149,13 +164,13 @@ static void start(PFLT_INSTANCE instance, FLT_INSTANCE_TEARDOWN_FLAGS reason)
 static uint32_t stop(PFLT_INSTANCE instance, FLT_INSTANCE_TEARDOWN_FLAGS reason)
 {
     start(instance, reason);
-    if (instance->phase == KZ_STOPPING) {
-        uint32_t status = kz_event((KazdrinEvent){.event = KZ_COMPLETE_TEARDOWN, .instance = instance->id});
+    if (kz_phase(instance) == KZ_INSTANCE_STOPPING) {
+        uint32_t status = kz_until_free((KazdrinEvent){.event = KZ_COMPLETE_TEARDOWN, .instance = instance->id}, instance);
         if (status != KZ_OK)
             return status;
+        kz_scheduler->touch(instance, 0, KZ_TAKES);
         tell_teardown(instance, KZ_IN_COMPLETE, instance->filter->registration.InstanceTeardownCompleteCallback, reason);
         kz_event((KazdrinEvent){.event = KZ_COMPLETE_RETURNED});
-        instance->phase = KZ_EMPTYING;
         kz_settle();
     }
     return KZ_OK;
@@ -164,22 +179,37 @@ static uint32_t stop(PFLT_INSTANCE instance, FLT_INSTANCE_TEARDOWN_FLAGS reason)
 static uint32_t finish(PFLT_INSTANCE instance)
 {
     kz_clean_up();
-    uint32_t status = kz_event((KazdrinEvent){.event = KZ_FINISH, .instance = instance->id});
-    if (status == KZ_OK)
-        instance->phase = KZ_DETACHED;
+    uint32_t status = kz_until_free((KazdrinEvent){.event = KZ_FINISH, .instance = instance->id}, NULL);
+    kz_scheduler->touch(instance->filter, 0, KZ_GIVES);
+    kz.changes++;
     return status;
+}
+
+/* Nobody else takes it through its teardown. */
+static bool is_alone(void *instance)
+{
+    KzClient *other = ((PFLT_INSTANCE)instance)->torn_down_by;
+    return !other || other == kz_me;
 }
 
 /* From where the teardown is: the status that stops it, or 0. */
 uint32_t kz_tear_down(PFLT_INSTANCE instance, FLT_INSTANCE_TEARDOWN_FLAGS reason)
 {
-    uint32_t status = stop(instance, reason);
-    return status == KZ_OK ? finish(instance) : status;
+    if (!kz_wait(is_alone, instance, "the teardown of an instance by another", instance->id))
+        return KZ_BUSY;
+    KzClient *before = instance->torn_down_by;
+    instance->torn_down_by = kz_me;
+    uint32_t status = kz_phase(instance) == KZ_INSTANCE_DETACHED ? KZ_OK : stop(instance, reason);
+    if (status == KZ_OK && kz_phase(instance) != KZ_INSTANCE_DETACHED)
+        status = finish(instance);
+    instance->torn_down_by = before;
+    return status;
 }
 
 uint32_t kz_detach(PFLT_INSTANCE instance)
 {
-    bool is_leaving = instance->phase == KZ_STOPPING || instance->phase == KZ_EMPTYING;
+    uint64_t phase = kz_phase(instance);
+    bool is_leaving = !kz_has_others() && (phase == KZ_INSTANCE_STOPPING || phase == KZ_INSTANCE_EMPTYING);
     uint32_t status = is_leaving ? KZ_OK : ask(instance);
     return status == KZ_OK ? kz_tear_down(instance, FLTFL_INSTANCE_TEARDOWN_MANUAL) : status;
 }
@@ -191,23 +221,20 @@ static uint32_t start_dismount(PFLT_VOLUME volume)
     if (status != KZ_OK)
         return status;
     volume->is_dismounting = true;
-    for (size_t at = 0; at < kz.instances_count; at++)
-        if (kz.instances[at]->volume == volume && kz.instances[at]->phase == KZ_ATTACHED)
-            kz.instances[at]->phase = KZ_STOPPING;
     return KZ_OK;
 }
 
 static void drop_handles(PFLT_VOLUME volume)
 {
-    while (kz_event((KazdrinEvent){.event = KZ_DROP_HANDLE, .volume = volume->id}) == KZ_OK && kz.told.has)
-        kz_drop_file(kz.told.handle);
+    while (kz_event((KazdrinEvent){.event = KZ_DROP_HANDLE, .volume = volume->id}) == KZ_OK && kz_me->told.has)
+        kz_drop_file(kz_me->told.handle);
 }
 
 /* Each instance on the volume goes a step: the status that stops one, or 0. */
 static uint32_t each(PFLT_VOLUME volume, uint32_t (*step)(PFLT_INSTANCE))
 {
     for (size_t at = 0; at < kz.instances_count; at++) {
-        uint32_t status = kz.instances[at]->volume == volume && kz.instances[at]->phase != KZ_DETACHED ? step(kz.instances[at]) : KZ_OK;
+        uint32_t status = kz.instances[at]->volume == volume && kz_phase(kz.instances[at]) != KZ_INSTANCE_DETACHED ? step(kz.instances[at]) : KZ_OK;
         if (status != KZ_OK)
             return status;
     }
@@ -216,7 +243,13 @@ static uint32_t each(PFLT_VOLUME volume, uint32_t (*step)(PFLT_INSTANCE))
 
 static uint32_t stop_for_dismount(PFLT_INSTANCE instance)
 {
-    return stop(instance, FLTFL_INSTANCE_TEARDOWN_VOLUME_DISMOUNT);
+    if (!kz_wait(is_alone, instance, "the teardown of an instance by another", instance->id))
+        return KZ_BUSY;
+    KzClient *before = instance->torn_down_by;
+    instance->torn_down_by = kz_me;
+    uint32_t status = kz_phase(instance) == KZ_INSTANCE_DETACHED ? KZ_OK : stop(instance, FLTFL_INSTANCE_TEARDOWN_VOLUME_DISMOUNT);
+    instance->torn_down_by = before;
+    return status;
 }
 
 uint32_t kz_dismount(PFLT_VOLUME volume)
@@ -230,9 +263,9 @@ uint32_t kz_dismount(PFLT_VOLUME volume)
     status = each(volume, finish);
     if (status != KZ_OK)
         return status;
-    status = kz_event((KazdrinEvent){.event = KZ_EMPTY_VOLUME, .volume = volume->id});
+    status = kz_until_free((KazdrinEvent){.event = KZ_EMPTY_VOLUME, .volume = volume->id}, NULL);
     if (status != KZ_OK)
         return status;
     kz_clean_up();
-    return kz_event((KazdrinEvent){.event = KZ_FINISH_VOLUME, .volume = volume->id});
+    return kz_until_free((KazdrinEvent){.event = KZ_FINISH_VOLUME, .volume = volume->id}, NULL);
 }

@@ -30,6 +30,7 @@ NTSTATUS FltCreateCommunicationPort(PFLT_FILTER Filter, PFLT_PORT *ServerPort, P
                                     PFLT_CONNECT_NOTIFY ConnectNotifyCallback, PFLT_DISCONNECT_NOTIFY DisconnectNotifyCallback,
                                     PFLT_MESSAGE_NOTIFY MessageNotifyCallback, LONG MaxConnections)
 {
+    KZ_INSIDE();
     (void)ObjectAttributes, (void)ServerPortCookie, (void)ConnectNotifyCallback, (void)DisconnectNotifyCallback, (void)MessageNotifyCallback, (void)MaxConnections;
     kz_tell(KZ_PORT, __func__, "the port is made, and nobody ever connects to it");
     PFLT_PORT made = kz_memory(sizeof *made);
@@ -41,6 +42,7 @@ NTSTATUS FltCreateCommunicationPort(PFLT_FILTER Filter, PFLT_PORT *ServerPort, P
 
 VOID FltCloseCommunicationPort(PFLT_PORT ServerPort)
 {
+    KZ_INSIDE();
     for (PFLT_PORT *at = &ports; *at; at = &(*at)->next)
         if (*at == ServerPort) {
             *at = ServerPort->next;
@@ -69,7 +71,7 @@ void kz_tell_ports(PFLT_FILTER filter)
         if (one->filter == filter) {
             KzPlace before = kz_enter(KZ_IN_NOTHING, filter, NULL, NULL, NULL);
             kz_tell(KZ_PORT_LEAK, "FltCloseCommunicationPort", "never called for a port");
-            kz.place = before;
+            kz_me->place = before;
         }
 }
 

@@ -1,24 +1,32 @@
-/* Locks. There is one thread: what it holds stands in a list, by the lock's address, with the callback that took it. */
+/* Locks. What a client holds stands in a list, by the lock's address, with the callback that took it. */
 #include "host.h"
 
 typedef struct {
     const void *lock;
+    KzClient *client;
     unsigned count;
     bool is_shared;
     KIRQL irql;
     const char *call;
-    uint64_t place; /* the callback's number: kz.place.number */
+    uint64_t place; /* the callback's number: kz_me->place.number */
 } Held;
 
-static Held held[64];
+static Held held[256];
 static size_t held_count;
-static KIRQL raised;
-static int region; /* stands for a critical region, which is entered and left as a lock is */
 
 static Held *find(const void *lock)
 {
     for (size_t at = 0; at < held_count; at++)
-        if (held[at].lock == lock)
+        if (held[at].lock == lock && held[at].client == kz_me)
+            return &held[at];
+    return NULL;
+}
+
+/* Whether another client is in the way. */
+static Held *other(const void *lock, KzClient *client, bool is_shared)
+{
+    for (size_t at = 0; at < held_count; at++)
+        if (held[at].lock == lock && held[at].client != client && !(is_shared && held[at].is_shared))
             return &held[at];
     return NULL;
 }
@@ -32,59 +40,106 @@ static bool may_share(const Held *one, int how)
     return how == KZ_SHARED && one->is_shared;
 }
 
+static bool is_shared(int how)
+{
+    return how == KZ_SHARED || how == KZ_SHARED_AGAIN;
+}
+
+static void note(PVOID lock, int how, KIRQL irql, const char *call)
+{
+    Held *one = find(lock);
+    if (one)
+        one->count++;
+    else if (held_count < sizeof held / sizeof held[0])
+        held[held_count++] = (Held){lock, kz_me, 1, is_shared(how), irql, call, kz_me->place.number};
+    kz_scheduler->touch(lock, 0, KZ_TAKES);
+}
+
 BOOLEAN KzTryTake(PVOID Lock, int How, KIRQL Irql, PCSTR Call)
 {
+    KZ_CALL_OF(Call);
     Held *one = find(Lock);
-    if (one && !may_share(one, How))
+    if ((one && !may_share(one, How)) || other(Lock, kz_me, is_shared(How)))
         return FALSE;
-    if (one) {
-        one->count++;
-        return TRUE;
-    }
-    if (held_count < sizeof held / sizeof held[0])
-        held[held_count++] = (Held){Lock, 1, How == KZ_SHARED || How == KZ_SHARED_AGAIN, Irql, Call, kz.place.number};
+    note(Lock, How, Irql, Call);
     return TRUE;
+}
+
+typedef struct {
+    PVOID lock;
+    KzClient *client;
+    bool is_shared;
+} Wanted;
+
+static bool is_free(void *wanted)
+{
+    Wanted *one = wanted;
+    return !other(one->lock, one->client, one->is_shared);
 }
 
 VOID KzTake(PVOID Lock, int How, KIRQL Irql, PCSTR Call)
 {
-    if (KzTryTake(Lock, How, Irql, Call))
-        return;
-    kz_tell(KZ_WAITS_FOR_EVER, Call, "the lock is held already, and by the same thread: it would wait for ever");
-    find(Lock)->count++;
+    KZ_CALL_OF(Call);
+    Held *one = find(Lock);
+    Wanted wanted = {Lock, kz_me, is_shared(How)};
+    char why[160];
+    if (one && !may_share(one, How)) {
+        kz_tell(KZ_WAITS_FOR_EVER, Call, "the lock is held already, and by the same thread: it would wait for ever");
+    } else if (!is_free(&wanted)) {
+        snprintf(why, sizeof why, "%s of a lock that %s holds", Call, other(Lock, kz_me, wanted.is_shared)->client->name);
+        kz_wait(is_free, &wanted, why, 0);
+    }
+    note(Lock, How, Irql, Call);
 }
 
-VOID KzLetGo(PVOID Lock, PCSTR Call)
+static void let_go(Held *one, PVOID lock, const char *call)
 {
-    Held *one = find(Lock);
     if (!one) {
-        kz_tell(KZ_LOCK_NOT_HELD, Call, "the lock isn't held");
+        kz_tell(KZ_LOCK_NOT_HELD, call, "the lock isn't held");
         return;
     }
     if (--one->count == 0) {
         memmove(one, one + 1, (size_t)(held + held_count - one - 1) * sizeof *one);
         held_count--;
     }
+    kz_scheduler->touch(lock, 0, KZ_GIVES);
+}
+
+VOID KzLetGo(PVOID Lock, PCSTR Call)
+{
+    KZ_CALL_OF(Call);
+    let_go(find(Lock), Lock, Call);
 }
 
 VOID KzForgetLock(PVOID Lock, PCSTR Call)
 {
+    KZ_CALL_OF(Call);
     Held *one = find(Lock);
+    if (!one)
+        one = other(Lock, kz_me, false);
     if (!one)
         return;
     kz_tell(KZ_LOCK_DELETED, Call, "the lock is still held");
     one->count = 1;
-    KzLetGo(Lock, Call);
+    let_go(one, Lock, Call);
+}
+
+/* By another client. */
+bool kz_is_taken(const void *lock)
+{
+    return other(lock, kz_me, false) != NULL;
 }
 
 BOOLEAN KzIsHeldAlone(const VOID *Lock)
 {
+    KZ_INSIDE();
     Held *one = find(Lock);
     return one && !one->is_shared;
 }
 
 ULONG KzIsHeld(const VOID *Lock)
 {
+    KZ_INSIDE();
     Held *one = find(Lock);
     return one ? one->count : 0;
 }
@@ -93,32 +148,34 @@ ULONG KzIsHeld(const VOID *Lock)
 void kz_tell_locks(void)
 {
     for (size_t at = 0; at < held_count;) {
-        if (held[at].place != kz.place.number) {
+        if (held[at].client != kz_me || held[at].place != kz_me->place.number) {
             at++;
             continue;
         }
-        kz_tell(KZ_LOCK_AT_RETURN, held[at].call, held[at].lock == &region ? "the critical region isn't left as the callback returns" : "the lock is still held as the callback returns");
+        bool is_region = held[at].lock == &kz_me->region;
+        kz_tell(KZ_LOCK_AT_RETURN, held[at].call, is_region ? "the critical region isn't left as the callback returns" : "the lock is still held as the callback returns");
         held[at].count = 1;
-        KzLetGo((PVOID)(uintptr_t)held[at].lock, held[at].call);
+        let_go(&held[at], (PVOID)(uintptr_t)held[at].lock, held[at].call);
     }
-    if (kz.place.callback != KZ_IN_NOTHING && raised > PASSIVE_LEVEL && kz.place.depth == 1) {
+    if (kz_me->place.callback != KZ_IN_NOTHING && kz_me->raised > PASSIVE_LEVEL && kz_me->place.depth == 1) {
         kz_tell(KZ_LOCK_AT_RETURN, "KeLowerIrql", "the IRQL is still raised as the callback returns");
-        raised = PASSIVE_LEVEL;
+        kz_me->raised = PASSIVE_LEVEL;
     }
 }
 
 void kz_free_locks(void)
 {
     held_count = 0;
-    raised = PASSIVE_LEVEL;
+    kz_me->raised = PASSIVE_LEVEL;
 }
 
 /* ---- IRQL: that of the locks that are held, or to which it was raised. */
 KIRQL KeGetCurrentIrql(VOID)
 {
-    KIRQL highest = raised;
+    KZ_INSIDE();
+    KIRQL highest = kz_me->raised;
     for (size_t at = 0; at < held_count; at++)
-        if (held[at].irql > highest)
+        if (held[at].client == kz_me && held[at].irql > highest)
             highest = held[at].irql;
     return highest;
 }
@@ -128,15 +185,15 @@ KIRQL KfRaiseIrql(KIRQL NewIrql)
     KIRQL before = KeGetCurrentIrql();
     if (NewIrql < before)
         kz_tell(KZ_IRQL, "KeRaiseIrql", "to %u, below the current %u", NewIrql, before);
-    raised = NewIrql;
+    kz_me->raised = NewIrql;
     return before;
 }
 
 VOID KeLowerIrql(KIRQL NewIrql)
 {
-    if (NewIrql > raised)
-        kz_tell(KZ_IRQL, "KeLowerIrql", "to %u, above the current %u", NewIrql, raised);
-    raised = NewIrql;
+    if (NewIrql > kz_me->raised)
+        kz_tell(KZ_IRQL, "KeLowerIrql", "to %u, above the current %u", NewIrql, kz_me->raised);
+    kz_me->raised = NewIrql;
 }
 
 void KzPagedCode(PCSTR Function)
@@ -157,7 +214,8 @@ BOOLEAN ExAcquireResourceExclusiveLite(PERESOURCE Resource, BOOLEAN Wait)
 
 BOOLEAN ExAcquireResourceSharedLite(PERESOURCE Resource, BOOLEAN Wait)
 {
-    (void)Wait;
+    if (!Wait)
+        return KzTryTake(Resource, KZ_SHARED_AGAIN, PASSIVE_LEVEL, __func__);
     KzTake(Resource, KZ_SHARED_AGAIN, PASSIVE_LEVEL, __func__);
     return TRUE;
 }
@@ -185,6 +243,7 @@ VOID ExReleaseResourceForThreadLite(PERESOURCE Resource, ERESOURCE_THREAD Resour
 
 VOID ExConvertExclusiveToSharedLite(PERESOURCE Resource)
 {
+    KZ_CALL();
     Held *one = find(Resource);
     if (!one || one->is_shared)
         kz_tell(KZ_LOCK_NOT_HELD, __func__, "the resource isn't held exclusively");
@@ -194,17 +253,20 @@ VOID ExConvertExclusiveToSharedLite(PERESOURCE Resource)
 
 VOID KeEnterCriticalRegion(VOID)
 {
-    KzTake(&region, KZ_AGAIN, PASSIVE_LEVEL, __func__);
+    KZ_INSIDE();
+    note(&kz_me->region, KZ_AGAIN, PASSIVE_LEVEL, __func__);
 }
 
 VOID KeLeaveCriticalRegion(VOID)
 {
-    KzLetGo(&region, __func__);
+    KZ_INSIDE();
+    let_go(find(&kz_me->region), &kz_me->region, __func__);
 }
 
 BOOLEAN KeAreApcsDisabled(VOID)
 {
-    return find(&region) != NULL || KeGetCurrentIrql() > PASSIVE_LEVEL;
+    KZ_INSIDE();
+    return find(&kz_me->region) != NULL || KeGetCurrentIrql() > PASSIVE_LEVEL;
 }
 
 KIRQL KzTakeSpinLock(PVOID Lock, PCSTR Call)
@@ -274,6 +336,13 @@ LARGE_INTEGER ExInterlockedAddLargeInteger(PLARGE_INTEGER Addend, LARGE_INTEGER 
     return before;
 }
 
+/* Whoever uses it next comes behind this client. */
+static void in_order_of(PVOID object)
+{
+    kz_scheduler->touch(object, 0, KZ_TAKES);
+    kz_scheduler->touch(object, 0, KZ_GIVES);
+}
+
 VOID InitializeSListHead(PSLIST_HEADER ListHead)
 {
     ListHead->Alignment[0] = ListHead->Alignment[1] = 0;
@@ -281,6 +350,8 @@ VOID InitializeSListHead(PSLIST_HEADER ListHead)
 
 PSLIST_ENTRY InterlockedPushEntrySList(PSLIST_HEADER ListHead, PSLIST_ENTRY ListEntry)
 {
+    KZ_CALL();
+    in_order_of(ListHead);
     PSLIST_ENTRY first = ListHead->First;
     ListEntry->Next = first;
     ListHead->First = ListEntry;
@@ -290,6 +361,8 @@ PSLIST_ENTRY InterlockedPushEntrySList(PSLIST_HEADER ListHead, PSLIST_ENTRY List
 
 PSLIST_ENTRY InterlockedPopEntrySList(PSLIST_HEADER ListHead)
 {
+    KZ_CALL();
+    in_order_of(ListHead);
     PSLIST_ENTRY first = ListHead->First;
     if (first) {
         ListHead->First = first->Next;
@@ -300,6 +373,8 @@ PSLIST_ENTRY InterlockedPopEntrySList(PSLIST_HEADER ListHead)
 
 PSLIST_ENTRY InterlockedFlushSList(PSLIST_HEADER ListHead)
 {
+    KZ_CALL();
+    in_order_of(ListHead);
     PSLIST_ENTRY first = ListHead->First;
     InitializeSListHead(ListHead);
     return first;
@@ -307,6 +382,7 @@ PSLIST_ENTRY InterlockedFlushSList(PSLIST_HEADER ListHead)
 
 USHORT QueryDepthSList(PSLIST_HEADER ListHead)
 {
+    KZ_CALL();
     return (USHORT)ListHead->Depth;
 }
 
@@ -323,6 +399,8 @@ VOID ExReInitializeRundownProtection(PEX_RUNDOWN_REF RunRef)
 
 BOOLEAN ExAcquireRundownProtection(PEX_RUNDOWN_REF RunRef)
 {
+    KZ_CALL();
+    in_order_of(RunRef);
     if (RunRef->Count & 1)
         return FALSE;
     RunRef->Count += 2;
@@ -331,6 +409,8 @@ BOOLEAN ExAcquireRundownProtection(PEX_RUNDOWN_REF RunRef)
 
 VOID ExReleaseRundownProtection(PEX_RUNDOWN_REF RunRef)
 {
+    KZ_CALL();
+    in_order_of(RunRef);
     if (RunRef->Count < 2)
         kz_tell(KZ_LOCK_NOT_HELD, __func__, "the rundown protection isn't held");
     else
@@ -339,6 +419,8 @@ VOID ExReleaseRundownProtection(PEX_RUNDOWN_REF RunRef)
 
 VOID ExWaitForRundownProtectionRelease(PEX_RUNDOWN_REF RunRef)
 {
+    KZ_CALL();
+    in_order_of(RunRef);
     RunRef->Count |= 1;
     while (RunRef->Count > 1 && kz_work())
         ;

@@ -53,7 +53,7 @@ static NTSTATUS name_of(PFLT_VOLUME volume, const char *path, FLT_FILE_NAME_OPTI
     made->shown.Size = sizeof made->shown;
     made->shown.Format = options & FLT_VALID_FILE_NAME_FORMATS;
     made->references = 1;
-    made->place = kz.place;
+    made->place = kz_me->place;
     made->next = all;
     all = made;
     *shown = &made->shown;
@@ -62,8 +62,9 @@ static NTSTATUS name_of(PFLT_VOLUME volume, const char *path, FLT_FILE_NAME_OPTI
 
 NTSTATUS FltGetFileNameInformation(PFLT_CALLBACK_DATA CallbackData, FLT_FILE_NAME_OPTIONS NameOptions, PFLT_FILE_NAME_INFORMATION *FileNameInformation)
 {
+    KZ_INSIDE();
     *FileNameInformation = NULL;
-    KzOp *op = kz.place.data == CallbackData && kz.place.op ? kz.place.op : kz_op_with(CallbackData);
+    KzOp *op = kz_me->place.data == CallbackData && kz_me->place.op ? kz_me->place.op : kz_op_with(CallbackData);
     if (!op) {
         kz_tell(KZ_NOT_OWN_DATA, __func__, "callback data of no operation");
         return STATUS_INVALID_PARAMETER;
@@ -76,6 +77,7 @@ NTSTATUS FltGetFileNameInformation(PFLT_CALLBACK_DATA CallbackData, FLT_FILE_NAM
 NTSTATUS FltGetFileNameInformationUnsafe(PFILE_OBJECT FileObject, PFLT_INSTANCE Instance, FLT_FILE_NAME_OPTIONS NameOptions,
                                          PFLT_FILE_NAME_INFORMATION *FileNameInformation)
 {
+    KZ_INSIDE();
     (void)Instance;
     *FileNameInformation = NULL;
     KzFile *file = kz_file_with(FileObject);
@@ -111,6 +113,7 @@ static Named **find(PFLT_FILE_NAME_INFORMATION shown, const char *call)
 
 VOID FltReferenceFileNameInformation(PFLT_FILE_NAME_INFORMATION FileNameInformation)
 {
+    KZ_INSIDE();
     Named **at = find(FileNameInformation, __func__);
     if (at)
         (*at)->references++;
@@ -118,6 +121,7 @@ VOID FltReferenceFileNameInformation(PFLT_FILE_NAME_INFORMATION FileNameInformat
 
 VOID FltReleaseFileNameInformation(PFLT_FILE_NAME_INFORMATION FileNameInformation)
 {
+    KZ_INSIDE();
     Named **at = find(FileNameInformation, __func__);
     if (!at || --(*at)->references > 0)
         return;
@@ -217,6 +221,7 @@ NTSTATUS FltGetVolumeGuidName(PFLT_VOLUME Volume, PUNICODE_STRING VolumeGuidName
 /* As a drive's letter, from C: on. The driver frees it. */
 NTSTATUS IoVolumeDeviceToDosName(PVOID VolumeDeviceObject, PUNICODE_STRING DosName)
 {
+    KZ_INSIDE();
     for (size_t at = 0; at < kz.volumes_count; at++) {
         if (VolumeDeviceObject != &kz.volumes[at]->disk && VolumeDeviceObject != &kz.volumes[at]->device)
             continue;
@@ -241,7 +246,7 @@ void kz_tell_names(PFLT_FILTER filter)
             continue;
         KzPlace before = kz_enter_again(&one->place);
         kz_tell(KZ_NAME_LEAK, "FltReleaseFileNameInformation", "never called for a name");
-        kz.place = before;
+        kz_me->place = before;
     }
 }
 

@@ -16,7 +16,6 @@ struct _ETHREAD {
 
 static PEPROCESS processes;
 static PETHREAD threads;
-static PIRP top_level;
 static POBJECT_TYPE types[5];
 POBJECT_TYPE *IoFileObjectType = &types[0], *PsProcessType = &types[1], *PsThreadType = &types[2], *ExEventObjectType = &types[3],
              *SeTokenObjectType = &types[4];
@@ -48,84 +47,98 @@ static PETHREAD thread_of(uint64_t process, uint64_t id)
 
 PETHREAD KzCurrentThread(VOID)
 {
-    return thread_of(kz.process, kz.thread);
+    KZ_INSIDE();
+    return thread_of(kz_me->process, kz_me->thread);
 }
 
 PEPROCESS PsGetCurrentProcess(VOID)
 {
-    return process_of(kz.process);
+    KZ_INSIDE();
+    return process_of(kz_me->process);
 }
 
 HANDLE PsGetCurrentProcessId(VOID)
 {
-    return ULongToHandle(kz.process);
+    KZ_INSIDE();
+    return ULongToHandle(kz_me->process);
 }
 
 HANDLE PsGetCurrentThreadId(VOID)
 {
-    return ULongToHandle(kz.thread);
+    KZ_INSIDE();
+    return ULongToHandle(kz_me->thread);
 }
 
 HANDLE PsGetProcessId(PEPROCESS Process)
 {
+    KZ_INSIDE();
     return ULongToHandle(Process->id);
 }
 
 HANDLE PsGetThreadId(PETHREAD Thread)
 {
+    KZ_INSIDE();
     return ULongToHandle(Thread->id);
 }
 
 HANDLE PsGetThreadProcessId(PETHREAD Thread)
 {
+    KZ_INSIDE();
     return ULongToHandle(Thread->process->id);
 }
 
 PEPROCESS IoThreadToProcess(PETHREAD Thread)
 {
+    KZ_INSIDE();
     return Thread->process;
 }
 
 PEPROCESS PsGetThreadProcess(PETHREAD Thread)
 {
+    KZ_INSIDE();
     return Thread->process;
 }
 
 BOOLEAN PsIsSystemThread(PETHREAD Thread)
 {
+    KZ_INSIDE();
     return Thread->process == PsInitialSystemProcess;
 }
 
 BOOLEAN IoIsSystemThread(PETHREAD Thread)
 {
+    KZ_INSIDE();
     return PsIsSystemThread(Thread);
 }
 
 PIRP IoGetTopLevelIrp(VOID)
 {
-    return top_level;
+    return kz_me->top_level;
 }
 
 VOID IoSetTopLevelIrp(PIRP Irp)
 {
-    top_level = Irp;
+    kz_me->top_level = Irp;
 }
 
 ULONG IoGetRequestorProcessId(PIRP Irp)
 {
+    KZ_INSIDE();
     (void)Irp;
-    return (ULONG)kz.process;
+    return (ULONG)kz_me->process;
 }
 
 PVOID IoGetFileObjectFilterContext(PFILE_OBJECT FileObject)
 {
+    KZ_INSIDE();
     (void)FileObject;
     return NULL;
 }
 
 KPROCESSOR_MODE ExGetPreviousMode(VOID)
 {
-    return kz.process == system_process.id ? KernelMode : UserMode;
+    KZ_INSIDE();
+    return kz_me->process == system_process.id ? KernelMode : UserMode;
 }
 
 /* ---- References. Each object that was referenced has a line, with who took the last one. */
@@ -153,11 +166,11 @@ static LONG_PTR take(PVOID object, bool is_flt, const char *call)
     Taken **at = find(object);
     if (!*at) {
         Taken *made = kz_memory(sizeof *made);
-        *made = (Taken){NULL, object, 0, is_flt, call, kz.place};
+        *made = (Taken){NULL, object, 0, is_flt, call, kz_me->place};
         *at = made;
     }
     (*at)->call = call;
-    (*at)->place = kz.place;
+    (*at)->place = kz_me->place;
     return ++(*at)->count;
 }
 
@@ -179,16 +192,19 @@ static LONG_PTR let_go(PVOID object, const char *call)
 
 LONG_PTR KzReferenceObject(PVOID Object, PCSTR Call)
 {
+    KZ_INSIDE();
     return take(Object, false, Call);
 }
 
 LONG_PTR KzDereferenceObject(PVOID Object, PCSTR Call)
 {
+    KZ_INSIDE();
     return let_go(Object, Call);
 }
 
 NTSTATUS ObReferenceObjectByPointer(PVOID Object, ACCESS_MASK DesiredAccess, POBJECT_TYPE ObjectType, KPROCESSOR_MODE AccessMode)
 {
+    KZ_INSIDE();
     (void)DesiredAccess, (void)ObjectType, (void)AccessMode;
     take(Object, false, __func__);
     return STATUS_SUCCESS;
@@ -197,6 +213,7 @@ NTSTATUS ObReferenceObjectByPointer(PVOID Object, ACCESS_MASK DesiredAccess, POB
 NTSTATUS ObReferenceObjectByHandle(HANDLE Handle, ACCESS_MASK DesiredAccess, POBJECT_TYPE ObjectType, KPROCESSOR_MODE AccessMode, PVOID *Object,
                                    POBJECT_HANDLE_INFORMATION HandleInformation)
 {
+    KZ_INSIDE();
     (void)Handle, (void)DesiredAccess, (void)ObjectType, (void)AccessMode, (void)HandleInformation;
     *Object = NULL;
     return STATUS_INVALID_HANDLE;
@@ -204,6 +221,7 @@ NTSTATUS ObReferenceObjectByHandle(HANDLE Handle, ACCESS_MASK DesiredAccess, POB
 
 NTSTATUS PsLookupProcessByProcessId(HANDLE ProcessId, PEPROCESS *Process)
 {
+    KZ_INSIDE();
     *Process = process_of(HandleToULong(ProcessId));
     take(*Process, false, __func__);
     return STATUS_SUCCESS;
@@ -211,19 +229,22 @@ NTSTATUS PsLookupProcessByProcessId(HANDLE ProcessId, PEPROCESS *Process)
 
 NTSTATUS PsLookupThreadByThreadId(HANDLE ThreadId, PETHREAD *Thread)
 {
-    *Thread = thread_of(kz.process, HandleToULong(ThreadId));
+    KZ_INSIDE();
+    *Thread = thread_of(kz_me->process, HandleToULong(ThreadId));
     take(*Thread, false, __func__);
     return STATUS_SUCCESS;
 }
 
 NTSTATUS FltObjectReference(PVOID FltObject)
 {
+    KZ_INSIDE();
     take(FltObject, true, __func__);
     return STATUS_SUCCESS;
 }
 
 VOID FltObjectDereference(PVOID FltObject)
 {
+    KZ_INSIDE();
     let_go(FltObject, __func__);
 }
 
@@ -237,7 +258,7 @@ void kz_tell_objects(void)
     for (Taken *one = taken; one; one = one->next) {
         KzPlace before = kz_enter_again(&one->place);
         kz_tell(KZ_OBJECT_LEAK, one->is_flt ? "FltObjectDereference" : "ObDereferenceObject", "never called for an object that %s gave", one->call);
-        kz.place = before;
+        kz_me->place = before;
     }
 }
 
@@ -258,7 +279,6 @@ void kz_free_objects(void)
         processes = one->next;
         free(one);
     }
-    top_level = NULL;
 }
 
 /* ---- The system's version, and chance, which is the same in each run. */

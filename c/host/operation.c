@@ -116,6 +116,9 @@ static KzOp *new_op(uint64_t id, KazdrinEvent asked, KzFile *file, PFLT_VOLUME v
     op->iopb = kz_take_memory(KZ_DATA, sizeof *op->iopb, 0, 0);
     op->data = kz_new_data(op->thread, op->iopb);
     file->users++;
+    kz_scheduler->touch(&file->handle, 0, KZ_TAKES);
+    if (asked.event == KZ_CLOSE)
+        kz_scheduler->touch(file, 0, KZ_TAKES); /* it comes behind all operations of the file object */
     op->caller_room = caller_room(asked);
     op->caller = kz_block(op, op->caller_room);
     op->next = kz.ops;
@@ -123,8 +126,12 @@ static KzOp *new_op(uint64_t id, KazdrinEvent asked, KzFile *file, PFLT_VOLUME v
     return op;
 }
 
+/* Not before the last callback that looks at it has returned: a drain comes before the operation's turn. */
 static void free_op(KzOp *op)
 {
+    op->is_over = true;
+    if (op->users)
+        return;
     for (KzOp **at = &kz.ops; *at; at = &(*at)->next)
         if (*at == op) {
             *at = op->next;
@@ -133,6 +140,7 @@ static void free_op(KzOp *op)
     kz_free_data(op);
     let_go(op->file);
     free(op);
+    kz.changes++;
 }
 
 FLT_RELATED_OBJECTS kz_objects(PFLT_INSTANCE instance, KzFile *file)
@@ -174,7 +182,7 @@ static void complete(KzOp *op, KazdrinEvent *verdict)
 
 static KazdrinEvent verdict_of(KzOp *op, PFLT_INSTANCE instance, FLT_PREOP_CALLBACK_STATUS said, PVOID completion)
 {
-    KazdrinEvent verdict = {.mode = KZ_NO_CALLBACK, .operation = op->id, .worker = kz.place.worker};
+    KazdrinEvent verdict = {.mode = KZ_NO_CALLBACK, .operation = op->id, .worker = kz_me->place.worker};
     switch (said) {
     case FLT_PREOP_SUCCESS_WITH_CALLBACK:
     case FLT_PREOP_SYNCHRONIZE:
@@ -207,11 +215,14 @@ static FLT_PREOP_CALLBACK_STATUS ask_pre(KzOp *op, PFLT_INSTANCE instance, PVOID
     FLT_RELATED_OBJECTS objects = kz_objects(instance, op->file);
     op->is_in_pre = true;
     op->is_early = false;
+    unsigned depth = kz_let_driver("preoperation");
     FLT_PREOP_CALLBACK_STATUS said = callback(op->data, &objects, completion);
+    kz_driver_returned(depth, "preoperation returns");
     op->is_in_pre = false;
     if (op->is_early && said == FLT_PREOP_PENDING) {
         said = op->early;
         *completion = op->early_context;
+        kz_scheduler->touch(op, 0, KZ_TAKES);
     } else if (op->is_early) {
         kz_tell(KZ_COMPLETED_NOT_PENDED, "FltCompletePendedPreOperation", "called for an operation that the preoperation doesn't pend");
     }
@@ -219,9 +230,25 @@ static FLT_PREOP_CALLBACK_STATUS ask_pre(KzOp *op, PFLT_INSTANCE instance, PVOID
     return said;
 }
 
+/* Whether it still owes the instance something: then its teardown waits. */
+static bool owes(KzOp *op, PFLT_INSTANCE instance, const KazdrinEvent *verdict)
+{
+    if (verdict->mode == KZ_PENDING)
+        return true;
+    return (verdict->mode == KZ_WITH_CALLBACK || verdict->mode == KZ_SYNCHRONIZE) && kz_registered(instance->filter, kz_major(op->event))->PostOperation;
+}
+
+static void leave_flight(PFLT_INSTANCE instance)
+{
+    instance->in_flight--;
+    kz.changes++;
+    kz_scheduler->touch(instance, 0, KZ_GIVES);
+}
+
 static void pre(KzOp *op, PFLT_INSTANCE instance)
 {
     PVOID completion = NULL;
+    instance->in_flight++;
     KzPlace before = kz_enter(KZ_IN_PRE, instance->filter, instance, op, op->data);
     kz_show_pre(op, instance);
     FLT_PREOP_CALLBACK_STATUS said = ask_pre(op, instance, &completion);
@@ -232,6 +259,8 @@ static void pre(KzOp *op, PFLT_INSTANCE instance)
         op->held = KZ_HELD_PRE;
         op->holder = instance;
     }
+    if (!owes(op, instance, &verdict))
+        leave_flight(instance);
     kz_clean_up();
 }
 
@@ -244,18 +273,29 @@ static void post(KzOp *op, PFLT_INSTANCE instance, PVOID completion)
         open_file(op->file);
     FLT_RELATED_OBJECTS objects = kz_objects(instance, op->file);
     PFLT_POST_OPERATION_CALLBACK callback = kz_registered(instance->filter, kz_major(op->event))->PostOperation;
+    op->is_in_post = true;
+    op->is_early = false;
+    unsigned depth = kz_let_driver("postoperation");
     FLT_POSTOP_CALLBACK_STATUS said = callback(op->data, &objects, completion, 0);
+    kz_driver_returned(depth, "postoperation returns");
+    op->is_in_post = false;
     kz_take_post(op);
     kz_keep_rest(NULL);
     bool is_more = said == FLT_POSTOP_MORE_PROCESSING_REQUIRED;
+    if (is_more && op->is_early)
+        is_more = false, said = FLT_POSTOP_FINISHED_PROCESSING;
+    else if (op->is_early)
+        kz_tell(KZ_COMPLETED_TWICE, "FltCompletePendedPostOperation", "called for an operation that the postoperation doesn't hold");
     if (!is_more && said != FLT_POSTOP_FINISHED_PROCESSING)
         kz_tell(KZ_NO_VERDICT, "PFLT_POST_OPERATION_CALLBACK", "%d is no verdict: it counts as FLT_POSTOP_FINISHED_PROCESSING", (int)said);
     kz_leave(before);
     op->status_shown = op->data->IoStatus;
-    KazdrinEvent verdict = {.mode = is_more ? KZ_MORE_PROCESSING : KZ_FINISHED, .worker = kz.place.worker};
+    KazdrinEvent verdict = {.mode = is_more ? KZ_MORE_PROCESSING : KZ_FINISHED, .worker = kz_me->place.worker};
     if (kazdrin_post_returned(&kz.manager, &verdict) == KZ_OK && is_more) {
         op->held = KZ_HELD_POST;
         op->holder = instance;
+    } else {
+        leave_flight(instance);
     }
     kz_clean_up();
 }
@@ -271,20 +311,29 @@ static void drain(KzOp *op, PFLT_INSTANCE instance, PVOID completion)
     KzPlace before = kz_enter(KZ_IN_DRAIN, instance->filter, instance, op, &data);
     FLT_RELATED_OBJECTS objects = kz_objects(instance, op->file);
     PFLT_POST_OPERATION_CALLBACK callback = kz_registered(instance->filter, kz_major(op->event))->PostOperation;
-    if (callback(&data, &objects, completion, FLTFL_POST_OPERATION_DRAINING) != FLT_POSTOP_FINISHED_PROCESSING)
+    op->users++;
+    unsigned depth = kz_let_driver("drain");
+    FLT_POSTOP_CALLBACK_STATUS said = callback(&data, &objects, completion, FLTFL_POST_OPERATION_DRAINING);
+    kz_driver_returned(depth, "drain returns");
+    if (said != FLT_POSTOP_FINISHED_PROCESSING)
         kz_tell(KZ_HELD_DRAIN, "FLTFL_POST_OPERATION_DRAINING", "a drain can't be held: it counts as FLT_POSTOP_FINISHED_PROCESSING");
     kz_forget_swap(op, instance);
     kz_keep_rest(NULL);
     kz_leave(before);
+    leave_flight(instance);
+    op->users--;
+    if (op->is_over)
+        free_op(op);
 }
 
 /* Has a stopping instance let go of what the first operation owes it, before its turn; false if none does. */
 bool kz_drain_next(PFLT_INSTANCE instance)
 {
-    if (kz_event((KazdrinEvent){.event = KZ_DRAIN_TAKE, .instance = instance->id}) != KZ_OK || !kz.told.action)
+    kz_pause("drain");
+    if (kz_event((KazdrinEvent){.event = KZ_DRAIN_TAKE, .instance = instance->id}) != KZ_OK || !kz_me->told.action)
         return false;
-    KzOp *op = op_of(kz.told.operation);
-    PVOID completion = (PVOID)(uintptr_t)kz.told.number;
+    KzOp *op = op_of(kz_me->told.operation);
+    PVOID completion = (PVOID)(uintptr_t)kz_me->told.number;
     if (op)
         drain(op, instance, completion);
     kz_event((KazdrinEvent){.event = KZ_DRAIN_DONE});
@@ -296,7 +345,7 @@ bool kz_drain_next(PFLT_INSTANCE instance)
 static Turn turn(KzOp *op)
 {
     KazdrinTold told = {0};
-    KazdrinEvent next = {.operation = op->id, .worker = kz.place.worker};
+    KazdrinEvent next = {.operation = op->id, .worker = kz_me->place.worker};
     if (kazdrin_next(&kz.manager, &next, &told) != KZ_OK)
         return HELD;
     PFLT_INSTANCE instance = told.instance < kz.instances_count ? kz.instances[told.instance] : NULL;
@@ -313,7 +362,7 @@ static Turn turn(KzOp *op)
         return GOES;
     case KZ_DRAIN:
         drain(op, instance, completion);
-        kazdrin_post_returned(&kz.manager, &(KazdrinEvent){.mode = KZ_FINISHED, .worker = kz.place.worker});
+        kazdrin_post_returned(&kz.manager, &(KazdrinEvent){.mode = KZ_FINISHED, .worker = kz_me->place.worker});
         kz_clean_up();
         return GOES;
     case KZ_MOVED:
@@ -328,9 +377,29 @@ static Turn turn(KzOp *op)
 static Turn carry(KzOp *op)
 {
     Turn made;
-    do
+    do {
+        kz_pause("next");
         made = turn(op);
-    while (made == GOES);
+    } while (made == GOES);
+    return made;
+}
+
+static bool is_resumed(void *op)
+{
+    return ((KzOp *)op)->is_resumed;
+}
+
+/* Its own client carries it on, also behind a callback that holds it, if somebody else may let it go on meanwhile. */
+static Turn carry_to_end(KzOp *op)
+{
+    op->runner = kz_me;
+    Turn made = carry(op);
+    while (made == HELD && kz_wait(is_resumed, op, op->held == KZ_HELD_PRE ? "an operation that a preoperation holds" : "an operation that a postoperation holds", op->id)) {
+        op->is_resumed = false;
+        kz_scheduler->touch(op, 0, KZ_TAKES);
+        made = carry(op);
+    }
+    op->runner = NULL;
     return made;
 }
 
@@ -350,23 +419,26 @@ void kz_print_reply(KzReply reply, NTSTATUS other, const uint8_t *bytes, size_t 
     kz_say(length ? "\n" : "-\n");
 }
 
-/* The answer of a done operation, which is forgotten. Its bytes lie in kz.room, and its own status of the kit in `other`. */
+/* The answer of a done operation, which is forgotten. Its bytes lie in kz_me->room, and its own status of the kit in `other`. */
 static KzReply collect(KzOp *op, NTSTATUS *other)
 {
+    kz_pause("collect");
     kz_clean_up(); /* a close is over, and with it the contexts of its handle: the caller is told behind that */
     kz_event((KazdrinEvent){.event = KZ_COLLECT, .operation = op->id});
-    KzReply reply = {.status = kz.told.status, .information = kz.told.information, .operation = op->id};
+    KzReply reply = {.status = kz_me->told.status, .information = kz_me->told.information, .operation = op->id};
     *other = op->other;
     if (op->is_served) {
         reply.information = op->served;
-        kz.told.length = op->served_bytes ? op->served_length : 0;
-        memcpy(kz.room, op->served_bytes ? op->served_bytes : (const uint8_t *)"", kz.told.length);
+        kz_me->told.length = op->served_bytes ? op->served_length : 0;
+        memcpy(kz_me->room, op->served_bytes ? op->served_bytes : (const uint8_t *)"", kz_me->told.length);
     }
+    kz_scheduler->touch(op->file, 0, KZ_GIVES);
     if (op->event == KZ_CREATE && reply.status == KZ_OK) {
         open_file(op->file);
         op->file->handle = reply.information;
         op->file->has_handle = true;
         op->file->users++;
+        kz_scheduler->touch(&op->file->handle, 0, KZ_GIVES);
     } else if (op->event == KZ_SET_DELETE && reply.status == KZ_OK) {
         op->file->object.DeletePending = TRUE;
     } else if (op->event == KZ_CLEANUP && reply.status == KZ_OK) {
@@ -378,6 +450,22 @@ static KzReply collect(KzOp *op, NTSTATUS *other)
     return reply;
 }
 
+static KzReply run(KazdrinEvent asked, const void *bytes, size_t length, const char *path, NTSTATUS *other);
+
+/* The close of a file whose handle was closed while operations on it went on; false if none is due. */
+static bool close_due(void)
+{
+    KzFile *file = kz.files;
+    NTSTATUS other;
+    while (file && !(file->is_close_due && file->users == 1))
+        file = file->next;
+    if (!file)
+        return false;
+    file->is_close_due = false;
+    run((KazdrinEvent){.event = KZ_CLOSE, .handle = file->handle}, "", 0, NULL, &other);
+    return true;
+}
+
 static void carry_resumed(void)
 {
     KzOp *op = kz.resumed;
@@ -385,12 +473,18 @@ static void carry_resumed(void)
     kz.resumed = op->next_resumed;
     if (!kz.resumed)
         kz.resumed_end = &kz.resumed;
-    op->is_resumed = false;
-    if (carry(op) != DONE)
+    Turn made;
+    op->runner = kz_me;
+    do {
+        op->is_resumed = false;
+        made = carry(op);
+    } while (made == HELD && op->is_resumed);
+    op->runner = NULL;
+    if (made != DONE)
         return;
     kz_say("operation %llu: ", (unsigned long long)op->id);
     KzReply reply = collect(op, &other);
-    kz_print_reply(reply, other, kz.room, kz.told.length);
+    kz_print_reply(reply, other, kz_me->room, kz_me->told.length);
 }
 
 /* What was let go on, what is due, and what waits for its turn, until nothing of it is left. */
@@ -400,7 +494,7 @@ void kz_settle(void)
         while (kz.resumed)
             carry_resumed();
         kz_clean_up();
-    } while (kz_run_dpc() || kz_work() || kz.resumed);
+    } while (close_due() || (!kz_has_others() && (kz_run_dpc() || kz_work())) || kz.resumed);
 }
 
 /* Begins an operation and carries it on. Refused, it has no reply but the status. */
@@ -410,11 +504,11 @@ static KzReply run(KazdrinEvent asked, const void *bytes, size_t length, const c
     uint32_t status = kz_event_with(asked, bytes, length);
     if (status != KZ_OK)
         return (KzReply){.status = status};
-    uint64_t id = kz.told.operation;
+    uint64_t id = kz_me->told.operation;
     bool is_on_volume = asked.event == KZ_CREATE || asked.event == KZ_LIST;
     KzFile *file = is_on_volume ? new_file(kz.volumes[asked.volume], asked.event == KZ_LIST ? "" : path, asked.event == KZ_LIST) : file_of(asked.handle);
     KzOp *op = new_op(id, asked, file, file->volume);
-    if (carry(op) == DONE)
+    if (carry_to_end(op) == DONE)
         return collect(op, other);
     return (KzReply){.held = 1, .operation = id};
 }
@@ -422,9 +516,9 @@ static KzReply run(KazdrinEvent asked, const void *bytes, size_t length, const c
 KzReply kz_perform(KazdrinEvent asked, const void *bytes, size_t length, const char *path)
 {
     NTSTATUS other;
-    kz.told.length = 0;
+    kz_me->told.length = 0;
     KzReply reply = run(asked, bytes, length, path, &other);
-    kz_print_reply(reply, other, kz.room, kz.told.length);
+    kz_print_reply(reply, other, kz_me->room, kz_me->told.length);
     kz_settle();
     return reply;
 }
@@ -433,11 +527,14 @@ KzReply kz_perform(KazdrinEvent asked, const void *bytes, size_t length, const c
 KzReply kz_close_file(uint64_t handle)
 {
     NTSTATUS other;
-    kz.told.length = 0;
+    kz_me->told.length = 0;
     KzReply reply = run((KazdrinEvent){.event = KZ_CLEANUP, .handle = handle}, "", 0, NULL, &other);
-    if (!reply.held && (reply.status == KZ_OK || reply.status == KZ_WRONG_STEP))
+    KzFile *file = kz_has_others() && !reply.held && reply.status == KZ_OK ? file_of(handle) : NULL;
+    if (file && file->users > 1)
+        file->is_close_due = true; /* as in the kit: whoever ends the last operation of a file object closes it */
+    else if (!reply.held && (reply.status == KZ_OK || reply.status == KZ_WRONG_STEP))
         reply = run((KazdrinEvent){.event = KZ_CLOSE, .handle = handle}, "", 0, NULL, &other);
-    kz_print_reply(reply, other, kz.room, 0);
+    kz_print_reply(reply, other, kz_me->room, 0);
     kz_settle();
     return reply;
 }
@@ -447,18 +544,27 @@ static void resume(KzOp *op)
 {
     op->held = KZ_NOT_HELD_NOW;
     op->is_resumed = true;
+    kz.changes++;
+    kz_scheduler->touch(op, 0, KZ_GIVES);
+    kz_renew_data(op);
+    if (op->runner)
+        return;
     op->next_resumed = NULL;
     *kz.resumed_end = op;
     kz.resumed_end = &op->next_resumed;
-    kz_renew_data(op);
+}
+
+static bool is_not_asked(void *instance)
+{
+    return !((PFLT_INSTANCE)instance)->is_asked;
 }
 
 /* Makes the event from a callback of the instance that holds the operation: the one that runs, or else the question whether it may be detached, which is refused behind it.
  * Whoever completes an operation in the kit may do so from anywhere. */
 static bool resume_from(const char *call, KzOp *op, KazdrinEvent event)
 {
-    if (kz.place.instance == op->holder) {
-        event.worker = kz.place.worker;
+    if (kz_me->place.instance == op->holder) {
+        event.worker = kz_me->place.worker;
         uint32_t status = kz_event(event);
         if (status != KZ_WRONG_STEP) {
             if (status == KZ_BAD_REQUEST)
@@ -466,6 +572,7 @@ static bool resume_from(const char *call, KzOp *op, KazdrinEvent event)
             return status == KZ_OK;
         }
     }
+    kz_wait(is_not_asked, op->holder, "the query callback of an instance", op->holder->id);
     uint8_t worker = kz_helper();
     bool is_in = kz_enter_query(op->holder, worker);
     event.worker = worker;
@@ -473,7 +580,7 @@ static bool resume_from(const char *call, KzOp *op, KazdrinEvent event)
     uint32_t status = is_in ? kz_event(event) : KZ_WRONG_STEP;
     if (is_in)
         kz_leave_query(op->holder, worker);
-    kz_helped();
+    kz_helped(worker);
     if (status == KZ_BAD_REQUEST)
         kz_tell(KZ_NO_HELD_VERDICT, call, "a verdict that is none of a held operation's");
     else if (status != KZ_OK)
@@ -483,6 +590,7 @@ static bool resume_from(const char *call, KzOp *op, KazdrinEvent event)
 
 VOID FltCompletePendedPreOperation(PFLT_CALLBACK_DATA CallbackData, FLT_PREOP_CALLBACK_STATUS CallbackStatus, PVOID Context)
 {
+    KZ_CALL();
     KzOp *op = kz_op_with(CallbackData);
     bool is_verdict = CallbackStatus == FLT_PREOP_SUCCESS_WITH_CALLBACK || CallbackStatus == FLT_PREOP_SUCCESS_NO_CALLBACK || CallbackStatus == FLT_PREOP_COMPLETE;
     if (!op || (op->held != KZ_HELD_PRE && (!op->is_in_pre || op->is_early))) {
@@ -497,6 +605,7 @@ VOID FltCompletePendedPreOperation(PFLT_CALLBACK_DATA CallbackData, FLT_PREOP_CA
         op->is_early = true;
         op->early = CallbackStatus;
         op->early_context = Context;
+        kz_scheduler->touch(op, 0, KZ_GIVES);
         return;
     }
     bool is_touched = kz_is_touched(op) && CallbackStatus != FLT_PREOP_COMPLETE;
@@ -504,25 +613,37 @@ VOID FltCompletePendedPreOperation(PFLT_CALLBACK_DATA CallbackData, FLT_PREOP_CA
         kz_tell(KZ_CHANGED_WHILE_HELD, __func__, "parameters that were changed while the operation was held don't count");
     else if (is_touched)
         kz_tell(KZ_NOT_DIRTY, "FltSetCallbackDataDirty", "never called, though parameters were changed: they don't count");
-    KzPlace before = kz.place;
+    KzPlace before = kz_me->place;
     KazdrinEvent verdict = verdict_of(op, op->holder, CallbackStatus, Context);
-    kz.place = before;
+    kz_me->place = before;
     verdict.event = KZ_RESUME_PRE;
-    if (resume_from(__func__, op, verdict))
+    PFLT_INSTANCE holder = op->holder;
+    if (resume_from(__func__, op, verdict)) {
         resume(op);
+        if (!owes(op, holder, &verdict))
+            leave_flight(holder);
+    }
 }
 
 VOID FltCompletePendedPostOperation(PFLT_CALLBACK_DATA CallbackData)
 {
+    KZ_CALL();
     KzOp *op = kz_op_with(CallbackData);
+    if (op && op->is_in_post && !op->is_early) {
+        op->is_early = true; /* the callback is about to hold it */
+        return;
+    }
     if (!op || op->held != KZ_HELD_POST) {
         kz_tell(KZ_COMPLETED_TWICE, __func__, "no operation that a postoperation holds (completed twice?)");
         return;
     }
     if (op->data->IoStatus.Status != op->status_shown.Status || op->data->IoStatus.Information != op->status_shown.Information)
         kz_tell(KZ_CHANGED_WHILE_HELD, __func__, "an answer that was changed while the operation was held doesn't count");
-    if (resume_from(__func__, op, (KazdrinEvent){.event = KZ_RESUME_POST, .operation = op->id}))
+    PFLT_INSTANCE holder = op->holder;
+    if (resume_from(__func__, op, (KazdrinEvent){.event = KZ_RESUME_POST, .operation = op->id})) {
         resume(op);
+        leave_flight(holder);
+    }
 }
 
 void kz_tell_held(void)
@@ -533,15 +654,17 @@ void kz_tell_held(void)
         bool is_pre = op->held == KZ_HELD_PRE;
         KzPlace before = kz_enter(is_pre ? KZ_IN_PRE : KZ_IN_POST, op->holder->filter, op->holder, op, NULL);
         kz_tell(KZ_NEVER_COMPLETED, is_pre ? "FltCompletePendedPreOperation" : "FltCompletePendedPostOperation", "never called for an operation that is held");
-        kz.place = before;
+        kz_me->place = before;
     }
 }
 
 void kz_free_ops(void)
 {
     kz.resumed = NULL;
-    while (kz.ops)
+    while (kz.ops) {
+        kz.ops->users = 0;
         free_op(kz.ops);
+    }
     while (kz.files) {
         KzFile *file = kz.files;
         kz.files = file->next;

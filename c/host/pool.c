@@ -4,6 +4,7 @@
 /* ---- Pools. As in the kit, they aren't zeroed. */
 PVOID ExAllocatePoolWithTag(POOL_TYPE PoolType, SIZE_T NumberOfBytes, ULONG Tag)
 {
+    KZ_INSIDE();
     (void)PoolType;
     return kz_take_memory(KZ_POOL, NumberOfBytes, 0xcd, Tag);
 }
@@ -25,12 +26,14 @@ PVOID ExAllocatePoolUninitialized(POOL_TYPE PoolType, SIZE_T NumberOfBytes, ULON
 
 PVOID ExAllocatePoolZero(POOL_TYPE PoolType, SIZE_T NumberOfBytes, ULONG Tag)
 {
+    KZ_INSIDE();
     (void)PoolType;
     return kz_take_memory(KZ_POOL, NumberOfBytes, 0, Tag);
 }
 
 PVOID ExAllocatePool2(POOL_FLAGS Flags, SIZE_T NumberOfBytes, ULONG Tag)
 {
+    KZ_INSIDE();
     return kz_take_memory(KZ_POOL, NumberOfBytes, Flags & POOL_FLAG_UNINITIALIZED ? 0xcd : 0, Tag);
 }
 
@@ -46,12 +49,14 @@ static KzPiece *pool_of(PVOID memory, const char *call)
 
 static void free_pool(PVOID memory, const char *call)
 {
+    KZ_INSIDE();
     if (pool_of(memory, call))
         kz_give_back(memory);
 }
 
 VOID ExFreePoolWithTag(PVOID P, ULONG Tag)
 {
+    KZ_INSIDE();
     KzPiece *piece = pool_of(P, __func__);
     char own[8], given[8];
     if (!piece)
@@ -91,7 +96,7 @@ PVOID KzAllocateFromLookaside(GENERAL_LOOKASIDE *List, PCSTR Call)
 {
     if (!is_made(List, Call))
         return NULL;
-    List->TotalAllocates++;
+    __atomic_add_fetch(&List->TotalAllocates, 1, __ATOMIC_RELAXED);
     return List->Allocate ? List->Allocate(List->Type, List->Size, List->Tag) : ExAllocatePoolWithTag(List->Type, List->Size, List->Tag);
 }
 
@@ -99,7 +104,7 @@ VOID KzFreeToLookaside(GENERAL_LOOKASIDE *List, PVOID Entry, PCSTR Call)
 {
     if (!is_made(List, Call))
         return;
-    List->TotalFrees++;
+    __atomic_add_fetch(&List->TotalFrees, 1, __ATOMIC_RELAXED);
     if (List->Free)
         List->Free(Entry);
     else
@@ -115,6 +120,7 @@ VOID KzDeleteLookaside(GENERAL_LOOKASIDE *List)
 /* ---- Memory descriptions: the pages are always there. */
 PMDL IoAllocateMdl(PVOID VirtualAddress, ULONG Length, BOOLEAN SecondaryBuffer, BOOLEAN ChargeQuota, PIRP Irp)
 {
+    KZ_INSIDE();
     (void)SecondaryBuffer, (void)ChargeQuota, (void)Irp;
     PMDL mdl = ExAllocatePoolWithTag(NonPagedPool, sizeof *mdl, 'ldM ');
     if (mdl) {

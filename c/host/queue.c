@@ -21,19 +21,20 @@ NTSTATUS FltCbdqInitialize(PFLT_INSTANCE Instance, PFLT_CALLBACK_DATA_QUEUE Cbdq
 
 VOID FltCbdqEnable(PFLT_CALLBACK_DATA_QUEUE Cbdq)
 {
-    Cbdq->Flags &= ~FLTFL_CALLBACK_DATA_QUEUE_DISABLED;
+    __atomic_and_fetch(&Cbdq->Flags, ~FLTFL_CALLBACK_DATA_QUEUE_DISABLED, __ATOMIC_SEQ_CST);
 }
 
 VOID FltCbdqDisable(PFLT_CALLBACK_DATA_QUEUE Cbdq)
 {
-    Cbdq->Flags |= FLTFL_CALLBACK_DATA_QUEUE_DISABLED;
+    __atomic_or_fetch(&Cbdq->Flags, FLTFL_CALLBACK_DATA_QUEUE_DISABLED, __ATOMIC_SEQ_CST);
 }
 
 NTSTATUS FltCbdqInsertIo(PFLT_CALLBACK_DATA_QUEUE Cbdq, PFLT_CALLBACK_DATA Cbd, PFLT_CALLBACK_DATA_QUEUE_IO_CONTEXT Context, PVOID InsertContext)
 {
     KIRQL irql = 0;
     Cbdq->Acquire(Cbdq, &irql);
-    NTSTATUS status = Cbdq->Flags & FLTFL_CALLBACK_DATA_QUEUE_DISABLED ? STATUS_FLT_CBDQ_DISABLED : Cbdq->InsertIo(Cbdq, Cbd, InsertContext);
+    bool is_disabled = __atomic_load_n(&Cbdq->Flags, __ATOMIC_SEQ_CST) & FLTFL_CALLBACK_DATA_QUEUE_DISABLED;
+    NTSTATUS status = is_disabled ? STATUS_FLT_CBDQ_DISABLED : Cbdq->InsertIo(Cbdq, Cbd, InsertContext);
     if (Context)
         Context->Cbd = NT_SUCCESS(status) ? Cbd : NULL;
     Cbdq->Release(Cbdq, irql);

@@ -174,7 +174,7 @@ static NTSTATUS open_key(PHANDLE handle, POBJECT_ATTRIBUTES attributes, bool is_
     if (!is_made && !is_there(name))
         return STATUS_OBJECT_NAME_NOT_FOUND;
     Key *made = kz_memory(sizeof *made);
-    *made = (Key){.next = keys, .place = kz.place};
+    *made = (Key){.next = keys, .place = kz_me->place};
     memcpy(made->name, name, sizeof name);
     keys = made;
     *handle = made;
@@ -183,12 +183,14 @@ static NTSTATUS open_key(PHANDLE handle, POBJECT_ATTRIBUTES attributes, bool is_
 
 NTSTATUS ZwOpenKey(PHANDLE KeyHandle, ACCESS_MASK DesiredAccess, POBJECT_ATTRIBUTES ObjectAttributes)
 {
+    KZ_INSIDE();
     (void)DesiredAccess;
     return open_key(KeyHandle, ObjectAttributes, false, __func__);
 }
 
 NTSTATUS ZwOpenKeyEx(PHANDLE KeyHandle, ACCESS_MASK DesiredAccess, POBJECT_ATTRIBUTES ObjectAttributes, ULONG OpenOptions)
 {
+    KZ_INSIDE();
     (void)DesiredAccess, (void)OpenOptions;
     return open_key(KeyHandle, ObjectAttributes, false, __func__);
 }
@@ -196,6 +198,7 @@ NTSTATUS ZwOpenKeyEx(PHANDLE KeyHandle, ACCESS_MASK DesiredAccess, POBJECT_ATTRI
 NTSTATUS ZwCreateKey(PHANDLE KeyHandle, ACCESS_MASK DesiredAccess, POBJECT_ATTRIBUTES ObjectAttributes, ULONG TitleIndex, PUNICODE_STRING Class,
                      ULONG CreateOptions, PULONG Disposition)
 {
+    KZ_INSIDE();
     (void)DesiredAccess, (void)TitleIndex, (void)Class, (void)CreateOptions;
     NTSTATUS status = open_key(KeyHandle, ObjectAttributes, true, __func__);
     if (Disposition && NT_SUCCESS(status))
@@ -205,6 +208,7 @@ NTSTATUS ZwCreateKey(PHANDLE KeyHandle, ACCESS_MASK DesiredAccess, POBJECT_ATTRI
 
 NTSTATUS ZwClose(HANDLE Handle)
 {
+    KZ_INSIDE();
     Key *gone = key_of(Handle, __func__);
     if (!gone)
         return STATUS_INVALID_HANDLE;
@@ -219,6 +223,7 @@ NTSTATUS ZwClose(HANDLE Handle)
 
 NTSTATUS ZwFlushKey(HANDLE KeyHandle)
 {
+    KZ_INSIDE();
     return key_of(KeyHandle, __func__) ? STATUS_SUCCESS : STATUS_INVALID_HANDLE;
 }
 
@@ -263,6 +268,7 @@ static NTSTATUS show(const Value *value, KEY_VALUE_INFORMATION_CLASS class, PVOI
 NTSTATUS ZwQueryValueKey(HANDLE KeyHandle, PUNICODE_STRING ValueName, KEY_VALUE_INFORMATION_CLASS KeyValueInformationClass, PVOID KeyValueInformation,
                          ULONG Length, PULONG ResultLength)
 {
+    KZ_INSIDE();
     char name[256];
     Key *key = key_of(KeyHandle, __func__);
     if (!key)
@@ -275,6 +281,7 @@ NTSTATUS ZwQueryValueKey(HANDLE KeyHandle, PUNICODE_STRING ValueName, KEY_VALUE_
 NTSTATUS ZwEnumerateValueKey(HANDLE KeyHandle, ULONG Index, KEY_VALUE_INFORMATION_CLASS KeyValueInformationClass, PVOID KeyValueInformation, ULONG Length,
                              PULONG ResultLength)
 {
+    KZ_INSIDE();
     Key *key = key_of(KeyHandle, __func__);
     if (!key)
         return STATUS_INVALID_HANDLE;
@@ -298,6 +305,7 @@ static void drop(Value **at)
 
 NTSTATUS ZwSetValueKey(HANDLE KeyHandle, PUNICODE_STRING ValueName, ULONG TitleIndex, ULONG Type, PVOID Data, ULONG DataSize)
 {
+    KZ_INSIDE();
     (void)TitleIndex;
     char name[256];
     Key *key = key_of(KeyHandle, __func__);
@@ -311,6 +319,7 @@ NTSTATUS ZwSetValueKey(HANDLE KeyHandle, PUNICODE_STRING ValueName, ULONG TitleI
 
 NTSTATUS ZwDeleteValueKey(HANDLE KeyHandle, PUNICODE_STRING ValueName)
 {
+    KZ_INSIDE();
     char name[256];
     Key *key = key_of(KeyHandle, __func__);
     if (!key)
@@ -389,7 +398,7 @@ void kz_tell_keys(void)
     for (Key *one = keys; one; one = one->next) {
         KzPlace before = kz_enter_again(&one->place);
         kz_tell(KZ_HANDLE_LEAK, "ZwClose", "never called for the key %s", one->name);
-        kz.place = before;
+        kz_me->place = before;
     }
 }
 

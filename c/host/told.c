@@ -38,16 +38,20 @@ void kz_be_strict(bool is)
 /* ---- Where it happens. */
 KzPlace kz_enter(KzCallback callback, PFLT_FILTER filter, PFLT_INSTANCE instance, KzOp *op, PFLT_CALLBACK_DATA data)
 {
-    KzPlace before = kz.place;
-    kz.place = (KzPlace){callback, filter, instance, op, op ? op->id : 0, data, ++kz.places, before.depth + 1, before.worker};
+    KzPlace before = kz_me->place;
+    kz_me->place = (KzPlace){callback, filter, instance, op, op ? op->id : 0, data, ++kz.places, before.depth + 1, before.worker};
+    if (filter)
+        kz_scheduler->touch(&filter->is_started, 0, KZ_TAKES);
+    if (instance)
+        kz_scheduler->touch(&instance->id, 0, KZ_TAKES);
     return before;
 }
 
 /* Back to where something began that is told only now. Its operation may be gone: its number is there. */
 KzPlace kz_enter_again(const KzPlace *place)
 {
-    KzPlace before = kz.place;
-    kz.place = *place;
+    KzPlace before = kz_me->place;
+    kz_me->place = *place;
     return before;
 }
 
@@ -55,15 +59,15 @@ KzPlace kz_enter_again(const KzPlace *place)
 void kz_leave(KzPlace before)
 {
     kz_tell_locks();
-    kz_check_memory(kz.place.filter);
-    if (kz.place.op)
-        kz_check_blocks(kz.place.op);
-    kz.place = before;
+    kz_check_memory(kz_me->place.filter);
+    if (kz_me->place.op)
+        kz_check_blocks(kz_me->place.op);
+    kz_me->place = before;
 }
 
 size_t kz_place_text(char *room, size_t size)
 {
-    KzPlace place = kz.place;
+    KzPlace place = kz_me->place;
     int used = snprintf(room, size, "filter %s", place.filter ? place.filter->driver->name : "none");
     if (place.instance && used < (int)size)
         used += snprintf(room + used, size - (size_t)used, ", instance %u", place.instance->id);
@@ -78,17 +82,30 @@ size_t kz_place_text(char *room, size_t size)
 static bool was_told(KzMessage message, const char *call)
 {
     for (Limit *one = limits; one; one = one->next)
-        if (one->message == message && one->filter == kz.place.filter && strcmp(one->call, call) == 0)
+        if (one->message == message && one->filter == kz_me->place.filter && strcmp(one->call, call) == 0)
             return true;
     Limit *made = kz_memory(sizeof *made);
-    *made = (Limit){.next = limits, .message = message, .filter = kz.place.filter};
+    *made = (Limit){.next = limits, .message = message, .filter = kz_me->place.filter};
     snprintf(made->call, sizeof made->call, "%s", call);
     limits = made;
     return false;
 }
 
+static void put_line(const char *word, KzMessage message, const char *call, const char *format, va_list arguments)
+{
+    char line[1024], place[256];
+    kz_place_text(place, sizeof place);
+    int used = snprintf(line, sizeof line, "%s KZ%04d %s: ", word, message, call);
+    used += vsnprintf(line + used, sizeof line - 300 - (size_t)used, format, arguments);
+    if (used > (int)sizeof line - 301)
+        used = (int)sizeof line - 301;
+    snprintf(line + used, sizeof line - (size_t)used, ": %s\n", place);
+    kz_put(line);
+}
+
 void kz_tell(KzMessage message, const char *call, const char *format, ...)
 {
+    KZ_INSIDE();
     bool is_limit = KZ_IS_LIMIT(message);
     if (is_allowed[message] || (is_limit && was_told(message, call)))
         return;
@@ -98,13 +115,9 @@ void kz_tell(KzMessage message, const char *call, const char *format, ...)
         kz.counts.told++;
     if (is_limit && kz_is_quiet && !is_strict)
         return;
-    char place[256];
     va_list arguments;
     va_start(arguments, format);
-    kz_place_text(place, sizeof place);
-    printf("%s KZ%04d %s: ", is_limit ? "LIMIT" : "TOLD", message, call);
-    vprintf(format, arguments);
-    printf(": %s\n", place);
+    put_line(is_limit ? "LIMIT" : "TOLD", message, call, format, arguments);
     va_end(arguments);
 }
 

@@ -101,6 +101,7 @@ void kz_new_volume(PFLT_VOLUME volume)
 /* ---- What a filter asks of a volume. */
 NTSTATUS FltGetVolumeProperties(PFLT_VOLUME Volume, PFLT_VOLUME_PROPERTIES VolumeProperties, ULONG VolumePropertiesLength, PULONG LengthReturned)
 {
+    KZ_INSIDE();
     const FileSystem *system = system_of(Volume->type);
     char name[64];
     snprintf(name, sizeof name, "/Device/%s", Volume->name);
@@ -141,6 +142,7 @@ static PFLT_VOLUME volume_of(PVOID object)
 
 NTSTATUS FltGetFileSystemType(PVOID FltObject, PFLT_FILESYSTEM_TYPE FileSystemType)
 {
+    KZ_INSIDE();
     PFLT_VOLUME volume = volume_of(FltObject);
     if (volume)
         *FileSystemType = volume->type;
@@ -149,6 +151,7 @@ NTSTATUS FltGetFileSystemType(PVOID FltObject, PFLT_FILESYSTEM_TYPE FileSystemTy
 
 NTSTATUS FltIsVolumeWritable(PVOID FltObject, PBOOLEAN IsWritable)
 {
+    KZ_INSIDE();
     PFLT_VOLUME volume = volume_of(FltObject);
     if (volume)
         *IsWritable = !volume->is_read_only;
@@ -157,6 +160,7 @@ NTSTATUS FltIsVolumeWritable(PVOID FltObject, PBOOLEAN IsWritable)
 
 NTSTATUS FltIsVolumeSnapshot(PVOID FltObject, PBOOLEAN IsSnapshotVolume)
 {
+    KZ_INSIDE();
     PFLT_VOLUME volume = volume_of(FltObject);
     if (volume)
         *IsSnapshotVolume = volume->is_snapshot;
@@ -165,6 +169,7 @@ NTSTATUS FltIsVolumeSnapshot(PVOID FltObject, PBOOLEAN IsSnapshotVolume)
 
 NTSTATUS FltGetDiskDeviceObject(PFLT_VOLUME Volume, PDEVICE_OBJECT *DiskDeviceObject)
 {
+    KZ_INSIDE();
     *DiskDeviceObject = NULL;
     if (Volume->device.DeviceType == FILE_DEVICE_NETWORK_FILE_SYSTEM)
         return STATUS_FLT_NO_DEVICE_OBJECT;
@@ -175,6 +180,7 @@ NTSTATUS FltGetDiskDeviceObject(PFLT_VOLUME Volume, PDEVICE_OBJECT *DiskDeviceOb
 
 NTSTATUS FltGetDeviceObject(PFLT_VOLUME Volume, PDEVICE_OBJECT *DeviceObject)
 {
+    KZ_INSIDE();
     *DeviceObject = &Volume->device;
     kz_take_object(&Volume->device, false, __func__);
     return STATUS_SUCCESS;
@@ -182,6 +188,7 @@ NTSTATUS FltGetDeviceObject(PFLT_VOLUME Volume, PDEVICE_OBJECT *DeviceObject)
 
 PDEVICE_OBJECT IoGetRelatedDeviceObject(PFILE_OBJECT FileObject)
 {
+    KZ_INSIDE();
     KzFile *file = kz_file_with(FileObject);
     return file ? &file->volume->device : NULL;
 }
@@ -196,6 +203,7 @@ static NTSTATUS give_volume(PFLT_VOLUME volume, PFLT_VOLUME *to, const char *cal
 
 NTSTATUS FltGetVolumeFromDeviceObject(PFLT_FILTER Filter, PDEVICE_OBJECT DeviceObject, PFLT_VOLUME *RetVolume)
 {
+    KZ_INSIDE();
     (void)Filter;
     for (size_t at = 0; at < kz.volumes_count; at++)
         if (DeviceObject == &kz.volumes[at]->device || DeviceObject == &kz.volumes[at]->disk)
@@ -205,11 +213,13 @@ NTSTATUS FltGetVolumeFromDeviceObject(PFLT_FILTER Filter, PDEVICE_OBJECT DeviceO
 
 NTSTATUS FltGetVolumeFromInstance(PFLT_INSTANCE Instance, PFLT_VOLUME *RetVolume)
 {
+    KZ_INSIDE();
     return give_volume(Instance->volume, RetVolume, __func__);
 }
 
 NTSTATUS FltGetVolumeFromFileObject(PFLT_FILTER Filter, PFILE_OBJECT FileObject, PFLT_VOLUME *RetVolume)
 {
+    KZ_INSIDE();
     (void)Filter;
     KzFile *file = kz_file_with(FileObject);
     return give_volume(file ? file->volume : NULL, RetVolume, __func__);
@@ -217,6 +227,7 @@ NTSTATUS FltGetVolumeFromFileObject(PFLT_FILTER Filter, PFILE_OBJECT FileObject,
 
 NTSTATUS FltGetVolumeFromName(PFLT_FILTER Filter, PCUNICODE_STRING VolumeName, PFLT_VOLUME *RetVolume)
 {
+    KZ_INSIDE();
     (void)Filter;
     char name[80], own[80];
     kz_narrow(name, sizeof name, VolumeName);
@@ -230,6 +241,7 @@ NTSTATUS FltGetVolumeFromName(PFLT_FILTER Filter, PCUNICODE_STRING VolumeName, P
 
 NTSTATUS FltEnumerateVolumes(PFLT_FILTER Filter, PFLT_VOLUME *VolumeList, ULONG VolumeListSize, PULONG NumberVolumesReturned)
 {
+    KZ_INSIDE();
     (void)Filter;
     ULONG count = 0;
     for (size_t at = 0; at < kz.volumes_count; at++)
@@ -247,6 +259,7 @@ NTSTATUS FltEnumerateVolumes(PFLT_FILTER Filter, PFLT_VOLUME *VolumeList, ULONG 
 /* ---- Filters and instances. */
 NTSTATUS FltGetFilterFromInstance(PFLT_INSTANCE Instance, PFLT_FILTER *RetFilter)
 {
+    KZ_INSIDE();
     *RetFilter = Instance->filter;
     kz_take_object(Instance->filter, true, __func__);
     return STATUS_SUCCESS;
@@ -254,11 +267,12 @@ NTSTATUS FltGetFilterFromInstance(PFLT_INSTANCE Instance, PFLT_FILTER *RetFilter
 
 NTSTATUS FltGetFilterFromName(PCUNICODE_STRING FilterName, PFLT_FILTER *RetFilter)
 {
+    KZ_INSIDE();
     char name[80];
     kz_narrow(name, sizeof name, FilterName);
     *RetFilter = NULL;
     for (size_t at = 0; at < kz.filters_count; at++)
-        if (kz.filters[at]->phase == KZ_LOADED && KzStricmp(kz.filters[at]->driver->name, name) == 0) {
+        if (kz_filter_phase(kz.filters[at]) == KZ_FILTER_LOADED && KzStricmp(kz.filters[at]->driver->name, name) == 0) {
             *RetFilter = kz.filters[at];
             kz_take_object(kz.filters[at], true, __func__);
             return STATUS_SUCCESS;
@@ -268,11 +282,12 @@ NTSTATUS FltGetFilterFromName(PCUNICODE_STRING FilterName, PFLT_FILTER *RetFilte
 
 static bool is_there(PFLT_INSTANCE one, PFLT_VOLUME volume, PFLT_FILTER filter)
 {
-    return one->phase == KZ_ATTACHED && (!volume || one->volume == volume) && (!filter || one->filter == filter);
+    return kz_phase(one) == KZ_INSTANCE_ATTACHED && (!volume || one->volume == volume) && (!filter || one->filter == filter);
 }
 
 NTSTATUS FltEnumerateInstances(PFLT_VOLUME Volume, PFLT_FILTER Filter, PFLT_INSTANCE *InstanceList, ULONG InstanceListSize, PULONG NumberInstancesReturned)
 {
+    KZ_INSIDE();
     ULONG count = 0;
     for (size_t at = 0; at < kz.instances_count; at++)
         count += is_there(kz.instances[at], Volume, Filter);
@@ -298,6 +313,7 @@ static NTSTATUS give_instance(PFLT_INSTANCE instance, PFLT_INSTANCE *to, const c
 
 NTSTATUS FltGetVolumeInstanceFromName(PFLT_FILTER Filter, PFLT_VOLUME Volume, PCUNICODE_STRING InstanceName, PFLT_INSTANCE *RetInstance)
 {
+    KZ_INSIDE();
     char name[80];
     kz_narrow(name, sizeof name, InstanceName);
     for (size_t at = 0; at < kz.instances_count; at++)
@@ -340,11 +356,13 @@ static PFLT_INSTANCE outermost(PFLT_VOLUME volume, int side)
 
 NTSTATUS FltGetTopInstance(PFLT_VOLUME Volume, PFLT_INSTANCE *Instance)
 {
+    KZ_INSIDE();
     return give_instance(outermost(Volume, 1), Instance, __func__);
 }
 
 NTSTATUS FltGetBottomInstance(PFLT_VOLUME Volume, PFLT_INSTANCE *Instance)
 {
+    KZ_INSIDE();
     return give_instance(outermost(Volume, -1), Instance, __func__);
 }
 
@@ -363,27 +381,30 @@ static PFLT_INSTANCE next_to(PFLT_INSTANCE from, int side)
 
 NTSTATUS FltGetUpperInstance(PFLT_INSTANCE CurrentInstance, PFLT_INSTANCE *UpperInstance)
 {
+    KZ_INSIDE();
     NTSTATUS status = give_instance(next_to(CurrentInstance, 1), UpperInstance, __func__);
     return NT_SUCCESS(status) ? status : STATUS_NO_MORE_ENTRIES;
 }
 
 NTSTATUS FltGetLowerInstance(PFLT_INSTANCE CurrentInstance, PFLT_INSTANCE *LowerInstance)
 {
+    KZ_INSIDE();
     NTSTATUS status = give_instance(next_to(CurrentInstance, -1), LowerInstance, __func__);
     return NT_SUCCESS(status) ? status : STATUS_NO_MORE_ENTRIES;
 }
 
 NTSTATUS FltEnumerateFilters(PFLT_FILTER *FilterList, ULONG FilterListSize, PULONG NumberFiltersReturned)
 {
+    KZ_INSIDE();
     ULONG count = 0;
     for (size_t at = 0; at < kz.filters_count; at++)
-        count += kz.filters[at]->phase == KZ_LOADED;
+        count += kz_filter_phase(kz.filters[at]) == KZ_FILTER_LOADED;
     *NumberFiltersReturned = count;
     if (!FilterList || FilterListSize < count)
         return STATUS_BUFFER_TOO_SMALL;
     count = 0;
     for (size_t at = 0; at < kz.filters_count; at++)
-        if (kz.filters[at]->phase == KZ_LOADED) {
+        if (kz_filter_phase(kz.filters[at]) == KZ_FILTER_LOADED) {
             FilterList[count++] = kz.filters[at];
             kz_take_object(kz.filters[at], true, __func__);
         }

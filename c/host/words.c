@@ -4,7 +4,6 @@
 #include <stdlib.h>
 
 #define WORDS 8
-#define LINE (2 * KZ_BYTES + 64)
 
 /* ---- Single words. */
 static bool read_number(const char *word, uint64_t limit, uint64_t *number)
@@ -102,8 +101,8 @@ static KzReply ask_as(char **words)
         return said(bad);
     if (!read_number(words[3] ? words[4] : "0", UINT32_MAX, &thread))
         return said(bad);
-    kz.process = process;
-    kz.thread = words[3] ? thread : process + 4;
+    kz_me->process = process;
+    kz_me->thread = words[3] ? thread : process + 4;
     return outcome(KZ_OK, 0);
 }
 
@@ -189,7 +188,7 @@ static KzReply ask_read(char **words)
 
 static KzReply ask_write(char **words)
 {
-    static uint8_t bytes[KZ_BYTES];
+    uint8_t *bytes = kz_me->bytes;
     uint64_t handle, offset;
     size_t length;
     if (!read_number(words[1], UINT64_MAX, &handle) || !read_number(words[2], UINT64_MAX, &offset) || !read_hex(words[3], bytes, &length))
@@ -251,7 +250,8 @@ static const struct {
 static size_t split(char *line, char **words)
 {
     size_t count = 0;
-    for (char *word = strtok(line, " \t\r\n"); word && count < WORDS; word = strtok(NULL, " \t\r\n"))
+    char *rest = NULL;
+    for (char *word = strtok_r(line, " \t\r\n", &rest); word && count < WORDS; word = strtok_r(NULL, " \t\r\n", &rest))
         words[count++] = word;
     words[count] = NULL;
     return count;
@@ -259,12 +259,11 @@ static size_t split(char *line, char **words)
 
 KzReply kz_request(const char *line)
 {
-    static char room[LINE];
     char *words[WORDS + 1];
-    if (strlen(line) >= sizeof room)
+    if (strlen(line) >= sizeof kz_me->line)
         return said(bad);
-    strcpy(room, line);
-    size_t count = split(room, words);
+    strcpy(kz_me->line, line);
+    size_t count = split(kz_me->line, words);
     if (count == 0 || words[0][0] == '#')
         return (KzReply){0};
     kz_tick();
@@ -301,7 +300,7 @@ static void request_or_bad(const char *line, FILE *file)
 
 int kz_run_file(const KzDriver *drivers, size_t count, FILE *file)
 {
-    static char line[LINE];
+    static char line[KZ_LINE];
     if (kz_open(drivers, count) != 0)
         return 1;
     while (fgets(line, sizeof line, file))

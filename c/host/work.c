@@ -42,6 +42,7 @@ static void enqueue(PFLT_GENERIC_WORKITEM item)
     item->is_queued = true;
     *last = item;
     last = &item->next;
+    kz_scheduler->touch(item, 0, KZ_GIVES);
 }
 
 static NTSTATUS queue(PFLT_GENERIC_WORKITEM item, Kind kind, PVOID object, PVOID routine, PVOID context, const char *call)
@@ -50,7 +51,7 @@ static NTSTATUS queue(PFLT_GENERIC_WORKITEM item, Kind kind, PVOID object, PVOID
         kz_tell(KZ_WORK_LEFT, call, "a work item that is queued already");
         return STATUS_INVALID_PARAMETER;
     }
-    *item = (struct _FLT_GENERIC_WORKITEM){NULL, kind, false, object, context, item, kz.place.filter, routine};
+    *item = (struct _FLT_GENERIC_WORKITEM){NULL, kind, false, object, context, item, kz_me->place.filter, routine};
     enqueue(item);
     return STATUS_SUCCESS;
 }
@@ -62,18 +63,20 @@ PFLT_GENERIC_WORKITEM FltAllocateGenericWorkItem(VOID)
 
 VOID FltFreeGenericWorkItem(PFLT_GENERIC_WORKITEM FltWorkItem)
 {
+    KZ_INSIDE();
     free_item(FltWorkItem, __func__);
 }
 
 NTSTATUS FltQueueGenericWorkItem(PFLT_GENERIC_WORKITEM FltWorkItem, PVOID FltObject, PFLT_GENERIC_WORKITEM_ROUTINE WorkerRoutine, WORK_QUEUE_TYPE QueueType,
                                  PVOID Context)
 {
+    KZ_CALL();
     (void)QueueType;
     if (!kz_is_instance(FltObject) && !kz_is_filter(FltObject)) {
         kz_tell(KZ_NO_FILTER_OBJECT, __func__, "neither a filter nor an instance");
         return STATUS_INVALID_PARAMETER;
     }
-    if (kz_is_instance(FltObject) && ((PFLT_INSTANCE)FltObject)->phase > KZ_STOPPING)
+    if (kz_is_instance(FltObject) && kz_phase(FltObject) > KZ_INSTANCE_STOPPING)
         return STATUS_FLT_DELETING_OBJECT;
     return queue(FltWorkItem, GENERIC, FltObject, (PVOID)WorkerRoutine, Context, __func__);
 }
@@ -85,12 +88,14 @@ PFLT_DEFERRED_IO_WORKITEM FltAllocateDeferredIoWorkItem(VOID)
 
 VOID FltFreeDeferredIoWorkItem(PFLT_DEFERRED_IO_WORKITEM FltWorkItem)
 {
+    KZ_INSIDE();
     free_item((PFLT_GENERIC_WORKITEM)FltWorkItem, __func__);
 }
 
 NTSTATUS FltQueueDeferredIoWorkItem(PFLT_DEFERRED_IO_WORKITEM FltWorkItem, PFLT_CALLBACK_DATA Data, PFLT_DEFERRED_IO_WORKITEM_ROUTINE WorkerRoutine,
                                     WORK_QUEUE_TYPE QueueType, PVOID Context)
 {
+    KZ_CALL();
     (void)QueueType;
     KzOp *op = kz_op_with(Data);
     if (!op) {
@@ -113,11 +118,13 @@ PIO_WORKITEM IoAllocateWorkItem(PDEVICE_OBJECT DeviceObject)
 
 VOID IoFreeWorkItem(PIO_WORKITEM IoWorkItem)
 {
+    KZ_INSIDE();
     free_item((PFLT_GENERIC_WORKITEM)IoWorkItem, __func__);
 }
 
 VOID IoQueueWorkItem(PIO_WORKITEM IoWorkItem, PIO_WORKITEM_ROUTINE WorkerRoutine, WORK_QUEUE_TYPE QueueType, PVOID Context)
 {
+    KZ_CALL();
     (void)QueueType;
     PFLT_GENERIC_WORKITEM item = (PFLT_GENERIC_WORKITEM)IoWorkItem;
     queue(item, DEVICE, item->object, (PVOID)WorkerRoutine, Context, __func__);
@@ -125,6 +132,7 @@ VOID IoQueueWorkItem(PIO_WORKITEM IoWorkItem, PIO_WORKITEM_ROUTINE WorkerRoutine
 
 VOID ExQueueWorkItem(PWORK_QUEUE_ITEM WorkItem, WORK_QUEUE_TYPE QueueType)
 {
+    KZ_CALL();
     (void)QueueType;
     PFLT_GENERIC_WORKITEM made = kz_memory(sizeof *made);
     queue(made, SYSTEM, NULL, (PVOID)WorkItem->WorkerRoutine, WorkItem->Parameter, __func__);
@@ -133,6 +141,7 @@ VOID ExQueueWorkItem(PWORK_QUEUE_ITEM WorkItem, WORK_QUEUE_TYPE QueueType)
 static void call(PFLT_GENERIC_WORKITEM item)
 {
     struct _FLT_GENERIC_WORKITEM one = *item;
+    kz_scheduler->touch(item, 0, KZ_TAKES);
     if (one.kind == SYSTEM)
         free(item);
     if (one.kind == GENERIC)
@@ -148,31 +157,44 @@ static void call(PFLT_GENERIC_WORKITEM item)
 static void run(PFLT_GENERIC_WORKITEM item)
 {
     PFLT_INSTANCE instance = item->kind <= DEFERRED && kz_is_instance(item->object) ? item->object : NULL;
-    uint64_t process = kz.process, thread = kz.thread;
+    uint64_t process = kz_me->process, thread = kz_me->thread;
     KzPlace before = kz_enter(KZ_IN_WORK, item->filter, instance, NULL, NULL);
     uint8_t worker = kz_helper();
     bool is_inside = instance && kz_enter_query(instance, worker);
-    kz.place.worker = worker;
-    kz.process = 4;
-    kz.thread = 8;
+    kz_me->place.worker = worker;
+    kz_me->process = 4;
+    kz_me->thread = 8;
     item->is_queued = false;
+    unsigned depth = kz_let_driver("work item");
     call(item);
+    kz_driver_returned(depth, "work item returns");
     kz_keep_rest(NULL);
-    kz.process = process;
-    kz.thread = thread;
+    kz_me->process = process;
+    kz_me->thread = thread;
     kz_leave(before);
     if (is_inside)
         kz_leave_query(instance, worker);
-    kz_helped();
+    kz_helped(worker);
 }
 
-/* Runs the next work item; false if there is none. One of an instance whose work item runs already waits for that. */
-bool kz_work(void)
+/* One of an instance whose work item runs already waits for that. */
+static PFLT_GENERIC_WORKITEM *next(void)
 {
     PFLT_GENERIC_WORKITEM *at = &first;
     while (*at && (*at)->kind <= DEFERRED && kz_is_instance((*at)->object) && ((PFLT_INSTANCE)(*at)->object)->is_asked)
         at = &(*at)->next;
-    PFLT_GENERIC_WORKITEM item = *at;
+    return at;
+}
+
+bool kz_has_work(void)
+{
+    return *next() != NULL;
+}
+
+/* Runs the next work item; false if there is none. */
+bool kz_work(void)
+{
+    PFLT_GENERIC_WORKITEM *at = next(), item = *at;
     if (!item)
         return false;
     *at = item->next;
@@ -188,7 +210,7 @@ void kz_tell_work(PFLT_FILTER filter)
         if (one->filter == filter) {
             KzPlace before = kz_enter(KZ_IN_NOTHING, filter, NULL, NULL, NULL);
             kz_tell(KZ_WORK_LEFT, "FltQueueGenericWorkItem", "a work item is queued still: it would run in a driver that is gone");
-            kz.place = before;
+            kz_me->place = before;
         }
 }
 

@@ -1,13 +1,18 @@
 #!/usr/bin/env bash
-# c/build.sh PROGRAM DRIVER.. : builds a program that runs requests through those drivers. A driver is a file of C or C++, or a folder with such files; each is loaded by
+# c/build.sh [--explore] PROGRAM DRIVER.. : builds a program that runs requests through those drivers, or with --explore one that runs a scenario under every schedule. A driver is a file of C or C++, or a folder with such files; each is loaded by
 # the name of its file or folder. Behind --driver, up to the next one, the files are one driver, by the name of the first.
 #
 # CC is the compiler (cc), CXX that of C++ (c++), CFLAGS are more words for the drivers and the host, KZAPI what the drivers see (KZAPI="-DNTDDI_VERSION=0x06000000 -DDBG=0"),
 # KAZDRIN_LIB the archive of crates/kazdrin_c (else that of c/archive.sh, or one without proofs), KZ_MAIN the main program, KZ_HOST the host's objects where they are built already.
 set -eu
 here=$(cd "$(dirname "$0")" && pwd)
+explores=""
+if [ "${1:-}" = --explore ]; then
+    explores=1
+    shift
+fi
 if [ $# -lt 2 ]; then
-    echo "usage: c/build.sh PROGRAM DRIVER.c..  or  PROGRAM FOLDER..  or  PROGRAM --driver FILE.c FILE.c.." >&2
+    echo "usage: c/build.sh [--explore] PROGRAM DRIVER.c..  or  PROGRAM FOLDER..  or  PROGRAM --driver FILE.c FILE.c.." >&2
     exit 2
 fi
 program=$1
@@ -29,6 +34,11 @@ own="-std=gnu11 -Wall -Wextra -Werror $common"
 # A driver's warnings are its author's; pointers are taken as the kit's compiler takes them. What the kit's projects set is set.
 driver="-fwrapv -fms-extensions $common \
 -D_WIN64=1 -D_M_AMD64=100 -D_M_X64=100 -D_AMD64_=1 -D_WIN32_WINNT=0x0A00 -DWINVER=0x0A00 -DNTDDI_VERSION=0x0A000002 -DDBG=1 -D_KERNEL_MODE=1 -DKZ_DRIVER=1 -include ntdef.h ${KZAPI:-}"
+# The explorer is behind the compiler's calls before each access of a driver's code; its addresses are those of the program's file.
+if [ -n "$explores" ]; then
+    driver="$driver -fsanitize=thread -fno-pie $($cc --version | grep -q clang && echo "-mllvm -tsan-distinguish-volatile=1" || echo "--param=tsan-distinguish-volatile=1")"
+    own="$own -fno-pie -no-pie"
+fi
 room=$(mktemp -d)
 trap 'rm -rf "$room"' EXIT
 count=0
@@ -63,6 +73,10 @@ for pair in wcslen:KzWcslen wcsnlen:KzWcsnlen wcscmp:KzWcscmp wcsncmp:KzWcsncmp 
     wcstol:KzWcstol wcstoul:KzWcstoul swprintf:KzSwprintfRoom vswprintf:KzVsnwprintf towupper:KzTowupper towlower:KzTowlower; do
     renamed="$renamed --redefine-sym ${pair%:*}=${pair#*:}"
 done
+
+if [ -n "$explores" ]; then
+    renamed="$renamed --redefine-sym memcpy=KzHookCopy --redefine-sym memmove=KzHookMove --redefine-sym memset=KzHookFill --redefine-sym memcmp=KzHookCompare"
+fi
 
 name_of() {
     local name
@@ -102,7 +116,12 @@ sources=""
 for source in "$here"/host/*.c; do
     [ "$(basename "$source")" = main.c ] || sources="$sources $source"
 done
+main=${KZ_MAIN:-$here/host/main.c}
 if [ -n "${KZ_HOST:-}" ]; then
     sources=$KZ_HOST
 fi
-$cc $own -o "$program" "$room/drivers.c" "$room"/driver_*.o $sources "${KZ_MAIN:-$here/host/main.c}" "$library" "$kit/c/libos_c.a" "$kit/c/liblibc_c.a"
+if [ -n "$explores" ]; then
+    main=$(echo "$here"/explore/*.c)
+    [ -z "${KZ_EXPLORER:-}" ] || { main=""; sources=$KZ_EXPLORER; }
+fi
+$cc $own -o "$program" "$room/drivers.c" "$room"/driver_*.o $sources $main "$library" "$kit/c/libos_c.a" "$kit/c/liblibc_c.a"

@@ -107,5 +107,12 @@ if echo 'int main(void) { return 0; }' | cc -fsanitize=address,undefined -x c -o
     tell $? "fuzz with sanitizers, as it was built,"
     try fuzz.asan "$room/fuzz.asan" 20000 3
 fi
+
+# The explorer's own tests.
+c/explore.sh > "$room/explore.log" 2>&1
+sed '$d' "$room/explore.log"
+counts=$(tail -n 1 "$room/explore.log")
+passed=$((passed + $(echo "$counts" | sed -n 's/^explorer: \([0-9]*\) passed.*/\1/p')))
+failed=$((failed + $(echo "$counts" | sed -n 's/.* \([0-9]*\) failed$/\1/p')))
 echo "C programs: $passed passed, $failed failed"
 [ "$failed" = 0 ]

@@ -1,6 +1,8 @@
 /* Clients, and the calls by which they come inside the host and leave it. */
 #include "host.h"
 
+#include <stdarg.h>
+
 KzClient kz_first = {.name = "first", .process = 100, .thread = 104};
 _Thread_local KzClient *kz_me = &kz_first;
 const KzScheduler *kz_scheduler = &kz_in_order;
@@ -59,9 +61,16 @@ void kz_pause(const char *name)
     kz_driver_returned(kz_let_driver(name), NULL);
 }
 
-bool kz_wait(KzCan *can, void *what, const char *why, uint64_t number)
+bool kz_wait(KzCan *can, void *what, const char *why, ...)
 {
-    return kz_scheduler->wait(can, what, why, number);
+    char text[160];
+    if (can(what) || !kz_has_others())
+        return can(what);
+    va_list arguments;
+    va_start(arguments, why);
+    vsnprintf(text, sizeof text, why, arguments);
+    va_end(arguments);
+    return kz_scheduler->wait(can, what, text);
 }
 
 /* Whether a call that may be refused is: then it answers as it does where there is no memory. */
@@ -82,9 +91,9 @@ static void pass_point(const char *name, const void *from)
     (void)name, (void)from;
 }
 
-static bool wait_in_order(KzCan *can, void *what, const char *why, uint64_t number)
+static bool wait_in_order(KzCan *can, void *what, const char *why)
 {
-    (void)why, (void)number;
+    (void)why;
     return can(what);
 }
 

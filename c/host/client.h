@@ -24,6 +24,9 @@ extern _Thread_local KzClient *kz_me;
 extern KzClient kz_first;
 void kz_new_client(KzClient *client, const char *name, unsigned number);
 
+/* A wait that is ours: in the kit a teardown goes on beside a work item. Who is stuck by it isn't so on Windows. */
+#define KZ_NO_TEARDOWN_BESIDE "a work item of instance "
+
 /* ---- A scheduler says who goes on. */
 
 /* Whether a client can go on. It changes nothing. */
@@ -35,8 +38,8 @@ typedef enum { KZ_TAKES, KZ_GIVES, KZ_HAS_TAKEN_BACK } KzTouch;
 typedef struct {
     /* The client stands before what is named, in no call of the host: another may go on first. */
     void (*point)(const char *name, const void *from);
-    /* It waits until it can go on, for what is named with its number. False: nobody brings that about. */
-    bool (*wait)(KzCan *can, void *what, const char *why, uint64_t number);
+    /* It can't go on, and waits for what is named until it can. False: nobody brings that about, or its time is over. */
+    bool (*wait)(KzCan *can, void *what, const char *why);
     void (*touch)(const void *object, size_t size, KzTouch how);
     /* Which of so many answers the call gets; 0 is the usual one. */
     unsigned (*choose)(unsigned count, const char *name);
@@ -63,7 +66,7 @@ unsigned kz_let_driver(const char *name);
 void kz_driver_returned(unsigned depth, const char *name);
 /* The client steps out of the host for a moment. */
 void kz_pause(const char *name);
-bool kz_wait(KzCan *can, void *what, const char *why, uint64_t number);
+bool kz_wait(KzCan *can, void *what, const char *why, ...) __attribute__((format(printf, 3, 4)));
 bool kz_refuses(const char *call);
 bool kz_has_others(void);
 

@@ -372,7 +372,7 @@ static bool is_signalled(void *object)
 static NTSTATUS wait_for(PDISPATCHER_HEADER object, bool is_timed)
 {
     bool is_over = is_timed && kz_scheduler->choose(2, "the time is over");
-    if (is_over || !kz_wait(is_signalled, object, "KeWaitForSingleObject", 0))
+    if (is_over || !kz_wait(is_signalled, object, "KeWaitForSingleObject"))
         return STATUS_TIMEOUT;
     return is_there(object) ? STATUS_SUCCESS : STATUS_TIMEOUT;
 }

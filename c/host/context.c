@@ -242,7 +242,7 @@ NTSTATUS FltAllocateContext(PFLT_FILTER Filter, FLT_CONTEXT_TYPE ContextType, SI
         kz_tell(KZ_NO_SUCH_CONTEXTS, __func__, "contexts of files, transactions and sections aren't modelled: it answers STATUS_NOT_SUPPORTED");
         return STATUS_NOT_SUPPORTED;
     }
-    PVOID body = new_body(how, ContextSize, PoolType);
+    PVOID body = kz_refuses(__func__) ? NULL : new_body(how, ContextSize, PoolType);
     if (!body)
         return STATUS_INSUFFICIENT_RESOURCES;
     Header *made = kz_memory(sizeof *made);

@@ -242,11 +242,11 @@ static uint32_t end(PFLT_FILTER filter)
     }
     if (status != KZ_OK)
         return status;
-    status = kz_until_free((KazdrinEvent){.event = KZ_EMPTY_FILTER, .filter = filter->id}, NULL);
+    status = kz_until_free("empty the filter", (KazdrinEvent){.event = KZ_EMPTY_FILTER, .filter = filter->id}, NULL);
     if (status != KZ_OK)
         return status;
     kz_clean_up();
-    status = kz_until_free((KazdrinEvent){.event = KZ_FINISH_FILTER, .filter = filter->id}, NULL);
+    status = kz_until_free("finish the filter", (KazdrinEvent){.event = KZ_FINISH_FILTER, .filter = filter->id}, NULL);
     kz_scheduler->touch(filter, 0, KZ_TAKES);
     return status;
 }

@@ -161,6 +161,7 @@ void kz_give_back(void *memory)
     if (!piece)
         return;
     kz_check_piece(piece);
+    kz_scheduler->touch(body_of(piece), piece->size, KZ_HAS_TAKEN_BACK);
     *(piece->before ? &piece->before->next : &pieces) = piece->next;
     if (piece->next)
         piece->next->before = piece->before;

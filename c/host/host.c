@@ -30,13 +30,20 @@ static bool is_free(void *busy)
     return kz.changes != one->changes && (!one->instance || !one->instance->in_flight);
 }
 
-/* An event that waits for what is in flight, or for contexts: others may end that meanwhile. */
-uint32_t kz_until_free(KazdrinEvent event, PFLT_INSTANCE instance)
+static bool wait_until_free(Busy *busy)
 {
-    kz_pause("end");
+    if (busy->instance)
+        return kz_wait(is_free, busy, "what is in flight at instance %u to end", busy->instance->id);
+    return kz_wait(is_free, busy, "what goes on still to end");
+}
+
+/* An event that waits for what is in flight, or for contexts: others may end that meanwhile. */
+uint32_t kz_until_free(const char *name, KazdrinEvent event, PFLT_INSTANCE instance)
+{
+    kz_pause(name);
     Busy busy = {instance, kz.changes};
     uint32_t status = kz_event(event);
-    while (status == KZ_BUSY && kz_has_others() && kz_wait(is_free, &busy, instance ? "what is in flight at an instance" : "what goes on still", instance ? instance->id : 0)) {
+    while (status == KZ_BUSY && kz_has_others() && wait_until_free(&busy)) {
         busy.changes = kz.changes;
         status = kz_event(event);
     }
@@ -133,7 +140,8 @@ static void free_all(void)
     kz.filters_count = kz.volumes_count = kz.instances_count = 0;
 }
 
-int kz_close(void)
+/* All that is looked at once no request comes any more. */
+void kz_end(void)
 {
     kz_unload_all();
     kz_tell_held();
@@ -147,7 +155,12 @@ int kz_close(void)
     KzCounts counts = kz_counts();
     kz_say("contexts born %llu, cleaned %llu, leaked references %llu, told %llu, limits %llu\n", (unsigned long long)counts.born,
            (unsigned long long)counts.cleaned, (unsigned long long)counts.leaked, (unsigned long long)counts.told, (unsigned long long)counts.limits);
+}
+
+int kz_close(void)
+{
+    kz_end();
     free_all();
     kazdrin_close(&kz.manager);
-    return counts.told ? 5 : 0;
+    return kz.counts.told ? 5 : 0;
 }

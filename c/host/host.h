@@ -204,12 +204,13 @@ extern KzHost kz;
 /* host.c: events, and memory that must be there. An event is the current callback's worker's unless it says another. */
 uint32_t kz_event(KazdrinEvent event);
 uint32_t kz_event_with(KazdrinEvent event, const void *bytes, size_t length);
-uint32_t kz_until_free(KazdrinEvent event, PFLT_INSTANCE instance);
+uint32_t kz_until_free(const char *name, KazdrinEvent event, PFLT_INSTANCE instance);
 uint8_t kz_helper(void);
 void kz_helped(uint8_t worker);
 void *kz_memory(size_t size);
 void kz_say(const char *format, ...) __attribute__((format(printf, 1, 2)));
 void kz_put(const char *text);
+void kz_end(void);
 
 /* told.c: what is told, and where. */
 void kz_tell(KzMessage message, const char *call, const char *format, ...) __attribute__((format(printf, 3, 4)));
@@ -347,6 +348,7 @@ uint32_t kz_detach(PFLT_INSTANCE instance);
 uint32_t kz_tear_down(PFLT_INSTANCE instance, FLT_INSTANCE_TEARDOWN_FLAGS reason);
 uint32_t kz_dismount(PFLT_VOLUME volume);
 bool kz_is_instance(PFLT_INSTANCE instance);
+bool kz_is_not_asked(void *instance);
 bool kz_enter_query(PFLT_INSTANCE instance, uint8_t worker);
 void kz_leave_query(PFLT_INSTANCE instance, uint8_t worker);
 

@@ -112,8 +112,15 @@ void kz_leave_query(PFLT_INSTANCE instance, uint8_t worker)
     kz_clean_up();
 }
 
+bool kz_is_not_asked(void *instance)
+{
+    return !((PFLT_INSTANCE)instance)->is_asked;
+}
+
+/* Beside others it waits for a work item of the instance. In the kit it goes on, and the end of the teardown waits. */
 static uint32_t ask(PFLT_INSTANCE instance)
 {
+    kz_wait(kz_is_not_asked, instance, KZ_NO_TEARDOWN_BESIDE "%u", instance->id);
     if (!instance->filter->registration.InstanceQueryTeardownCallback)
         return kz_phase(instance) == KZ_INSTANCE_ATTACHED ? KZ_DO_NOT_DETACH : KZ_NO_INSTANCE;
     uint32_t status = kz_event((KazdrinEvent){.event = KZ_ASK_DETACH, .instance = instance->id});
@@ -165,10 +172,10 @@ static uint32_t stop(PFLT_INSTANCE instance, FLT_INSTANCE_TEARDOWN_FLAGS reason)
 {
     start(instance, reason);
     if (kz_phase(instance) == KZ_INSTANCE_STOPPING) {
-        uint32_t status = kz_until_free((KazdrinEvent){.event = KZ_COMPLETE_TEARDOWN, .instance = instance->id}, instance);
+        uint32_t status = kz_until_free("complete teardown", (KazdrinEvent){.event = KZ_COMPLETE_TEARDOWN, .instance = instance->id}, instance);
         if (status != KZ_OK)
             return status;
-        kz_scheduler->touch(instance, 0, KZ_TAKES);
+        kz_scheduler->touch(&instance->in_flight, 0, KZ_TAKES);
         tell_teardown(instance, KZ_IN_COMPLETE, instance->filter->registration.InstanceTeardownCompleteCallback, reason);
         kz_event((KazdrinEvent){.event = KZ_COMPLETE_RETURNED});
         kz_settle();
@@ -179,7 +186,7 @@ static uint32_t stop(PFLT_INSTANCE instance, FLT_INSTANCE_TEARDOWN_FLAGS reason)
 static uint32_t finish(PFLT_INSTANCE instance)
 {
     kz_clean_up();
-    uint32_t status = kz_until_free((KazdrinEvent){.event = KZ_FINISH, .instance = instance->id}, NULL);
+    uint32_t status = kz_until_free("finish", (KazdrinEvent){.event = KZ_FINISH, .instance = instance->id}, NULL);
     kz_scheduler->touch(instance->filter, 0, KZ_GIVES);
     kz.changes++;
     return status;
@@ -195,7 +202,7 @@ static bool is_alone(void *instance)
 /* From where the teardown is: the status that stops it, or 0. */
 uint32_t kz_tear_down(PFLT_INSTANCE instance, FLT_INSTANCE_TEARDOWN_FLAGS reason)
 {
-    if (!kz_wait(is_alone, instance, "the teardown of an instance by another", instance->id))
+    if (!kz_wait(is_alone, instance, "the teardown of instance %u by another", instance->id))
         return KZ_BUSY;
     KzClient *before = instance->torn_down_by;
     instance->torn_down_by = kz_me;
@@ -243,7 +250,7 @@ static uint32_t each(PFLT_VOLUME volume, uint32_t (*step)(PFLT_INSTANCE))
 
 static uint32_t stop_for_dismount(PFLT_INSTANCE instance)
 {
-    if (!kz_wait(is_alone, instance, "the teardown of an instance by another", instance->id))
+    if (!kz_wait(is_alone, instance, "the teardown of instance %u by another", instance->id))
         return KZ_BUSY;
     KzClient *before = instance->torn_down_by;
     instance->torn_down_by = kz_me;
@@ -263,9 +270,9 @@ uint32_t kz_dismount(PFLT_VOLUME volume)
     status = each(volume, finish);
     if (status != KZ_OK)
         return status;
-    status = kz_until_free((KazdrinEvent){.event = KZ_EMPTY_VOLUME, .volume = volume->id}, NULL);
+    status = kz_until_free("empty the volume", (KazdrinEvent){.event = KZ_EMPTY_VOLUME, .volume = volume->id}, NULL);
     if (status != KZ_OK)
         return status;
     kz_clean_up();
-    return kz_until_free((KazdrinEvent){.event = KZ_FINISH_VOLUME, .volume = volume->id}, NULL);
+    return kz_until_free("finish the volume", (KazdrinEvent){.event = KZ_FINISH_VOLUME, .volume = volume->id}, NULL);
 }

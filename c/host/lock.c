@@ -82,12 +82,10 @@ VOID KzTake(PVOID Lock, int How, KIRQL Irql, PCSTR Call)
     KZ_CALL_OF(Call);
     Held *one = find(Lock);
     Wanted wanted = {Lock, kz_me, is_shared(How)};
-    char why[160];
     if (one && !may_share(one, How)) {
         kz_tell(KZ_WAITS_FOR_EVER, Call, "the lock is held already, and by the same thread: it would wait for ever");
     } else if (!is_free(&wanted)) {
-        snprintf(why, sizeof why, "%s of a lock that %s holds", Call, other(Lock, kz_me, wanted.is_shared)->client->name);
-        kz_wait(is_free, &wanted, why, 0);
+        kz_wait(is_free, &wanted, "%s of a lock that %s holds", Call, other(Lock, kz_me, wanted.is_shared)->client->name);
     }
     note(Lock, How, Irql, Call);
 }

@@ -242,7 +242,7 @@ static void leave_flight(PFLT_INSTANCE instance)
 {
     instance->in_flight--;
     kz.changes++;
-    kz_scheduler->touch(instance, 0, KZ_GIVES);
+    kz_scheduler->touch(&instance->in_flight, 0, KZ_GIVES);
 }
 
 static void pre(KzOp *op, PFLT_INSTANCE instance)
@@ -253,6 +253,7 @@ static void pre(KzOp *op, PFLT_INSTANCE instance)
     kz_show_pre(op, instance);
     FLT_PREOP_CALLBACK_STATUS said = ask_pre(op, instance, &completion);
     KazdrinEvent verdict = verdict_of(op, instance, said, completion);
+    kz_scheduler->touch(&op->users, 0, KZ_GIVES); /* what it sends along may be drained by another client */
     kz_keep_rest(&verdict);
     kz_leave(before);
     if (kazdrin_pre_returned(&kz.manager, &verdict) == KZ_OK && said == FLT_PREOP_PENDING) {
@@ -312,6 +313,7 @@ static void drain(KzOp *op, PFLT_INSTANCE instance, PVOID completion)
     FLT_RELATED_OBJECTS objects = kz_objects(instance, op->file);
     PFLT_POST_OPERATION_CALLBACK callback = kz_registered(instance->filter, kz_major(op->event))->PostOperation;
     op->users++;
+    kz_scheduler->touch(&op->users, 0, KZ_TAKES);
     unsigned depth = kz_let_driver("drain");
     FLT_POSTOP_CALLBACK_STATUS said = callback(&data, &objects, completion, FLTFL_POST_OPERATION_DRAINING);
     kz_driver_returned(depth, "drain returns");
@@ -342,8 +344,18 @@ bool kz_drain_next(PFLT_INSTANCE instance)
 }
 
 /* ---- Turns. */
+/* The device may fail, but for a cleanup or a close. */
+static void call_base(KzOp *op)
+{
+    KazdrinEvent event = {.worker = kz_me->place.worker, .status = KZ_DEVICE_FAULT};
+    bool is_failed = op->event != KZ_CLEANUP && op->event != KZ_CLOSE && kz_refuses("the device");
+    if (!is_failed || kazdrin_based(&kz.manager, &event, (const uint8_t *)"", 0) != KZ_OK)
+        kazdrin_base(&kz.manager, &event);
+}
+
 static Turn turn(KzOp *op)
 {
+    kz_scheduler->touch(op, 0, KZ_TAKES); /* behind whoever let it go on */
     KazdrinTold told = {0};
     KazdrinEvent next = {.operation = op->id, .worker = kz_me->place.worker};
     if (kazdrin_next(&kz.manager, &next, &told) != KZ_OK)
@@ -355,7 +367,7 @@ static Turn turn(KzOp *op)
         pre(op, instance);
         return GOES;
     case KZ_BASE:
-        kazdrin_base(&kz.manager, &next);
+        call_base(op);
         return GOES;
     case KZ_POST:
         post(op, instance, completion);
@@ -394,9 +406,8 @@ static Turn carry_to_end(KzOp *op)
 {
     op->runner = kz_me;
     Turn made = carry(op);
-    while (made == HELD && kz_wait(is_resumed, op, op->held == KZ_HELD_PRE ? "an operation that a preoperation holds" : "an operation that a postoperation holds", op->id)) {
+    while (made == HELD && kz_wait(is_resumed, op, "operation %llu, which a %soperation holds", (unsigned long long)op->id, op->held == KZ_HELD_POST ? "post" : "pre")) {
         op->is_resumed = false;
-        kz_scheduler->touch(op, 0, KZ_TAKES);
         made = carry(op);
     }
     op->runner = NULL;
@@ -554,10 +565,6 @@ static void resume(KzOp *op)
     kz.resumed_end = &op->next_resumed;
 }
 
-static bool is_not_asked(void *instance)
-{
-    return !((PFLT_INSTANCE)instance)->is_asked;
-}
 
 /* Makes the event from a callback of the instance that holds the operation: the one that runs, or else the question whether it may be detached, which is refused behind it.
  * Whoever completes an operation in the kit may do so from anywhere. */
@@ -572,7 +579,7 @@ static bool resume_from(const char *call, KzOp *op, KazdrinEvent event)
             return status == KZ_OK;
         }
     }
-    kz_wait(is_not_asked, op->holder, "the query callback of an instance", op->holder->id);
+    kz_wait(kz_is_not_asked, op->holder, "the query callback of instance %u", op->holder->id);
     uint8_t worker = kz_helper();
     bool is_in = kz_enter_query(op->holder, worker);
     event.worker = worker;

@@ -5,6 +5,8 @@
 PVOID ExAllocatePoolWithTag(POOL_TYPE PoolType, SIZE_T NumberOfBytes, ULONG Tag)
 {
     KZ_INSIDE();
+    if (kz_refuses(__func__))
+        return NULL;
     (void)PoolType;
     return kz_take_memory(KZ_POOL, NumberOfBytes, 0xcd, Tag);
 }
@@ -27,6 +29,8 @@ PVOID ExAllocatePoolUninitialized(POOL_TYPE PoolType, SIZE_T NumberOfBytes, ULON
 PVOID ExAllocatePoolZero(POOL_TYPE PoolType, SIZE_T NumberOfBytes, ULONG Tag)
 {
     KZ_INSIDE();
+    if (kz_refuses(__func__))
+        return NULL;
     (void)PoolType;
     return kz_take_memory(KZ_POOL, NumberOfBytes, 0, Tag);
 }
@@ -34,6 +38,8 @@ PVOID ExAllocatePoolZero(POOL_TYPE PoolType, SIZE_T NumberOfBytes, ULONG Tag)
 PVOID ExAllocatePool2(POOL_FLAGS Flags, SIZE_T NumberOfBytes, ULONG Tag)
 {
     KZ_INSIDE();
+    if (kz_refuses(__func__))
+        return NULL;
     return kz_take_memory(KZ_POOL, NumberOfBytes, Flags & POOL_FLAG_UNINITIALIZED ? 0xcd : 0, Tag);
 }
 

@@ -6,7 +6,8 @@ typedef struct _INSTANCE_CONTEXT {
     FLT_CALLBACK_DATA_QUEUE Cbdq;
     LIST_ENTRY QueueHead;
     FAST_MUTEX Lock;
-    PFLT_CALLBACK_DATA Held;
+    PFLT_CALLBACK_DATA Held; /* under the lock, as the next one is */
+    BOOLEAN IsLeaving;
 } INSTANCE_CONTEXT, *PINSTANCE_CONTEXT;
 
 #define INSTANCE_TAG 'iqSC'
@@ -76,6 +77,7 @@ static NTSTATUS InstanceSetup(_In_ PCFLT_RELATED_OBJECTS FltObjects, _In_ FLT_IN
     InitializeListHead(&instCtx->QueueHead);
     ExInitializeFastMutex(&instCtx->Lock);
     instCtx->Held = NULL;
+    instCtx->IsLeaving = FALSE;
     status = FltCbdqInitialize(FltObjects->Instance, &instCtx->Cbdq, CsqInsertIo, CsqRemoveIo, CsqPeekNextIo, CsqAcquire, CsqRelease,
                                CsqCompleteCanceledIo);
     FLT_ASSERT(NT_SUCCESS(status));
@@ -88,6 +90,7 @@ static FLT_PREOP_CALLBACK_STATUS PreRead(_Inout_ PFLT_CALLBACK_DATA Data, _In_ P
                                          _Flt_CompletionContext_Outptr_ PVOID *CompletionContext)
 {
     PINSTANCE_CONTEXT instCtx;
+    ULONG length = Data->Iopb->Parameters.Read.Length; /* once it is in the queue, another thread may complete it */
     NTSTATUS status;
 
     UNREFERENCED_PARAMETER(CompletionContext);
@@ -100,7 +103,7 @@ static FLT_PREOP_CALLBACK_STATUS PreRead(_Inout_ PFLT_CALLBACK_DATA Data, _In_ P
     if (!NT_SUCCESS(status)) {
         return FLT_PREOP_SUCCESS_NO_CALLBACK;
     }
-    DbgPrint("CancelSafe: a read of %u bytes is pended\n", Data->Iopb->Parameters.Read.Length);
+    DbgPrint("CancelSafe: a read of %u bytes is pended\n", length);
     return FLT_PREOP_PENDING;
 }
 
@@ -129,12 +132,29 @@ static FLT_POSTOP_CALLBACK_STATUS PostQueryInformation(_Inout_ PFLT_CALLBACK_DAT
     if (FlagOn(Flags, FLTFL_POST_OPERATION_DRAINING) || !NT_SUCCESS(FltGetInstanceContext(FltObjects->Instance, (PFLT_CONTEXT *)&instCtx))) {
         return FLT_POSTOP_FINISHED_PROCESSING;
     }
-    if (instCtx->Held == NULL) {
+    ExAcquireFastMutex(&instCtx->Lock);
+    if (instCtx->Held == NULL && !instCtx->IsLeaving) {
         instCtx->Held = Data;
         returnStatus = FLT_POSTOP_MORE_PROCESSING_REQUIRED;
     }
+    ExReleaseFastMutex(&instCtx->Lock);
     FltReleaseContext(instCtx);
     return returnStatus;
+}
+
+/* Lets the postoperation go on that is held, if one is. */
+static VOID LetHeldGoOn(_In_ PINSTANCE_CONTEXT InstCtx, _In_ BOOLEAN IsLeaving)
+{
+    PFLT_CALLBACK_DATA held;
+
+    ExAcquireFastMutex(&InstCtx->Lock);
+    held = InstCtx->Held;
+    InstCtx->Held = NULL;
+    InstCtx->IsLeaving |= IsLeaving;
+    ExReleaseFastMutex(&InstCtx->Lock);
+    if (held != NULL) {
+        FltCompletePendedPostOperation(held);
+    }
 }
 
 static FLT_PREOP_CALLBACK_STATUS PreFlush(_Inout_ PFLT_CALLBACK_DATA Data, _In_ PCFLT_RELATED_OBJECTS FltObjects,
@@ -152,10 +172,7 @@ static FLT_PREOP_CALLBACK_STATUS PreFlush(_Inout_ PFLT_CALLBACK_DATA Data, _In_ 
     while ((pended = FltCbdqRemoveNextIo(&instCtx->Cbdq, NULL)) != NULL) {
         FltCompletePendedPreOperation(pended, FLT_PREOP_SUCCESS_WITH_CALLBACK, NULL);
     }
-    if (instCtx->Held != NULL) {
-        FltCompletePendedPostOperation(instCtx->Held);
-        instCtx->Held = NULL;
-    }
+    LetHeldGoOn(instCtx, FALSE);
     FltReleaseContext(instCtx);
     return FLT_PREOP_SUCCESS_NO_CALLBACK;
 }
@@ -177,10 +194,7 @@ static VOID InstanceTeardownStart(_In_ PCFLT_RELATED_OBJECTS FltObjects, _In_ FL
         pended->IoStatus.Information = 0;
         FltCompletePendedPreOperation(pended, FLT_PREOP_COMPLETE, NULL);
     }
-    if (instCtx->Held != NULL) {
-        FltCompletePendedPostOperation(instCtx->Held);
-        instCtx->Held = NULL;
-    }
+    LetHeldGoOn(instCtx, TRUE);
     FltReleaseContext(instCtx);
 }
 

@@ -1,0 +1,240 @@
+/* Which accesses are in order: a clock of each client for each client. What takes an object comes behind all that gave it before. Two accesses of different clients that aren't
+ * in order, of which one writes, are a race. Memory that was given back isn't to be touched at all. */
+#include "explore.h"
+
+#include <sys/mman.h>
+
+enum { CELLS = 1 << 16, OBJECTS = 1 << 12, FREED = 4096 };
+
+/* What a client did with eight bytes: which of them, when, and where from. */
+typedef struct {
+    uint32_t when, from;
+    uint8_t bytes;
+    bool is_atomic;
+} Access;
+
+typedef struct {
+    uintptr_t tag;
+    uint32_t run;
+    Access reads[RUNNERS + 1], writes[RUNNERS + 1];
+} Cell;
+
+typedef struct {
+    const void *object;
+    uint32_t run;
+    uint32_t clock[RUNNERS + 1];
+} Object;
+
+static struct {
+    Cell cells[CELLS];
+    Object objects[OBJECTS];
+    uint32_t clock[RUNNERS + 1][RUNNERS + 1];
+    struct {
+        uintptr_t start, end;
+        uint32_t from;
+        int client;
+    } freed[FREED];
+    size_t freed_count;
+    uintptr_t least, most;
+} *shadow;
+
+void ex_open_shadow(void)
+{
+    shadow = mmap(NULL, sizeof *shadow, PROT_READ | PROT_WRITE, MAP_PRIVATE | MAP_ANONYMOUS | MAP_NORESERVE, -1, 0);
+}
+
+void ex_start_clocks(void)
+{
+    memset(shadow->clock, 0, sizeof shadow->clock);
+    for (int client = 0; client <= RUNNERS; client++)
+        shadow->clock[client][client] = 1;
+    shadow->freed_count = 0;
+    shadow->least = UINTPTR_MAX;
+    shadow->most = 0;
+}
+
+static size_t hashed(uintptr_t key, size_t size)
+{
+    return (size_t)((key * 0x9e3779b97f4a7c15ULL) >> 40) & (size - 1);
+}
+
+/* NULL where the table is full: then nothing is told of it. */
+static Cell *cell_of(uintptr_t tag, bool is_made)
+{
+    size_t at = hashed(tag, CELLS);
+    for (int tries = 0; tries < 64; tries++, at = (at + 1) & (CELLS - 1)) {
+        Cell *cell = &shadow->cells[at];
+        if (cell->run == ex->run && cell->tag == tag)
+            return cell;
+        if (cell->run == ex->run)
+            continue;
+        if (!is_made)
+            return NULL;
+        memset(cell, 0, sizeof *cell);
+        cell->run = ex->run;
+        cell->tag = tag;
+        return cell;
+    }
+    return NULL;
+}
+
+static Object *object_of(const void *object)
+{
+    size_t at = hashed((uintptr_t)object, OBJECTS);
+    for (int tries = 0; tries < 256; tries++, at = (at + 1) & (OBJECTS - 1)) {
+        Object *one = &shadow->objects[at];
+        if (one->run == ex->run && one->object == object)
+            return one;
+        if (one->run == ex->run)
+            continue;
+        memset(one, 0, sizeof *one);
+        one->run = ex->run;
+        one->object = object;
+        return one;
+    }
+    return NULL;
+}
+
+static const char *const words[2][2] = {{"a read", "a write"}, {"an interlocked read", "an interlocked write"}};
+
+static void tell(const Access *before, bool was_write, int client, const void *from, const char *now)
+{
+    char text[TEXT], place[32] = "the end of its operation";
+    Runner *other = &ex_runners[client];
+    if (from)
+        snprintf(place, sizeof place, "@%lx", (unsigned long)(uintptr_t)from);
+    snprintf(text, sizeof text, "RACE: %s at %s (%s), and %s at @%lx (%s), and nothing orders them", now, place, kz_me->name,
+             words[before->is_atomic][was_write], (unsigned long)before->from, other->name);
+    ex_found(RACE, text);
+}
+
+/* A plain read beside an interlocked write is what drivers do on purpose. */
+static bool is_race(const Access *before, uint8_t bytes, uint32_t known, bool was_write, bool is_write, bool is_atomic)
+{
+    if (before->when <= known || !(before->bytes & bytes) || (!was_write && !is_write))
+        return false;
+    if (before->is_atomic && is_atomic)
+        return false;
+    return !(before->is_atomic && was_write && !is_write) && !(is_atomic && is_write && !was_write && !before->is_atomic);
+}
+
+static void look(Cell *cell, uint8_t bytes, bool is_write, bool is_atomic, const void *from, const char *now)
+{
+    unsigned me = kz_me->number;
+    for (int client = 1; client <= ex->runners_count; client++) {
+        if (client == (int)me)
+            continue;
+        uint32_t known = shadow->clock[me][client];
+        if (is_race(&cell->writes[client], bytes, known, true, is_write, is_atomic))
+            tell(&cell->writes[client], true, client, from, now);
+        else if (is_race(&cell->reads[client], bytes, known, false, is_write, is_atomic))
+            tell(&cell->reads[client], false, client, from, now);
+    }
+}
+
+static void look_at_freed(uintptr_t address, const void *from, bool is_write)
+{
+    if (address < shadow->least || address >= shadow->most)
+        return;
+    for (size_t at = 0; at < shadow->freed_count; at++) {
+        if (address < shadow->freed[at].start || address >= shadow->freed[at].end)
+            continue;
+        char text[TEXT];
+        char place[32] = "the end of its operation";
+        if (shadow->freed[at].from)
+            snprintf(place, sizeof place, "@%x", shadow->freed[at].from);
+        snprintf(text, sizeof text, "USE AFTER FREE: %s at @%lx (%s) of memory that %s gave back at %s", words[0][is_write], (unsigned long)(uintptr_t)from, kz_me->name,
+                 ex_runners[shadow->freed[at].client].name, place);
+        ex_found(RACE, text);
+        return;
+    }
+}
+
+static bool is_watched(void)
+{
+    return ex && ex->is_running && kz_me != &kz_first;
+}
+
+void ex_access(const void *address, size_t size, bool is_write, bool is_atomic, const void *from)
+{
+    if (!is_watched())
+        return;
+    uintptr_t start = (uintptr_t)address, end = start + size;
+    if (ex_is_stack(address))
+        return;
+    look_at_freed(start, from, is_write);
+    for (uintptr_t tag = start >> 3; tag << 3 < end; tag++) {
+        uintptr_t first = tag << 3 < start ? start - (tag << 3) : 0, last = (tag << 3) + 8 > end ? end - (tag << 3) : 8;
+        uint8_t bytes = (uint8_t)((0xff << first) & (0xff >> (8 - last)));
+        Cell *cell = cell_of(tag, true);
+        if (!cell)
+            continue;
+        look(cell, bytes, is_write, is_atomic, from, words[is_atomic][is_write]);
+        unsigned me = kz_me->number;
+        Access *mine = is_write ? &cell->writes[me] : &cell->reads[me];
+        bool is_same = mine->when == shadow->clock[me][me] && mine->is_atomic == is_atomic;
+        *mine = (Access){shadow->clock[me][me], (uint32_t)(uintptr_t)from, is_same ? mine->bytes | bytes : bytes, is_atomic};
+    }
+}
+
+static void take(Object *one)
+{
+    uint32_t *mine = shadow->clock[kz_me->number];
+    for (int client = 1; client <= ex->runners_count; client++)
+        if (one->clock[client] > mine[client])
+            mine[client] = one->clock[client];
+}
+
+static void give(Object *one)
+{
+    unsigned me = kz_me->number;
+    uint32_t *mine = shadow->clock[me];
+    for (int client = 1; client <= ex->runners_count; client++)
+        if (mine[client] > one->clock[client])
+            one->clock[client] = mine[client];
+    shadow->clock[me][me]++;
+}
+
+/* Memory is given back: whoever looked at it must be in order with that. */
+static void take_back(const void *memory, size_t size)
+{
+    uintptr_t start = (uintptr_t)memory, end = start + size;
+    const void *from = ex_runners[kz_me->number].from;
+    for (uintptr_t tag = start >> 3; tag << 3 < end; tag++) {
+        Cell *cell = cell_of(tag, false);
+        if (cell)
+            look(cell, 0xff, true, false, from, "memory is freed");
+    }
+    if (shadow->freed_count == FREED)
+        return;
+    shadow->freed[shadow->freed_count].start = start;
+    shadow->freed[shadow->freed_count].end = end;
+    shadow->freed[shadow->freed_count].from = (uint32_t)(uintptr_t)from;
+    shadow->freed[shadow->freed_count++].client = (int)kz_me->number;
+    shadow->least = start < shadow->least ? start : shadow->least;
+    shadow->most = end > shadow->most ? end : shadow->most;
+}
+
+void ex_touch(const void *object, size_t size, KzTouch how)
+{
+    if (!is_watched())
+        return;
+    if (how == KZ_HAS_TAKEN_BACK) {
+        take_back(object, size);
+        return;
+    }
+    Object *one = object_of(object);
+    if (!one)
+        return;
+    if (how == KZ_TAKES)
+        take(one);
+    else
+        give(one);
+}
+
+/* An interlocked call: it comes behind those before it on the same memory. */
+void ex_in_order(const void *object)
+{
+    ex_touch(object, 0, KZ_TAKES);
+    ex_touch(object, 0, KZ_GIVES);
+}

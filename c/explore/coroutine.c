@@ -1,0 +1,263 @@
+/* The clients of a run: coroutines of one thread. One that stands at a point, waits or has ended asks who goes on. */
+#include "explore.h"
+
+#include <sys/mman.h>
+
+enum { STACK = 1 << 18 };
+#define STACKS 0x20000000000UL
+
+Runner ex_runners[RUNNERS + 1];
+
+static bool is_set_up(void)
+{
+    return kz_me == &kz_first;
+}
+
+static Runner *mine(void)
+{
+    return &ex_runners[kz_me->number];
+}
+
+/* ---- Who can go on. */
+static bool can_go_on(Runner *one)
+{
+    if (one->state != WAITING)
+        return one->state != ENDED;
+    KzClient *before = kz_me;
+    kz_me = &one->client;
+    bool can = one->can(one->what);
+    kz_me = before;
+    return can;
+}
+
+/* Of clients with the same lines that haven't begun only the first may begin: the others' schedules are the same by other names. */
+static bool is_behind_like(const Runner *one)
+{
+    for (int at = one->like; !one->has_begun && at < (int)one->client.number; at++)
+        if (ex_runners[at].like == one->like && !ex_runners[at].has_begun)
+            return true;
+    return false;
+}
+
+typedef struct {
+    int clients[RUNNERS];
+    unsigned count;
+    bool may_stay;
+} Options;
+
+static void add(Options *options, Runner *one)
+{
+    options->clients[options->count++] = (int)one->client.number;
+}
+
+/* The one that runs first; those that only go on where nobody else can, then: the scenario's last lines, and waits whose time is over. */
+static Options options_of(Runner *me)
+{
+    Options options = {.count = 0};
+    if (me && !me->is_finally && can_go_on(me)) {
+        options.may_stay = true;
+        add(&options, me);
+    }
+    for (int at = 1; at <= ex->runners_count; at++) {
+        Runner *one = &ex_runners[at];
+        if (one != me && !one->is_finally && can_go_on(one) && !is_behind_like(one))
+            add(&options, one);
+    }
+    for (int at = 1; at <= ex->runners_count && !options.count; at++)
+        if (ex_runners[at].is_finally && can_go_on(&ex_runners[at]))
+            add(&options, &ex_runners[at]);
+    for (int at = 1; at <= ex->runners_count && !options.count; at++)
+        if (ex_runners[at].state == WAITING && ex_runners[at].is_timed) {
+            ex_runners[at].timed_out = true;
+            add(&options, &ex_runners[at]);
+        }
+    return options;
+}
+
+static void note_step(int client)
+{
+    if (ex->steps++ == STEPS) {
+        ex_found(STUCK, "ENDLESS: the run doesn't come to an end");
+        siglongjmp(ex->out, 1);
+    }
+    ex->schedule[ex->schedule_length++] = (uint8_t)client;
+}
+
+/* The number of the client that goes on; 0 if none can. */
+static int choose(Runner *me)
+{
+    Options options = options_of(me);
+    if (!options.count)
+        return 0;
+    bool is_bound = options.may_stay && ex->preemptions >= ex->bound && !ex->replay;
+    unsigned taken = options.count > 1 && !is_bound ? ex_decide(options.count, true, options.clients) : 0;
+    if (ex->replay && options.count == 1)
+        taken = ex_decide(1, true, options.clients);
+    int client = options.clients[taken];
+    bool is_preemption = options.may_stay && taken > 0;
+    ex->preemptions += is_preemption;
+    ex->switches += client != ex->current && ex->current;
+    note_step(client);
+    if (ex->is_traced)
+        ex_trace_step(&ex_runners[client], is_preemption);
+    return client;
+}
+
+static void go_on(Runner *me)
+{
+    int client = choose(me);
+    if (client == (int)me->client.number)
+        return;
+    ex->current = client;
+    kz_me = client ? &ex_runners[client].client : &kz_first;
+    swapcontext(&me->context, client ? &ex_runners[client].context : &ex->back);
+}
+
+/* ---- The scheduler's calls. */
+static void point(const char *name, const void *from)
+{
+    if (is_set_up() || !ex->is_running || !name)
+        return;
+    Runner *me = mine();
+    me->at = name;
+    me->from = from;
+    me->state = READY;
+    me->is_timed = false;
+    go_on(me);
+    me->state = RUNNING;
+}
+
+static bool wait(KzCan *can, void *what, const char *why)
+{
+    Runner *me = mine();
+    me->can = can;
+    me->what = what;
+    me->timed_out = false;
+    snprintf(me->why, sizeof me->why, "%s", why);
+    me->state = WAITING;
+    go_on(me);
+    me->state = RUNNING;
+    me->is_timed = false;
+    return !me->timed_out;
+}
+
+static unsigned choose_answer(unsigned count, const char *name)
+{
+    if (is_set_up() || !ex->is_running)
+        return 0;
+    bool is_time = strcmp(name, "the time is over") == 0;
+    mine()->is_timed = is_time;
+    if (is_time ? ex->timeouts > 0 : ex->fails_used >= ex->fails && !ex->replay)
+        return 0;
+    unsigned taken = ex_decide(count, false, NULL);
+    if (!taken)
+        return 0;
+    *(is_time ? &ex->timeouts : &ex->fails_used) += 1;
+    ex->schedule[ex->schedule_length++] = FAIL;
+    if (ex->is_traced) {
+        char text[TEXT];
+        snprintf(text, sizeof text, "  %s   %s: %s\n", mine()->name, name, is_time ? "yes" : "refused");
+        ex_trace_text(text);
+    }
+    return taken;
+}
+
+static void nothing(void)
+{
+}
+
+const KzScheduler ex_scheduler = {point, wait, ex_touch, choose_answer, nothing, nothing, ex_say, true};
+
+/* ---- A client's life. */
+/* A request with $ for the handle of the last create. */
+static void request(Runner *me, const char *line)
+{
+    char words[TEXT];
+    const char *dollar = strchr(line, '$');
+    if (dollar)
+        snprintf(words, sizeof words, "%.*s%llu%s", (int)(dollar - line), line, (unsigned long long)me->handle, dollar + 1);
+    me->hides_number = strncmp(line, "create ", 7) == 0;
+    KzReply reply = kz_request(dollar ? words : line);
+    if (me->hides_number && !reply.status && !reply.held)
+        me->handle = reply.information;
+}
+
+static bool has_work(void *unused)
+{
+    (void)unused;
+    return kz_has_dpc() || kz_has_work();
+}
+
+static void work(void)
+{
+    for (;;) {
+        KZ_INSIDE();
+        kz_wait(has_work, NULL, "a work item");
+        if (!kz_run_dpc())
+            kz_work();
+        kz_settle();
+    }
+}
+
+static void live(void)
+{
+    Runner *me = mine();
+    me->has_begun = true;
+    me->state = RUNNING;
+    if (me->is_worker)
+        work();
+    for (size_t at = 0; at < me->count; at++)
+        request(me, me->lines[at]);
+    me->state = ENDED;
+    go_on(me);
+}
+
+/* A page below each stack isn't there: what runs past it is seen. */
+void ex_open_stacks(void)
+{
+    char *stacks = mmap((void *)STACKS, (size_t)STACK * (RUNNERS + 1), PROT_READ | PROT_WRITE, MAP_PRIVATE | MAP_ANONYMOUS | MAP_NORESERVE | MAP_FIXED, -1, 0);
+    for (int at = 0; at <= RUNNERS; at++)
+        mprotect(stacks + (size_t)at * STACK, 4096, PROT_NONE);
+}
+
+bool ex_is_stack(const void *address)
+{
+    return (uintptr_t)address >= STACKS && (uintptr_t)address < STACKS + (size_t)STACK * (RUNNERS + 1);
+}
+
+static void make(Runner *one)
+{
+    getcontext(&one->context);
+    one->context.uc_stack.ss_sp = (char *)STACKS + (size_t)one->client.number * STACK + 4096;
+    one->context.uc_stack.ss_size = STACK - 4096;
+    one->context.uc_link = NULL;
+    makecontext(&one->context, live, 0);
+    one->state = one->is_worker ? WAITING : READY;
+    one->can = has_work;
+    snprintf(one->why, sizeof one->why, "a work item");
+    one->at = "the start";
+}
+
+/* One run, from the set-up's end to where nobody can go on. */
+void ex_run(void)
+{
+    for (int at = 1; at <= ex->runners_count; at++)
+        make(&ex_runners[at]);
+    ex->current = 0;
+    ex->is_running = true;
+    int client = choose(NULL);
+    if (client) {
+        ex->current = client;
+        kz_me = &ex_runners[client].client;
+        swapcontext(&ex->back, &ex_runners[client].context);
+    }
+    kz_me = &kz_first;
+}
+
+bool ex_is_stuck(void)
+{
+    for (int at = 1; at <= ex->runners_count; at++)
+        if (!ex_runners[at].is_worker && ex_runners[at].state != ENDED)
+            return true;
+    return false;
+}

@@ -1,0 +1,158 @@
+/* What the modules of the explorer share: one process that runs a scenario again and again, each time under another schedule. */
+#ifndef KZ_EXPLORE_H
+#define KZ_EXPLORE_H
+
+#include "../host/host.h"
+
+#include <setjmp.h>
+#include <ucontext.h>
+
+enum {
+    RUNNERS = 14,       /* clients of a scenario, with the one of work items */
+    LINES = 64,         /* requests of one client */
+    STEPS = 20000,      /* of a run: one that has more is endless */
+    PATH = 20000,       /* choices of a run */
+    KINDS = 64,         /* kinds of ends and of what is told */
+    TEXT = 1024,
+    OUTPUT = 1 << 18    /* what a run says */
+};
+
+/* ---- A client of the scenario: a coroutine of its own. */
+typedef enum { READY, RUNNING, WAITING, ENDED } State;
+
+typedef struct {
+    KzClient client;
+    ucontext_t context;
+    State state;
+    bool has_begun, is_worker, is_finally, is_timed, timed_out;
+    int like;                     /* the first client with the same lines */
+    KzCan *can;                   /* what it waits for */
+    void *what;
+    char why[TEXT / 4];
+    const char *at;               /* where it stands */
+    const void *from;
+    char name[32];
+    char *lines[LINES];
+    size_t count;
+    uint64_t handle;              /* that of its last create, for $ */
+    bool hides_number;            /* its request is a create, whose handle is another in each order */
+} Runner;
+
+typedef struct {
+    uint8_t count, taken;
+    bool is_switch;
+} Node;
+
+/* ---- What was found: of each kind the schedule with the fewest preemptions, then switches, then steps. */
+typedef enum { TOLD, RACE, STUCK, CRASH, END, LIMITED } KindOf;
+
+typedef struct {
+    KindOf of;
+    char *key, *text, *schedule;
+    uint64_t count;
+    unsigned preemptions, switches, steps;
+} Kind;
+
+/* What a run has found so far, until its end. */
+typedef struct {
+    KindOf of;
+    char text[TEXT];
+    unsigned preemptions, switches, steps;
+    size_t schedule_length;
+} Found;
+
+/* All that a run's beginning doesn't put back. */
+typedef struct {
+    /* The scenario, and how it is searched. */
+    char **setup;
+    size_t setup_count;
+    int runners_count;
+    unsigned bound, fails, shard, shards;
+    bool wants_ends, is_traced, is_quiet;
+    uint64_t seed, runs;
+    const char *replay;
+    /* The path, and where the run is on it. */
+    Node path[PATH];
+    size_t length, depth;
+    unsigned deviations;
+    uint64_t hash;
+    /* The run. */
+    bool is_running;
+    unsigned preemptions, switches, fails_used, timeouts, steps;
+    bool is_limited;
+    uint8_t schedule[STEPS * 2];
+    size_t schedule_length;
+    char schedule_text[STEPS * 4];
+    Found found[16];
+    size_t found_count;
+    char output[OUTPUT];
+    size_t output_length;
+    uint32_t run;
+    uint64_t random;
+    sigjmp_buf out;
+    ucontext_t back;
+    int current;
+    /* What was found. */
+    Kind kinds[KINDS];
+    int kinds_count;
+    uint64_t schedules, counts[LIMITED + 1];
+    unsigned longest;
+    char trace[1 << 20];
+    size_t trace_length;
+    char *room; /* for what is kept of kinds: never freed */
+    size_t room_used;
+} Explorer;
+
+extern Explorer *ex;
+extern Runner ex_runners[RUNNERS + 1]; /* by the client's number: from 1 on */
+enum { FAIL = 255 };                   /* in a schedule: the call was refused */
+
+/* scenario.c: 0, or the number of the line that isn't understood, which was said. */
+int ex_read(const char *path);
+
+/* image.c: memory at the set-up's end, put back before each run. */
+void ex_open_memory(void);
+void *ex_map(size_t size);
+void ex_take_image(void);
+void ex_put_back(void);
+bool ex_opens_page(const void *address);
+bool ex_is_heap(const void *address);
+
+/* hooks.c, clocks.c: what the driver's code reads and writes. */
+void ex_open_shadow(void);
+void ex_start_clocks(void);
+void ex_touch(const void *object, size_t size, KzTouch how);
+void ex_access(const void *address, size_t size, bool is_write, bool is_atomic, const void *from);
+void ex_in_order(const void *object);
+
+/* coroutine.c */
+extern const KzScheduler ex_scheduler;
+void ex_open_stacks(void);
+bool ex_is_stack(const void *address);
+void ex_run(void);
+bool ex_is_stuck(void);
+
+/* path.c: which of so many is taken. */
+unsigned ex_decide(unsigned count, bool is_switch, const int *clients);
+bool ex_advance(void);
+bool ex_is_own(void);
+const char *ex_schedule_text(size_t length);
+
+/* found.c */
+void ex_found(KindOf of, const char *text);
+void ex_say(const char *text);
+void ex_keep_found(void);
+void ex_report(void);
+
+/* source.c: text with places of the program, @1234, as lines of sources. */
+void ex_put_sources(const char *text);
+
+/* trace.c */
+void ex_trace_step(const Runner *runner, bool is_preemption);
+void ex_trace_text(const char *text);
+void ex_trace_end(void);
+
+/* fault.c */
+void ex_watch_faults(void);
+
+#endif

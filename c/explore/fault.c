@@ -1,0 +1,76 @@
+/* Faults: the first write to a page of the image, a crash of the driver's, and code that never comes to a point. */
+#define _GNU_SOURCE
+#include "explore.h"
+
+#include <signal.h>
+#include <sys/time.h>
+
+static const int signals[] = {SIGSEGV, SIGBUS, SIGABRT, SIGFPE, SIGILL, SIGTRAP};
+
+static const char *name_of(int signal)
+{
+    switch (signal) {
+    case SIGSEGV:
+        return "SIGSEGV";
+    case SIGBUS:
+        return "SIGBUS";
+    case SIGABRT:
+        return "SIGABRT";
+    case SIGFPE:
+        return "SIGFPE";
+    default:
+        return "SIGILL";
+    }
+}
+
+static void leave_run(KindOf of, const char *what, const void *at)
+{
+    char text[TEXT], place[TEXT / 2];
+    kz_place_text(place, sizeof place);
+    snprintf(text, sizeof text, "%s at @%lx: %s", what, (unsigned long)(uintptr_t)at, place);
+    ex_found(of, text);
+    siglongjmp(ex->out, 1);
+}
+
+static void handle(int signal, siginfo_t *information, void *context)
+{
+    const ucontext_t *machine = context;
+    char what[40];
+    if (signal == SIGSEGV && ex_opens_page(information->si_addr))
+        return;
+    if (!ex->is_running) {
+        sigaction(signal, &(struct sigaction){.sa_handler = SIG_DFL}, NULL);
+        return;
+    }
+    snprintf(what, sizeof what, "CRASH %s", name_of(signal));
+    leave_run(CRASH, what, (const char *)machine->uc_mcontext.gregs[REG_RIP] + 1);
+}
+
+/* Each second of the processor's: a run that stays where it was for some of them is endless. */
+static void tick(int signal, siginfo_t *information, void *context)
+{
+    const ucontext_t *machine = context;
+    static uint64_t *last;
+    (void)signal, (void)information;
+    if (!last)
+        last = ex_map(3 * sizeof *last);
+    bool is_same = ex->is_running && last[0] == ex->runs && last[1] == ex->steps;
+    last[2] = is_same ? last[2] + 1 : 0;
+    last[0] = ex->runs;
+    last[1] = ex->steps;
+    if (last[2] >= 3 && kz_me->inside == 0)
+        leave_run(STUCK, "ENDLESS: the driver's code comes to no call", (const char *)machine->uc_mcontext.gregs[REG_RIP] + 1);
+}
+
+void ex_watch_faults(void)
+{
+    size_t size = 1 << 16;
+    sigaltstack(&(stack_t){.ss_sp = ex_map(size), .ss_size = size}, NULL);
+    struct sigaction action = {.sa_sigaction = handle, .sa_flags = SA_SIGINFO | SA_ONSTACK | SA_NODEFER};
+    for (size_t at = 0; at < sizeof signals / sizeof signals[0]; at++)
+        sigaction(signals[at], &action, NULL);
+    action.sa_sigaction = tick;
+    action.sa_flags |= SA_RESTART;
+    sigaction(SIGVTALRM, &action, NULL);
+    setitimer(ITIMER_VIRTUAL, &(struct itimerval){{1, 0}, {1, 0}}, NULL);
+}

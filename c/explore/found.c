@@ -1,0 +1,158 @@
+/* What was found, by kinds: two runs that differ only by the numbers of operations found the same. */
+#include "explore.h"
+
+/* ---- Of the run that goes on. */
+void ex_found(KindOf of, const char *text)
+{
+    for (size_t at = 0; at < ex->found_count; at++)
+        if (ex->found[at].of == of && strcmp(ex->found[at].text, text) == 0)
+            return;
+    if (ex->found_count == sizeof ex->found / sizeof ex->found[0])
+        return;
+    Found *one = &ex->found[ex->found_count++];
+    *one = (Found){.of = of, .preemptions = ex->preemptions, .switches = ex->switches, .steps = ex->steps, .schedule_length = ex->schedule_length};
+    snprintf(one->text, sizeof one->text, "%s", text);
+    one->text[strcspn(one->text, "\n")] = of == STUCK || of == END ? one->text[strcspn(one->text, "\n")] : 0;
+    if (ex->is_traced && of == RACE) {
+        ex_trace_text("  ");
+        ex_trace_text(text);
+        ex_trace_text("\n");
+    }
+}
+
+/* What is said, each line with its client's name. */
+static void append(const char *text)
+{
+    size_t length = strlen(text);
+    if (ex->output_length + length + 40 > sizeof ex->output)
+        return;
+    bool is_first = !ex->output_length || ex->output[ex->output_length - 1] == '\n';
+    if (is_first)
+        ex->output_length += (size_t)snprintf(ex->output + ex->output_length, 34, "%s: ", kz_me->name);
+    memcpy(ex->output + ex->output_length, text, length + 1);
+    ex->output_length += length;
+}
+
+void ex_say(const char *text)
+{
+    if (!ex->is_running) {
+        if (!ex->is_quiet)
+            fputs(text, stdout);
+        return;
+    }
+    if (ex->wants_ends)
+        append(kz_me != &kz_first && ex_runners[kz_me->number].hides_number && strncmp(text, " info ", 6) == 0 ? " info # bytes " : text);
+    if (ex->is_traced)
+        ex_trace_text(text);
+    if (strncmp(text, "TOLD KZ", 7) == 0)
+        ex_found(TOLD, text);
+    else if (strncmp(text, "LIMIT KZ", 8) == 0) {
+        ex->is_limited |= strncmp(text, "LIMIT KZ0211", 12) == 0;
+        ex_found(LIMITED, text);
+    }
+}
+
+/* ---- Kinds. */
+static char *kept(const char *text)
+{
+    size_t length = strlen(text) + 1;
+    char *made = ex->room + ex->room_used;
+    ex->room_used += length;
+    return memcpy(made, text, length);
+}
+
+/* The text without the numbers of operations, and of a race without who ran into it. */
+static void key_of(KindOf of, const char *text, char *key, size_t size)
+{
+    size_t used = 0;
+    for (; *text && used + 1 < size; text++) {
+        key[used++] = *text;
+        if (of == RACE && *text == '(')
+            text += strcspn(text, ")");
+        bool is_number = used >= 10 && (strncmp(key + used - 10, "operation ", 10) == 0 || strncmp(key + used - 2, " (", 2) == 0);
+        while (is_number && text[1] >= '0' && text[1] <= '9')
+            text++;
+    }
+    key[used] = 0;
+}
+
+static bool is_better(const Found *one, const Kind *kind)
+{
+    if (one->preemptions != kind->preemptions)
+        return one->preemptions < kind->preemptions;
+    if (one->switches != kind->switches)
+        return one->switches < kind->switches;
+    return one->steps < kind->steps;
+}
+
+static Kind *kind_of(const Found *one, const char *key)
+{
+    for (int at = 0; at < ex->kinds_count; at++)
+        if (ex->kinds[at].of == one->of && strcmp(ex->kinds[at].key, key) == 0)
+            return &ex->kinds[at];
+    if (ex->kinds_count == KINDS)
+        return NULL;
+    Kind *made = &ex->kinds[ex->kinds_count++];
+    *made = (Kind){.of = one->of, .key = kept(key), .preemptions = UINT32_MAX};
+    return made;
+}
+
+static void keep(const Found *one)
+{
+    char key[TEXT];
+    key_of(one->of, one->text, key, sizeof key);
+    Kind *kind = kind_of(one, key);
+    if (!kind)
+        return;
+    kind->count++;
+    if (kind->text && !is_better(one, kind))
+        return;
+    kind->text = kept(one->text);
+    kind->schedule = kept(ex_schedule_text(one->schedule_length));
+    kind->preemptions = one->preemptions;
+    kind->switches = one->switches;
+    kind->steps = one->steps;
+}
+
+/* At the run's end: if it is this shard's, what it found counts. */
+void ex_keep_found(void)
+{
+    bool is_seen[LIMITED + 1] = {false};
+    if (!ex_is_own())
+        return;
+    ex->schedules++;
+    if (ex->steps > ex->longest)
+        ex->longest = ex->steps;
+    for (size_t at = 0; at < ex->found_count; at++) {
+        keep(&ex->found[at]);
+        if (!is_seen[ex->found[at].of])
+            ex->counts[ex->found[at].of]++;
+        is_seen[ex->found[at].of] = true;
+    }
+}
+
+/* ---- The report. */
+static void put_indented(const char *text)
+{
+    char line[TEXT + 8];
+    while (*text) {
+        size_t length = strcspn(text, "\n");
+        snprintf(line, sizeof line, "    %.*s\n", (int)length, text);
+        ex_put_sources(line);
+        text += length + (text[length] == '\n');
+    }
+}
+
+static void report(const Kind *kind)
+{
+    printf("\n%llu schedules:\n", (unsigned long long)kind->count);
+    put_indented(kind->text);
+    printf("  the shortest: %u preemptions, %u switches, %u steps\n", kind->preemptions, kind->switches, kind->steps);
+    printf("  --replay '%s'\n", kind->schedule);
+}
+
+void ex_report(void)
+{
+    for (int at = 0; at < ex->kinds_count; at++)
+        report(&ex->kinds[at]);
+}

@@ -1,0 +1,199 @@
+/* The calls that the compiler puts before each access of the driver's code (-fsanitize=thread), and copies of memory by that code. Nothing of the compiler's own library is linked. */
+#include "explore.h"
+
+#define FROM __builtin_return_address(0)
+
+void __tsan_init(void);
+void __tsan_init(void)
+{
+}
+
+void __tsan_func_entry(void *from);
+void __tsan_func_entry(void *from)
+{
+    (void)from;
+}
+
+void __tsan_func_exit(void);
+void __tsan_func_exit(void)
+{
+}
+
+void __tsan_vptr_update(void **at, void *to);
+void __tsan_vptr_update(void **at, void *to)
+{
+    (void)to;
+    ex_access(at, sizeof *at, true, false, FROM);
+}
+
+void __tsan_vptr_read(void **at);
+void __tsan_vptr_read(void **at)
+{
+    ex_access(at, sizeof *at, false, false, FROM);
+}
+
+/* Volatile accesses are in order with one another, as the kit's compiler has them. */
+#define ACCESSES(size)                                     \
+    void __tsan_read##size(void *at);                      \
+    void __tsan_read##size(void *at)                       \
+    {                                                      \
+        ex_access(at, size, false, false, FROM);           \
+    }                                                      \
+    void __tsan_write##size(void *at);                     \
+    void __tsan_write##size(void *at)                      \
+    {                                                      \
+        ex_access(at, size, true, false, FROM);            \
+    }                                                      \
+    void __tsan_unaligned_read##size(void *at);            \
+    void __tsan_unaligned_read##size(void *at)             \
+    {                                                      \
+        ex_access(at, size, false, false, FROM);           \
+    }                                                      \
+    void __tsan_unaligned_write##size(void *at);           \
+    void __tsan_unaligned_write##size(void *at)            \
+    {                                                      \
+        ex_access(at, size, true, false, FROM);            \
+    }                                                      \
+    void __tsan_volatile_read##size(void *at);             \
+    void __tsan_volatile_read##size(void *at)              \
+    {                                                      \
+        ex_access(at, size, false, true, FROM);            \
+        ex_touch(at, 0, KZ_TAKES);                         \
+    }                                                      \
+    void __tsan_volatile_write##size(void *at);            \
+    void __tsan_volatile_write##size(void *at)             \
+    {                                                      \
+        ex_access(at, size, true, true, FROM);             \
+        ex_touch(at, 0, KZ_GIVES);                         \
+    }                                                      \
+    void __tsan_unaligned_volatile_read##size(void *at);   \
+    void __tsan_unaligned_volatile_read##size(void *at)    \
+    {                                                      \
+        ex_access(at, size, false, true, FROM);            \
+        ex_touch(at, 0, KZ_TAKES);                         \
+    }                                                      \
+    void __tsan_unaligned_volatile_write##size(void *at);  \
+    void __tsan_unaligned_volatile_write##size(void *at)   \
+    {                                                      \
+        ex_access(at, size, true, true, FROM);             \
+        ex_touch(at, 0, KZ_GIVES);                         \
+    }
+ACCESSES(1)
+ACCESSES(2)
+ACCESSES(4)
+ACCESSES(8)
+ACCESSES(16)
+
+void __tsan_read_range(void *at, unsigned long size);
+void __tsan_read_range(void *at, unsigned long size)
+{
+    ex_access(at, size, false, false, FROM);
+}
+
+void __tsan_write_range(void *at, unsigned long size);
+void __tsan_write_range(void *at, unsigned long size)
+{
+    ex_access(at, size, true, false, FROM);
+}
+
+/* ---- Interlocked calls. */
+#define CHANGE(bits, name, builtin)                                                                           \
+    uint##bits##_t __tsan_atomic##bits##_##name(volatile uint##bits##_t *at, uint##bits##_t by, int order);   \
+    uint##bits##_t __tsan_atomic##bits##_##name(volatile uint##bits##_t *at, uint##bits##_t by, int order)    \
+    {                                                                                                         \
+        (void)order;                                                                                          \
+        ex_access((const void *)at, bits / 8, true, true, FROM);                                              \
+        ex_in_order((const void *)at);                                                                        \
+        return builtin(at, by, __ATOMIC_SEQ_CST);                                                             \
+    }
+#define ATOMICS(bits)                                                                                                             \
+    uint##bits##_t __tsan_atomic##bits##_load(const volatile uint##bits##_t *at, int order);                                      \
+    uint##bits##_t __tsan_atomic##bits##_load(const volatile uint##bits##_t *at, int order)                                       \
+    {                                                                                                                             \
+        (void)order;                                                                                                              \
+        ex_access((const void *)at, bits / 8, false, true, FROM);                                                                 \
+        ex_in_order((const void *)at);                                                                                            \
+        return *at;                                                                                                               \
+    }                                                                                                                             \
+    void __tsan_atomic##bits##_store(volatile uint##bits##_t *at, uint##bits##_t to, int order);                                  \
+    void __tsan_atomic##bits##_store(volatile uint##bits##_t *at, uint##bits##_t to, int order)                                   \
+    {                                                                                                                             \
+        (void)order;                                                                                                              \
+        ex_access((const void *)at, bits / 8, true, true, FROM);                                                                  \
+        ex_in_order((const void *)at);                                                                                            \
+        *at = to;                                                                                                                 \
+    }                                                                                                                             \
+    CHANGE(bits, exchange, __atomic_exchange_n)                                                                                   \
+    CHANGE(bits, fetch_add, __atomic_fetch_add)                                                                                   \
+    CHANGE(bits, fetch_sub, __atomic_fetch_sub)                                                                                   \
+    CHANGE(bits, fetch_and, __atomic_fetch_and)                                                                                   \
+    CHANGE(bits, fetch_or, __atomic_fetch_or)                                                                                     \
+    CHANGE(bits, fetch_xor, __atomic_fetch_xor)                                                                                   \
+    CHANGE(bits, fetch_nand, __atomic_fetch_nand)                                                                                 \
+    int __tsan_atomic##bits##_compare_exchange_strong(volatile uint##bits##_t *at, uint##bits##_t *from, uint##bits##_t to, int, int);      \
+    int __tsan_atomic##bits##_compare_exchange_strong(volatile uint##bits##_t *at, uint##bits##_t *from, uint##bits##_t to, int order, int other) \
+    {                                                                                                                             \
+        (void)order, (void)other;                                                                                                 \
+        ex_access((const void *)at, bits / 8, true, true, FROM);                                                                  \
+        ex_in_order((const void *)at);                                                                                            \
+        return __atomic_compare_exchange_n(at, from, to, 0, __ATOMIC_SEQ_CST, __ATOMIC_SEQ_CST);                                  \
+    }                                                                                                                             \
+    int __tsan_atomic##bits##_compare_exchange_weak(volatile uint##bits##_t *at, uint##bits##_t *from, uint##bits##_t to, int, int);        \
+    int __tsan_atomic##bits##_compare_exchange_weak(volatile uint##bits##_t *at, uint##bits##_t *from, uint##bits##_t to, int order, int other)   \
+    {                                                                                                                             \
+        return __tsan_atomic##bits##_compare_exchange_strong(at, from, to, order, other);                                         \
+    }                                                                                                                             \
+    uint##bits##_t __tsan_atomic##bits##_compare_exchange_val(volatile uint##bits##_t *at, uint##bits##_t from, uint##bits##_t to, int, int);     \
+    uint##bits##_t __tsan_atomic##bits##_compare_exchange_val(volatile uint##bits##_t *at, uint##bits##_t from, uint##bits##_t to, int order, int other) \
+    {                                                                                                                             \
+        __tsan_atomic##bits##_compare_exchange_strong(at, &from, to, order, other);                                               \
+        return from;                                                                                                              \
+    }
+ATOMICS(8)
+ATOMICS(16)
+ATOMICS(32)
+ATOMICS(64)
+
+void __tsan_atomic_thread_fence(int order);
+void __tsan_atomic_thread_fence(int order)
+{
+    (void)order;
+}
+
+void __tsan_atomic_signal_fence(int order);
+void __tsan_atomic_signal_fence(int order)
+{
+    (void)order;
+}
+
+/* ---- Copies. The script that builds a driver gives its calls these names. */
+void *KzHookCopy(void *to, const void *from, size_t size);
+void *KzHookCopy(void *to, const void *from, size_t size)
+{
+    ex_access(from, size, false, false, FROM);
+    ex_access(to, size, true, false, FROM);
+    return memcpy(to, from, size);
+}
+
+void *KzHookMove(void *to, const void *from, size_t size);
+void *KzHookMove(void *to, const void *from, size_t size)
+{
+    ex_access(from, size, false, false, FROM);
+    ex_access(to, size, true, false, FROM);
+    return memmove(to, from, size);
+}
+
+void *KzHookFill(void *to, int byte, size_t size);
+void *KzHookFill(void *to, int byte, size_t size)
+{
+    ex_access(to, size, true, false, FROM);
+    return memset(to, byte, size);
+}
+
+int KzHookCompare(const void *a, const void *b, size_t size);
+int KzHookCompare(const void *a, const void *b, size_t size)
+{
+    ex_access(a, size, false, false, FROM);
+    ex_access(b, size, false, false, FROM);
+    return memcmp(a, b, size);
+}

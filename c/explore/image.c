@@ -1,0 +1,181 @@
+/* The program's memory. An allocation is never used twice within a run, and its address depends on what its own client allocated alone: so a schedule repeats itself to the letter.
+ * At the set-up's end all of it is copied. A page that a run writes is opened by its fault, and put back before the next run. */
+#include "explore.h"
+
+#include <errno.h>
+#include <stdlib.h>
+#include <sys/mman.h>
+
+#define PAGE 4096UL
+#define BASE 0x10000000000UL
+#define ARENA (1UL << 28)
+
+extern char __data_start[], _end[];
+
+typedef struct {
+    size_t size, unused;
+} Head;
+
+static char *next[RUNNERS + 2]; /* of each client, where its next allocation begins */
+
+/* What isn't put back itself. */
+typedef struct {
+    char *start, *end, *copy;
+    uint8_t *is_open;
+} Range;
+
+static struct {
+    Range ranges[2];
+    char *pages[1 << 16];
+    size_t pages_count;
+    bool is_taken;
+} *image;
+
+static void *map(void *at, size_t size)
+{
+    void *made = mmap(at, size, PROT_READ | PROT_WRITE, MAP_PRIVATE | MAP_ANONYMOUS | MAP_NORESERVE | (at ? MAP_FIXED : 0), -1, 0);
+    return made == MAP_FAILED ? NULL : made;
+}
+
+/* Memory that isn't put back. */
+void *ex_map(size_t size)
+{
+    return map(NULL, size);
+}
+
+static char *arena(size_t client)
+{
+    return (char *)(BASE + client * ARENA);
+}
+
+void ex_open_memory(void)
+{
+    if (next[0])
+        return;
+    map((void *)BASE, ARENA * (RUNNERS + 2));
+    for (size_t client = 0; client < RUNNERS + 2; client++)
+        next[client] = arena(client);
+}
+
+bool ex_is_heap(const void *address)
+{
+    return (uintptr_t)address >= BASE && (uintptr_t)address < BASE + ARENA * (RUNNERS + 2);
+}
+
+/* ---- The C library's calls. */
+void *malloc(size_t size)
+{
+    ex_open_memory();
+    unsigned client = kz_me->number;
+    size_t room = (sizeof(Head) + size + 15) & ~(size_t)15;
+    Head *head = (Head *)next[client];
+    if (room < size || (size_t)(next[client] - arena(client)) + room > ARENA) {
+        errno = ENOMEM;
+        return NULL;
+    }
+    next[client] += room;
+    head->size = size;
+    return head + 1;
+}
+
+void free(void *memory)
+{
+    (void)memory;
+}
+
+void *calloc(size_t count, size_t size)
+{
+    size_t whole;
+    if (__builtin_mul_overflow(count, size, &whole))
+        return NULL;
+    void *made = malloc(whole);
+    return made ? memset(made, 0, whole) : NULL;
+}
+
+void *realloc(void *memory, size_t size)
+{
+    void *made = malloc(size);
+    if (made && memory) {
+        size_t before = ((Head *)memory - 1)->size;
+        memcpy(made, memory, before < size ? before : size);
+    }
+    return made;
+}
+
+static void *aligned(size_t alignment, size_t size)
+{
+    char *made = malloc(size + alignment + sizeof(Head));
+    if (!made)
+        return NULL;
+    char *at = (char *)(((uintptr_t)made + sizeof(Head) + alignment - 1) & ~(uintptr_t)(alignment - 1));
+    ((Head *)at - 1)->size = size;
+    return at;
+}
+
+void *memalign(size_t alignment, size_t size)
+{
+    return aligned(alignment, size);
+}
+
+void *aligned_alloc(size_t alignment, size_t size)
+{
+    return aligned(alignment, size);
+}
+
+int posix_memalign(void **memory, size_t alignment, size_t size)
+{
+    *memory = aligned(alignment, size);
+    return *memory ? 0 : ENOMEM;
+}
+
+/* ---- The image. */
+static void take(Range *range, char *start, char *end)
+{
+    *range = (Range){.start = (char *)((uintptr_t)start & ~(PAGE - 1)), .end = (char *)(((uintptr_t)end + PAGE - 1) & ~(PAGE - 1))};
+    size_t size = (size_t)(range->end - range->start);
+    range->copy = map(NULL, size);
+    range->is_open = map(NULL, size / PAGE + 1);
+}
+
+void ex_take_image(void)
+{
+    image = map(NULL, sizeof *image);
+    take(&image->ranges[0], __data_start, _end);
+    take(&image->ranges[1], arena(0), next[0]);
+    image->is_taken = true;
+    for (int at = 0; at < 2; at++) {
+        Range *range = &image->ranges[at];
+        memcpy(range->copy, range->start, (size_t)(range->end - range->start));
+        mprotect(range->start, (size_t)(range->end - range->start), PROT_READ);
+    }
+}
+
+static Range *range_of(const char *address)
+{
+    for (int at = 0; image && image->is_taken && at < 2; at++)
+        if (address >= image->ranges[at].start && address < image->ranges[at].end)
+            return &image->ranges[at];
+    return NULL;
+}
+
+/* The fault of a page's first write: true if it may be written from now on. */
+bool ex_opens_page(const void *address)
+{
+    char *page = (char *)((uintptr_t)address & ~(PAGE - 1));
+    Range *range = range_of(page);
+    if (!range || range->is_open[(page - range->start) / PAGE] || image->pages_count == sizeof image->pages / sizeof image->pages[0])
+        return false;
+    range->is_open[(page - range->start) / PAGE] = 1;
+    image->pages[image->pages_count++] = page;
+    mprotect(page, PAGE, PROT_READ | PROT_WRITE);
+    return true;
+}
+
+void ex_put_back(void)
+{
+    for (size_t at = 0; at < image->pages_count; at++) {
+        char *page = image->pages[at];
+        Range *range = range_of(page);
+        memcpy(page, range->copy + (page - range->start), PAGE);
+    }
+}

@@ -1,0 +1,277 @@
+/* The explorer's program: it runs a scenario under every schedule with at most so many preemptions. */
+#include "explore.h"
+
+#include <stdlib.h>
+#include <sys/mman.h>
+#include <time.h>
+#include <unistd.h>
+
+extern const KzDriver kz_drivers[];
+extern const size_t kz_drivers_count;
+
+Explorer *ex;
+
+/* ---- One run. */
+static void start_run(void)
+{
+    ex_put_back();
+    ex->depth = ex->found_count = ex->schedule_length = ex->output_length = 0;
+    ex->preemptions = ex->switches = ex->fails_used = ex->timeouts = ex->steps = ex->deviations = 0;
+    ex->hash = 0;
+    ex->is_limited = false;
+    ex->run++;
+    ex->runs++;
+    ex_start_clocks();
+}
+
+static void tell_stuck(void)
+{
+    char text[TEXT] = "STUCK";
+    size_t used = strlen(text);
+    for (int at = 1; at <= ex->runners_count; at++) {
+        const Runner *one = &ex_runners[at];
+        ex->is_limited |= one->state == WAITING && strncmp(one->why, KZ_NO_TEARDOWN_BESIDE, strlen(KZ_NO_TEARDOWN_BESIDE)) == 0;
+        if (!one->is_worker && one->state != ENDED && used + 1 < sizeof text)
+            used += (size_t)snprintf(text + used, sizeof text - used, "\n  %s waits for %s", one->name, one->why);
+    }
+    ex_found(ex->is_limited ? LIMITED : STUCK, text);
+}
+
+static int compare_lines(const void *a, const void *b)
+{
+    return strcmp(*(char *const *)a, *(char *const *)b);
+}
+
+/* What was said, as a set of lines. */
+static void tell_end(void)
+{
+    static char *lines[512];
+    char text[TEXT] = "END", *rest = NULL;
+    size_t count = 0, used = strlen(text);
+    for (char *line = strtok_r(ex->output, "\n", &rest); line && count < 512; line = strtok_r(NULL, "\n", &rest))
+        if (!strstr(line, ": > ") && !strstr(line, "contexts born "))
+            lines[count++] = line;
+    qsort(lines, count, sizeof lines[0], compare_lines);
+    for (size_t at = 0; at < count && used + 1 < sizeof text; at++)
+        if (!at || strcmp(lines[at], lines[at - 1]) != 0)
+            used += (size_t)snprintf(text + used, sizeof text - used, "\n  %s", lines[at]);
+    ex_found(END, text);
+}
+
+static void finish_run(void)
+{
+    if (ex_is_stuck()) {
+        tell_stuck();
+        return;
+    }
+    kz_end();
+    if (ex->wants_ends)
+        tell_end();
+}
+
+static void run_once(void)
+{
+    start_run();
+    if (sigsetjmp(ex->out, 1) == 0) {
+        ex_run();
+        finish_run();
+    }
+    ex->is_running = false;
+    kz_me = &kz_first;
+    ex_keep_found();
+}
+
+/* ---- The search. */
+static double seconds(void)
+{
+    struct timespec now;
+    clock_gettime(CLOCK_MONOTONIC, &now);
+    return (double)now.tv_sec + (double)now.tv_nsec / 1e9;
+}
+
+static void put_counts(double since)
+{
+    printf("bound %u: %llu schedules, %.2f s, longest %u; told %llu, races %llu, stuck %llu, crashed %llu\n", ex->bound, (unsigned long long)ex->schedules,
+           seconds() - since, ex->longest, (unsigned long long)ex->counts[TOLD], (unsigned long long)ex->counts[RACE],
+           (unsigned long long)ex->counts[STUCK], (unsigned long long)ex->counts[CRASH]);
+}
+
+static void show_progress(double since)
+{
+    static double *shown;
+    if (!shown)
+        shown = ex_map(sizeof *shown);
+    if (ex->runs % 4096 || !isatty(STDERR_FILENO) || seconds() - *shown < 5)
+        return;
+    *shown = seconds();
+    fprintf(stderr, "bound %u: %llu schedules, %.0f s; a path of %zu choices, the first %u/%u %u/%u\n", ex->bound, (unsigned long long)ex->schedules, seconds() - since,
+            ex->length, ex->path[0].taken + 1, ex->path[0].count, ex->path[1].taken + 1, ex->path[1].count);
+}
+
+static void search_bound(void)
+{
+    double since = seconds();
+    ex->length = 0;
+    ex->schedules = 0;
+    memset(ex->counts, 0, sizeof ex->counts);
+    for (int at = 0; at < ex->kinds_count; at++)
+        ex->kinds[at].count = 0;
+    do {
+        run_once();
+        show_progress(since);
+    } while (ex_advance());
+    put_counts(since);
+}
+
+static void search(unsigned bound)
+{
+    for (ex->bound = 0; ex->bound <= bound; ex->bound++)
+        search_bound();
+}
+
+static void draw_runs(uint64_t seed, uint64_t runs)
+{
+    double since = seconds();
+    ex->bound = UINT32_MAX;
+    for (uint64_t at = 0; at < runs; at++) {
+        ex->seed = seed + at;
+        ex->random = (seed + at) * 0x9e3779b97f4a7c15ULL | 1;
+        run_once();
+    }
+    printf("seeds %llu to %llu: ", (unsigned long long)seed, (unsigned long long)(seed + runs - 1));
+    ex->bound = 0;
+    put_counts(since);
+}
+
+/* ---- Words. */
+static int usage(const char *name)
+{
+    fprintf(stderr,
+            "usage: %s [--bound N] [--fails N] [--fail-each] [--ends] [--shard K/N] [--seed N [--runs N]] [--replay SCHEDULE [--trace]] [--allow KZ0000] [--quiet] SCENARIO\n",
+            name);
+    return 2;
+}
+
+typedef struct {
+    unsigned bound;
+    uint64_t seed, runs;
+    const char *replay, *scenario;
+} Asked;
+
+static bool read_shard(const char *word)
+{
+    return sscanf(word, "%u/%u", &ex->shard, &ex->shards) == 2 && ex->shards > 0 && ex->shard < ex->shards;
+}
+
+/* A word that has another behind it. */
+static bool read_pair(const char *word, const char *value, Asked *asked)
+{
+    char *end = "";
+    if (strcmp(word, "--bound") == 0)
+        asked->bound = (unsigned)strtoul(value, &end, 10);
+    else if (strcmp(word, "--fails") == 0)
+        ex->fails = (unsigned)strtoul(value, &end, 10);
+    else if (strcmp(word, "--seed") == 0)
+        asked->seed = strtoull(value, &end, 10);
+    else if (strcmp(word, "--runs") == 0)
+        asked->runs = strtoull(value, &end, 10);
+    else if (strcmp(word, "--replay") == 0)
+        asked->replay = value;
+    else if (strcmp(word, "--shard") == 0)
+        return read_shard(value);
+    else
+        return strcmp(word, "--allow") == 0 && kz_allow(value);
+    return !*end && *value;
+}
+
+static bool read_words(int count, char **words, Asked *asked)
+{
+    for (int at = 1; at < count; at++) {
+        if (strcmp(words[at], "--ends") == 0)
+            ex->wants_ends = true;
+        else if (strcmp(words[at], "--trace") == 0)
+            ex->is_traced = true;
+        else if (strcmp(words[at], "--quiet") == 0)
+            ex->is_quiet = true;
+        else if (strcmp(words[at], "--strict") == 0)
+            kz_be_strict(true);
+        else if (strcmp(words[at], "--fail-each") == 0)
+            ex->fails = 1, asked->bound = 0;
+        else if (words[at][0] != '-' && !asked->scenario)
+            asked->scenario = words[at];
+        else if (at + 1 == count || !read_pair(words[at], words[at + 1], asked))
+            return false;
+        else
+            at++;
+    }
+    return asked->scenario != NULL;
+}
+
+/* ---- The set-up, in order. */
+static bool set_up(void)
+{
+    kz_scheduler = &ex_scheduler;
+    if (kz_open(kz_drivers, kz_drivers_count) != 0)
+        return false;
+    for (size_t at = 0; at < ex->setup_count; at++)
+        if (kz_request(ex->setup[at]).status == 32) {
+            fprintf(stderr, "the set-up has a line that is no request: %s\n", ex->setup[at]);
+            return false;
+        }
+    return true;
+}
+
+static int status(void)
+{
+    if (ex->counts[CRASH])
+        return 139;
+    if (ex->counts[STUCK])
+        return 6;
+    return ex->counts[TOLD] || ex->counts[RACE] ? 5 : 0;
+}
+
+static int play(const char *replay)
+{
+    ex->replay = replay;
+    ex->bound = UINT32_MAX;
+    ex->fails = 0;
+    run_once();
+    if (ex->is_traced)
+        ex_trace_end();
+    else
+        ex_report();
+    for (int at = 0; ex->is_traced && at < ex->kinds_count; at++) {
+        if (ex->kinds[at].of != END && ex->kinds[at].of != LIMITED) {
+            fputs("==== ", stdout);
+            ex_put_sources(ex->kinds[at].text);
+            putchar('\n');
+        }
+    }
+    return status();
+}
+
+int main(int count, char **words)
+{
+    Asked asked = {.bound = 2, .runs = 1000};
+    ex_open_memory();
+    ex = ex_map(sizeof *ex);
+    ex->room = ex_map(1UL << 30);
+    setvbuf(stdout, ex_map(1 << 16), _IOLBF, 1 << 16);
+    ex->is_quiet = true;
+    if (!read_words(count, words, &asked))
+        return usage(words[0]);
+    if (ex_read(asked.scenario) != 0 || !set_up())
+        return 2;
+    ex_open_shadow();
+    ex_open_stacks();
+    ex_watch_faults();
+    ex_take_image();
+    if (asked.replay)
+        return play(asked.replay);
+    if (asked.seed)
+        draw_runs(asked.seed, asked.runs);
+    else
+        search(asked.bound);
+    ex_report();
+    return status();
+}

@@ -1,0 +1,153 @@
+/* Which choice is taken: by the search's path, by a schedule that is played again, or by a seed. */
+#include "explore.h"
+
+#include <stdlib.h>
+
+/* ---- The search: it follows the path, takes the first option beyond it, and appends that. */
+static uint64_t mixed(uint64_t value)
+{
+    value ^= value >> 33;
+    value *= 0xff51afd7ed558ccdULL;
+    value ^= value >> 33;
+    value *= 0xc4ceb9fe1a85ec53ULL;
+    return value ^ value >> 33;
+}
+
+bool ex_is_own(void)
+{
+    return ex->shards < 2 || mixed(ex->hash) % ex->shards == ex->shard;
+}
+
+/* The first two deviations from the usual order say whose part a run is. Once they are known, another's part isn't run. */
+static void note_deviation(unsigned taken)
+{
+    if (!taken || ex->deviations++ >= 2)
+        return;
+    ex->hash = mixed(ex->hash * 1000003 + ex->depth * 16 + taken);
+    if (ex->deviations == 2 && !ex_is_own()) {
+        ex->length = ex->depth;
+        siglongjmp(ex->out, 1);
+    }
+}
+
+static unsigned follow(unsigned count, bool is_switch)
+{
+    if (ex->depth == PATH) {
+        ex_found(STUCK, "ENDLESS: the run has too many choices");
+        siglongjmp(ex->out, 1);
+    }
+    Node *node = &ex->path[ex->depth];
+    if (ex->depth == ex->length) {
+        *node = (Node){(uint8_t)count, 0, is_switch};
+        ex->length++;
+    } else if (node->count != count) {
+        ex_found(CRASH, "NOT REPEATABLE: the same schedule came to another choice");
+        siglongjmp(ex->out, 1);
+    }
+    ex->depth++;
+    note_deviation(node->taken);
+    return node->taken;
+}
+
+/* To the next path; false if there is none. */
+bool ex_advance(void)
+{
+    while (ex->length > 0) {
+        Node *node = &ex->path[ex->length - 1];
+        if (++node->taken < node->count)
+            return true;
+        ex->length--;
+    }
+    return false;
+}
+
+/* ---- A schedule in words: a*5 d*13 fail a b*2. */
+static bool word_is(const char *word, size_t length, const char *name)
+{
+    return strlen(name) == length && strncmp(word, name, length) == 0;
+}
+
+/* The word at which it stands; its text has no count, and `count` is how often it is still to be taken. */
+static const char *word_now(size_t *length, unsigned *count)
+{
+    const char *at = ex->replay + strspn(ex->replay, " ");
+    *length = strcspn(at, "* ");
+    *count = at[*length] == '*' ? (unsigned)strtoul(at + *length + 1, NULL, 10) : 1;
+    return at;
+}
+
+static void take_word(const char *word)
+{
+    static unsigned taken;
+    size_t length;
+    unsigned count;
+    word_now(&length, &count);
+    if (++taken < count)
+        return;
+    taken = 0;
+    ex->replay = word + strcspn(word, " ");
+}
+
+static unsigned play_again(unsigned count, bool is_switch, const int *clients)
+{
+    size_t length;
+    unsigned times;
+    const char *word = word_now(&length, &times);
+    bool is_fail = word_is(word, length, "fail");
+    if (!*word)
+        return 0;
+    if (!is_switch) {
+        if (is_fail)
+            take_word(word);
+        return is_fail;
+    }
+    for (unsigned at = 0; at < count; at++)
+        if (word_is(word, length, ex_runners[clients[at]].name)) {
+            take_word(word);
+            return at;
+        }
+    fprintf(stderr, "this schedule isn't one of the scenario's: at '%s' that client can't go on\n", word);
+    exit(2);
+}
+
+/* ---- By a seed: a coin at each choice. */
+static unsigned draw(unsigned count)
+{
+    ex->random ^= ex->random << 13;
+    ex->random ^= ex->random >> 7;
+    ex->random ^= ex->random << 17;
+    return (unsigned)((ex->random >> 20) % count);
+}
+
+unsigned ex_decide(unsigned count, bool is_switch, const int *clients)
+{
+    if (ex->replay)
+        return play_again(count, is_switch, clients);
+    if (ex->seed)
+        return is_switch ? draw(count) : draw(8) == 0;
+    return follow(count, is_switch);
+}
+
+/* How often the client goes on in a row; a refusal stands alone. */
+static size_t in_a_row(size_t at, size_t length)
+{
+    size_t end = at + 1;
+    while (end < length && ex->schedule[end] == ex->schedule[at] && ex->schedule[at] != FAIL)
+        end++;
+    return end - at;
+}
+
+const char *ex_schedule_text(size_t length)
+{
+    char *text = ex->schedule_text;
+    size_t used = 0, size = sizeof ex->schedule_text, count;
+    text[0] = 0;
+    for (size_t at = 0; at < length && used + 64 < size; at += count) {
+        uint8_t client = ex->schedule[at];
+        count = in_a_row(at, length);
+        used += (size_t)snprintf(text + used, size - used, at ? " %s" : "%s", client == FAIL ? "fail" : ex_runners[client].name);
+        if (count > 1)
+            used += (size_t)snprintf(text + used, size - used, "*%zu", count);
+    }
+    return text;
+}

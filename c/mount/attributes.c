@@ -1,0 +1,52 @@
+/* The protocol has a size alone. Owner and mode are those of the mount, times those that it saw. */
+#include "attributes.h"
+
+#include "path.h"
+
+#include <unistd.h>
+
+Node *node_at(fuse_ino_t number)
+{
+    return number == FUSE_ROOT_ID ? NULL : (Node *)(uintptr_t)number;
+}
+
+Look look_at(Mount *mount, fuse_ino_t number)
+{
+    if (number != FUSE_ROOT_ID)
+        return nodes_look(&mount->nodes, node_at(number));
+    return (Look){.is_folder = true, .changed = mount->nodes.begun, .read = mount->nodes.begun};
+}
+
+/* A folder may be entered by whoever may read it. */
+static mode_t folder_mode(mode_t mode)
+{
+    return S_IFDIR | mode | (mode & 0444) >> 2;
+}
+
+struct stat attributes_of(const Mount *mount, const Look *look, uint64_t size)
+{
+    struct stat attributes = {
+        .st_ino = look->path[0] ? hash_of(look->path) : FUSE_ROOT_ID,
+        .st_mode = look->is_folder ? folder_mode(mount->options.mode) : S_IFREG | mount->options.mode,
+        .st_nlink = look->is_deleted ? 0 : look->is_folder ? 2 : 1,
+        .st_uid = getuid(),
+        .st_gid = getgid(),
+        .st_size = (off_t)size,
+        .st_blocks = (blkcnt_t)((size + 511) / 512),
+        .st_blksize = 4096,
+        .st_atim = look->read,
+        .st_mtim = look->changed,
+        .st_ctim = look->changed,
+    };
+    return attributes;
+}
+
+struct fuse_entry_param entry_of(const Mount *mount, Node *node, const Look *look, uint64_t size)
+{
+    return (struct fuse_entry_param){
+        .ino = (fuse_ino_t)(uintptr_t)node,
+        .attr = attributes_of(mount, look, size),
+        .attr_timeout = mount->options.attr,
+        .entry_timeout = mount->options.attr,
+    };
+}

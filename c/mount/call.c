@@ -1,0 +1,186 @@
+/* Asking, and what is left of it. */
+#include "call.h"
+
+#include "status.h"
+
+#include <errno.h>
+#include <stdlib.h>
+
+/* Ticks that an interrupted program waits on: most replies come meanwhile, and a signal that kills nobody spoils no read. */
+#define GRACE 3
+
+Call call_of(fuse_req_t request)
+{
+    return (Call){.request = request, .mount = fuse_req_userdata(request)};
+}
+
+Call call_on(Mount *mount, Line *line)
+{
+    return (Call){.mount = mount, .line = line};
+}
+
+static bool is_unwanted(void *whom)
+{
+    Call *call = whom;
+    return call->request && (fuse_req_interrupted(call->request) || fuse_session_exited(call->mount->session));
+}
+
+int call_take(Call *call, Want want)
+{
+    return pool_take(&call->mount->pool, want, is_unwanted, call, &call->line);
+}
+
+int call_enter(Call *call, const char *path, Passage passage)
+{
+    call->inside = gate_enter(&call->mount->gates, gate_of(path), passage, is_unwanted, call);
+    return call->inside.passage == AT_NO_GATE ? EINTR : 0;
+}
+
+static int receive(Call *call, Reply *reply)
+{
+    unsigned ticks = 0;
+    int error = connection_receive(&call->line->connection, reply);
+    while (error == EAGAIN) {
+        if (is_unwanted(call) && ++ticks > GRACE)
+            return EINTR;
+        error = connection_receive(&call->line->connection, reply);
+    }
+    return error;
+}
+
+int call_ask(Call *call, Request request, Reply *reply)
+{
+    call->code = request.code;
+    int error = connection_send(&call->line->connection, &request);
+    if (error == 0)
+        error = receive(call, reply);
+    if (error == EINTR) {
+        call->is_abandoned = true;
+    } else if (error != 0) {
+        call->has_handle = false;
+        pool_lost(&call->mount->pool, call->line);
+    }
+    return error;
+}
+
+int call_do(Call *call, Request request, Reply *reply)
+{
+    int error = call_ask(call, request, reply);
+    return error != 0 ? error : errno_of(reply->status);
+}
+
+int call_open(Call *call, const char *path, uint8_t mode)
+{
+    Reply reply;
+    int error = call_enter(call, path, BESIDE_CREATES);
+    if (error == 0 && nodes_is_hidden(&call->mount->nodes, path))
+        error = ENOENT;
+    if (error == 0)
+        error = call_ask(call, request_create((uint8_t)call->mount->options.volume, mode, path), &reply);
+    if (error != 0)
+        return error;
+    if (reply.status != STATUS_SUCCESS)
+        return mode == CREATE_EXISTING ? errno_of_look(reply.status) : errno_of(reply.status);
+    call->has_handle = true;
+    call->handle = reply.information;
+    return 0;
+}
+
+int call_measure(Call *call, uint64_t handle, uint64_t *size)
+{
+    Reply reply;
+    int error = call_do(call, request_handle(FRAME_QUERY_SIZE, handle), &reply);
+    if (error == 0)
+        *size = reply.information;
+    return error;
+}
+
+void call_leave(Call *call)
+{
+    gate_leave(&call->mount->gates, &call->inside);
+}
+
+/* At the gate, as long as the file's name is what it was. */
+static Look enter_to_close(Call *call, Node *node)
+{
+    Look look = nodes_look(&call->mount->nodes, node);
+    if (call_enter(call, look.path, look.is_deleted ? ALONE : BESIDE_CREATES) != 0)
+        return look;
+    Look again = nodes_look(&call->mount->nodes, node);
+    if (again.is_deleted != look.is_deleted) {
+        call_leave(call);
+        call_enter(call, again.path, ALONE);
+    }
+    return again;
+}
+
+void call_close(Call *call, Node *node, uint64_t handle)
+{
+    Reply reply;
+    enter_to_close(call, node);
+    call_ask(call, request_handle(FRAME_CLOSE, handle), &reply);
+    if (!call->is_abandoned)
+        call_leave(call);
+}
+
+static void finish(Call *call)
+{
+    Reply reply;
+    if (call->has_handle) {
+        call->has_handle = false;
+        call_ask(call, request_handle(FRAME_CLOSE, call->handle), &reply);
+    }
+}
+
+/* The thread that waits for a reply which nobody wants any more. */
+static void *settle(void *abandoned)
+{
+    Call *call = abandoned;
+    Pool *pool = &call->mount->pool;
+    Reply reply;
+    call->is_abandoned = false;
+    if (receive(call, &reply) != 0) {
+        call->has_handle = false;
+        pool_lost(pool, call->line);
+    } else if (call->code == FRAME_CREATE && reply.status == STATUS_SUCCESS) {
+        call->has_handle = true;
+        call->handle = reply.information;
+    }
+    call_end(call);
+    free(call);
+    pool_settle(pool, false);
+    return NULL;
+}
+
+static bool begin_settling(const Call *call)
+{
+    pthread_t thread;
+    Call *copy = malloc(sizeof *copy);
+    if (!copy)
+        return false;
+    *copy = *call;
+    copy->request = NULL;
+    pool_settle(&call->mount->pool, true);
+    if (pthread_create(&thread, NULL, settle, copy) == 0) {
+        pthread_detach(thread);
+        return true;
+    }
+    pool_settle(&call->mount->pool, false);
+    free(copy);
+    return false;
+}
+
+void call_end(Call *call)
+{
+    if (!call->line)
+        return;
+    if (!call->is_abandoned)
+        finish(call);
+    if (call->is_abandoned && begin_settling(call))
+        return;
+    if (call->is_abandoned)
+        pool_lost(&call->mount->pool, call->line);
+    call_leave(call);
+    pool_give(&call->mount->pool, call->line);
+    call->line = NULL;
+}

@@ -1,0 +1,40 @@
+/* One call of a program, while it is answered: the line that it has taken, the gate that it is in, and the handle that is closed at its end.
+ *
+ * A program that is interrupted while the server holds its request is answered EINTR. Then a thread of its own waits for the reply, closes what that brings, and gives the line back. */
+#ifndef KZ_MOUNT_CALL_H
+#define KZ_MOUNT_CALL_H
+
+#include "mount.h"
+
+typedef struct {
+    fuse_req_t request; /* NULL: nobody can interrupt it */
+    Mount *mount;
+    Line *line;
+    Inside inside;
+    bool has_handle; /* it is closed at the end */
+    uint64_t handle;
+    bool is_abandoned; /* the reply is still to come */
+    uint8_t code;      /* of the last request */
+} Call;
+
+Call call_of(fuse_req_t request);
+/* A call that nobody waits for, on a line that was taken. */
+Call call_on(Mount *mount, Line *line);
+
+/* Each answers 0 or an errno. */
+int call_take(Call *call, Want want);
+/* Goes in at the gate of the path. A line must have been taken. */
+int call_enter(Call *call, const char *path, Passage passage);
+/* The reply, whatever its status. */
+int call_ask(Call *call, Request request, Reply *reply);
+/* The reply of a success, or the errno of its status. */
+int call_do(Call *call, Request request, Reply *reply);
+/* Goes in at the gate and opens the file: the handle is the call's, which closes it. ENOENT where a deleted file of that name is still open. */
+int call_open(Call *call, const char *path, uint8_t mode);
+int call_measure(Call *call, uint64_t handle, uint64_t *size);
+void call_leave(Call *call);
+/* Closes a handle of the node's file: alone where the file is deleted. */
+void call_close(Call *call, Node *node, uint64_t handle);
+void call_end(Call *call);
+
+#endif

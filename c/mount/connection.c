@@ -1,0 +1,152 @@
+/* Dialing, sending and receiving. */
+#define _GNU_SOURCE
+#include "connection.h"
+
+#include <errno.h>
+#include <poll.h>
+#include <string.h>
+#include <sys/socket.h>
+#include <sys/syscall.h>
+#include <sys/time.h>
+#include <sys/uio.h>
+#include <sys/un.h>
+#include <unistd.h>
+
+/* A server that was started anew at the same socket has no filters attached: what is written to it would lie below in plain. So only the process that was known is dialed. */
+static int look_at_server(int socket, Server *server)
+{
+    struct ucred peer;
+    socklen_t size = sizeof peer;
+    if (getsockopt(socket, SOL_SOCKET, SO_PEERCRED, &peer, &size) != 0)
+        return errno;
+    if (server->pid == -1) {
+        server->pid = peer.pid;
+        server->process = peer.pid > 0 ? (int)syscall(SYS_pidfd_open, peer.pid, 0) : -1;
+        return 0;
+    }
+    struct pollfd end = {server->process, POLLIN, 0};
+    if (server->process == -1 || peer.pid != server->pid || poll(&end, 1, 0) != 0)
+        return ENOTCONN;
+    return 0;
+}
+
+static int dial(int socket, const char *path, Server *server)
+{
+    struct sockaddr_un address = {.sun_family = AF_UNIX};
+    if (strlen(path) >= sizeof address.sun_path)
+        return ENAMETOOLONG;
+    memcpy(address.sun_path, path, strlen(path) + 1);
+    struct timeval tick = {0, TICK_MILLISECONDS * 1000}, patience = {1, 0}, for_ever = {0, 0};
+    setsockopt(socket, SOL_SOCKET, SO_RCVTIMEO, &tick, sizeof tick);
+    setsockopt(socket, SOL_SOCKET, SO_SNDTIMEO, &patience, sizeof patience);
+    if (connect(socket, (struct sockaddr *)&address, sizeof address) != 0)
+        return errno;
+    setsockopt(socket, SOL_SOCKET, SO_SNDTIMEO, &for_ever, sizeof for_ever);
+    return look_at_server(socket, server);
+}
+
+int connection_dial(Connection *connection, const char *path, Server *server)
+{
+    connection->received = 0;
+    connection->socket = socket(AF_UNIX, SOCK_STREAM | SOCK_CLOEXEC, 0);
+    if (connection->socket == -1)
+        return errno;
+    int error = dial(connection->socket, path, server);
+    if (error != 0)
+        connection_close(connection);
+    return error;
+}
+
+/* Takes what was sent from the front of the parts. */
+static void advance(struct msghdr *message, size_t sent)
+{
+    while (message->msg_iovlen > 0 && sent >= message->msg_iov->iov_len) {
+        sent -= message->msg_iov->iov_len;
+        message->msg_iov++;
+        message->msg_iovlen--;
+    }
+    if (message->msg_iovlen > 0) {
+        message->msg_iov->iov_base = (uint8_t *)message->msg_iov->iov_base + sent;
+        message->msg_iov->iov_len -= sent;
+    }
+}
+
+int connection_send(Connection *connection, const Request *request)
+{
+    uint8_t head[9 + sizeof request->fields];
+    size_t length = SHORTEST_BODY + request->fields_length + request->length;
+    put_number(head, length, 4);
+    put_number(head + 4, request->code, 1);
+    put_number(head + 5, ++connection->number, 4);
+    memcpy(head + 9, request->fields, request->fields_length);
+    struct iovec parts[2] = {{head, 9 + request->fields_length}, {(void *)request->bytes, request->length}};
+    struct msghdr message = {.msg_iov = parts, .msg_iovlen = 2};
+    connection->received = 0;
+    while (message.msg_iovlen > 0) {
+        ssize_t sent = sendmsg(connection->socket, &message, MSG_NOSIGNAL);
+        if (sent >= 0)
+            advance(&message, (size_t)sent);
+        else if (errno != EINTR)
+            return ENOTCONN;
+    }
+    return 0;
+}
+
+/* Reads the frame that has come whole. */
+static int read_reply(const Connection *connection, Reply *reply)
+{
+    const uint8_t *body = connection->room + 4;
+    size_t length = connection->received - 4;
+    if (length < REPLY_HEAD || body[0] != FRAME_REPLY || number_at(body + 1, 4) != connection->number)
+        return EPROTO;
+    *reply = (Reply){body[5], number_at(body + 6, 8), body + REPLY_HEAD, length - REPLY_HEAD};
+    return 0;
+}
+
+/* How many bytes the frame has with its length in front, and 0 where no frame has so many. */
+static size_t whole(const Connection *connection)
+{
+    uint64_t length = number_at(connection->room, 4);
+    return length < SHORTEST_BODY || length > LONGEST_BODY ? 0 : (size_t)length + 4;
+}
+
+int connection_receive(Connection *connection, Reply *reply)
+{
+    for (;;) {
+        ssize_t count = recv(connection->socket, connection->room + connection->received, sizeof connection->room - connection->received, 0);
+        if (count == -1 && errno == EINTR)
+            continue;
+        if (count == -1)
+            return errno == EAGAIN || errno == EWOULDBLOCK ? EAGAIN : EIO;
+        if (count == 0)
+            return EIO;
+        connection->received += (size_t)count;
+        if (connection->received < 4)
+            continue;
+        if (connection->received > whole(connection))
+            return EPROTO;
+        if (connection->received == whole(connection))
+            return read_reply(connection, reply);
+    }
+}
+
+/* An idle connection has nothing to receive: what comes is its end. */
+bool connection_is_alive(const Connection *connection)
+{
+    char byte;
+    return connection->socket != -1 && recv(connection->socket, &byte, 1, MSG_PEEK | MSG_DONTWAIT) == -1 && (errno == EAGAIN || errno == EWOULDBLOCK);
+}
+
+void connection_close(Connection *connection)
+{
+    if (connection->socket != -1)
+        close(connection->socket);
+    connection->socket = -1;
+}
+
+void server_forget(Server *server)
+{
+    if (server->process != -1)
+        close(server->process);
+    server->process = -1;
+}

@@ -1,0 +1,33 @@
+/* One connection with the server. Whoever has taken it from the pool uses it alone. */
+#ifndef KZ_MOUNT_CONNECTION_H
+#define KZ_MOUNT_CONNECTION_H
+
+#include "request.h"
+#include "wait.h"
+
+#include <sys/types.h>
+
+/* The server's process, as it was when the first connection was made. */
+typedef struct {
+    pid_t pid;
+    int process; /* a descriptor that tells its end, or -1 */
+} Server;
+
+typedef struct {
+    int socket; /* -1: it is gone */
+    uint32_t number;
+    size_t received;
+    uint8_t room[4 + LONGEST_BODY];
+} Connection;
+
+/* Each answers 0 or an errno. */
+int connection_dial(Connection *connection, const char *path, Server *server);
+/* ENOTCONN: the server is gone */
+int connection_send(Connection *connection, const Request *request);
+/* EAGAIN: nothing came for a tick; EIO: the server is gone; EPROTO: what came is no reply */
+int connection_receive(Connection *connection, Reply *reply);
+bool connection_is_alive(const Connection *connection);
+void connection_close(Connection *connection);
+void server_forget(Server *server);
+
+#endif

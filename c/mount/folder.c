@@ -1,0 +1,169 @@
+#include "folder.h"
+
+#include "attributes.h"
+#include "path.h"
+#include "status.h"
+
+#include <errno.h>
+#include <linux/fuse.h>
+#include <stdio.h>
+#include <stdlib.h>
+#include <string.h>
+
+/* What an open folder showed last: entries in the kernel's own form. It is read anew from the beginning. Threads that read one open folder take turns in the kernel. */
+typedef struct {
+    char *entries;
+    size_t length, size;
+} Listing;
+
+static Listing *listing_of(const struct fuse_file_info *info)
+{
+    return (Listing *)(uintptr_t)info->fh;
+}
+
+static int add(fuse_req_t request, Listing *listing, const char *name, const char *path, bool is_folder)
+{
+    struct stat attributes = {.st_ino = path[0] ? hash_of(path) : FUSE_ROOT_ID, .st_mode = is_folder ? S_IFDIR : S_IFREG};
+    size_t needed = fuse_add_direntry(request, NULL, 0, name, NULL, 0);
+    if (listing->length + needed > listing->size) {
+        size_t size = listing->size * 2 + needed + 4096;
+        char *larger = realloc(listing->entries, size);
+        if (!larger)
+            return ENOMEM;
+        listing->entries = larger;
+        listing->size = size;
+    }
+    fuse_add_direntry(request, listing->entries + listing->length, needed, name, &attributes, (off_t)(listing->length + needed));
+    listing->length += needed;
+    return 0;
+}
+
+/* Whether the first `length` letters of an item name a folder that lies directly in the other. */
+static bool lies_in(const char *item, size_t length, const char *folder)
+{
+    size_t own = strlen(folder), slash = own > 0 ? 1 : 0;
+    return length > own + slash && strncmp(item, folder, own) == 0 && (own == 0 || item[own] == '/') && !memchr(item + own + slash, '/', length - own - slash);
+}
+
+/* The folders in a folder are those that -o folders has. */
+static int add_folders(fuse_req_t request, Listing *listing, const char *list, const char *folder)
+{
+    int error = 0;
+    const char *item = list ? list : "";
+    while (*item && error == 0) {
+        size_t length = strcspn(item, ":");
+        char path[LONGEST_PATH + 1];
+        snprintf(path, sizeof path, "%.*s", (int)length, item);
+        if (lies_in(item, length, folder))
+            error = add(request, listing, folder[0] ? path + strlen(folder) + 1 : path, path, true);
+        item += length + (item[length] == ':');
+    }
+    return error;
+}
+
+static bool is_among(const char *names, const char *name)
+{
+    char line[LONGEST_PATH + 3];
+    snprintf(line, sizeof line, "\n%s\n", name);
+    return strstr(names, line) != NULL;
+}
+
+/* What is listed lies in the root, and is no folder. */
+static int add_names(fuse_req_t request, Mount *mount, Listing *listing, char *names, const char *hidden)
+{
+    int error = 0;
+    char *rest = names;
+    for (char *name = strsep(&rest, "\n"); rest && error == 0; name = strsep(&rest, "\n"))
+        if (!is_among(hidden, name) && !path_is_in(mount->options.folders, name))
+            error = add(request, listing, name, name, false);
+    return error;
+}
+
+/* The names in a memory of their own, for the line is to be free again. */
+static int ask_list(Call *call, char **names)
+{
+    Reply reply;
+    int error = call_take(call, (Want){.may_be_reserved = true});
+    if (error == 0)
+        error = call_ask(call, request_list((uint8_t)call->mount->options.volume), &reply);
+    if (error == 0)
+        error = reply.status == STATUS_TOO_MANY ? EOVERFLOW : errno_of(reply.status);
+    if (error == 0) {
+        *names = strndup((const char *)reply.bytes, reply.length);
+        error = *names ? 0 : ENOMEM;
+    }
+    call_end(call);
+    return error;
+}
+
+/* Names of deleted files are asked for before the list, which still has them: between the two one may go, and none may come back. */
+static int add_files(fuse_req_t request, Listing *listing)
+{
+    Call call = call_of(request);
+    char *hidden = nodes_hidden(&call.mount->nodes), *names = NULL;
+    int error = hidden ? ask_list(&call, &names) : ENOMEM;
+    if (error == 0)
+        error = add_names(request, call.mount, listing, names, hidden);
+    free(hidden);
+    free(names);
+    return error;
+}
+
+static int list(fuse_req_t request, fuse_ino_t number, Listing *listing)
+{
+    Mount *mount = fuse_req_userdata(request);
+    Look look = look_at(mount, number);
+    listing->length = 0;
+    int error = add(request, listing, ".", look.path, true);
+    if (error == 0)
+        error = add(request, listing, "..", "", true);
+    if (error == 0)
+        error = add_folders(request, listing, mount->options.folders, look.path);
+    return error == 0 && look.path[0] == '\0' ? add_files(request, listing) : error;
+}
+
+void folder_open(fuse_req_t request, fuse_ino_t number, struct fuse_file_info *info)
+{
+    (void)number;
+    Listing *listing = calloc(1, sizeof *listing);
+    if (!listing) {
+        fuse_reply_err(request, ENOMEM);
+        return;
+    }
+    info->fh = (uint64_t)(uintptr_t)listing;
+    if (fuse_reply_open(request, info) == -ENOENT)
+        free(listing);
+}
+
+/* As many whole entries as fit: an entry's offset is where the next one begins. */
+static size_t fitting(const Listing *listing, size_t from, size_t size)
+{
+    size_t to = from;
+    while (to < listing->length) {
+        const struct fuse_dirent *entry = (const void *)(listing->entries + to);
+        if (entry->off - from > size)
+            break;
+        to = (size_t)entry->off;
+    }
+    return to - from;
+}
+
+void folder_read(fuse_req_t request, fuse_ino_t number, size_t size, off_t offset, struct fuse_file_info *info)
+{
+    Listing *listing = listing_of(info);
+    int error = offset == 0 ? list(request, number, listing) : 0;
+    if (error != 0)
+        fuse_reply_err(request, error);
+    else if ((size_t)offset >= listing->length)
+        fuse_reply_buf(request, NULL, 0);
+    else
+        fuse_reply_buf(request, listing->entries + offset, fitting(listing, (size_t)offset, size));
+}
+
+void folder_release(fuse_req_t request, fuse_ino_t number, struct fuse_file_info *info)
+{
+    (void)number;
+    free(listing_of(info)->entries);
+    free(listing_of(info));
+    fuse_reply_err(request, 0);
+}

@@ -1,0 +1,39 @@
+/* The gate of a name. A create that is under way at the last close of a deleted file takes the deletion with it. So creates of a name go side by side, and a close that
+ * may delete goes alone. Who comes in has its connection already: nobody in there waits for one. */
+#ifndef KZ_MOUNT_GATE_H
+#define KZ_MOUNT_GATE_H
+
+#include "wait.h"
+
+#define GATES 1024
+
+/* One gate, of all names that fall together. */
+typedef struct {
+    unsigned creates; /* inside */
+    unsigned waiting; /* closes that wait: creates that come now wait behind them */
+    bool is_closing;
+} Gate;
+
+/* All threads share them, under the mutex. */
+typedef struct {
+    pthread_mutex_t mutex;
+    pthread_cond_t left;
+    Gate gates[GATES];
+} Gates;
+
+typedef enum { AT_NO_GATE, BESIDE_CREATES, ALONE } Passage;
+
+/* Where somebody is inside. */
+typedef struct {
+    unsigned number;
+    Passage passage;
+} Inside;
+
+void gates_open(Gates *gates);
+unsigned gate_of(const char *path);
+/* AT_NO_GATE where nobody wants it any more */
+Inside gate_enter(Gates *gates, unsigned number, Passage passage, IsUnwanted is_unwanted, void *whom);
+void gate_leave(Gates *gates, Inside *inside);
+void gates_close(Gates *gates);
+
+#endif

@@ -1,0 +1,126 @@
+/* fltmount: dials the server, mounts, and answers the kernel until it is unmounted. Exit status: 0, or 1 where the mount broke, 2 for wrong words, 3 where the server or the mount point isn't to be had. */
+#include "data.h"
+#include "files.h"
+#include "folder.h"
+#include "names.h"
+#include "options.h"
+#include "refused.h"
+#include "rename.h"
+
+#include <stdio.h>
+#include <stdlib.h>
+#include <string.h>
+
+/* Each program that waits for a held read has a thread; beside those that wait some are left. */
+#define THREADS 96
+/* Connections that are no file's home. */
+#define RESERVED 2
+
+enum { ENDED, BROKEN, WRONG_WORDS, OUT_OF_REACH };
+
+/* A write has to meet the filters that are attached when it is made: so nothing is written late, and no page is read ahead unless -o cached says so. */
+static void begin(void *data, struct fuse_conn_info *kernel)
+{
+    (void)data;
+    kernel->want |= kernel->capable & FUSE_CAP_ATOMIC_O_TRUNC;
+    kernel->want &= ~(unsigned)(FUSE_CAP_WRITEBACK_CACHE | FUSE_CAP_AUTO_INVAL_DATA | FUSE_CAP_READDIRPLUS | FUSE_CAP_SPLICE_READ | FUSE_CAP_SPLICE_WRITE | FUSE_CAP_SPLICE_MOVE);
+    kernel->max_read = LONGEST_TRANSFER;
+    kernel->max_write = LONGEST_TRANSFER;
+}
+
+static const struct fuse_lowlevel_ops operations = {
+    .init = begin,
+    .lookup = name_look_up,
+    .forget = name_forget,
+    .forget_multi = name_forget_all,
+    .getattr = name_get_attributes,
+    .setattr = name_set_attributes,
+    .unlink = name_unlink,
+    .rename = name_rename,
+    .open = data_open,
+    .create = data_create,
+    .read = data_read,
+    .write = data_write,
+    .fsync = data_sync,
+    .release = data_release,
+    .opendir = folder_open,
+    .readdir = folder_read,
+    .releasedir = folder_release,
+    .mknod = refuse_make_node,
+    .mkdir = refuse_make_folder,
+    .rmdir = refuse_remove_folder,
+    .symlink = refuse_symbolic_link,
+    .link = refuse_link,
+    .statfs = tell_size,
+};
+
+static int answer_kernel(struct fuse_session *session, bool has_clones)
+{
+    struct fuse_loop_config *loop = fuse_loop_cfg_create();
+    if (!loop)
+        return BROKEN;
+    fuse_loop_cfg_set_max_threads(loop, THREADS);
+    fuse_loop_cfg_set_idle_threads(loop, THREADS);
+    fuse_loop_cfg_set_clone_fd(loop, has_clones);
+    int status = fuse_session_loop_mt(session, loop) < 0 ? BROKEN : ENDED;
+    fuse_loop_cfg_destroy(loop);
+    return status;
+}
+
+static int serve(Mount *mount, const struct fuse_cmdline_opts *line)
+{
+    if (fuse_set_signal_handlers(mount->session) != 0)
+        return BROKEN;
+    int status = OUT_OF_REACH;
+    if (fuse_session_mount(mount->session, line->mountpoint) == 0) {
+        status = fuse_daemonize(line->foreground) == 0 ? answer_kernel(mount->session, line->clone_fd) : BROKEN;
+        fuse_session_unmount(mount->session);
+    }
+    fuse_remove_signal_handlers(mount->session);
+    return status;
+}
+
+static int serve_with_pool(Mount *mount, struct fuse_args *words, const struct fuse_cmdline_opts *line)
+{
+    int error = pool_open(&mount->pool, mount->options.socket, mount->options.connections, RESERVED);
+    if (error != 0) {
+        fprintf(stderr, "fltmount: %s: %s\n", mount->options.socket, strerror(error));
+        return OUT_OF_REACH;
+    }
+    nodes_open(&mount->nodes);
+    gates_open(&mount->gates);
+    mount->session = fuse_session_new(words, &operations, sizeof operations, mount);
+    int status = mount->session ? serve(mount, line) : WRONG_WORDS;
+    pool_close(&mount->pool);
+    files_free(&mount->nodes);
+    nodes_close(&mount->nodes);
+    gates_close(&mount->gates);
+    if (mount->session)
+        fuse_session_destroy(mount->session);
+    return status;
+}
+
+static int mount_with(Mount *mount, struct fuse_args *words)
+{
+    struct fuse_cmdline_opts line = {0};
+    if (!options_read(words, &mount->options) || fuse_parse_cmdline(words, &line) != 0)
+        return WRONG_WORDS;
+    int status = WRONG_WORDS;
+    if (line.show_help || !line.mountpoint)
+        options_usage();
+    else if (fuse_opt_add_arg(words, "-omax_read=32768,subtype=kazdrin") == 0)
+        status = serve_with_pool(mount, words, &line);
+    free(line.mountpoint);
+    return status;
+}
+
+int main(int count, char **texts)
+{
+    static Mount mount;
+    struct fuse_args words = FUSE_ARGS_INIT(count, texts);
+    int status = mount_with(&mount, &words);
+    fuse_opt_free_args(&words);
+    free(mount.options.socket);
+    free(mount.options.folders);
+    return status;
+}

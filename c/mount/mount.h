@@ -1,0 +1,31 @@
+/* The mount: what its modules share. */
+#ifndef KZ_MOUNT_MOUNT_H
+#define KZ_MOUNT_MOUNT_H
+
+#include "gate.h"
+#include "nodes.h"
+#include "pool.h"
+
+#define FUSE_USE_VERSION 312
+#include <fuse_lowlevel.h>
+
+/* As -o says them. */
+typedef struct {
+    char *socket;
+    unsigned connections, volume, mode;
+    int is_cached, has_copyrename, has_memtimes;
+    double attr; /* seconds that names and attributes are kept by the kernel */
+    char *folders;
+} Options;
+
+/* Only the pool, the nodes and the gates change once it is mounted; each has its own mutex. */
+typedef struct {
+    Options options;
+    Pool pool;
+    Nodes nodes;
+    Gates gates;
+    struct fuse_session *session;
+} Mount;
+
+
+#endif

@@ -1,0 +1,227 @@
+#include "names.h"
+
+#include "attributes.h"
+#include "files.h"
+#include "path.h"
+#include "status.h"
+
+#include <errno.h>
+
+int path_of(Mount *mount, fuse_ino_t folder, const char *name, char path[LONGEST_PATH + 1])
+{
+    Look look = look_at(mount, folder);
+    return look.is_folder ? path_join(path, look.path, name) : ENOTDIR;
+}
+
+int open_path(Call *call, const char *path, bool is_home)
+{
+    int error = call_take(call, (Want){.may_be_reserved = !is_home});
+    return error != 0 ? error : call_open(call, path, CREATE_EXISTING);
+}
+
+/* The node is found while no deletion of the name can come between. */
+static int look_up(Call *call, const char *path, Node **node, uint64_t *size)
+{
+    bool is_folder = path_is_in(call->mount->options.folders, path);
+    int error = is_folder ? 0 : open_path(call, path, false);
+    if (error == 0 && !is_folder)
+        error = call_measure(call, call->handle, size);
+    if (error == ENOENT)
+        nodes_missed(&call->mount->nodes, path);
+    if (error != 0)
+        return error;
+    *node = nodes_found(&call->mount->nodes, path, is_folder);
+    return *node ? 0 : ENOMEM;
+}
+
+void name_look_up(fuse_req_t request, fuse_ino_t folder, const char *name)
+{
+    Call call = call_of(request);
+    char path[LONGEST_PATH + 1];
+    Node *node = NULL;
+    uint64_t size = 0;
+    int error = path_of(call.mount, folder, name, path);
+    error = error == EINVAL ? ENOENT : error != 0 ? error : look_up(&call, path, &node, &size);
+    call_end(&call);
+    if (error != 0) {
+        fuse_reply_err(request, error);
+        return;
+    }
+    Look look = nodes_look(&call.mount->nodes, node);
+    struct fuse_entry_param entry = entry_of(call.mount, node, &look, size);
+    if (fuse_reply_entry(request, &entry) == -ENOENT)
+        nodes_forget(&call.mount->nodes, node, 1);
+}
+
+void name_forget(fuse_req_t request, fuse_ino_t number, uint64_t lookups)
+{
+    Mount *mount = fuse_req_userdata(request);
+    if (number != FUSE_ROOT_ID)
+        nodes_forget(&mount->nodes, node_at(number), lookups);
+    fuse_reply_none(request);
+}
+
+void name_forget_all(fuse_req_t request, size_t count, struct fuse_forget_data *forgets)
+{
+    Mount *mount = fuse_req_userdata(request);
+    for (size_t at = 0; at < count; at++)
+        if (forgets[at].ino != FUSE_ROOT_ID)
+            nodes_forget(&mount->nodes, node_at(forgets[at].ino), forgets[at].nlookup);
+    fuse_reply_none(request);
+}
+
+/* Sets a new size, where there is one, and asks for the size. */
+static int size_by(Call *call, uint64_t handle, const uint64_t *wanted, uint64_t *size)
+{
+    Reply reply;
+    int error = wanted ? call_do(call, request_set_size(handle, *wanted), &reply) : 0;
+    return error != 0 ? error : call_measure(call, handle, size);
+}
+
+static int size_by_file(Call *call, File *file, const uint64_t *wanted, uint64_t *size)
+{
+    uint64_t handle;
+    int error = file_reach(call, file, true, &handle);
+    if (error == 0)
+        error = size_by(call, handle, wanted, size);
+    file_done(call, file);
+    return error;
+}
+
+static int size_by_path(Call *call, const char *path, const uint64_t *wanted, uint64_t *size)
+{
+    int error = open_path(call, path, false);
+    if (error == 0)
+        error = size_by(call, call->handle, wanted, size);
+    call_end(call);
+    return error;
+}
+
+/* By the open file that the kernel names, else by any of a deleted one, else by the name. */
+static int size_of(Call *call, fuse_ino_t number, const Look *look, const struct fuse_file_info *info, const uint64_t *wanted, uint64_t *size)
+{
+    if (info)
+        return size_by_file(call, (File *)(uintptr_t)info->fh, wanted, size);
+    if (!look->is_deleted)
+        return size_by_path(call, look->path, wanted, size);
+    File *file = file_lend(call->mount, node_at(number));
+    if (!file)
+        return ESTALE;
+    int error = size_by_file(call, file, wanted, size);
+    file_leave(file);
+    return error;
+}
+
+/* Answers a call with the attributes, and sets the size before where one is wanted. */
+static void answer(fuse_req_t request, fuse_ino_t number, const struct fuse_file_info *info, const uint64_t *wanted)
+{
+    Call call = call_of(request);
+    Look look = look_at(call.mount, number);
+    uint64_t size = 0;
+    int error = look.is_folder ? 0 : size_of(&call, number, &look, info, wanted, &size);
+    if (error != 0) {
+        fuse_reply_err(request, error);
+        return;
+    }
+    if (wanted)
+        nodes_changed(&call.mount->nodes, node_at(number));
+    look = look_at(call.mount, number);
+    struct stat attributes = attributes_of(call.mount, &look, size);
+    fuse_reply_attr(request, &attributes, call.mount->options.attr);
+}
+
+void name_get_attributes(fuse_req_t request, fuse_ino_t number, struct fuse_file_info *info)
+{
+    answer(request, number, info, NULL);
+}
+
+#define GIVEN_TIMES (FUSE_SET_ATTR_ATIME | FUSE_SET_ATTR_MTIME)
+
+/* What the protocol has no word for is refused, unless it is so already. The kernel says `now` beside the time. */
+static int refusal(Mount *mount, const Look *look, const struct stat *wanted, int which)
+{
+    struct stat is = attributes_of(mount, look, 0);
+    bool is_read_given = (which & FUSE_SET_ATTR_ATIME) && !(which & FUSE_SET_ATTR_ATIME_NOW);
+    bool is_changed_given = (which & FUSE_SET_ATTR_MTIME) && !(which & FUSE_SET_ATTR_MTIME_NOW);
+    if ((which & FUSE_SET_ATTR_MODE) && (wanted->st_mode & 07777) != (is.st_mode & 07777))
+        return EPERM;
+    if ((which & FUSE_SET_ATTR_UID) && wanted->st_uid != is.st_uid)
+        return EPERM;
+    if ((which & FUSE_SET_ATTR_GID) && wanted->st_gid != is.st_gid)
+        return EPERM;
+    if ((is_read_given || is_changed_given) && !mount->options.has_memtimes)
+        return EPERM;
+    if ((which & FUSE_SET_ATTR_SIZE) && look->is_folder)
+        return EISDIR;
+    return (which & FUSE_SET_ATTR_SIZE) && (uint64_t)wanted->st_size > LARGEST_FILE ? EFBIG : 0;
+}
+
+static void keep_times(Mount *mount, Node *node, const struct stat *wanted, int which)
+{
+    struct timespec now;
+    clock_gettime(CLOCK_REALTIME, &now);
+    const struct timespec *read = which & FUSE_SET_ATTR_ATIME_NOW ? &now : which & FUSE_SET_ATTR_ATIME ? &wanted->st_atim : NULL;
+    const struct timespec *changed = which & FUSE_SET_ATTR_MTIME_NOW ? &now : which & FUSE_SET_ATTR_MTIME ? &wanted->st_mtim : NULL;
+    if (node)
+        nodes_set_times(&mount->nodes, node, read, changed);
+}
+
+void name_set_attributes(fuse_req_t request, fuse_ino_t number, struct stat *wanted, int which, struct fuse_file_info *info)
+{
+    Mount *mount = fuse_req_userdata(request);
+    Look look = look_at(mount, number);
+    uint64_t size = (uint64_t)wanted->st_size;
+    int error = refusal(mount, &look, wanted, which);
+    if (error != 0) {
+        fuse_reply_err(request, error);
+        return;
+    }
+    if (which & GIVEN_TIMES)
+        keep_times(mount, node_at(number), wanted, which);
+    answer(request, number, info, which & FUSE_SET_ATTR_SIZE ? &size : NULL);
+}
+
+/* From the mark on the name is hidden here, if the file is open, and else not there: the close below deletes it, or the last one of the open files does. */
+int delete_path(Call *call, const char *path, const char *moved_to)
+{
+    Reply reply;
+    Nodes *nodes = &call->mount->nodes;
+    int error = nodes_is_hidden(nodes, path) ? ENOENT : 0;
+    if (error == 0)
+        error = call_ask(call, request_create((uint8_t)call->mount->options.volume, CREATE_EXISTING, path), &reply);
+    if (error == 0)
+        error = errno_of_look(reply.status);
+    if (error != 0)
+        return error;
+    call->has_handle = true;
+    call->handle = reply.information;
+    error = call_do(call, request_handle(FRAME_SET_DELETE, call->handle), &reply);
+    if (error != 0)
+        return error;
+    if (moved_to)
+        nodes_rename(nodes, path, moved_to);
+    else
+        nodes_delete(nodes, path);
+    call->has_handle = false;
+    return call_do(call, request_handle(FRAME_CLOSE, call->handle), &reply);
+}
+
+static int unlink_path(Call *call, const char *path)
+{
+    int error = call_take(call, (Want){.may_be_reserved = true});
+    if (error == 0)
+        error = call_enter(call, path, ALONE);
+    return error != 0 ? error : delete_path(call, path, NULL);
+}
+
+void name_unlink(fuse_req_t request, fuse_ino_t folder, const char *name)
+{
+    Call call = call_of(request);
+    char path[LONGEST_PATH + 1];
+    int error = path_of(call.mount, folder, name, path);
+    if (error == 0 && path_is_in(call.mount->options.folders, path))
+        error = EISDIR;
+    error = error == EINVAL ? ENOENT : error != 0 ? error : unlink_path(&call, path);
+    call_end(&call);
+    fuse_reply_err(request, error);
+}

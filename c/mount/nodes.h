@@ -1,0 +1,68 @@
+/* The names that the kernel knows, and deleted files that are still open. */
+#ifndef KZ_MOUNT_NODES_H
+#define KZ_MOUNT_NODES_H
+
+#include "request.h"
+#include "wait.h"
+
+#include <sys/stat.h>
+
+typedef struct File File;
+
+/* A file or a folder. Its fields are the nodes' mutex's; its number for the kernel is its address. */
+typedef struct Node {
+    struct Node *next;
+    char *path;
+    uint64_t lookups; /* the kernel's */
+    unsigned holds;   /* open files, and calls that look at it */
+    bool is_folder, is_deleted;
+    bool has_times; /* as long as the mount: it isn't forgotten with the last look-up */
+    struct timespec changed, read;
+    File *files; /* the open ones */
+} Node;
+
+#define CHAINS 4096
+
+/* All threads share them, under the mutex. */
+typedef struct {
+    pthread_mutex_t mutex;
+    pthread_cond_t gone; /* a deleted file was closed for the last time */
+    Node *chains[CHAINS];
+    unsigned hidden; /* nodes of deleted files */
+    struct timespec begun;
+} Nodes;
+
+/* A node as it was at one moment. */
+typedef struct {
+    char path[LONGEST_PATH + 1];
+    bool is_folder, is_deleted;
+    struct timespec changed, read;
+} Look;
+
+void nodes_open(Nodes *nodes);
+/* The node of a name that was found; the kernel looks it up once more. NULL: no memory. */
+Node *nodes_found(Nodes *nodes, const char *path, bool is_folder);
+void nodes_forget(Nodes *nodes, Node *node, uint64_t lookups);
+Look nodes_look(Nodes *nodes, Node *node);
+/* Whether the node still is the one of that name. */
+bool nodes_is(Nodes *nodes, Node *node, const char *path);
+/* A deleted file of that name is still open: the server refuses the name, and says no more of it. */
+bool nodes_is_hidden(Nodes *nodes, const char *path);
+/* All such names, a line's end before and behind each; NULL: no memory. */
+char *nodes_hidden(Nodes *nodes);
+/* Waits until it isn't, so long at most. */
+bool nodes_wait_hidden(Nodes *nodes, const char *path, long milliseconds);
+/* The name was deleted. Whether the file is still open. */
+bool nodes_delete(Nodes *nodes, const char *path);
+bool nodes_is_open(Nodes *nodes, const char *path);
+/* What had the one name has the other from now on; for want of memory it counts as deleted. */
+void nodes_rename(Nodes *nodes, const char *path, const char *to);
+/* The name isn't there any more: the times that were kept of it go. */
+void nodes_missed(Nodes *nodes, const char *path);
+void nodes_changed(Nodes *nodes, Node *node);
+void nodes_set_times(Nodes *nodes, Node *node, const struct timespec *read, const struct timespec *changed);
+void nodes_hold(Nodes *nodes, Node *node);
+void nodes_let_go(Nodes *nodes, Node *node);
+void nodes_close(Nodes *nodes);
+
+#endif

@@ -1,0 +1,15 @@
+/* Paths as the server takes them. */
+#ifndef KZ_MOUNT_PATH_H
+#define KZ_MOUNT_PATH_H
+
+#include "request.h"
+
+#include <stdbool.h>
+
+uint64_t hash_of(const char *path);
+/* The path of a name in a folder, whose path is empty for the root: 0, ENAMETOOLONG, or EINVAL where the server takes no such letter. */
+int path_join(char room[LONGEST_PATH + 1], const char *folder, const char *name);
+/* Whether a list `a:b:b/c` has the path. */
+bool path_is_in(const char *list, const char *path);
+
+#endif

@@ -1,0 +1,58 @@
+/* The connections of a mount. Each has one request at a time, and is used by whoever took it. Some are no file's home, so that look-ups pass where every home waits. */
+#ifndef KZ_MOUNT_POOL_H
+#define KZ_MOUNT_POOL_H
+
+#include "connection.h"
+
+typedef struct Line Line;
+
+/* What is done on a line once it is free, by whoever gives it back. */
+typedef struct Errand {
+    struct Errand *next;
+    void (*run)(struct Errand *errand, Line *line);
+} Errand;
+
+/* A connection in the pool. All but the connection itself is the pool's mutex's. */
+struct Line {
+    Connection connection;
+    bool is_busy, is_reserved;
+    unsigned generation; /* how often it was lost: a handle is of one generation */
+    unsigned files;      /* whose home it is */
+    Errand *errands;
+};
+
+/* All threads share it, under its mutex. */
+typedef struct {
+    pthread_mutex_t mutex;
+    pthread_cond_t freed;
+    Line *lines;
+    unsigned count;
+    unsigned settling; /* threads that wait for replies which nobody wants any more */
+    const char *path;
+    Server server;
+} Pool;
+
+/* What is wanted: a home, for a while or alone; or any line, or one that may be a home. */
+typedef struct {
+    Line *home;
+    unsigned generation;
+    bool is_home_alone, may_be_reserved;
+} Want;
+
+/* Dials all connections: 0, or the errno of the first that failed. */
+int pool_open(Pool *pool, const char *path, unsigned count, unsigned reserved);
+/* 0; ENOTCONN where the server is gone, EIO where the home is, EINTR where nobody wants it any more */
+int pool_take(Pool *pool, Want want, IsUnwanted is_unwanted, void *whom, Line **line);
+void pool_give(Pool *pool, Line *line);
+/* Runs it on the line: now where that is free, else once it is. */
+void pool_send(Pool *pool, Line *line, Errand *errand);
+/* The line's connection failed: dials anew where the server is still there. Whoever has the line still has to give it back. */
+void pool_lost(Pool *pool, Line *line);
+void pool_count_file(Pool *pool, Line *line, unsigned generation, bool is_one_more);
+unsigned pool_generation(Pool *pool, Line *line);
+/* A thread that settles has begun, or has ended. */
+void pool_settle(Pool *pool, bool is_begin);
+/* Ends all connections, waits for the threads that settle, and frees all. */
+void pool_close(Pool *pool);
+
+#endif

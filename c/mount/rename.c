@@ -1,0 +1,124 @@
+/* Renames by a copy, which are asked for by -o copyrename. A file that is open keeps its name: EXDEV. What is there under the new name is overwritten; a crash between leaves both.
+ * Nobody interrupts it, for then too little would have been copied. */
+#include "rename.h"
+
+#include "names.h"
+#include "path.h"
+#include "status.h"
+
+#include <errno.h>
+#include <stdlib.h>
+#include <string.h>
+#include <unistd.h>
+
+/* So often, and so many milliseconds apart, it is looked whether the last close came meanwhile. */
+#define LOOKS 20
+#define PAUSE_MILLISECONDS 10
+
+static bool is_open(Nodes *nodes, const char *path)
+{
+    bool is_so = nodes_is_open(nodes, path);
+    for (unsigned look = 0; is_so && look < LOOKS; look++) {
+        usleep(PAUSE_MILLISECONDS * 1000);
+        is_so = nodes_is_open(nodes, path);
+    }
+    return is_so;
+}
+
+/* One piece: how many bytes, 0 at the end, or an errno below 0. */
+static int copy_piece(Call *call, uint64_t from, uint64_t to, uint64_t offset)
+{
+    uint8_t piece[LONGEST_TRANSFER];
+    Reply reply;
+    int error = call_ask(call, request_read(from, offset, sizeof piece), &reply);
+    if (error != 0)
+        return -error;
+    if (reply.status == STATUS_END_OF_FILE || (reply.status == STATUS_SUCCESS && reply.length == 0))
+        return 0;
+    if (reply.status != STATUS_SUCCESS || reply.length > sizeof piece)
+        return -(reply.status != STATUS_SUCCESS ? errno_of(reply.status) : EPROTO);
+    size_t length = reply.length;
+    memcpy(piece, reply.bytes, length);
+    error = call_do(call, request_write(to, offset, piece, length), &reply);
+    if (error != 0)
+        return -error;
+    return reply.information == length ? (int)length : -EIO;
+}
+
+static int copy_bytes(Call *call, uint64_t from, uint64_t to)
+{
+    Reply reply;
+    uint64_t offset = 0;
+    int count = 0, error = call_do(call, request_set_size(to, 0), &reply);
+    while (error == 0 && (count = copy_piece(call, from, to, offset)) > 0)
+        offset += (uint64_t)count;
+    if (error == 0 && count == 0)
+        error = call_do(call, request_handle(FRAME_FLUSH, to), &reply);
+    return error != 0 ? error : -count;
+}
+
+/* Both handles are the line's. */
+static int copy(Call *call, const char *path, const char *to, bool is_new)
+{
+    Reply reply;
+    uint8_t volume = (uint8_t)call->mount->options.volume;
+    int error = call_ask(call, request_create(volume, CREATE_EXISTING, path), &reply);
+    error = error != 0 ? error : errno_of_look(reply.status);
+    if (error != 0)
+        return error;
+    call->has_handle = true;
+    call->handle = reply.information;
+    error = call_do(call, request_create(volume, is_new ? CREATE_NEW : CREATE_ALWAYS, to), &reply);
+    if (error != 0)
+        return error;
+    uint64_t copied = reply.information;
+    error = copy_bytes(call, call->handle, copied);
+    bool is_lost = !call->has_handle;
+    call->has_handle = false;
+    if (!is_lost)
+        call_ask(call, request_handle(FRAME_CLOSE, copied), &reply);
+    if (!is_lost)
+        call_ask(call, request_handle(FRAME_CLOSE, call->handle), &reply);
+    return error;
+}
+
+/* Alone at both gates, which are entered in the order of their numbers. */
+static int rename_path(Call *call, const char *path, const char *to, bool is_new)
+{
+    Mount *mount = call->mount;
+    Call other = call_on(mount, NULL);
+    const char *first = gate_of(path) < gate_of(to) ? path : to, *second = first == path ? to : path;
+    int error = call_take(call, (Want){0});
+    if (error == 0)
+        error = call_enter(call, first, ALONE);
+    if (error == 0 && gate_of(first) != gate_of(second))
+        error = call_enter(&other, second, ALONE);
+    if (error == 0 && (nodes_is_open(&mount->nodes, path) || nodes_is_open(&mount->nodes, to) || nodes_is_hidden(&mount->nodes, to)))
+        error = EXDEV;
+    if (error == 0)
+        error = copy(call, path, to, is_new);
+    if (error == 0)
+        error = delete_path(call, path, to);
+    call_leave(&other);
+    return error;
+}
+
+void name_rename(fuse_req_t request, fuse_ino_t folder, const char *name, fuse_ino_t to_folder, const char *to, unsigned flags)
+{
+    Call call = call_on(fuse_req_userdata(request), NULL);
+    char path[LONGEST_PATH + 1], to_path[LONGEST_PATH + 1];
+    bool is_new = flags == 1; /* RENAME_NOREPLACE */
+    int error = path_of(call.mount, folder, name, path);
+    if (error == 0)
+        error = path_of(call.mount, to_folder, to, to_path);
+    if (error == 0 && (!call.mount->options.has_copyrename || path_is_in(call.mount->options.folders, path)))
+        error = EXDEV;
+    if (error == 0 && flags > 1)
+        error = EINVAL;
+    if (error == 0 && (is_open(&call.mount->nodes, path) || is_open(&call.mount->nodes, to_path)))
+        error = EXDEV;
+    if (error == 0 && strcmp(path, to_path) != 0)
+        error = rename_path(&call, path, to_path, is_new);
+    call_end(&call);
+    fuse_reply_err(request, error);
+}

@@ -12,6 +12,9 @@
 #include <sys/un.h>
 #include <unistd.h>
 
+/* Ticks that the first reply may take. */
+#define GREETING_TICKS 50
+
 /* A server that was started anew at the same socket has no filters attached: what is written to it would lie below in plain. So only the process that was known is dialed. */
 static int look_at_server(int socket, Server *server)
 {
@@ -128,6 +131,20 @@ int connection_receive(Connection *connection, Reply *reply)
         if (connection->received == whole(connection))
             return read_reply(connection, reply);
     }
+}
+
+int connection_greet(Connection *connection)
+{
+    Request request = request_handle(FRAME_QUERY_SIZE, UINT64_MAX);
+    Reply reply;
+    int error = connection_send(connection, &request);
+    for (unsigned tick = 0; error == 0 || (error == EAGAIN && tick < GREETING_TICKS); tick++) {
+        error = connection_receive(connection, &reply);
+        if (error == 0)
+            return 0;
+    }
+    connection_close(connection);
+    return error == EAGAIN ? ETIMEDOUT : error == EPROTO ? EPROTO : ECONNREFUSED;
 }
 
 /* An idle connection has nothing to receive: what comes is its end. */

@@ -22,6 +22,8 @@ typedef struct {
 
 /* Each answers 0 or an errno. */
 int connection_dial(Connection *connection, const char *path, Server *server);
+/* One request and its reply: so a server that takes no more connections is seen, and what is none. */
+int connection_greet(Connection *connection);
 /* ENOTCONN: the server is gone */
 int connection_send(Connection *connection, const Request *request);
 /* EAGAIN: nothing came for a tick; EIO: the server is gone; EPROTO: what came is no reply */

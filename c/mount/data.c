@@ -38,14 +38,23 @@ static void answer_read(Call *call, File *file, const Reply *reply)
     fuse_reply_buf(request, (const char *)copy, reply->length);
 }
 
+/* No request may go past the largest file. */
+static size_t fitting(size_t size, uint64_t offset)
+{
+    size_t most = size > LONGEST_TRANSFER ? LONGEST_TRANSFER : size;
+    if (offset >= LARGEST_FILE)
+        return 0;
+    return most > LARGEST_FILE - offset ? (size_t)(LARGEST_FILE - offset) : most;
+}
+
 void data_read(fuse_req_t request, fuse_ino_t number, size_t size, off_t offset, struct fuse_file_info *info)
 {
     Call call = call_of(request);
     Reply reply = {0};
     uint64_t handle;
     (void)number;
-    size = size > LONGEST_TRANSFER ? LONGEST_TRANSFER : size;
-    if ((uint64_t)offset >= LARGEST_FILE) {
+    size = fitting(size, (uint64_t)offset);
+    if (size == 0) {
         fuse_reply_buf(request, NULL, 0);
         return;
     }

@@ -10,8 +10,9 @@
 #include <stdlib.h>
 #include <string.h>
 
-/* What an open folder showed last: entries in the kernel's own form. It is read anew from the beginning. Threads that read one open folder take turns in the kernel. */
+/* What an open folder showed last: entries in the kernel's own form. It is read anew from the beginning. The mutex is its own. */
 typedef struct {
+    pthread_mutex_t mutex;
     char *entries;
     size_t length, size;
 } Listing;
@@ -122,6 +123,16 @@ static int list(fuse_req_t request, fuse_ino_t number, Listing *listing)
     return error == 0 && look.path[0] == '\0' ? add_files(request, listing) : error;
 }
 
+/* Whoever still reads it has the mutex. */
+static void free_listing(Listing *listing)
+{
+    pthread_mutex_lock(&listing->mutex);
+    pthread_mutex_unlock(&listing->mutex);
+    pthread_mutex_destroy(&listing->mutex);
+    free(listing->entries);
+    free(listing);
+}
+
 void folder_open(fuse_req_t request, fuse_ino_t number, struct fuse_file_info *info)
 {
     (void)number;
@@ -130,9 +141,10 @@ void folder_open(fuse_req_t request, fuse_ino_t number, struct fuse_file_info *i
         fuse_reply_err(request, ENOMEM);
         return;
     }
+    pthread_mutex_init(&listing->mutex, NULL);
     info->fh = (uint64_t)(uintptr_t)listing;
     if (fuse_reply_open(request, info) == -ENOENT)
-        free(listing);
+        free_listing(listing);
 }
 
 /* As many whole entries as fit: an entry's offset is where the next one begins. */
@@ -151,6 +163,7 @@ static size_t fitting(const Listing *listing, size_t from, size_t size)
 void folder_read(fuse_req_t request, fuse_ino_t number, size_t size, off_t offset, struct fuse_file_info *info)
 {
     Listing *listing = listing_of(info);
+    pthread_mutex_lock(&listing->mutex);
     int error = offset == 0 ? list(request, number, listing) : 0;
     if (error != 0)
         fuse_reply_err(request, error);
@@ -158,12 +171,12 @@ void folder_read(fuse_req_t request, fuse_ino_t number, size_t size, off_t offse
         fuse_reply_buf(request, NULL, 0);
     else
         fuse_reply_buf(request, listing->entries + offset, fitting(listing, (size_t)offset, size));
+    pthread_mutex_unlock(&listing->mutex);
 }
 
 void folder_release(fuse_req_t request, fuse_ino_t number, struct fuse_file_info *info)
 {
     (void)number;
-    free(listing_of(info)->entries);
-    free(listing_of(info));
+    free_listing(listing_of(info));
     fuse_reply_err(request, 0);
 }

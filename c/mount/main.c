@@ -100,14 +100,19 @@ static int serve_with_pool(Mount *mount, struct fuse_args *words, const struct f
     return status;
 }
 
+static bool is_help(int count, char **texts)
+{
+    return count == 2 && (strcmp(texts[1], "-h") == 0 || strcmp(texts[1], "--help") == 0);
+}
+
 static int mount_with(Mount *mount, struct fuse_args *words)
 {
     struct fuse_cmdline_opts line = {0};
     if (!options_read(words, &mount->options) || fuse_parse_cmdline(words, &line) != 0)
         return WRONG_WORDS;
     int status = WRONG_WORDS;
-    if (line.show_help || !line.mountpoint)
-        options_usage();
+    if (!line.mountpoint)
+        options_usage(stderr);
     else if (fuse_opt_add_arg(words, "-omax_read=32768,subtype=kazdrin") == 0)
         status = serve_with_pool(mount, words, &line);
     free(line.mountpoint);
@@ -116,6 +121,10 @@ static int mount_with(Mount *mount, struct fuse_args *words)
 
 int main(int count, char **texts)
 {
+    if (is_help(count, texts)) {
+        options_usage(stdout);
+        return ENDED;
+    }
     static Mount mount;
     struct fuse_args words = FUSE_ARGS_INIT(count, texts);
     int status = mount_with(&mount, &words);

@@ -23,7 +23,7 @@ static const struct fuse_opt known[] = {
     FUSE_OPT_END,
 };
 
-void options_usage(void)
+void options_usage(FILE *to)
 {
     fputs("usage: fltmount SOCKET MOUNTPOINT [-f] [-o OPTION[,OPTION]..]\n"
           "\n"
@@ -38,7 +38,7 @@ void options_usage(void)
           "  connections=N    so many connections with the server, 4 to 31 (16)\n"
           "  volume=V         the volume (0)\n"
           "  allow_other, ro and others as for any FUSE mount\n",
-          stderr);
+          to);
 }
 
 /* The first word is the socket; the others are libfuse's. */
@@ -73,7 +73,7 @@ bool options_read(struct fuse_args *words, Options *options)
     if (fuse_opt_parse(words, options, known, take_word) != 0)
         return false;
     if (!options->socket) {
-        options_usage();
+        options_usage(stderr);
         return false;
     }
     if (!is_in_range(options))

@@ -4,8 +4,10 @@
 
 #include "mount.h"
 
+#include <stdio.h>
+
 /* The options, and in `words` what is left for libfuse. False: they are wrong, and it was said why. */
 bool options_read(struct fuse_args *words, Options *options);
-void options_usage(void);
+void options_usage(FILE *to);
 
 #endif

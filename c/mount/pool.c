@@ -23,19 +23,28 @@ static bool is_gone(const Line *line)
     return line->connection.socket == -1;
 }
 
-static int dial_all(Pool *pool, unsigned reserved)
+static void lay_out(Pool *pool, unsigned reserved)
 {
     for (unsigned at = 0; at < pool->count; at++) {
-        Line *line = &pool->lines[at];
-        line->connection.socket = -1;
-        line->is_reserved = at >= pool->count - reserved;
+        pool->lines[at].connection.socket = -1;
+        pool->lines[at].is_reserved = at >= pool->count - reserved;
     }
-    for (unsigned at = 0; at < pool->count; at++) {
-        int error = connection_dial(&pool->lines[at].connection, pool->path, &pool->server);
-        if (error != 0)
-            return error;
-    }
-    return 0;
+}
+
+static int dial_all(Pool *pool)
+{
+    int error = 0;
+    for (unsigned at = 0; at < pool->count && error == 0; at++)
+        error = connection_dial(&pool->lines[at].connection, pool->path, &pool->server);
+    return error;
+}
+
+static int greet_all(Pool *pool)
+{
+    int error = 0;
+    for (unsigned at = 0; at < pool->count && error == 0; at++)
+        error = connection_greet(&pool->lines[at].connection);
+    return error;
 }
 
 int pool_open(Pool *pool, const char *path, unsigned count, unsigned reserved)
@@ -45,7 +54,10 @@ int pool_open(Pool *pool, const char *path, unsigned count, unsigned reserved)
         return ENOMEM;
     pthread_mutex_init(&pool->mutex, NULL);
     condition_open(&pool->freed);
-    int error = dial_all(pool, reserved);
+    lay_out(pool, reserved);
+    int error = dial_all(pool);
+    if (error == 0)
+        error = greet_all(pool);
     if (error != 0)
         pool_close(pool);
     return error;
@@ -147,29 +159,43 @@ void pool_send(Pool *pool, Line *line, Errand *errand)
         pool_give(pool, line);
 }
 
+static void hang_up(Line *line)
+{
+    connection_close(&line->connection);
+    line->generation++;
+    line->files = 0;
+}
+
 /* The others are looked at, so that whoever comes next needn't wait for an answer that can't come. */
 static void look_at_others(Pool *pool)
 {
-    for (unsigned at = 0; at < pool->count; at++) {
-        Line *line = &pool->lines[at];
-        if (is_free(line) && !connection_is_alive(&line->connection)) {
-            connection_close(&line->connection);
-            line->generation++;
-            line->files = 0;
-        }
-    }
+    for (unsigned at = 0; at < pool->count; at++)
+        if (is_free(&pool->lines[at]) && !connection_is_alive(&pool->lines[at].connection))
+            hang_up(&pool->lines[at]);
     pthread_cond_broadcast(&pool->freed);
+}
+
+/* No lock is held while the server is dialed. */
+static void dial_anew(Pool *pool, Line *line)
+{
+    Connection fresh = {.number = line->connection.number};
+    if (connection_dial(&fresh, pool->path, &pool->server) != 0 || connection_greet(&fresh) != 0)
+        return;
+    lock(pool);
+    line->connection.socket = fresh.socket;
+    line->connection.number = fresh.number;
+    unlock(pool);
 }
 
 void pool_lost(Pool *pool, Line *line)
 {
     lock(pool);
-    connection_close(&line->connection);
-    line->generation++;
-    line->files = 0;
-    connection_dial(&line->connection, pool->path, &pool->server);
+    hang_up(line);
     look_at_others(pool);
+    bool is_ending = pool->is_ending;
     unlock(pool);
+    if (!is_ending)
+        dial_anew(pool, line);
 }
 
 void pool_count_file(Pool *pool, Line *line, unsigned generation, bool is_one_more)
@@ -196,7 +222,7 @@ void pool_settle(Pool *pool, bool is_begin)
     unlock(pool);
 }
 
-static void hang_up(Pool *pool)
+static void shut_down(Pool *pool)
 {
     for (unsigned at = 0; at < pool->count; at++)
         if (!is_gone(&pool->lines[at]))
@@ -206,13 +232,14 @@ static void hang_up(Pool *pool)
 void pool_close(Pool *pool)
 {
     lock(pool);
-    server_forget(&pool->server);
-    hang_up(pool);
+    pool->is_ending = true;
+    shut_down(pool);
     while (pool->settling > 0)
         pthread_cond_wait(&pool->freed, &pool->mutex);
     unlock(pool);
     for (unsigned at = 0; at < pool->count; at++)
         connection_close(&pool->lines[at].connection);
+    server_forget(&pool->server);
     pthread_cond_destroy(&pool->freed);
     pthread_mutex_destroy(&pool->mutex);
     free(pool->lines);

@@ -28,8 +28,9 @@ typedef struct {
     Line *lines;
     unsigned count;
     unsigned settling; /* threads that wait for replies which nobody wants any more */
+    bool is_ending;
     const char *path;
-    Server server;
+    Server server; /* as it was at the start */
 } Pool;
 
 /* What is wanted: a home, for a while or alone; or any line, or one that may be a home. */

@@ -1,0 +1,33 @@
+#!/usr/bin/env python3
+"""Tests of the mount: check.py --server FLTD --mount FLTMOUNT [PART ..]. The last line is 'N passed, M failed'."""
+import argparse
+import importlib
+import shlex
+import sys
+import time
+
+from ground import Tally
+
+PARTS = "calls model deletions held ends programs".split()
+
+
+def main():
+    """The program: its exit status."""
+    parser = argparse.ArgumentParser(description=__doc__)
+    parser.add_argument("--server", required=True)
+    parser.add_argument("--mount", required=True, type=shlex.split)
+    parser.add_argument("--count", type=int, default=1500, help="random operations")
+    parser.add_argument("--seed", type=int)
+    parser.add_argument("parts", nargs="*")
+    tools = parser.parse_args()
+    tally = Tally()
+    for part in tools.parts or PARTS:
+        begun = time.monotonic()
+        importlib.import_module(part).run(tally, tools)
+        print(f"mount: {part}: {time.monotonic() - begun:.0f} s", flush=True)
+    print(f"mount: {tally.passed} passed, {tally.failed} failed")
+    return 1 if tally.failed else 0
+
+
+if __name__ == "__main__":
+    sys.exit(main())

@@ -1,0 +1,57 @@
+"""Deletions of a name, while others look at it: none may be lost, and no old bytes come back."""
+import errno
+import os
+import threading
+import time
+
+from ground import Ground
+
+COUNT = 1000
+LOOKERS = 3
+CREATE = os.O_RDWR | os.O_CREAT | os.O_EXCL
+
+
+def look(path, over, seen):
+    """Looks at the name, and opens it, until it is over."""
+    while not over.is_set():
+        try:
+            os.stat(path)
+            os.close(os.open(path, os.O_RDONLY))
+            seen.append(1)
+        except OSError:
+            pass
+
+
+def delete(path, number):
+    """Makes the file, writes it, and deletes it while it is open: the errno of what failed, or 0."""
+    try:
+        file = os.open(path, CREATE)
+    except OSError as error:
+        return error.errno
+    try:
+        os.write(file, b"%d" % number)
+        os.unlink(path)
+    except OSError as error:
+        return error.errno
+    finally:
+        os.close(file)
+    return 0
+
+
+def run(tally, tools):
+    """Many deletions beside three who look."""
+    with Ground(tally, tools) as ground:
+        path = ground.at("victim")
+        over = threading.Event()
+        seen = []
+        lookers = [threading.Thread(target=look, args=(path, over, seen)) for _ in range(LOOKERS)]
+        for looker in lookers:
+            looker.start()
+        outcomes = [delete(path, number) for number in range(COUNT)]
+        over.set()
+        for looker in lookers:
+            looker.join()
+        bad = {errno.errorcode[outcome]: outcomes.count(outcome) for outcome in set(outcomes) if outcome}
+        tally.note("deletions that failed or came back", bad, {})
+        time.sleep(0.2)
+        tally.note("what is there at the end", (os.listdir(ground.mount), os.listdir(ground.host)), ([], []))

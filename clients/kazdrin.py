@@ -22,9 +22,14 @@ than 0 is a reply as well, and no error. What can go wrong beside that is one of
     NoRequest     the request can't be written as a frame, and nothing was sent
     Closed        the connection was closed before
 """
+from __future__ import annotations
+
 import socket
 import struct
 import sys
+import time
+from collections.abc import Sequence
+from types import TracebackType
 from typing import NamedTuple
 
 CREATE, READ, WRITE, QUERY_SIZE, SET_SIZE, FLUSH, LIST, SET_DELETE, CLOSE = range(1, 10)
@@ -79,12 +84,12 @@ class Reply(NamedTuple):
     data: bytes
 
     @property
-    def name(self):
+    def name(self) -> str:
         """The name of its status."""
         return NAMES[self.status]
 
 
-def pack(form, *values):
+def pack(form: str, *values: int) -> bytes:
     """The fields of a request, the highest byte of each number first."""
     try:
         return struct.pack(">" + form, *values)
@@ -92,7 +97,7 @@ def pack(form, *values):
         raise NoRequest(f"a number is too large for its field: {error}") from error
 
 
-def text(words):
+def text(words: str | bytes) -> bytes:
     """The bytes of a text."""
     if isinstance(words, bytes):
         return words
@@ -105,34 +110,36 @@ def text(words):
 class Client:
     """One connection. Each request is sent, and its reply is waited for: for ever, or as many seconds as timeout says."""
 
-    def __init__(self, path, timeout=None):
+    def __init__(self, path: str, timeout: float | None = None) -> None:
         self.number = 0
-        self.socket = socket.socket(socket.AF_UNIX)
-        self.socket.settimeout(timeout)
+        self.timeout = timeout
+        made = socket.socket(socket.AF_UNIX)
+        self.socket: socket.socket | None = made
+        made.settimeout(timeout)
         try:
-            self.socket.connect(path)
+            made.connect(path)
         except (OSError, ValueError) as error:
             self.hang_up()
             raise Unreachable(f"{path}: {error}") from error
 
-    def __enter__(self):
+    def __enter__(self) -> Client:
         return self
 
-    def __exit__(self, *_):
+    def __exit__(self, kind: type[BaseException] | None, error: BaseException | None, trace: TracebackType | None) -> None:
         self.hang_up()
 
-    def hang_up(self):
+    def hang_up(self) -> None:
         """Ends the connection, and with it its handles."""
         if self.socket is not None:
             self.socket.close()
             self.socket = None
 
-    def ask(self, code, fields=b""):
+    def ask(self, code: int, fields: bytes = b"") -> Reply:
         """Sends a request, and takes its reply."""
         self.send(code, fields)
         return self.take()
 
-    def send(self, code, fields=b""):
+    def send(self, code: int, fields: bytes = b"") -> None:
         """Sends a request alone. Its reply is to be taken before the next one."""
         number = self.number % 0xFFFF_FFFF + 1
         body = pack("BI", code, number) + fields
@@ -141,7 +148,7 @@ class Client:
         self.number = number
         self.send_bytes(struct.pack(">I", len(body)) + body)
 
-    def send_bytes(self, data):
+    def send_bytes(self, data: bytes) -> None:
         """Sends bytes, whatever they say."""
         if self.socket is None:
             raise Closed("the connection was closed before")
@@ -154,12 +161,13 @@ class Client:
             self.hang_up()
             raise Lost(f"the server closed the connection: {error}") from error
 
-    def take(self):
+    def take(self) -> Reply:
         """Takes the reply to the request that was sent last."""
-        (length,) = struct.unpack(">I", self.receive(4))
+        end = None if self.timeout is None else time.monotonic() + self.timeout
+        (length,) = struct.unpack(">I", self.receive(4, end))
         if not SHORTEST <= length <= LONGEST:
             raise self.odd(f"a frame of {length} bytes, and none has so many")
-        body = self.receive(length)
+        body = self.receive(length, end)
         code, number = struct.unpack(">BI", body[:5])
         if code == HELD_REPLY:
             raise self.odd("that an operation is held, where a server waits until it is done")
@@ -176,94 +184,103 @@ class Client:
             raise self.odd(f"a reply to request {number}, and this was request {self.number}")
         return Reply(status, information, body[REPLY_HEAD:])
 
-    def odd(self, words):
+    def odd(self, words: str) -> NoReply:
         """The error of an answer that is no reply. Nothing behind it can be trusted."""
         self.hang_up()
         return NoReply(f"the server said: {words}")
 
-    def receive(self, count):
-        """So many bytes."""
-        if self.socket is None:
-            raise Closed("the connection was closed before")
+    def receive(self, count: int, end: float | None = None) -> bytes:
+        """So many bytes, until that time."""
         received = b""
         while len(received) < count:
-            try:
-                piece = self.socket.recv(count - len(received))
-            except TimeoutError as error:
-                self.hang_up()
-                raise TimedOut("no reply came in time") from error
-            except OSError as error:
-                self.hang_up()
-                raise Lost(f"the server closed the connection: {error}") from error
+            piece = self.receive_some(count - len(received), end)
             if not piece:
                 self.hang_up()
                 raise Lost("the server closed the connection")
             received += piece
         return received
 
-    def create(self, path, mode=ALWAYS, volume=0):
+    def receive_some(self, most: int, end: float | None) -> bytes:
+        """What comes next, and nothing at the connection's end."""
+        if self.socket is None:
+            raise Closed("the connection was closed before")
+        try:
+            if end is not None:
+                self.socket.settimeout(max(end - time.monotonic(), 0.000_001))
+            return self.socket.recv(most)
+        except TimeoutError as error:
+            self.hang_up()
+            raise TimedOut("no reply came in time") from error
+        except OSError as error:
+            self.hang_up()
+            raise Lost(f"the server closed the connection: {error}") from error
+        finally:
+            if self.socket is not None:
+                self.socket.settimeout(self.timeout)
+
+    def create(self, path: str | bytes, mode: int = ALWAYS, volume: int = 0) -> Reply:
         """Opens a file; the information of a success is its handle."""
         return self.ask(CREATE, pack("BB", volume, mode) + text(path))
 
-    def read(self, handle, offset, length):
+    def read(self, handle: int, offset: int, length: int) -> Reply:
         """Reads so many bytes at most."""
         return self.ask(READ, pack("QQI", handle, offset, length))
 
-    def write(self, handle, offset, data):
+    def write(self, handle: int, offset: int, data: bytes) -> Reply:
         """Writes bytes; the information of a success is how many."""
         return self.ask(WRITE, pack("QQ", handle, offset) + data)
 
-    def query_size(self, handle):
+    def query_size(self, handle: int) -> Reply:
         """Asks for the file's size; it is the information of a success."""
         return self.ask(QUERY_SIZE, pack("Q", handle))
 
-    def set_size(self, handle, size):
+    def set_size(self, handle: int, size: int) -> Reply:
         """Sets the file's size."""
         return self.ask(SET_SIZE, pack("QQ", handle, size))
 
-    def flush(self, handle):
+    def flush(self, handle: int) -> Reply:
         """Flushes the file."""
         return self.ask(FLUSH, pack("Q", handle))
 
-    def list(self, volume=0):
+    def list(self, volume: int = 0) -> Reply:
         """Lists the files, each name before a line's end."""
         return self.ask(LIST, pack("B", volume))
 
-    def set_delete(self, handle):
+    def set_delete(self, handle: int) -> Reply:
         """Marks the file: it goes with its last handle."""
         return self.ask(SET_DELETE, pack("Q", handle))
 
-    def close(self, handle):
+    def close(self, handle: int) -> Reply:
         """Closes a handle."""
         return self.ask(CLOSE, pack("Q", handle))
 
-    def load(self, name):
+    def load(self, name: str | bytes) -> Reply:
         """Loads a filter; the information of a success is its number."""
         return self.ask(LOAD, text(name))
 
-    def attach(self, filter, volume, name, altitude):
+    def attach(self, filter: int, volume: int, name: str | bytes, altitude: str | bytes) -> Reply:
         """Attaches an instance of a filter; the information of a success is its number."""
         name = text(name)
         return self.ask(ATTACH, pack("BBB", filter, volume, len(name)) + name + text(altitude))
 
-    def detach(self, instance):
+    def detach(self, instance: int) -> Reply:
         """Detaches an instance."""
         return self.ask(DETACH, pack("H", instance))
 
-    def unload(self, filter):
+    def unload(self, filter: int) -> Reply:
         """Unloads a filter."""
         return self.ask(UNLOAD, pack("B", filter))
 
-    def dismount(self, volume=0):
+    def dismount(self, volume: int = 0) -> Reply:
         """Dismounts a volume."""
         return self.ask(DISMOUNT, pack("B", volume))
 
-    def stop(self):
+    def stop(self) -> Reply:
         """Ends the server."""
         return self.ask(STOP)
 
 
-def show(path):
+def show(path: str) -> None:
     """Shows one conversation."""
     with Client(path, timeout=10) as client:
         created = client.create("notes")
@@ -275,7 +292,7 @@ def show(path):
         print("close ", tuple(client.close(handle)))
 
 
-def main(words):
+def main(words: Sequence[str]) -> int:
     """The program: its exit status."""
     if len(words) != 1 or words[0] in ("-h", "--help"):
         print("usage: python3 clients/kazdrin.py SOCKET", file=sys.stderr)
@@ -288,5 +305,10 @@ def main(words):
     return 0
 
 
-if __name__ == "__main__":
+def run() -> None:
+    """The program, with the words of its command line."""
     sys.exit(main(sys.argv[1:]))
+
+
+if __name__ == "__main__":
+    run()

@@ -8,8 +8,9 @@ set -eu
 here=$(CDPATH='' cd -- "$(dirname -- "$0")" && pwd)
 top=$here/../..
 count=${1:-100000}
-export FLTD=${FLTD:-$top/crates/fltd/out/fltd}
+FLTD=${FLTD:-$top/crates/fltd/out/fltd}
 [ -x "$FLTD" ] || FLTD=$("$top/tools/unproved" fltd)
+export FLTD
 room=$(mktemp -d)
 trap 'rm -rf "$room"' EXIT
 failed=''

@@ -8,7 +8,7 @@ import time
 
 from ground import Tally
 
-PARTS = "calls model deletions held ends programs".split()
+PARTS = "client calls model deletions held ends programs".split()
 
 
 def main():

@@ -1,0 +1,16 @@
+#!/usr/bin/env bash
+# Installs what c/mount/check.sh needs, where it runs as root on Debian and reaches its packages; else it says what isn't here.
+set -u
+missing=''
+pkg-config --atleast-version=3.12 fuse3 2> /dev/null || missing="$missing pkg-config libfuse3-dev"
+command -v fusermount3 > /dev/null || missing="$missing fuse3"
+command -v sqlite3 > /dev/null || missing="$missing sqlite3"
+[ -n "$missing" ] || exit 0
+words=(-q -y -o Acquire::Retries=0 -o Acquire::http::Timeout=20 -o Acquire::https::Timeout=20)
+get() {
+    DEBIAN_FRONTEND=noninteractive timeout 300 apt-get "${words[@]}" install --no-install-recommends $missing > /dev/null 2>&1
+}
+if [ "$(id -u)" = 0 ] && [ -e /etc/debian_version ] && command -v apt-get > /dev/null; then
+    get || { timeout 300 apt-get "${words[@]}" update > /dev/null 2>&1 && get; } && exit 0
+fi
+echo "mount: these packages aren't here, and can't be had:$missing"

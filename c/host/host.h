@@ -322,6 +322,12 @@ KzReply kz_perform(KazdrinEvent asked, const void *bytes, size_t length, const c
 KzReply kz_close_file(uint64_t handle);
 void kz_settle(void);
 void kz_print_reply(KzReply reply, NTSTATUS other, const uint8_t *bytes, size_t length);
+
+/* sink.c: a request's own reply is passed on before those of operations that it let go. */
+typedef void KzSink(KzReply reply, const uint8_t *bytes, size_t length);
+void kz_set_sink(KzSink *to);
+void kz_pass_reply(KzReply reply, const uint8_t *bytes, size_t length);
+
 bool kz_drain_next(PFLT_INSTANCE instance);
 FLT_RELATED_OBJECTS kz_objects(PFLT_INSTANCE instance, KzFile *file);
 KzOp *kz_op_with(PFLT_CALLBACK_DATA data);

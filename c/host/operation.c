@@ -417,6 +417,7 @@ static Turn carry_to_end(KzOp *op)
 /* ---- Replies. The kit's own status stands behind a number that stands for another. */
 void kz_print_reply(KzReply reply, NTSTATUS other, const uint8_t *bytes, size_t length)
 {
+    kz_pass_reply(reply, bytes, length);
     if (reply.held) {
         kz_say("held %llu\n", (unsigned long long)reply.operation);
         return;

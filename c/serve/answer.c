@@ -1,0 +1,246 @@
+/* The host is one thread's, and so is all of this. */
+#include "answer.h"
+
+#include "busy.h"
+
+#include "../host/host.h"
+
+#include <stdlib.h>
+#include <string.h>
+
+enum { NO_HANDLE = 14, DISMOUNTING = 33 };
+
+static Link *all;
+static size_t all_count;
+static Link *asking; /* whose own reply comes next */
+static bool is_closed[8]; /* the volume: a dismount was asked for, and no operation begins on it */
+static Link leftovers; /* handles of clients that are gone, which couldn't be closed yet */
+
+/* Who waits for that operation: nobody, where its client is gone. */
+static Link *waiting_for(uint64_t operation)
+{
+    size_t at = 0;
+    while (at < all_count && !(all[at].socket != -1 && all[at].is_waiting && all[at].operation == operation))
+        at++;
+    return at < all_count ? &all[at] : NULL;
+}
+
+static void finish(Link *link, KzReply reply, const uint8_t *bytes, size_t length)
+{
+    if (link->code == FRAME_CREATE && reply.status == KZ_OK)
+        link_add(link, reply.information);
+    if (link->code == FRAME_CLOSE && reply.status == KZ_OK)
+        link_forget(link, link->handle);
+    link_reply(link, (uint8_t)reply.status, reply.information, bytes, length);
+}
+
+/* A request's own reply comes first, and then those of operations that it let go. */
+static void take_reply(KzReply reply, const uint8_t *bytes, size_t length)
+{
+    Link *link = asking ? asking : waiting_for(reply.operation);
+    asking = NULL;
+    if (!link)
+        return;
+    if (reply.held) {
+        link->is_waiting = true;
+        link->operation = reply.operation;
+    } else if (link->is_waiting && link->code == FRAME_CLOSE) {
+        link->is_waiting = false;
+        link->is_close_due = true;
+    } else {
+        link->is_waiting = false;
+        finish(link, reply, bytes, length);
+    }
+}
+
+void answer_begin(Link *links, size_t count)
+{
+    all = links;
+    all_count = count;
+    kz_set_sink(take_reply);
+}
+
+static void create(Link *link, const Frame *frame)
+{
+    char path[LONGEST_PATH + 1] = "";
+    memcpy(path, frame->text, frame->text_length);
+    asking = link;
+    kz_perform((KazdrinEvent){.event = KZ_CREATE, .volume = frame->volume, .mode = frame->mode}, path, frame->text_length, path);
+}
+
+static void close_handle(Link *link)
+{
+    asking = link;
+    kz_close_file(link->handle);
+}
+
+/* The operation that a frame asks for, as an event. */
+static KazdrinEvent event_of(const Frame *frame)
+{
+    static const uint8_t events[] = {
+        [FRAME_READ] = KZ_READ,         [FRAME_WRITE] = KZ_WRITE, [FRAME_QUERY_SIZE] = KZ_QUERY_SIZE, [FRAME_SET_SIZE] = KZ_SET_SIZE,
+        [FRAME_FLUSH] = KZ_FLUSH,       [FRAME_LIST] = KZ_LIST,   [FRAME_SET_DELETE] = KZ_SET_DELETE,
+    };
+    return (KazdrinEvent){.event = events[frame->code], .volume = frame->volume, .handle = frame->handle, .offset = frame->offset, .len = frame->length};
+}
+
+static bool is_of_handle(uint8_t code)
+{
+    return code != FRAME_CREATE && code != FRAME_LIST;
+}
+
+/* As fltd has it: a handle of another, a volume that isn't there, one that is going. There is one volume for all handles. */
+static uint8_t refusal(const Link *link, const Frame *frame)
+{
+    if (is_of_handle(frame->code) && !link_has(link, frame->handle))
+        return NO_HANDLE;
+    if (frame->volume >= kz.volumes_count)
+        return KZ_NO_VOLUME;
+    return is_closed[frame->volume] ? DISMOUNTING : KZ_OK;
+}
+
+static void operate(Link *link, const Frame *frame)
+{
+    uint8_t status = refusal(link, frame);
+    link->handle = frame->handle;
+    if (status != KZ_OK) {
+        link_reply(link, status, 0, NULL, 0);
+    } else if (frame->code == FRAME_CREATE) {
+        create(link, frame);
+    } else if (frame->code == FRAME_CLOSE) {
+        close_handle(link);
+    } else {
+        asking = link;
+        kz_perform(event_of(frame), frame->code == FRAME_WRITE ? frame->text : (const uint8_t *)"", frame->text_length, NULL);
+    }
+}
+
+static void copy_text(char *room, const uint8_t *text, size_t length)
+{
+    memcpy(room, text, length);
+    room[length] = '\0';
+}
+
+static uint32_t load(const Frame *frame, uint64_t *number)
+{
+    char name[33];
+    NTSTATUS other;
+    copy_text(name, frame->text, frame->text_length);
+    return kz_load(name, "", number, &other);
+}
+
+static uint32_t attach(const Frame *frame, uint64_t *number)
+{
+    char name[33], altitude[65];
+    copy_text(name, frame->text, frame->text_length);
+    copy_text(altitude, frame->altitude, frame->altitude_length);
+    if (frame->filter >= kz.filters_count)
+        return KZ_NO_FILTER;
+    if (frame->volume >= kz.volumes_count)
+        return KZ_NO_VOLUME;
+    return kz_attach(kz.filters[frame->filter], kz.volumes[frame->volume], name, altitude, FLTFL_INSTANCE_SETUP_MANUAL_ATTACHMENT, number);
+}
+
+static bool is_anybody_waiting(void)
+{
+    size_t at = 0;
+    while (at < all_count && !(all[at].socket != -1 && (all[at].is_waiting || all[at].is_close_due)))
+        at++;
+    return at < all_count;
+}
+
+/* As fltd has it: the volume is closed for good, also where an operation is there still. That is 34, with no number of the manager's. */
+static uint32_t dismount(uint8_t volume)
+{
+    KazdrinTold told = {0};
+    is_closed[volume] = true;
+    if (kazdrin_phase(&kz.manager, &(KazdrinEvent){.mode = KZ_OF_VOLUME, .volume = volume}, &told) == KZ_OK && told.has && told.number == KZ_VOLUME_FINISHED)
+        return DISMOUNTING;
+    return is_anybody_waiting() ? KZ_BUSY : kz_dismount(kz.volumes[volume]);
+}
+
+static uint32_t control(const Frame *frame, uint64_t *number)
+{
+    switch (frame->code) {
+    case FRAME_LOAD:
+        return load(frame, number);
+    case FRAME_ATTACH:
+        return attach(frame, number);
+    case FRAME_DETACH:
+        return frame->instance < kz.instances_count ? kz_detach(kz.instances[frame->instance]) : KZ_NO_INSTANCE;
+    case FRAME_UNLOAD:
+        return frame->filter < kz.filters_count ? kz_unload(kz.filters[frame->filter]) : KZ_NO_FILTER;
+    case FRAME_DISMOUNT:
+        return frame->volume < kz.volumes_count ? dismount(frame->volume) : KZ_NO_VOLUME;
+    default:
+        return KZ_OK;
+    }
+}
+
+/* A reply of 34 says how many are in the way. */
+static void manage(Link *link, const Frame *frame)
+{
+    uint64_t number = 0;
+    busy_forget();
+    uint32_t status = control(frame, &number);
+    uint64_t information = status == KZ_BUSY ? busy_number() : status == KZ_OK ? number : 0;
+    link_reply(link, (uint8_t)status, information, NULL, 0);
+}
+
+bool answer_frame(Link *link, const uint8_t *body, size_t length)
+{
+    Frame frame;
+    uint8_t status = frame_read(body, length, &frame);
+    link->code = frame.code;
+    link->number = frame.number;
+    kz_tick();
+    if (status != KZ_OK)
+        link_reply(link, status, 0, NULL, 0);
+    else if (frame.code < FRAME_LOAD)
+        operate(link, &frame);
+    else
+        manage(link, &frame);
+    return status == KZ_OK && frame.code == FRAME_STOP;
+}
+
+void answer_due_closes(void)
+{
+    for (size_t at = 0; at < all_count; at++)
+        if (all[at].socket != -1 && all[at].is_close_due) {
+            all[at].is_close_due = false;
+            close_handle(&all[at]);
+        }
+}
+
+/* A handle that is there no more is closed, too. */
+static bool was_closed(KzReply reply)
+{
+    return !reply.held && (reply.status == KZ_OK || reply.status == NO_HANDLE || reply.status == DISMOUNTING);
+}
+
+/* Each handle is tried once. */
+static void close_all(Link *link)
+{
+    for (size_t left = link->handles_count; left > 0; left--) {
+        uint64_t handle = link->handles[left - 1];
+        if (was_closed(kz_close_file(handle)))
+            link_forget(link, handle);
+    }
+}
+
+void answer_end(Link *link)
+{
+    link->is_waiting = link->is_close_due = false;
+    close_all(link);
+    for (size_t at = 0; at < link->handles_count; at++)
+        link_add(&leftovers, link->handles[at]);
+    free(link->handles);
+    link->handles = NULL;
+    link->handles_count = link->handles_room = 0;
+    answer_leftovers();
+}
+
+void answer_leftovers(void)
+{
+    close_all(&leftovers);
+}

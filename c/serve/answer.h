@@ -1,0 +1,18 @@
+/* What the host answers to each request of a link. */
+#ifndef KZ_SERVE_ANSWER_H
+#define KZ_SERVE_ANSWER_H
+
+#include "link.h"
+
+/* The links that there are: who waits for an operation is among them. */
+void answer_begin(Link *links, size_t count);
+/* Answers a frame, now or once a filter lets go of it. True: it is a Stop. */
+bool answer_frame(Link *link, const uint8_t *body, size_t length);
+/* Closes behind cleanups that were held. */
+void answer_due_closes(void);
+/* The link has ended: its handles are closed. */
+void answer_end(Link *link);
+/* Tries again to close what couldn't be. */
+void answer_leftovers(void);
+
+#endif

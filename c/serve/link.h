@@ -1,0 +1,44 @@
+/* A connection of a client: one request at a time is answered, and the next one is read behind its reply. */
+#ifndef KZ_SERVE_LINK_H
+#define KZ_SERVE_LINK_H
+
+#include "frame.h"
+
+#define LINKS 32
+
+typedef struct {
+    int socket; /* -1: the place is free */
+    bool is_ended; /* nothing more comes */
+    bool is_faulted; /* it ends behind what is left to be sent */
+    uint8_t in[LONGEST_FRAME], out[LONGEST_FRAME];
+    size_t in_length, out_length, out_sent;
+    /* The request that is answered now. */
+    uint8_t code;
+    uint32_t number;
+    uint64_t handle;
+    bool is_waiting;    /* a filter holds its operation */
+    bool is_close_due;  /* that was a cleanup, and the close comes behind it */
+    uint64_t operation;
+    uint64_t *handles; /* that it opened */
+    size_t handles_count, handles_room;
+} Link;
+
+void link_begin(Link *link, int socket);
+/* Whether it may begin a request: nothing is left to be sent, and nothing is held. */
+bool link_is_idle(const Link *link);
+/* Reads what there is. */
+void link_receive(Link *link);
+/* The next frame's body, which is there whole; NULL: none is. A length that no frame has is answered, and ends the link. */
+const uint8_t *link_frame(Link *link, size_t *length);
+/* The frame is done with. */
+void link_drop_frame(Link *link, size_t length);
+void link_reply(Link *link, uint8_t status, uint64_t information, const uint8_t *bytes, size_t length);
+/* Sends what the socket takes. */
+void link_send(Link *link);
+bool link_has(const Link *link, uint64_t handle);
+void link_add(Link *link, uint64_t handle);
+void link_forget(Link *link, uint64_t handle);
+/* Closes the socket. The handles are still to be closed. */
+void link_end(Link *link);
+
+#endif

@@ -1,0 +1,189 @@
+/* kz_serve: the drivers that are linked with it, behind the frames of docs/FRAMES.md: PROGRAM FOLDER SOCKET. One thread answers all connections.
+ * Exit status: 0, or 5 where a driver's mistake was told, 1 for want of memory, 2 for wrong words, 3 where the folder or the socket isn't to be had. */
+#define _GNU_SOURCE
+#include "answer.h"
+#include "busy.h"
+
+#include "../host/host.h"
+
+#include <errno.h>
+#include <poll.h>
+#include <signal.h>
+#include <sys/socket.h>
+#include <sys/un.h>
+#include <unistd.h>
+
+extern const KzDriver kz_drivers[];
+extern const size_t kz_drivers_count;
+
+static Link links[LINKS];
+
+static int fault(const char *what)
+{
+    fprintf(stderr, "fault: %s: %s\n", what, strerror(errno));
+    return 3;
+}
+
+/* -1: it can't be had. */
+static int listen_at(const char *path)
+{
+    struct sockaddr_un address = {.sun_family = AF_UNIX};
+    errno = ENAMETOOLONG;
+    if (strlen(path) >= sizeof address.sun_path)
+        return -1;
+    strcpy(address.sun_path, path);
+    int listener = socket(AF_UNIX, SOCK_STREAM | SOCK_CLOEXEC | SOCK_NONBLOCK, 0);
+    if (listener != -1 && bind(listener, (struct sockaddr *)&address, sizeof address) == 0 && listen(listener, 128) == 0)
+        return listener;
+    return -1;
+}
+
+/* A client beyond the last place is let go at once. */
+static void accept_one(int listener)
+{
+    size_t at = 0;
+    int client = accept4(listener, NULL, NULL, SOCK_CLOEXEC);
+    if (client == -1)
+        return;
+    while (at < LINKS && links[at].socket != -1)
+        at++;
+    if (at < LINKS)
+        link_begin(&links[at], client);
+    else
+        close(client);
+}
+
+typedef enum { NO_FRAME, A_FRAME, A_STOP } Answered;
+
+/* The next frame of a link, where one is there whole and the link is idle. */
+static Answered answer_one(Link *link)
+{
+    size_t length = 0;
+    const uint8_t *body = link->socket != -1 && link_is_idle(link) ? link_frame(link, &length) : NULL;
+    if (!body)
+        return NO_FRAME;
+    bool is_stop = answer_frame(link, body, length);
+    link_drop_frame(link, length);
+    answer_due_closes();
+    return is_stop ? A_STOP : A_FRAME;
+}
+
+/* One frame of each link in turn. */
+static Answered answer_round(void)
+{
+    Answered answered = NO_FRAME;
+    for (size_t at = 0; at < LINKS; at++) {
+        Answered one = answer_one(&links[at]);
+        answered = one > answered ? one : answered;
+    }
+    return answered;
+}
+
+/* All frames that came, until each link waits: an answer may have let others go on. True: a Stop was among them. */
+static bool answer_all(void)
+{
+    bool is_stop = false;
+    Answered answered;
+    do {
+        answered = answer_round();
+        is_stop |= answered == A_STOP;
+    } while (answered != NO_FRAME);
+    return is_stop;
+}
+
+/* Its client is gone while it waits, or nothing is left to be answered or sent. */
+static bool is_over(const Link *link, short events)
+{
+    if (link->is_waiting || link->is_close_due)
+        return (events & (POLLHUP | POLLERR)) != 0;
+    return (link->is_ended || link->is_faulted) && link->out_length == 0;
+}
+
+static void exchange(Link *link, short events)
+{
+    if (link->out_length > 0 && (events & (POLLOUT | POLLERR)))
+        link_send(link);
+    if (link_is_idle(link) && !link->is_ended && (events & (POLLIN | POLLHUP | POLLERR)))
+        link_receive(link);
+}
+
+static void end_if_over(Link *link, short events)
+{
+    if (link->socket == -1 || !is_over(link, events))
+        return;
+    link_end(link);
+    answer_end(link);
+}
+
+static short wanted(const Link *link)
+{
+    if (link->out_length > 0)
+        return POLLOUT;
+    return link_is_idle(link) && !link->is_ended ? POLLIN : 0;
+}
+
+/* How many links there are; what each waits for. */
+static size_t watch(struct pollfd *places)
+{
+    size_t count = 0;
+    for (size_t at = 0; at < LINKS; at++) {
+        places[at] = (struct pollfd){links[at].socket, links[at].socket == -1 ? 0 : wanted(&links[at]), 0};
+        count += links[at].socket != -1;
+    }
+    return count;
+}
+
+static bool serve_links(const struct pollfd *places)
+{
+    for (size_t at = 0; at < LINKS; at++)
+        if (places[at].revents)
+            exchange(&links[at], places[at].revents);
+    bool is_stop = answer_all();
+    for (size_t at = 0; at < LINKS; at++)
+        end_if_over(&links[at], places[at].revents);
+    return is_stop;
+}
+
+/* Until a Stop was answered and the last client is gone. */
+static void serve(int listener)
+{
+    bool is_stopping = false;
+    struct pollfd places[LINKS + 1];
+    while (watch(places) > 0 || !is_stopping) {
+        places[LINKS] = (struct pollfd){listener, POLLIN, 0};
+        if (poll(places, is_stopping ? LINKS : LINKS + 1, -1) == -1)
+            continue;
+        is_stopping |= serve_links(places);
+        if (!is_stopping && places[LINKS].revents)
+            accept_one(listener);
+    }
+}
+
+int main(int count, char **words)
+{
+    if (count != 3) {
+        fprintf(stderr, "usage: %s FOLDER SOCKET\n", words[0]);
+        return 2;
+    }
+    for (size_t at = 0; at < LINKS; at++)
+        links[at].socket = -1;
+    int error = serve_folder(words[1]);
+    errno = error;
+    if (error != 0)
+        return fault(words[1]);
+    int listener = listen_at(words[2]);
+    if (listener == -1)
+        return fault(words[2]);
+    if (kz_open(kz_drivers, kz_drivers_count) != 0)
+        return 1;
+    kz_is_quiet = 1;
+    setvbuf(stdout, NULL, _IOLBF, 0);
+    answer_begin(links, LINKS);
+    puts("ready");
+    serve(listener);
+    close(listener);
+    int status = kz_close();
+    KzCounts counts = kz_counts();
+    printf("born %llu cleaned %llu leaks %llu\n", (unsigned long long)counts.born, (unsigned long long)counts.cleaned, (unsigned long long)counts.leaked);
+    return status;
+}

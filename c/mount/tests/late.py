@@ -1,0 +1,79 @@
+"""Creates and closes that a driver holds: programs can be killed meanwhile, and nothing stays behind. The server has the driver `late` (c/serve/tests).
+
+The kernel has no other look into a folder while a create or a deletion in it is under way: only files that are open go on."""
+import os
+import signal
+import subprocess
+import sys
+import time
+
+from ground import Ground, put, until
+
+SOON = 3
+
+
+def program(words):
+    """A program in Python of those words."""
+    return subprocess.Popen([sys.executable, "-c", f"import os; {words}"], stderr=subprocess.PIPE)
+
+
+def wait(tally, what, process):
+    """It is held."""
+    time.sleep(0.4)
+    tally.note(f"{what} is held", process.poll(), None)
+
+
+def ended(process):
+    """Whether it ends soon, and how."""
+    is_over = until(lambda: process.poll() is not None, SOON)
+    process.stderr.close()
+    return is_over, process.returncode
+
+
+def free(tally, ground, what, condition):
+    """Flushes let all go, one after the other, until it is so."""
+    tally.note(what, until(lambda: ground.flush("x") == 0 and condition()), True)
+
+
+def creates(tally, ground, file):
+    """A create is held: its program is let go, or killed."""
+    path = ground.at("late")
+    maker = program(f"os.open({path!r}, os.O_CREAT | os.O_RDWR)")
+    wait(tally, "a create", maker)
+    tally.call("what is open goes on", b"hello", os.pread, file, 9, 0)
+    free(tally, ground, "it goes on", lambda: maker.poll() is not None)
+    tally.note("and ends well", ended(maker), (True, 0))
+    for signal_number in (signal.SIGKILL, signal.SIGINT, signal.SIGTERM) * 6:
+        maker = program(f"os.open({path!r}, os.O_CREAT | os.O_RDWR)")
+        time.sleep(0.2)
+        maker.send_signal(signal_number)
+        tally.note(f"one is ended by {signal_number}", ended(maker)[0], True)
+    tally.note("a list beside those that are left", sorted(os.listdir(ground.mount)), ["late", "x"])
+
+
+def deletion(tally, ground, file):
+    """A deletion is held, and killed: the file goes all the same."""
+    path = ground.at("late")
+    remover = program(f"os.unlink({path!r})")
+    wait(tally, "a deletion", remover)
+    remover.kill()
+    tally.note("its program ends", ended(remover)[0], True)
+    tally.call("what is open goes on", b"hello", os.pread, file, 9, 0)
+    remover = program(f"os.unlink({path!r})")
+    free(tally, ground, "a deletion goes on", lambda: remover.poll() is not None)
+    remover.stderr.close()
+    free(tally, ground, "it is gone", lambda: not os.path.exists(ground.below("late")))
+
+
+def run(tally, tools):
+    """Creates, and then deletions."""
+    with Ground(tally, tools, patience=60) as ground:
+        put(ground.at("x"), b"hello")
+        ground.attach(late=100)
+        file = os.open(ground.at("x"), os.O_RDWR)
+        creates(tally, ground, file)
+        deletion(tally, ground, file)
+        os.close(file)
+        free(tally, ground, "the last ones go on", lambda: True)
+        time.sleep(0.5)
+        free(tally, ground, "and their closes", lambda: True)

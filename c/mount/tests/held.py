@@ -13,7 +13,7 @@ SOON = 3
 
 def read(path):
     """A program that reads five bytes. `cat` would read once more, for the end."""
-    return subprocess.Popen(["head", "-c", "5", path], stdout=subprocess.PIPE)
+    return subprocess.Popen(["head", "-c", "5", path], stdout=subprocess.PIPE, stderr=subprocess.DEVNULL)
 
 
 def ended(process, seconds=SOON):

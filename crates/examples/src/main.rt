@@ -157,11 +157,7 @@ fn is_shown(rt: &HostRuntime, name: &str, manner: Manner, ending: &str) -> io::R
     let input = fs::read(rt, format!(in alloc; "{name}.flt")?)?;
     let wanted = fs::read(rt, format!(in alloc; "{name}.{ending}")?)?;
     let mut bytes = Vec::new(alloc);
-    let shown = Shown {
-        manner,
-        is_strict: false,
-    };
-    let _ = show_script(alloc, shown, input.as_slice(), &mut bytes);
+    let _ = show_script(alloc, Shown::new(manner), input.as_slice(), &mut bytes);
     Ok(bytes.as_slice() == wanted.as_slice())
 }
 

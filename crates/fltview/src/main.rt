@@ -1,10 +1,10 @@
-//! Runs a script of the filter manager from standard input as `fltscript` does, and shows what happened: in words, as JSON, as a picture, or only what wasn't
-//! as the script expects. It ends with status 0, with 5 where a callback left a reference behind, a filter holds an operation, or a line gave back or resumed
+//! Runs a script of the filter manager from standard input as `fltscript` does, and shows what happened: in words, as JSON, as a page for a browser, as a
+//! picture, or only what wasn't as the script expects. It ends with status 0, with 5 where a callback left a reference behind, a filter holds an operation, or a line gave back or resumed
 //! what it didn't have, with 6 where something wasn't as the script expects, with 1 where there is no memory, with 3 where a read or a write fails, and with 2
 //! where a word of the command line is none.
 #![tactic(auto)]
 
-use clap::{Arg, ArgAction, Command};
+use clap::{Arg, ArgAction, Command, value_parser};
 use fm_view::{Manner, Shown, show_script};
 use std::alloc::{AllocError, Global};
 use std::process::ExitCode;
@@ -14,33 +14,40 @@ const ABOUT: &str =
     "Runs a script from standard input, and shows what happened: each line with its answer in words, and at the end what is left. \
 Ends with status 5 where a reference was left behind or an operation is held, and with 6 where something wasn't as a line `#! expect TEXT` says.";
 
+// A word that is there or not.
+fn flag<'a>(alloc: Global, name: &'a str, help: &'a str) -> Arg<'a> {
+    Arg::new(alloc, name)
+        .long(name)
+        .help(help)
+        .action(ArgAction::SetTrue)
+}
+
+// A word with the number of a line behind it.
+fn line_number<'a>(alloc: Global, name: &'a str, help: &'a str) -> Arg<'a> {
+    Arg::new(alloc, name)
+        .long(name)
+        .value_name("LINE")
+        .help(help)
+        .value_parser(value_parser!(u32))
+        .action(ArgAction::Set)
+}
+
 // The words that the program takes.
 fn command<'a>(alloc: Global) -> Result<Command<'a>, AllocError> {
-    let picture = Arg::new(alloc, "picture")
-        .long("picture")
-        .help("Draws the run as an SVG")
-        .action(ArgAction::SetTrue)
-        .conflicts_with("json")?;
-    let json = Arg::new(alloc, "json")
-        .long("json")
-        .help("Writes each answer as a JSON object, one a line")
-        .action(ArgAction::SetTrue);
-    let check = Arg::new(alloc, "check")
-        .long("check")
-        .help("Writes only what wasn't as the script expects")
-        .action(ArgAction::SetTrue)
-        .conflicts_with("json")?
-        .conflicts_with("picture")?;
-    let strict = Arg::new(alloc, "strict")
-        .long("strict")
-        .help("A refusal that no line expects counts too")
-        .action(ArgAction::SetTrue);
+    let json = "Writes each answer as a JSON object, one a line";
+    let page = "Writes a page for a browser";
+    let check = "Writes only what wasn't as the script expects";
+    let strict = "A refusal that no line expects counts too";
     Command::new(alloc, "fltview")
         .about(ABOUT)
-        .arg(picture)?
-        .arg(json)?
-        .arg(check)?
-        .arg(strict)
+        .arg(flag(alloc, "picture", "Draws the run as an SVG"))?
+        .arg(flag(alloc, "json", json).conflicts_with("picture")?)?
+        .arg(flag(alloc, "page", page).conflicts_with("json")?.conflicts_with("picture")?)?
+        .arg(flag(alloc, "check", check).conflicts_with("json")?.conflicts_with("picture")?.conflicts_with("page")?)?
+        .arg(flag(alloc, "strict", strict))?
+        .arg(flag(alloc, "colour", "Words have colours"))?
+        .arg(line_number(alloc, "from", "The first line that is told in words; all are run"))?
+        .arg(line_number(alloc, "to", "The last line that is told in words"))
 }
 
 fn main(rt: HostRuntime) -> anyhow::Result<ExitCode> {
@@ -57,14 +64,21 @@ fn main(rt: HostRuntime) -> anyhow::Result<ExitCode> {
         Manner::Picture
     } else if matches.get_flag("json") {
         Manner::Json
+    } else if matches.get_flag("page") {
+        Manner::Page
     } else if matches.get_flag("check") {
         Manner::Check
     } else {
         Manner::Words
     };
     let shown = Shown {
-        manner,
         is_strict: matches.get_flag("strict"),
+        is_coloured: matches.get_flag("colour"),
+        lines: (
+            matches.get_one::<u32>("from").unwrap_or(0),
+            matches.get_one::<u32>("to").unwrap_or(u32::MAX),
+        ),
+        ..Shown::new(manner)
     };
     Ok(ExitCode::from(show_script(alloc, shown, rt.stdin(), rt.stdout())))
 }

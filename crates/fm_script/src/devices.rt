@@ -52,6 +52,13 @@ impl Devices {
     {
         self.failures
     }
+
+    /// How many calls were made; it stays at 2^64 - 1 once it is there.
+    pub fn calls(&self) -> u64
+        ensures { result ≡ self.now.calls }
+    {
+        self.calls
+    }
 }
 
 impl Device for Devices {

@@ -63,6 +63,13 @@ impl Interpreter {
         self.devices.failures()
     }
 
+    /// How many device calls were made.
+    pub fn calls(&self) -> u64
+        ensures { result ≡ self.now.devices.calls }
+    {
+        self.devices.calls()
+    }
+
     /// Makes one event, and notes the context that it allocates. It fails, nothing changed, where there is no memory for the note.
     pub fn event(&mut self, step: Step) -> Result<StepReply, AllocError>
         ensures { MatchResult result (λ reply. MakesEvent self.old step reply self.new) (λ _. Stays self.old self.new) }

@@ -14,7 +14,7 @@ fn is_safe(byte: u8) -> bool
 }
 
 // A digit of four bits.
-fn digit(bits: u8) -> u8
+pub(crate) fn digit(bits: u8) -> u8
     requires { bits < 16 }
     ensures { result ≡ digit bits }
 {

@@ -1,54 +1,340 @@
-//! Answers as JSON, one object a line.
+//! A run as JSON: one object a line, for each line that is printed, and for what only the end of a line tells. docs/JSON.md has the schema.
 
-use crate::event::Event;
-use crate::named::{Ascii, kind_word};
-use crate::notes::Notes;
-use fm_core::State;
+use crate::event::{Deed, Event, instance_in, operation_in};
+use crate::named::{Ascii, kind_word, mode_word};
+use crate::notes::{Change, LeakNote, Notes, What};
+use crate::object::Object;
+use crate::subject::{filter_of, handle_of, instance_of, operation_of, volume_of, worker_of};
+use crate::tally::Tally;
+use fm_core::{Count, Phase, Place};
 use fm_data::PreVerdict;
-use serde_json::{Map, Value, json, put};
+use fm_script::Task;
+use fm_types::Status;
+use serde_json::Value;
 use std::alloc::{AllocError, Global};
 
-/// Appends an answer as an object: the line, the command, what happened, ids, and a status with its name.
+/// The number of the schema: a member that goes or means something else raises it.
+const FORMAT: u64 = 1;
+
+/// What an object says beside its event.
+#[derive(Clone, Copy)]
+pub struct Told<'a> {
+    /// The number of the line.
+    pub line: u32,
+    /// The line.
+    pub command: &'a [u8],
+    /// What happened, in words.
+    pub words: &'a str,
+    /// The bytes that were written, read or told.
+    pub bytes: Option<&'a [u8]>,
+    /// What the line asked for, if it could be read.
+    pub task: Option<&'a Task>,
+    /// Where its worker was before.
+    pub place: Place,
+}
+
+/// Appends the first object: the number of the schema.
+pub fn say_begin_json(alloc: Global, text: &mut String) -> Result<(), AllocError> {
+    let mut object = Object::new(alloc, 0, "Run")?;
+    object.number("format", FORMAT)?;
+    object.finish(text)
+}
+
+/// Appends a line that asks for nothing.
+pub fn say_comment_json(
+    alloc: Global,
+    text: &mut String,
+    line: u32,
+    comment: &[u8],
+) -> Result<(), AllocError> {
+    let mut object = Object::new(alloc, line, "Comment")?;
+    object.written("command", "raw", comment)?;
+    object.finish(text)
+}
+
+/// Appends what happened.
 pub fn say_json(
     alloc: Global,
     text: &mut String,
     notes: &Notes,
     event: &Event,
-    command: &[u8],
+    told: &Told<'_>,
 ) -> Result<(), AllocError> {
-    let command = format!(in alloc; "{}", Ascii(command))?;
-    let kind = format!(in alloc; "{:?}", event.kind)?;
-    let value =
-        json!(in alloc; {"line": event.line, "command": command.as_str(), "event": kind.as_str()})?;
-    let Value::Object(mut members) = value else {
-        return Ok(());
-    };
-    put_ids(alloc, &mut members, event)?;
-    put_context(alloc, &mut members, notes, event)?;
-    put_answer(alloc, &mut members, event)?;
-    let line = Value::Object(members).to_string(alloc)?;
-    text.push_str(line.as_str())?;
-    text.push('\n')
+    let mut object = Object::new(alloc, told.line, name_of(event))?;
+    object.written("command", "raw", told.command)?;
+    object.text("words", told.words)?;
+    object.maybe("worker", 'w', event.worker().map(u64::from))?;
+    object.maybe("operation", 'o', event.operation())?;
+    object.maybe("instance", 'i', event.instance().map(u64::from))?;
+    put_event(&mut object, notes, event, told)?;
+    if let Some(bytes) = told.bytes {
+        object.bytes("bytes", bytes)?;
+    }
+    object.finish(text)
 }
 
-/// Appends that an expectation wasn't met, as an object: what was expected, and what the line before printed.
-pub fn say_unmet_json(
+// What an event has beside ids of its operation, its instance and its worker.
+fn put_event(
+    object: &mut Object,
+    notes: &Notes,
+    event: &Event,
+    told: &Told<'_>,
+) -> Result<(), AllocError> {
+    match event {
+        Event::Pre {
+            verdict, context, ..
+        } => {
+            object.maybe("context", 'c', *context)?;
+            put_verdict(object, *verdict)
+        }
+        Event::Resumed { verdict, .. } | Event::Planned { verdict, .. } => {
+            put_verdict(object, *verdict)
+        }
+        Event::Base { status, .. } | Event::Known { status, .. } => put_status(object, *status),
+        Event::Replied {
+            operation,
+            status,
+            information,
+        } => {
+            put_status(object, *status)?;
+            put_information(object, notes.what(Some(*operation)), *status, *information)
+        }
+        Event::Began { operation } => put_request(object, notes, *operation),
+        Event::OnContext { context, deed, .. } => put_deed(object, notes, *context, *deed),
+        Event::Refused { status, context } => {
+            put_subject(object, told)?;
+            object.maybe("context", 'c', *context)?;
+            put_status(object, *status)
+        }
+        other => put_owner(object, notes, other),
+    }
+}
+
+// What an event of a filter, of a volume, of an instance or a question has.
+fn put_owner(object: &mut Object, notes: &Notes, event: &Event) -> Result<(), AllocError> {
+    match event {
+        Event::Loaded { filter } => {
+            object.id("filter", 'f', u64::from(*filter))?;
+            match notes.filters.get(usize::from(*filter)) {
+                Some(note) => put_name(object, note.name.text()),
+                None => Ok(()),
+            }
+        }
+        Event::Mounted { volume } => {
+            object.id("volume", 'v', u64::from(*volume))?;
+            match notes.volumes.get(usize::from(*volume)) {
+                Some(note) => put_name(object, note.name.text()),
+                None => Ok(()),
+            }
+        }
+        Event::Attached { instance } => put_instance(object, notes, *instance),
+        Event::Entered { place, .. } => match place {
+            Place::Setup(instance) => put_instance(object, notes, instance.0),
+            Place::Unload(filter) => object.id("filter", 'f', u64::from(filter.0)),
+            _ => Ok(()),
+        },
+        Event::Returned {
+            place: Place::Unload(filter),
+            ..
+        } => object.id("filter", 'f', u64::from(filter.0)),
+        Event::FilterEmptied { filter } | Event::FilterFinished { filter } => {
+            object.id("filter", 'f', u64::from(*filter))
+        }
+        Event::Dismounting { volume }
+        | Event::NoneOpen { volume }
+        | Event::VolumeEmptied { volume }
+        | Event::VolumeFinished { volume } => object.id("volume", 'v', u64::from(*volume)),
+        Event::Dropped { volume, handle } => {
+            object.id("volume", 'v', u64::from(*volume))?;
+            object.id("handle", 'h', *handle)
+        }
+        other => put_count(object, notes, other),
+    }
+}
+
+// What a question was answered with.
+fn put_count(object: &mut Object, notes: &Notes, event: &Event) -> Result<(), AllocError> {
+    match event {
+        Event::TakenOff { kind, .. } => object.text("kind", kind_word(*kind)),
+        Event::Counted { context, count } => {
+            put_context(object, notes, *context)?;
+            match count {
+                Count::Live(count) => object.number("count", *count),
+                Count::Due => object.text("life", "due"),
+                Count::Cleaning => object.text("life", "cleaning"),
+                Count::Cleaned | Count::Absent => object.text("life", "cleaned"),
+            }
+        }
+        Event::Leaks { count } | Event::Failures { count } | Event::Flight { count, .. } => {
+            object.number("count", *count)
+        }
+        Event::Phase { phase, .. } => object.text("phase", phase_name(*phase)),
+        Event::WillFail { number } => object.number("call", *number),
+        _ => Ok(()),
+    }
+}
+
+fn put_name(object: &mut Object, name: &[u8]) -> Result<(), AllocError> {
+    object.written("name", "raw_name", name)
+}
+
+// An instance, with its filter, its volume, its name and its altitude.
+fn put_instance(object: &mut Object, notes: &Notes, instance: u16) -> Result<(), AllocError> {
+    let Some(note) = notes.instances.get(usize::from(instance)) else {
+        return Ok(());
+    };
+    object.id("filter", 'f', u64::from(note.filter))?;
+    object.id("volume", 'v', u64::from(note.volume))?;
+    put_name(object, note.name.text())?;
+    object.written("altitude", "raw_altitude", note.altitude.text())
+}
+
+// A status with its name; behind Busy stands how many things are in the way.
+fn put_status(object: &mut Object, status: Status) -> Result<(), AllocError> {
+    object.number("status", u64::from(status.number()))?;
+    object.text("status_name", status.name())?;
+    match status {
+        Status::Busy(count) => object.number("count", count),
+        _ => Ok(()),
+    }
+}
+
+fn put_verdict(object: &mut Object, verdict: PreVerdict) -> Result<(), AllocError> {
+    object.text("verdict", verdict_word(verdict))?;
+    match verdict {
+        PreVerdict::Complete(status) => put_status(object, status),
+        _ => Ok(()),
+    }
+}
+
+fn verdict_word(verdict: PreVerdict) -> &'static str {
+    match verdict {
+        PreVerdict::WithCallback(_) => "with",
+        PreVerdict::Synchronize(_) => "sync",
+        PreVerdict::NoCallback => "none",
+        PreVerdict::Complete(_) => "complete",
+        PreVerdict::Pending => "pend",
+    }
+}
+
+// What the number of a successful reply is.
+fn put_information(
+    object: &mut Object,
+    what: Option<&What>,
+    status: Status,
+    information: u64,
+) -> Result<(), AllocError> {
+    match (what, status) {
+        (Some(What::Create(..)), Status::Success) => object.id("handle", 'h', information),
+        (Some(What::Size(_)), Status::Success) => object.number("size", information),
+        _ => object.number("information", information),
+    }
+}
+
+// What an operation does, and on which volume.
+fn put_request(object: &mut Object, notes: &Notes, operation: u64) -> Result<(), AllocError> {
+    let Some(what) = notes.what(Some(operation)) else {
+        return Ok(());
+    };
+    object.text("request", what.word())?;
+    object.maybe("volume", 'v', notes.volume_of_request(what).map(u64::from))?;
+    object.maybe("handle", 'h', what.handle())?;
+    match what {
+        What::Create(_, path, mode) => {
+            object.written("path", "raw_path", path.path().text())?;
+            object.text("mode", mode_word(*mode))
+        }
+        What::Read(_, from, until) | What::Write(_, from, until) => {
+            object.number("from", *from)?;
+            object.number("until", *until)
+        }
+        What::SetSize(_, size) => object.number("size", *size),
+        _ => Ok(()),
+    }
+}
+
+// A context, its kind and whose it is.
+fn put_context(object: &mut Object, notes: &Notes, context: u64) -> Result<(), AllocError> {
+    object.id("context", 'c', context)?;
+    match notes.context(context) {
+        Some(note) => {
+            object.text("kind", kind_word(note.kind))?;
+            object.id("owner", 'i', u64::from(note.instance))
+        }
+        None => Ok(()),
+    }
+}
+
+fn put_deed(
+    object: &mut Object,
+    notes: &Notes,
+    context: u64,
+    deed: Deed,
+) -> Result<(), AllocError> {
+    put_context(object, notes, context)?;
+    match deed {
+        Deed::Set(old) => object.maybe("old", 'c', old),
+        Deed::Bumped(number) => object.number("number", number),
+        _ => Ok(()),
+    }
+}
+
+// What a line that was refused names.
+fn put_subject(object: &mut Object, told: &Told<'_>) -> Result<(), AllocError> {
+    let Some(task) = told.task else {
+        return Ok(());
+    };
+    object.maybe("worker", 'w', worker_of(task).map(|worker| u64::from(worker.0)))?;
+    object.maybe("filter", 'f', filter_of(task, told.place).map(|filter| u64::from(filter.0)))?;
+    object.maybe("volume", 'v', volume_of(task).map(|volume| u64::from(volume.0)))?;
+    object.maybe("instance", 'i', instance_of(task, told.place).map(u64::from))?;
+    object.maybe("operation", 'o', operation_of(task, told.place))?;
+    object.maybe("handle", 'h', handle_of(task))
+}
+
+/// Appends how far the life of an instance came on a line.
+pub fn say_change_json(
+    alloc: Global,
+    text: &mut String,
+    change: &Change,
+) -> Result<(), AllocError> {
+    let mut object = Object::new(alloc, change.line, "Became")?;
+    object.id("instance", 'i', u64::from(change.instance))?;
+    object.text("phase", phase_name(change.phase))?;
+    object.finish(text)
+}
+
+/// Appends that a callback left a reference behind.
+pub fn say_leak_json(
+    alloc: Global,
+    text: &mut String,
+    notes: &Notes,
+    leak: &LeakNote,
+    words: &str,
+) -> Result<(), AllocError> {
+    let mut object = Object::new(alloc, leak.line, "Leaked")?;
+    object.text("words", words)?;
+    put_context(&mut object, notes, leak.context)?;
+    object.text("callback", callback_of(leak.place))?;
+    object.maybe("instance", 'i', instance_in(leak.place).map(u64::from))?;
+    object.maybe("operation", 'o', operation_in(leak.place))?;
+    object.finish(text)
+}
+
+/// Appends whether an expectation was met: what was expected, and what the line before printed.
+pub fn say_expectation_json(
     alloc: Global,
     text: &mut String,
     line: u32,
     expected: &[u8],
-    printed: &[u8],
+    (is_met, printed): (bool, &[u8]),
 ) -> Result<(), AllocError> {
-    let expected = format!(in alloc; "{}", Ascii(expected))?;
-    let answered = Value::Array(answers(alloc, printed)?);
-    let value = json!(in alloc; {"line": line, "event": "Unmet", "expected": expected.as_str()})?;
-    let Value::Object(mut members) = value else {
-        return Ok(());
-    };
-    put(&mut members, alloc, "answered", answered)?;
-    let line = Value::Object(members).to_string(alloc)?;
-    text.push_str(line.as_str())?;
-    text.push('\n')
+    let mut object = Object::new(alloc, line, if is_met { "Met" } else { "Unmet" })?;
+    object.written("expected", "raw", expected)?;
+    if !is_met {
+        object.list("answered", answers(alloc, printed)?)?;
+    }
+    object.finish(text)
 }
 
 // The lines of what was printed.
@@ -62,113 +348,147 @@ fn answers(alloc: Global, printed: &[u8]) -> Result<Vec<Value>, AllocError> {
     Ok(all)
 }
 
-/// Appends what is left at the end, as an object: contexts that were born and cleaned up, references that were left behind, how many operations filters hold,
-/// and the exit status.
+/// Appends what is left at the end, and the exit status.
 pub fn say_end_json(
     alloc: Global,
     text: &mut String,
-    state: &State,
-    lines: u32,
-    (held, status): (u64, u8),
+    tally: &Tally,
+    words: &str,
 ) -> Result<(), AllocError> {
-    let value =
-        json!(in alloc; {"line": lines, "event": "End", "born": state.born(), "cleaned": state.cleaned_count(), "leaks": state.leaks(), "held": held, "status": status})?;
-    let line = value.to_string(alloc)?;
-    text.push_str(line.as_str())?;
-    text.push('\n')
+    let mut object = Object::new(alloc, tally.lines, "End")?;
+    object.text("words", words)?;
+    object.text("verdict", tally.verdict())?;
+    object.number("status", u64::from(tally.status))?;
+    object.number("refused", tally.refused)?;
+    object.number("born", tally.born)?;
+    object.number("cleaned", tally.cleaned)?;
+    object.number("leaks", tally.leaks)?;
+    object.number("held", tally.held)?;
+    object.number("misuses", tally.misuses)?;
+    object.number("unmet", tally.unmet)?;
+    object.finish(text)
 }
 
-// An id, behind its letter.
-fn put_id(
-    alloc: Global,
-    members: &mut Map<String, Value>,
-    key: &str,
-    letter: char,
-    number: Option<u64>,
-) -> Result<(), AllocError> {
-    match number {
-        Some(number) => {
-            let id = format!(in alloc; "{letter}{number}")?;
-            put(members, alloc, key, Value::String(id))
-        }
-        None => Ok(()),
+/// The name of a phase, as scripts print it.
+pub fn phase_name(phase: Phase) -> &'static str {
+    match phase {
+        Phase::Setup => "setup",
+        Phase::Attached => "attached",
+        Phase::Stopping => "stopping",
+        Phase::Completing => "completing",
+        Phase::Emptying => "emptying",
+        Phase::Detached => "detached",
     }
 }
 
-fn put_ids(
-    alloc: Global,
-    members: &mut Map<String, Value>,
-    event: &Event,
-) -> Result<(), AllocError> {
-    put_id(alloc, members, "worker", 'w', event.worker.map(u64::from))?;
-    put_id(alloc, members, "filter", 'f', event.filter.map(u64::from))?;
-    put_id(alloc, members, "volume", 'v', event.volume.map(u64::from))?;
-    put_id(
-        alloc,
-        members,
-        "instance",
-        'i',
-        event.instance.map(u64::from),
-    )?;
-    put_id(alloc, members, "operation", 'o', event.operation)?;
-    put_id(alloc, members, "handle", 'h', event.handle)
-}
-
-// A context, and its kind.
-fn put_context(
-    alloc: Global,
-    members: &mut Map<String, Value>,
-    notes: &Notes,
-    event: &Event,
-) -> Result<(), AllocError> {
-    put_id(alloc, members, "context", 'c', event.context)?;
-    let Some(context) = event.context else {
-        return Ok(());
-    };
-    let Ok(at) = usize::try_from(context) else {
-        return Ok(());
-    };
-    match notes.contexts.get(at) {
-        Some(note) => put(
-            members,
-            alloc,
-            "kind",
-            json!(in alloc; kind_word(note.kind))?,
-        ),
-        None => Ok(()),
+// The name of the callback that is there.
+fn callback_of(place: Place) -> &'static str {
+    match place {
+        Place::Idle => "none",
+        Place::Setup(_) => "setup",
+        Place::Pre(..) => "preoperation",
+        Place::Base(_) => "call",
+        Place::Post(..) => "postoperation",
+        Place::Drain(..) => "drain",
+        Place::EarlyDrain(..) => "early drain",
+        Place::Cleanup(_) => "cleanup",
+        Place::Query(_) => "query",
+        Place::Start(_) => "teardown-start",
+        Place::Complete(_) => "teardown-complete",
+        Place::Unload(_) => "unload",
     }
 }
 
-// What was answered.
-fn put_answer(
-    alloc: Global,
-    members: &mut Map<String, Value>,
-    event: &Event,
-) -> Result<(), AllocError> {
-    if let Some(status) = event.status {
-        put(members, alloc, "status", json!(in alloc; status.number())?)?;
-        put(members, alloc, "name", json!(in alloc; status.name())?)?;
-    }
-    if let Some(number) = event.number {
-        put(members, alloc, "number", json!(in alloc; number)?)?;
-    }
-    match event.verdict {
-        Some(verdict) => put(
-            members,
-            alloc,
-            "verdict",
-            json!(in alloc; verdict_word(verdict))?,
-        ),
-        None => Ok(()),
+// The name of an event.
+fn name_of(event: &Event) -> &'static str {
+    match event {
+        Event::Entered { place, .. } => entered_name(*place),
+        Event::Returned { place, .. } => returned_name(*place),
+        Event::OnContext { deed, .. } => deed_name(*deed),
+        Event::Loaded { .. } => "Loaded",
+        Event::Mounted { .. } => "Mounted",
+        Event::Attached { .. } => "Attached",
+        Event::Began { .. } => "Began",
+        Event::Moved { .. } => "Moved",
+        Event::Held { .. } => "Held",
+        Event::Done { .. } => "Done",
+        Event::Pre { .. } => "Pre",
+        Event::Base { .. } => "Base",
+        Event::Known { .. } => "Known",
+        Event::Post(_) => "Post",
+        Event::PostHeld(_) => "PostHeld",
+        Event::Drained(_) => "Drained",
+        Event::Replied { .. } => "Replied",
+        Event::Resumed { .. } => "Resumed",
+        Event::PostResumed(_) => "PostResumed",
+        Event::Planned { .. } => "Planned",
+        other => rest_name(other),
     }
 }
 
-fn verdict_word(verdict: PreVerdict) -> &'static str {
-    match verdict {
-        PreVerdict::WithCallback(_) => "with",
-        PreVerdict::Synchronize(_) => "sync",
-        PreVerdict::NoCallback => "none",
-        PreVerdict::Complete(_) => "complete",
-        PreVerdict::Pending => "pend",
+fn rest_name(event: &Event) -> &'static str {
+    match event {
+        Event::TakenOff { .. } => "TakenOff",
+        Event::NoneDue { .. } => "NoneDue",
+        Event::Counted { .. } => "Count",
+        Event::Leaks { .. } => "Leaks",
+        Event::NoneOwed { .. } => "NoneOwed",
+        Event::Finished { .. } => "Finished",
+        Event::FilterEmptied { .. } => "FilterEmptied",
+        Event::FilterFinished { .. } => "FilterFinished",
+        Event::Dismounting { .. } => "Dismounting",
+        Event::Dropped { .. } => "Dropped",
+        Event::NoneOpen { .. } => "NoneOpen",
+        Event::VolumeEmptied { .. } => "VolumeEmptied",
+        Event::VolumeFinished { .. } => "VolumeFinished",
+        Event::Phase { .. } => "Phase",
+        Event::Flight { .. } => "Flight",
+        Event::WillFail { .. } => "WillFail",
+        Event::Failures { .. } => "Failures",
+        _ => "Refused",
+    }
+}
+
+fn entered_name(place: Place) -> &'static str {
+    match place {
+        Place::Idle => "Idle",
+        Place::Setup(_) => "InSetup",
+        Place::Pre(..) => "InPre",
+        Place::Base(_) => "InBase",
+        Place::Post(..) => "InPost",
+        Place::Drain(..) => "InDrain",
+        Place::EarlyDrain(..) => "InEarlyDrain",
+        Place::Cleanup(_) => "InCleanup",
+        Place::Query(_) => "InQuery",
+        Place::Start(_) => "InStart",
+        Place::Complete(_) => "InComplete",
+        Place::Unload(_) => "InUnload",
+    }
+}
+
+fn returned_name(place: Place) -> &'static str {
+    match place {
+        Place::Setup(_) => "SetUp",
+        Place::Query(_) => "Queried",
+        Place::Start(_) => "Started",
+        Place::Complete(_) => "Completed",
+        Place::Unload(_) => "Unloaded",
+        _ => "EarlyDrained",
+    }
+}
+
+fn deed_name(deed: Deed) -> &'static str {
+    match deed {
+        Deed::Allocated => "Allocated",
+        Deed::Set(_) => "Set",
+        Deed::Got => "Got",
+        Deed::TakenOff => "TakenOff",
+        Deed::Referenced => "Referenced",
+        Deed::Released => "Released",
+        Deed::Body => "Body",
+        Deed::Written => "Written",
+        Deed::Bumped(_) => "Bumped",
+        Deed::InCleanup => "InCleanup",
+        Deed::Cleaned => "Cleaned",
     }
 }

@@ -1,6 +1,6 @@
 //! Where things stand in a picture of a run.
 
-use crate::event::{Event, Kind};
+use crate::event::{Event, Moment};
 use crate::notes::Notes;
 use std::alloc::{AllocError, Global};
 
@@ -15,8 +15,10 @@ pub const LANE: u32 = 34;
 
 pub const BAR: u32 = 14;
 
-/// How high the heads of the operations are, above the lanes of their volume.
-pub const HEAD: u32 = 64;
+/// How high a row of names is, above the lanes of a volume, and how many rows there are at most.
+pub const ROW: u32 = 13;
+
+const ROWS: usize = 12;
 
 /// The columns of a run: one for each event that is drawn.
 #[derive(Drop)]
@@ -27,11 +29,11 @@ pub struct Columns {
 
 impl Columns {
     /// The columns of these events.
-    pub fn new(alloc: Global, events: &[Event]) -> Result<Columns, AllocError> {
+    pub fn new(alloc: Global, moments: &[Moment]) -> Result<Columns, AllocError> {
         let mut places = Vec::new(alloc);
         let mut count = 0u32;
-        for event in events {
-            if is_drawn(event.kind) {
+        for moment in moments {
+            if is_drawn(&moment.event) {
                 count = count.saturating_add(1);
             }
             places.push(count)?;
@@ -53,8 +55,8 @@ impl Columns {
     }
 
     /// How far right the first event of that line, or after it, is.
-    pub fn x_of_line(&self, events: &[Event], line: u32) -> u32 {
-        match events.iter().position(|event| event.line >= line) {
+    pub fn x_of_line(&self, moments: &[Moment], line: u32) -> u32 {
+        match moments.iter().position(|moment| moment.line >= line) {
             Some(at) => self.x(at),
             None => self.right(),
         }
@@ -66,25 +68,61 @@ fn x_of(column: u32) -> u32 {
 }
 
 // Whether an event has a column of its own.
-fn is_drawn(kind: Kind) -> bool {
+fn is_drawn(event: &Event) -> bool {
     !matches!(
-        kind,
-        Kind::Loaded
-            | Kind::Mounted
-            | Kind::Planned
-            | Kind::WillFail
-            | Kind::Failures
-            | Kind::Leaks
-            | Kind::Phase
-            | Kind::Flight
-            | Kind::Count
-            | Kind::Due
-            | Kind::Cleaning
-            | Kind::WasCleaned
-            | Kind::Held
-            | Kind::Moved
-            | Kind::Done,
+        event,
+        Event::Loaded { .. }
+            | Event::Mounted { .. }
+            | Event::Planned { .. }
+            | Event::WillFail { .. }
+            | Event::Failures { .. }
+            | Event::Leaks { .. }
+            | Event::Phase { .. }
+            | Event::Flight { .. }
+            | Event::Counted { .. }
+            | Event::Held { .. }
+            | Event::Moved { .. }
+            | Event::Done { .. },
     )
+}
+
+/// The rows in which the names of the operations on a volume stand, from the top: none runs into another one, or into another one's stalk.
+#[derive(Drop)]
+pub struct Rows {
+    ends: Vec<u32>,
+}
+
+impl Rows {
+    /// No name stands anywhere.
+    pub fn new(alloc: Global) -> Rows {
+        Rows {
+            ends: Vec::new(alloc),
+        }
+    }
+
+    /// The row of a name that begins there and is so wide: below all that reach so far right. None if all rows do.
+    pub fn place(&mut self, x: u32, width: u32) -> Result<Option<u32>, AllocError> {
+        let mut row = 0usize;
+        for (at, end) in self.ends.iter().enumerate() {
+            if *end > x {
+                row = at.saturating_add(1);
+            }
+        }
+        if row >= ROWS {
+            return Ok(None);
+        }
+        let end = x.saturating_add(width);
+        match self.ends.get_mut(row) {
+            Some(place) => *place = end,
+            None => self.ends.push(end)?,
+        }
+        Ok(u32::try_from(row).ok())
+    }
+
+    /// How many rows there are.
+    pub fn count(&self) -> u32 {
+        u32::try_from(self.ends.len()).unwrap_or(0)
+    }
 }
 
 /// What a lane is for.
@@ -116,15 +154,18 @@ impl Lane {
     }
 }
 
-/// The lanes, from the top: of each volume the clients', those of its instances by falling altitude, and its file system's.
-pub fn lanes(alloc: Global, notes: &Notes) -> Result<Vec<Lane>, AllocError> {
+/// The lanes, from the top: of each volume the clients', with room for so many rows of names, those of its instances by falling altitude, and its file
+/// system's.
+pub fn lanes(alloc: Global, notes: &Notes, rows: &[u32]) -> Result<Vec<Lane>, AllocError> {
     let mut lanes = Vec::new(alloc);
     let mut top = 40u32;
     for number in 0..notes.volumes.len() {
         let Ok(volume) = u8::try_from(number) else {
             return Ok(lanes);
         };
-        top = add(&mut lanes, Owner::Client(volume), top, HEAD)?;
+        let rows = rows.get(number).copied().unwrap_or(0);
+        let head = rows.saturating_mul(ROW).saturating_add(30);
+        top = add(&mut lanes, Owner::Client(volume), top, head)?;
         for instance in by_altitude(alloc, notes, volume)? {
             let height = LANE.saturating_add(bars_of(notes, instance).saturating_mul(BAR));
             top = add(&mut lanes, Owner::Instance(instance), top, height)?;

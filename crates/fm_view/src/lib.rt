@@ -1,23 +1,30 @@
-//! What happened when a script ran: in words, as JSON and as a picture. A run is that of `fltscript`, line by line; what it prints is read back.
+//! What happened when a script ran: in words, as JSON, as a page for a browser and as a picture. A run is that of `fltscript`, line by line; what it prints is
+//! read back.
 #![tactic(auto)]
 
 mod answer;
-mod asked;
+mod colour;
 mod escape;
 mod event;
 mod expect;
+mod happened;
+mod inert;
 mod json;
 mod label;
 mod lanes;
 mod named;
 mod notes;
+mod object;
+mod page;
 mod picture;
 mod reason;
-mod settled;
 mod status;
+mod subject;
+mod tally;
 mod usage;
 mod verdict;
 mod view;
+mod ways;
 mod words;
 
 pub use crate::answer::read_answer;

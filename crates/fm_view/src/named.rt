@@ -115,7 +115,8 @@ pub fn kind_word(kind: ContextKind) -> &'static str {
     }
 }
 
-fn mode_word(mode: CreateMode) -> &'static str {
+/// The word for how a create finds its file.
+pub fn mode_word(mode: CreateMode) -> &'static str {
     match mode {
         CreateMode::Existing => "existing",
         CreateMode::New => "new",

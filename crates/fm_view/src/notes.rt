@@ -1,13 +1,14 @@
 //! What the lines of a script named so far, and since when: what the manager's state doesn't tell.
 
-use crate::event::{Event, Kind};
+use crate::event::{Deed, Event, Moment, Visit, instance_in};
 use fm_altitude::Altitude;
 use fm_core::{FilterPhase, Phase, Place, State, Step, VolumePhase};
-use fm_data::{FileRequest, PreVerdict, Request};
+use fm_data::{FileRequest, Request};
 use fm_script::Task;
 use fm_types::limits::SCRIPT_WORKERS;
 use fm_types::{
-    ContextKind, CreateMode, FilterId, InstanceId, Name, OpId, SharedPath, VolumeId, WorkerId,
+    ContextKind, CreateMode, FilterId, InstanceId, Name, OpId, SharedPath, Status, VolumeId,
+    WorkerId,
 };
 use std::alloc::{AllocError, Global};
 
@@ -32,6 +33,8 @@ pub struct InstanceNote {
     pub name: Name,
     /// Its altitude.
     pub altitude: Altitude,
+    /// Its filter.
+    pub filter: u8,
     /// Its volume.
     pub volume: u8,
     /// How far its life is.
@@ -62,6 +65,39 @@ pub enum What {
     Close(u64),
 }
 
+impl What {
+    /// The word that asks for it in a script.
+    pub fn word(&self) -> &'static str {
+        match self {
+            What::Create(..) => "create",
+            What::List(_) => "list",
+            What::Read(..) => "read",
+            What::Write(..) => "write",
+            What::SetSize(..) => "setsize",
+            What::Size(_) => "size",
+            What::Flush(_) => "flush",
+            What::Delete(_) => "delete",
+            What::Cleanup(_) => "cleanup",
+            What::Close(_) => "close",
+        }
+    }
+
+    /// The handle that it is on.
+    pub fn handle(&self) -> Option<u64> {
+        match self {
+            What::Create(..) | What::List(_) => None,
+            What::Read(handle, ..)
+            | What::Write(handle, ..)
+            | What::SetSize(handle, _)
+            | What::Size(handle)
+            | What::Flush(handle)
+            | What::Delete(handle)
+            | What::Cleanup(handle)
+            | What::Close(handle) => Some(*handle),
+        }
+    }
+}
+
 /// An operation.
 #[derive(Drop)]
 pub struct OperationNote {
@@ -80,6 +116,8 @@ pub struct ContextNote {
     pub instance: u16,
     /// The line on which it was.
     pub line: u32,
+    /// The line on which it was set last; 0 if it never was.
+    pub set: u32,
 }
 
 /// A reference that a callback left behind.
@@ -124,6 +162,8 @@ pub struct Notes {
     pub changes: Vec<Change>,
     /// The handles that are open, as far as replies told.
     pub handles: Vec<u64>,
+    /// The handles that were given, each with its volume.
+    pub opened: Vec<(u64, u8)>,
     /// For each worker the line on which it came to where it is.
     pub workers: [u32; SCRIPT_WORKERS as usize],
     /// How often each status refused a line.
@@ -144,49 +184,69 @@ impl Notes {
             carried: Vec::new(alloc),
             changes: Vec::new(alloc),
             handles: Vec::new(alloc),
+            opened: Vec::new(alloc),
             workers: [0; SCRIPT_WORKERS as usize],
             refusals: [0; STATUSES],
         }
     }
 
-    /// Notes what an event named, and what changed with it.
-    pub fn learn(&mut self, event: &Event, task: &Task, state: &State) -> Result<(), AllocError> {
-        match event.kind {
-            Kind::Refused => {
-                self.refuse(event);
-                return self.follow(event.line, state);
-            }
-            Kind::Loaded | Kind::Mounted | Kind::Attached | Kind::InSetup => {
-                self.name(event, task)?;
-            }
-            Kind::Began => self.begin(event, task)?,
-            Kind::Allocated => self.allocate(event, task)?,
-            Kind::Replied => self.reply(event)?,
-            Kind::Pre => self.carry(event)?,
-            Kind::Dropped => self.close(event.handle),
-            _ => {}
+    /// Notes what an event of a line named, and what changed with it.
+    pub fn learn(
+        &mut self,
+        line: u32,
+        event: &Event,
+        task: &Task,
+        state: &State,
+    ) -> Result<(), AllocError> {
+        match event {
+            Event::Refused { status, .. } => self.refuse(*status),
+            Event::Began { .. } => self.begin(line, task)?,
+            Event::OnContext {
+                deed: Deed::Allocated,
+                worker,
+                ..
+            } => self.allocate(line, *worker, task, state)?,
+            Event::OnContext {
+                deed: Deed::Set(_),
+                context,
+                ..
+            } => self.set(line, *context),
+            Event::Replied {
+                operation,
+                status: Status::Success,
+                information,
+            } => self.reply(*operation, *information)?,
+            Event::Pre { visit, context, .. } => self.carry(*visit, *context)?,
+            Event::Dropped { handle, .. } => self.close(*handle),
+            _ => self.name(line, task, event)?,
         }
-        self.move_worker(event);
-        self.start(event);
-        if changes_phases(event.kind) {
-            return self.follow(event.line, state);
+        self.move_worker(line, event);
+        self.start(line, event);
+        if changes_phases(event) {
+            return self.follow(line, state);
         }
         Ok(())
     }
 
     /// Counts a refusal.
-    pub fn refuse(&mut self, event: &Event) {
-        if let Some(status) = event.status {
-            let at = usize::from(status.number());
-            self.refusals[at] = self.refusals[at].saturating_add(1);
+    pub fn refuse(&mut self, status: Status) {
+        let at = usize::from(status.number());
+        self.refusals[at] = self.refusals[at].saturating_add(1);
+    }
+
+    /// How many lines were refused.
+    pub fn refused(&self) -> u64 {
+        let mut all = 0u64;
+        for count in self.refusals {
+            all = all.saturating_add(count);
         }
+        all
     }
 
     // Notes what was named.
-    fn name(&mut self, event: &Event, task: &Task) -> Result<(), AllocError> {
-        let since = event.line;
-        match task {
-            Task::Event(Step::Register { name, registration }) => {
+    fn name(&mut self, since: u32, task: &Task, event: &Event) -> Result<(), AllocError> {
+        match (event, task) {
+            (Event::Loaded { .. }, Task::Event(Step::Register { name, registration })) => {
                 self.filters.push(Loaded {
                     name: *name,
                     phase: FilterPhase::Loaded,
@@ -195,27 +255,34 @@ impl Notes {
                 self.routines
                     .push((registration.query, registration.unload))?;
             }
-            Task::Event(Step::Mount { name }) => {
+            (Event::Mounted { .. }, Task::Event(Step::Mount { name })) => {
                 self.volumes.push(Loaded {
                     name: *name,
                     phase: VolumePhase::Mounted,
                     since,
                 })?;
             }
-            Task::Event(
-                Step::Attach {
+            (
+                Event::Entered { .. },
+                Task::Event(
+                    Step::Attach {
+                        name,
+                        altitude,
+                        filter,
+                        volume,
+                        ..
+                    },
+                ),
+            ) => self.attach(*name, *altitude, (filter.0, volume.0), Phase::Setup, since)?,
+            (
+                Event::Attached { .. },
+                Task::Attach {
                     name,
                     altitude,
+                    filter,
                     volume,
-                    ..
                 },
-            ) => self.attach(*name, *altitude, volume.0, Phase::Setup, since)?,
-            Task::Attach {
-                name,
-                altitude,
-                volume,
-                ..
-            } => self.attach(*name, *altitude, volume.0, Phase::Attached, since)?,
+            ) => self.attach(*name, *altitude, (filter.0, volume.0), Phase::Attached, since)?,
             _ => {}
         }
         Ok(())
@@ -226,7 +293,7 @@ impl Notes {
         &mut self,
         name: Name,
         altitude: Altitude,
-        volume: u8,
+        (filter, volume): (u8, u8),
         phase: Phase,
         since: u32,
     ) -> Result<(), AllocError> {
@@ -240,6 +307,7 @@ impl Notes {
         self.instances.push(InstanceNote {
             name,
             altitude,
+            filter,
             volume,
             phase,
             since,
@@ -249,43 +317,62 @@ impl Notes {
     }
 
     // An operation began.
-    fn begin(&mut self, event: &Event, task: &Task) -> Result<(), AllocError> {
+    fn begin(&mut self, line: u32, task: &Task) -> Result<(), AllocError> {
         if let Task::Event(Step::Begin(request)) = task {
             self.operations.push(OperationNote {
                 what: what_of(request)?,
-                line: event.line,
+                line,
             })?;
         }
         Ok(())
     }
 
-    // A context was allocated.
-    fn allocate(&mut self, event: &Event, task: &Task) -> Result<(), AllocError> {
-        if let (Task::Event(Step::Allocate { kind, .. }), Some(instance)) = (task, event.instance) {
+    // A context was allocated by the callback that the worker is in.
+    fn allocate(
+        &mut self,
+        line: u32,
+        worker: u8,
+        task: &Task,
+        state: &State,
+    ) -> Result<(), AllocError> {
+        let place = state.place(WorkerId(worker)).unwrap_or(Place::Idle);
+        if let (Task::Event(Step::Allocate { kind, .. }), Some(instance)) =
+            (task, instance_in(place)) {
             self.contexts.push(ContextNote {
                 kind: *kind,
                 instance,
-                line: event.line,
+                line,
+                set: 0,
             })?;
         }
         Ok(())
     }
 
-    // A reply was handed out: a create's handle is open, and a close's isn't any more.
-    fn reply(&mut self, event: &Event) -> Result<(), AllocError> {
-        let is_success = event.status.is_some_and(|status| status.number() == 0);
-        if !is_success {
-            return Ok(());
+    // A context was set.
+    fn set(&mut self, line: u32, context: u64) {
+        if let Ok(at) = usize::try_from(context) {
+            if let Some(note) = self.contexts.get_mut(at) {
+                note.set = line;
+            }
         }
-        match self.what(event.operation) {
-            Some(What::Create(..)) => {
-                if let Some(handle) = event.number {
-                    self.handles.push(handle)?;
-                }
+    }
+
+    /// What is noted of a context.
+    pub fn context(&self, number: u64) -> Option<ContextNote> {
+        self.contexts.get(usize::try_from(number).ok()?).copied()
+    }
+
+    // A reply of success was handed out: a create's handle is open, and a close's isn't any more.
+    fn reply(&mut self, operation: u64, information: u64) -> Result<(), AllocError> {
+        match self.what(Some(operation)) {
+            Some(What::Create(volume, ..)) => {
+                let volume = *volume;
+                self.opened.push((information, volume))?;
+                self.handles.push(information)?;
             }
             Some(What::Close(handle)) => {
                 let handle = *handle;
-                self.close(Some(handle));
+                self.close(handle);
             }
             _ => {}
         }
@@ -301,29 +388,32 @@ impl Notes {
         }
     }
 
-    // A handle isn't open any more.
-    fn close(&mut self, handle: Option<u64>) {
-        if let Some(handle) = handle {
-            self.handles.retain(|other| *other != handle);
+    /// The volume that a request is on: as it says itself, or that of its handle's create.
+    pub fn volume_of_request(&self, what: &What) -> Option<u8> {
+        if let What::Create(volume, ..) | What::List(volume) = what {
+            return Some(*volume);
         }
+        let handle = what.handle()?;
+        let found = self.opened.iter().find(|(other, _)| *other == handle)?;
+        Some(found.1)
     }
 
-    // A preoperation sent a context along.
-    fn carry(&mut self, event: &Event) -> Result<(), AllocError> {
-        if let (
-            Some(operation),
-            Some(instance),
-            Some(context),
-            Some(PreVerdict::WithCallback(_)),
-        ) = (
-            event.operation,
-            event.instance,
-            event.context,
-            event.verdict,
-        ) {
+    /// The volume that an operation is on.
+    pub fn volume_of(&self, operation: u64) -> Option<u8> {
+        self.volume_of_request(self.what(Some(operation))?)
+    }
+
+    // A handle isn't open any more.
+    fn close(&mut self, handle: u64) {
+        self.handles.retain(|other| *other != handle);
+    }
+
+    // A preoperation sent perhaps a context along.
+    fn carry(&mut self, visit: Visit, context: Option<u64>) -> Result<(), AllocError> {
+        if let Some(context) = context {
             self.carried.push(Carried {
-                operation,
-                instance,
+                operation: visit.operation,
+                instance: visit.instance,
                 context,
             })?;
         }
@@ -340,48 +430,63 @@ impl Notes {
         Ok(())
     }
 
-    /// On a line of `go` the postoperations and drains left behind what they were sent.
-    pub fn leak_carried(&mut self, events: &[Event], line: u32) -> Result<(), AllocError> {
-        for event in events {
-            if event.line == line && matches!(event.kind, Kind::Post | Kind::Drained) {
-                for at in 0..self.carried.len() {
-                    if let Some(carried) = self.carried.get(at).copied() {
-                        self.leak_of(event, carried)?;
-                    }
-                }
+    /// In a `go` the postoperations and drains left behind what they were sent.
+    pub fn leak_carried(&mut self, moments: &[Moment], line: u32) -> Result<(), AllocError> {
+        for moment in moments {
+            if let (true, Event::Post(visit) | Event::Drained(visit)) =
+                (moment.line == line, moment.event) {
+                self.leak_of(line, visit)?;
             }
         }
         Ok(())
     }
 
-    fn leak_of(&mut self, event: &Event, carried: Carried) -> Result<(), AllocError> {
-        if event.operation == Some(carried.operation) && event.instance == Some(carried.instance) {
-            let place = Place::Post(OpId(carried.operation), InstanceId(carried.instance));
-            return self.leak(carried.context, place, event.line);
+    fn leak_of(&mut self, line: u32, visit: Visit) -> Result<(), AllocError> {
+        for at in 0..self.carried.len() {
+            if let Some(carried) = self.carried.get(at).copied() {
+                if visit.operation == carried.operation && visit.instance == carried.instance {
+                    let place = Place::Post(OpId(visit.operation), InstanceId(visit.instance));
+                    self.leak(carried.context, place, line)?;
+                }
+            }
         }
         Ok(())
     }
 
     // A worker came to where it is.
-    fn move_worker(&mut self, event: &Event) {
-        if let Some(worker) = event.worker {
-            if let Some(line) = self.workers.get_mut(usize::from(worker)) {
-                if enters(event.kind) {
-                    *line = event.line;
-                }
-            }
+    fn move_worker(&mut self, line: u32, event: &Event) {
+        let worker = match event {
+            Event::Entered { worker, .. }
+            | Event::OnContext {
+                worker,
+                deed: Deed::InCleanup,
+                ..
+            } => *worker,
+            _ => return,
+        };
+        if let Some(since) = self.workers.get_mut(usize::from(worker)) {
+            *since = line;
         }
     }
 
     // A teardown starts.
-    fn start(&mut self, event: &Event) {
-        if let Some(instance) = event.instance {
-            if let Some(note) = self.instances.get_mut(usize::from(instance)) {
-                match event.kind {
-                    Kind::InStart => note.started = (event.line, 0),
-                    Kind::Started => note.started = (note.started.0, event.line),
-                    _ => {}
-                }
+    fn start(&mut self, line: u32, event: &Event) {
+        let (is_over, instance) = match event {
+            Event::Entered {
+                place: Place::Start(instance),
+                ..
+            } => (false, *instance),
+            Event::Returned {
+                place: Place::Start(instance),
+                ..
+            } => (true, *instance),
+            _ => return,
+        };
+        if let Some(note) = self.instances.get_mut(usize::from(instance.0)) {
+            if is_over {
+                note.started = (note.started.0, line);
+            } else {
+                note.started = (line, 0);
             }
         }
     }
@@ -451,38 +556,21 @@ fn volume_phase_at(state: &State, at: usize) -> Option<VolumePhase> {
 }
 
 // Whether the life of an instance, a filter or a volume may have gone on.
-fn changes_phases(kind: Kind) -> bool {
+fn changes_phases(event: &Event) -> bool {
     matches!(
-        kind,
-        Kind::SetUp
-            | Kind::Queried
-            | Kind::InComplete
-            | Kind::Completed
-            | Kind::Finished
-            | Kind::Unloaded
-            | Kind::FilterEmptied
-            | Kind::FilterFinished
-            | Kind::Dismounting
-            | Kind::VolumeEmptied
-            | Kind::VolumeFinished,
-    )
-}
-
-// Whether a worker is inside a callback or a call from then on.
-fn enters(kind: Kind) -> bool {
-    matches!(
-        kind,
-        Kind::InSetup
-            | Kind::InPre
-            | Kind::InBase
-            | Kind::InPost
-            | Kind::InDrain
-            | Kind::InEarlyDrain
-            | Kind::InCleanup
-            | Kind::InQuery
-            | Kind::InStart
-            | Kind::InComplete
-            | Kind::InUnload,
+        event,
+        Event::Returned { .. }
+            | Event::Entered {
+                place: Place::Complete(_),
+                ..
+            }
+            | Event::Finished { .. }
+            | Event::FilterEmptied { .. }
+            | Event::FilterFinished { .. }
+            | Event::Dismounting { .. }
+            | Event::VolumeEmptied { .. }
+            | Event::VolumeFinished { .. }
+            | Event::Refused { .. },
     )
 }
 

@@ -1,18 +1,20 @@
 //! Why a line was refused, as far as the manager's state and the notes tell.
 
-use crate::event::{Event, Kind};
-use crate::named::{Ascii, Named, PlaceName, Stated};
-use crate::notes::{InstanceNote, Notes, What};
+use crate::named::{Ascii, Named, PlaceName};
+use crate::notes::{ContextNote, InstanceNote, Notes, What};
 use crate::status::sentence;
-use crate::usage::usage;
+use crate::subject::{
+    filter_of, handle_of, instance_of, operation_of, turned, volume_of, worker_of,
+};
+use crate::usage::{say_wrong, usage};
 use crate::verdict::held_at;
 use crate::words::phase_word;
 use fm_altitude::Altitude;
-use fm_core::{Entry, FilterPhase, Phase, Place, State, VolumePhase};
-use fm_script::{Keyword, split_at_byte};
+use fm_core::{Count, Entry, FilterPhase, Phase, Place, State, Step, VolumePhase};
+use fm_script::{ContextList, Keyword, Task, split_at_byte};
 use fm_text::read_id;
-use fm_types::limits::{LINE, SCRIPT_WORKERS};
-use fm_types::{FilterId, InstanceId, OpId, Status, WorkerId};
+use fm_types::limits::{LINE, SCRIPT_WORKERS, WORKERS};
+use fm_types::{ContextKind, FilterId, InstanceId, OpId, Status, WorkerId};
 use std::alloc::{AllocError, Global};
 use std::fmt;
 use strsim::osa_distance;
@@ -24,35 +26,41 @@ pub struct Refusal<'a> {
     pub notes: &'a Notes,
     /// The manager's state.
     pub state: &'a State,
-    /// What it asked for; `Refused` if it couldn't be read.
-    pub asked: Event,
+    /// The contexts by their numbers.
+    pub contexts: &'a ContextList,
+    /// What it asked for, if it could be read.
+    pub task: Option<&'a Task>,
+    /// Where its worker was.
+    pub place: Place,
     /// The line.
     pub line: &'a [u8],
     /// The context that the refusal named.
     pub context: Option<u64>,
 }
 
-/// Appends that a line was refused, by the status and its name, and why.
+/// Appends why a line was refused.
 pub fn say_refusal(
     alloc: Global,
     text: &mut String,
     refusal: &Refusal<'_>,
     status: Status,
 ) -> Result<(), AllocError> {
-    write!(text, "REFUSED {}: ", Stated(status))?;
-    if refusal.asked.kind == Kind::Refused {
+    let Some(task) = refusal.task else {
         return say_unasked(alloc, text, refusal, status);
-    }
+    };
     match status {
-        Status::WrongStep => say_wrong_step(text, refusal),
-        Status::DeletingObject | Status::NoInstance => say_going(text, refusal),
-        Status::NotPended => say_not_held(text, refusal),
-        Status::Busy(count) => say_busy(text, refusal, count),
-        Status::BadRequest => write!(text, "{}", past_a_limit(refusal.asked.kind)),
-        Status::NoHandle => say_no_handle(text, refusal),
-        Status::DoNotDetach => say_unwilling(text, refusal),
+        Status::WrongStep => say_wrong_step(text, refusal, task),
+        Status::DeletingObject | Status::NoInstance => say_going(text, refusal, task),
+        Status::NotPended => say_not_held(text, refusal, task),
+        Status::Busy(count) => say_busy(text, refusal, task, count),
+        Status::BadRequest => write!(text, "{}", past_a_limit(task)),
+        Status::NoHandle => say_no_handle(text, refusal, task),
+        Status::DoNotDetach => say_unwilling(text, refusal, task),
         Status::AlreadyDefined => say_defined(text, refusal),
-        Status::NameCollision | Status::AltitudeCollision => say_collision(text, refusal, status),
+        Status::AlreadyLinked => say_linked(text, refusal, task),
+        Status::NameCollision | Status::AltitudeCollision => {
+            say_collision(text, refusal, task, status)
+        }
         _ => write!(text, "{}", sentence(status)),
     }
 }
@@ -74,13 +82,13 @@ fn say_unasked(
 }
 
 // Which limit or rule a line passes that could be read.
-fn past_a_limit(kind: Kind) -> &'static str {
-    match kind {
-        Kind::Began =>
-            "one read or write has at most 32,768 bytes, and a file ends at 2^40 at most",
-        Kind::Written => "the body has another length",
-        Kind::Bumped => "the body ends before eight bytes from there",
-        Kind::WillFail => "device calls count from 1",
+fn past_a_limit(task: &Task) -> &'static str {
+    match task {
+        Task::Event(Step::Begin(_)) => {
+            "one read or write has at most 32,768 bytes, and a file ends at 2^40 at most"
+        }
+        Task::Event(Step::WriteBody { .. }) => "the body has another length",
+        Task::Event(Step::Bump { .. }) => "the body ends before eight bytes from there",
         _ => "it doesn't fit what it is asked of",
     }
 }
@@ -103,8 +111,12 @@ fn say_unknown(text: &mut String, refusal: &Refusal<'_>) -> Result<(), AllocErro
 }
 
 // Why a handle isn't open for it.
-fn say_no_handle(text: &mut String, refusal: &Refusal<'_>) -> Result<(), AllocError> {
-    let Some(handle) = refusal.asked.handle else {
+fn say_no_handle(
+    text: &mut String,
+    refusal: &Refusal<'_>,
+    task: &Task,
+) -> Result<(), AllocError> {
+    let Some(handle) = handle_of(task) else {
         return write!(text, "{}", sentence(Status::NoHandle));
     };
     if handle >= refusal.state.handles_given() {
@@ -132,29 +144,24 @@ fn say_no_handle(text: &mut String, refusal: &Refusal<'_>) -> Result<(), AllocEr
 }
 
 // Whether a filter was asked at all.
-fn say_unwilling(text: &mut String, refusal: &Refusal<'_>) -> Result<(), AllocError> {
-    let asks = match refusal.asked.kind {
-        Kind::InQuery => refusal
-            .asked
-            .instance
-            .and_then(|instance| refusal.state.filter_of(InstanceId(instance))),
-        _ => refusal.asked.filter.map(FilterId),
-    };
-    let routines = match asks {
-        Some(filter) => refusal.notes.routines.get(usize::from(filter.0)).copied(),
-        None => None,
-    };
-    match (refusal.asked.kind, routines) {
-        (Kind::InQuery, Some((false, _))) => {
-            write!(text, "the filter has no query routine, so nobody was asked")
+fn say_unwilling(
+    text: &mut String,
+    refusal: &Refusal<'_>,
+    task: &Task,
+) -> Result<(), AllocError> {
+    let (asks, routine) = match task {
+        Task::Event(Step::AskDetach { instance, .. }) => {
+            (refusal.state.filter_of(*instance), "query")
         }
-        (Kind::InUnload, Some((_, false))) => {
-            write!(
-                text,
-                "the filter has no unload routine, so nobody was asked"
-            )
+        Task::Event(Step::AskUnload { filter, .. }) => (Some(*filter), "unload"),
+        _ => (None, ""),
+    };
+    match asks {
+        Some(filter) => {
+            let filter = Named::Filter(refusal.notes, filter.0);
+            write!(text, "{filter} has no {routine} routine, so nobody was asked")
         }
-        _ => write!(text, "{}", sentence(Status::DoNotDetach)),
+        None => write!(text, "{}", sentence(Status::DoNotDetach)),
     }
 }
 
@@ -172,16 +179,41 @@ fn say_defined(text: &mut String, refusal: &Refusal<'_>) -> Result<(), AllocErro
     }
 }
 
+// Where a context is set already.
+fn say_linked(
+    text: &mut String,
+    refusal: &Refusal<'_>,
+    task: &Task,
+) -> Result<(), AllocError> {
+    let context = match task {
+        Task::Event(Step::Set { context, .. }) => refusal.contexts.number_of(*context),
+        _ => None,
+    };
+    let Some(number) = context else {
+        return write!(text, "{}", sentence(Status::AlreadyLinked));
+    };
+    let number = number as u64;
+    write!(text, "{} is set already", Named::Context(refusal.notes, number))?;
+    match refusal.notes.context(number) {
+        Some(note) if note.set > 0 => write!(text, ", since line {}", note.set),
+        _ => Ok(()),
+    }
+}
+
 // Which instance has the name or the altitude.
 fn say_collision(
     text: &mut String,
     refusal: &Refusal<'_>,
+    task: &Task,
     status: Status,
 ) -> Result<(), AllocError> {
     write!(text, "{}", sentence(status))?;
+    let Some(volume) = volume_of(task) else {
+        return Ok(());
+    };
     let mut number = 0u16;
     for note in &refusal.notes.instances {
-        let is_there = note.phase != Phase::Detached && Some(note.volume) == refusal.asked.volume;
+        let is_there = note.phase != Phase::Detached && note.volume == volume.0;
         if is_there && is_spelled(note, refusal.line, status) {
             return write!(text, ": {}", Named::Instance(refusal.notes, number));
         }
@@ -210,11 +242,11 @@ fn say_unread(alloc: Global, text: &mut String, line: &[u8]) -> Result<(), Alloc
         return write!(text, "a line has at most {LINE} bytes");
     }
     let (word, _) = split_at_byte(line, b' ');
-    if has_empty_word(line) {
-        write!(text, "it has a space too many; ")?;
-    }
     match Keyword::read(word) {
-        Some(keyword) => write!(text, "it is {} {}", Ascii(word), usage(keyword)),
+        Some(keyword) => {
+            say_wrong(text, line, usage(keyword))?;
+            write!(text, ": it is {} {}", Ascii(word), usage(keyword))
+        }
         None if word == b"detach".as_slice() => {
             write!(
                 text,
@@ -235,11 +267,6 @@ fn say_unread(alloc: Global, text: &mut String, line: &[u8]) -> Result<(), Alloc
             say_nearest(alloc, text, word)
         }
     }
-}
-
-// Whether two spaces stand side by side, or one at an end.
-fn has_empty_word(line: &[u8]) -> bool {
-    line.split(|byte| *byte == b' ').any(|word| word.is_empty())
 }
 
 // The command that is spelled most alike.
@@ -265,21 +292,28 @@ fn say_nearest(alloc: Global, text: &mut String, word: &[u8]) -> Result<(), Allo
 }
 
 // Something out of order: where the worker is, or what else is in the way.
-fn say_wrong_step(text: &mut String, refusal: &Refusal<'_>) -> Result<(), AllocError> {
-    let asked = refusal.asked;
-    if let Some(worker) = asked.worker {
-        let worker = WorkerId(worker);
-        if let Some(place) = refusal.state.place(worker) {
-            if place != Place::Idle {
-                return say_place(text, refusal, worker, place);
-            }
-        }
+fn say_wrong_step(
+    text: &mut String,
+    refusal: &Refusal<'_>,
+    task: &Task,
+) -> Result<(), AllocError> {
+    let worker = worker_of(task);
+    if let (Some(worker), true) = (worker, refusal.place != Place::Idle) {
+        return say_place(text, refusal, worker, refusal.place);
     }
-    match (asked.kind, asked.worker) {
-        (Kind::Next | Kind::Go | Kind::Replied, _) => say_operation(text, refusal),
-        (Kind::InStart | Kind::InComplete | Kind::Finished, _) => say_instance(text, refusal),
-        (_, Some(worker)) => write!(text, "w{worker} is in no callback"),
-        _ => say_object(text, refusal),
+    match (task, turned(task), worker) {
+        (_, Some(operation), _) => say_operation(text, refusal, operation),
+        (
+            Task::Event(
+                Step::StartTeardown { instance, .. }
+                | Step::CompleteTeardown { instance, .. }
+                | Step::Finish { instance },
+            ),
+            _,
+            _,
+        ) => say_instance(text, refusal, task, instance.0),
+        (_, _, Some(worker)) => write!(text, "w{} is in no callback", worker.0),
+        _ => say_object(text, refusal, task),
     }
 }
 
@@ -296,8 +330,11 @@ fn say_place(
 }
 
 // Why an operation doesn't go on.
-fn say_operation(text: &mut String, refusal: &Refusal<'_>) -> Result<(), AllocError> {
-    let operation = OpId(refusal.asked.operation.unwrap_or(0));
+fn say_operation(
+    text: &mut String,
+    refusal: &Refusal<'_>,
+    operation: OpId,
+) -> Result<(), AllocError> {
     if let Some(worker) = worker_in(refusal.state, operation) {
         if let Some(place) = refusal.state.place(worker) {
             return say_place(text, refusal, worker, place);
@@ -314,7 +351,7 @@ fn say_operation(text: &mut String, refusal: &Refusal<'_>) -> Result<(), AllocEr
 
 // The worker that is in a callback or a call for an operation.
 fn worker_in(state: &State, operation: OpId) -> Option<WorkerId> {
-    for number in 0..48u8 {
+    for number in 0..WORKERS as u8 {
         let worker = WorkerId(number);
         match state.place(worker) {
             Some(Place::Pre(o, _) | Place::Post(o, _) | Place::Drain(o, _) | Place::Base(o))
@@ -327,33 +364,29 @@ fn worker_in(state: &State, operation: OpId) -> Option<WorkerId> {
     None
 }
 
-// The instance that a line asked for.
-fn instance_of<'a>(refusal: &Refusal<'a>) -> Option<(u16, &'a InstanceNote)> {
-    let instance = refusal.asked.instance?;
-    let note = refusal.notes.instances.get(usize::from(instance))?;
-    Some((instance, note))
-}
-
 // Why an instance isn't so far.
-fn say_instance(text: &mut String, refusal: &Refusal<'_>) -> Result<(), AllocError> {
-    let Some((instance, note)) = instance_of(refusal) else {
+fn say_instance(
+    text: &mut String,
+    refusal: &Refusal<'_>,
+    task: &Task,
+    instance: u16,
+) -> Result<(), AllocError> {
+    let Some(note) = refusal.notes.instances.get(usize::from(instance)) else {
         return write!(text, "{}", sentence(Status::WrongStep));
     };
     let named = Named::Instance(refusal.notes, instance);
-    if refusal.asked.kind == Kind::Finished || note.phase != Phase::Stopping {
-        return write!(
-            text,
-            "{named} is {} since line {}",
-            phase_word(note.phase),
-            note.since
-        );
+    let is_finish = matches!(task, Task::Event(Step::Finish { .. }));
+    if is_finish || note.phase != Phase::Stopping {
+        let phase = phase_word(note.phase);
+        return write!(text, "{named} is {phase} since line {}", note.since);
     }
-    match (refusal.asked.kind, note.started) {
-        (Kind::InStart, (started, _)) => {
+    let is_start = matches!(task, Task::Event(Step::StartTeardown { .. }));
+    match note.started {
+        (started, _) if is_start => {
             write!(text, "the teardown of {named} started on line {started}")
         }
-        (_, (0, _)) => write!(text, "the teardown of {named} hasn't started"),
-        (_, (started, 0)) => write!(text, "the teardown-start of line {started} hasn't returned"),
+        (0, _) => write!(text, "the teardown of {named} hasn't started"),
+        (started, 0) => write!(text, "the teardown-start of line {started} hasn't returned"),
         _ => write!(text, "a query of {named} hasn't returned"),
     }
 }
@@ -379,124 +412,114 @@ fn volume_word(phase: VolumePhase) -> &'static str {
 }
 
 // How far the life of a filter or a volume is.
-fn say_object(text: &mut String, refusal: &Refusal<'_>) -> Result<(), AllocError> {
+fn say_object(
+    text: &mut String,
+    refusal: &Refusal<'_>,
+    task: &Task,
+) -> Result<(), AllocError> {
     let notes = refusal.notes;
-    if let Some(volume) = refusal.asked.volume {
-        if let Some(note) = notes.volumes.get(usize::from(volume)) {
-            let named = Named::Volume(notes, volume);
-            return write!(
-                text,
-                "{named} {} since line {}",
-                volume_word(note.phase),
-                note.since
-            );
+    if let Some(volume) = volume_of(task) {
+        if let Some(note) = notes.volumes.get(usize::from(volume.0)) {
+            let (named, word) = (Named::Volume(notes, volume.0), volume_word(note.phase));
+            return write!(text, "{named} {word} since line {}", note.since);
         }
     }
-    if let Some(filter) = refusal.asked.filter {
-        if let Some(note) = notes.filters.get(usize::from(filter)) {
-            let named = Named::Filter(notes, filter);
-            return write!(
-                text,
-                "{named} {} since line {}",
-                filter_word(note.phase),
-                note.since
-            );
+    if let Some(filter) = filter_of(task, refusal.place) {
+        if let Some(note) = notes.filters.get(usize::from(filter.0)) {
+            let (named, word) = (Named::Filter(notes, filter.0), filter_word(note.phase));
+            return write!(text, "{named} {word} since line {}", note.since);
         }
     }
-    if let Some(handle) = refusal.asked.handle {
-        return write!(
-            text,
-            "the cleanup of h{handle} comes once, and is done before its close"
-        );
+    match handle_of(task) {
+        Some(handle) => {
+            write!(text, "the cleanup of h{handle} comes once, and is done before its close")
+        }
+        None => write!(text, "{}", sentence(Status::WrongStep)),
     }
-    write!(text, "{}", sentence(Status::WrongStep))
 }
 
 // What is going, and since when.
-fn say_going(text: &mut String, refusal: &Refusal<'_>) -> Result<(), AllocError> {
+fn say_going(
+    text: &mut String,
+    refusal: &Refusal<'_>,
+    task: &Task,
+) -> Result<(), AllocError> {
     let notes = refusal.notes;
-    if let Some((instance, note)) = instance_of(refusal) {
-        let named = Named::Instance(notes, instance);
-        if note.phase != Phase::Attached {
-            return write!(
-                text,
-                "{named} is {} since line {}",
-                phase_word(note.phase),
-                note.since
-            );
-        }
-        return write!(text, "{named} is asked already, or its object is going");
+    if let Some(instance) = instance_of(task, refusal.place) {
+        return say_going_instance(text, notes, instance);
     }
-    if let Some(filter) = refusal.asked.filter {
-        if let Some(note) = notes.filters.get(usize::from(filter)) {
-            let named = Named::Filter(notes, filter);
-            if note.phase != FilterPhase::Loaded {
-                return write!(text, "{named} is being unloaded since line {}", note.since);
-            }
-            return write!(text, "{named} is asked already");
+    let Some(filter) = filter_of(task, refusal.place) else {
+        return write!(text, "{}", sentence(Status::DeletingObject));
+    };
+    let named = Named::Filter(notes, filter.0);
+    match notes.filters.get(usize::from(filter.0)) {
+        Some(note) if note.phase != FilterPhase::Loaded => {
+            write!(text, "{named} is being unloaded since line {}", note.since)
         }
+        _ => write!(text, "{named} is asked already"),
     }
-    write!(text, "{}", sentence(Status::DeletingObject))
+}
+
+// Whether an instance is going, and since when.
+fn say_going_instance(text: &mut String, notes: &Notes, instance: u16) -> Result<(), AllocError> {
+    let named = Named::Instance(notes, instance);
+    match notes.instances.get(usize::from(instance)) {
+        Some(note) if note.phase != Phase::Attached => {
+            let phase = phase_word(note.phase);
+            write!(text, "{named} is {phase} since line {}", note.since)
+        }
+        _ => write!(text, "{named} is asked already, or its object is going"),
+    }
 }
 
 // Who holds an operation, if not the instance whose callback resumes it.
-fn say_not_held(text: &mut String, refusal: &Refusal<'_>) -> Result<(), AllocError> {
-    let operation = refusal.asked.operation.unwrap_or(0);
+fn say_not_held(
+    text: &mut String,
+    refusal: &Refusal<'_>,
+    task: &Task,
+) -> Result<(), AllocError> {
+    let operation = operation_of(task, refusal.place).unwrap_or(0);
     match held_at(refusal.state, OpId(operation)) {
         Some((instance, _)) => {
             let named = Named::Instance(refusal.notes, instance.0);
-            let own = refusal.asked.instance.unwrap_or(0);
-            write!(
-                text,
-                "{named} holds o{operation}, and the callback is one of i{own}"
-            )
+            let own = instance_of(task, refusal.place).unwrap_or(0);
+            write!(text, "{named} holds o{operation}, and the callback is one of i{own}")
         }
         None => write!(text, "nobody holds o{operation}"),
     }
 }
 
 // What is in the way.
-fn say_busy(text: &mut String, refusal: &Refusal<'_>, count: u64) -> Result<(), AllocError> {
-    match refusal.asked.kind {
-        Kind::InComplete => {
+fn say_busy(
+    text: &mut String,
+    refusal: &Refusal<'_>,
+    task: &Task,
+    count: u64,
+) -> Result<(), AllocError> {
+    match task {
+        Task::Event(Step::CompleteTeardown { instance, .. }) => {
             write!(text, "{} in flight at it", Verb(count, "operation"))?;
-            say_flights(text, refusal, count)
+            say_group(text, refusal, Group::At(*instance), count)
         }
-        Kind::Finished => write!(text, "{count} of its contexts aren't cleaned up"),
-        Kind::FilterEmptied => {
-            write!(text, "{count} of its instances aren't detached")?;
-            say_attached(text, refusal)
+        Task::Event(Step::Finish { .. }) => {
+            write!(text, "{} not cleaned up", Those(count, "contexts"))?;
+            say_contexts(text, refusal, task)
         }
-        Kind::FilterFinished | Kind::VolumeFinished => {
-            write!(text, "{count} volume contexts aren't cleaned up")
+        Task::Event(Step::EmptyFilter { filter }) => {
+            write!(text, "{} not detached", Those(count, "instances"))?;
+            say_attached(text, refusal, *filter)
         }
-        Kind::Dismounting => write!(text, "{count} of its operations weren't collected"),
-        Kind::VolumeEmptied => say_left_open(text, refusal, count),
+        Task::Event(Step::FinishFilter { .. } | Step::FinishVolume { .. }) => {
+            write!(text, "{} not cleaned up", Verb(count, "volume context"))?;
+            say_contexts(text, refusal, task)
+        }
+        Task::Event(Step::StartDismount { volume }) => {
+            write!(text, "{} not collected", Those(count, "operations"))?;
+            say_group(text, refusal, Group::On(volume.0), count)
+        }
+        Task::Event(Step::EmptyVolume { volume }) => say_left_open(text, refusal, volume.0, count),
         _ => write!(text, "{count} are in the way"),
     }
-}
-
-// The operations in flight at an instance, if the notes tell them all.
-fn say_flights(text: &mut String, refusal: &Refusal<'_>, count: u64) -> Result<(), AllocError> {
-    let Some(instance) = refusal.asked.instance else {
-        return Ok(());
-    };
-    let flies = |number: u64| {
-        refusal.state.is_done(OpId(number)) == Some(false)
-            && is_visited(refusal.state, OpId(number), InstanceId(instance))
-    };
-    let all = refusal.state.operations_begun();
-    if (0..all).filter(|number| flies(*number)).count() as u64 != count {
-        return Ok(());
-    }
-    let mut mark = ": ";
-    for number in 0..all {
-        if flies(number) {
-            write!(text, "{mark}{}", Named::Operation(refusal.notes, number))?;
-            mark = ", ";
-        }
-    }
-    Ok(())
 }
 
 // Whether an instance's preoperation saw an operation.
@@ -509,36 +532,181 @@ fn is_visited(state: &State, operation: OpId, instance: InstanceId) -> bool {
     }
 }
 
+// Operations that may be in the way.
+#[derive(Clone, Copy)]
+enum Group {
+    // Those in flight at an instance.
+    At(InstanceId),
+    // Those on a volume that weren't collected.
+    On(u8),
+}
+
+impl Group {
+    // Whether an operation is one of them.
+    fn has(self, refusal: &Refusal<'_>, number: u64) -> bool {
+        let operation = OpId(number);
+        match (self, refusal.state.is_done(operation)) {
+            (Group::At(instance), Some(false)) => is_visited(refusal.state, operation, instance),
+            (Group::On(volume), Some(_)) => {
+                refusal.notes.volume_of(number) == Some(volume)
+            }
+            _ => false,
+        }
+    }
+
+    // How many they are.
+    fn count(self, refusal: &Refusal<'_>) -> u64 {
+        let mut count = 0u64;
+        for number in 0..refusal.state.operations_begun() {
+            if self.has(refusal, number) {
+                count = count.saturating_add(1);
+            }
+        }
+        count
+    }
+}
+
+// The operations of a group, if the notes tell all that are in the way.
+fn say_group(
+    text: &mut String,
+    refusal: &Refusal<'_>,
+    group: Group,
+    count: u64,
+) -> Result<(), AllocError> {
+    if group.count(refusal) != count {
+        return Ok(());
+    }
+    let mut is_first = true;
+    for number in 0..refusal.state.operations_begun() {
+        if group.has(refusal, number) {
+            let named = Named::Operation(refusal.notes, number);
+            write!(text, "{}{named}", mark(is_first))?;
+            is_first = false;
+        }
+    }
+    Ok(())
+}
+
+// What stands before one of a list.
+fn mark(is_first: bool) -> &'static str {
+    if is_first { ": " } else { ", " }
+}
+
 // The instances of a filter that aren't detached.
-fn say_attached(text: &mut String, refusal: &Refusal<'_>) -> Result<(), AllocError> {
-    let mut mark = ": ";
+fn say_attached(
+    text: &mut String,
+    refusal: &Refusal<'_>,
+    filter: FilterId,
+) -> Result<(), AllocError> {
+    let mut is_first = true;
     let mut number = 0u16;
     for note in &refusal.notes.instances {
-        let filter = refusal.state.filter_of(InstanceId(number));
-        if note.phase != Phase::Detached && filter.map(|id| id.0) == refusal.asked.filter {
-            write!(text, "{mark}{}", Named::Instance(refusal.notes, number))?;
-            mark = ", ";
+        if note.phase != Phase::Detached && note.filter == filter.0 {
+            let named = Named::Instance(refusal.notes, number);
+            write!(text, "{}{named}", mark(is_first))?;
+            is_first = false;
         }
         number = number.saturating_add(1);
     }
     Ok(())
 }
 
-// What keeps a volume from being emptied: instances, and handles.
-fn say_left_open(text: &mut String, refusal: &Refusal<'_>, count: u64) -> Result<(), AllocError> {
+// Whether a context keeps the line's instance, filter or volume from its end.
+fn is_kept(refusal: &Refusal<'_>, task: &Task, note: &ContextNote) -> bool {
+    let owner = refusal.notes.instances.get(usize::from(note.instance));
+    let is_volume = note.kind == ContextKind::Volume;
+    match (task, owner) {
+        (Task::Event(Step::Finish { instance }), _) => !is_volume && note.instance == instance.0,
+        (Task::Event(Step::FinishFilter { filter }), Some(owner)) => {
+            is_volume && owner.filter == filter.0
+        }
+        (Task::Event(Step::FinishVolume { volume }), Some(owner)) => {
+            is_volume && owner.volume == volume.0
+        }
+        _ => false,
+    }
+}
+
+// The contexts that aren't cleaned up and keep it from its end.
+fn say_contexts(
+    text: &mut String,
+    refusal: &Refusal<'_>,
+    task: &Task,
+) -> Result<(), AllocError> {
+    let mut is_first = true;
+    let ids = refusal.contexts.as_slice();
+    for (number, note) in refusal.notes.contexts.iter().enumerate() {
+        let is_cleaned = match ids.get(number) {
+            Some(id) => refusal.state.count(*id) == Count::Cleaned,
+            None => true,
+        };
+        if !is_cleaned && is_kept(refusal, task, note) {
+            let named = Named::Context(refusal.notes, number as u64);
+            write!(text, "{}{named}", mark(is_first))?;
+            is_first = false;
+        }
+    }
+    Ok(())
+}
+
+// What keeps a volume from being emptied: handles, and instances.
+fn say_left_open(
+    text: &mut String,
+    refusal: &Refusal<'_>,
+    volume: u8,
+    count: u64,
+) -> Result<(), AllocError> {
     let mut attached = 0u64;
     for note in &refusal.notes.instances {
-        if note.phase != Phase::Detached && Some(note.volume) == refusal.asked.volume {
+        if note.phase != Phase::Detached && note.volume == volume {
             attached = attached.saturating_add(1);
         }
     }
     let open = count.saturating_sub(attached);
-    write!(
-        text,
-        "{} open, and {} not detached",
-        Verb(open, "handle"),
-        Verb(attached, "instance")
-    )
+    match (open, attached) {
+        (0, _) => write!(text, "{} not detached", Verb(attached, "instance")),
+        (_, 0) => write!(text, "{} open", Verb(open, "handle")),
+        _ => write!(
+            text,
+            "{} open, and {} not detached",
+            Verb(open, "handle"),
+            Verb(attached, "instance")
+        ),
+    }?;
+    say_left_instances(text, refusal, volume)
+}
+
+// The instances on a volume that aren't detached.
+fn say_left_instances(
+    text: &mut String,
+    refusal: &Refusal<'_>,
+    volume: u8,
+) -> Result<(), AllocError> {
+    let mut is_first = true;
+    let mut number = 0u16;
+    for note in &refusal.notes.instances {
+        if note.phase != Phase::Detached && note.volume == volume {
+            let named = Named::Instance(refusal.notes, number);
+            write!(text, "{}{named}", mark(is_first))?;
+            is_first = false;
+        }
+        number = number.saturating_add(1);
+    }
+    Ok(())
+}
+
+// So many of those that a thing has, with their verb: `1 of its contexts is`, `2 of its contexts are`.
+#[derive(Clone, Copy)]
+struct Those(u64, &'static str);
+
+impl fmt::Display for Those {
+    fn fmt<W: fmt::Write>(&self, f: &mut fmt::Formatter<W>) -> fmt::Result {
+        let Those(count, what) = self;
+        match count {
+            1 => write!(f, "1 of its {what} is"),
+            _ => write!(f, "{count} of its {what} are"),
+        }
+    }
 }
 
 // So many of a thing, with its verb: `1 handle is`, `2 handles are`.

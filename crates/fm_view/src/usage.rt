@@ -1,6 +1,9 @@
-//! How commands are spelled.
+//! How commands are spelled, and which word of a line isn't.
 
+use crate::named::Ascii;
 use fm_script::Keyword;
+use fm_text::{read_id, read_number, read_status};
+use std::alloc::AllocError;
 
 /// The words that stand after a command's first word.
 pub fn usage(keyword: Keyword) -> &'static str {
@@ -42,7 +45,69 @@ fn usage_of_few(keyword: Keyword) -> &'static str {
         Keyword::EmptyF | Keyword::FinishF => "F",
         Keyword::List | Keyword::Dismount | Keyword::Drop | Keyword::EmptyV | Keyword::FinishV =>
             "V",
-        Keyword::Leaks | Keyword::Failures => "and no more",
+        Keyword::Leaks | Keyword::Failures => "[alone]",
         _ => "W",
     }
+}
+
+/// Appends what of a line isn't as it is spelled: the first word that can't be read, one that is missing, or one too many.
+pub fn say_wrong(
+    text: &mut String,
+    line: &[u8],
+    usage: &'static str,
+) -> Result<(), AllocError> {
+    let mut forms = usage.as_bytes().split(|byte| *byte == b' ');
+    for word in line.split(|byte| *byte == b' ').skip(1) {
+        match forms.next() {
+            _ if word.is_empty() => return write!(text, "a space stands before a space or at the end"),
+            Some(form) if is_choice(form) && is_chosen(usage, word) => {
+                return write!(text, "the words behind it don't fit '{}'", Ascii(word));
+            }
+            Some(form) if is_choice(form) || !fits(form, word) => {
+                return write!(text, "'{}' can't be read", Ascii(word));
+            }
+            Some(_) => {}
+            None => return write!(text, "'{}' is a word too many", Ascii(word)),
+        }
+    }
+    write!(text, "a word is missing")
+}
+
+// Whether the form is the first of some words of which one is written.
+fn is_choice(form: &[u8]) -> bool {
+    match form.first() {
+        Some(byte) => !byte.is_ascii_uppercase(),
+        None => false,
+    }
+}
+
+// Whether the word is one that the usage names.
+fn is_chosen(usage: &'static str, word: &[u8]) -> bool {
+    usage.as_bytes().split(|byte| matches!(*byte, b' ' | b',' | b'[' | b']')).any(
+        |choice| choice == word,
+    )
+}
+
+// Whether a word is of that form.
+fn fits(form: &[u8], word: &[u8]) -> bool {
+    match form {
+        b"F" => read_id(b'f', word).is_some(),
+        b"V" => read_id(b'v', word).is_some(),
+        b"I" => read_id(b'i', word).is_some(),
+        b"H" => read_id(b'h', word).is_some(),
+        b"O" => read_id(b'o', word).is_some(),
+        b"C" => read_id(b'c', word).is_some(),
+        b"W" => read_id(b'w', word).is_some(),
+        b"S" => read_status(word).is_some(),
+        b"OFFSET" | b"LEN" | b"N" | b"PLACE" | b"BY" => read_number(word).is_some(),
+        b"HEX" => is_hex(word),
+        b"KIND" => matches!(word, b"volume" | b"instance" | b"stream" | b"handle"),
+        _ => true,
+    }
+}
+
+// Whether a word spells bytes.
+fn is_hex(word: &[u8]) -> bool {
+    let is_digits = word.iter().all(|byte| matches!(*byte, b'0'..=b'9' | b'a'..=b'f'));
+    word == b"-".as_slice() || (is_digits && word.len() % 2 == 0)
 }

@@ -58,7 +58,7 @@ pub fn say_end(
     state: &State,
     lines: u32,
 ) -> Result<(), AllocError> {
-    write!(text, "\n{lines} lines, ")?;
+    write!(text, "{lines} lines, ")?;
     say_refusals(text, notes)?;
     write!(
         text,
@@ -68,7 +68,9 @@ pub fn say_end(
         Counted(state.leaks(), "reference"),
     )?;
     for leak in &notes.leaks {
+        write!(text, "  ")?;
         say_leak(text, notes, leak)?;
+        text.push('\n')?;
     }
     say_operations(text, notes, state)?;
     say_workers(text, notes, state)?;
@@ -78,11 +80,7 @@ pub fn say_end(
 
 // How many lines were refused, by their statuses.
 fn say_refusals(text: &mut String, notes: &Notes) -> Result<(), AllocError> {
-    let mut all = 0u64;
-    for count in notes.refusals {
-        all = all.saturating_add(count);
-    }
-    write!(text, "{all} of them refused")?;
+    write!(text, "{} of them refused", notes.refused())?;
     let mut mark = ": ";
     for (number, count) in notes.refusals.iter().enumerate() {
         let status = match u8::try_from(number) {
@@ -102,13 +100,13 @@ fn say_refusals(text: &mut String, notes: &Notes) -> Result<(), AllocError> {
     text.push('\n')
 }
 
-// A reference that was left behind.
-fn say_leak(text: &mut String, notes: &Notes, leak: &LeakNote) -> Result<(), AllocError> {
+/// Appends that a reference was left behind, and by which callback.
+pub fn say_leak(text: &mut String, notes: &Notes, leak: &LeakNote) -> Result<(), AllocError> {
     let context = Named::Context(notes, leak.context);
     let place = PlaceName(notes, leak.place);
     write!(
         text,
-        "  LEAKED {context}, {place}, which returned on line {}\n",
+        "LEAKED {context}, {place}, which returned on line {}",
         leak.line
     )
 }

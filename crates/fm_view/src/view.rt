@@ -5,23 +5,35 @@ ghost use Rattle.fm_script.specs.Printing.{printed};
 ghost use Rattle.fm_view.specs.Lines.{Gives};
 
 use crate::answer::read_answer;
-use crate::asked::Asking;
-use crate::event::{Event, Kind};
+use crate::colour::{Colour, colour_of};
+use crate::event::{Event, Moment};
 use crate::expect::{Expectations, expected_in};
-use crate::json::{say_end_json, say_json, say_unmet_json};
-use crate::named::Ascii;
+use crate::happened::{Asked, refusal_in};
+use crate::json::{
+    Told, say_begin_json, say_change_json, say_comment_json, say_end_json, say_expectation_json,
+    say_json, say_leak_json,
+};
+use crate::label::Label;
+use crate::named::{Ascii, Stated};
 use crate::notes::Notes;
+use crate::inert::Inert;
+use crate::page::{PAGE_BEGIN, PAGE_END};
 use crate::picture::draw;
 use crate::reason::{Refusal, say_refusal};
-use crate::settled::settled;
-use crate::verdict::{exit_status, held, say_end, say_expectations, say_fault};
+use crate::subject::worker_of;
+use crate::tally::Tally;
+use crate::verdict::{exit_status, held, say_end, say_expectations, say_fault, say_leak};
 use crate::words::say;
-use fm_core::{Entry, Place};
+use fm_core::{Place, Step};
+use fm_data::{FileRequest, Request};
 use fm_script::{Listener, Runner, Said, ScriptEnd, Task, is_silent, read_lines};
 use fm_types::limits::LINE;
-use fm_types::{OpId, Status, WorkerId};
+use fm_types::{Status, WorkerId};
 use std::alloc::{AllocError, Global};
 use std::io::{Read, Write};
+
+/// How wide the commands are, before what happened.
+const COMMAND: usize = 27;
 
 /// How a run is shown.
 #[derive(Clone, Copy, Debug, PartialEq, Eq)]
@@ -30,6 +42,8 @@ pub enum Manner {
     Words,
     /// As JSON, one object for each answer.
     Json,
+    /// As a page for a browser.
+    Page,
     /// As a picture, once the script has ended.
     Picture,
     /// Only what wasn't as the script expects.
@@ -43,14 +57,40 @@ pub struct Shown {
     pub manner: Manner,
     /// Whether a refusal that no line expects counts as an expectation that isn't met.
     pub is_strict: bool,
+    /// Whether words have colours, as a terminal knows them.
+    pub is_coloured: bool,
+    /// The first line and the last one that are shown in words. All are run.
+    pub lines: (u32, u32),
 }
 
-// Where the worker of a line is before it, what it holds, and how many references were left behind so far.
+impl Shown {
+    /// The whole run in that manner, judged as its lines expect it.
+    pub fn new(manner: Manner) -> Shown {
+        Shown {
+            manner,
+            is_strict: false,
+            is_coloured: false,
+            lines: (0, u32::MAX),
+        }
+    }
+}
+
+// Where the worker of a line is before it, what it holds, how many references were left behind so far, and how many devices were called.
 #[derive(Drop)]
-struct Hand {
+struct Before {
     place: Place,
     contexts: Vec<u64>,
     leaks: u64,
+    calls: u64,
+}
+
+// A line as it was read.
+#[derive(Clone, Copy)]
+struct Line<'a> {
+    text: &'a [u8],
+    task: Option<&'a Task>,
+    place: Place,
+    calls: u64,
 }
 
 // A run that is shown.
@@ -59,7 +99,8 @@ struct View<W: Write + Drop> {
     alloc: Global,
     runner: Runner<Vec<u8>>,
     notes: Notes,
-    events: Vec<Event>,
+    moments: Vec<Moment>,
+    titles: Vec<Label>,
     line: u32,
     last: u32,
     shown: Shown,
@@ -74,7 +115,8 @@ impl<W: Write + Drop> View<W> {
             alloc,
             runner: Runner::new(alloc, Vec::new(alloc))?,
             notes: Notes::new(alloc),
-            events: Vec::new(alloc),
+            moments: Vec::new(alloc),
+            titles: Vec::new(alloc),
             line: 0,
             last: 0,
             shown,
@@ -83,29 +125,60 @@ impl<W: Write + Drop> View<W> {
         })
     }
 
+    // Writes what stands before all lines.
+    fn begin(&mut self) -> Result<(), ScriptEnd> {
+        if self.shown.manner == Manner::Page {
+            self.write_raw(PAGE_BEGIN)?;
+        }
+        if !self.is_json() {
+            return Ok(());
+        }
+        let mut text = String::new(self.alloc);
+        say_begin_json(self.alloc, &mut text).map_err(|_| ScriptEnd::NoMemory)?;
+        self.write(text.as_str())
+    }
+
+    // Whether objects are written.
+    fn is_json(&self) -> bool {
+        matches!(self.shown.manner, Manner::Json | Manner::Page)
+    }
+
+    // Whether the line is shown in words.
+    fn is_said(&self) -> bool {
+        let (first, last) = self.shown.lines;
+        self.shown.manner == Manner::Words && first <= self.line && self.line <= last
+    }
+
     // Runs a line that isn't silent, and shows what it answered.
     fn run(&mut self, line: &[u8]) -> Result<(), ScriptEnd> {
         let task = self.read(line)?;
-        let asked = self.asked(&task);
-        let before = self.hand_of(&asked).map_err(|_| ScriptEnd::NoMemory)?;
+        let before = self.before(&task).map_err(|_| ScriptEnd::NoMemory)?;
         let printed = run_line(&mut self.runner, line, Vec::new(self.alloc))?;
         let text = self
-            .show_all(line, &task, asked, &before, printed.as_slice())
+            .show_all(line, &task, &before, printed.as_slice())
             .map_err(|_| ScriptEnd::NoMemory)?;
-        self.note_answers(asked, printed);
+        self.note_answers(&task, printed);
         self.write(text.as_str())
     }
 
     // Notes what a line printed, for what the script expects of it.
-    fn note_answers(&mut self, asked: Event, printed: Vec<u8>) {
-        let status = match self.events.last() {
-            Some(event) if event.kind == Kind::Refused => event.status,
+    fn note_answers(&mut self, task: &Result<Task, Status>, printed: Vec<u8>) {
+        let status = match self.moments.last() {
+            Some(
+                Moment {
+                    event: Event::Refused { status, .. },
+                    ..
+                },
+            ) => Some(*status),
             _ => None,
         };
         let is_misuse = matches!(
-            (asked.kind, status),
-            (Kind::Released, Some(Status::NotHeld))
-                | (Kind::Resumed | Kind::PostResumed, Some(Status::NotPended))
+            (task, status),
+            (Ok(Task::Event(Step::Release { .. })), Some(Status::NotHeld))
+                | (
+                    Ok(Task::Event(Step::ResumePre { .. } | Step::ResumePost { .. })),
+                    Some(Status::NotPended),
+                )
         );
         self.expectations.take(printed, status.is_some(), is_misuse);
     }
@@ -128,27 +201,26 @@ impl<W: Write + Drop> View<W> {
     ) -> Result<String, AllocError> {
         let mut text = String::new(self.alloc);
         let number = self.line;
-        match self.shown.manner {
-            Manner::Words => write!(text, "{number:>4}  {}\n", Ascii(line))?,
-            Manner::Json if !is_met => {
-                say_unmet_json(
-                    self.alloc,
-                    &mut text,
-                    number,
-                    expected,
-                    self.expectations.printed(),
-                )?;
-            }
-            _ => {}
+        if self.is_json() {
+            let printed = self.expectations.printed();
+            let outcome = (is_met, printed);
+            say_expectation_json(self.alloc, &mut text, number, expected, outcome)?;
         }
-        if is_met || matches!(self.shown.manner, Manner::Json | Manner::Picture) {
-            return Ok(text);
+        if self.is_said() {
+            self.say_comment(&mut text, line)?;
         }
-        write!(
-            text,
-            "NOT AS EXPECTED on line {number}: {}",
-            Ascii(expected)
-        )?;
+        if !is_met && matches!(self.shown.manner, Manner::Words | Manner::Check) {
+            self.say_unmet(&mut text, expected)?;
+        }
+        Ok(text)
+    }
+
+    // What wasn't as the line expects.
+    fn say_unmet(&self, text: &mut String, expected: &[u8]) -> Result<(), AllocError> {
+        let (begin, end) = Colour::Wrong.around(self.shown.is_coloured);
+        let number = self.line;
+        let expected = Ascii(expected);
+        write!(text, "{begin}NOT AS EXPECTED on line {number}{end}: {expected}")?;
         let mut is_first = true;
         for answer in self.expectations.printed().split(|byte| *byte == b'\n') {
             if !answer.is_empty() {
@@ -156,8 +228,24 @@ impl<W: Write + Drop> View<W> {
                 is_first = false;
             }
         }
-        text.push('\n')?;
+        text.push('\n')
+    }
+
+    // A line that asks for nothing, as it is shown.
+    fn comment(&self, line: &[u8]) -> Result<String, AllocError> {
+        let mut text = String::new(self.alloc);
+        if self.is_json() {
+            say_comment_json(self.alloc, &mut text, self.line, line)?;
+        } else if self.is_said() {
+            self.say_comment(&mut text, line)?;
+        }
         Ok(text)
+    }
+
+    // A line that asks for nothing, in words.
+    fn say_comment(&self, text: &mut String, line: &[u8]) -> Result<(), AllocError> {
+        let (begin, end) = Colour::Dim.around(self.shown.is_coloured);
+        write!(text, "{begin}{:>4}  {}{end}\n", self.line, Ascii(line))
     }
 
     // Shows what a line printed, and notes it.
@@ -165,63 +253,110 @@ impl<W: Write + Drop> View<W> {
         &mut self,
         line: &[u8],
         task: &Result<Task, Status>,
-        asked: Event,
-        before: &Hand,
+        before: &Before,
         printed: &[u8],
     ) -> Result<String, AllocError> {
         let mut text = String::new(self.alloc);
+        let (changes, leaks) = (self.notes.changes.len(), self.notes.leaks.len());
+        let line = Line {
+            text: line,
+            task: match task {
+                Ok(task) => Some(task),
+                Err(_) => None,
+            },
+            place: before.place,
+            calls: before.calls,
+        };
         let mut is_first = true;
         for answer in printed.split(|byte| *byte == b'\n') {
             if !answer.is_empty() {
-                self.show(&mut text, line, task, asked, answer, is_first)?;
+                self.show(&mut text, &line, answer, is_first)?;
                 is_first = false;
             }
         }
-        self.note_leaks(asked, before)?;
+        self.note_leaks(task, before)?;
+        if self.is_json() {
+            self.show_changes(&mut text, changes)?;
+            self.show_leaks(&mut text, leaks)?;
+        }
         Ok(text)
     }
 
-    // What the worker of a line holds before it.
-    fn hand_of(&self, asked: &Event) -> Result<Hand, AllocError> {
-        let mut hand = Hand {
-            place: Place::Idle,
-            contexts: Vec::new(self.alloc),
-            leaks: 0,
-        };
+    // Appends how far lives came on this line.
+    fn show_changes(&self, text: &mut String, from: usize) -> Result<(), AllocError> {
+        for change in self.notes.changes.iter().skip(from) {
+            say_change_json(self.alloc, text, change)?;
+        }
+        Ok(())
+    }
+
+    // Appends what was left behind on this line.
+    fn show_leaks(&self, text: &mut String, from: usize) -> Result<(), AllocError> {
+        for leak in self.notes.leaks.iter().skip(from) {
+            let mut words = String::new(self.alloc);
+            say_leak(&mut words, &self.notes, leak)?;
+            say_leak_json(self.alloc, text, &self.notes, leak, words.as_str())?;
+        }
+        Ok(())
+    }
+
+    // How things are before a line.
+    fn before(&self, task: &Result<Task, Status>) -> Result<Before, AllocError> {
         let interpreter = self.runner.interpreter();
         let state = interpreter.state();
-        hand.leaks = state.leaks();
-        if let Some(worker) = asked.worker {
-            let worker = WorkerId(worker);
-            hand.place = state.place(worker).unwrap_or(Place::Idle);
+        let mut before = Before {
+            place: Place::Idle,
+            contexts: Vec::new(self.alloc),
+            leaks: state.leaks(),
+            calls: interpreter.calls(),
+        };
+        if let Some(worker) = worker_in(task) {
+            before.place = state.place(worker).unwrap_or(Place::Idle);
             for place in 0..state.hand_len(worker) {
                 if let Some(context) = state.held_at(worker, place) {
                     if let Some(number) = interpreter.contexts().number_of(context) {
-                        hand.contexts.push(number as u64)?;
+                        before.contexts.push(number as u64)?;
                     }
                 }
             }
         }
-        Ok(hand)
+        Ok(before)
     }
 
     // Notes the references that callbacks left behind on a line: what was in the hand but wasn't sent along, or what a `go` brought back.
-    fn note_leaks(&mut self, asked: Event, before: &Hand) -> Result<(), AllocError> {
+    fn note_leaks(
+        &mut self,
+        task: &Result<Task, Status>,
+        before: &Before,
+    ) -> Result<(), AllocError> {
         let leaks = self.runner.interpreter().state().leaks();
         let mut left = leaks.saturating_sub(before.leaks);
-        let mut sent = asked.context;
+        let mut sent = self.sent();
         for context in &before.contexts {
-            if sent == Some(*context) && asked.kind == Kind::Pre {
+            if sent == Some(*context) {
                 sent = None;
             } else if left > 0 {
                 left -= 1;
                 self.notes.leak(*context, before.place, self.line)?;
             }
         }
-        if asked.kind == Kind::Go && left > 0 {
-            self.notes.leak_carried(&self.events, self.line)?;
+        if left > 0 && matches!(task, Ok(Task::Go { .. })) {
+            self.notes.leak_carried(&self.moments, self.line)?;
         }
         Ok(())
+    }
+
+    // The context that the preoperation of this line sent along.
+    fn sent(&self) -> Option<u64> {
+        match self.moments.last() {
+            Some(
+                Moment {
+                    event: Event::Pre { context, .. },
+                    ..
+                },
+            ) => *context,
+            _ => None,
+        }
     }
 
     // What a line has to be done, or why it is refused before anything is.
@@ -232,127 +367,170 @@ impl<W: Write + Drop> View<W> {
         self.runner.read(line).map_err(|_| ScriptEnd::NoMemory)
     }
 
-    // The event that a line asks for.
-    fn asked(&self, task: &Result<Task, Status>) -> Event {
-        match task {
-            Ok(task) => {
-                let interpreter = self.runner.interpreter();
-                let asking = Asking {
-                    state: interpreter.state(),
-                    contexts: interpreter.contexts(),
-                    line: self.line,
-                };
-                asking.event(task)
-            }
-            Err(_) => Event::new(self.line, Kind::Refused),
+    // The event of one line that was printed.
+    fn event(&self, line: &Line<'_>, said: &Said) -> Option<Event> {
+        let Some(task) = line.task else {
+            return refusal_in(said);
+        };
+        let interpreter = self.runner.interpreter();
+        let asked = Asked {
+            task,
+            place: line.place,
+            has_called: interpreter.calls() != line.calls,
+            state: interpreter.state(),
+            contexts: interpreter.contexts(),
+        };
+        Some(asked.event(said))
+    }
+
+    // Notes what happened.
+    fn note(&mut self, line: &Line<'_>, event: &Event) -> Result<(), AllocError> {
+        let state = self.runner.interpreter().state();
+        match (line.task, event) {
+            (Some(task), _) => self.notes.learn(self.line, event, task, state)?,
+            (None, Event::Refused { status, .. }) => self.notes.refuse(*status),
+            _ => {}
         }
+        self.moments.push(Moment {
+            line: self.line,
+            event: *event,
+        })?;
+        Ok(())
     }
 
     // Shows one answer of a line, and notes it.
     fn show(
         &mut self,
         text: &mut String,
-        line: &[u8],
-        task: &Result<Task, Status>,
-        asked: Event,
+        line: &Line<'_>,
         answer: &[u8],
         is_first: bool,
     ) -> Result<(), AllocError> {
         let Some(said) = read_answer(self.alloc, answer)? else {
             return Ok(());
         };
-        let event = self.completed(settled(asked, &said));
-        let state = self.runner.interpreter().state();
-        match task {
-            Ok(task) => self.notes.learn(&event, task, state)?,
-            Err(_) => self.notes.refuse(&event),
-        }
-        self.events.push(event)?;
-        match self.shown.manner {
-            Manner::Words => self.show_words(text, line, asked, &event, &said, is_first),
-            Manner::Json => say_json(self.alloc, text, &self.notes, &event, line),
-            Manner::Picture | Manner::Check => Ok(()),
-        }
-    }
-
-    // With what the state tells: the status of a base call, and where an operation is held.
-    fn completed(&self, event: Event) -> Event {
-        let Some(operation) = event.operation else {
-            return event;
+        let Some(event) = self.event(line, &said) else {
+            return Ok(());
         };
-        let state = self.runner.interpreter().state();
-        match (
-            event.kind,
-            event.status,
-            last_entry(state.trace(OpId(operation))),
-        ) {
-            (Kind::Base, None, Some(Entry::Base(status, _))) => Event {
-                status: Some(status),
-                ..event
-            },
-            (Kind::Held, _, Some(Entry::Pre(visit))) => Event {
-                instance: Some(visit.instance.0),
-                ..event
-            },
-            (Kind::Held, _, Some(Entry::Post(visit))) => Event {
-                instance: Some(visit.instance.0),
-                ..event
-            },
-            _ => event,
+        self.note(line, &event)?;
+        if !self.is_json() && !self.is_said() && self.shown.manner != Manner::Picture {
+            return Ok(());
         }
+        let bytes = bytes_of(line.task, &said);
+        let words = self.words(line, &event, bytes.unwrap_or(b""))?;
+        if self.shown.manner == Manner::Picture {
+            return self.title(line, words.as_str());
+        }
+        if self.is_said() {
+            return self.show_words(text, line.text, &event, words.as_str(), is_first);
+        }
+        let told = Told {
+            line: self.line,
+            command: line.text,
+            words: words.as_str(),
+            bytes,
+            task: line.task,
+            place: line.place,
+        };
+        say_json(self.alloc, text, &self.notes, &event, &told)
     }
 
-    // One answer in words, with the command before the first one of its line.
+    // Keeps what is told of an event in a picture.
+    fn title(&mut self, line: &Line<'_>, words: &str) -> Result<(), AllocError> {
+        let title = format!(in self.alloc; "line {}, {}: {words}", self.line, Ascii(line.text))?;
+        self.titles.push(Label::new(self.alloc, title.as_bytes())?)?;
+        Ok(())
+    }
+
+    // What happened, in words.
+    fn words(
+        &self,
+        line: &Line<'_>,
+        event: &Event,
+        bytes: &[u8],
+    ) -> Result<String, AllocError> {
+        let mut words = String::new(self.alloc);
+        let Event::Refused { status, context } = event else {
+            say(&mut words, &self.notes, event, bytes)?;
+            return Ok(words);
+        };
+        let interpreter = self.runner.interpreter();
+        let refusal = Refusal {
+            notes: &self.notes,
+            state: interpreter.state(),
+            contexts: interpreter.contexts(),
+            task: line.task,
+            place: line.place,
+            line: line.text,
+            context: *context,
+        };
+        write!(words, "REFUSED {}: ", Stated(*status))?;
+        say_refusal(self.alloc, &mut words, &refusal, *status)?;
+        Ok(words)
+    }
+
+    // One answer in words, with the command before the first one of its line. One that is wider than its column has a line of its own.
     fn show_words(
         &self,
         text: &mut String,
         line: &[u8],
-        asked: Event,
         event: &Event,
-        said: &Said,
+        words: &str,
         is_first: bool,
     ) -> Result<(), AllocError> {
-        if is_first {
-            let command = format!(in self.alloc; "{}", Ascii(line))?;
-            write!(text, "{:>4}  {command:<27}  ", self.line)?;
-        } else {
-            write!(text, "{:<35}", "")?;
+        let (dim, plain) = Colour::Dim.around(self.shown.is_coloured);
+        let command = format!(in self.alloc; "{}", Ascii(line))?;
+        let is_wide = command.len() > COMMAND;
+        let number = self.line;
+        match (is_first, is_wide) {
+            (true, true) => write!(text, "{dim}{number:>4}{plain}  {command}\n{:<35}", "")?,
+            (true, false) => write!(text, "{dim}{number:>4}{plain}  {command:<27}  ")?,
+            (false, _) => write!(text, "{:<35}", "")?,
         }
-        let bytes = match said {
-            Said::Told(_, bytes) => bytes.as_slice(),
-            Said::Replied(answer) => answer.bytes.as_slice(),
-            _ => b"".as_slice(),
-        };
-        match (event.kind, event.status) {
-            (Kind::Refused, Some(status)) => {
-                let refusal = Refusal {
-                    notes: &self.notes,
-                    state: self.runner.interpreter().state(),
-                    asked,
-                    line,
-                    context: event.context,
-                };
-                say_refusal(self.alloc, text, &refusal, status)?;
-            }
-            _ => say(text, &self.notes, event, bytes)?,
-        }
-        text.push('\n')
+        let (begin, end) = colour_of(event).around(self.shown.is_coloured);
+        write!(text, "{begin}{words}{end}\n")
     }
 
     // Ends a run that ended so: writes the verdict or the picture. It gives the exit status.
     fn finish(mut self, end: ScriptEnd) -> u8 {
         self.expectations.settle();
-        let state = self.runner.interpreter().state();
-        let (leaks, held) = (state.leaks(), held(state));
         let end = match self.last_text(end) {
-            Ok(text) => match self.write(text.as_str()).and(self.pause()) {
+            Ok(text) => match self.end(text.as_str()) {
                 Ok(()) => end,
                 Err(fault) => fault,
             },
             Err(_) => ScriptEnd::NoMemory,
         };
-        let status = exit_status(end, self.unmet(), leaks, held, self.expectations.misuses);
-        self.expectations.status(status)
+        self.tally(end).status
+    }
+
+    // Writes the last text, and hands all out.
+    fn end(&mut self, text: &str) -> Result<(), ScriptEnd> {
+        self.write(text)?;
+        if self.shown.manner == Manner::Page {
+            self.write_raw(PAGE_END)?;
+        }
+        self.pause()
+    }
+
+    // The figures of a run that ended so.
+    fn tally(&self, end: ScriptEnd) -> Tally {
+        let state = self.runner.interpreter().state();
+        let (leaks, held) = (state.leaks(), held(state));
+        let (unmet, misuses) = (self.unmet(), self.expectations.misuses);
+        let status = exit_status(end, unmet, leaks, held, misuses);
+        Tally {
+            end,
+            status: self.expectations.status(status),
+            lines: self.last,
+            refused: self.notes.refused(),
+            born: state.born(),
+            cleaned: state.cleaned_count(),
+            leaks,
+            held,
+            misuses,
+            unmet,
+        }
     }
 
     // How much wasn't as the script expects.
@@ -371,10 +549,8 @@ impl<W: Write + Drop> View<W> {
         match self.shown.manner {
             Manner::Words => {
                 let mut text = String::new(self.alloc);
-                let state = self.runner.interpreter().state();
-                say_end(&mut text, &self.notes, state, self.last)?;
-                say_expectations(&mut text, &self.expectations, self.shown.is_strict)?;
-                say_fault(&mut text, end)?;
+                text.push('\n')?;
+                self.say_verdict(&mut text, end)?;
                 Ok(text)
             }
             Manner::Check => {
@@ -383,40 +559,79 @@ impl<W: Write + Drop> View<W> {
                 say_fault(&mut text, end)?;
                 Ok(text)
             }
-            Manner::Json => self.last_object(end),
-            Manner::Picture => draw(self.alloc, &self.notes, &self.events),
+            Manner::Json | Manner::Page => {
+                let mut words = String::new(self.alloc);
+                self.say_verdict(&mut words, end)?;
+                let mut text = String::new(self.alloc);
+                say_end_json(self.alloc, &mut text, &self.tally(end), words.as_str())?;
+                Ok(text)
+            }
+            Manner::Picture => draw(self.alloc, &self.notes, &self.moments, &self.titles),
         }
     }
 
-    // The last object: what is left, and the status.
-    fn last_object(&self, end: ScriptEnd) -> Result<String, AllocError> {
-        let mut text = String::new(self.alloc);
+    // What is left at the end, in words.
+    fn say_verdict(&self, text: &mut String, end: ScriptEnd) -> Result<(), AllocError> {
         let state = self.runner.interpreter().state();
-        let (leaks, held) = (state.leaks(), held(state));
-        let status = exit_status(end, self.unmet(), leaks, held, self.expectations.misuses);
-        let status = self.expectations.status(status);
-        say_end_json(self.alloc, &mut text, state, self.last, (held, status))?;
-        Ok(text)
+        say_end(text, &self.notes, state, self.last)?;
+        say_expectations(text, &self.expectations, self.shown.is_strict)?;
+        say_fault(text, end)
     }
 
-    // Writes a text out.
+    // Writes a text out: in a page as data, that can't break out of its place.
     fn write(&mut self, text: &str) -> Result<(), ScriptEnd> {
+        if self.shown.manner != Manner::Page {
+            return self.write_raw(text);
+        }
+        let inert = Inert::new(self.alloc, text.as_bytes()).map_err(|_| ScriptEnd::NoMemory)?;
+        self.writer
+            .write_all(inert.as_slice())
+            .map_err(|_| ScriptEnd::WriteFault)
+    }
+
+    // Writes a text out as it is.
+    fn write_raw(&mut self, text: &str) -> Result<(), ScriptEnd> {
         self.writer
             .write_all(text.as_bytes())
             .map_err(|_| ScriptEnd::WriteFault)
     }
 }
 
+// The worker of a line.
+fn worker_in(task: &Result<Task, Status>) -> Option<WorkerId> {
+    match task {
+        Ok(task) => worker_of(task),
+        Err(_) => None,
+    }
+}
+
+// The bytes that a line writes, or that its answer tells.
+fn bytes_of<'a>(task: Option<&'a Task>, said: &'a Said) -> Option<&'a [u8]> {
+    match (said, task) {
+        (Said::Told(_, bytes), _) => Some(bytes.as_slice()),
+        (Said::Replied(answer), _) => Some(answer.bytes.as_slice()),
+        (
+            Said::Id(..) | Said::Plain(_),
+            Some(
+                Task::Event(
+                    Step::Begin(
+                        Request::OnHandle {
+                            request: FileRequest::Write { bytes, .. },
+                            ..
+                        },
+                    )
+                    | Step::Allocate { body: bytes, .. }
+                    | Step::WriteBody { bytes, .. },
+                ),
+            ),
+        ) => Some(bytes.as_slice()),
+        _ => None,
+    }
+}
+
 // What stands before an answer in a list of them.
 fn between(is_first: bool) -> &'static str {
     if is_first { "; it answered " } else { ", " }
-}
-
-fn last_entry(trace: Option<&[Entry]>) -> Option<Entry> {
-    match trace {
-        Some(trace) => trace.last().copied(),
-        None => None,
-    }
 }
 
 // Runs a line as a script does, and gives what it printed, with what was printed before and not given yet.
@@ -440,6 +655,10 @@ pub fn show_script<R: Read + Drop, W: Write + Drop>(
         Ok(view) => view,
         Err(end) => return end.status(),
     };
+    let mut view = view;
+    if let Err(end) = view.begin() {
+        return view.finish(end);
+    }
     let (view, end) = read_lines(alloc, reader, view);
     view.finish(end)
 }
@@ -456,13 +675,11 @@ impl<W: Write + Drop> Listener for View<W> {
         if let Some(expected) = expected_in(line) {
             return self.expect(line, expected);
         }
-        if self.shown.manner == Manner::Words && !line.is_empty() {
-            let text = format!(in self.alloc; "{:>4}  {}\n", self.line, Ascii(line)).map_err(
-                |_| ScriptEnd::NoMemory,
-            )?;
-            return self.write(text.as_str());
+        if line.is_empty() {
+            return Ok(());
         }
-        Ok(())
+        let text = self.comment(line).map_err(|_| ScriptEnd::NoMemory)?;
+        self.write(text.as_str())
     }
 
     fn pause(&mut self) -> Result<(), ScriptEnd> {

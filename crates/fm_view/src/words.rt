@@ -1,10 +1,11 @@
 //! What happened, in words.
 
-use crate::event::{Event, Kind};
-use crate::named::{Ascii, Counted, Named, Stated};
+use crate::event::{Deed, Event};
+use crate::named::{Ascii, Counted, Named, PlaceName, Stated, kind_word};
 use crate::notes::{Notes, What};
-use fm_core::Phase;
+use fm_core::{Count, Phase, Place};
 use fm_data::PreVerdict;
+use fm_types::Status;
 use std::alloc::AllocError;
 
 /// How many bytes of a body or of a reply are shown.
@@ -17,140 +18,159 @@ pub fn say(
     event: &Event,
     bytes: &[u8],
 ) -> Result<(), AllocError> {
-    let filter = Named::Filter(notes, event.filter.unwrap_or(0));
-    let volume = Named::Volume(notes, event.volume.unwrap_or(0));
-    match event.kind {
-        Kind::Loaded => write!(text, "filter {filter}"),
-        Kind::Mounted => write!(text, "volume {volume}"),
-        Kind::Attached => {
-            let instance = Named::Instance(notes, event.instance.unwrap_or(0));
-            write!(text, "instance {instance} on {volume}")
+    match event {
+        Event::Loaded { filter } => write!(text, "filter {}", Named::Filter(notes, *filter)),
+        Event::Mounted { volume } => write!(text, "volume {}", Named::Volume(notes, *volume)),
+        Event::Attached { instance } => say_attached(text, notes, *instance),
+        Event::Entered { worker, place } => {
+            write!(text, "w{worker} is {}", PlaceName(notes, *place))
         }
-        Kind::InUnload => write!(text, "w{} is in the unload of {filter}", worker(event)),
-        Kind::Unloaded => write!(
-            text,
-            "{filter} is being unloaded: its instances are stopping"
-        ),
-        Kind::FilterEmptied => write!(text, "the volume contexts of {filter} are taken off"),
-        Kind::FilterFinished => write!(text, "{filter} is unloaded"),
-        Kind::Dismounting => write!(
-            text,
-            "{volume} is being dismounted: its instances are stopping"
-        ),
-        Kind::Dropped => write!(text, "h{} is closed", event.handle.unwrap_or(0)),
-        Kind::NoneOpen => write!(text, "no handle is open on {volume}"),
-        Kind::VolumeEmptied => write!(text, "the contexts on {volume} are taken off"),
-        Kind::VolumeFinished => write!(text, "{volume} is dismounted"),
-        Kind::Leaks => write!(text, "{} left behind", Counted(number(event), "reference")),
-        Kind::WillFail if number(event) == 0 => {
-            write!(text, "device calls count from 1, so none will fail")
+        Event::Returned { place, .. } => say_returned(text, notes, *place),
+        Event::OnContext {
+            worker,
+            context,
+            deed,
+        } => say_deed(text, notes, (*worker, *context), *deed, bytes),
+        Event::TakenOff { kind, .. } => {
+            write!(text, "the {} context is taken off", kind_word(*kind))
         }
-        Kind::WillFail => write!(text, "device call {} will fail", number(event)),
-        Kind::Failures => write!(text, "{} failed", Counted(number(event), "device call")),
-        _ => say_of_operation(text, notes, event, bytes),
+        Event::NoneDue { .. } => write!(text, "no context is due"),
+        Event::Counted { context, count } => {
+            say_count(text, Named::Context(notes, *context), *count)
+        }
+        Event::Leaks { count } => write!(text, "{} left behind", Counted(*count, "reference")),
+        Event::WillFail { number } => say_will_fail(text, *number),
+        Event::Failures { count } => {
+            write!(text, "{} failed", Counted(*count, "device call"))
+        }
+        Event::Replied {
+            operation,
+            status,
+            information,
+        } => {
+            write!(text, "reply  {}", Stated(*status))?;
+            match status {
+                Status::Success => say_reply(text, notes.what(Some(*operation)), *information, bytes),
+                _ => Ok(()),
+            }
+        }
+        other => say_of_operation(text, notes, other),
     }
 }
 
-fn worker(event: &Event) -> u8 {
-    event.worker.unwrap_or(0)
+// An instance, and where it is.
+fn say_attached(text: &mut String, notes: &Notes, instance: u16) -> Result<(), AllocError> {
+    write!(text, "instance {}", Named::Instance(notes, instance))?;
+    match notes.instances.get(usize::from(instance)) {
+        Some(note) => write!(text, " on {}", Named::Volume(notes, note.volume)),
+        None => Ok(()),
+    }
 }
 
-fn number(event: &Event) -> u64 {
-    event.number.unwrap_or(0)
+// A device call that is to fail.
+fn say_will_fail(text: &mut String, number: u64) -> Result<(), AllocError> {
+    if number == 0 {
+        return write!(text, "device calls count from 1, so none will fail");
+    }
+    write!(text, "device call {number} will fail")
+}
+
+// What the return of a callback brought about.
+fn say_returned(text: &mut String, notes: &Notes, place: Place) -> Result<(), AllocError> {
+    match place {
+        Place::Setup(i) => write!(text, "{} is attached", Named::Instance(notes, i.0)),
+        Place::Query(i) => write!(text, "{} is stopping", Named::Instance(notes, i.0)),
+        Place::Start(i) => {
+            let instance = Named::Instance(notes, i.0);
+            write!(text, "the teardown-start of {instance} is over")
+        }
+        Place::Complete(i) => {
+            let instance = Named::Instance(notes, i.0);
+            write!(text, "{instance} is being emptied: its contexts are taken off")
+        }
+        Place::Unload(filter) => {
+            let filter = Named::Filter(notes, filter.0);
+            write!(text, "{filter} is being unloaded: its instances are stopping")
+        }
+        Place::EarlyDrain(o, i) => {
+            let instance = Named::Instance(notes, i.0);
+            write!(text, "drain  {instance} of o{}, before its turn", o.0)
+        }
+        _ => Ok(()),
+    }
 }
 
 // What happened to an operation.
-fn say_of_operation(
-    text: &mut String,
-    notes: &Notes,
-    event: &Event,
-    bytes: &[u8],
-) -> Result<(), AllocError> {
-    let instance = Named::Instance(notes, event.instance.unwrap_or(0));
-    let operation = event.operation.unwrap_or(0);
-    let worker = worker(event);
-    match event.kind {
-        Kind::Began => write!(text, "{}", Named::Operation(notes, operation)),
-        Kind::InPre => write!(text, "w{worker} is in the preoperation of {instance}"),
-        Kind::InBase => write!(text, "w{worker} is in the file system's call"),
-        Kind::InPost => write!(text, "w{worker} is in the postoperation of {instance}"),
-        Kind::InDrain => write!(text, "w{worker} is in the drain of {instance}"),
-        Kind::InEarlyDrain => {
-            write!(
-                text,
-                "w{worker} is in the drain of {instance} for o{operation}, before its turn"
-            )
+fn say_of_operation(text: &mut String, notes: &Notes, event: &Event) -> Result<(), AllocError> {
+    match event {
+        Event::Began { operation } => write!(text, "{}", Named::Operation(notes, *operation)),
+        Event::Moved { operation } => {
+            write!(text, "o{operation} moved on without a call: ask again")
         }
-        Kind::NoneOwed => write!(text, "nothing is owed to {instance}"),
-        Kind::Moved => write!(text, "it moved on without a call: ask again"),
-        Kind::Held => write!(text, "held   {instance}"),
-        Kind::Done => write!(text, "it is done: its reply can be collected"),
-        Kind::Pre => {
-            write!(text, "down   {instance} ")?;
-            say_verdict(text, event)
+        Event::Held { instance, .. } => write!(text, "held   {}", Named::Instance(notes, *instance)),
+        Event::Done { operation } => {
+            write!(text, "o{operation} is done: its reply can be collected")
         }
-        Kind::Base => match event.status {
-            Some(status) => write!(text, "base   {}", Stated(status)),
-            None => write!(text, "base"),
-        },
-        Kind::Post => write!(text, "up     {instance}"),
-        Kind::PostHeld => write!(text, "up     {instance} holds o{operation}"),
-        Kind::Drained | Kind::EarlyDrained => write!(text, "drain  {instance}"),
-        Kind::Replied => say_reply(text, notes, event, bytes),
-        Kind::Resumed => {
-            write!(text, "o{operation} goes on: {instance} ")?;
-            say_verdict(text, event)
+        Event::Pre {
+            visit,
+            verdict,
+            context,
+        } => {
+            write!(text, "down   {} ", Named::Instance(notes, visit.instance))?;
+            say_verdict(text, *verdict, *context)
         }
-        Kind::PostResumed => {
-            write!(
-                text,
-                "o{operation} goes on: the postoperation of {instance} is over"
-            )
+        Event::Base { status, .. } => write!(text, "base   {}", Stated(*status)),
+        Event::Known { status, .. } => {
+            write!(text, "answer {}, without the file system", Stated(*status))
         }
-        Kind::Planned => {
-            write!(text, "in a go {instance} ")?;
-            say_verdict(text, event)
+        Event::Post(visit) => write!(text, "up     {}", Named::Instance(notes, visit.instance)),
+        Event::PostHeld(visit) => {
+            let instance = Named::Instance(notes, visit.instance);
+            write!(text, "up     {instance} holds o{}", visit.operation)
         }
-        _ => say_of_context(text, notes, event, bytes),
+        Event::Drained(visit) => write!(text, "drain  {}", Named::Instance(notes, visit.instance)),
+        Event::Resumed { visit, verdict } => {
+            let instance = Named::Instance(notes, visit.instance);
+            write!(text, "o{} goes on: {instance} ", visit.operation)?;
+            say_verdict(text, *verdict, None)
+        }
+        Event::PostResumed(visit) => {
+            let instance = Named::Instance(notes, visit.instance);
+            let operation = visit.operation;
+            write!(text, "o{operation} goes on: the postoperation of {instance} is over")
+        }
+        other => say_of_instance(text, notes, other),
     }
 }
 
 // The verdict of a preoperation.
-fn say_verdict(text: &mut String, event: &Event) -> Result<(), AllocError> {
-    match (event.verdict, event.context) {
-        (Some(PreVerdict::WithCallback(_)), Some(context)) => {
-            write!(
-                text,
-                "asks for its postoperation, and sends c{context} along"
-            )
+fn say_verdict(
+    text: &mut String,
+    verdict: PreVerdict,
+    context: Option<u64>,
+) -> Result<(), AllocError> {
+    match (verdict, context) {
+        (PreVerdict::WithCallback(_), Some(context)) => {
+            write!(text, "asks for its postoperation, and sends c{context} along")
         }
-        (Some(PreVerdict::WithCallback(_)), None) => write!(text, "asks for its postoperation"),
-        (Some(PreVerdict::Synchronize(_)), _) => {
+        (PreVerdict::WithCallback(_), None) => write!(text, "asks for its postoperation"),
+        (PreVerdict::Synchronize(_), _) => {
             write!(text, "asks for its postoperation on the same worker")
         }
-        (Some(PreVerdict::NoCallback), _) => write!(text, "passes it on"),
-        (Some(PreVerdict::Complete(status)), _) => write!(text, "ends it with {}", Stated(status)),
-        (Some(PreVerdict::Pending), _) => write!(text, "holds it"),
-        (None, _) => Ok(()),
+        (PreVerdict::NoCallback, _) => write!(text, "passes it on"),
+        (PreVerdict::Complete(status), _) => write!(text, "ends it with {}", Stated(status)),
+        (PreVerdict::Pending, _) => write!(text, "holds it"),
     }
 }
 
-// A reply, and what its number and its bytes are.
+// What the number and the bytes of a successful reply are.
 fn say_reply(
     text: &mut String,
-    notes: &Notes,
-    event: &Event,
+    what: Option<&What>,
+    number: u64,
     bytes: &[u8],
 ) -> Result<(), AllocError> {
-    let Some(status) = event.status else {
-        return Ok(());
-    };
-    write!(text, "reply  {}", Stated(status))?;
-    if status.number() != 0 {
-        return Ok(());
-    }
-    let number = number(event);
-    match notes.what(event.operation) {
+    match what {
         Some(What::Create(..)) => write!(text, ", handle h{number}"),
         Some(What::Read(..)) => {
             write!(text, ", {} ", Counted(number, "byte"))?;
@@ -176,76 +196,112 @@ fn say_bytes(text: &mut String, bytes: &[u8]) -> Result<(), AllocError> {
     Ok(())
 }
 
-// What happened to a context.
-fn say_of_context(
+// The bytes of a body: in hexadecimal, and in quotes where all of them can be read. At most 32 of them.
+fn say_hex(text: &mut String, bytes: &[u8]) -> Result<(), AllocError> {
+    for byte in bytes.iter().take(SHOWN) {
+        write!(text, "{byte:02x}")?;
+    }
+    if bytes.len() > SHOWN {
+        return write!(text, "..");
+    }
+    if !bytes.is_empty() && bytes.iter().all(|byte| *byte >= b' ' && *byte <= b'~') {
+        return write!(text, " \"{}\"", Ascii(bytes));
+    }
+    Ok(())
+}
+
+// What a worker did with a context.
+fn say_deed(
     text: &mut String,
     notes: &Notes,
-    event: &Event,
+    (worker, context): (u8, u64),
+    deed: Deed,
     bytes: &[u8],
 ) -> Result<(), AllocError> {
-    let context = Named::Context(notes, event.context.unwrap_or(0));
-    let number = number(event);
-    match event.kind {
-        Kind::Allocated => write!(text, "{context}"),
-        Kind::Set => write!(text, "{context} is set"),
-        Kind::Got => write!(text, "a reference to {context}"),
-        Kind::TakenOff => match event.context {
-            Some(_) => write!(text, "{context} is taken off, its reference is in the hand"),
-            None => write!(text, "it is taken off"),
-        },
-        Kind::Referenced => write!(text, "one more reference to {context}"),
-        Kind::Released => write!(text, "one reference fewer to {context}"),
-        Kind::Body => {
-            write!(text, "the body of {context}: ")?;
-            say_bytes(text, bytes)
+    let named = Named::Context(notes, context);
+    match deed {
+        Deed::Allocated => write!(text, "{named}"),
+        Deed::Set(None) => write!(text, "{named} is set"),
+        Deed::Set(Some(old)) => {
+            let old = Named::Context(notes, old);
+            write!(text, "{named} is set; a reference to {old}, which was, is in the hand")
         }
-        Kind::Written => write!(text, "the body of {context} is written"),
-        Kind::Bumped => write!(text, "the number in {context} is {number}"),
-        Kind::InCleanup => write!(text, "w{} is in the cleanup of {context}", worker(event)),
-        Kind::Cleaned => write!(text, "{context} is cleaned up"),
-        Kind::NoneDue => write!(text, "no context is due"),
-        Kind::Count => write!(text, "{context} has {}", Counted(number, "reference")),
-        Kind::Due => write!(text, "{context} has none, and waits for its cleanup"),
-        Kind::Cleaning => write!(text, "{context} is being cleaned up"),
-        Kind::WasCleaned => write!(text, "{context} was cleaned up"),
-        _ => say_of_instance(text, notes, event),
+        Deed::Got => write!(text, "a reference to {named}"),
+        Deed::TakenOff => write!(text, "{named} is taken off, its reference is in the hand"),
+        Deed::Referenced => write!(text, "one more reference to {named}"),
+        Deed::Released => write!(text, "one reference fewer to {named}"),
+        Deed::Body => {
+            write!(text, "the body of {named}: ")?;
+            say_hex(text, bytes)
+        }
+        Deed::Written => write!(text, "the body of {named} is written"),
+        Deed::Bumped(number) => write!(text, "the number in {named} is {number}"),
+        Deed::InCleanup => write!(text, "w{worker} is in the cleanup of {named}"),
+        Deed::Cleaned => write!(text, "{named} is cleaned up"),
     }
 }
 
-// What happened to an instance.
+// How far a context's life is.
+fn say_count(text: &mut String, named: Named<'_>, count: Count) -> Result<(), AllocError> {
+    match count {
+        Count::Live(count) => write!(text, "{named} has {}", Counted(count, "reference")),
+        Count::Due => write!(text, "{named} has none, and waits for its cleanup"),
+        Count::Cleaning => write!(text, "{named} is being cleaned up"),
+        Count::Cleaned | Count::Absent => write!(text, "{named} was cleaned up"),
+    }
+}
+
+// What happened to an instance, a filter or a volume.
 fn say_of_instance(text: &mut String, notes: &Notes, event: &Event) -> Result<(), AllocError> {
-    let instance = Named::Instance(notes, event.instance.unwrap_or(0));
-    let worker = worker(event);
-    match event.kind {
-        Kind::InSetup => write!(text, "w{worker} is in the setup of {instance}"),
-        Kind::SetUp => write!(text, "{instance} is attached"),
-        Kind::InQuery => write!(text, "w{worker} is in the query of {instance}"),
-        Kind::Queried => write!(text, "{instance} is stopping"),
-        Kind::InStart => write!(text, "w{worker} is in the teardown-start of {instance}"),
-        Kind::Started => write!(text, "the teardown-start of {instance} is over"),
-        Kind::InComplete => write!(text, "w{worker} is in the teardown-complete of {instance}"),
-        Kind::Completed => write!(
-            text,
-            "{instance} is being emptied: its contexts are taken off"
-        ),
-        Kind::Finished => write!(text, "{instance} is detached"),
-        Kind::Phase => write!(text, "{instance} is {}", phase_of(notes, event)),
-        Kind::Flight => write!(
-            text,
-            "{} in flight at {instance}",
-            Counted(number(event), "operation")
-        ),
-        _ => Ok(()),
+    match event {
+        Event::Planned { instance, verdict } => {
+            write!(text, "in a go {} ", Named::Instance(notes, *instance))?;
+            say_verdict(text, *verdict, None)
+        }
+        Event::NoneOwed { instance } => {
+            write!(text, "nothing is owed to {}", Named::Instance(notes, *instance))
+        }
+        Event::Finished { instance } => {
+            write!(text, "{} is detached", Named::Instance(notes, *instance))
+        }
+        Event::Phase { instance, phase } => {
+            let instance = Named::Instance(notes, *instance);
+            write!(text, "{instance} is {}", phase_word(*phase))
+        }
+        Event::Flight { instance, count } => {
+            let count = Counted(*count, "operation");
+            write!(text, "{count} in flight at {}", Named::Instance(notes, *instance))
+        }
+        Event::FilterEmptied { filter } => {
+            let filter = Named::Filter(notes, *filter);
+            write!(text, "the volume contexts of {filter} are taken off")
+        }
+        Event::FilterFinished { filter } => {
+            write!(text, "{} is unloaded", Named::Filter(notes, *filter))
+        }
+        other => say_of_volume(text, notes, other),
     }
 }
 
-fn phase_of(notes: &Notes, event: &Event) -> &'static str {
-    match notes
-        .instances
-        .get(usize::from(event.instance.unwrap_or(0)))
-    {
-        Some(note) => phase_word(note.phase),
-        None => "unknown",
+// What happened to a volume.
+fn say_of_volume(text: &mut String, notes: &Notes, event: &Event) -> Result<(), AllocError> {
+    match event {
+        Event::Dismounting { volume } => {
+            let volume = Named::Volume(notes, *volume);
+            write!(text, "{volume} is being dismounted: its instances are stopping")
+        }
+        Event::Dropped { handle, .. } => write!(text, "h{handle} is closed"),
+        Event::NoneOpen { volume } => {
+            write!(text, "no handle is open on {}", Named::Volume(notes, *volume))
+        }
+        Event::VolumeEmptied { volume } => {
+            let volume = Named::Volume(notes, *volume);
+            write!(text, "the contexts on {volume} are taken off")
+        }
+        Event::VolumeFinished { volume } => {
+            write!(text, "{} is dismounted", Named::Volume(notes, *volume))
+        }
+        _ => Ok(()),
     }
 }
 

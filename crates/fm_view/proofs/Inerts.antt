@@ -14,8 +14,8 @@ spelled-at b false e =
     let high : ℕ = digit (b / 16 % 16) in
     let low : ℕ = digit (b % 16) in
     let digits : All IsInert (high ∷ low ∷ []) =
-        All-cons IsInert high (low ∷ []) (digit-inert (b / 16 % 16) (omega arith))
-        (All-cons IsInert low [] (digit-inert (b % 16) (omega arith)) (All-nil IsInert)) in
+    All-cons IsInert high (low ∷ []) (digit-inert (b / 16 % 16) (omega arith))
+    (All-cons IsInert low [] (digit-inert (b % 16) (omega arith)) (All-nil IsInert)) in
     All-cons IsInert 92 (117 ∷ 48 ∷ 48 ∷ high ∷ low ∷ []) refl (All-cons IsInert 117 (48 ∷ 48 ∷ high ∷ low ∷ []) refl
     (All-cons IsInert 48 (48 ∷ high ∷ low ∷ []) refl (All-cons IsInert 48 (high ∷ low ∷ []) refl digits)))
 

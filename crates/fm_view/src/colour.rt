@@ -41,9 +41,8 @@ impl Colour {
 pub fn colour_of(event: &Event) -> Colour {
     match event {
         Event::Refused { .. } => Colour::Bad,
-        Event::Replied { status, .. }
-        | Event::Base { status, .. }
-        | Event::Known { status, .. } => of_status(*status),
+        Event::Replied { status, .. } | Event::Base { status, .. } | Event::Known { status, .. } =>
+            of_status(*status),
         Event::Held { .. } | Event::PostHeld(_) => Colour::Waiting,
         Event::Drained(_) | Event::Dismounting { .. } => Colour::Waiting,
         Event::OnContext {

@@ -46,23 +46,44 @@ pub enum Deed {
 #[derive(Clone, Copy, Debug)]
 pub enum Event {
     /// A filter was loaded.
-    Loaded { filter: u8 },
+    Loaded {
+        filter: u8,
+    },
     /// A volume was mounted.
-    Mounted { volume: u8 },
+    Mounted {
+        volume: u8,
+    },
     /// An instance was attached, and its setup was accepted.
-    Attached { instance: u16 },
+    Attached {
+        instance: u16,
+    },
     /// A worker came into a callback or into the file system's call.
-    Entered { worker: u8, place: Place },
+    Entered {
+        worker: u8,
+        place: Place,
+    },
     /// A callback of a setup, of a teardown or of an early drain returned.
-    Returned { worker: u8, place: Place },
+    Returned {
+        worker: u8,
+        place: Place,
+    },
     /// An operation began.
-    Began { operation: u64 },
+    Began {
+        operation: u64,
+    },
     /// An operation moved on without a call.
-    Moved { operation: u64 },
+    Moved {
+        operation: u64,
+    },
     /// A filter holds an operation.
-    Held { operation: u64, instance: u16 },
+    Held {
+        operation: u64,
+        instance: u16,
+    },
     /// An operation is done.
-    Done { operation: u64 },
+    Done {
+        operation: u64,
+    },
     /// A preoperation gave its verdict, and perhaps sends a context along.
     Pre {
         visit: Visit,
@@ -70,9 +91,15 @@ pub enum Event {
         context: Option<u64>,
     },
     /// The file system answered an operation.
-    Base { operation: u64, status: Status },
+    Base {
+        operation: u64,
+        status: Status,
+    },
     /// The manager answered it in the file system's place.
-    Known { operation: u64, status: Status },
+    Known {
+        operation: u64,
+        status: Status,
+    },
     /// A postoperation returned.
     Post(Visit),
     /// A postoperation returned and holds its operation.
@@ -86,11 +113,17 @@ pub enum Event {
         information: u64,
     },
     /// A preoperation that held an operation was resumed.
-    Resumed { visit: Visit, verdict: PreVerdict },
+    Resumed {
+        visit: Visit,
+        verdict: PreVerdict,
+    },
     /// A postoperation that held an operation was resumed.
     PostResumed(Visit),
     /// How `go` answers for an instance was planned.
-    Planned { instance: u16, verdict: PreVerdict },
+    Planned {
+        instance: u16,
+        verdict: PreVerdict,
+    },
     /// Something was done with a context.
     OnContext {
         worker: u8,
@@ -98,39 +131,78 @@ pub enum Event {
         deed: Deed,
     },
     /// The context of a kind was taken off the callback's object, and its reference given up.
-    TakenOff { worker: u8, kind: ContextKind },
+    TakenOff {
+        worker: u8,
+        kind: ContextKind,
+    },
     /// No context is due.
-    NoneDue { worker: u8 },
+    NoneDue {
+        worker: u8,
+    },
     /// How far a context's life is.
-    Counted { context: u64, count: Count },
+    Counted {
+        context: u64,
+        count: Count,
+    },
     /// So many references were left behind.
-    Leaks { count: u64 },
+    Leaks {
+        count: u64,
+    },
     /// Nothing is owed to an instance.
-    NoneOwed { instance: u16 },
+    NoneOwed {
+        instance: u16,
+    },
     /// An instance ended.
-    Finished { instance: u16 },
+    Finished {
+        instance: u16,
+    },
     /// A filter's volume contexts were taken off.
-    FilterEmptied { filter: u8 },
+    FilterEmptied {
+        filter: u8,
+    },
     /// A filter ended.
-    FilterFinished { filter: u8 },
+    FilterFinished {
+        filter: u8,
+    },
     /// The dismount of a volume started.
-    Dismounting { volume: u8 },
+    Dismounting {
+        volume: u8,
+    },
     /// A handle was closed by the dismount.
-    Dropped { volume: u8, handle: u64 },
+    Dropped {
+        volume: u8,
+        handle: u64,
+    },
     /// No handle is open on a volume.
-    NoneOpen { volume: u8 },
+    NoneOpen {
+        volume: u8,
+    },
     /// A volume's contexts were taken off.
-    VolumeEmptied { volume: u8 },
+    VolumeEmptied {
+        volume: u8,
+    },
     /// The dismount of a volume ended.
-    VolumeFinished { volume: u8 },
+    VolumeFinished {
+        volume: u8,
+    },
     /// How far an instance's life is.
-    Phase { instance: u16, phase: Phase },
+    Phase {
+        instance: u16,
+        phase: Phase,
+    },
     /// So many operations are in flight at an instance.
-    Flight { instance: u16, count: u64 },
+    Flight {
+        instance: u16,
+        count: u64,
+    },
     /// The device call of that number will fail.
-    WillFail { number: u64 },
+    WillFail {
+        number: u64,
+    },
     /// So many device calls failed.
-    Failures { count: u64 },
+    Failures {
+        count: u64,
+    },
     /// A line was refused; that context is set already, and a reference to it came into the hand.
     Refused {
         status: Status,

@@ -305,7 +305,11 @@ impl Asked<'_> {
                 worker,
                 context,
                 ..
-            } => on(*worker, self.number(*context), Deed::Bumped(number_in(said))),
+            } => on(
+                *worker,
+                self.number(*context),
+                Deed::Bumped(number_in(said)),
+            ),
             other => self.cleanup_step(other, said),
         }
     }

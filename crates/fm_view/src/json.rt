@@ -25,6 +25,8 @@ pub struct Told<'a> {
     pub command: &'a [u8],
     /// What happened, in words.
     pub words: &'a str,
+    /// Why it was refused, if it was.
+    pub reason: &'a str,
     /// The bytes that were written, read or told.
     pub bytes: Option<&'a [u8]>,
     /// What the line asked for, if it could be read.
@@ -82,7 +84,9 @@ fn put_event(
 ) -> Result<(), AllocError> {
     match event {
         Event::Pre {
-            verdict, context, ..
+            verdict,
+            context,
+            ..
         } => {
             object.maybe("context", 'c', *context)?;
             put_verdict(object, *verdict)
@@ -102,6 +106,7 @@ fn put_event(
         Event::Began { operation } => put_request(object, notes, *operation),
         Event::OnContext { context, deed, .. } => put_deed(object, notes, *context, *deed),
         Event::Refused { status, context } => {
+            object.text("reason", told.reason)?;
             put_subject(object, told)?;
             object.maybe("context", 'c', *context)?;
             put_status(object, *status)
@@ -284,10 +289,26 @@ fn put_subject(object: &mut Object, told: &Told<'_>) -> Result<(), AllocError> {
     let Some(task) = told.task else {
         return Ok(());
     };
-    object.maybe("worker", 'w', worker_of(task).map(|worker| u64::from(worker.0)))?;
-    object.maybe("filter", 'f', filter_of(task, told.place).map(|filter| u64::from(filter.0)))?;
-    object.maybe("volume", 'v', volume_of(task).map(|volume| u64::from(volume.0)))?;
-    object.maybe("instance", 'i', instance_of(task, told.place).map(u64::from))?;
+    object.maybe(
+        "worker",
+        'w',
+        worker_of(task).map(|worker| u64::from(worker.0)),
+    )?;
+    object.maybe(
+        "filter",
+        'f',
+        filter_of(task, told.place).map(|filter| u64::from(filter.0)),
+    )?;
+    object.maybe(
+        "volume",
+        'v',
+        volume_of(task).map(|volume| u64::from(volume.0)),
+    )?;
+    object.maybe(
+        "instance",
+        'i',
+        instance_of(task, told.place).map(u64::from),
+    )?;
     object.maybe("operation", 'o', operation_of(task, told.place))?;
     object.maybe("handle", 'h', handle_of(task))
 }

@@ -282,7 +282,13 @@ impl Notes {
                     filter,
                     volume,
                 },
-            ) => self.attach(*name, *altitude, (filter.0, volume.0), Phase::Attached, since)?,
+            ) => self.attach(
+                *name,
+                *altitude,
+                (filter.0, volume.0),
+                Phase::Attached,
+                since,
+            )?,
             _ => {}
         }
         Ok(())
@@ -336,8 +342,10 @@ impl Notes {
         state: &State,
     ) -> Result<(), AllocError> {
         let place = state.place(WorkerId(worker)).unwrap_or(Place::Idle);
-        if let (Task::Event(Step::Allocate { kind, .. }), Some(instance)) =
-            (task, instance_in(place)) {
+        if let (Task::Event(Step::Allocate { kind, .. }), Some(instance)) = (
+            task,
+            instance_in(place),
+        ) {
             self.contexts.push(ContextNote {
                 kind: *kind,
                 instance,
@@ -433,8 +441,10 @@ impl Notes {
     /// In a `go` the postoperations and drains left behind what they were sent.
     pub fn leak_carried(&mut self, moments: &[Moment], line: u32) -> Result<(), AllocError> {
         for moment in moments {
-            if let (true, Event::Post(visit) | Event::Drained(visit)) =
-                (moment.line == line, moment.event) {
+            if let (true, Event::Post(visit) | Event::Drained(visit)) = (
+                moment.line == line,
+                moment.event,
+            ) {
                 self.leak_of(line, visit)?;
             }
         }

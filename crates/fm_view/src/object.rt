@@ -48,7 +48,12 @@ impl Object {
     }
 
     /// Puts an id, if there is one.
-    pub fn maybe(&mut self, key: &str, letter: char, number: Option<u64>) -> Result<(), AllocError> {
+    pub fn maybe(
+        &mut self,
+        key: &str,
+        letter: char,
+        number: Option<u64>,
+    ) -> Result<(), AllocError> {
         match number {
             Some(number) => self.id(key, letter, number),
             None => Ok(()),

@@ -140,7 +140,10 @@ impl Picture<'_> {
         label: &Label,
     ) -> Result<(), AllocError> {
         let text = label.text();
-        write!(self.text, "<text x=\"{x}\" y=\"{y}\" {style}>{text}</text>\n")
+        write!(
+            self.text,
+            "<text x=\"{x}\" y=\"{y}\" {style}>{text}</text>\n"
+        )
     }
 
     /// A label of what is named, of so many letters at most.
@@ -211,7 +214,10 @@ impl Picture<'_> {
 
     // How far right an instance comes to be.
     fn attached_at(&self, instance: u16) -> u32 {
-        let found = self.moments.iter().position(|moment| is_birth(&moment.event, instance));
+        let found = self
+            .moments
+            .iter()
+            .position(|moment| is_birth(&moment.event, instance));
         match found {
             Some(at) => self.columns.x(at),
             None => LEFT,
@@ -233,9 +239,9 @@ impl Picture<'_> {
         let Some(colour) = shade(change.phase) else {
             return Ok(());
         };
-        let later = self.notes.changes.iter().skip(at).find(
-            |later| later.instance == change.instance && later.phase != change.phase,
-        );
+        let later = self.notes.changes.iter().skip(at).find(|later| later.instance
+            == change.instance
+            && later.phase != change.phase);
         let until = match later {
             Some(later) => self.columns.x_of_line(self.moments, later.line),
             None => self.columns.right(),
@@ -279,7 +285,9 @@ impl Picture<'_> {
             .saturating_add(row.saturating_mul(BAR));
         let context = number as u64;
         let from = self.x_of_deed(context, false).unwrap_or(LEFT);
-        let right = self.x_of_deed(context, true).unwrap_or(self.columns.right());
+        let right = self
+            .x_of_deed(context, true)
+            .unwrap_or(self.columns.right());
         let width = right.saturating_sub(from);
         write!(
             self.text,
@@ -305,10 +313,17 @@ impl Picture<'_> {
     // Where a context was set.
     fn draw_links(&mut self, context: u64, y: u32) -> Result<(), AllocError> {
         for at in 0..self.moments.len() {
-            if self.moments.get(at).is_some_and(|moment| is_set(&moment.event, context)) {
+            if self
+                .moments
+                .get(at)
+                .is_some_and(|moment| is_set(&moment.event, context))
+            {
                 let x = self.columns.x(at);
                 self.begin_mark(at)?;
-                write!(self.text, "<circle cx=\"{x}\" cy=\"{y}\" r=\"3.5\" fill=\"#8a6410\"/>")?;
+                write!(
+                    self.text,
+                    "<circle cx=\"{x}\" cy=\"{y}\" r=\"3.5\" fill=\"#8a6410\"/>"
+                )?;
                 self.end_mark()?;
             }
         }

@@ -56,7 +56,7 @@ pub fn say_refusal(
         Status::BadRequest => write!(text, "{}", past_a_limit(task)),
         Status::NoHandle => say_no_handle(text, refusal, task),
         Status::DoNotDetach => say_unwilling(text, refusal, task),
-        Status::AlreadyDefined => say_defined(text, refusal),
+        Status::AlreadyDefined => say_defined(text, refusal, task),
         Status::AlreadyLinked => say_linked(text, refusal, task),
         Status::NameCollision | Status::AltitudeCollision => {
             say_collision(text, refusal, task, status)
@@ -111,11 +111,7 @@ fn say_unknown(text: &mut String, refusal: &Refusal<'_>) -> Result<(), AllocErro
 }
 
 // Why a handle isn't open for it.
-fn say_no_handle(
-    text: &mut String,
-    refusal: &Refusal<'_>,
-    task: &Task,
-) -> Result<(), AllocError> {
+fn say_no_handle(text: &mut String, refusal: &Refusal<'_>, task: &Task) -> Result<(), AllocError> {
     let Some(handle) = handle_of(task) else {
         return write!(text, "{}", sentence(Status::NoHandle));
     };
@@ -144,11 +140,7 @@ fn say_no_handle(
 }
 
 // Whether a filter was asked at all.
-fn say_unwilling(
-    text: &mut String,
-    refusal: &Refusal<'_>,
-    task: &Task,
-) -> Result<(), AllocError> {
+fn say_unwilling(text: &mut String, refusal: &Refusal<'_>, task: &Task) -> Result<(), AllocError> {
     let (asks, routine) = match task {
         Task::Event(Step::AskDetach { instance, .. }) => {
             (refusal.state.filter_of(*instance), "query")
@@ -159,32 +151,71 @@ fn say_unwilling(
     match asks {
         Some(filter) => {
             let filter = Named::Filter(refusal.notes, filter.0);
-            write!(text, "{filter} has no {routine} routine, so nobody was asked")
+            write!(
+                text,
+                "{filter} has no {routine} routine, so nobody was asked"
+            )
         }
         None => write!(text, "{}", sentence(Status::DoNotDetach)),
     }
 }
 
 // Which context is set there already, and whether a reference to it came into the hand.
-fn say_defined(text: &mut String, refusal: &Refusal<'_>) -> Result<(), AllocError> {
-    match refusal.context {
+fn say_defined(text: &mut String, refusal: &Refusal<'_>, task: &Task) -> Result<(), AllocError> {
+    if let Some(context) = refusal.context {
+        let named = Named::Context(refusal.notes, context);
+        return write!(
+            text,
+            "{named} is set there already, and one reference to it came into the hand"
+        );
+    }
+    match only_other(refusal, task) {
         Some(context) => {
             let named = Named::Context(refusal.notes, context);
-            write!(
-                text,
-                "{named} is set there already, and one reference to it came into the hand"
-            )
+            write!(text, "{named} is set there already")
         }
         None => write!(text, "{}", sentence(Status::AlreadyDefined)),
     }
 }
 
+// The context of the same owner and kind as that of the line, if no more than one was ever set: then it is the one that is there.
+fn only_other(refusal: &Refusal<'_>, task: &Task) -> Option<u64> {
+    let Task::Event(Step::Set { context, .. }) = task else {
+        return None;
+    };
+    let own = refusal.contexts.number_of(*context)?;
+    let mut found = None;
+    for (number, note) in refusal.notes.contexts.iter().enumerate() {
+        if number != own && note.set > 0 && is_alike(refusal.notes, note, own) {
+            if found.is_some() {
+                return None;
+            }
+            found = Some(number as u64);
+        }
+    }
+    found
+}
+
+// Whether a context has the kind and the owner of that one.
+fn is_alike(notes: &Notes, note: &ContextNote, own: usize) -> bool {
+    let Some(other) = notes.contexts.get(own) else {
+        return false;
+    };
+    let filter = |instance: u16| {
+        notes
+            .instances
+            .get(usize::from(instance))
+            .map(|note| note.filter)
+    };
+    let is_one_owner = match note.kind {
+        ContextKind::Volume => filter(note.instance) == filter(other.instance),
+        _ => note.instance == other.instance,
+    };
+    note.kind == other.kind && is_one_owner
+}
+
 // Where a context is set already.
-fn say_linked(
-    text: &mut String,
-    refusal: &Refusal<'_>,
-    task: &Task,
-) -> Result<(), AllocError> {
+fn say_linked(text: &mut String, refusal: &Refusal<'_>, task: &Task) -> Result<(), AllocError> {
     let context = match task {
         Task::Event(Step::Set { context, .. }) => refusal.contexts.number_of(*context),
         _ => None,
@@ -193,7 +224,11 @@ fn say_linked(
         return write!(text, "{}", sentence(Status::AlreadyLinked));
     };
     let number = number as u64;
-    write!(text, "{} is set already", Named::Context(refusal.notes, number))?;
+    write!(
+        text,
+        "{} is set already",
+        Named::Context(refusal.notes, number)
+    )?;
     match refusal.notes.context(number) {
         Some(note) if note.set > 0 => write!(text, ", since line {}", note.set),
         _ => Ok(()),
@@ -292,11 +327,7 @@ fn say_nearest(alloc: Global, text: &mut String, word: &[u8]) -> Result<(), Allo
 }
 
 // Something out of order: where the worker is, or what else is in the way.
-fn say_wrong_step(
-    text: &mut String,
-    refusal: &Refusal<'_>,
-    task: &Task,
-) -> Result<(), AllocError> {
+fn say_wrong_step(text: &mut String, refusal: &Refusal<'_>, task: &Task) -> Result<(), AllocError> {
     let worker = worker_of(task);
     if let (Some(worker), true) = (worker, refusal.place != Place::Idle) {
         return say_place(text, refusal, worker, refusal.place);
@@ -412,11 +443,7 @@ fn volume_word(phase: VolumePhase) -> &'static str {
 }
 
 // How far the life of a filter or a volume is.
-fn say_object(
-    text: &mut String,
-    refusal: &Refusal<'_>,
-    task: &Task,
-) -> Result<(), AllocError> {
+fn say_object(text: &mut String, refusal: &Refusal<'_>, task: &Task) -> Result<(), AllocError> {
     let notes = refusal.notes;
     if let Some(volume) = volume_of(task) {
         if let Some(note) = notes.volumes.get(usize::from(volume.0)) {
@@ -432,18 +459,17 @@ fn say_object(
     }
     match handle_of(task) {
         Some(handle) => {
-            write!(text, "the cleanup of h{handle} comes once, and is done before its close")
+            write!(
+                text,
+                "the cleanup of h{handle} comes once, and is done before its close"
+            )
         }
         None => write!(text, "{}", sentence(Status::WrongStep)),
     }
 }
 
 // What is going, and since when.
-fn say_going(
-    text: &mut String,
-    refusal: &Refusal<'_>,
-    task: &Task,
-) -> Result<(), AllocError> {
+fn say_going(text: &mut String, refusal: &Refusal<'_>, task: &Task) -> Result<(), AllocError> {
     let notes = refusal.notes;
     if let Some(instance) = instance_of(task, refusal.place) {
         return say_going_instance(text, notes, instance);
@@ -473,17 +499,16 @@ fn say_going_instance(text: &mut String, notes: &Notes, instance: u16) -> Result
 }
 
 // Who holds an operation, if not the instance whose callback resumes it.
-fn say_not_held(
-    text: &mut String,
-    refusal: &Refusal<'_>,
-    task: &Task,
-) -> Result<(), AllocError> {
+fn say_not_held(text: &mut String, refusal: &Refusal<'_>, task: &Task) -> Result<(), AllocError> {
     let operation = operation_of(task, refusal.place).unwrap_or(0);
     match held_at(refusal.state, OpId(operation)) {
         Some((instance, _)) => {
             let named = Named::Instance(refusal.notes, instance.0);
             let own = instance_of(task, refusal.place).unwrap_or(0);
-            write!(text, "{named} holds o{operation}, and the callback is one of i{own}")
+            write!(
+                text,
+                "{named} holds o{operation}, and the callback is one of i{own}"
+            )
         }
         None => write!(text, "nobody holds o{operation}"),
     }
@@ -547,9 +572,7 @@ impl Group {
         let operation = OpId(number);
         match (self, refusal.state.is_done(operation)) {
             (Group::At(instance), Some(false)) => is_visited(refusal.state, operation, instance),
-            (Group::On(volume), Some(_)) => {
-                refusal.notes.volume_of(number) == Some(volume)
-            }
+            (Group::On(volume), Some(_)) => { refusal.notes.volume_of(number) == Some(volume) }
             _ => false,
         }
     }
@@ -628,11 +651,7 @@ fn is_kept(refusal: &Refusal<'_>, task: &Task, note: &ContextNote) -> bool {
 }
 
 // The contexts that aren't cleaned up and keep it from its end.
-fn say_contexts(
-    text: &mut String,
-    refusal: &Refusal<'_>,
-    task: &Task,
-) -> Result<(), AllocError> {
+fn say_contexts(text: &mut String, refusal: &Refusal<'_>, task: &Task) -> Result<(), AllocError> {
     let mut is_first = true;
     let ids = refusal.contexts.as_slice();
     for (number, note) in refusal.notes.contexts.iter().enumerate() {

@@ -51,23 +51,25 @@ fn usage_of_few(keyword: Keyword) -> &'static str {
 }
 
 /// Appends what of a line isn't as it is spelled: the first word that can't be read, one that is missing, or one too many.
-pub fn say_wrong(
-    text: &mut String,
-    line: &[u8],
-    usage: &'static str,
-) -> Result<(), AllocError> {
+pub fn say_wrong(text: &mut String, line: &[u8], usage: &'static str) -> Result<(), AllocError> {
     let mut forms = usage.as_bytes().split(|byte| *byte == b' ');
+    let mut chosen = None;
     for word in line.split(|byte| *byte == b' ').skip(1) {
-        match forms.next() {
-            _ if word.is_empty() => return write!(text, "a space stands before a space or at the end"),
-            Some(form) if is_choice(form) && is_chosen(usage, word) => {
-                return write!(text, "the words behind it don't fit '{}'", Ascii(word));
+        if word.is_empty() {
+            return write!(text, "a space stands before a space or at the end");
+        }
+        match (chosen, forms.next()) {
+            (Some(before), _) => {
+                return write!(text, "what stands behind '{}' can't be read", Ascii(before));
             }
-            Some(form) if is_choice(form) || !fits(form, word) => {
+            (None, Some(form)) if is_choice(form) && is_chosen(usage, word) => {
+                chosen = Some(word);
+            }
+            (None, Some(form)) if is_choice(form) || !fits(form, word) => {
                 return write!(text, "'{}' can't be read", Ascii(word));
             }
-            Some(_) => {}
-            None => return write!(text, "'{}' is a word too many", Ascii(word)),
+            (None, Some(_)) => {}
+            (None, None) => return write!(text, "'{}' is a word too many", Ascii(word)),
         }
     }
     write!(text, "a word is missing")
@@ -83,9 +85,11 @@ fn is_choice(form: &[u8]) -> bool {
 
 // Whether the word is one that the usage names.
 fn is_chosen(usage: &'static str, word: &[u8]) -> bool {
-    usage.as_bytes().split(|byte| matches!(*byte, b' ' | b',' | b'[' | b']')).any(
-        |choice| choice == word,
-    )
+    let is_named = usage
+        .as_bytes()
+        .split(|byte| matches!(*byte, b' ' | b','))
+        .any(|choice| choice == word);
+    is_named && is_choice(word) && word != b"or".as_slice()
 }
 
 // Whether a word is of that form.
@@ -108,6 +112,8 @@ fn fits(form: &[u8], word: &[u8]) -> bool {
 
 // Whether a word spells bytes.
 fn is_hex(word: &[u8]) -> bool {
-    let is_digits = word.iter().all(|byte| matches!(*byte, b'0'..=b'9' | b'a'..=b'f'));
+    let is_digits = word
+        .iter()
+        .all(|byte| matches!(*byte, b'0'..=b'9' | b'a'..=b'f'));
     word == b"-".as_slice() || (is_digits && word.len() % 2 == 0)
 }

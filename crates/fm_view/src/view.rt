@@ -9,6 +9,7 @@ use crate::colour::{Colour, colour_of};
 use crate::event::{Event, Moment};
 use crate::expect::{Expectations, expected_in};
 use crate::happened::{Asked, refusal_in};
+use crate::inert::Inert;
 use crate::json::{
     Told, say_begin_json, say_change_json, say_comment_json, say_end_json, say_expectation_json,
     say_json, say_leak_json,
@@ -16,7 +17,6 @@ use crate::json::{
 use crate::label::Label;
 use crate::named::{Ascii, Stated};
 use crate::notes::Notes;
-use crate::inert::Inert;
 use crate::page::{PAGE_BEGIN, PAGE_END};
 use crate::picture::draw;
 use crate::reason::{Refusal, say_refusal};
@@ -220,7 +220,10 @@ impl<W: Write + Drop> View<W> {
         let (begin, end) = Colour::Wrong.around(self.shown.is_coloured);
         let number = self.line;
         let expected = Ascii(expected);
-        write!(text, "{begin}NOT AS EXPECTED on line {number}{end}: {expected}")?;
+        write!(
+            text,
+            "{begin}NOT AS EXPECTED on line {number}{end}: {expected}"
+        )?;
         let mut is_first = true;
         for answer in self.expectations.printed().split(|byte| *byte == b'\n') {
             if !answer.is_empty() {
@@ -424,10 +427,12 @@ impl<W: Write + Drop> View<W> {
         if self.is_said() {
             return self.show_words(text, line.text, &event, words.as_str(), is_first);
         }
+        let reason = self.reason(line, &event)?;
         let told = Told {
             line: self.line,
             command: line.text,
             words: words.as_str(),
+            reason: reason.as_str(),
             bytes,
             task: line.task,
             place: line.place,
@@ -443,16 +448,23 @@ impl<W: Write + Drop> View<W> {
     }
 
     // What happened, in words.
-    fn words(
-        &self,
-        line: &Line<'_>,
-        event: &Event,
-        bytes: &[u8],
-    ) -> Result<String, AllocError> {
+    fn words(&self, line: &Line<'_>, event: &Event, bytes: &[u8]) -> Result<String, AllocError> {
         let mut words = String::new(self.alloc);
+        match event {
+            Event::Refused { status, .. } => {
+                let reason = self.reason(line, event)?;
+                write!(words, "REFUSED {}: {}", Stated(*status), reason.as_str())?;
+            }
+            _ => say(&mut words, &self.notes, event, bytes)?,
+        }
+        Ok(words)
+    }
+
+    // Why a line was refused; nothing if it wasn't.
+    fn reason(&self, line: &Line<'_>, event: &Event) -> Result<String, AllocError> {
+        let mut reason = String::new(self.alloc);
         let Event::Refused { status, context } = event else {
-            say(&mut words, &self.notes, event, bytes)?;
-            return Ok(words);
+            return Ok(reason);
         };
         let interpreter = self.runner.interpreter();
         let refusal = Refusal {
@@ -464,9 +476,8 @@ impl<W: Write + Drop> View<W> {
             line: line.text,
             context: *context,
         };
-        write!(words, "REFUSED {}: ", Stated(*status))?;
-        say_refusal(self.alloc, &mut words, &refusal, *status)?;
-        Ok(words)
+        say_refusal(self.alloc, &mut reason, &refusal, *status)?;
+        Ok(reason)
     }
 
     // One answer in words, with the command before the first one of its line. One that is wider than its column has a line of its own.
@@ -669,7 +680,7 @@ impl<W: Write + Drop> Listener for View<W> {
         if !line.is_empty() {
             self.last = self.line;
         }
-        if !is_silent(line) {
+        if line.len() > LINE || !is_silent(line) {
             return self.run(line);
         }
         if let Some(expected) = expected_in(line) {

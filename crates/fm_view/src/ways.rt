@@ -126,7 +126,11 @@ impl Picture<'_> {
         };
         let label = Label::new(self.alloc, word)?;
         let style = "fill=\"#c01818\" font-weight=\"bold\"";
-        self.write_text((right.saturating_add(6), y.saturating_add(4)), style, &label)
+        self.write_text(
+            (right.saturating_add(6), y.saturating_add(4)),
+            style,
+            &label,
+        )
     }
 
     // The name of an operation, in its row.
@@ -136,7 +140,9 @@ impl Picture<'_> {
         (x, top): (u32, u32),
         colour: &str,
     ) -> Result<(), AllocError> {
-        let row = usize::try_from(number).ok().and_then(|at| self.rows.get(at).copied());
+        let row = usize::try_from(number)
+            .ok()
+            .and_then(|at| self.rows.get(at).copied());
         let Some(Some(row)) = row else {
             return Ok(());
         };
@@ -261,7 +267,10 @@ impl Picture<'_> {
     }
 
     fn draw_triangle(&mut self, (x, y): (u32, u32), colour: &str) -> Result<(), AllocError> {
-        write!(self.text, "<path d=\"M{x} {y}m-5 4l5 -9l5 9z\" fill=\"{colour}\"/>")
+        write!(
+            self.text,
+            "<path d=\"M{x} {y}m-5 4l5 -9l5 9z\" fill=\"{colour}\"/>"
+        )
     }
 
     fn draw_cross(&mut self, (x, y): (u32, u32)) -> Result<(), AllocError> {
@@ -280,7 +289,10 @@ impl Picture<'_> {
     ) -> Result<(), AllocError> {
         match status {
             Status::Success => {
-                write!(self.text, "<path d=\"M{x} {y}m-3 -3h6v6h-6z\" fill=\"{colour}\"/>")
+                write!(
+                    self.text,
+                    "<path d=\"M{x} {y}m-3 -3h6v6h-6z\" fill=\"{colour}\"/>"
+                )
             }
             _ => self.draw_failure(status, (x, y)),
         }

@@ -40,9 +40,7 @@ pub fn say(
         }
         Event::Leaks { count } => write!(text, "{} left behind", Counted(*count, "reference")),
         Event::WillFail { number } => say_will_fail(text, *number),
-        Event::Failures { count } => {
-            write!(text, "{} failed", Counted(*count, "device call"))
-        }
+        Event::Failures { count } => { write!(text, "{} failed", Counted(*count, "device call")) }
         Event::Replied {
             operation,
             status,
@@ -50,7 +48,12 @@ pub fn say(
         } => {
             write!(text, "reply  {}", Stated(*status))?;
             match status {
-                Status::Success => say_reply(text, notes.what(Some(*operation)), *information, bytes),
+                Status::Success => say_reply(
+                    text,
+                    notes.what(Some(*operation)),
+                    *information,
+                    bytes,
+                ),
                 _ => Ok(()),
             }
         }
@@ -86,11 +89,17 @@ fn say_returned(text: &mut String, notes: &Notes, place: Place) -> Result<(), Al
         }
         Place::Complete(i) => {
             let instance = Named::Instance(notes, i.0);
-            write!(text, "{instance} is being emptied: its contexts are taken off")
+            write!(
+                text,
+                "{instance} is being emptied: its contexts are taken off"
+            )
         }
         Place::Unload(filter) => {
             let filter = Named::Filter(notes, filter.0);
-            write!(text, "{filter} is being unloaded: its instances are stopping")
+            write!(
+                text,
+                "{filter} is being unloaded: its instances are stopping"
+            )
         }
         Place::EarlyDrain(o, i) => {
             let instance = Named::Instance(notes, i.0);
@@ -107,7 +116,11 @@ fn say_of_operation(text: &mut String, notes: &Notes, event: &Event) -> Result<(
         Event::Moved { operation } => {
             write!(text, "o{operation} moved on without a call: ask again")
         }
-        Event::Held { instance, .. } => write!(text, "held   {}", Named::Instance(notes, *instance)),
+        Event::Held { instance, .. } => write!(
+            text,
+            "held   {}",
+            Named::Instance(notes, *instance)
+        ),
         Event::Done { operation } => {
             write!(text, "o{operation} is done: its reply can be collected")
         }
@@ -137,7 +150,10 @@ fn say_of_operation(text: &mut String, notes: &Notes, event: &Event) -> Result<(
         Event::PostResumed(visit) => {
             let instance = Named::Instance(notes, visit.instance);
             let operation = visit.operation;
-            write!(text, "o{operation} goes on: the postoperation of {instance} is over")
+            write!(
+                text,
+                "o{operation} goes on: the postoperation of {instance} is over"
+            )
         }
         other => say_of_instance(text, notes, other),
     }
@@ -151,7 +167,10 @@ fn say_verdict(
 ) -> Result<(), AllocError> {
     match (verdict, context) {
         (PreVerdict::WithCallback(_), Some(context)) => {
-            write!(text, "asks for its postoperation, and sends c{context} along")
+            write!(
+                text,
+                "asks for its postoperation, and sends c{context} along"
+            )
         }
         (PreVerdict::WithCallback(_), None) => write!(text, "asks for its postoperation"),
         (PreVerdict::Synchronize(_), _) => {
@@ -224,7 +243,10 @@ fn say_deed(
         Deed::Set(None) => write!(text, "{named} is set"),
         Deed::Set(Some(old)) => {
             let old = Named::Context(notes, old);
-            write!(text, "{named} is set; a reference to {old}, which was, is in the hand")
+            write!(
+                text,
+                "{named} is set; a reference to {old}, which was, is in the hand"
+            )
         }
         Deed::Got => write!(text, "a reference to {named}"),
         Deed::TakenOff => write!(text, "{named} is taken off, its reference is in the hand"),
@@ -259,7 +281,11 @@ fn say_of_instance(text: &mut String, notes: &Notes, event: &Event) -> Result<()
             say_verdict(text, *verdict, None)
         }
         Event::NoneOwed { instance } => {
-            write!(text, "nothing is owed to {}", Named::Instance(notes, *instance))
+            write!(
+                text,
+                "nothing is owed to {}",
+                Named::Instance(notes, *instance)
+            )
         }
         Event::Finished { instance } => {
             write!(text, "{} is detached", Named::Instance(notes, *instance))
@@ -270,7 +296,11 @@ fn say_of_instance(text: &mut String, notes: &Notes, event: &Event) -> Result<()
         }
         Event::Flight { instance, count } => {
             let count = Counted(*count, "operation");
-            write!(text, "{count} in flight at {}", Named::Instance(notes, *instance))
+            write!(
+                text,
+                "{count} in flight at {}",
+                Named::Instance(notes, *instance)
+            )
         }
         Event::FilterEmptied { filter } => {
             let filter = Named::Filter(notes, *filter);
@@ -288,11 +318,18 @@ fn say_of_volume(text: &mut String, notes: &Notes, event: &Event) -> Result<(), 
     match event {
         Event::Dismounting { volume } => {
             let volume = Named::Volume(notes, *volume);
-            write!(text, "{volume} is being dismounted: its instances are stopping")
+            write!(
+                text,
+                "{volume} is being dismounted: its instances are stopping"
+            )
         }
         Event::Dropped { handle, .. } => write!(text, "h{handle} is closed"),
         Event::NoneOpen { volume } => {
-            write!(text, "no handle is open on {}", Named::Volume(notes, *volume))
+            write!(
+                text,
+                "no handle is open on {}",
+                Named::Volume(notes, *volume)
+            )
         }
         Event::VolumeEmptied { volume } => {
             let volume = Named::Volume(notes, *volume);

@@ -42,11 +42,24 @@ fn command<'a>(alloc: Global) -> Result<Command<'a>, AllocError> {
         .about(ABOUT)
         .arg(flag(alloc, "picture", "Draws the run as an SVG"))?
         .arg(flag(alloc, "json", json).conflicts_with("picture")?)?
-        .arg(flag(alloc, "page", page).conflicts_with("json")?.conflicts_with("picture")?)?
-        .arg(flag(alloc, "check", check).conflicts_with("json")?.conflicts_with("picture")?.conflicts_with("page")?)?
+        .arg(
+            flag(alloc, "page", page)
+                .conflicts_with("json")?
+                .conflicts_with("picture")?,
+        )?
+        .arg(
+            flag(alloc, "check", check)
+                .conflicts_with("json")?
+                .conflicts_with("picture")?
+                .conflicts_with("page")?,
+        )?
         .arg(flag(alloc, "strict", strict))?
         .arg(flag(alloc, "colour", "Words have colours"))?
-        .arg(line_number(alloc, "from", "The first line that is told in words; all are run"))?
+        .arg(line_number(
+            alloc,
+            "from",
+            "The first line that is told in words; all are run",
+        ))?
         .arg(line_number(alloc, "to", "The last line that is told in words"))
 }
 

@@ -118,7 +118,7 @@ impl Picture<'_> {
     }
 
     fn begin(&mut self) -> Result<(), AllocError> {
-        let width = self.columns.right().saturating_add(120).max(900);
+        let width = self.columns.right().saturating_add(120).max(960);
         let height = self.bottom().saturating_add(84);
         write!(
             self.text,
@@ -405,11 +405,11 @@ impl Picture<'_> {
         self.draw_pause((305, y))?;
         write!(
             self.text,
-            "<path d=\"M380 {y}m-5 4l5 -9l5 9z\" fill=\"#444\"/>\n<path d=\"M490 {y}m-5 -5l10 10m0 -10l-10 10\" stroke=\"#c01818\" stroke-width=\"2.5\"/>\n<path d=\"M570 {y}m-5 -5h10v10h-10z\" fill=\"#c01818\"/>\n<path d=\"M680 {y}m-4 -4h8v8h-8z\" fill=\"#ffffff\" stroke=\"#444\"/>\n<path d=\"M850 {y}m-4 -4l8 8m0 -8l-8 8\" stroke=\"#c01818\" stroke-width=\"2\"/>\n",
+            "<path d=\"M380 {y}m-5 4l5 -9l5 9z\" fill=\"#444\"/>\n<path d=\"M490 {y}m-5 -5l10 10m0 -10l-10 10\" stroke=\"#c01818\" stroke-width=\"2.5\"/>\n<path d=\"M570 {y}m-5 -5h10v10h-10z\" fill=\"#c01818\"/>\n<path d=\"M680 {y}m-4 -4h8v8h-8z\" fill=\"#ffffff\" stroke=\"#444\"/>\n<path d=\"M880 {y}m-4 -4l8 8m0 -8l-8 8\" stroke=\"#c01818\" stroke-width=\"2\"/>\n",
         )?;
         write!(
             self.text,
-            "<g fill=\"#333\"><text x=\"30\" y=\"{text}\">preoperation, asks to come back</text><text x=\"220\" y=\"{text}\">passes it on</text><text x=\"315\" y=\"{text}\">holds it</text><text x=\"390\" y=\"{text}\">postoperation</text><text x=\"502\" y=\"{text}\">drained</text><text x=\"582\" y=\"{text}\">ended, failed</text><text x=\"692\" y=\"{text}\">answered without it</text><text x=\"862\" y=\"{text}\">refused</text></g>\n",
+            "<g fill=\"#333\"><text x=\"30\" y=\"{text}\">preoperation, asks to come back</text><text x=\"220\" y=\"{text}\">passes it on</text><text x=\"315\" y=\"{text}\">holds it</text><text x=\"390\" y=\"{text}\">postoperation</text><text x=\"502\" y=\"{text}\">drained</text><text x=\"582\" y=\"{text}\">ended, failed</text><text x=\"692\" y=\"{text}\">answered without the file system</text><text x=\"892\" y=\"{text}\">refused</text></g>\n",
         )?;
         self.draw_shades(y.saturating_add(24))
     }

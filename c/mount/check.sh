@@ -14,6 +14,11 @@ leave() {
     exit 0
 }
 [ -c /dev/fuse ] || leave 'there is no /dev/fuse here'
+(exec 3<> /dev/fuse) 2> /dev/null || leave '/dev/fuse may not be opened here'
+# Root mounts by itself, for which it needs CAP_SYS_ADMIN; others do by fusermount3.
+if [ "$(id -u)" = 0 ] && [ $((0x$(sed -n 's/^CapEff:[[:space:]]*//p' /proc/self/status) >> 21 & 1)) = 0 ]; then
+    leave 'nothing may be mounted here'
+fi
 pkg-config --atleast-version=3.12 fuse3 2> /dev/null || leave 'there is no libfuse3 3.12 or later here'
 command -v fusermount3 > /dev/null || leave 'there is no fusermount3 here'
 command -v python3 > /dev/null || leave 'there is no python3 here'

@@ -1,4 +1,4 @@
-//! Measures parts of the house: `bench memory`, `queue`, `gate`, `wire`, `local`, `lock` or `workers`, and after it a number that says how much is done; the figures are printed.
+//! Measures parts of the manager and of the server: `bench memory`, `queue`, `gate`, `wire`, `local`, `lock` or `workers`, and after it a number that says how much is done; the figures are printed.
 //! Given no word, it does a little of each and prints nothing.
 #![tactic(auto)]
 

@@ -33,8 +33,8 @@ const BATCH: u64 = 128;
 /// How many rounds of arithmetic the filter that works takes in a callback.
 const ROUNDS: u64 = 10_000;
 
-/// A client's or a worker's post.
-type Crew<'a, F, L, R> = Worker<'a, F, L, R, OpenGate, Bases<MemoryBase>>;
+/// That of a client or of a worker.
+type MemoryWorker<'a, F, L, R> = Worker<'a, F, L, R, OpenGate, Bases<MemoryBase>>;
 
 fn folder(alloc: Global) -> Result<Bases<MemoryBase>, Status> {
     let mut bases = Bases::new(alloc)?;
@@ -47,7 +47,7 @@ fn read_batch<F: Minifilter, L: Ledger, R: Wait>(
     rt: &R,
     alloc: Global,
     manager: &Manager<F, L>,
-    client: &mut Crew<'_, F, L, R>,
+    client: &mut MemoryWorker<'_, F, L, R>,
 ) -> Result<(), Status> {
     let mut begun: Vec<OpId> = Vec::with_capacity(alloc, BATCH as usize)?;
     for _ in 0..BATCH {
@@ -72,7 +72,7 @@ fn read_all<F: Minifilter, L: Ledger, R: Wait>(
     rt: &R,
     alloc: Global,
     manager: &Manager<F, L>,
-    client: &mut Crew<'_, F, L, R>,
+    client: &mut MemoryWorker<'_, F, L, R>,
     batches: u64,
 ) -> Result<(), Status> {
     let name = Name::read(b"f")?;
@@ -94,7 +94,7 @@ fn ask<F: Minifilter, L: Ledger, R: Wait>(
     rt: &R,
     alloc: Global,
     manager: &Manager<F, L>,
-    client: &mut Crew<'_, F, L, R>,
+    client: &mut MemoryWorker<'_, F, L, R>,
     load: Load,
 ) -> Result<(), Status> {
     let asked = read_all(rt, alloc, manager, client, load.batches);
@@ -111,47 +111,47 @@ struct Load {
     workers: u8,
 }
 
-// The posts of so many workers.
-fn crew<'a, F: Minifilter, L: Ledger, R: Wait>(
+// So many workers.
+fn new_worker<'a, F: Minifilter, L: Ledger, R: Wait>(
     rt: &'a R,
     alloc: Global,
     manager: &'a Manager<F, L>,
     queue: &'a JobQueue,
     gate: &'a OpenGate,
     passes: &mut Vec<JobPass>,
-) -> Result<Crew<'a, F, L, R>, Status>
+) -> Result<MemoryWorker<'a, F, L, R>, Status>
     requires { All (λ pass. IsPassOf queue.now pass) passes.old.items }
     ensures { All (λ pass. IsPassOf queue.now pass) passes.new.items }
 {
     Worker::new(rt, manager, queue, gate, alloc, passes, folder(alloc)?)
 }
 
-/// The posts of a client and of four workers.
+/// Those of a client and of four workers.
 #[derive(Drop)]
-struct Crews<'a, F: Drop, L: Ledger, R: Wait> {
-    client: Crew<'a, F, L, R>,
-    a: Crew<'a, F, L, R>,
-    b: Crew<'a, F, L, R>,
-    c: Crew<'a, F, L, R>,
-    d: Crew<'a, F, L, R>,
+struct Workers<'a, F: Drop, L: Ledger, R: Wait> {
+    client: MemoryWorker<'a, F, L, R>,
+    a: MemoryWorker<'a, F, L, R>,
+    b: MemoryWorker<'a, F, L, R>,
+    c: MemoryWorker<'a, F, L, R>,
+    d: MemoryWorker<'a, F, L, R>,
 }
 
-fn make_crews<'a, F: Minifilter, L: Ledger, R: Wait>(
+fn make_workers<'a, F: Minifilter, L: Ledger, R: Wait>(
     rt: &'a R,
     alloc: Global,
     manager: &'a Manager<F, L>,
     queue: &'a JobQueue,
     gate: &'a OpenGate,
     passes: &mut Vec<JobPass>,
-) -> Result<Crews<'a, F, L, R>, Status>
+) -> Result<Workers<'a, F, L, R>, Status>
     requires { All (λ pass. IsPassOf queue.now pass) passes.old.items }
 {
-    let client = crew(rt, alloc, manager, queue, gate, passes)?;
-    let a = crew(rt, alloc, manager, queue, gate, passes)?;
-    let b = crew(rt, alloc, manager, queue, gate, passes)?;
-    let c = crew(rt, alloc, manager, queue, gate, passes)?;
-    let d = crew(rt, alloc, manager, queue, gate, passes)?;
-    Ok(Crews { client, a, b, c, d })
+    let client = new_worker(rt, alloc, manager, queue, gate, passes)?;
+    let a = new_worker(rt, alloc, manager, queue, gate, passes)?;
+    let b = new_worker(rt, alloc, manager, queue, gate, passes)?;
+    let c = new_worker(rt, alloc, manager, queue, gate, passes)?;
+    let d = new_worker(rt, alloc, manager, queue, gate, passes)?;
+    Ok(Workers { client, a, b, c, d })
 }
 
 // The client asks, while so many workers work, each in a thread of its own.
@@ -159,16 +159,16 @@ fn ask_beside<F: Minifilter, L: Ledger + Send + Sync, R: Threads + Wait + Sync>(
     rt: &R,
     alloc: Global,
     manager: &Manager<F, L>,
-    posts: Crews<'_, F, L, R>,
+    workers: Workers<'_, F, L, R>,
     load: Load,
 ) -> Result<(), Status> {
-    let Crews {
+    let Workers {
         mut client,
         mut a,
         mut b,
         mut c,
         mut d,
-    } = posts;
+    } = workers;
     let (asked, _) = thread::join(
         rt,
         || ask(rt, alloc, manager, &mut client, load),
@@ -199,15 +199,15 @@ fn shared<F: Minifilter, L: Ledger + Send + Sync, R: Threads + Wait + Sync>(
     manager.mount(rt, Name::read(b"v")?)?;
     let (queue, mut passes) = JobQueue::new(alloc, 272, 5)?;
     let gate = OpenGate;
-    let posts = make_crews(rt, alloc, &manager, &queue, &gate, &mut passes)?;
-    ask_beside(rt, alloc, &manager, posts, load)
+    let workers = make_workers(rt, alloc, &manager, &queue, &gate, &mut passes)?;
+    ask_beside(rt, alloc, &manager, workers, load)
 }
 
 // So many of two workers.
 fn work_two<F: Minifilter, L: Ledger + Send + Sync, R: Threads + Wait + Sync>(
     rt: &R,
-    one: &mut Crew<'_, F, L, R>,
-    other: &mut Crew<'_, F, L, R>,
+    one: &mut MemoryWorker<'_, F, L, R>,
+    other: &mut MemoryWorker<'_, F, L, R>,
     workers: u8,
 ) {
     match workers {

@@ -10,7 +10,7 @@ use fm_filter::Minifilter;
 use fm_local::LocalManager;
 use fm_samples::Sample;
 use fm_server::Exec;
-use fm_types::{FilterId, Name, Status};
+use fm_types::{FilterId, Name, OpId, Status};
 use fm_wire::Control;
 use std::alloc::Global;
 
@@ -31,6 +31,27 @@ impl<F: Minifilter, B: Base> LocalExec<F, B> {
         ensures { result ≡ record { alloc = alloc; manager = manager } }
     {
         LocalExec { alloc, manager }
+    }
+
+    /// The manager, to be read.
+    pub fn manager(&self) -> &LocalManager<F, B>
+        ensures { result.now ≡ self.now.manager }
+    {
+        &self.manager
+    }
+
+    /// Forgets the steps, the leaks and the refused calls that could be read, as the manager's `forget_report`.
+    pub fn forget_report(&mut self)
+        ensures { self.new ≡ record self.old { manager = record self.old.manager { desk = record self.old.manager.desk { refusals = self.new.manager.desk.refusals }; leaks = self.new.manager.leaks; trace = self.new.manager.trace } } }
+    {
+        self.manager.forget_report();
+    }
+
+    /// The reply of an operation that was held and has ended, as the manager's `finished`.
+    pub fn finished(&mut self) -> Option<(OpId, Reply)>
+        ensures same { self.new.alloc ≡ self.old.alloc }
+    {
+        self.manager.finished()
     }
 
     /// The manager.

@@ -2,12 +2,12 @@
 
 ghost use Rattle.std.specs.Prelude.{◌≡◌, MatchOption, false, ⊤};
 
-use crate::minifilter::Minifilter;
+use crate::callbacks::Callbacks;
 use crate::port::Port;
 use fm_data::{CallbackData, Completion, PostVerdict, PreVerdict};
 
 /// Asks a filter whether it agrees to a new instance. Without a filter nobody agrees.
-pub fn ask_setup<P: Port, F: Minifilter>(filter: Option<&F>, port: &mut P) -> bool
+pub fn ask_setup<P: Port, F: Callbacks>(filter: Option<&F>, port: &mut P) -> bool
     ensures may { MatchOption filter.entry (result ≡ false) (λ f. F.setup_may f.now result) }
     ensures quiet { MatchOption filter.entry ⊤ (λ f. F.is_quiet f.now) → port.new ≡ port.old }
     ensures far { P.kept port.new ≡ P.kept port.old }
@@ -19,7 +19,7 @@ pub fn ask_setup<P: Port, F: Minifilter>(filter: Option<&F>, port: &mut P) -> bo
 }
 
 /// Asks a filter what becomes of an operation on its way down. Without a filter it goes on, as it is.
-pub fn ask_pre<P: Port, F: Minifilter>(
+pub fn ask_pre<P: Port, F: Callbacks>(
     filter: Option<&F>,
     lent: &mut CallbackData,
     port: &mut P,
@@ -36,7 +36,7 @@ pub fn ask_pre<P: Port, F: Minifilter>(
 }
 
 /// Asks a filter what becomes of an operation on its way up, with the completion that its preoperation gave. Without a filter it goes on, as it is.
-pub fn ask_post<P: Port, F: Minifilter>(
+pub fn ask_post<P: Port, F: Callbacks>(
     filter: Option<&F>,
     lent: &mut CallbackData,
     completion: Completion,
@@ -54,7 +54,7 @@ pub fn ask_post<P: Port, F: Minifilter>(
 }
 
 /// Has a filter let go of what a completion names, since its postoperation won't come.
-pub fn let_go<P: Port, F: Minifilter>(filter: Option<&F>, completion: Completion, port: &mut P)
+pub fn let_go<P: Port, F: Callbacks>(filter: Option<&F>, completion: Completion, port: &mut P)
     ensures told { MatchOption filter.entry ⊤ (λ f. F.drained f.now completion) }
     ensures quiet { MatchOption filter.entry ⊤ (λ f. F.is_quiet f.now) → port.new ≡ port.old }
     ensures far { P.kept port.new ≡ P.kept port.old }
@@ -65,7 +65,7 @@ pub fn let_go<P: Port, F: Minifilter>(filter: Option<&F>, completion: Completion
 }
 
 /// Asks a filter whether it agrees to have an instance detached. Without a filter nobody agrees.
-pub fn ask_query<P: Port, F: Minifilter>(filter: Option<&F>, port: &mut P) -> bool
+pub fn ask_query<P: Port, F: Callbacks>(filter: Option<&F>, port: &mut P) -> bool
     ensures may { MatchOption filter.entry (result ≡ false) (λ f. F.query_may f.now result) }
     ensures quiet { MatchOption filter.entry ⊤ (λ f. F.is_quiet f.now) → port.new ≡ port.old }
     ensures far { P.kept port.new ≡ P.kept port.old }
@@ -77,7 +77,7 @@ pub fn ask_query<P: Port, F: Minifilter>(filter: Option<&F>, port: &mut P) -> bo
 }
 
 /// Tells a filter that the teardown of an instance starts.
-pub fn tell_start<P: Port, F: Minifilter>(filter: Option<&F>, port: &mut P)
+pub fn tell_start<P: Port, F: Callbacks>(filter: Option<&F>, port: &mut P)
     ensures told { MatchOption filter.entry ⊤ (λ f. F.started f.now) }
     ensures quiet { MatchOption filter.entry ⊤ (λ f. F.is_quiet f.now) → port.new ≡ port.old }
     ensures far { P.kept port.new ≡ P.kept port.old }
@@ -88,7 +88,7 @@ pub fn tell_start<P: Port, F: Minifilter>(filter: Option<&F>, port: &mut P)
 }
 
 /// Tells a filter that the teardown of an instance is complete.
-pub fn tell_complete<P: Port, F: Minifilter>(filter: Option<&F>, port: &mut P)
+pub fn tell_complete<P: Port, F: Callbacks>(filter: Option<&F>, port: &mut P)
     ensures told { MatchOption filter.entry ⊤ (λ f. F.completed f.now) }
     ensures quiet { MatchOption filter.entry ⊤ (λ f. F.is_quiet f.now) → port.new ≡ port.old }
     ensures far { P.kept port.new ≡ P.kept port.old }

@@ -4,12 +4,14 @@
 
 mod agreeable;
 mod asks;
+mod callbacks;
 mod filters;
 mod minifilter;
 mod port;
 
 pub use crate::agreeable::Agreeable;
 pub use crate::asks::{ask_post, ask_pre, ask_query, ask_setup, let_go, tell_complete, tell_start};
+pub use crate::callbacks::Callbacks;
 pub use crate::filters::Filters;
 pub use crate::minifilter::Minifilter;
 pub use crate::port::Port;

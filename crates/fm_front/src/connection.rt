@@ -1,5 +1,6 @@
 //! One connection: what it may ask for, and what it is answered.
 
+ghost use Rattle.std.specs.Prelude.{◌≡◌};
 ghost use Rattle.fm_front.specs.Answering.{IsDone};
 
 use crate::exec::{ManagerExec, is_foreign};
@@ -8,6 +9,7 @@ use crate::leftovers::Leftovers;
 use crate::line::Line;
 use fm_data::{Reply, Request};
 use fm_device::Device;
+use fm_filter::Callbacks;
 use fm_lock::Hand;
 use fm_rundown::Look;
 use fm_server::{Exec, guarded, status_reply};
@@ -24,9 +26,9 @@ pub(crate) const VOLUME: VolumeId = VolumeId(0);
 /// What answers the frames of one connection: operations between their entry at the rundown gate and their end there, dismounts by its seat, and all else by
 /// the manager. A handle that it didn't open is refused with 14.
 #[derive(Drop)]
-pub(crate) struct Connection<'a, L: Ledger, R: Wait, D: Device> {
+pub(crate) struct Connection<'a, F: Drop, L: Ledger, R: Wait, D: Device> {
     alloc: Global,
-    exec: ManagerExec<'a, L, R, D>,
+    exec: ManagerExec<'a, F, L, R, D>,
     seat: VolumeSeat<'a>,
 }
 
@@ -38,14 +40,14 @@ fn volume_of(request: &Request) -> VolumeId {
     }
 }
 
-impl<'a, L: Ledger, R: Wait, D: Device> Connection<'a, L, R, D> {
+impl<'a, F: Callbacks, L: Ledger, R: Wait, D: Device> Connection<'a, F, L, R, D> {
     /// A thread's place for connections, by that worker and that seat: nobody is connected yet.
     pub(crate) fn new(
         alloc: Global,
-        worker: ServerWorker<'a, L, R, D>,
+        worker: ServerWorker<'a, F, L, R, D>,
         leftovers: &'a Leftovers,
         seat: VolumeSeat<'a>,
-    ) -> Connection<'a, L, R, D> {
+    ) -> Connection<'a, F, L, R, D> {
         Connection {
             alloc,
             exec: ManagerExec::new(alloc, worker, leftovers),
@@ -59,7 +61,7 @@ impl<'a, L: Ledger, R: Wait, D: Device> Connection<'a, L, R, D> {
     }
 
     /// The worker of its thread.
-    pub(crate) fn worker(&mut self) -> &mut ServerWorker<'a, L, R, D> {
+    pub(crate) fn worker(&mut self) -> &mut ServerWorker<'a, F, L, R, D> {
         self.exec.worker()
     }
 
@@ -73,35 +75,37 @@ impl<'a, L: Ledger, R: Wait, D: Device> Connection<'a, L, R, D> {
     pub(crate) fn end_dismount(&mut self) {
         let VolumeSeat { rundown, seat, .. } = &mut self.seat;
         if !matches!(rundown.look(seat, VOLUME), Ok(Look::Open)) {
-            let _ = self.exec.worker().dismount(rundown, seat, VOLUME);
+            let _ = self.exec.dismount(rundown, seat, VOLUME);
         }
     }
 }
 
-impl<L: Ledger, R: Wait + Clock, D: Device> Connection<'_, L, R, D> {
+impl<F: Callbacks, L: Ledger, R: Wait + Clock, D: Device> Connection<'_, F, L, R, D> {
     /// The connection ends: its handles are closed.
     pub(crate) fn end(&mut self) {
         self.exec.end();
     }
 
     fn dismount(&mut self, volume: VolumeId) -> Reply
-        ensures { IsDone result }
+        ensures done { IsDone result }
+        ensures handles { self.new.exec.handles.items ≡ self.old.exec.handles.items }
     {
         self.exec.collect_orphans();
         let VolumeSeat { rundown, seat, .. } = &mut self.seat;
-        match self.exec.worker().dismount(rundown, seat, volume) {
+        match self.exec.dismount(rundown, seat, volume) {
             Ok(()) => status_reply(self.alloc, Status::Success),
             Err(status) => status_reply(self.alloc, status),
         }
     }
 }
 
-impl<L: Ledger, R: Wait + Clock, D: Device> Exec for Connection<'_, L, R, D> {
+impl<F: Callbacks, L: Ledger, R: Wait + Clock, D: Device> Exec for Connection<'_, F, L, R, D> {
+    ghost use Rattle.std.specs.Prelude.{◌≡◌};
     ghost use Rattle.fm_front.specs.Answering.{IsDone, OperatesOver};
 
-    ghost operates = { λ old request answer new. OperatesOver old.exec.handles.items request answer };
+    ghost operates = { λ old request answer new. OperatesOver request answer old.exec.handles.items new.exec.handles.items };
 
-    ghost controls = { λ old control answer new. IsDone answer };
+    ghost controls = { λ old control answer new. IsDone answer × new.exec.handles.items ≡ old.exec.handles.items };
 
     fn operate(&mut self, request: Request) -> Reply {
         if is_foreign(self.exec.handles(), &request) {

@@ -4,6 +4,7 @@ use crate::connection::Connection;
 use crate::line::Line;
 use crossbeam_channel::{Receiver, Sender, bounded};
 use fm_device::Device;
+use fm_filter::Callbacks;
 use fm_server::{ReaderSource, ServeEnd, WriterSink, serve};
 use fm_types::Status;
 use fm_types::limits::CONNECTIONS;
@@ -96,10 +97,10 @@ impl<'a, R: Wait> Connections<'a, R> {
 
 impl<R: Wait + Clock> Connections<'_, R> {
     // Answers a connection's frames until it ends.
-    fn serve_frames<L: Ledger, D: Device>(
+    fn serve_frames<F: Callbacks, L: Ledger, D: Device>(
         &self,
         stream: &UnixStream,
-        connection: &mut Connection<'_, L, R, D>,
+        connection: &mut Connection<'_, F, L, R, D>,
     ) {
         let mut source = ReaderSource::new(stream);
         let mut sink = WriterSink::new(stream);
@@ -109,10 +110,10 @@ impl<R: Wait + Clock> Connections<'_, R> {
     }
 
     // A connection, from its first frame to the close of its handles.
-    fn serve_connection<L: Ledger, D: Device>(
+    fn serve_connection<F: Callbacks, L: Ledger, D: Device>(
         &self,
         stream: Arc<UnixStream>,
-        connection: &mut Connection<'_, L, R, D>,
+        connection: &mut Connection<'_, F, L, R, D>,
     ) {
         if let Ok(own) = Arc::try_clone(&stream) {
             connection.begin(Line::along(own));
@@ -124,9 +125,9 @@ impl<R: Wait + Clock> Connections<'_, R> {
     }
 
     /// A thread's life: one connection after the other, until no more come in.
-    pub(crate) fn serve_thread<L: Ledger, D: Device>(
+    pub(crate) fn serve_thread<F: Callbacks, L: Ledger, D: Device>(
         &self,
-        connection: &mut Connection<'_, L, R, D>,
+        connection: &mut Connection<'_, F, L, R, D>,
     ) {
         'connections: for _ in self.rt.forever() {
             let Ok(stream) = self.streams.recv(self.rt) else {

@@ -1,7 +1,8 @@
 //! What answers a connection: the manager that all connections share, by this connection's hand.
 
-ghost use Rattle.std.specs.Prelude.{◌≡◌, IfErr, IfOk};
-ghost use Rattle.fm_front.specs.Answering.{ClosesHandle, OpensHandle, has_handle, is_foreign};
+ghost use Rattle.std.specs.Prelude.{◌≡◌, ◌⊎◌, IfErr, IfOk};
+ghost use Rattle.fm_front.specs.Answering.{ClosesHandle, Gives, HandlesAfter, OpensHandle, has_handle, is_foreign};
+ghost use Rattle.fm_rundown.specs.Seats.{IsSeatOf};
 ghost use Rattle.fm_data.specs.declared.request.Reply.TheVariants as reply;
 
 use crate::gate_seat::ServerWorker;
@@ -10,8 +11,10 @@ use crate::line::Line;
 use crate::waiting::{Unanswered, ask, close};
 use fm_data::{Answer, FileRequest, Reply, Request};
 use fm_device::Device;
+use fm_filter::Callbacks;
+use fm_rundown::{GateSeat, RundownGate};
 use fm_server::{Exec, status_reply};
-use fm_types::{Bytes, HandleId, Status};
+use fm_types::{Bytes, HandleId, Status, VolumeId};
 use fm_wire::Control;
 use std::alloc::Global;
 use std::mem;
@@ -22,9 +25,9 @@ use std::time::Clock;
 /// Answers by the shared manager: operations become jobs for the workers, and are waited for; filters are loaded, attached, detached and unloaded here.
 /// It knows the handles that its connection opened.
 #[derive(Drop)]
-pub(crate) struct ManagerExec<'a, L: Ledger, R: Wait, D: Device> {
+pub(crate) struct ManagerExec<'a, F: Drop, L: Ledger, R: Wait, D: Device> {
     alloc: Global,
-    worker: ServerWorker<'a, L, R, D>,
+    worker: ServerWorker<'a, F, L, R, D>,
     leftovers: &'a Leftovers,
     line: Line,
     handles: Vec<HandleId>,
@@ -65,13 +68,13 @@ pub(crate) fn is_foreign(handles: &[HandleId], request: &Request) -> bool
     }
 }
 
-impl<'a, L: Ledger, R: Wait, D: Device> ManagerExec<'a, L, R, D> {
+impl<'a, F: Callbacks, L: Ledger, R: Wait, D: Device> ManagerExec<'a, F, L, R, D> {
     /// That of no connection yet, with no handle.
     pub(crate) fn new(
         alloc: Global,
-        worker: ServerWorker<'a, L, R, D>,
+        worker: ServerWorker<'a, F, L, R, D>,
         leftovers: &'a Leftovers,
-    ) -> ManagerExec<'a, L, R, D> {
+    ) -> ManagerExec<'a, F, L, R, D> {
         ManagerExec {
             alloc,
             worker,
@@ -94,18 +97,32 @@ impl<'a, L: Ledger, R: Wait, D: Device> ManagerExec<'a, L, R, D> {
     }
 
     /// The worker of its thread.
-    pub(crate) fn worker(&mut self) -> &mut ServerWorker<'a, L, R, D> {
+    pub(crate) fn worker(&mut self) -> &mut ServerWorker<'a, F, L, R, D> {
         &mut self.worker
     }
 
+    /// Dismounts a volume, by its worker. No handle goes.
+    pub(crate) fn dismount(
+        &mut self,
+        rundown: &RundownGate,
+        seat: &mut GateSeat,
+        volume: VolumeId,
+    ) -> Result<(), Status>
+        requires own { IsSeatOf rundown.now seat.old }
+        ensures own { IsSeatOf rundown.now seat.new }
+        ensures handles { self.new.handles ≡ self.old.handles }
+    {
+        self.worker.dismount(rundown, seat, volume)
+    }
+
     /// The worker of its thread, at the end.
-    pub(crate) fn into_worker(self) -> ServerWorker<'a, L, R, D> {
+    pub(crate) fn into_worker(self) -> ServerWorker<'a, F, L, R, D> {
         let ManagerExec { worker, .. } = self;
         worker
     }
 }
 
-impl<L: Ledger, R: Wait + Clock, D: Device> ManagerExec<'_, L, R, D> {
+impl<F: Callbacks, L: Ledger, R: Wait + Clock, D: Device> ManagerExec<'_, F, L, R, D> {
     /// The connection ends: its line is cut, its handles are closed, and operations whose clients are gone are looked at.
     pub(crate) fn end(&mut self) {
         self.line = Line::cut();
@@ -117,13 +134,16 @@ impl<L: Ledger, R: Wait + Clock, D: Device> ManagerExec<'_, L, R, D> {
     }
 
     /// Looks at the operations whose clients are gone.
-    pub(crate) fn collect_orphans(&mut self) {
+    pub(crate) fn collect_orphans(&mut self)
+        ensures { self.new.handles ≡ self.old.handles }
+    {
         self.leftovers.collect_orphans(&mut self.worker);
     }
 
     // A create. Room for its handle is taken before it begins: without it the create is refused with 1, and nothing began.
     fn create(&mut self, request: Request) -> Result<Answer, Unanswered>
         ensures opens { IfOk result (λ answer. OpensHandle answer self.old.handles.items self.new.handles.items) }
+        ensures named { IfOk result (λ answer. (self.new.handles.items ≡ self.old.handles.items) ⊎ Gives answer.status answer.information self.old.handles.items self.new.handles.items) }
         ensures refused { IfErr result (λ _. self.new.handles.items ≡ self.old.handles.items) }
     {
         let Ok(()) = self.handles.reserve(1) else {
@@ -152,7 +172,10 @@ impl<L: Ledger, R: Wait + Clock, D: Device> ManagerExec<'_, L, R, D> {
         Ok(answer)
     }
 
-    fn run(&mut self, request: Request) -> Result<Answer, Unanswered> {
+    fn run(&mut self, request: Request) -> Result<Answer, Unanswered>
+        ensures handles { IfOk result (λ answer. HandlesAfter request answer.status answer.information self.old.handles.items self.new.handles.items) }
+        ensures refused { IfErr result (λ _. self.new.handles.items ≡ self.old.handles.items) }
+    {
         match request {
             Request::Create { .. } => self.create(request),
             Request::OnHandle {
@@ -164,7 +187,10 @@ impl<L: Ledger, R: Wait + Clock, D: Device> ManagerExec<'_, L, R, D> {
     }
 
     // The answer of an operation. One that is left has none yet: it is noted, and 34 says so to nobody.
-    fn answer_of(&mut self, request: Request) -> Result<Answer, Status> {
+    fn answer_of(&mut self, request: Request) -> Result<Answer, Status>
+        ensures handles { IfOk result (λ answer. HandlesAfter request answer.status answer.information self.old.handles.items self.new.handles.items) }
+        ensures refused { IfErr result (λ _. self.new.handles.items ≡ self.old.handles.items) }
+    {
         match self.run(request) {
             Ok(answer) => Ok(answer),
             Err(Unanswered::Refused(status)) => Err(status),
@@ -176,7 +202,9 @@ impl<L: Ledger, R: Wait + Clock, D: Device> ManagerExec<'_, L, R, D> {
     }
 
     // What a control asks for, and the number that its success says.
-    fn done_of(&mut self, control: Control) -> Result<u64, Status> {
+    fn done_of(&mut self, control: Control) -> Result<u64, Status>
+        ensures { self.new.handles.items ≡ self.old.handles.items }
+    {
         match control {
             Control::Load { name } => Ok(u64::from(self.worker.load(&name)?.0)),
             Control::Attach {
@@ -193,12 +221,13 @@ impl<L: Ledger, R: Wait + Clock, D: Device> ManagerExec<'_, L, R, D> {
     }
 }
 
-impl<L: Ledger, R: Wait + Clock, D: Device> Exec for ManagerExec<'_, L, R, D> {
-    ghost use Rattle.fm_front.specs.Answering.{IsDone};
+impl<F: Callbacks, L: Ledger, R: Wait + Clock, D: Device> Exec for ManagerExec<'_, F, L, R, D> {
+    ghost use Rattle.std.specs.Prelude.{◌≡◌};
+    ghost use Rattle.fm_front.specs.Answering.{HandlesBy, IsDone};
 
-    ghost operates = { λ old request answer new. IsDone answer };
+    ghost operates = { λ old request answer new. IsDone answer × HandlesBy request answer old.handles.items new.handles.items };
 
-    ghost controls = { λ old control answer new. IsDone answer };
+    ghost controls = { λ old control answer new. IsDone answer × new.handles.items ≡ old.handles.items };
 
     fn operate(&mut self, request: Request) -> Reply {
         self.worker.put_aside();

@@ -4,6 +4,7 @@ use crate::gate_seat::ServerWorker;
 use crate::line::Line;
 use crate::waiting::{Orphan, Unanswered, close};
 use fm_device::Device;
+use fm_filter::Callbacks;
 use fm_types::limits::{HANDLES, OPERATIONS};
 use fm_types::{HandleId, Status};
 use std::alloc::Global;
@@ -48,9 +49,9 @@ impl Leftovers {
     }
 
     /// Closes a handle that nobody has any more, and notes what is left of it.
-    pub(crate) fn close<L: Ledger, R: Wait + Clock, D: Device>(
+    pub(crate) fn close<F: Callbacks, L: Ledger, R: Wait + Clock, D: Device>(
         &self,
-        worker: &mut ServerWorker<'_, L, R, D>,
+        worker: &mut ServerWorker<'_, F, L, R, D>,
         handle: HandleId,
     ) {
         let rt = worker.rt();
@@ -69,9 +70,9 @@ impl Leftovers {
     }
 
     /// Closes these handles.
-    pub(crate) fn close_all<L: Ledger, R: Wait + Clock, D: Device>(
+    pub(crate) fn close_all<F: Callbacks, L: Ledger, R: Wait + Clock, D: Device>(
         &self,
-        worker: &mut ServerWorker<'_, L, R, D>,
+        worker: &mut ServerWorker<'_, F, L, R, D>,
         handles: Vec<HandleId>,
     ) {
         for handle in handles {
@@ -93,9 +94,9 @@ impl Leftovers {
     }
 
     /// Tries once more to close each of the handles that were left open. Whether none is left.
-    pub(crate) fn close_left<L: Ledger, R: Wait + Clock, D: Device>(
+    pub(crate) fn close_left<F: Callbacks, L: Ledger, R: Wait + Clock, D: Device>(
         &self,
-        worker: &mut ServerWorker<'_, L, R, D>,
+        worker: &mut ServerWorker<'_, F, L, R, D>,
     ) -> bool {
         let rt = worker.rt();
         for _ in 0..self.count_handles(rt) {
@@ -115,9 +116,9 @@ impl Leftovers {
     }
 
     // Takes the answer of an operation whose client is gone, if it is done; else it is noted again. A handle that it opened is closed.
-    fn collect<L: Ledger, R: Wait + Clock, D: Device>(
+    fn collect<F: Callbacks, L: Ledger, R: Wait + Clock, D: Device>(
         &self,
-        worker: &mut ServerWorker<'_, L, R, D>,
+        worker: &mut ServerWorker<'_, F, L, R, D>,
         orphan: Orphan,
     ) {
         let rt = worker.rt();
@@ -133,9 +134,9 @@ impl Leftovers {
     }
 
     /// Takes the answers of those operations that are done by now.
-    pub(crate) fn collect_orphans<L: Ledger, R: Wait + Clock, D: Device>(
+    pub(crate) fn collect_orphans<F: Callbacks, L: Ledger, R: Wait + Clock, D: Device>(
         &self,
-        worker: &mut ServerWorker<'_, L, R, D>,
+        worker: &mut ServerWorker<'_, F, L, R, D>,
     ) {
         let rt = worker.rt();
         let count = self.orphans.lock(rt).len();
@@ -147,9 +148,9 @@ impl Leftovers {
     }
 
     /// Takes the answers of those operations that are done, and once all are tries to close the handles that were left open. Whether nothing is left.
-    pub(crate) fn end_all<L: Ledger, R: Wait + Clock, D: Device>(
+    pub(crate) fn end_all<F: Callbacks, L: Ledger, R: Wait + Clock, D: Device>(
         &self,
-        worker: &mut ServerWorker<'_, L, R, D>,
+        worker: &mut ServerWorker<'_, F, L, R, D>,
     ) -> bool {
         self.collect_orphans(worker);
         if self.has_orphans(worker.rt()) {

@@ -3,10 +3,13 @@
 ghost use Rattle.std.specs.Prelude.{◌≡◌};
 
 use crate::endpoint::Endpoint;
-use crate::faults::outside;
+use crate::faults::{fault_of, outside};
+use crate::samples::samples;
 use crate::server::run_server;
 use fm_device::Device;
+use fm_filter::{Callbacks, Minifilter};
 use fm_types::limits::PARTS;
+use fm_types::{Name, Status};
 use fm_words::Fault;
 use std::alloc::Global;
 use std::io::{self, Write};
@@ -25,14 +28,21 @@ pub(crate) struct Tally {
     pub(crate) is_clean: bool,
 }
 
-// Serves at that endpoint.
-fn serve<R, D, W>(rt: &R, alloc: Global, endpoint: Endpoint<D>, out: W) -> (Result<Tally, Fault>, W)
+// Serves at that endpoint, with these filters.
+fn serve<F, R, D, W>(
+    rt: &R,
+    alloc: Global,
+    filters: Vec<(Name, F)>,
+    endpoint: Endpoint<D>,
+    out: W,
+) -> (Result<Tally, Fault>, W)
 where
+    F: Callbacks + Send + Sync,
     R: Threads + Wait + Sync + Clock,
     D: Device + Send,
     W: Write + Drop,
 {
-    run_server::<Brand, R, D, W>(rt, alloc, Blank::new(PARTS), endpoint, out)
+    run_server::<F, Brand, R, D, W>(rt, alloc, filters, Blank::new(PARTS), endpoint, out)
 }
 
 // Says what became of contexts.
@@ -58,24 +68,46 @@ fn finish<W: Write>(alloc: Global, served: Result<Tally, Fault>, out: &mut W) ->
     tell(&told, out)
 }
 
-/// The server program, at what `prepare` made: the folder is volume 0, named v0, behind the Unix socket, and so many workers carry operations on. It prints
-/// `ready` once its threads are there and it takes connections, and at a Stop, after the last connection has ended and every filter was unloaded, how many
-/// contexts were allocated and cleaned up and how many references were left behind. The exit status: 0; 1 if a growth was refused, a thread couldn't be made, or
-/// something couldn't be closed at the end; 3, and `fault` is printed, if the folder, the socket or the writer failed.
+/// A server program of these filters, each ready to be loaded under its name, at what `prepare` made: the folder is volume 0, named v0, behind the Unix socket,
+/// and so many workers carry operations on. It prints `ready` once its threads are there and it takes connections, and at a Stop, after the last connection has
+/// ended and every filter was unloaded, how many contexts were allocated and cleaned up and how many references were left behind. The exit status: 0; 1 if a
+/// growth was refused, for the filters too, a thread couldn't be made, or something couldn't be closed at the end; 3, and `fault` is printed, if the folder, the
+/// socket or the writer failed.
+pub fn front_with<F, R, D, W>(
+    rt: &R,
+    alloc: Global,
+    filters: Result<Vec<(Name, F)>, Status>,
+    endpoint: Result<Endpoint<D>, Fault>,
+    out: W,
+) -> u8
+where
+    F: Minifilter,
+    R: Threads + Wait + Sync + Clock,
+    D: Device + Send,
+    W: Write + Drop,
+{
+    let mut out = out;
+    let filters = match filters {
+        Ok(filters) => filters,
+        Err(status) => return tell(&fault_of(status), &mut out),
+    };
+    match endpoint {
+        Ok(endpoint) => {
+            let (served, mut out) = serve(rt, alloc, filters, endpoint, out);
+            finish(alloc, served, &mut out)
+        }
+        Err(fault) => tell(&fault, &mut out),
+    }
+}
+
+/// `front_with` the six samples under their names.
 pub fn front<R, D, W>(rt: &R, alloc: Global, endpoint: Result<Endpoint<D>, Fault>, out: W) -> u8
 where
     R: Threads + Wait + Sync + Clock,
     D: Device + Send,
     W: Write + Drop,
 {
-    let mut out = out;
-    match endpoint {
-        Ok(endpoint) => {
-            let (served, mut out) = serve(rt, alloc, endpoint, out);
-            finish(alloc, served, &mut out)
-        }
-        Err(fault) => tell(&fault, &mut out),
-    }
+    front_with(rt, alloc, samples(alloc), endpoint, out)
 }
 
 /// Prints `fault` for a fault from outside; the exit status of any.

@@ -11,12 +11,11 @@ use crate::faults::{fault_of, outside};
 use crate::gate_seat::{ServerWorker, VolumeSeat};
 use crate::leftovers::Leftovers;
 use crate::program::Tally;
-use crate::samples::samples;
 use fm_device::Device;
+use fm_filter::Callbacks;
 use fm_lock::{Hand, Manager};
 use fm_queue::{JobPass, JobQueue};
 use fm_rundown::{GateSeat, RundownGate};
-use fm_samples::Sample;
 use fm_types::limits::{CONNECTIONS, JOBS, WORKERS};
 use fm_types::{FilterId, Name, Status};
 use fm_words::Fault;
@@ -41,10 +40,10 @@ const PAUSE: u64 = 10;
 
 /// What all threads of a server share.
 #[derive(Drop)]
-struct Shared<'a, L: Ledger, R: Wait> {
+struct Shared<'a, F: Drop, L: Ledger, R: Wait> {
     rt: &'a R,
     alloc: Global,
-    manager: &'a Manager<Sample, L>,
+    manager: &'a Manager<F, L>,
     queue: &'a JobQueue,
     rundown: &'a RundownGate,
     gate: &'a OpenGate,
@@ -60,13 +59,13 @@ fn take_seat(rundown: &RundownGate, seats: &mut Vec<GateSeat>) -> Option<GateSea
     seats.pop()
 }
 
-impl<'a, L: Ledger, R: Wait> Shared<'a, L, R> {
+impl<'a, F: Callbacks, L: Ledger, R: Wait> Shared<'a, F, L, R> {
     // The worker of a thread, over those devices.
     fn worker<D: Device>(
         &self,
         passes: &mut Vec<JobPass>,
         devices: D,
-    ) -> Result<ServerWorker<'a, L, R, D>, Status>
+    ) -> Result<ServerWorker<'a, F, L, R, D>, Status>
         requires { All (λ pass. IsPassOf self.now.queue.now pass) passes.old.items }
         ensures { All (λ pass. IsPassOf self.now.queue.now pass) passes.new.items }
     {
@@ -86,7 +85,7 @@ impl<'a, L: Ledger, R: Wait> Shared<'a, L, R> {
         &self,
         passes: &mut Vec<JobPass>,
         below: Vec<D>,
-    ) -> Result<Vec<ServerWorker<'a, L, R, D>>, Status>
+    ) -> Result<Vec<ServerWorker<'a, F, L, R, D>>, Status>
         requires { All (λ pass. IsPassOf self.now.queue.now pass) passes.old.items }
         ensures { All (λ pass. IsPassOf self.now.queue.now pass) passes.new.items }
     {
@@ -104,7 +103,7 @@ impl<'a, L: Ledger, R: Wait> Shared<'a, L, R> {
         passes: &mut Vec<JobPass>,
         seats: &mut Vec<GateSeat>,
         devices: D,
-    ) -> Result<Connection<'a, L, R, D>, Status>
+    ) -> Result<Connection<'a, F, L, R, D>, Status>
         requires passes { All (λ pass. IsPassOf self.now.queue.now pass) passes.old.items }
         requires seats { All (λ seat. IsSeatOf self.now.rundown.now seat) seats.old.items }
         ensures passes { All (λ pass. IsPassOf self.now.queue.now pass) passes.new.items }
@@ -124,7 +123,7 @@ impl<'a, L: Ledger, R: Wait> Shared<'a, L, R> {
         passes: &mut Vec<JobPass>,
         seats: &mut Vec<GateSeat>,
         below: Vec<D>,
-    ) -> Result<Vec<Connection<'a, L, R, D>>, Status>
+    ) -> Result<Vec<Connection<'a, F, L, R, D>>, Status>
         requires passes { All (λ pass. IsPassOf self.now.queue.now pass) passes.old.items }
         requires seats { All (λ seat. IsSeatOf self.now.rundown.now seat) seats.old.items }
     {
@@ -137,7 +136,7 @@ impl<'a, L: Ledger, R: Wait> Shared<'a, L, R> {
     }
 }
 
-impl<'a, L: Ledger, R: Wait> Shared<'a, L, R> {
+impl<'a, F: Callbacks, L: Ledger, R: Wait> Shared<'a, F, L, R> {
     // What the threads own.
     fn parts<D: Device>(
         &self,
@@ -145,7 +144,7 @@ impl<'a, L: Ledger, R: Wait> Shared<'a, L, R> {
         seats: &mut Vec<GateSeat>,
         workers: Vec<D>,
         connections: Vec<D>,
-    ) -> Result<Parts<'a, L, R, D>, Status>
+    ) -> Result<Parts<'a, F, L, R, D>, Status>
         requires passes { All (λ pass. IsPassOf self.now.queue.now pass) passes.old.items }
         requires seats { All (λ seat. IsSeatOf self.now.rundown.now seat) seats.old.items }
     {
@@ -183,8 +182,8 @@ fn say_ready<W: Write>(out: &mut W) -> Result<(), Fault> {
 }
 
 // Unloads each filter, after the end of a dismount that began.
-fn unload_all<L: Ledger, R: Wait, D: Device>(
-    connection: &mut Connection<'_, L, R, D>,
+fn unload_all<F: Callbacks, L: Ledger, R: Wait, D: Device>(
+    connection: &mut Connection<'_, F, L, R, D>,
     filters: usize,
 ) {
     connection.end_dismount();
@@ -196,9 +195,9 @@ fn unload_all<L: Ledger, R: Wait, D: Device>(
 
 // Takes the answers of operations whose clients are gone, and closes the handles that were left open. Where a filter holds some, it is unloaded beside the
 // workers, which has it let them go: they are looked at again, for five seconds at most. Whether nothing is left.
-fn end_leftovers<L: Ledger, R: Wait + Clock, D: Device>(
+fn end_leftovers<F: Callbacks, L: Ledger, R: Wait + Clock, D: Device>(
     leftovers: &Leftovers,
-    connection: &mut Connection<'_, L, R, D>,
+    connection: &mut Connection<'_, F, L, R, D>,
     filters: usize,
 ) -> bool {
     let rt = connection.worker().rt();
@@ -213,9 +212,9 @@ fn end_leftovers<L: Ledger, R: Wait + Clock, D: Device>(
 }
 
 // After the last connection: what is left of connections is ended, and the workers end. Whether nothing is left.
-fn end_connections<L: Ledger, R: Wait + Clock, D: Device>(
+fn end_connections<F: Callbacks, L: Ledger, R: Wait + Clock, D: Device>(
     leftovers: &Leftovers,
-    all: &mut [Connection<'_, L, R, D>],
+    all: &mut [Connection<'_, F, L, R, D>],
     filters: usize,
     workers: usize,
 ) -> bool {
@@ -232,15 +231,18 @@ fn end_connections<L: Ledger, R: Wait + Clock, D: Device>(
 }
 
 // After the last worker, so that none still cleans up: each filter is unloaded.
-fn end_filters<L: Ledger, R: Wait, D: Device>(all: &mut [Connection<'_, L, R, D>], filters: usize) {
+fn end_filters<F: Callbacks, L: Ledger, R: Wait, D: Device>(
+    all: &mut [Connection<'_, F, L, R, D>],
+    filters: usize,
+) {
     if let Some(connection) = all.first_mut() {
         unload_all(connection, filters);
     }
 }
 
 // The hands of these threads. There is room for them.
-fn gather_hands<L: Ledger, R: Wait, D: Device>(
-    parts: Parts<'_, L, R, D>,
+fn gather_hands<F: Callbacks, L: Ledger, R: Wait, D: Device>(
+    parts: Parts<'_, F, L, R, D>,
     hands: &mut Vec<Hand<L>>,
 ) {
     let Parts {
@@ -254,8 +256,8 @@ fn gather_hands<L: Ledger, R: Wait, D: Device>(
 }
 
 // The hands of these workers. There is room for them.
-fn gather_workers<L: Ledger, R: Wait, D: Device>(
-    workers: Vec<ServerWorker<'_, L, R, D>>,
+fn gather_workers<F: Callbacks, L: Ledger, R: Wait, D: Device>(
+    workers: Vec<ServerWorker<'_, F, L, R, D>>,
     hands: &mut Vec<Hand<L>>,
 ) {
     for worker in workers {
@@ -272,17 +274,18 @@ struct Outcome {
 
 /// What the threads of a server own: workers, and places for connections.
 #[derive(Drop)]
-struct Parts<'a, L: Ledger, R: Wait, D: Device> {
-    workers: Vec<ServerWorker<'a, L, R, D>>,
-    connections: Vec<Connection<'a, L, R, D>>,
+struct Parts<'a, F: Drop, L: Ledger, R: Wait, D: Device> {
+    workers: Vec<ServerWorker<'a, F, L, R, D>>,
+    connections: Vec<Connection<'a, F, L, R, D>>,
 }
 
 // Starts the thread of a worker. Whether it could be made.
-fn start_worker<'s, 'a: 's, E, L, R, D>(
+fn start_worker<'s, 'a: 's, E, F, L, R, D>(
     scope: &Scope<'s, E>,
-    worker: &'s mut ServerWorker<'a, L, R, D>,
+    worker: &'s mut ServerWorker<'a, F, L, R, D>,
 ) -> bool
 where
+    F: Callbacks + Send + Sync + 's,
     L: Ledger + Send + Sync + 's,
     R: Wait + Sync + 's,
     D: Device + Send + 's,
@@ -291,11 +294,12 @@ where
 }
 
 // Starts a thread for each of these workers. How many could be made, and whether those are all.
-fn start_workers<'s, 'a: 's, E, L, R, D>(
+fn start_workers<'s, 'a: 's, E, F, L, R, D>(
     scope: &Scope<'s, E>,
-    every: IterMut<'s, ServerWorker<'a, L, R, D>>,
+    every: IterMut<'s, ServerWorker<'a, F, L, R, D>>,
 ) -> (usize, bool)
 where
+    F: Callbacks + Send + Sync + 's,
     L: Ledger + Send + Sync + 's,
     R: Wait + Sync + 's,
     D: Device + Send + 's,
@@ -311,12 +315,13 @@ where
 }
 
 // Starts the thread of connections, one after the other. Whether it could be made.
-fn start_connection<'s, 'a: 's, 'c: 's, E, L, R, D>(
+fn start_connection<'s, 'a: 's, 'c: 's, E, F, L, R, D>(
     scope: &Scope<'s, E>,
     connections: &'s Connections<'c, R>,
-    connection: &'s mut Connection<'a, L, R, D>,
+    connection: &'s mut Connection<'a, F, L, R, D>,
 ) -> bool
 where
+    F: Callbacks + Send + Sync + 's,
     L: Ledger + Send + Sync + 's,
     R: Wait + Sync + Clock + 's,
     D: Device + Send + 's,
@@ -327,12 +332,13 @@ where
 }
 
 // Starts a thread for each of these. Whether all could be made.
-fn start_connections<'s, 'a: 's, 'c: 's, E, L, R, D>(
+fn start_connections<'s, 'a: 's, 'c: 's, E, F, L, R, D>(
     scope: &Scope<'s, E>,
     connections: &'s Connections<'c, R>,
-    every: IterMut<'s, Connection<'a, L, R, D>>,
+    every: IterMut<'s, Connection<'a, F, L, R, D>>,
 ) -> bool
 where
+    F: Callbacks + Send + Sync + 's,
     L: Ledger + Send + Sync + 's,
     R: Wait + Sync + Clock + 's,
     D: Device + Send + 's,
@@ -346,14 +352,15 @@ where
 }
 
 // A thread for each connection that may be there, and then the accept beside them, once `ready` is said. It ends after the last connection.
-fn serve_connections<L, R, D, W>(
+fn serve_connections<F, L, R, D, W>(
     connections: &Connections<'_, R>,
-    all: &mut [Connection<'_, L, R, D>],
+    all: &mut [Connection<'_, F, L, R, D>],
     listener: UnixListener,
     incoming: Incoming,
     out: W,
 ) -> (Result<(), Fault>, W)
 where
+    F: Callbacks + Send + Sync,
     L: Ledger + Send + Sync,
     R: Threads + Wait + Sync + Clock,
     D: Device + Send,
@@ -374,17 +381,43 @@ where
     })
 }
 
-// A thread for each worker, and the connections beside them. If a thread can't be made, no connection is taken.
-fn serve_beside<'a, L, R, D, W>(
+// In a scope: a thread for each worker, and the connections beside them. If a thread can't be made, no connection is taken.
+fn serve_in<'s, 'a: 's, 'c, E, F, L, R, D, W>(
+    scope: &Scope<'s, E>,
+    workers: IterMut<'s, ServerWorker<'a, F, L, R, D>>,
     connections: &Connections<'_, R>,
-    leftovers: &Leftovers,
-    manager: &Manager<Sample, L>,
-    parts: Parts<'a, L, R, D>,
+    all: &mut [Connection<'c, F, L, R, D>],
     listener: UnixListener,
     incoming: Incoming,
     out: W,
-) -> (Outcome, Parts<'a, L, R, D>, W)
+) -> (usize, Result<(), Fault>, W)
 where
+    F: Callbacks + Send + Sync + 's,
+    L: Ledger + Send + Sync + 's,
+    R: Threads + Wait + Sync + Clock + 's,
+    D: Device + Send + 's,
+    W: Write + Drop,
+{
+    let (started, are_all) = start_workers(scope, workers);
+    if !are_all {
+        return (started, Err(Fault::Memory(AllocError)), out);
+    }
+    let (served, out) = serve_connections(connections, all, listener, incoming, out);
+    (started, served, out)
+}
+
+// A thread for each worker, and the connections beside them, until the last has ended; then the workers end.
+fn serve_beside<'a, F, L, R, D, W>(
+    connections: &Connections<'_, R>,
+    leftovers: &Leftovers,
+    manager: &Manager<F, L>,
+    parts: Parts<'a, F, L, R, D>,
+    listener: UnixListener,
+    incoming: Incoming,
+    out: W,
+) -> (Outcome, Parts<'a, F, L, R, D>, W)
+where
+    F: Callbacks + Send + Sync,
     L: Ledger + Send + Sync,
     R: Threads + Wait + Sync + Clock,
     D: Device + Send,
@@ -397,12 +430,15 @@ where
     let rt = connections.rt();
     let every = workers.iter_mut();
     let (outcome, mut all, out) = thread::scope(thread::scope_env(), rt, |scope| {
-        let mut out = out;
-        let mut served = Err(Fault::Memory(AllocError));
-        let (started, are_all) = start_workers(scope, every);
-        if are_all {
-            (served, out) = serve_connections(connections, &mut all, listener, incoming, out);
-        }
+        let (started, served, out) = serve_in(
+            scope,
+            every,
+            connections,
+            &mut all,
+            listener,
+            incoming,
+            out,
+        );
         let is_clean = end_connections(leftovers, &mut all, manager.filters(rt), started);
         (Outcome { is_clean, served }, all, out)
     });
@@ -418,14 +454,15 @@ where
 }
 
 // A server's threads over that manager, from their workers to their hands.
-fn run_threads<'a, L, R, D, W>(
+fn run_threads<'a, F, L, R, D, W>(
     rt: &'a R,
     alloc: Global,
-    manager: &'a Manager<Sample, L>,
+    manager: &'a Manager<F, L>,
     endpoint: Endpoint<D>,
     out: W,
 ) -> (Result<(Outcome, Vec<Hand<L>>), Status>, W)
 where
+    F: Callbacks + Send + Sync,
     L: Ledger + Send + Sync,
     R: Threads + Wait + Sync + Clock,
     D: Device + Send,
@@ -484,16 +521,18 @@ where
     (Ok((outcome, hands)), out)
 }
 
-/// A server: its manager, the threads over it, and what it says at its end. `Memory` if a growth was refused, `Outside` if the socket, the writer or the start
+/// A server: its manager of these filters, the threads over it, and what it says at its end. `Memory` if a growth was refused, `Outside` if the socket, the writer or the start
 /// of a thread failed. The writer is handed back.
-pub(crate) fn run_server<L, R, D, W>(
+pub(crate) fn run_server<F, L, R, D, W>(
     rt: &R,
     alloc: Global,
+    filters: Vec<(Name, F)>,
     blank: Blank,
     endpoint: Endpoint<D>,
     out: W,
 ) -> (Result<Tally, Fault>, W)
 where
+    F: Callbacks + Send + Sync,
     L: Ledger + Send + Sync,
     R: Threads + Wait + Sync + Clock,
     D: Device + Send,
@@ -502,7 +541,7 @@ where
     requires parts { blank.parts ≡ L.parts }
     requires all { blank.parts ≡ 49 }
 {
-    let manager = match mounted::<L, R>(rt, alloc, blank) {
+    let manager = match mounted::<F, L, R>(rt, alloc, filters, blank) {
         Ok(manager) => manager,
         Err(status) => return (Err(fault_of(status)), out),
     };
@@ -530,26 +569,26 @@ where
     }
 }
 
-// A manager of the samples, with the only volume.
-fn mounted<L: Ledger, R: Wait>(
+// A manager of these filters, with the only volume.
+fn mounted<F: Callbacks, L: Ledger, R: Wait>(
     rt: &R,
     alloc: Global,
+    filters: Vec<(Name, F)>,
     blank: Blank,
-) -> Result<Manager<Sample, L>, Status>
+) -> Result<Manager<F, L>, Status>
     requires name { blank.name ≡ L.name }
     requires parts { blank.parts ≡ L.parts }
     requires all { blank.parts ≡ 49 }
 {
-    let filters = samples(alloc)?;
-    let manager = Manager::<Sample, L>::new(alloc, filters, blank)?;
+    let manager = Manager::<F, L>::new(alloc, filters, blank)?;
     manager.mount(rt, Name::read(b"v0")?)?;
     Ok(manager)
 }
 
 // The end of a manager. If it can't end, it says itself what it has.
-fn end<L: Ledger, R: Wait>(
+fn end<F: Callbacks, L: Ledger, R: Wait>(
     rt: &R,
-    manager: Manager<Sample, L>,
+    manager: Manager<F, L>,
     hands: Vec<Hand<L>>,
     is_clean: bool,
 ) -> Tally

@@ -4,6 +4,7 @@ use crate::gate_seat::ServerWorker;
 use crate::line::Line;
 use fm_data::{Answer, FileRequest, Request};
 use fm_device::Device;
+use fm_filter::Callbacks;
 use fm_types::{HandleId, OpId, Status};
 use std::sync::Wait;
 use std::sync::ledger::Ledger;
@@ -31,8 +32,8 @@ pub(crate) enum Unanswered {
 }
 
 /// Begins an operation, and waits for its answer as long as its client is there.
-pub(crate) fn ask<L: Ledger, R: Wait + Clock, D: Device>(
-    worker: &mut ServerWorker<'_, L, R, D>,
+pub(crate) fn ask<F: Callbacks, L: Ledger, R: Wait + Clock, D: Device>(
+    worker: &mut ServerWorker<'_, F, L, R, D>,
     line: &Line,
     request: Request,
 ) -> Result<Answer, Unanswered> {
@@ -59,8 +60,8 @@ pub(crate) fn ask<L: Ledger, R: Wait + Clock, D: Device>(
 
 /// A close is its cleanup, unless that began before, and then the close itself: the answer is the close's. Refused as the one that can't begin; the handle is
 /// still there then.
-pub(crate) fn close<L: Ledger, R: Wait + Clock, D: Device>(
-    worker: &mut ServerWorker<'_, L, R, D>,
+pub(crate) fn close<F: Callbacks, L: Ledger, R: Wait + Clock, D: Device>(
+    worker: &mut ServerWorker<'_, F, L, R, D>,
     line: &Line,
     handle: HandleId,
 ) -> Result<Answer, Unanswered> {

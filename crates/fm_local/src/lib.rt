@@ -8,10 +8,12 @@ pub mod laws;
 mod leak;
 mod local_port;
 mod manager;
+mod refusal;
 mod requests;
 mod teardowns;
 mod trace;
 
 pub use crate::leak::{Callback, Leak};
 pub use crate::manager::LocalManager;
+pub use crate::refusal::{PortCall, Refusal};
 pub use crate::trace::{Traced, Visit};

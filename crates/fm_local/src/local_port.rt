@@ -1,18 +1,80 @@
 //! The port of a callback of the one-thread manager.
 
+ghost use Rattle.std.specs.Prelude.{◌≡◌};
+ghost use Rattle.fm_local.specs.Ports.{ResumesPostIn, ResumesPreIn};
+ghost use Rattle.fm_local.specs.Waits.{standing_with};
+
 use crate::bounded::Bounded;
 use crate::manager::WORKER;
-use fm_core::{Hold, SetAnswer, SetMode, State};
+use crate::refusal::{PortCall, Refusal};
+use fm_core::{Hold, Place, SetAnswer, SetMode, State};
 use fm_data::PreVerdict;
 use fm_filter::Port;
 use fm_types::{Bytes, ContextKind, CtxId, OpId, Status};
 
 /// What callbacks work on, and the port that they are lent: the manager's state, and what they resumed, in the order of the resumptions. Each call is the
-/// event of the state, for the worker of the manager. What a callback resumes is noted, so that the manager carries it on afterwards.
+/// event of the state, for the worker of the manager. What a callback resumes is noted, so that the manager carries it on afterwards, and so is each call that
+/// is refused.
 #[derive(Drop)]
 pub(crate) struct Desk {
     pub(crate) state: State,
     pub(crate) resumed: Bounded<OpId>,
+    pub(crate) refusals: Bounded<Refusal>,
+}
+
+impl Desk {
+    // Notes a call that was refused.
+    fn note(&mut self, call: PortCall, status: Status)
+        ensures state { self.new.state ≡ self.old.state }
+        ensures resumed { self.new.resumed ≡ self.old.resumed }
+    {
+        let place = self.state.place(WORKER).unwrap_or(Place::Idle);
+        self.refusals.put(Refusal {
+            place,
+            call,
+            status,
+        });
+    }
+
+    // Hands a call's answer on, and notes it where the call was refused.
+    fn answered<T: Copy>(&mut self, call: PortCall, answer: Result<T, Status>) -> Result<T, Status>
+        ensures same { result ≡ answer }
+        ensures state { self.new.state ≡ self.old.state }
+        ensures resumed { self.new.resumed ≡ self.old.resumed }
+    {
+        if let Err(status) = answer {
+            self.note(call, status);
+        }
+        answer
+    }
+
+    // Resumes an operation that a preoperation holds, and notes it as resumed, if there is room.
+    fn resume_held_pre(&mut self, operation: OpId, verdict: PreVerdict) -> Result<(), Status>
+        ensures event { ResumesPreIn self.old WORKER operation verdict result self.new }
+        ensures stands { standing_with self.new.resumed.items.items self.new.state ≡ standing_with self.old.resumed.items.items self.old.state }
+    {
+        if self.resumed.is_full() {
+            return Err(Status::TooMany);
+        }
+        self.state.laws();
+        self.state.resume_pre(WORKER, operation, verdict)?;
+        self.resumed.put(operation);
+        Ok(())
+    }
+
+    // The same of one that a postoperation holds.
+    fn resume_held_post(&mut self, operation: OpId) -> Result<(), Status>
+        ensures event { ResumesPostIn self.old WORKER operation result self.new }
+        ensures stands { standing_with self.new.resumed.items.items self.new.state ≡ standing_with self.old.resumed.items.items self.old.state }
+    {
+        if self.resumed.is_full() {
+            return Err(Status::TooMany);
+        }
+        self.state.laws();
+        self.state.resume_post(WORKER, operation)?;
+        self.resumed.put(operation);
+        Ok(())
+    }
 }
 
 impl Port for Desk {
@@ -51,73 +113,77 @@ impl Port for Desk {
 
     #[tactic(auto, using(crate::proofs::Standing::allocate_stands))]
     fn allocate(&mut self, kind: ContextKind, body: Bytes) -> Result<CtxId, Status> {
-        self.state.allocate(WORKER, kind, body)
+        let answer = self.state.allocate(WORKER, kind, body);
+        self.answered(PortCall::Allocate(kind), answer)
     }
 
     #[tactic(auto, using(crate::proofs::Standing::set_stands))]
     fn set(&mut self, context: CtxId, mode: SetMode, wants_old: bool) -> SetAnswer {
-        self.state.set(WORKER, context, mode, wants_old)
+        let answer = self.state.set(WORKER, context, mode, wants_old);
+        if let SetAnswer::Refused(status) = answer {
+            self.note(PortCall::Set(context), status);
+        }
+        answer
     }
 
     #[tactic(auto, using(crate::proofs::Standing::get_stands))]
     fn get(&mut self, kind: ContextKind) -> Result<CtxId, Status> {
-        self.state.get(WORKER, kind)
+        let answer = self.state.get(WORKER, kind);
+        self.answered(PortCall::Get(kind), answer)
     }
 
     #[tactic(auto, using(crate::proofs::Standing::delete_stands))]
     fn delete(&mut self, kind: ContextKind, wants_old: bool) -> Result<Option<CtxId>, Status> {
-        self.state.delete(WORKER, kind, wants_old)
+        let answer = self.state.delete(WORKER, kind, wants_old);
+        self.answered(PortCall::Delete(kind), answer)
     }
 
     #[tactic(auto, using(crate::proofs::Standing::reference_stands))]
     fn reference(&mut self, context: CtxId) -> Result<(), Status> {
-        self.state.reference(WORKER, context)
+        let answer = self.state.reference(WORKER, context);
+        self.answered(PortCall::Reference(context), answer)
     }
 
     #[tactic(auto, using(crate::proofs::Standing::release_stands))]
     fn release(&mut self, context: CtxId) -> Result<(), Status> {
-        self.state.release(WORKER, context)
+        let answer = self.state.release(WORKER, context);
+        self.answered(PortCall::Release(context), answer)
     }
 
     #[tactic(auto, using(crate::proofs::Standing::read_stands))]
     fn read_body(&mut self, context: CtxId) -> Result<Bytes, Status> {
-        self.state.read_body(WORKER, context)
+        let answer = self.state.read_body(WORKER, context);
+        if let Err(status) = &answer {
+            self.note(PortCall::ReadBody(context), *status);
+        }
+        answer
     }
 
     #[tactic(auto, using(crate::proofs::Standing::write_stands))]
     fn write_body(&mut self, context: CtxId, bytes: &[u8]) -> Result<(), Status> {
-        self.state.write_body(WORKER, context, bytes)
+        let answer = self.state.write_body(WORKER, context, bytes);
+        self.answered(PortCall::WriteBody(context), answer)
     }
 
     #[tactic(auto, using(crate::proofs::Standing::bump_stands))]
     fn bump(&mut self, context: CtxId, place: u64, by: u64) -> Result<u64, Status> {
-        self.state.bump(WORKER, context, place, by)
+        let answer = self.state.bump(WORKER, context, place, by);
+        self.answered(PortCall::Bump(context), answer)
     }
 
     #[tactic(auto, using(crate::proofs::Standing::held_stands))]
     fn first_held(&mut self, hold: Hold) -> Result<Option<OpId>, Status> {
-        self.state.first_held(WORKER, hold)
+        let answer = self.state.first_held(WORKER, hold);
+        self.answered(PortCall::FirstHeld, answer)
     }
 
-    #[tactic(auto, using(crate::proofs::Standing::resume_pre_stands))]
     fn resume_pre(&mut self, operation: OpId, verdict: PreVerdict) -> Result<(), Status> {
-        if self.resumed.is_full() {
-            return Err(Status::TooMany);
-        }
-        self.state.laws();
-        self.state.resume_pre(WORKER, operation, verdict)?;
-        self.resumed.put(operation);
-        Ok(())
+        let answer = self.resume_held_pre(operation, verdict);
+        self.answered(PortCall::ResumePre(operation), answer)
     }
 
-    #[tactic(auto, using(crate::proofs::Standing::resume_post_stands))]
     fn resume_post(&mut self, operation: OpId) -> Result<(), Status> {
-        if self.resumed.is_full() {
-            return Err(Status::TooMany);
-        }
-        self.state.laws();
-        self.state.resume_post(WORKER, operation)?;
-        self.resumed.put(operation);
-        Ok(())
+        let answer = self.resume_held_post(operation);
+        self.answered(PortCall::ResumePost(operation), answer)
     }
 }

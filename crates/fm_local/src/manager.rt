@@ -16,6 +16,7 @@ ghost use Rattle.fm_world.specs.World.{empty_world};
 use crate::bounded::Bounded;
 use crate::leak::Leak;
 use crate::local_port::Desk;
+use crate::refusal::Refusal;
 use crate::trace::Traced;
 use fm_base::Base;
 use fm_core::State;
@@ -28,7 +29,7 @@ use std::alloc::Global;
 /// The worker that does everything.
 pub(crate) const WORKER: WorkerId = WorkerId(0);
 
-/// How many steps of operations, and how many leaks, are kept to be read.
+/// How many steps of operations, how many leaks and how many refused calls are kept to be read.
 const KEPT: usize = 1024;
 
 /// A filter manager on one thread: filters as code, one file system of a type for each volume, and the manager's state, of which each thing that happens
@@ -48,7 +49,7 @@ pub struct LocalManager<F, B> {
 
 impl<F: Minifilter, B: Base> LocalManager<F, B> {
     /// A manager that has these filters, each under its name, and none of them loaded: it is ready, and nothing is due. It takes the room for 8 volumes, for
-    /// 256 operations that were resumed and 256 that ended, and for the steps and the leaks that can be read. Refused with 1.
+    /// 256 operations that were resumed and 256 that ended, and for the steps, the leaks and the refused calls that can be read. Refused with 1.
     pub fn new(alloc: Global, filters: Vec<(Name, F)>) -> Result<LocalManager<F, B>, Status>
         ensures empty { IfOk result (λ manager. (manager.desk.state ≡ empty_world) × (manager.filters.all ≡ filters) × (manager.bases.all.items ≡ [])) }
         ensures ready { IfOk result (Ready F.Minifilter B.Base) }
@@ -61,13 +62,18 @@ impl<F: Minifilter, B: Base> LocalManager<F, B> {
         let resumed = Bounded::new(alloc, OPERATIONS)?;
         let finished = Bounded::new(alloc, OPERATIONS)?;
         let hand = Bounded::new(alloc, REFERENCES)?;
+        let refusals = Bounded::new(alloc, KEPT)?;
         let leaks = Bounded::new(alloc, KEPT)?;
         let trace = Bounded::new(alloc, KEPT)?;
         let bases = Bases::new(alloc)?;
         let state = State::new(alloc)?;
         Ok(LocalManager {
             alloc,
-            desk: Desk { state, resumed },
+            desk: Desk {
+                state,
+                resumed,
+                refusals,
+            },
             filters: Filters::new(filters),
             bases,
             finished,
@@ -118,6 +124,29 @@ impl<F: Minifilter, B: Base> LocalManager<F, B> {
         ensures { result ≡ slice_get self.now.leaks.items.items place }
     {
         self.leaks.get(place)
+    }
+
+    /// How many calls of callbacks' ports that were refused can be read.
+    pub fn refused_calls(&self) -> usize
+        ensures { result ≡ length self.now.desk.refusals.items.items }
+    {
+        self.desk.refusals.len()
+    }
+
+    /// One of the last 1,024 calls of callbacks' ports that were refused, the oldest at place 0.
+    pub fn refused_call(&self, place: usize) -> Option<Refusal>
+        ensures { result ≡ slice_get self.now.desk.refusals.items.items place }
+    {
+        self.desk.refusals.get(place)
+    }
+
+    /// Forgets the steps, the leaks and the refused calls that could be read. Nothing else changes.
+    pub fn forget_report(&mut self)
+        ensures { self.new ≡ record self.old { desk = record self.old.desk { refusals = self.new.desk.refusals }; leaks = self.new.leaks; trace = self.new.trace } }
+    {
+        self.desk.refusals.clear();
+        self.leaks.clear();
+        self.trace.clear();
     }
 
     /// Loads the filter of that name, with what it registers for (`FltRegisterFilter`, `FltStartFiltering`). Refused, nothing changed: 6 if no filter has

@@ -13,7 +13,7 @@ use crate::hand::Hand;
 use crate::locked::Locked;
 use crate::report::Report;
 use crate::waiting::Waiting;
-use fm_filter::Minifilter;
+use fm_filter::Callbacks;
 use fm_flow::FlowAction;
 use fm_types::{FilterId, InstanceId, Name, OpId, Status};
 use fm_world::{Refused, Step, StepReply};
@@ -201,7 +201,7 @@ impl<F: Drop, L: Ledger> Manager<F, L> {
     }
 }
 
-impl<F: Minifilter, L: Ledger> Manager<F, L> {
+impl<F: Callbacks, L: Ledger> Manager<F, L> {
     /// Registers the filter of that name (`FltRegisterFilter`), for what it asks. Refused with 6 if none was handed in under that name, and then as the State's
     /// `register`: 10 where one of that name isn't unloaded, 29, 1.
     pub fn register<R: Wait>(&self, rt: &R, name: &Name) -> Result<FilterId, Status>

@@ -10,14 +10,14 @@ use crate::shared::Shared;
 use fm_data::{CallbackData, Completion, PostVerdict};
 use fm_device::Device;
 use fm_filter::{
-    Minifilter, ask_post, ask_pre, ask_query, ask_setup, let_go, tell_complete, tell_start,
+    Callbacks, ask_post, ask_pre, ask_query, ask_setup, let_go, tell_complete, tell_start,
 };
 use fm_types::{FilterId, InstanceId, Status};
 use std::sync::Wait;
 use std::sync::ledger::Ledger;
 
 // The thread is in the callback when it ends it, so that a 30 there can't be: the thread waits for ever then. Other refusals are passed on.
-impl<'a, F: Minifilter, L: Ledger, R: Wait, G: Gate> Shared<'a, F, L, R, G> {
+impl<'a, F: Callbacks, L: Ledger, R: Wait, G: Gate> Shared<'a, F, L, R, G> {
     /// Calls the setup callback of a new instance. Refused as the end of that callback is.
     pub(crate) fn setup<D: Device>(
         &self,

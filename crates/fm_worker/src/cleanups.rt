@@ -7,11 +7,11 @@ use crate::shared::Shared;
 use crate::worker::Worker;
 use fm_ctx::{Due, Owner};
 use fm_device::Device;
-use fm_filter::Minifilter;
+use fm_filter::Callbacks;
 use std::sync::Wait;
 use std::sync::ledger::Ledger;
 
-impl<'a, F: Minifilter, L: Ledger, R: Wait, G: Gate> Shared<'a, F, L, R, G> {
+impl<'a, F: Callbacks, L: Ledger, R: Wait, G: Gate> Shared<'a, F, L, R, G> {
     // The cleanup callback of a context's filter: what it returns for its total.
     fn cleanup(&self, due: &Due) -> u64 {
         let filter = match due.owner {
@@ -25,7 +25,7 @@ impl<'a, F: Minifilter, L: Ledger, R: Wait, G: Gate> Shared<'a, F, L, R, G> {
     }
 }
 
-impl<'a, F: Minifilter, L: Ledger, R: Wait, G: Gate, D: Device> Worker<'a, F, L, R, G, D> {
+impl<'a, F: Callbacks, L: Ledger, R: Wait, G: Gate, D: Device> Worker<'a, F, L, R, G, D> {
     /// Cleans up every context that is due.
     pub(crate) fn clean_up(&mut self)
         ensures kept { self.new.own.port.resumed ≡ self.old.own.port.resumed }

@@ -1,7 +1,7 @@
 //! What all threads share.
 
 use crate::gate::Gate;
-use fm_filter::Minifilter;
+use fm_filter::Callbacks;
 use fm_lock::Manager;
 use fm_queue::JobQueue;
 use fm_types::{InstanceId, WorkerId};
@@ -18,7 +18,7 @@ pub(crate) struct Shared<'a, F: Drop, L: Ledger, R: Wait, G: Gate> {
     pub(crate) gate: &'a G,
 }
 
-impl<'a, F: Minifilter, L: Ledger, R: Wait, G: Gate> Shared<'a, F, L, R, G> {
+impl<'a, F: Callbacks, L: Ledger, R: Wait, G: Gate> Shared<'a, F, L, R, G> {
     // The filter of an instance.
     pub(crate) fn filter_of(&self, instance: InstanceId) -> Option<&F> {
         self.manager.filter_of_instance(self.rt, instance)

@@ -6,14 +6,14 @@ ghost use Rattle.fm_worker.specs.Jobs.{LeavesNone};
 use crate::gate::Gate;
 use crate::worker::Worker;
 use fm_device::Device;
-use fm_filter::Minifilter;
+use fm_filter::Callbacks;
 use fm_flow::FlowAction;
 use fm_stack::Phase;
 use fm_types::{InstanceId, Status};
 use std::sync::Wait;
 use std::sync::ledger::Ledger;
 
-impl<'a, F: Minifilter, L: Ledger, R: Wait, G: Gate, D: Device> Worker<'a, F, L, R, G, D> {
+impl<'a, F: Callbacks, L: Ledger, R: Wait, G: Gate, D: Device> Worker<'a, F, L, R, G, D> {
     /// How many instances were attached: their numbers are those below.
     pub(crate) fn instances(&self) -> u16 {
         u16::try_from(self.shared.manager.instances(self.shared.rt)).unwrap_or(u16::MAX)

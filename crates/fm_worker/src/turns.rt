@@ -11,7 +11,7 @@ use crate::shared::Shared;
 use crate::worker::Worker;
 use fm_data::BaseCall;
 use fm_device::Device;
-use fm_filter::Minifilter;
+use fm_filter::Callbacks;
 use fm_flow::FlowAction;
 use fm_lock::Turn;
 use fm_types::{OpId, Status};
@@ -35,7 +35,7 @@ impl Waiting {
     }
 }
 
-impl<'a, F: Minifilter, L: Ledger, R: Wait, G: Gate> Shared<'a, F, L, R, G> {
+impl<'a, F: Callbacks, L: Ledger, R: Wait, G: Gate> Shared<'a, F, L, R, G> {
     // Makes the callback, which is that filter's, or the call of an action. True if the operation can go on.
     fn act<D: Device>(
         &self,
@@ -83,7 +83,7 @@ impl<'a, F: Minifilter, L: Ledger, R: Wait, G: Gate> Shared<'a, F, L, R, G> {
     }
 }
 
-impl<'a, F: Minifilter, L: Ledger, R: Wait, G: Gate, D: Device> Worker<'a, F, L, R, G, D> {
+impl<'a, F: Callbacks, L: Ledger, R: Wait, G: Gate, D: Device> Worker<'a, F, L, R, G, D> {
     /// Carries an operation on, until it is done, a filter holds it, or another thread has it. After each turn what the turn resumed is handed on. True if a
     /// context is due then.
     pub(crate) fn carry(&mut self, operation: OpId) -> bool {

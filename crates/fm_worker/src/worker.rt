@@ -10,7 +10,7 @@ use crate::own::Own;
 use crate::shared::Shared;
 use fm_data::{Answer, Request};
 use fm_device::Device;
-use fm_filter::Minifilter;
+use fm_filter::Callbacks;
 use fm_lock::{Hand, Manager, Waited};
 use fm_queue::{JobPass, JobQueue};
 use fm_types::{OpId, Status};
@@ -37,7 +37,7 @@ fn take_pass(queue: &JobQueue, passes: &mut Vec<JobPass>) -> Option<JobPass>
     passes.pop()
 }
 
-impl<'a, F: Minifilter, L: Ledger, R: Wait, G: Gate, D: Device> Worker<'a, F, L, R, G, D> {
+impl<'a, F: Callbacks, L: Ledger, R: Wait, G: Gate, D: Device> Worker<'a, F, L, R, G, D> {
     /// A worker at a manager, its queue and the gate before callbacks: with a hand that is hired for it, the last of those passes, these devices, and memory
     /// for operations that wait at it. Refused with 29 if no pass is left or all hands are out, and with 1 if memory is refused; a pass that was taken by then
     /// is dropped.
@@ -113,7 +113,7 @@ impl<'a, F: Minifilter, L: Ledger, R: Wait, G: Gate, D: Device> Worker<'a, F, L,
     }
 }
 
-impl<'a, F: Minifilter, L: Ledger, R: Wait + Clock, G: Gate, D: Device> Worker<'a, F, L, R, G, D> {
+impl<'a, F: Callbacks, L: Ledger, R: Wait + Clock, G: Gate, D: Device> Worker<'a, F, L, R, G, D> {
     /// Waits for the answer of an operation that was begun and submitted, but no longer than that time: none then, and it can be waited for again. What of it
     /// is this thread's turn alone is done here. Refused with 30, if the operation isn't there or its answer was handed out.
     pub fn wait_for(&mut self, operation: OpId, time: Duration) -> Result<Option<Answer>, Status> {

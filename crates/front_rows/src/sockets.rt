@@ -2,8 +2,9 @@
 
 use crate::lines::{DISMOUNT, FILTERS, LOADED, ROUND};
 use crate::talks::{Talk, converse};
-use fm_front::{Endpoint, Folder, front, prepare};
+use fm_front::{Endpoint, Folder, front, front_with, prepare};
 use fm_words::{Fault, Front};
+use own_filter::filters;
 use std::alloc::{AllocError, Global};
 use std::net::{Net, TcpListener, TcpStream};
 use std::rt::Files;
@@ -12,14 +13,44 @@ use std::thread::Threads;
 use std::time::Clock;
 use std::{env, fs, thread};
 
-/// What the server prints.
+/// What a server prints.
 const ENDED: &str = "ready\nborn 0 cleaned 0 leaks 0\n";
+
+/// What the server of own filters prints, one of which kept a context.
+const OWN_ENDED: &str = "ready\nborn 1 cleaned 1 leaks 0\n";
+
+/// A place that is served, and with whose filters.
+#[derive(Clone, Copy)]
+struct Served<'a> {
+    rt: &'a HostRuntime,
+    test: &'a str,
+    is_own: bool,
+}
+
+// What a server does, by the samples or by own filters.
+fn run<R>(
+    rt: &R,
+    alloc: Global,
+    is_own: bool,
+    endpoint: Result<Endpoint<Folder<HostRuntime>>, Fault>,
+    out: &mut Vec<u8>,
+) -> u8
+where
+    R: Threads + Wait + Sync + Clock,
+{
+    if is_own {
+        front_with(rt, alloc, filters(alloc), endpoint, out)
+    } else {
+        front(rt, alloc, endpoint, out)
+    }
+}
 
 // A server of two workers, and its client: whether the client was told what it should be, and how the server ended.
 fn meet<R>(
     rt: &R,
     alloc: Global,
     at: &Front,
+    is_own: bool,
     endpoint: Result<Endpoint<Folder<HostRuntime>>, Fault>,
     talk: Talk,
 ) -> (bool, u8, Vec<u8>)
@@ -35,7 +66,7 @@ where
     let mut printed = Vec::new(alloc);
     let (status, is_well) = thread::join(
         rt,
-        || front(rt, alloc, endpoint, &mut printed),
+        || run(rt, alloc, is_own, endpoint, &mut printed),
         || converse(rt, alloc, at, talk),
     );
     (is_well, status, printed)
@@ -54,12 +85,13 @@ pub fn folder_for(rt: &HostRuntime, test: &str) -> Option<String> {
     Some(folder)
 }
 
+/// The path of what has that name in a folder. Fails if memory is refused.
 pub fn inside(rt: &HostRuntime, folder: &str, name: &str) -> Result<String, AllocError> {
     format!(in rt.alloc(); "{folder}/{name}")
 }
 
-// Whether a conversation goes as it should, and the server ends with status 0 and says so.
-fn goes_well<R>(host: &R, rt: &HostRuntime, test: &str, talk: Talk) -> Option<bool>
+// What a conversation comes to at a server with these filters: whether it goes as it should and the server ends with status 0, and what the server prints.
+fn serve<R>(host: &R, served: &Served, talk: Talk) -> Option<(bool, Vec<u8>)>
 where
     R: Files
         + AllocGlobal
@@ -69,7 +101,8 @@ where
         + Clock
         + Net<Listener = TcpListener, Stream = TcpStream>,
 {
-    let place = folder_for(rt, test)?;
+    let rt = served.rt;
+    let place = folder_for(rt, served.test)?;
     let folder = inside(rt, place.as_str(), "files").ok()?;
     let socket = inside(rt, place.as_str(), "socket").ok()?;
     fs::create_dir(rt, folder.as_str()).ok()?;
@@ -82,11 +115,28 @@ where
         host,
         rt.alloc(),
         &at,
+        served.is_own,
         prepare(rt, rt.alloc(), &at),
         talk,
     );
     let _ = fs::remove_dir_all(rt, place.as_str());
-    Some(is_well && status == 0 && printed.as_slice() == ENDED.as_bytes())
+    Some((is_well && status == 0, printed))
+}
+
+// Whether a conversation goes as it should at a server of the samples, which ends with status 0 and says so.
+fn goes_well<R>(host: &R, rt: &HostRuntime, test: &str, talk: Talk) -> Option<bool>
+where
+    R: Files
+        + AllocGlobal
+        + Threads
+        + Wait
+        + Sync
+        + Clock
+        + Net<Listener = TcpListener, Stream = TcpStream>,
+{
+    let is_own = false;
+    let (is_well, printed) = serve(host, &Served { rt, test, is_own }, talk)?;
+    Some(is_well && printed.as_slice() == ENDED.as_bytes())
 }
 
 #[test]
@@ -127,6 +177,19 @@ fn all_requests_by_two_connections(rt: HostRuntime) {
 #[test]
 fn a_refused_create_gives_no_handle(rt: HostRuntime) {
     assert!(rt; goes_well(&rt, &rt, "refused", Talk::Refused) == Some(true));
+}
+
+#[test]
+fn own_filters_over_a_socket(rt: HostRuntime) {
+    let served = Served {
+        rt: &rt,
+        test: "own",
+        is_own: true,
+    };
+    let told = serve(&rt, &served, Talk::Own);
+    assert!(rt;
+        matches!(told, Some((true, printed)) if printed.as_slice() == OWN_ENDED.as_bytes())
+    );
 }
 
 #[test]

@@ -84,3 +84,15 @@ pub const BEGINS: [Step; 4] = [
     (0, &["create", "0", "new", "y"], 33, 0, b""),
     (0, &["stop"], 0, 0, b""),
 ];
+
+/// A filter that counts the writes to a file in a context, and denies each deletion. The samples aren't there.
+pub const OWN: [Step; 8] = [
+    (0, &["load", "guard"], 6, 0, b""),
+    (0, &["load", "audit"], 0, 0, b""),
+    (0, &["attach", "0", "0", "a", "325000.5"], 0, 0, b""),
+    (0, &["create", "0", "new", "x"], 0, 0, b""),
+    (0, &["write", "0", "0", "61"], 0, 1, b""),
+    (0, &["write", "0", "1", "62"], 0, 1, b""),
+    (0, &["setdelete", "0"], 17, 0, b""),
+    (0, &["stop"], 0, 0, b""),
+];

@@ -2,7 +2,7 @@
 
 use crate::lines::{DONE, Line, ask, ask_all, comes, wait_for_server};
 use crate::peer::{exchange, follow, is_done, send, take};
-use crate::steps::{BEGINS, CLOSES, ENDS, HOLDS, REFUSED, SHARES, WRITES};
+use crate::steps::{BEGINS, CLOSES, ENDS, HOLDS, OWN, REFUSED, SHARES, WRITES};
 use fm_words::Front;
 use std::alloc::{AllocError, Global};
 use std::fs;
@@ -30,6 +30,8 @@ pub enum Talk {
     Pair,
     /// A create is refused.
     Refused,
+    /// A filter that isn't among the samples counts writes and denies a deletion.
+    Own,
     /// The volume goes beside an open handle.
     Dismounted,
     /// The socket's file goes before the Stop.
@@ -132,6 +134,15 @@ where
     Some(follow(alloc, streams.as_slice(), &REFUSED))
 }
 
+// One connection meets the server's own filter.
+fn own<R>(rt: &R, alloc: Global, at: &Front) -> Option<bool>
+where
+    R: Net<Listener = TcpListener, Stream = TcpStream>,
+{
+    let streams = connect(rt, alloc, at, 1)?;
+    Some(follow(alloc, streams.as_slice(), &OWN))
+}
+
 // A dismount closes a handle: its file stays, though it was to go with it.
 fn dismounted<R>(rt: &R, alloc: Global, at: &Front) -> Option<bool>
 where
@@ -220,6 +231,7 @@ where
         Talk::Lines(lines) => Some(ask_all(rt, alloc, at, lines)),
         Talk::Pair => pair(rt, alloc, at),
         Talk::Refused => refused(rt, alloc, at),
+        Talk::Own => own(rt, alloc, at),
         Talk::Dismounted => dismounted(rt, alloc, at),
         Talk::Removed => removed(rt, alloc, at),
         Talk::Begun => begun(rt, alloc, at),

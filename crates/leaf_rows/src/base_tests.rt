@@ -1,4 +1,4 @@
-//! The longest listing of a base in memory, and what is proved of any base at two of them.
+//! The longest listing of a base in memory and the order of one, how often a call is handed on, and what is proved of any base at two of them.
 
 use fm_base::{Base, FailNth, MemoryBase, laws};
 use fm_types::{CreateMode, RelPath, Status};
@@ -61,4 +61,31 @@ fn failing_reads_back(alloc: Global) -> Result<bool, Status> {
 fn any_base_reads_back(rt: HostRuntime) {
     assert_eq!(rt; memory_reads_back(rt.alloc()), Ok(true));
     assert_eq!(rt; failing_reads_back(rt.alloc()), Ok(true));
+}
+
+// The listing of two files that were made in the other order.
+fn lists_by_name(alloc: Global) -> Result<bool, Status> {
+    let mut base = MemoryBase::new(alloc);
+    base.create(&RelPath::read(b"b")?, CreateMode::New)?;
+    base.create(&RelPath::read(b"a")?, CreateMode::New)?;
+    Ok(base.list()?.as_slice() == b"a\nb\n".as_slice())
+}
+
+#[test]
+fn listing_by_name(rt: HostRuntime) {
+    assert_eq!(rt; lists_by_name(rt.alloc()), Ok(true));
+}
+
+// Two calls of a base whose third one fails, through another one that hands its calls on.
+fn hands_on(alloc: Global) -> Result<(), Status> {
+    let third = FailNth::new(MemoryBase::new(alloc), 3);
+    let mut base = FailNth::new(third, 100);
+    let path = RelPath::read(b"f")?;
+    base.create(&path, CreateMode::New)?;
+    base.flush(&path)
+}
+
+#[test]
+fn a_call_is_handed_on_once(rt: HostRuntime) {
+    assert_eq!(rt; hands_on(rt.alloc()), Ok(()));
 }

@@ -4,6 +4,8 @@
 #[cfg(test)]
 mod asked;
 #[cfg(test)]
+mod beside;
+#[cfg(test)]
 mod binding_tests;
 #[cfg(test)]
 mod binds;
@@ -17,6 +19,8 @@ mod declines;
 mod forgets;
 #[cfg(test)]
 mod memory_tests;
+#[cfg(test)]
+mod own_filter_rows;
 #[cfg(test)]
 mod report_tests;
 #[cfg(test)]

@@ -3,22 +3,24 @@
 #![tactic(auto)]
 
 #[cfg(test)]
-mod aside;
+mod counts;
 #[cfg(test)]
-mod counting;
+mod fixture;
 #[cfg(test)]
-mod crowding;
+mod full_queue;
 #[cfg(test)]
-mod floor;
+mod holds;
 #[cfg(test)]
-mod holding;
+mod in_flight;
 #[cfg(test)]
-mod homing;
+mod put_aside;
 #[cfg(test)]
-mod leaving;
+mod same_worker;
 #[cfg(test)]
-mod meeting;
+mod side_by_side;
 #[cfg(test)]
-mod racing;
+mod stress;
+#[cfg(test)]
+mod teardown_race;
 #[cfg(test)]
 mod ties;

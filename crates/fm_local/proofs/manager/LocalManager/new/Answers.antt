@@ -4,7 +4,7 @@ use Rattle.fm_local.proofs.manager.LocalManager.new.Goals as goal
 
 pub returns-clause-ready : goal.returns-clause-ready
 returns-clause-ready g c =
-    new_ready _ refl c.in_ok-state.ensures.empty c.new-8.ensures.none
+    new_ready _ refl c.in_ok-state.ensures.empty c.new-9.ensures.none
     c.in_ok-resumed.ensures.empty
 
 pub returns-clause-out : goal.returns-clause-out

@@ -1,0 +1,122 @@
+#!/usr/bin/env python3
+"""Has the tests try each wrong body of crates/NAME/wrong, without a proof: one of them must fail.
+
+    .ci/rows.py [CRATE ..]     the wrong bodies of all crates, or of these
+
+It works on a copy. For each wrong body it says which crate's tests or program showed it. It ends with 1 where nothing showed one."""
+
+import pathlib
+import shutil
+import subprocess
+import sys
+import tempfile
+
+TOP = pathlib.Path(__file__).resolve().parent.parent
+
+# Which crates are asked first, of those whose tests stand above the crate: what is nearest shows most.
+FIRST = {
+    "fm_base": ["leaf_rows", "local_rows"],
+    "fm_data": ["local_rows", "fm_rows"],
+    "fm_exec": ["server_rows"],
+    "fm_local": ["local_rows"],
+    "fm_samples": ["local_rows", "worker_rows"],
+    "fm_script": ["script_rows", "examples"],
+    "fm_words": ["server_rows", "front_rows"],
+    "fm_worker": ["worker_rows", "front_rows"],
+    "fm_world": ["fm_rows", "local_rows"],
+}
+
+
+def uses():
+    """What each crate of crates.txt names."""
+    found = {}
+    for line in (TOP / "crates.txt").read_text().splitlines():
+        if ":" in line:
+            name, rest = line.split(":", 1)
+            found[name.split()[0]] = rest.split()
+    return found
+
+
+def above(crate):
+    """The crates that stand on it."""
+    all_uses = uses()
+    found = {crate}
+    while True:
+        more = {name for name, below in all_uses.items() if found & set(below)} - found
+        if not more:
+            return found
+        found |= more
+
+
+def is_tested(crate):
+    return any("#[test]" in path.read_text() for path in (TOP / "crates" / crate / "src").rglob("*.rt"))
+
+
+def order(crate):
+    """The crates to ask, one after the other."""
+    first = [name for name in FIRST.get(crate, [])]
+    rest = sorted(name for name in above(crate) if is_tested(name) and name not in first)
+    return first + rest
+
+
+def apply(edit, folder):
+    """Makes the edit in the copied crate."""
+    path, old = None, None
+    for line in edit.read_text().splitlines():
+        if line.startswith("file: "):
+            path = folder / line[6:]
+        elif line.startswith("old: "):
+            old = line[5:]
+        elif line.startswith("new: ") and path and old is not None:
+            text = path.read_text()
+            if text.count(old) != 1:
+                raise ValueError(f"{edit}: {old!r} stands {text.count(old)} times")
+            path.write_text(text.replace(old, line[5:]))
+
+
+def runs_well(copy, crate):
+    """Whether the crate's tests, or its program, come out as they should, and what is said if they can't be built."""
+    if is_tested(crate):
+        ran = subprocess.run(["rt", "try", "--test"], cwd=copy / "crates" / crate, capture_output=True, text=True)
+        said = ran.stdout + ran.stderr
+        if "run=none" in said:
+            raise ValueError(said)
+        return ran.returncode == 0
+    ran = subprocess.run(["rt", "try"], cwd=copy / "crates" / crate, capture_output=True, text=True)
+    return ran.returncode == 0 and ran.stdout == (TOP / "crates" / crate / "stdout").read_text()
+
+
+def shown_by(edit, crate):
+    """The first crate whose tests fail with that wrong body."""
+    with tempfile.TemporaryDirectory() as folder:
+        copy = pathlib.Path(folder)
+        shutil.copytree(TOP / "crates", copy / "crates", ignore=shutil.ignore_patterns("out"))
+        for name in ("crates.txt", "HANDLES"):
+            shutil.copy(TOP / name, copy / name)
+        apply(edit, copy / "crates" / crate)
+        for name in order(crate):
+            if not runs_well(copy, name):
+                return name
+    return None
+
+
+def main():
+    wanted = sys.argv[1:]
+    missed = 0
+    for edit in sorted((TOP / "crates").glob("*/wrong/*.edit")):
+        crate = edit.parent.parent.name
+        if wanted and crate not in wanted:
+            continue
+        try:
+            name = shown_by(edit, crate)
+        except ValueError as error:
+            print(f"{crate}/{edit.stem}: BAD EDIT: {error}", flush=True)
+            missed += 1
+            continue
+        print(f"{crate}/{edit.stem}: {'shown by ' + name if name else 'NOT SHOWN'}", flush=True)
+        missed += name is None
+    return 1 if missed else 0
+
+
+if __name__ == "__main__":
+    sys.exit(main())

@@ -1,0 +1,57 @@
+//! What a scenario expects of a request.
+
+use crate::told::Told;
+use fm_data::Reply;
+use fm_text::{read_hex, read_number};
+use std::alloc::{AllocError, Global};
+
+/// What the last request must have come to.
+#[derive(Drop)]
+pub(crate) enum Expectation {
+    /// Its reply has the status of that number.
+    Status(u64),
+    /// Its reply has these bytes.
+    Bytes(Vec<u8>),
+    /// A filter holds it.
+    Held,
+    /// That was told while it was carried out.
+    Told(Told),
+}
+
+// Reads the words behind `expect`, but for bytes.
+fn read_plain(words: &[&str]) -> Option<Expectation> {
+    match words {
+        ["held"] => Some(Expectation::Held),
+        ["status", number] | [number] => Some(Expectation::Status(read_number(number.as_bytes())?)),
+        ["told", id] => Some(Expectation::Told(Told::read(id)?)),
+        _ => None,
+    }
+}
+
+impl Expectation {
+    /// Reads the words behind `expect`: `N` or `status N`, `bytes HEX`, `held`, `told KZ0101`. None if they are others. Fails if memory is refused.
+    pub(crate) fn read(alloc: Global, words: &[&str]) -> Result<Option<Expectation>, AllocError> {
+        if let ["bytes", bytes] = words {
+            return match read_hex(alloc, bytes.as_bytes())? {
+                Some(bytes) => Ok(Some(Expectation::Bytes(bytes))),
+                None => Ok(None),
+            };
+        }
+        Ok(read_plain(words))
+    }
+
+    /// Whether a reply is as expected, with what was told before it.
+    pub(crate) fn is_met(&self, reply: &Reply, told: &[Told]) -> bool {
+        match (self, reply) {
+            (Expectation::Told(wanted), _) => told.iter().any(|one| *one == *wanted),
+            (Expectation::Status(number), Reply::Done { status, .. }) => {
+                u64::from(status.number()) == *number
+            }
+            (Expectation::Bytes(wanted), Reply::Done { bytes, .. }) => {
+                bytes.as_slice() == wanted.as_slice()
+            }
+            (Expectation::Held, Reply::Held(_)) => true,
+            _ => false,
+        }
+    }
+}

@@ -1,0 +1,176 @@
+//! A job that can't be put back, since the queue is full: it is set aside, and put later, or dropped at the worker's end.
+
+ghost use Rattle.std.specs.Prelude.{◌≡◌, All, IfSome};
+ghost use Rattle.fm_queue.specs.Passes.{IsPassOf};
+
+use crate::fixture::{
+    Folder, MemoryWorker, Workers, collect, folder, make_workers, mounted, work_off,
+};
+use crate::same_worker::{Tied, Watch, filters, hold_and_resume};
+use crate::ties::Ties;
+use fm_data::{Answer, BaseCall, Params};
+use fm_device::Device;
+use fm_lock::Manager;
+use fm_queue::{Job, JobPass, JobQueue};
+use fm_types::limits::PARTS;
+use fm_types::{OpId, Status, WorkerId};
+use std::alloc::Global;
+use std::marker::Brand;
+use std::sync::Wait;
+use std::sync::ledger::{Blank, Ledger};
+use std::time::Clock;
+
+/// A file system that has the queue filled by a Stop while it reads, as another thread may at that moment.
+#[derive(Drop)]
+struct Filling<'a, R: Wait> {
+    rt: &'a R,
+    queue: &'a JobQueue,
+    pass: JobPass,
+    below: Folder,
+    ghost own: { IsPassOf queue.now pass },
+}
+
+impl<R: Wait> Device for Filling<'_, R> {
+    ghost use Rattle.std.specs.Prelude.{⊤};
+
+    ghost carries = { λ _ _ _ _. ⊤ };
+
+    fn call(&mut self, call: &BaseCall) -> Answer {
+        if matches!(call.params(), Params::Read { .. }) {
+            let _ = self.queue.put(self.rt, &mut self.pass, Job::Stop);
+        }
+        self.below.call(call)
+    }
+}
+
+// Takes a pass of the queue.
+fn take_pass(queue: &JobQueue, passes: &mut Vec<JobPass>) -> Option<JobPass>
+    requires own { All (λ pass. IsPassOf queue.now pass) passes.old.items }
+    ensures own { All (λ pass. IsPassOf queue.now pass) passes.new.items }
+    ensures taken { IfSome result (λ pass. IsPassOf queue.now pass) }
+{
+    passes.pop()
+}
+
+/// That of a client or of a worker.
+type Own<'a, L, R> = MemoryWorker<'a, Ties, L, R, Watch>;
+
+/// What the read is answered, and whose postoperation it was.
+#[derive(Clone, Copy)]
+struct Seen {
+    status: Status,
+    last: u64,
+}
+
+// The second worker carries the read to its base, can't put it back, and takes the Stop before the one that fills the queue. Refused with 30 if the read
+// doesn't wait for the first worker then.
+fn set_aside<L: Ledger, R: Wait, D: Device>(
+    rt: &R,
+    alloc: Global,
+    manager: &Manager<Ties, L>,
+    workers: &mut Tied<'_, L, R, D>,
+) -> Result<OpId, Status> {
+    let reading = hold_and_resume(rt, alloc, manager, workers)?;
+    work_off(&mut workers.client, &mut workers.second);
+    match manager.sync_worker(rt, reading) {
+        Some(WorkerId(0)) => Ok(reading),
+        _ => Err(Status::WrongStep),
+    }
+}
+
+// The first worker takes the Stop that is queued, and then what comes after it.
+fn finish<L: Ledger, R: Wait + Clock>(
+    rt: &R,
+    manager: &Manager<Ties, L>,
+    client: &mut Own<'_, L, R>,
+    first: &mut Own<'_, L, R>,
+    reading: OpId,
+) -> Result<Status, Status> {
+    first.work();
+    work_off(client, first);
+    Ok(collect(rt, manager, reading)?.status)
+}
+
+// What was set aside is put in the queue by the second worker; or it is dropped there, and the client puts a job for it again.
+fn put_later<L: Ledger, R: Wait + Clock, D: Device>(
+    rt: &R,
+    manager: &Manager<Ties, L>,
+    workers: Tied<'_, L, R, D>,
+    reading: OpId,
+    is_dropped: bool,
+) -> Result<Status, Status> {
+    let Workers {
+        mut client,
+        mut first,
+        mut second,
+    } = workers;
+    if is_dropped {
+        let _ = second.into_parts();
+        client.submit(reading);
+    } else {
+        second.put_aside();
+    }
+    finish(rt, manager, &mut client, &mut first, reading)
+}
+
+// Both, one after the other.
+fn set_aside_and_finish<L: Ledger, R: Wait + Clock, D: Device>(
+    rt: &R,
+    alloc: Global,
+    manager: &Manager<Ties, L>,
+    workers: Tied<'_, L, R, D>,
+    gate: &Watch,
+    is_dropped: bool,
+) -> Result<Seen, Status> {
+    let mut workers = workers;
+    let reading = set_aside(rt, alloc, manager, &mut workers)?;
+    let status = put_later(rt, manager, workers, reading, is_dropped)?;
+    Ok(Seen {
+        status,
+        last: gate.last(),
+    })
+}
+
+// With room for two jobs: a job and a Stop.
+fn aside_day<L: Ledger, R: Wait + Clock>(
+    rt: &R,
+    alloc: Global,
+    blank: Blank,
+    is_dropped: bool,
+) -> Result<Seen, Status>
+    requires name { blank.name ≡ L.name }
+    requires parts { blank.parts ≡ L.parts }
+    requires all { blank.parts ≡ 49 }
+{
+    let manager = mounted::<Ties, L, R>(rt, alloc, filters(alloc)?, blank)?;
+    let (queue, mut passes) = JobQueue::new(alloc, 2, 4)?;
+    let gate = Watch::new();
+    let jobs = &queue;
+    let Some(pass) = take_pass(jobs, &mut passes) else {
+        return Err(Status::TooMany);
+    };
+    let below = Filling {
+        rt,
+        queue: jobs,
+        pass,
+        below: folder(alloc)?,
+    };
+    let workers = make_workers(rt, alloc, &manager, jobs, &gate, &mut passes, below)?;
+    set_aside_and_finish(rt, alloc, &manager, workers, &gate, is_dropped)
+}
+
+#[test]
+fn set_aside_and_put_later(rt: HostRuntime) {
+    for is_dropped in [false, true] {
+        let seen = aside_day::<Brand, _>(&rt, rt.alloc(), Blank::new(PARTS), is_dropped);
+        assert!(rt;
+            matches!(
+                seen,
+                Ok(Seen {
+                    status: Status::FileNotFound,
+                    last: 1
+                })
+            )
+        );
+    }
+}

@@ -30,6 +30,37 @@ def detach(tally, tools):
         os.close(file)
 
 
+def detach_cached(tally, tools):
+    """Pages that the kernel keeps have the old filters' bytes until the file is opened anew."""
+    with Ground(tally, tools, "cached") as ground:
+        instance = ground.attach(shift=100)["shift"]
+        put(ground.at("x"), b"hello")
+        file = os.open(ground.at("x"), os.O_RDWR)
+        tally.call("cached, with the filter", b"hello", os.pread, file, 9, 0)
+        tally.note("cached, detach in use", ground.ask("detach", instance)[0], 0)
+        tally.call("cached, the old bytes", b"hello", os.pread, file, 9, 0)
+        tally.call("cached, opened anew", shifted(b"hello"), whole, ground.at("x"))
+        tally.call("cached, the open file then", shifted(b"hello"), os.pread, file, 9, 0)
+        os.close(file)
+
+
+def stale(tally, tools):
+    """Attributes that the kernel keeps are old so long; an open of a name that is gone looks again."""
+    with Ground(tally, tools, "attr=2") as ground:
+        put(ground.at("x"), b"hello")
+        tally.call("kept, the size", 5, lambda: os.stat(ground.at("x")).st_size)
+        os.truncate(ground.below("x"), 2)
+        tally.call("kept, the old size", 5, lambda: os.stat(ground.at("x")).st_size)
+        tally.note("kept, the new size", until(lambda: os.stat(ground.at("x")).st_size == 2), True)
+        os.unlink(ground.below("x"))
+        tally.call("kept, an open of a name that is gone", "ENOENT", os.open, ground.at("x"), os.O_RDWR)
+        put(ground.at("x"), b"again")
+        os.stat(ground.at("x"))
+        os.unlink(ground.below("x"))
+        tally.call("kept, it is made anew", 3, put, ground.at("x"), b"new")
+        tally.call("kept, and has its bytes", b"new", whole, ground.below("x"))
+
+
 def churn(tally, tools):
     """Instances come and go under a program that reads."""
     with Ground(tally, tools) as ground:
@@ -175,5 +206,5 @@ def refused(tally, tools):
 
 def run(tally, tools):
     """All ends."""
-    for part in (detach, churn, dismount, dismount_writers, stop, death, crowd, refused):
+    for part in (detach, detach_cached, stale, churn, dismount, dismount_writers, stop, death, crowd, refused):
         part(tally, tools)

@@ -5,7 +5,7 @@
 #
 #   c/mount/check.sh [PART ..]    all parts, or those of tests/PART.py
 #
-# FLTD is the server (else crates/fltd/out/fltd, or one without proofs), COUNT how many random operations there are (1500).
+# FLTD is the server (else crates/fltd/out/fltd, or one without proofs), COUNT how many random operations there are (900).
 set -eu
 here=$(CDPATH='' cd -- "$(dirname -- "$0")" && pwd)
 top=$here/../..
@@ -33,4 +33,4 @@ if echo 'int main(void) { return 0; }' | cc -fsanitize=address,undefined -x c -o
 else
     echo "mount: left out: the sanitizers, which cc hasn't here"
 fi
-"$here/tests/check.py" --server "$server" --mount "$room/fltmount" --count "${COUNT:-1500}" "$@"
+"$here/tests/check.py" --server "$server" --mount "$room/fltmount" --count "${COUNT:-900}" "$@"

@@ -5,6 +5,7 @@ import importlib
 import shlex
 import sys
 import time
+import traceback
 
 from ground import Tally
 
@@ -16,14 +17,18 @@ def main():
     parser = argparse.ArgumentParser(description=__doc__)
     parser.add_argument("--server", required=True)
     parser.add_argument("--mount", required=True, type=shlex.split)
-    parser.add_argument("--count", type=int, default=1500, help="random operations")
+    parser.add_argument("--count", type=int, default=900, help="random operations")
     parser.add_argument("--seed", type=int)
     parser.add_argument("parts", nargs="*")
     tools = parser.parse_args()
     tally = Tally()
     for part in tools.parts or PARTS:
         begun = time.monotonic()
-        importlib.import_module(part).run(tally, tools)
+        try:
+            importlib.import_module(part).run(tally, tools)
+        except Exception as error:  # a part that breaks off has failed, and the others go on
+            traceback.print_exc()
+            tally.note(f"{part} broke off", error, None)
         print(f"mount: {part}: {time.monotonic() - begun:.0f} s", flush=True)
     print(f"mount: {tally.passed} passed, {tally.failed} failed")
     return 1 if tally.failed else 0

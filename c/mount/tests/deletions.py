@@ -7,6 +7,7 @@ import time
 from ground import Ground
 
 COUNT = 1000
+SECONDS = 15
 LOOKERS = 3
 CREATE = os.O_RDWR | os.O_CREAT | os.O_EXCL
 
@@ -39,7 +40,7 @@ def delete(path, number):
 
 
 def run(tally, tools):
-    """Many deletions beside three who look."""
+    """Many deletions beside three who look: as many as come about in that time."""
     with Ground(tally, tools) as ground:
         path = ground.at("victim")
         over = threading.Event()
@@ -47,7 +48,8 @@ def run(tally, tools):
         lookers = [threading.Thread(target=look, args=(path, over, seen)) for _ in range(LOOKERS)]
         for looker in lookers:
             looker.start()
-        outcomes = [delete(path, number) for number in range(COUNT)]
+        end = time.monotonic() + SECONDS
+        outcomes = [delete(path, number) for number in range(COUNT) if time.monotonic() < end]
         over.set()
         for looker in lookers:
             looker.join()

@@ -222,7 +222,7 @@ def run(tally, tools):
     seed = tools.seed or random.randrange(1 << 32)
     filters = {"meter": 200, "carry": 150, "guard": 300}
     for options, prefixes, hole in (((), "m", b"\xff"), ((), "abcd", b"\xff"), (("cached",), "wxyz", b"\0")):
-        with Ground(tally, tools, *options, patience=60 + tools.count / 10) as ground:
+        with Ground(tally, tools, *options, patience=300 + tools.count / 5) as ground:
             ground.attach(**(filters if hole == b"\0" else filters | {"shift": 100}))
             found = beside(ground, tools.count // len(prefixes), seed, prefixes, hole)
             tally.note(f"random operations {options}, seed {seed}", found, "")

@@ -9,6 +9,7 @@ from ground import Ground, shifted, whole
 
 MODES = "delete truncate persist memory".split()
 ROWS = 500
+PATIENCE = 200
 
 
 def fill(path, mode):
@@ -48,7 +49,10 @@ def sqlite(tally, ground, modes):
 
 def program(*words):
     """A program's exit status, and what it prints."""
-    done = subprocess.run(words, stdout=subprocess.PIPE, stderr=subprocess.STDOUT, text=True, timeout=100)
+    try:
+        done = subprocess.run(words, stdout=subprocess.PIPE, stderr=subprocess.STDOUT, text=True, timeout=PATIENCE)
+    except subprocess.TimeoutExpired:
+        return "it takes too long", ""
     return done.returncode, done.stdout
 
 
@@ -60,8 +64,8 @@ def fio(tally, ground, room):
     common = ["fio", f"--directory={ground.mount}", "--ioengine=psync", "--fallocate=none", "--verify=crc32c", "--verify_fatal=1", "--minimal", "--group_reporting"]
     os.chdir(room)
     for name, words in {
-        "mixed": ["--rw=randrw", "--bs=4k-128k", "--size=2m", "--numjobs=4"],
-        "written": ["--rw=randwrite", "--bs=4k", "--size=1m", "--numjobs=4", "--verify_backlog=64", "--fsync=64"],
+        "mixed": ["--rw=randrw", "--bs=4k-128k", "--size=512k", "--numjobs=3"],
+        "written": ["--rw=randwrite", "--bs=4k", "--size=256k", "--numjobs=3", "--verify_backlog=16", "--fsync=16"],
     }.items():
         tally.note(f"fio {name}", program(*common, f"--name={name}", *words)[0], 0)
     os.chdir("/")
@@ -73,9 +77,9 @@ def copies(tally, ground, room):
     """cp, cmp, tar, sed and sort."""
     source = os.path.join(room, "source")
     os.mkdir(source)
-    for number in range(30):
+    for number in range(20):
         with open(os.path.join(source, f"file{number}"), "wb") as file:
-            file.write(os.urandom(number * 3_000))
+            file.write(os.urandom(number * 2_000))
     script = f"""
         set -e
         cp {source}/* {ground.mount}/
@@ -100,12 +104,12 @@ def copies(tally, ground, room):
 def run(tally, tools):
     """These, above three filters; with pages that the kernel keeps also what maps files."""
     for options, modes in (((), MODES), (("cached",), MODES + ["wal"])):
-        with Ground(tally, tools, *options, patience=300) as ground:
+        with Ground(tally, tools, *options, patience=600) as ground:
             ground.attach(shift=100, meter=200, carry=150)
             sqlite(tally, ground, modes)
             for name in os.listdir(ground.mount):
                 os.unlink(ground.at(name))
             fio(tally, ground, ground.room)
-    with Ground(tally, tools, "copyrename", "memtimes", patience=300) as ground:
+    with Ground(tally, tools, "copyrename", "memtimes", patience=600) as ground:
         ground.attach(shift=100, meter=200, carry=150)
         copies(tally, ground, ground.room)

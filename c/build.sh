@@ -1,18 +1,26 @@
 #!/usr/bin/env bash
-# c/build.sh [--explore] PROGRAM DRIVER.. : builds a program that runs requests through those drivers, or with --explore one that runs a scenario under every schedule. A driver is a file of C or C++, or a folder with such files; each is loaded by
+# c/build.sh [--explore | --sanitize=thread] PROGRAM DRIVER.. : builds a program that runs requests through those drivers, or with --explore one that runs a scenario under every
+# schedule. With --sanitize=thread the drivers' code is watched by the compiler's thread sanitizer. A driver is a file of C or C++, or a folder with such files; each is loaded by
 # the name of its file or folder. Behind --driver, up to the next one, the files are one driver, by the name of the first.
 #
 # CC is the compiler (cc), CXX that of C++ (c++), CFLAGS are more words for the drivers and the host, KZAPI what the drivers see (KZAPI="-DNTDDI_VERSION=0x06000000 -DDBG=0"),
 # KAZDRIN_LIB the archive of crates/kazdrin_c (else that of c/archive.sh, or one without proofs), KZ_MAIN the main program, KZ_HOST the host's objects where they are built already.
 set -eu
-here=$(cd "$(dirname "$0")" && pwd)
+here=$(cd "$(dirname "$(readlink -f "$0")")" && pwd)
 explores=""
-if [ "${1:-}" = --explore ]; then
+races=""
+case "${1:-}" in
+--explore)
     explores=1
     shift
-fi
+    ;;
+--sanitize=thread)
+    races=1
+    shift
+    ;;
+esac
 if [ $# -lt 2 ]; then
-    echo "usage: c/build.sh [--explore] PROGRAM DRIVER.c..  or  PROGRAM FOLDER..  or  PROGRAM --driver FILE.c FILE.c.." >&2
+    echo "usage: c/build.sh [--explore | --sanitize=thread] PROGRAM DRIVER.c..  or  PROGRAM FOLDER..  or  PROGRAM --driver FILE.c FILE.c.." >&2
     exit 2
 fi
 program=$1
@@ -28,7 +36,9 @@ if [ ! -f "$library" ]; then
     echo "c/build.sh: there is no $library; make it by c/archive.sh, or name one as KAZDRIN_LIB" >&2
     exit 1
 fi
-kit=${KIT:-$(dirname "$(rt doc | head -1)")}
+# An installed tree has what it needs of the kit.
+support=$here/../lib
+[ -f "$support/libos_c.a" ] || support=${KIT:-$(dirname "$(rt doc | head -1)")}/c
 common="-fshort-wchar -fno-strict-aliasing -O1 -g -I$here/include ${CFLAGS:-}"
 own="-std=gnu11 -Wall -Wextra -Werror $common"
 # A driver's warnings are its author's; pointers are taken as the kit's compiler takes them. What the kit's projects set is set.
@@ -38,6 +48,11 @@ driver="-fwrapv -fms-extensions $common \
 if [ -n "$explores" ]; then
     driver="$driver -fsanitize=thread -fno-pie $($cc --version | grep -q clang && echo "-mllvm -tsan-distinguish-volatile=1" || echo "--param=tsan-distinguish-volatile=1")"
     own="$own -fno-pie -no-pie"
+fi
+link=""
+if [ -n "$races" ]; then
+    driver="$driver -fsanitize=thread $($cc --version | grep -q clang && echo "-mllvm -tsan-distinguish-volatile=1" || echo "--param=tsan-distinguish-volatile=1")"
+    link="-fsanitize=thread"
 fi
 room=$(mktemp -d)
 trap 'rm -rf "$room"' EXIT
@@ -124,4 +139,5 @@ if [ -n "$explores" ]; then
     main=$(echo "$here"/explore/*.c)
     [ -z "${KZ_EXPLORER:-}" ] || { main=""; sources=$KZ_EXPLORER; }
 fi
-$cc $own -o "$program" "$room/drivers.c" "$room"/driver_*.o $sources $main "$library" "$kit/c/libos_c.a" "$kit/c/liblibc_c.a"
+[ -z "$races" ] || { for source in "$room/drivers.c" $sources $main; do case "$source" in *.c) $cc $own -c -o "$room/own_$(basename "$source" .c).o" "$source" ;; *) cp "$source" "$room/own_$(basename "$source")" ;; esac; done; sources=$(echo "$room"/own_*.o); main=""; }
+$cc $own $link -o "$program" $([ -n "$races" ] || echo "$room/drivers.c") "$room"/driver_*.o $sources $main "$library" "$support/libos_c.a" "$support/liblibc_c.a"

@@ -90,6 +90,54 @@ tell $? "strict"
 [ $? = 5 ] && ! grep -q KZ0130 "$room/allow.out" && tail -n 1 "$room/allow.out" | grep -q "told 7, limits 3"
 tell $? "allow"
 
+# Expectations: their exit statuses, and reports for other programs.
+"$room/expects" --allow KZ0141 --json --junit "$room/expects.xml" c/requests/expects.txt > "$room/expects.json"
+tell $? "expectations that are met"
+printf 'load ctx\nexpect status 7\nexpect callbacks entry:ctx\n' > "$room/unmet.txt"
+"$room/expects" --quiet --junit "$room/unmet.xml" "$room/unmet.txt" > "$room/unmet.out"
+[ $? = 1 ] && [ ! -s "$room/unmet.out" ]
+tell $? "an expectation that isn't met"
+printf 'load ctx\nlaod ctx\nunload 0\n' > "$room/wrong.txt"
+"$room/expects" "$room/wrong.txt" > "$room/wrong.out" 2> "$room/wrong.err"
+[ $? = 2 ] && grep -q "wrong.txt:2: not understood" "$room/wrong.err"
+tell $? "a line that isn't understood"
+if command -v python3 > /dev/null; then
+    python3 - "$room" <<'READ'
+import json, sys, xml.etree.ElementTree
+room = sys.argv[1]
+rows = [json.loads(line) for line in open(room + "/expects.json")]
+assert rows[-1]["event"] == "End" and rows[-1]["status"] == 0 and rows[-1]["unmet"] == 0, rows[-1]
+assert any(row["event"] == "Told" and row["id"] == "KZ0101" for row in rows)
+met = xml.etree.ElementTree.parse(room + "/expects.xml").getroot()
+assert met.tag == "testsuite" and met.get("failures") == "0" and len(met) == int(met.get("tests"))
+unmet = xml.etree.ElementTree.parse(room + "/unmet.xml").getroot()
+assert unmet.get("failures") == "1" and [case.get("name") for case in unmet if len(case)] == ["line 2: expect status 7"]
+READ
+    tell $? "JSON and JUnit, as they are read,"
+fi
+
+# An installed tree, in a fresh folder without the kit: a driver is built by CMake, and tested by ctest; and a program of an author's own by pkg-config.
+if command -v cmake > /dev/null; then
+    mkdir "$room/fresh"
+    cp c/tests/cmake/CMakeLists.txt c/samples/ctx.c c/requests/ctx.txt "$room/fresh/"
+    sed "s/DRIVER/ctx/" c/scenarios/four-clients.txt > "$room/fresh/four-clients.txt"
+    (
+        c/install.sh "$room/prefix" && cd "$room/fresh" &&
+            env -u KIT -u KAZDRIN_LIB -u KZ_HOST -u KZ_MAIN cmake -S . -B build -DCMAKE_PREFIX_PATH="$room/prefix" && env -u KIT -u KAZDRIN_LIB -u KZ_HOST -u KZ_MAIN cmake --build build &&
+            cd build && ctest --output-on-failure
+    ) > "$room/cmake.log" 2>&1 || { cat "$room/cmake.log"; false; }
+    tell $? "CMake"
+fi
+
+# Random requests find a call that may be refused; what is left of the session ends as it did.
+KZ_MAIN=c/fuzz/fuzz.c c/build.sh "$room/fuzzer" c/misuse/schedules/refusal.c
+"$room/fuzzer" 50 1 "$room/failure.txt" > "$room/fuzzer.out"
+[ $? = 139 ] && [ "$(wc -l < "$room/failure.txt")" -le 6 ] && c/build.sh "$room/refused" c/misuse/schedules/refusal.c
+tell $? "random requests"
+"$room/refused" "$room/failure.txt" > "$room/refused.out" 2>&1
+[ $? = 139 ]
+tell $? "random requests, played again,"
+
 # Names of files that are none of C, and a driver of files that are named one by one.
 mkdir "$room/odd"
 cp c/samples/ctx.c "$room/odd/2my.odd-name.c"
@@ -108,11 +156,13 @@ if echo 'int main(void) { return 0; }' | cc -fsanitize=address,undefined -x c -o
     try fuzz.asan "$room/fuzz.asan" 20000 3
 fi
 
-# The explorer's own tests.
-c/explore.sh > "$room/explore.log" 2>&1
-sed '$d' "$room/explore.log"
-counts=$(tail -n 1 "$room/explore.log")
-passed=$((passed + $(echo "$counts" | sed -n 's/^explorer: \([0-9]*\) passed.*/\1/p')))
-failed=$((failed + $(echo "$counts" | sed -n 's/.* \([0-9]*\) failed$/\1/p')))
+# The tests of the explorer and of threads: their last lines have counts of their own.
+for part in explore threads; do
+    c/$part.sh > "$room/$part.log" 2>&1
+    sed '$d' "$room/$part.log"
+    counts=$(tail -n 1 "$room/$part.log")
+    passed=$((passed + $(echo "$counts" | sed -n 's/^[a-z]*: \([0-9]*\) passed.*/\1/p')))
+    failed=$((failed + $(echo "$counts" | sed -n 's/^[a-z]*: [0-9]* passed, \([0-9]*\) failed.*/\1/p')))
+done
 echo "C programs: $passed passed, $failed failed"
 [ "$failed" = 0 ]

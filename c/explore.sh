@@ -19,6 +19,7 @@ tell() {
         echo "explorer: $2 failed"
     fi
 }
+unset KZ_HOST KZ_MAIN
 words="-std=gnu11 -fshort-wchar -fno-strict-aliasing -O1 -g -fno-pie -Wall -Wextra -Werror -Ic/include"
 for source in c/host/*.c c/explore/*.c; do
     [ "$source" != c/host/main.c ] || continue

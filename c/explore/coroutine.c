@@ -39,6 +39,11 @@ static bool is_behind_like(const Runner *one)
     return false;
 }
 
+static bool is_finally(const Runner *one)
+{
+    return one->script && one->script->is_finally;
+}
+
 typedef struct {
     int clients[RUNNERS];
     unsigned count;
@@ -54,20 +59,20 @@ static void add(Options *options, Runner *one)
 static Options options_of(Runner *me)
 {
     Options options = {.count = 0};
-    if (me && !me->is_finally && can_go_on(me)) {
+    if (me && !is_finally(me) && can_go_on(me)) {
         options.may_stay = true;
         add(&options, me);
     }
     for (int at = 1; at <= ex->runners_count; at++) {
         Runner *one = &ex_runners[at];
-        if (one != me && !one->is_finally && can_go_on(one) && !is_behind_like(one))
+        if (one != me && !is_finally(one) && can_go_on(one) && !is_behind_like(one))
             add(&options, one);
     }
     for (int at = 1; at <= ex->runners_count && !options.count; at++)
-        if (ex_runners[at].is_finally && can_go_on(&ex_runners[at]))
+        if (is_finally(&ex_runners[at]) && can_go_on(&ex_runners[at]))
             add(&options, &ex_runners[at]);
     for (int at = 1; at <= ex->runners_count && !options.count; at++)
-        if (ex_runners[at].state == WAITING && ex_runners[at].is_timed) {
+        if (ex_runners[at].state == WAITING && ex_runners[at].client.timeout) {
             ex_runners[at].timed_out = true;
             add(&options, &ex_runners[at]);
         }
@@ -119,10 +124,13 @@ static void point(const char *name, const void *from)
     if (is_set_up() || !ex->is_running || !name)
         return;
     Runner *me = mine();
+    if (me->is_fresh) {
+        me->is_fresh = false;
+        return;
+    }
     me->at = name;
     me->from = from;
     me->state = READY;
-    me->is_timed = false;
     go_on(me);
     me->state = RUNNING;
 }
@@ -133,11 +141,10 @@ static bool wait(KzCan *can, void *what, const char *why)
     me->can = can;
     me->what = what;
     me->timed_out = false;
-    snprintf(me->why, sizeof me->why, "%s", why);
+    snprintf(me->client.waits, sizeof me->client.waits, "%s", why);
     me->state = WAITING;
     go_on(me);
     me->state = RUNNING;
-    me->is_timed = false;
     return !me->timed_out;
 }
 
@@ -146,7 +153,6 @@ static unsigned choose_answer(unsigned count, const char *name)
     if (is_set_up() || !ex->is_running)
         return 0;
     bool is_time = strcmp(name, "the time is over") == 0;
-    mine()->is_timed = is_time;
     if (is_time ? ex->timeouts > 0 : ex->fails_used >= ex->fails && !ex->replay)
         return 0;
     unsigned taken = ex_decide(count, false, NULL);
@@ -169,17 +175,10 @@ static void nothing(void)
 const KzScheduler ex_scheduler = {point, wait, ex_touch, choose_answer, nothing, nothing, ex_say, true};
 
 /* ---- A client's life. */
-/* A request with $ for the handle of the last create. */
 static void request(Runner *me, const char *line)
 {
-    char words[TEXT];
-    const char *dollar = strchr(line, '$');
-    if (dollar)
-        snprintf(words, sizeof words, "%.*s%llu%s", (int)(dollar - line), line, (unsigned long long)me->handle, dollar + 1);
     me->hides_number = strncmp(line, "create ", 7) == 0;
-    KzReply reply = kz_request(dollar ? words : line);
-    if (me->hides_number && !reply.status && !reply.held)
-        me->handle = reply.information;
+    kz_scripted_request(line, &me->handle);
 }
 
 static bool has_work(void *unused)
@@ -203,11 +202,12 @@ static void live(void)
 {
     Runner *me = mine();
     me->has_begun = true;
+    me->is_fresh = !me->is_worker;
     me->state = RUNNING;
     if (me->is_worker)
         work();
-    for (size_t at = 0; at < me->count; at++)
-        request(me, me->lines[at]);
+    for (size_t at = 0; at < me->script->count; at++)
+        request(me, me->script->requests[at]);
     me->state = ENDED;
     go_on(me);
 }
@@ -234,7 +234,6 @@ static void make(Runner *one)
     makecontext(&one->context, live, 0);
     one->state = one->is_worker ? WAITING : READY;
     one->can = has_work;
-    snprintf(one->why, sizeof one->why, "a work item");
     one->at = "the start";
 }
 

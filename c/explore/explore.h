@@ -3,13 +3,13 @@
 #define KZ_EXPLORE_H
 
 #include "../host/host.h"
+#include "../host/scenario.h"
 
 #include <setjmp.h>
 #include <ucontext.h>
 
 enum {
-    RUNNERS = 14,       /* clients of a scenario, with the one of work items */
-    LINES = 64,         /* requests of one client */
+    RUNNERS = KZ_CLIENTS + 1, /* with the one of work items */
     STEPS = 20000,      /* of a run: one that has more is endless */
     PATH = 20000,       /* choices of a run */
     KINDS = 64,         /* kinds of ends and of what is told */
@@ -24,16 +24,15 @@ typedef struct {
     KzClient client;
     ucontext_t context;
     State state;
-    bool has_begun, is_worker, is_finally, is_timed, timed_out;
+    bool has_begun, is_worker, timed_out;
+    bool is_fresh;                /* it has begun, and done nothing yet */
     int like;                     /* the first client with the same lines */
     KzCan *can;                   /* what it waits for */
     void *what;
-    char why[TEXT / 4];
     const char *at;               /* where it stands */
     const void *from;
-    char name[32];
-    char *lines[LINES];
-    size_t count;
+    const char *name;
+    const KzScript *script;
     uint64_t handle;              /* that of its last create, for $ */
     bool hides_number;            /* its request is a create, whose handle is another in each order */
 } Runner;
@@ -64,8 +63,7 @@ typedef struct {
 /* All that a run's beginning doesn't put back. */
 typedef struct {
     /* The scenario, and how it is searched. */
-    char **setup;
-    size_t setup_count;
+    KzScenario scenario;
     int runners_count;
     unsigned bound, fails, shard, shards;
     bool wants_ends, is_traced, is_quiet;
@@ -107,7 +105,7 @@ extern Explorer *ex;
 extern Runner ex_runners[RUNNERS + 1]; /* by the client's number: from 1 on */
 enum { FAIL = 255 };                   /* in a schedule: the call was refused */
 
-/* scenario.c: 0, or the number of the line that isn't understood, which was said. */
+/* scenario.c: 0, or what is wrong was said. */
 int ex_read(const char *path);
 
 /* image.c: memory at the set-up's end, put back before each run. */

@@ -47,7 +47,7 @@ void ex_say(const char *text)
     if (strncmp(text, "TOLD KZ", 7) == 0)
         ex_found(TOLD, text);
     else if (strncmp(text, "LIMIT KZ", 8) == 0) {
-        ex->is_limited |= strncmp(text, "LIMIT KZ0211", 12) == 0;
+        ex->is_limited |= strncmp(text, "LIMIT KZ0211", 12) == 0 || strncmp(text, "LIMIT KZ0246", 12) == 0;
         ex_found(LIMITED, text);
     }
 }

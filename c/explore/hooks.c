@@ -84,16 +84,16 @@ ACCESSES(4)
 ACCESSES(8)
 ACCESSES(16)
 
-void __tsan_read_range(void *at, unsigned long size);
-void __tsan_read_range(void *at, unsigned long size)
+void __tsan_read_range(void *at, long size);
+void __tsan_read_range(void *at, long size)
 {
-    ex_access(at, size, false, false, FROM);
+    ex_access(at, (size_t)size, false, false, FROM);
 }
 
-void __tsan_write_range(void *at, unsigned long size);
-void __tsan_write_range(void *at, unsigned long size)
+void __tsan_write_range(void *at, long size);
+void __tsan_write_range(void *at, long size)
 {
-    ex_access(at, size, true, false, FROM);
+    ex_access(at, (size_t)size, true, false, FROM);
 }
 
 /* ---- Interlocked calls. */

@@ -30,9 +30,9 @@ static void tell_stuck(void)
     size_t used = strlen(text);
     for (int at = 1; at <= ex->runners_count; at++) {
         const Runner *one = &ex_runners[at];
-        ex->is_limited |= one->state == WAITING && strncmp(one->why, KZ_NO_TEARDOWN_BESIDE, strlen(KZ_NO_TEARDOWN_BESIDE)) == 0;
+        ex->is_limited |= one->state == WAITING && strncmp(one->client.waits, KZ_NO_TEARDOWN_BESIDE, strlen(KZ_NO_TEARDOWN_BESIDE)) == 0;
         if (!one->is_worker && one->state != ENDED && used + 1 < sizeof text)
-            used += (size_t)snprintf(text + used, sizeof text - used, "\n  %s waits for %s", one->name, one->why);
+            used += (size_t)snprintf(text + used, sizeof text - used, "\n  %s waits for %s", one->name, one->client.waits);
     }
     ex_found(ex->is_limited ? LIMITED : STUCK, text);
 }
@@ -213,9 +213,9 @@ static bool set_up(void)
     kz_scheduler = &ex_scheduler;
     if (kz_open(kz_drivers, kz_drivers_count) != 0)
         return false;
-    for (size_t at = 0; at < ex->setup_count; at++)
-        if (kz_request(ex->setup[at]).status == 32) {
-            fprintf(stderr, "the set-up has a line that is no request: %s\n", ex->setup[at]);
+    for (size_t at = 0; at < ex->scenario.setup_count; at++)
+        if (kz_request(ex->scenario.setup[at]).status == 32) {
+            fprintf(stderr, "the set-up has a line that is no request: %s\n", ex->scenario.setup[at]);
             return false;
         }
     return true;

@@ -1,5 +1,5 @@
 /* Clients, and the calls by which they come inside the host and leave it. */
-#include "host.h"
+#include "expect.h"
 
 #include <stdarg.h>
 
@@ -17,6 +17,9 @@ void kz_new_client(KzClient *client, const char *name, unsigned number)
     client->raised = PASSIVE_LEVEL;
     client->inside = 0;
     client->number = number;
+    client->timeout = 0;
+    client->names_count = 0;
+    client->waits[0] = 0;
 }
 
 unsigned kz_go_inside(void)
@@ -102,10 +105,10 @@ static void touch_nothing(const void *object, size_t size, KzTouch how)
     (void)object, (void)size, (void)how;
 }
 
-static unsigned choose_first(unsigned count, const char *name)
+static unsigned choose_as_asked(unsigned count, const char *name)
 {
-    (void)count, (void)name;
-    return 0;
+    (void)count;
+    return kz_fails_now(name);
 }
 
 static void nothing(void)
@@ -117,4 +120,4 @@ static void print(const char *text)
     fputs(text, stdout);
 }
 
-const KzScheduler kz_in_order = {pass_point, wait_in_order, touch_nothing, choose_first, nothing, nothing, print, false};
+const KzScheduler kz_in_order = {pass_point, wait_in_order, touch_nothing, choose_as_asked, nothing, nothing, print, false};

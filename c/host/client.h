@@ -14,6 +14,13 @@ struct KzClient {
     int region;      /* stands for its critical region */
     unsigned inside; /* how many calls of the host it is in; 0 in a driver's code */
     unsigned number;
+    struct {
+        char name[24];
+        uint64_t handle;
+    } names[32]; /* that its creates gave, by `as` */
+    size_t names_count;
+    uint64_t timeout; /* of its wait, in milliseconds; 0 if it has none */
+    char waits[160];  /* what it waits for */
     char line[KZ_LINE];
     uint8_t bytes[KZ_BYTES];
     uint8_t room[KZ_BYTES + 64];
@@ -49,6 +56,9 @@ typedef struct {
     void (*put)(const char *text);
     bool has_others; /* clients run beside one another, and work items beside them */
 } KzScheduler;
+
+/* A request of a scenario: $ in it is the handle of the client's last create. */
+KzReply kz_scripted_request(const char *line, uint64_t *handle);
 
 extern const KzScheduler kz_in_order;
 extern const KzScheduler *kz_scheduler;

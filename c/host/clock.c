@@ -369,10 +369,12 @@ static bool is_signalled(void *object)
 }
 
 /* Beside other clients it waits for one of them, or for as long as it is to. */
-static NTSTATUS wait_for(PDISPATCHER_HEADER object, bool is_timed)
+static NTSTATUS wait_for(PDISPATCHER_HEADER object, LONGLONG units)
 {
-    bool is_over = is_timed && kz_scheduler->choose(2, "the time is over");
-    if (is_over || !kz_wait(is_signalled, object, "KeWaitForSingleObject"))
+    kz_me->timeout = units > 0 ? (uint64_t)(units / MILLISECOND) + 1 : 0;
+    bool is_over = (kz_me->timeout && kz_scheduler->choose(2, "the time is over")) || !kz_wait(is_signalled, object, "KeWaitForSingleObject");
+    kz_me->timeout = 0;
+    if (is_over)
         return STATUS_TIMEOUT;
     return is_there(object) ? STATUS_SUCCESS : STATUS_TIMEOUT;
 }
@@ -389,7 +391,7 @@ NTSTATUS KeWaitForSingleObject(PVOID Object, KWAIT_REASON WaitReason, KPROCESSOR
     if (KeGetCurrentIrql() > APC_LEVEL)
         kz_tell(KZ_IRQL, __func__, "a wait at IRQL %u", KeGetCurrentIrql());
     if (kz_has_others())
-        return wait_for(Object, Timeout != NULL);
+        return wait_for(Object, Timeout ? units_of(Timeout) : 0);
     while (kz_run_dpc() || kz_work())
         if (is_there(Object))
             return STATUS_SUCCESS;

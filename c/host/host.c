@@ -1,5 +1,5 @@
 /* The host's one state, and its calls of the manager. */
-#include "host.h"
+#include "expect.h"
 
 #include <stdarg.h>
 #include <stdlib.h>
@@ -108,6 +108,7 @@ int kz_open(const KzDriver *drivers, size_t count)
 {
     kz = (KzHost){.drivers = drivers, .drivers_count = count};
     kz.resumed_end = &kz.resumed;
+    kz_forget_notes();
     kz_new_client(kz_me, "first", 0);
     kz_watch_crashes();
     if (kazdrin_open(&kz.manager) != KZ_OK)
@@ -162,5 +163,5 @@ int kz_close(void)
     kz_end();
     free_all();
     kazdrin_close(&kz.manager);
-    return kz.counts.told ? 5 : 0;
+    return kz.counts.told ? 5 : kz_unmet() ? 1 : 0;
 }

@@ -73,6 +73,7 @@ struct _FLT_FILTER {
     const KzDriver *driver;
     FLT_REGISTRATION registration;
     bool is_registered, is_started, is_mandatory;
+    bool leaves_out; /* a block that would have released what it holds: what is left isn't its mistake */
     uint32_t end; /* how far its end came: 0, or the status that stopped it */
     char altitude[68]; /* where it is attached by itself; empty if it isn't */
     DRIVER_OBJECT object;

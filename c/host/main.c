@@ -1,33 +1,71 @@
-/* The program of c/build.sh: it runs the requests of a file, or of its standard input, through the drivers that are linked with it. */
+/* The program of c/build.sh: it runs the requests of a file, or of its standard input, through the drivers that are linked with it; or a load with threads. */
 #include "kzflt.h"
+
+#include <stdlib.h>
+#include <string.h>
 
 extern const KzDriver kz_drivers[];
 extern const size_t kz_drivers_count;
 
+typedef struct {
+    unsigned threads;
+    double seconds;
+    unsigned long long seed;
+    const char *load, *requests;
+} Asked;
+
 static int usage(const char *name)
 {
-    fprintf(stderr, "usage: %s [--allow KZ0000].. [--strict] [REQUESTS]\n", name);
+    fprintf(stderr, "usage: %s [--allow KZ0000].. [--strict] [--quiet] [--json] [--junit FILE] [REQUESTS | --load SCENARIO [--threads N] [--seconds S] [--seed N]]\n", name);
     return 2;
+}
+
+/* A word that has another behind it. */
+static bool read_pair(const char *word, const char *value, Asked *asked)
+{
+    char *end = "";
+    if (strcmp(word, "--threads") == 0)
+        asked->threads = (unsigned)strtoul(value, &end, 10);
+    else if (strcmp(word, "--seconds") == 0)
+        asked->seconds = strtod(value, &end);
+    else if (strcmp(word, "--seed") == 0)
+        asked->seed = strtoull(value, &end, 10);
+    else if (strcmp(word, "--load") == 0)
+        asked->load = value;
+    else if (strcmp(word, "--junit") == 0)
+        kz_use_junit(value);
+    else
+        return strcmp(word, "--allow") == 0 && kz_allow(value);
+    return !*end;
+}
+
+static bool read_words(int count, char **words, Asked *asked)
+{
+    for (int at = 1; at < count; at++) {
+        if (strcmp(words[at], "--strict") == 0)
+            kz_be_strict(true);
+        else if (strcmp(words[at], "--quiet") == 0)
+            kz_is_quiet = 1;
+        else if (strcmp(words[at], "--json") == 0)
+            kz_use_json(true);
+        else if (strncmp(words[at], "--", 2) != 0 && !asked->requests)
+            asked->requests = words[at];
+        else if (at + 1 == count || !read_pair(words[at], words[at + 1], asked))
+            return false;
+        else
+            at++;
+    }
+    return !asked->load || !asked->requests;
 }
 
 int main(int count, char **words)
 {
-    int at = 1;
-    for (; at < count && words[at][0] == '-' && words[at][1] == '-'; at++) {
-        if (strcmp(words[at], "--strict") == 0)
-            kz_be_strict(1);
-        else if (strcmp(words[at], "--allow") != 0 || ++at == count || !kz_allow(words[at]))
-            return usage(words[0]);
-    }
-    if (count - at > 1)
+    Asked asked = {.threads = 4, .seconds = 10, .seed = 1};
+    if (!read_words(count, words, &asked))
         return usage(words[0]);
-    FILE *requests = at < count ? fopen(words[at], "r") : stdin;
-    if (!requests) {
-        fprintf(stderr, "%s: can't be read\n", words[at]);
-        return 3;
-    }
-    int status = kz_run_file(kz_drivers, kz_drivers_count, requests);
-    if (requests != stdin)
-        fclose(requests);
-    return status;
+    if (asked.load)
+        return kz_run_load(kz_drivers, kz_drivers_count, asked.load, asked.threads, asked.seconds, asked.seed);
+    if (asked.requests)
+        return kz_run_path(kz_drivers, kz_drivers_count, asked.requests);
+    return kz_run_file(kz_drivers, kz_drivers_count, stdin);
 }

@@ -110,6 +110,7 @@ typedef enum {
     KZ_NOTIFY = 243,
     KZ_ATTACH = 244,
     KZ_DEVICE = 245,
+    KZ_LEFT_OUT = 246,
     KZ_MESSAGES = 300
 } KzMessage;
 

@@ -1,5 +1,5 @@
 /* Operations: each from its beginning to its reply, with all callbacks in between. */
-#include "host.h"
+#include "expect.h"
 
 #include <stdlib.h>
 
@@ -130,6 +130,7 @@ static KzOp *new_op(uint64_t id, KazdrinEvent asked, KzFile *file, PFLT_VOLUME v
 static void free_op(KzOp *op)
 {
     op->is_over = true;
+    kz_scheduler->touch(&op->is_over, 0, op->users ? KZ_GIVES : KZ_TAKES);
     if (op->users)
         return;
     for (KzOp **at = &kz.ops; *at; at = &(*at)->next)
@@ -418,6 +419,7 @@ static Turn carry_to_end(KzOp *op)
 void kz_print_reply(KzReply reply, NTSTATUS other, const uint8_t *bytes, size_t length)
 {
     kz_pass_reply(reply, bytes, length);
+    kz_note_reply(reply, bytes, length);
     if (reply.held) {
         kz_say("held %llu\n", (unsigned long long)reply.operation);
         return;

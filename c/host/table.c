@@ -36,7 +36,7 @@ static Element *find(PRTL_GENERIC_TABLE table, PVOID buffer, PLIST_ENTRY *place)
 
 PVOID RtlInsertElementGenericTable(PRTL_GENERIC_TABLE Table, PVOID Buffer, CLONG BufferSize, PBOOLEAN NewElement)
 {
-    PLIST_ENTRY place;
+    PLIST_ENTRY place = &Table->InsertOrderList;
     Element *found = find(Table, Buffer, &place);
     if (NewElement)
         *NewElement = !found;
@@ -56,7 +56,7 @@ PVOID RtlInsertElementGenericTable(PRTL_GENERIC_TABLE Table, PVOID Buffer, CLONG
 
 BOOLEAN RtlDeleteElementGenericTable(PRTL_GENERIC_TABLE Table, PVOID Buffer)
 {
-    PLIST_ENTRY place;
+    PLIST_ENTRY place = &Table->InsertOrderList;
     Element *found = find(Table, Buffer, &place);
     if (!found)
         return FALSE;
@@ -70,7 +70,7 @@ BOOLEAN RtlDeleteElementGenericTable(PRTL_GENERIC_TABLE Table, PVOID Buffer)
 
 PVOID RtlLookupElementGenericTable(PRTL_GENERIC_TABLE Table, PVOID Buffer)
 {
-    PLIST_ENTRY place;
+    PLIST_ENTRY place = &Table->InsertOrderList;
     Element *found = find(Table, Buffer, &place);
     return found ? found->body : NULL;
 }

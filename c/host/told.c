@@ -1,6 +1,6 @@
 /* What is told: a line with a number that stays, the kit's call, filter, instance, callback and operation. TOLD is a mistake on Windows too; LIMIT is where Kazdrin
  * differs, and is told once for each filter and call. */
-#include "host.h"
+#include "expect.h"
 
 #include <stdarg.h>
 #include <stdlib.h>
@@ -39,6 +39,7 @@ void kz_be_strict(bool is)
 KzPlace kz_enter(KzCallback callback, PFLT_FILTER filter, PFLT_INSTANCE instance, KzOp *op, PFLT_CALLBACK_DATA data)
 {
     KzPlace before = kz_me->place;
+    kz_note_callback(callback, filter);
     kz_me->place = (KzPlace){callback, filter, instance, op, op ? op->id : 0, data, ++kz.places, before.depth + 1, before.worker};
     if (filter)
         kz_scheduler->touch(&filter->is_started, 0, KZ_TAKES);
@@ -100,13 +101,37 @@ static void put_line(const char *word, KzMessage message, const char *call, cons
     if (used > (int)sizeof line - 301)
         used = (int)sizeof line - 301;
     snprintf(line + used, sizeof line - (size_t)used, ": %s\n", place);
-    kz_put(line);
+    kz_note_told(message, strcmp(word, "TOLD") == 0 || is_strict, line);
+    if (!kz_is_json())
+        kz_put(line);
+}
+
+/* What a finally block that was left out may have ended. */
+static bool is_left(KzMessage message)
+{
+    switch (message) {
+    case KZ_LEAK:
+    case KZ_NEVER_COMPLETED:
+    case KZ_POOL_LEAK:
+    case KZ_NAME_LEAK:
+    case KZ_OBJECT_LEAK:
+    case KZ_HANDLE_LEAK:
+    case KZ_PORT_LEAK:
+    case KZ_WORK_LEFT:
+    case KZ_TIMER_LEFT:
+    case KZ_WAITS_FOR_EVER:
+    case KZ_LOCK_AT_RETURN:
+        return true;
+    default:
+        return false;
+    }
 }
 
 void kz_tell(KzMessage message, const char *call, const char *format, ...)
 {
     KZ_INSIDE();
-    bool is_limit = KZ_IS_LIMIT(message);
+    PFLT_FILTER filter = kz_me->place.filter;
+    bool is_limit = KZ_IS_LIMIT(message) || (filter && filter->leaves_out && is_left(message));
     if (is_allowed[message] || (is_limit && was_told(message, call)))
         return;
     if (is_limit)
@@ -137,6 +162,29 @@ void kz_free_told(void)
         limits = one->next;
         free(one);
     }
+}
+
+/* ---- Blocks of try and finally. There is a place in the program for the end of each try block that a finally block stands behind. */
+extern const void *const __start_kz_finally[] __attribute__((weak));
+extern const void *const __stop_kz_finally[] __attribute__((weak));
+
+static bool has_finally(const void *end)
+{
+    for (const void *const *at = __start_kz_finally; at && at < __stop_kz_finally; at++)
+        if (*at == end)
+            return true;
+    return false;
+}
+
+void KzLeaveTry(KzTry *Try)
+{
+    KZ_INSIDE();
+    const char *slash = strrchr(Try->file, '/');
+    if (Try->is_at_end || !has_finally(Try->end))
+        return;
+    if (kz_me->place.filter)
+        kz_me->place.filter->leaves_out = true;
+    kz_tell(KZ_LEFT_OUT, "finally", "a return left the try block of %s:%d, and its finally block isn't run here: what that releases stays", slash ? slash + 1 : Try->file, Try->line);
 }
 
 /* ---- What the driver says itself. */

@@ -22,8 +22,14 @@ typedef struct {
  * mistake was told, or 1 if memory was refused. */
 int kz_run(const KzDriver *drivers, size_t count, const char *const *requests, size_t length);
 
-/* The same with the lines of a file. The answer is 3 if it can't be read. */
+/* The same with the lines of a file, or of the one with that name. The answer is also 1 if an expectation isn't met, 2 if a line isn't understood, where it ends, or 3 if the
+ * file can't be read. */
 int kz_run_file(const KzDriver *drivers, size_t count, FILE *requests);
+int kz_run_path(const KzDriver *drivers, size_t count, const char *path);
+
+/* A load: so many threads carry out the clients of a scenario, each again and again, for so many seconds, and say what is told meanwhile. The answer is that of kz_run, or
+ * 6 where nobody could go on any more. */
+int kz_run_load(const KzDriver *drivers, size_t count, const char *scenario, unsigned threads, double seconds, uint64_t seed);
 
 /* What a request was answered: status is its number; held says that a filter holds the operation of that number, which is answered later. */
 typedef struct {
@@ -38,6 +44,17 @@ int kz_open(const KzDriver *drivers, size_t count);
 KzReply kz_request(const char *line);
 int kz_close(void);
 extern int kz_is_quiet;
+
+/* What the last request brought about: the bytes of its reply, and the callbacks that it called, as "pre:ctx post:ctx". Both stay until the next one. */
+const uint8_t *kz_reply_bytes(size_t *length);
+const char *kz_reply_callbacks(void);
+
+/* Is called with each line that is told, and its number as "KZ0101", from then on; NULL for nobody. */
+void kz_on_told(void (*told)(const char *id, const char *line));
+
+/* Reports of runs of a file: an object of JSON a line in place of text, and a file of JUnit. */
+void kz_use_json(bool is);
+void kz_use_junit(const char *path);
 
 /* How many mistakes and limits were told so far, and how many contexts were born and cleaned up; of a run that was closed, at its end. */
 typedef struct {

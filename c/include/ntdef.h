@@ -144,25 +144,35 @@
 #define DBG_UNREFERENCED_LOCAL_VARIABLE(p) ((void)(p))
 #define DEFAULT_UNREACHABLE default: break
 
-/* Structured exceptions. Nothing raises one here: an exception's block is compiled, and never run. `leave` goes to the block behind; a `return` inside a try
- * block leaves its finally block out, which the kit's compiler doesn't. */
+/* Structured exceptions. Nothing raises one here: an exception's block is compiled, and never run. `leave` goes to the block behind. Whatever else jumps out of a try
+ * block, a `return` above all, leaves its finally block out, which the kit's compiler doesn't: that is told as a limit. */
 #define EXCEPTION_EXECUTE_HANDLER 1
 #define EXCEPTION_CONTINUE_SEARCH 0
 #define EXCEPTION_CONTINUE_EXECUTION (-1)
 #define GetExceptionCode() ((NTSTATUS)0)
 #define GetExceptionInformation() ((PEXCEPTION_POINTERS)0)
 #define AbnormalTermination() 0
-#define KZ_TRY {  __label__ kz_left;
-#define KZ_LEFT kz_left: __attribute__((unused)); }
+typedef struct {
+    const void *end;
+    const char *file;
+    int line, is_at_end;
+} KzTry;
+#ifdef __cplusplus
+extern "C"
+#endif
+void KzLeaveTry(KzTry *Try);
+#define KZ_TRY {  __label__ kz_left; __attribute__((cleanup(KzLeaveTry))) KzTry kz_try = {&&kz_left, __FILE__, __LINE__, 0};
+#define KZ_LEFT kz_left: __attribute__((unused)); kz_try.is_at_end = 1; }
+#define KZ_FINALLY kz_left: __attribute__((unused)); kz_try.is_at_end = 1; static const void *const kz_end __attribute__((section("kz_finally"), used)) = &&kz_left; }
 #if !defined(__cplusplus) || defined(KZ_SEH)
 #define __try KZ_TRY
-#define __finally KZ_LEFT
+#define __finally KZ_FINALLY
 #define __except(filter) KZ_LEFT if (0 && (filter))
 #define __leave goto kz_left
 #endif
 #ifndef __cplusplus
 #define try KZ_TRY
-#define finally KZ_LEFT
+#define finally KZ_FINALLY
 #define except(filter) KZ_LEFT if (0 && (filter))
 #define leave goto kz_left
 #endif

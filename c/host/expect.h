@@ -1,0 +1,31 @@
+/* What the last request brought about, for expectations and reports. All of it is of a run in order. */
+#ifndef KZ_EXPECT_H
+#define KZ_EXPECT_H
+
+#include "host.h"
+
+/* What was seen, one after the other. */
+void kz_note_request(const char *words);
+void kz_note_callback(KzCallback callback, PFLT_FILTER filter);
+void kz_note_told(KzMessage message, bool is_counted, const char *line);
+void kz_note_reply(KzReply reply, const uint8_t *bytes, size_t length);
+bool kz_fails_now(const char *call);
+void kz_forget_notes(void);
+void kz_next_line(void);
+
+/* The requests `expect ..` and `fail ..`; false if the words aren't understood. */
+bool kz_expect(const char *words);
+bool kz_fail(char **words);
+unsigned kz_unmet(void);
+unsigned kz_line(void);
+const char *kz_command(void);
+const char *kz_callback_word(KzCallback callback);
+
+/* report.c */
+bool kz_is_json(void);
+void kz_report_event(const char *event, const char *members);
+void kz_report_expectation(const char *words, const char *unmet);
+void kz_report_end(const char *file, int status);
+void kz_json_text(char *room, size_t size, const char *text);
+
+#endif

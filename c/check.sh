@@ -134,7 +134,7 @@ KZ_MAIN=c/fuzz/fuzz.c c/build.sh "$room/fuzzer" c/misuse/schedules/refusal.c
 "$room/fuzzer" 50 1 "$room/failure.txt" > "$room/fuzzer.out"
 [ $? = 139 ] && [ "$(wc -l < "$room/failure.txt")" -le 6 ] && c/build.sh "$room/refused" c/misuse/schedules/refusal.c
 tell $? "random requests"
-"$room/refused" "$room/failure.txt" > "$room/refused.out" 2>&1
+{ "$room/refused" "$room/failure.txt" > "$room/refused.out"; } 2> /dev/null
 [ $? = 139 ]
 tell $? "random requests, played again,"
 

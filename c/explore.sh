@@ -50,6 +50,7 @@ for scenario in c/scenarios/*.txt; do
     "$room/$name" $(sed -n 's/^# words: //p' "$scenario") "$scenario" 2>&1 > "$room/$name.whole"
     [ $? = "$status" ] && timeless < "$room/$name.whole" > "$room/$name.out" && diff "c/expected/explore-$name.out" "$room/$name.out"
     tell $? "$name"
+    grep -q -e --replay "$room/$name.out" || continue
     play "$name" "$status"
     tell $? "$name, played again,"
 done

@@ -159,6 +159,8 @@ void ex_access(const void *address, size_t size, bool is_write, bool is_atomic, 
 {
     if (!is_watched())
         return;
+    if (is_atomic)
+        ex_note_spin();
     uintptr_t start = (uintptr_t)address, end = start + size;
     if (ex_is_stack(address))
         return;

@@ -131,6 +131,7 @@ static void point(const char *name, const void *from)
     me->at = name;
     me->from = from;
     me->state = READY;
+    me->spins = 0;
     go_on(me);
     me->state = RUNNING;
 }
@@ -146,6 +147,22 @@ static bool wait(KzCan *can, void *what, const char *why)
     go_on(me);
     me->state = RUNNING;
     return !me->timed_out;
+}
+
+static bool has_moved(void *steps)
+{
+    return ex->steps != *(unsigned *)steps;
+}
+
+/* Code that looks at interlocked or volatile memory again and again waits for another client to change it. */
+void ex_note_spin(void)
+{
+    Runner *me = mine();
+    if (me->state != RUNNING || me->client.inside || ++me->spins < 200)
+        return;
+    unsigned steps = ex->steps;
+    me->spins = 0;
+    wait(has_moved, &steps, "memory that it looks at again and again");
 }
 
 static unsigned choose_answer(unsigned count, const char *name)

@@ -25,6 +25,7 @@ typedef struct {
     ucontext_t context;
     State state;
     bool has_begun, is_worker, timed_out;
+    unsigned spins;               /* interlocked and volatile accesses since its last point */
     bool is_fresh;                /* it has begun, and done nothing yet */
     int like;                     /* the first client with the same lines */
     KzCan *can;                   /* what it waits for */
@@ -129,6 +130,7 @@ void ex_open_stacks(void);
 bool ex_is_stack(const void *address);
 void ex_run(void);
 bool ex_is_stuck(void);
+void ex_note_spin(void);
 
 /* path.c: which of so many is taken. */
 unsigned ex_decide(unsigned count, bool is_switch, const int *clients);

@@ -429,10 +429,19 @@ NTSTATUS KeWaitForMultipleObjects(ULONG Count, PVOID Object[], WAIT_TYPE WaitTyp
     return STATUS_SUCCESS;
 }
 
+static bool never(void *unused)
+{
+    (void)unused;
+    return false;
+}
+
 NTSTATUS KeDelayExecutionThread(KPROCESSOR_MODE WaitMode, BOOLEAN Alertable, PLARGE_INTEGER Interval)
 {
     KZ_CALL();
     (void)WaitMode, (void)Alertable;
+    kz_me->timeout = (uint64_t)(units_of(Interval) > 0 ? units_of(Interval) / MILLISECOND : 0) + 1;
+    kz_wait(never, NULL, "KeDelayExecutionThread");
+    kz_me->timeout = 0;
     while (!kz_has_others() && kz_work())
         ;
     pass(units_of(Interval));

@@ -72,6 +72,8 @@ void kz_note_callback(KzCallback callback, PFLT_FILTER filter)
         return;
     size_t used = strlen(callbacks);
     snprintf(callbacks + used, sizeof callbacks - used, "%s%s:%s", used ? " " : "", kz_callback_word(callback), filter->driver->name);
+    if (!kz_is_json())
+        return;
     kz_json_text(name, sizeof name, filter->driver->name);
     snprintf(members, sizeof members, "\"callback\": \"%s\", \"filter\": %s", kz_callback_word(callback), name);
     kz_report_event("Callback", members);
@@ -104,6 +106,8 @@ void kz_note_reply(KzReply answer, const uint8_t *from, size_t size)
     length = size < sizeof bytes ? size : sizeof bytes;
     if (length)
         memcpy(bytes, from, length);
+    if (!kz_is_json())
+        return;
     snprintf(members, sizeof members, "\"status\": %u, \"information\": %llu, \"length\": %zu", answer.status, (unsigned long long)answer.information, length);
     if (answer.held)
         snprintf(members, sizeof members, "\"operation\": %llu", (unsigned long long)answer.operation);

@@ -137,12 +137,11 @@ static bool watch(unsigned count, double seconds)
             __atomic_store_n(&is_time, true, __ATOMIC_RELEASE);
         uint64_t moves = kz_moves();
         moved = moves == last ? moved : now();
-        last = kz_moves();
+        last = moves;
         if (now() - moved > 0.5 && is_time)
             play_finally();
         if (now() - moved > STILL)
             return false;
-        last = moves == last ? last : kz_moves();
     }
     return true;
 }

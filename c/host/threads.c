@@ -22,7 +22,7 @@ static pthread_mutex_t mutex = PTHREAD_MUTEX_INITIALIZER;
 static pthread_cond_t changed = PTHREAD_COND_INITIALIZER;
 static unsigned waiting; /* under the mutex */
 static uint64_t seed;
-static uint64_t moves; /* of all: read by who looks whether anybody goes on */
+static uint64_t moves; /* of all clients: read by the one that looks whether anybody goes on */
 static bool is_over;
 static _Thread_local uint64_t chance;
 
@@ -59,6 +59,8 @@ static void unlock(void)
 static void point(const char *name, const void *from)
 {
     (void)name, (void)from;
+    if (kz_me == &kz_first)
+        return;
     if (!chance)
         chance = (seed + kz_me->number) * 0x9e3779b97f4a7c15ULL | 1;
     chance ^= chance << 13;

@@ -28,9 +28,9 @@ static int look_at_server(int socket, Server *server)
         return 0;
     }
     struct pollfd end = {server->process, POLLIN, 0};
-    if (server->process == -1 || peer.pid != server->pid || poll(&end, 1, 0) != 0)
+    if (peer.pid != server->pid)
         return ENOTCONN;
-    return 0;
+    return server->is_known && (server->process == -1 || poll(&end, 1, 0) != 0) ? ENOTCONN : 0;
 }
 
 static int dial(int socket, const char *path, Server *server)

@@ -10,7 +10,8 @@
 /* The server's process, as it was when the first connection was made. */
 typedef struct {
     pid_t pid;
-    int process; /* a descriptor that tells its end, or -1 */
+    int process;   /* a descriptor that tells its end, or -1 */
+    bool is_known; /* all connections of the start are made: a further one is made only while that process is there for sure */
 } Server;
 
 typedef struct {

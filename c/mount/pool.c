@@ -49,7 +49,7 @@ static int greet_all(Pool *pool)
 
 int pool_open(Pool *pool, const char *path, unsigned count, unsigned reserved)
 {
-    *pool = (Pool){.lines = calloc(count, sizeof(Line)), .count = count, .path = path, .server = {-1, -1}};
+    *pool = (Pool){.lines = calloc(count, sizeof(Line)), .count = count, .path = path, .server = {.pid = -1, .process = -1}};
     if (!pool->lines)
         return ENOMEM;
     pthread_mutex_init(&pool->mutex, NULL);
@@ -58,6 +58,7 @@ int pool_open(Pool *pool, const char *path, unsigned count, unsigned reserved)
     int error = dial_all(pool);
     if (error == 0)
         error = greet_all(pool);
+    pool->server.is_known = true;
     if (error != 0)
         pool_close(pool);
     return error;

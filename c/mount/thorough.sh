@@ -1,5 +1,5 @@
 #!/usr/bin/env bash
-# The long tests of the mount: c/mount/check.sh with many random operations, then what of it shows races under the thread sanitizer, and calls and held readers under valgrind.
+# The long tests of the mount: c/mount/check.sh with many random operations, then what of it shows races under the thread sanitizer, and some of it under valgrind.
 #
 #   c/mount/thorough.sh [COUNT]    so many random operations (100000): half an hour
 #
@@ -28,7 +28,7 @@ if [ -c /dev/fuse ] && "$here/build.sh" "$room/fltmount"; then
         echo 'mount: left out: the thread sanitizer'
     fi
     if command -v valgrind > /dev/null; then
-        note valgrind "$here/tests/check.py" --server "$FLTD" --mount "valgrind -q --error-exitcode=99 --leak-check=full $room/fltmount" --count 1500 calls model held ends
+        note valgrind "$here/tests/check.py" --server "$FLTD" --mount "valgrind -q --error-exitcode=99 --leak-check=full $room/fltmount" --count 300 model deletions
     else
         echo 'mount: left out: valgrind'
     fi

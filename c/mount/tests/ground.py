@@ -126,7 +126,8 @@ class Ground:
             self.mounted.kill()
             status = "hangs"
         self.mounted = None
-        words = open(self.mount_errors.name).read()
+        # valgrind warns of calls of the system that it doesn't know by lines that begin so
+        words = "".join(line for line in open(self.mount_errors.name) if not line.startswith("--"))
         self.tally.note("end of the mount", (status, words), (0, ""))
 
     def __exit__(self, kind, *_):

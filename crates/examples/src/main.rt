@@ -17,7 +17,13 @@ use std::{fs, io};
 const PIECES: [usize; 3] = [1, 7, 16384];
 
 // The scripts that are shown.
-const SHOWN: [&str; 5] = ["leak", "held_read", "detach", "refusals", "rows/early_drain"];
+const SHOWN: [&str; 5] = [
+    "leak",
+    "held_read",
+    "detach",
+    "refusals",
+    "rows/early_drain",
+];
 
 // A reader that gives a script in pieces of at most that many bytes, and is interrupted before each.
 #[derive(Drop)]

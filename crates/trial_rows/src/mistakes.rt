@@ -1,5 +1,7 @@
 //! A filter that makes mistakes, each at an offset of a read.
 
+ghost use Rattle.std.specs.Prelude.{◌≡◌};
+
 use fm_core::SetMode;
 use fm_data::{CallbackData, Completion, Params, PostVerdict, PreVerdict};
 use fm_filter::{Agreeable, Port};
@@ -50,7 +52,7 @@ impl Mistakes {
 }
 
 impl Agreeable for Mistakes {
-    ghost use Rattle.std.specs.Prelude.{◌≡◌, ⊤, true};
+    ghost use Rattle.std.specs.Prelude.{⊤, true};
 
     ghost registers = { λ _. record { pre = record { 0 = 2 }; post = record { 0 = 2 }; contexts = record { 0 = 4 }; query = true; unload = true } };
 

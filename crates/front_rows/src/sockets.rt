@@ -179,6 +179,14 @@ fn a_refused_create_gives_no_handle(rt: HostRuntime) {
     assert!(rt; goes_well(&rt, &rt, "refused", Talk::Refused) == Some(true));
 }
 
+// Whether a conversation with the server of own filters went well, and the server said so.
+fn is_own_end(told: Option<(bool, Vec<u8>)>) -> bool {
+    match told {
+        Some((is_well, printed)) => is_well && printed.as_slice() == OWN_ENDED.as_bytes(),
+        None => false,
+    }
+}
+
 #[test]
 fn own_filters_over_a_socket(rt: HostRuntime) {
     let served = Served {
@@ -186,10 +194,7 @@ fn own_filters_over_a_socket(rt: HostRuntime) {
         test: "own",
         is_own: true,
     };
-    let told = serve(&rt, &served, Talk::Own);
-    assert!(rt;
-        matches!(told, Some((true, printed)) if printed.as_slice() == OWN_ENDED.as_bytes())
-    );
+    assert!(rt; is_own_end(serve(&rt, &served, Talk::Own)));
 }
 
 #[test]

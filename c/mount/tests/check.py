@@ -3,6 +3,7 @@
 import argparse
 import importlib
 import shlex
+import signal
 import sys
 import time
 import traceback
@@ -14,6 +15,8 @@ PARTS = "client calls model deletions held ends programs".split()
 
 def main():
     """The program: its exit status."""
+    # Who runs this in the background may have interrupts ignored, and readers here are ended by one.
+    signal.signal(signal.SIGINT, signal.default_int_handler)
     parser = argparse.ArgumentParser(description=__doc__)
     parser.add_argument("--server", required=True)
     parser.add_argument("--mount", required=True, type=shlex.split)

@@ -254,17 +254,16 @@ fn race_and_leave<L: Ledger + Send + Sync, R: Threads + Wait + Clock + Sync>(
     owner: OpenWorker<'_, L, R>,
     seed: u64,
 ) -> Result<(u64, Vec<Hand<L>>), Status> {
-    let mut workers = workers;
+    let Workers {
+        mut client,
+        mut first,
+        mut second,
+    } = workers;
     let mut owner = owner;
     let is_over = AtomicBool::new(false);
-    let Workers {
-        client,
-        first,
-        second,
-    } = &mut workers;
     let (answered, _) = thread::join(
         rt,
-        || ask_and_tell(rt, alloc, manager, client, seed, &is_over),
+        || ask_and_tell(rt, alloc, manager, &mut client, seed, &is_over),
         || {
             thread::join(
                 rt,
@@ -273,6 +272,11 @@ fn race_and_leave<L: Ledger + Send + Sync, R: Threads + Wait + Clock + Sync>(
             )
         },
     );
+    let workers = Workers {
+        client,
+        first,
+        second,
+    };
     let hands = leave(alloc, manager.filters(rt), workers, owner)?;
     Ok((answered?, hands))
 }

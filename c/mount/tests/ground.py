@@ -60,7 +60,7 @@ def until(condition, seconds=10):
 class Ground:
     """A server over an empty folder, with a mount at `mount`. After `patience` seconds both are killed, so that nothing waits for ever."""
 
-    def __init__(self, tally, tools, *options, patience=120, place=None, server=None):
+    def __init__(self, tally, tools, *options, patience=600, place=None, server=None):
         self.tally = tally
         self.tools = tools
         self.server_command = server or [tools.server]

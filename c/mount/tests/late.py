@@ -67,7 +67,7 @@ def deletion(tally, ground, file):
 
 def run(tally, tools):
     """Creates, and then deletions."""
-    with Ground(tally, tools, patience=60) as ground:
+    with Ground(tally, tools, patience=600) as ground:
         put(ground.at("x"), b"hello")
         ground.attach(late=100)
         file = os.open(ground.at("x"), os.O_RDWR)

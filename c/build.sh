@@ -47,9 +47,9 @@ driver="-fwrapv -fms-extensions $common \
 # The explorer is behind the compiler's calls before each access of a driver's code; its addresses are those of the program's file.
 if [ -n "$explores" ]; then
     driver="$driver -fsanitize=thread -fno-pie $($cc --version | grep -q clang && echo "-mllvm -tsan-distinguish-volatile=1" || echo "--param=tsan-distinguish-volatile=1")"
-    own="$own -fno-pie -no-pie"
+    own="$own -fno-pie -no-pie -Wl,-z,now"
 fi
-link=""
+link="${KZ_LINK:-}"
 if [ -n "$races" ]; then
     driver="$driver -fsanitize=thread $($cc --version | grep -q clang && echo "-mllvm -tsan-distinguish-volatile=1" || echo "--param=tsan-distinguish-volatile=1")"
     link="-fsanitize=thread"
@@ -82,7 +82,7 @@ add() {
     echo "{\"$name\", $entry}," >> "$room/entries"
     count=$((count + 1))
 }
-renamed=""
+renamed="${KZ_SECTIONS:-}"
 for pair in wcslen:KzWcslen wcsnlen:KzWcsnlen wcscmp:KzWcscmp wcsncmp:KzWcsncmp wcscpy:KzWcscpy wcsncpy:KzWcsncpy wcscat:KzWcscat wcsncat:KzWcsncat wcschr:KzWcschr \
     wcsrchr:KzWcsrchr wcsstr:KzWcsstr wcspbrk:KzWcspbrk wcsspn:KzWcsspn wcscspn:KzWcscspn wcscasecmp:KzWcsicmp wcsncasecmp:KzWcsnicmp wmemset:KzWmemset \
     wcstol:KzWcstol wcstoul:KzWcstoul swprintf:KzSwprintfRoom vswprintf:KzVsnwprintf towupper:KzTowupper towlower:KzTowlower; do

@@ -116,6 +116,54 @@ READ
     tell $? "JSON and JUnit, as they are read,"
 fi
 
+# A folder of the host machine as volume 0: regular files below it alone, and what is written stands in them.
+mkdir -p "$room/folder/base/sub"
+printf abcd > "$room/folder/base/old"
+printf secret > "$room/folder/outside"
+ln -s ../outside "$room/folder/base/out"
+ln -s old "$room/folder/base/in"
+mkfifo "$room/folder/base/pipe"
+cat > "$room/folder.txt" <<'REQUESTS'
+load passthrough
+attach 0 0 one 100
+create 0 existing old as old
+read old 0 10
+expect bytes 61626364
+write old 2 7879
+create 0 new sub/new as new
+write new 0 6162
+setsize new 1
+expect status 0
+create 0 existing out
+expect status 18
+create 0 existing pipe
+expect status 18
+create 0 existing in as in
+read in 0 4
+expect bytes 61627879
+create 0 new old
+expect status 20
+create 0 existing sub/none
+expect status 19
+read new 1 1
+expect status 31
+list 0
+expect bytes 696e0a6f6c640a6f75740a
+fail device 1
+read old 0 1
+expect status 18
+create 0 always gone as gone
+setdelete gone
+close gone
+expect status 0
+REQUESTS
+timeout 60 "$room/passthrough" --folder "$room/folder/base" "$room/folder.txt" > "$room/folder.out" && ! grep -q unmet "$room/folder.out" &&
+    [ "$(cat "$room/folder/base/old" "$room/folder/base/sub/new" "$room/folder/outside")" = "abxyasecret" ] && [ ! -e "$room/folder/base/gone" ]
+tell $? "a folder"
+"$room/passthrough" --folder "$room/none" "$room/folder.txt" > "$room/folder.out" 2>&1
+[ $? = 3 ] && [ "$(cat "$room/folder.out")" = "$room/none: No such file or directory" ]
+tell $? "a folder that isn't there"
+
 # An installed tree, in a fresh folder without the kit: a driver is built by CMake, and tested by ctest; and a program of an author's own by pkg-config.
 if command -v cmake > /dev/null; then
     mkdir "$room/fresh"
@@ -130,7 +178,7 @@ if command -v cmake > /dev/null; then
 fi
 
 # Random requests find a call that may be refused; what is left of the session ends as it did.
-KZ_MAIN=c/fuzz/fuzz.c c/build.sh "$room/fuzzer" c/misuse/schedules/refusal.c
+KZ_MAIN="c/fuzz/session.c c/fuzz/fuzz.c" c/build.sh "$room/fuzzer" c/misuse/schedules/refusal.c
 "$room/fuzzer" 50 1 "$room/failure.txt" > "$room/fuzzer.out"
 [ $? = 139 ] && [ "$(wc -l < "$room/failure.txt")" -le 6 ] && c/build.sh "$room/refused" c/misuse/schedules/refusal.c
 tell $? "random requests"

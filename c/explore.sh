@@ -41,6 +41,25 @@ play() {
     done < <(sed -n "s/^  --replay '\(.*\)'/\1/p" "$room/$1.out")
     [ "$count" -gt 0 ]
 }
+# What a search found, each kind in a line, without the numbers and names in which two schedules differ.
+kinds() {
+    awk '/ schedules:$/ { text = ""; inside = 1; next } /^  the shortest:/ { print text; inside = 0; next } inside { text = text "|" $0 }' "$1" |
+        sed 's/operation [0-9]*/operation N/g; s/([a-z]*)/()/g' | sort
+}
+
+# Known states are left out soundly: a program finds the same kinds of ends with them and without.
+compare() {
+    local program=$1 words=$2 scenario=$3 way
+    shift 3
+    "$room/$program" --ends $words "$scenario" > "$room/plain"
+    kinds "$room/plain" > "$room/kinds"
+    [ -s "$room/kinds" ] || return 1
+    for way in "$@"; do
+        "$room/$program" --ends $words $way "$scenario" > "$room/reduced"
+        kinds "$room/reduced" | diff "$room/kinds" - || return 1
+        grep -q "^[a-z 0-9]*: .* [1-9][0-9]* given up, [1-9][0-9]* states" "$room/reduced" || return 1
+    done
+}
 for scenario in c/scenarios/*.txt; do
     name=$(basename "$scenario" .txt)
     [ -f "c/misuse/schedules/$name.c" ] || continue
@@ -50,6 +69,9 @@ for scenario in c/scenarios/*.txt; do
     "$room/$name" $(sed -n 's/^# words: //p' "$scenario") "$scenario" 2>&1 > "$room/$name.whole"
     [ $? = "$status" ] && timeless < "$room/$name.whole" > "$room/$name.out" && diff "c/expected/explore-$name.out" "$room/$name.out"
     tell $? "$name"
+    case "$name" in polls) ways="--reduce" ;; *) ways="--reduce --states" ;; esac
+    compare "$name" "--bound 3 $(sed -n 's/^# words: --fail-each/--fails 1/p' "$scenario")" "$scenario" $ways
+    tell $? "$name with known states left out"
     grep -q -e --replay "$room/$name.out" || continue
     play "$name" "$status"
     tell $? "$name, played again,"
@@ -68,11 +90,38 @@ done
 [ "$sum" = "$("$room/settwice" c/scenarios/settwice.txt | sed -n 's/^bound 2: \([0-9]*\) .*/\1/p')" ]
 tell $? "shards"
 
-# A seed repeats its schedules.
-"$room/lostrelease" --seed 7 --runs 200 c/scenarios/lostrelease.txt | timeless > "$room/seed.1"
-"$room/lostrelease" --seed 7 --runs 200 c/scenarios/lostrelease.txt | timeless > "$room/seed.2"
-cmp "$room/seed.1" "$room/seed.2" && grep -q "TOLD KZ0101" "$room/seed.1"
+# Stored ends: none differs; and where one is left out or made up, it is new or gone.
+"$room/settwice" --learn "$room/ends" c/scenarios/settwice.txt > "$room/learned" && "$room/settwice" --expect-ends "$room/ends" c/scenarios/settwice.txt > "$room/ended"
+[ $? = 0 ] && grep -q "^5 ends" "$room/learned" && ! grep -q "new\|gone" "$room/ended"
+tell $? "stored ends"
+sed 's/a stream had 2 creates/a stream had 3 creates/' "$room/ends" > "$room/other"
+"$room/settwice" --expect-ends "$room/other" c/scenarios/settwice.txt > "$room/ended"
+[ $? = 1 ] && [ "$(grep -c "^new:" "$room/ended")" = 2 ] && [ "$(grep -c "^gone:" "$room/ended")" = 2 ] && grep -q -e --replay "$room/ended"
+tell $? "stored ends that differ"
+
+# A search by states ends of itself; one whose memory is full says so.
+"$room/lostrelease" --states c/scenarios/lostrelease.txt > "$room/states.out"
+[ $? = 5 ] && grep -q "^no bound: .*; told [1-9]" "$room/states.out"
+tell $? "states"
+"$room/settwice" --states --memory 0 c/scenarios/settwice.txt > "$room/full.out"
+[ $? = 4 ] && grep -q "isn't whole" "$room/full.out"
+tell $? "a full memory"
+
+# Seeds, by a coin and by priorities: the same words find the same, and the seed that is shown repeats its schedule alone.
+draw() {
+    local program=$1 scenario=$2 seed
+    shift 2
+    "$room/$program" "$@" "$scenario" | timeless > "$room/seed.1"
+    "$room/$program" "$@" "$scenario" | timeless | cmp - "$room/seed.1" || return 1
+    seed=$(sed -n 's/^  \(--seed .*\)/\1/p' "$room/seed.1" | head -n 1)
+    [ -n "$seed" ] || return 1
+    "$room/$program" $seed "$scenario" > "$room/seed.2"
+    grep -q "^1 schedules" "$room/seed.2" && [ "$(sed -n 's/^  --replay//p' "$room/seed.1" | head -n 1)" = "$(sed -n 's/^  --replay//p' "$room/seed.2" | head -n 1)" ]
+}
+draw lostrelease c/scenarios/lostrelease.txt --seed 7 --runs 200 && grep -q "TOLD KZ0101" "$room/seed.1"
 tell $? "seed"
+draw stuckdetach c/scenarios/stuckdetach-long.txt --seed 1 --runs 500 --pct 2 && grep -q STUCK "$room/seed.1"
+tell $? "seed with priorities"
 
 # All samples with four clients: nothing is found.
 for driver in c/samples/*.c; do
@@ -82,6 +131,8 @@ for driver in c/samples/*.c; do
     "$room/$name" --bound "$bound" "$room/$name.txt" > "$room/$name.out"
     tell $? "$name under every schedule"
     [ "$bound" = 1 ] || cat "$room/$name.out"
+    compare "$name" "--bound 1" "$room/$name.txt" --reduce
+    tell $? "$name with known states left out"
     sed "s/DRIVER/$name/" c/scenarios/refusals.txt > "$room/$name.txt"
     "$room/$name" --fail-each "$room/$name.txt" > "$room/$name.out"
     tell $? "$name with each refusal"

@@ -36,6 +36,7 @@ static struct {
     } freed[FREED];
     size_t freed_count;
     uintptr_t least, most;
+    uint64_t hash; /* of what the cells and the objects of this run say */
 } *shadow;
 
 void ex_open_shadow(void)
@@ -51,6 +52,34 @@ void ex_start_clocks(void)
     shadow->freed_count = 0;
     shadow->least = UINTPTR_MAX;
     shadow->most = 0;
+    shadow->hash = 0;
+}
+
+/* ---- What two states differ by. */
+static uint64_t access_hash(const Cell *cell, unsigned client, bool is_write)
+{
+    const Access *one = is_write ? &cell->writes[client] : &cell->reads[client];
+    if (!ex->is_reduced || !one->when)
+        return 0;
+    return ex_mixed(ex_mixed(cell->tag << 6 | client << 1 | is_write) + ex_mixed((uint64_t)one->when << 32 | one->from) * 3 + one->bytes * 2u + one->is_atomic);
+}
+
+static uint64_t vector_hash(const uint32_t *clock, uint64_t of)
+{
+    uint64_t hash = 0;
+    for (int client = 1; ex->is_reduced && client <= ex->runners_count; client++)
+        hash += clock[client] ? ex_mixed(of * 32 + (unsigned)client + ((uint64_t)clock[client] << 48)) : 0;
+    return hash;
+}
+
+uint64_t ex_clocks_hash(void)
+{
+    uint64_t hash = shadow->hash;
+    for (int client = 1; client <= ex->runners_count; client++)
+        hash += vector_hash(shadow->clock[client], (unsigned)client);
+    for (size_t at = 0; at < shadow->freed_count; at++)
+        hash += ex_mixed(shadow->freed[at].start * 3 + shadow->freed[at].end * 5 + ((uint64_t)shadow->freed[at].from << 32) + (unsigned)shadow->freed[at].client);
+    return hash;
 }
 
 static size_t hashed(uintptr_t key, size_t size)
@@ -175,7 +204,9 @@ void ex_access(const void *address, size_t size, bool is_write, bool is_atomic, 
         unsigned me = kz_me->number;
         Access *mine = is_write ? &cell->writes[me] : &cell->reads[me];
         bool is_same = mine->when == shadow->clock[me][me] && mine->is_atomic == is_atomic;
+        shadow->hash -= access_hash(cell, me, is_write);
         *mine = (Access){shadow->clock[me][me], (uint32_t)(uintptr_t)from, is_same ? mine->bytes | bytes : bytes, is_atomic};
+        shadow->hash += access_hash(cell, me, is_write);
     }
 }
 
@@ -191,9 +222,11 @@ static void give(Object *one)
 {
     unsigned me = kz_me->number;
     uint32_t *mine = shadow->clock[me];
+    shadow->hash -= vector_hash(one->clock, (uintptr_t)one->object);
     for (int client = 1; client <= ex->runners_count; client++)
         if (mine[client] > one->clock[client])
             one->clock[client] = mine[client];
+    shadow->hash += vector_hash(one->clock, (uintptr_t)one->object);
     shadow->clock[me][me]++;
 }
 

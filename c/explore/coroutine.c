@@ -3,10 +3,28 @@
 
 #include <sys/mman.h>
 
-enum { STACK = 1 << 18 };
+enum { STACK = 1 << 18, BELOW = 1 << 12 };
 #define STACKS 0x20000000000UL
 
 Runner ex_runners[RUNNERS + 1];
+
+/* ---- Stacks. Of one that isn't run the registers lie on it: those that a call keeps, and where it goes on. */
+enum { KEPT = 6 };
+void ex_switch(void **from, void *to);
+__asm__(".text\n"
+        ".type ex_switch, @function\n"
+        "ex_switch:\n"
+        "    pushq %rbp\n    pushq %rbx\n    pushq %r12\n    pushq %r13\n    pushq %r14\n    pushq %r15\n"
+        "    movq %rsp, (%rdi)\n"
+        "    movq %rsi, %rsp\n"
+        "    popq %r15\n    popq %r14\n    popq %r13\n    popq %r12\n    popq %rbx\n    popq %rbp\n"
+        "    ret\n"
+        ".size ex_switch, . - ex_switch\n");
+
+static char *top_of(int client)
+{
+    return (char *)STACKS + (size_t)(client + 1) * STACK;
+}
 
 static bool is_set_up(void)
 {
@@ -95,9 +113,9 @@ static int choose(Runner *me)
     if (!options.count)
         return 0;
     bool is_bound = options.may_stay && ex->preemptions >= ex->bound && !ex->replay;
-    unsigned taken = options.count > 1 && !is_bound ? ex_decide(options.count, true, options.clients) : 0;
+    unsigned taken = options.count > 1 && !is_bound ? ex_decide(options.count, true, options.clients, options.may_stay) : 0;
     if (ex->replay && options.count == 1)
-        taken = ex_decide(1, true, options.clients);
+        taken = ex_decide(1, true, options.clients, options.may_stay);
     int client = options.clients[taken];
     bool is_preemption = options.may_stay && taken > 0;
     ex->preemptions += is_preemption;
@@ -108,14 +126,19 @@ static int choose(Runner *me)
     return client;
 }
 
+/* Where states are told apart another stack chooses, so that all clients stand alike. */
 static void go_on(Runner *me)
 {
+    if (ex->is_reduced) {
+        ex_switch(&me->stands, ex->back);
+        return;
+    }
     int client = choose(me);
     if (client == (int)me->client.number)
         return;
     ex->current = client;
     kz_me = client ? &ex_runners[client].client : &kz_first;
-    swapcontext(&me->context, client ? &ex_runners[client].context : &ex->back);
+    ex_switch(&me->stands, client ? ex_runners[client].stands : ex->back);
 }
 
 /* ---- The scheduler's calls. */
@@ -172,7 +195,7 @@ static unsigned choose_answer(unsigned count, const char *name)
     bool is_time = strcmp(name, "the time is over") == 0;
     if (is_time ? ex->timeouts > 0 : ex->fails_used >= ex->fails && !ex->replay)
         return 0;
-    unsigned taken = ex_decide(count, false, NULL);
+    unsigned taken = ex_decide(count, false, NULL, false);
     if (!taken)
         return 0;
     *(is_time ? &ex->timeouts : &ex->fails_used) += 1;
@@ -244,14 +267,35 @@ bool ex_is_stack(const void *address)
 
 static void make(Runner *one)
 {
-    getcontext(&one->context);
-    one->context.uc_stack.ss_sp = (char *)STACKS + (size_t)one->client.number * STACK + 4096;
-    one->context.uc_stack.ss_size = STACK - 4096;
-    one->context.uc_link = NULL;
-    makecontext(&one->context, live, 0);
+    void **stands = (void **)top_of((int)one->client.number) - 2 - KEPT;
+    memset(stands, 0, (KEPT + 2) * sizeof *stands);
+    stands[KEPT] = (void *)(uintptr_t)live;
+    one->stands = stands;
     one->state = one->is_worker ? WAITING : READY;
     one->can = has_work;
     one->at = "the start";
+}
+
+/* What a client left on its stack below where it stands: two states aren't to differ by that. */
+static void tidy(Runner *one)
+{
+    if (!ex->is_reduced)
+        return;
+    if (one->state == ENDED)
+        one->stands = top_of((int)one->client.number);
+    else
+        memset((char *)one->stands - BELOW, 0, BELOW);
+}
+
+/* Of all stacks, from where each client stands. */
+uint64_t ex_stacks_hash(void)
+{
+    uint64_t hash = 0;
+    for (int at = 1; at <= ex->runners_count; at++) {
+        char *stands = ex_runners[at].stands;
+        hash += ex_bytes_hash(stands, (size_t)(top_of(at) - stands), (uint64_t)at);
+    }
+    return hash;
 }
 
 /* One run, from the set-up's end to where nobody can go on. */
@@ -261,11 +305,13 @@ void ex_run(void)
         make(&ex_runners[at]);
     ex->current = 0;
     ex->is_running = true;
-    int client = choose(NULL);
-    if (client) {
+    Runner *before = NULL;
+    for (int client = choose(NULL); client; client = ex->is_reduced ? choose(before) : 0) {
+        before = &ex_runners[client];
         ex->current = client;
-        kz_me = &ex_runners[client].client;
-        swapcontext(&ex->back, &ex_runners[client].context);
+        kz_me = &before->client;
+        ex_switch(&ex->back, before->stands);
+        tidy(before);
     }
     kz_me = &kz_first;
 }

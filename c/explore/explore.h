@@ -6,14 +6,14 @@
 #include "../host/scenario.h"
 
 #include <setjmp.h>
-#include <ucontext.h>
 
 enum {
     RUNNERS = KZ_CLIENTS + 1, /* with the one of work items */
     STEPS = 20000,      /* of a run: one that has more is endless */
     PATH = 20000,       /* choices of a run */
-    KINDS = 64,         /* kinds of ends and of what is told */
-    TEXT = 1024,
+    KINDS = 1024,       /* kinds of ends and of what is told */
+    TEXT = 4096,
+    DEPTH = 16, /* of --pct */
     OUTPUT = 1 << 18    /* what a run says */
 };
 
@@ -22,7 +22,7 @@ typedef enum { READY, RUNNING, WAITING, ENDED } State;
 
 typedef struct {
     KzClient client;
-    ucontext_t context;
+    void *stands; /* where its stack ends, while another runs */
     State state;
     bool has_begun, is_worker, timed_out;
     unsigned spins;               /* interlocked and volatile accesses since its last point */
@@ -41,6 +41,7 @@ typedef struct {
 typedef struct {
     uint8_t count, taken;
     bool is_switch;
+    uint64_t key; /* of the state, where states are told apart */
 } Node;
 
 /* ---- What was found: of each kind the schedule with the fewest preemptions, then switches, then steps. */
@@ -51,6 +52,7 @@ typedef struct {
     char *key, *text, *schedule;
     uint64_t count;
     unsigned preemptions, switches, steps;
+    uint64_t seed;
 } Kind;
 
 /* What a run has found so far, until its end. */
@@ -68,7 +70,11 @@ typedef struct {
     int runners_count;
     unsigned bound, fails, shard, shards;
     bool wants_ends, is_traced, is_quiet;
+    bool is_reduced; /* a run that comes to a known state is given up */
+    bool has_no_bound;
+    size_t memory; /* that the explorer's own tables may take */
     uint64_t seed, runs;
+    unsigned pct; /* how many changes of priority a drawn run may need, and one; 0 for a coin at each choice */
     const char *replay;
     /* The path, and where the run is on it. */
     Node path[PATH];
@@ -88,13 +94,17 @@ typedef struct {
     size_t output_length;
     uint32_t run;
     uint64_t random;
+    uint32_t priorities[RUNNERS + 1];
+    unsigned changes[DEPTH], changed, usual_steps;
     sigjmp_buf out;
-    ucontext_t back;
+    void *back;
     int current;
+    bool is_given_up;
+    const char *full; /* what the explorer's memory is full of: then the search ends */
     /* What was found. */
     Kind kinds[KINDS];
     int kinds_count;
-    uint64_t schedules, counts[LIMITED + 1];
+    uint64_t schedules, given_up, counts[LIMITED + 1];
     unsigned longest;
     char trace[1 << 20];
     size_t trace_length;
@@ -104,6 +114,7 @@ typedef struct {
 
 extern Explorer *ex;
 extern Runner ex_runners[RUNNERS + 1]; /* by the client's number: from 1 on */
+#define ROOM (1UL << 30)
 enum { FAIL = 255 };                   /* in a schedule: the call was refused */
 
 /* scenario.c: 0, or what is wrong was said. */
@@ -117,7 +128,18 @@ void ex_put_back(void);
 bool ex_opens_page(const void *address);
 bool ex_is_heap(const void *address);
 
+uint64_t ex_memory_hash(void);
+
+/* states.c: states of a run, told apart by a hash of all that what comes depends on. */
+void ex_open_states(void);
+void ex_forget_states(void);
+uint64_t ex_states_count(void);
+bool ex_is_known(int stays);
+uint64_t ex_mixed(uint64_t value);
+uint64_t ex_bytes_hash(const void *bytes, size_t size, uint64_t seed);
+
 /* hooks.c, clocks.c: what the driver's code reads and writes. */
+uint64_t ex_clocks_hash(void);
 void ex_open_shadow(void);
 void ex_start_clocks(void);
 void ex_touch(const void *object, size_t size, KzTouch how);
@@ -128,24 +150,32 @@ void ex_in_order(const void *object);
 extern const KzScheduler ex_scheduler;
 void ex_open_stacks(void);
 bool ex_is_stack(const void *address);
+uint64_t ex_stacks_hash(void);
 void ex_run(void);
 bool ex_is_stuck(void);
 void ex_note_spin(void);
 
 /* path.c: which of so many is taken. */
-unsigned ex_decide(unsigned count, bool is_switch, const int *clients);
+unsigned ex_decide(unsigned count, bool is_switch, const int *clients, bool may_stay);
 bool ex_advance(void);
+void ex_draw_priorities(void);
 bool ex_is_own(void);
 const char *ex_schedule_text(size_t length);
 
 /* found.c */
+void ex_end_search(const char *full);
 void ex_found(KindOf of, const char *text);
 void ex_say(const char *text);
 void ex_keep_found(void);
+void ex_report_kind(const Kind *kind);
 void ex_report(void);
 
+/* ends.c: kinds that are stored in a file, and compared with it. 0, 1 where they differ, or 3 if the file can't be read or written. */
+int ex_learn_ends(const char *path);
+int ex_compare_ends(const char *path);
+
 /* source.c: text with places of the program, @1234, as lines of sources. */
-void ex_put_sources(const char *text);
+void ex_put_sources(FILE *to, const char *text);
 
 /* trace.c */
 void ex_trace_step(const Runner *runner, bool is_preemption);

@@ -53,9 +53,19 @@ void ex_say(const char *text)
 }
 
 /* ---- Kinds. */
+/* The search can't be whole any more: it ends, and says so. */
+void ex_end_search(const char *full)
+{
+    ex->full = full;
+}
+
 static char *kept(const char *text)
 {
     size_t length = strlen(text) + 1;
+    if (ex->room_used + length > ROOM) {
+        ex_end_search("schedules");
+        return "";
+    }
     char *made = ex->room + ex->room_used;
     ex->room_used += length;
     return memcpy(made, text, length);
@@ -68,7 +78,7 @@ static void key_of(KindOf of, const char *text, char *key, size_t size)
     for (; *text && used + 1 < size; text++) {
         key[used++] = *text;
         if (of == RACE && *text == '(')
-            text += strcspn(text, ")");
+            text += strcspn(text, ")") - 1;
         bool is_number = used >= 10 && (strncmp(key + used - 10, "operation ", 10) == 0 || strncmp(key + used - 2, " (", 2) == 0);
         while (is_number && text[1] >= '0' && text[1] <= '9')
             text++;
@@ -90,8 +100,10 @@ static Kind *kind_of(const Found *one, const char *key)
     for (int at = 0; at < ex->kinds_count; at++)
         if (ex->kinds[at].of == one->of && strcmp(ex->kinds[at].key, key) == 0)
             return &ex->kinds[at];
-    if (ex->kinds_count == KINDS)
+    if (ex->kinds_count == KINDS) {
+        ex_end_search("kinds of ends");
         return NULL;
+    }
     Kind *made = &ex->kinds[ex->kinds_count++];
     *made = (Kind){.of = one->of, .key = kept(key), .preemptions = UINT32_MAX};
     return made;
@@ -112,6 +124,7 @@ static void keep(const Found *one)
     kind->preemptions = one->preemptions;
     kind->switches = one->switches;
     kind->steps = one->steps;
+    kind->seed = ex->seed;
 }
 
 /* At the run's end: if it is this shard's, what it found counts. */
@@ -121,6 +134,7 @@ void ex_keep_found(void)
     if (!ex_is_own())
         return;
     ex->schedules++;
+    ex->given_up += ex->is_given_up;
     if (ex->steps > ex->longest)
         ex->longest = ex->steps;
     for (size_t at = 0; at < ex->found_count; at++) {
@@ -138,21 +152,25 @@ static void put_indented(const char *text)
     while (*text) {
         size_t length = strcspn(text, "\n");
         snprintf(line, sizeof line, "    %.*s\n", (int)length, text);
-        ex_put_sources(line);
+        ex_put_sources(stdout, line);
         text += length + (text[length] == '\n');
     }
 }
 
-static void report(const Kind *kind)
+void ex_report_kind(const Kind *kind)
 {
     printf("\n%llu schedules:\n", (unsigned long long)kind->count);
     put_indented(kind->text);
     printf("  the shortest: %u preemptions, %u switches, %u steps\n", kind->preemptions, kind->switches, kind->steps);
     printf("  --replay '%s'\n", kind->schedule);
+    if (kind->seed && ex->pct)
+        printf("  --seed %llu --runs 1 --pct %u\n", (unsigned long long)kind->seed, ex->pct);
+    else if (kind->seed)
+        printf("  --seed %llu --runs 1\n", (unsigned long long)kind->seed);
 }
 
 void ex_report(void)
 {
     for (int at = 0; at < ex->kinds_count; at++)
-        report(&ex->kinds[at]);
+        ex_report_kind(&ex->kinds[at]);
 }

@@ -27,6 +27,7 @@ typedef struct {
 static struct {
     Range ranges[2];
     char *pages[1 << 16];
+    uint64_t hashes[1 << 16]; /* of the pages as they are put back */
     size_t pages_count;
     bool is_taken;
 } *image;
@@ -74,13 +75,17 @@ void *malloc(size_t size)
         return NULL;
     }
     next[client] += room;
+    if (ex && ex->is_reduced)
+        memset(head, 0, room);
     head->size = size;
     return head + 1;
 }
 
+/* It isn't used again. Two states aren't to differ by what lay there. */
 void free(void *memory)
 {
-    (void)memory;
+    if (memory && ex && ex->is_reduced && ex->is_running)
+        memset(memory, 0, ((Head *)memory - 1)->size);
 }
 
 void *calloc(size_t count, size_t size)
@@ -98,6 +103,7 @@ void *realloc(void *memory, size_t size)
     if (made && memory) {
         size_t before = ((Head *)memory - 1)->size;
         memcpy(made, memory, before < size ? before : size);
+        free(memory);
     }
     return made;
 }
@@ -166,6 +172,7 @@ bool ex_opens_page(const void *address)
     if (!range || range->is_open[(page - range->start) / PAGE] || image->pages_count == sizeof image->pages / sizeof image->pages[0])
         return false;
     range->is_open[(page - range->start) / PAGE] = 1;
+    image->hashes[image->pages_count] = ex_bytes_hash(range->copy + (page - range->start), PAGE, (uintptr_t)page);
     image->pages[image->pages_count++] = page;
     mprotect(page, PAGE, PROT_READ | PROT_WRITE);
     return true;
@@ -178,4 +185,15 @@ void ex_put_back(void)
         Range *range = range_of(page);
         memcpy(page, range->copy + (page - range->start), PAGE);
     }
+}
+
+/* Of all that a run changed: pages that were written, and what the clients allocated. A page that is as it was counts as none. */
+uint64_t ex_memory_hash(void)
+{
+    uint64_t hash = 0;
+    for (size_t at = 0; at < image->pages_count; at++)
+        hash += ex_bytes_hash(image->pages[at], PAGE, (uintptr_t)image->pages[at]) - image->hashes[at];
+    for (size_t client = 1; client <= (size_t)ex->runners_count; client++)
+        hash += ex_bytes_hash(arena(client), (size_t)(next[client] - arena(client)), client);
+    return hash;
 }

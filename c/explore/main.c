@@ -18,7 +18,7 @@ static void start_run(void)
     ex->depth = ex->found_count = ex->schedule_length = ex->output_length = 0;
     ex->preemptions = ex->switches = ex->fails_used = ex->timeouts = ex->steps = ex->deviations = 0;
     ex->hash = 0;
-    ex->is_limited = false;
+    ex->is_limited = ex->is_given_up = false;
     ex->run++;
     ex->runs++;
     ex_start_clocks();
@@ -91,9 +91,14 @@ static double seconds(void)
 
 static void put_counts(double since)
 {
-    printf("bound %u: %llu schedules, %.2f s, longest %u; told %llu, races %llu, stuck %llu, crashed %llu\n", ex->bound, (unsigned long long)ex->schedules,
-           seconds() - since, ex->longest, (unsigned long long)ex->counts[TOLD], (unsigned long long)ex->counts[RACE],
+    printf(ex->has_no_bound ? "no bound: " : "bound %u: ", ex->bound);
+    printf("%llu schedules, ", (unsigned long long)ex->schedules);
+    if (ex->is_reduced)
+        printf("%llu given up, %llu states, ", (unsigned long long)ex->given_up, (unsigned long long)ex_states_count());
+    printf("%.2f s, longest %u; told %llu, races %llu, stuck %llu, crashed %llu\n", seconds() - since, ex->longest, (unsigned long long)ex->counts[TOLD], (unsigned long long)ex->counts[RACE],
            (unsigned long long)ex->counts[STUCK], (unsigned long long)ex->counts[CRASH]);
+    if (ex->full)
+        printf("the memory for %s is full: the search ends here, and isn't whole (--memory)\n", ex->full);
 }
 
 static void show_progress(double since)
@@ -112,30 +117,52 @@ static void search_bound(void)
 {
     double since = seconds();
     ex->length = 0;
-    ex->schedules = 0;
+    ex->schedules = ex->given_up = 0;
+    ex_forget_states();
     memset(ex->counts, 0, sizeof ex->counts);
     for (int at = 0; at < ex->kinds_count; at++)
         ex->kinds[at].count = 0;
     do {
         run_once();
         show_progress(since);
-    } while (ex_advance());
+    } while (!ex->full && ex_advance());
     put_counts(since);
 }
 
 static void search(unsigned bound)
 {
-    for (ex->bound = 0; ex->bound <= bound; ex->bound++)
+    if (ex->has_no_bound) {
+        ex->bound = UINT32_MAX;
         search_bound();
+        return;
+    }
+    for (ex->bound = 0; ex->bound <= bound && !ex->full; ex->bound++)
+        search_bound();
+}
+
+/* How long a run in order is: nothing of it is told. */
+static void measure(void)
+{
+    ex->bound = 0;
+    run_once();
+    ex->usual_steps = ex->steps ? ex->steps : 1;
+    ex->kinds_count = 0;
+    ex->schedules = 0;
+    ex->longest = 0;
+    memset(ex->counts, 0, sizeof ex->counts);
 }
 
 static void draw_runs(uint64_t seed, uint64_t runs)
 {
     double since = seconds();
+    if (ex->pct)
+        measure();
     ex->bound = UINT32_MAX;
     for (uint64_t at = 0; at < runs; at++) {
         ex->seed = seed + at;
         ex->random = (seed + at) * 0x9e3779b97f4a7c15ULL | 1;
+        if (ex->pct)
+            ex_draw_priorities();
         run_once();
     }
     printf("seeds %llu to %llu: ", (unsigned long long)seed, (unsigned long long)(seed + runs - 1));
@@ -147,7 +174,7 @@ static void draw_runs(uint64_t seed, uint64_t runs)
 static int usage(const char *name)
 {
     fprintf(stderr,
-            "usage: %s [--bound N] [--fails N] [--fail-each] [--ends] [--shard K/N] [--seed N [--runs N]] [--replay SCHEDULE [--trace]] [--allow KZ0000] [--quiet] SCENARIO\n",
+            "usage: %s [--bound N [--reduce] | --states] [--memory MB] [--fails N] [--fail-each] [--ends | --learn FILE | --expect-ends FILE] [--shard K/N] [--seed N [--runs N] [--pct N]] [--replay SCHEDULE [--trace]] [--allow KZ0000] [--quiet] SCENARIO\n",
             name);
     return 2;
 }
@@ -155,7 +182,7 @@ static int usage(const char *name)
 typedef struct {
     unsigned bound;
     uint64_t seed, runs;
-    const char *replay, *scenario;
+    const char *replay, *scenario, *learns, *expects;
 } Asked;
 
 static bool read_shard(const char *word)
@@ -177,8 +204,16 @@ static bool read_pair(const char *word, const char *value, Asked *asked)
         asked->runs = strtoull(value, &end, 10);
     else if (strcmp(word, "--replay") == 0)
         asked->replay = value;
+    else if (strcmp(word, "--learn") == 0)
+        asked->learns = value;
+    else if (strcmp(word, "--expect-ends") == 0)
+        asked->expects = value;
     else if (strcmp(word, "--shard") == 0)
         return read_shard(value);
+    else if (strcmp(word, "--pct") == 0)
+        return sscanf(value, "%u", &ex->pct) == 1 && ex->pct >= 1 && ex->pct <= DEPTH;
+    else if (strcmp(word, "--memory") == 0)
+        ex->memory = strtoull(value, &end, 10) << 20;
     else
         return strcmp(word, "--allow") == 0 && kz_allow(value);
     return !*end && *value;
@@ -195,6 +230,10 @@ static bool read_words(int count, char **words, Asked *asked)
             ex->is_quiet = true;
         else if (strcmp(words[at], "--strict") == 0)
             kz_be_strict(true);
+        else if (strcmp(words[at], "--reduce") == 0)
+            ex->is_reduced = true;
+        else if (strcmp(words[at], "--states") == 0)
+            ex->is_reduced = ex->has_no_bound = true;
         else if (strcmp(words[at], "--fail-each") == 0)
             ex->fails = 1, asked->bound = 0;
         else if (words[at][0] != '-' && !asked->scenario)
@@ -204,7 +243,8 @@ static bool read_words(int count, char **words, Asked *asked)
         else
             at++;
     }
-    return asked->scenario != NULL;
+    ex->wants_ends |= asked->learns || asked->expects;
+    return asked->scenario && !(ex->is_reduced && ex->shards > 1) && (asked->seed || !ex->pct);
 }
 
 /* ---- The set-up, in order. */
@@ -227,7 +267,9 @@ static int status(void)
         return 139;
     if (ex->counts[STUCK])
         return 6;
-    return ex->counts[TOLD] || ex->counts[RACE] ? 5 : 0;
+    if (ex->counts[TOLD] || ex->counts[RACE])
+        return 5;
+    return ex->full ? 4 : 0;
 }
 
 static int play(const char *replay)
@@ -243,7 +285,7 @@ static int play(const char *replay)
     for (int at = 0; ex->is_traced && at < ex->kinds_count; at++) {
         if (ex->kinds[at].of != END && ex->kinds[at].of != LIMITED) {
             fputs("==== ", stdout);
-            ex_put_sources(ex->kinds[at].text);
+            ex_put_sources(stdout, ex->kinds[at].text);
             putchar('\n');
         }
     }
@@ -255,9 +297,10 @@ int main(int count, char **words)
     Asked asked = {.bound = 2, .runs = 1000};
     ex_open_memory();
     ex = ex_map(sizeof *ex);
-    ex->room = ex_map(1UL << 30);
+    ex->room = ex_map(ROOM);
     setvbuf(stdout, ex_map(1 << 16), _IOLBF, 1 << 16);
     ex->is_quiet = true;
+    ex->memory = 1UL << 30;
     if (!read_words(count, words, &asked))
         return usage(words[0]);
     if (ex_read(asked.scenario) != 0 || !set_up())
@@ -265,6 +308,10 @@ int main(int count, char **words)
     ex_open_shadow();
     ex_open_stacks();
     ex_watch_faults();
+    if (asked.replay || asked.seed)
+        ex->is_reduced = ex->has_no_bound = false;
+    if (ex->is_reduced)
+        ex_open_states();
     ex_take_image();
     if (asked.replay)
         return play(asked.replay);
@@ -272,6 +319,10 @@ int main(int count, char **words)
         draw_runs(asked.seed, asked.runs);
     else
         search(asked.bound);
+    if (asked.learns && !ex->full)
+        return ex_learn_ends(asked.learns);
+    if (asked.expects && !ex->full)
+        return ex_compare_ends(asked.expects);
     ex_report();
     return status();
 }

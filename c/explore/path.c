@@ -4,18 +4,9 @@
 #include <stdlib.h>
 
 /* ---- The search: it follows the path, takes the first option beyond it, and appends that. */
-static uint64_t mixed(uint64_t value)
-{
-    value ^= value >> 33;
-    value *= 0xff51afd7ed558ccdULL;
-    value ^= value >> 33;
-    value *= 0xc4ceb9fe1a85ec53ULL;
-    return value ^ value >> 33;
-}
-
 bool ex_is_own(void)
 {
-    return ex->shards < 2 || mixed(ex->hash) % ex->shards == ex->shard;
+    return ex->shards < 2 || ex_mixed(ex->hash) % ex->shards == ex->shard;
 }
 
 /* The first two deviations from the usual order say whose part a run is. Once they are known, another's part isn't run. */
@@ -23,22 +14,26 @@ static void note_deviation(unsigned taken)
 {
     if (!taken || ex->deviations++ >= 2)
         return;
-    ex->hash = mixed(ex->hash * 1000003 + ex->depth * 16 + taken);
+    ex->hash = ex_mixed(ex->hash * 1000003 + ex->depth * 16 + taken);
     if (ex->deviations == 2 && !ex_is_own()) {
         ex->length = ex->depth;
         siglongjmp(ex->out, 1);
     }
 }
 
-static unsigned follow(unsigned count, bool is_switch)
+static unsigned follow(unsigned count, bool is_switch, int stays)
 {
     if (ex->depth == PATH) {
         ex_found(STUCK, "ENDLESS: the run has too many choices");
         siglongjmp(ex->out, 1);
     }
     Node *node = &ex->path[ex->depth];
+    if (ex->depth == ex->length && is_switch && ex->is_reduced && ex_is_known(stays)) {
+        ex->is_given_up = true;
+        siglongjmp(ex->out, 1);
+    }
     if (ex->depth == ex->length) {
-        *node = (Node){(uint8_t)count, 0, is_switch};
+        *node = (Node){(uint8_t)count, 0, is_switch, is_switch && ex->is_reduced ? node->key : 0};
         ex->length++;
     } else if (node->count != count) {
         ex_found(CRASH, "NOT REPEATABLE: the same schedule came to another choice");
@@ -110,7 +105,7 @@ static unsigned play_again(unsigned count, bool is_switch, const int *clients)
     exit(2);
 }
 
-/* ---- By a seed: a coin at each choice. */
+/* ---- By a seed: a coin at each choice, or priorities. */
 static unsigned draw(unsigned count)
 {
     ex->random ^= ex->random << 13;
@@ -119,13 +114,44 @@ static unsigned draw(unsigned count)
     return (unsigned)((ex->random >> 20) % count);
 }
 
-unsigned ex_decide(unsigned count, bool is_switch, const int *clients)
+/* Of each client at random; and the steps at which the one that runs falls behind all others, of those that a run in order has. */
+void ex_draw_priorities(void)
+{
+    for (int client = 0; client <= RUNNERS; client++)
+        ex->priorities[client] = DEPTH + 1 + draw(1U << 30);
+    for (unsigned at = 0; at + 1 < ex->pct; at++)
+        ex->changes[at] = 1 + draw(ex->usual_steps);
+    ex->changed = 0;
+}
+
+static void change_priorities(void)
+{
+    for (unsigned at = 0; at + 1 < ex->pct; at++)
+        if (ex->changes[at] <= ex->steps && !(ex->changed >> at & 1)) {
+            ex->changed |= 1U << at;
+            ex->priorities[ex->current] = DEPTH - at;
+        }
+}
+
+static unsigned by_priority(unsigned count, const int *clients)
+{
+    unsigned best = 0;
+    change_priorities();
+    for (unsigned at = 1; at < count; at++)
+        if (ex->priorities[clients[at]] > ex->priorities[clients[best]])
+            best = at;
+    return best;
+}
+
+unsigned ex_decide(unsigned count, bool is_switch, const int *clients, bool may_stay)
 {
     if (ex->replay)
         return play_again(count, is_switch, clients);
+    if (ex->seed && is_switch && ex->pct)
+        return by_priority(count, clients);
     if (ex->seed)
         return is_switch ? draw(count) : draw(8) == 0;
-    return follow(count, is_switch);
+    return follow(count, is_switch, may_stay ? clients[0] : 0);
 }
 
 /* How often the client goes on in a row; a refusal stands alone. */

@@ -19,33 +19,33 @@ static bool find_line(unsigned long address, char *line, int size)
     return is_found;
 }
 
-static void put_place(unsigned long address)
+static void put_place(FILE *to, unsigned long address)
 {
     char line[512];
     if (!find_line(address, line, sizeof line)) {
-        printf("%lx", address);
+        fprintf(to, "%lx", address);
         return;
     }
     line[strcspn(line, " \n")] = 0;
     const char *slash = strrchr(line, '/');
-    fputs(slash ? slash + 1 : line, stdout);
+    fputs(slash ? slash + 1 : line, to);
 }
 
-void ex_put_sources(const char *text)
+void ex_put_sources(FILE *to, const char *text)
 {
     while (*text) {
         size_t length = strcspn(text, "@");
         unsigned long address;
         int used = 0;
-        fwrite(text, 1, length, stdout);
+        fwrite(text, 1, length, to);
         text += length;
         if (!*text)
             return;
         if (sscanf(text + 1, "%lx%n", &address, &used) == 1 && address > 4096) {
-            put_place(address);
+            put_place(to, address);
             text += 1 + used;
         } else {
-            putchar(*text++);
+            putc(*text++, to);
         }
     }
 }

@@ -24,5 +24,5 @@ void ex_trace_step(const Runner *runner, bool is_preemption)
 
 void ex_trace_end(void)
 {
-    ex_put_sources(ex->trace);
+    ex_put_sources(stdout, ex->trace);
 }

@@ -18,6 +18,9 @@ void kz_new_client(KzClient *client, const char *name, unsigned number)
     client->inside = 0;
     client->number = number;
     client->timeout = 0;
+    client->places = 0;
+    client->busy = (KazdrinEvent){0};
+    client->busy_number = 0;
     client->names_count = 0;
     client->waits[0] = 0;
 }

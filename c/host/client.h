@@ -7,7 +7,10 @@
 struct KzClient {
     const char *name;
     KzPlace place;
+    uint64_t places; /* how many callbacks it was in */
     KazdrinTold told;
+    KazdrinEvent busy;     /* the event that was refused with 34; event 0 if none was */
+    uint64_t busy_number;  /* how many were in its way */
     uint64_t process, thread; /* who asks */
     PIRP top_level;
     KIRQL raised;

@@ -35,67 +35,6 @@ static size_t dead_next;
 
 static const char *const kind_names[] = {"a volume", "an instance", "a stream", "a stream handle"};
 
-/* ---- Registration. */
-
-/* The manager's number of a kind of context; 4 of a kind that it lacks, 5 of none. */
-static uint8_t kind_of(FLT_CONTEXT_TYPE type)
-{
-    switch (type) {
-    case FLT_VOLUME_CONTEXT:
-        return 0;
-    case FLT_INSTANCE_CONTEXT:
-        return 1;
-    case FLT_STREAM_CONTEXT:
-        return 2;
-    case FLT_STREAMHANDLE_CONTEXT:
-        return 3;
-    case FLT_FILE_CONTEXT:
-    case FLT_TRANSACTION_CONTEXT:
-    case FLT_SECTION_CONTEXT:
-        return 4;
-    default:
-        return 5;
-    }
-}
-
-static bool is_twice(const FLT_CONTEXT_REGISTRATION *first, const FLT_CONTEXT_REGISTRATION *one)
-{
-    for (const FLT_CONTEXT_REGISTRATION *other = first; other < one; other++)
-        if (other->ContextType == one->ContextType && other->Size == one->Size)
-            return true;
-    return false;
-}
-
-NTSTATUS kz_registration_of_contexts(PFLT_FILTER filter, uint8_t *mask)
-{
-    const FLT_CONTEXT_REGISTRATION *first = filter->registration.ContextRegistration, *one = first;
-    *mask = 0;
-    for (; one && one->ContextType != FLT_CONTEXT_END; one++) {
-        uint8_t kind = kind_of(one->ContextType);
-        if (kind == 5) {
-            kz_tell(KZ_NO_END, "FltRegisterFilter", "context type 0x%04x is none (is FLT_CONTEXT_END missing?)", one->ContextType);
-            return STATUS_FLT_INVALID_CONTEXT_REGISTRATION;
-        }
-        if (is_twice(first, one)) {
-            kz_tell(KZ_TWO_CONTEXTS, "FltRegisterFilter", "context type 0x%04x is registered twice with one size", one->ContextType);
-            return STATUS_FLT_INVALID_CONTEXT_REGISTRATION;
-        }
-        if (kind < 4)
-            *mask |= (uint8_t)(1 << kind);
-    }
-    return STATUS_SUCCESS;
-}
-
-static const FLT_CONTEXT_REGISTRATION *registered(PFLT_FILTER filter, FLT_CONTEXT_TYPE type, SIZE_T size)
-{
-    const FLT_CONTEXT_REGISTRATION *one = filter->registration.ContextRegistration;
-    for (; one && one->ContextType != FLT_CONTEXT_END; one++)
-        if (one->ContextType == type && (one->Size == size || one->Size == FLT_VARIABLE_SIZED_CONTEXTS ||
-                                         (one->Flags & FLTFL_CONTEXT_REGISTRATION_NO_EXACT_SIZE_MATCH && size <= one->Size)))
-            return one;
-    return NULL;
-}
-
 /* ---- Finding. */
 static Header *find(PVOID body)
 {
@@ -235,10 +174,10 @@ NTSTATUS FltAllocateContext(PFLT_FILTER Filter, FLT_CONTEXT_TYPE ContextType, SI
         kz_tell(KZ_OTHER_FILTER, __func__, "of a filter that isn't the callback's own");
         return STATUS_INVALID_PARAMETER;
     }
-    const FLT_CONTEXT_REGISTRATION *how = registered(Filter, ContextType, ContextSize);
+    const FLT_CONTEXT_REGISTRATION *how = kz_registered_context(Filter, ContextType, ContextSize);
     if (!how)
         return STATUS_FLT_CONTEXT_ALLOCATION_NOT_FOUND;
-    if (kind_of(ContextType) > 3) {
+    if (kz_context_kind(ContextType) > 3) {
         kz_tell(KZ_NO_SUCH_CONTEXTS, __func__, "contexts of files, transactions and sections aren't modelled: it answers STATUS_NOT_SUPPORTED");
         return STATUS_NOT_SUPPORTED;
     }
@@ -246,7 +185,7 @@ NTSTATUS FltAllocateContext(PFLT_FILTER Filter, FLT_CONTEXT_TYPE ContextType, SI
     if (!body)
         return STATUS_INSUFFICIENT_RESOURCES;
     Header *made = kz_memory(sizeof *made);
-    *made = (Header){.next = live, .body = body, .kind = kind_of(ContextType), .type = ContextType, .filter = Filter, .how = how};
+    *made = (Header){.next = live, .body = body, .kind = kz_context_kind(ContextType), .type = ContextType, .filter = Filter, .how = how};
     live = made;
     uint32_t status = make_known(made);
     if (status == KZ_WRONG_STEP || status == KZ_HAND_FULL) {
@@ -522,68 +461,6 @@ VOID FltDeleteContext(PFLT_CONTEXT Context)
     else
         kz_tell(KZ_NOT_OWN_OBJECT, __func__, "a context of an object that isn't the callback's own: it stays there");
     FltReleaseContext(there);
-}
-
-/* ---- All of them at once. */
-VOID FltGetContexts(PCFLT_RELATED_OBJECTS FltObjects, FLT_CONTEXT_TYPE DesiredContexts, PFLT_RELATED_CONTEXTS Contexts)
-{
-    memset(Contexts, 0, sizeof *Contexts);
-    if (DesiredContexts & FLT_VOLUME_CONTEXT && FltObjects->Volume)
-        FltGetVolumeContext(FltObjects->Filter, FltObjects->Volume, &Contexts->VolumeContext);
-    if (DesiredContexts & FLT_INSTANCE_CONTEXT && FltObjects->Instance)
-        FltGetInstanceContext(FltObjects->Instance, &Contexts->InstanceContext);
-    if (DesiredContexts & FLT_STREAM_CONTEXT && FltObjects->FileObject)
-        FltGetStreamContext(FltObjects->Instance, FltObjects->FileObject, &Contexts->StreamContext);
-    if (DesiredContexts & FLT_STREAMHANDLE_CONTEXT && FltObjects->FileObject)
-        FltGetStreamHandleContext(FltObjects->Instance, FltObjects->FileObject, &Contexts->StreamHandleContext);
-}
-
-VOID FltReleaseContexts(PFLT_RELATED_CONTEXTS Contexts)
-{
-    PFLT_CONTEXT all[] = {Contexts->VolumeContext, Contexts->InstanceContext, Contexts->StreamContext, Contexts->StreamHandleContext};
-    for (size_t at = 0; at < sizeof all / sizeof all[0]; at++)
-        if (all[at])
-            FltReleaseContext(all[at]);
-    memset(Contexts, 0, sizeof *Contexts);
-}
-
-NTSTATUS FltGetContextsEx(PCFLT_RELATED_OBJECTS FltObjects, FLT_CONTEXT_TYPE DesiredContexts, SIZE_T ContextsSize, PFLT_RELATED_CONTEXTS_EX Contexts)
-{
-    if (ContextsSize < sizeof(FLT_RELATED_CONTEXTS))
-        return STATUS_INVALID_PARAMETER;
-    memset(Contexts, 0, ContextsSize);
-    FltGetContexts(FltObjects, DesiredContexts, (PFLT_RELATED_CONTEXTS)Contexts);
-    return STATUS_SUCCESS;
-}
-
-VOID FltReleaseContextsEx(SIZE_T ContextsSize, PFLT_RELATED_CONTEXTS_EX Contexts)
-{
-    (void)ContextsSize;
-    FltReleaseContexts((PFLT_RELATED_CONTEXTS)Contexts);
-}
-
-BOOLEAN FltSupportsFileContexts(PFILE_OBJECT FileObject)
-{
-    (void)FileObject;
-    return FALSE;
-}
-
-BOOLEAN FltSupportsFileContextsEx(PFILE_OBJECT FileObject, PFLT_INSTANCE Instance)
-{
-    (void)FileObject, (void)Instance;
-    return FALSE;
-}
-
-BOOLEAN FltSupportsStreamContexts(PFILE_OBJECT FileObject)
-{
-    KZ_INSIDE();
-    KzFile *file = kz_file_with(FileObject);
-    return file && !file->is_directory;
-}
-
-BOOLEAN FltSupportsStreamHandleContexts(PFILE_OBJECT FileObject)
-{
-    return FltSupportsStreamContexts(FileObject);
 }
 
 /* ---- What a callback holds as it returns. */

@@ -223,6 +223,12 @@ static struct {
     unsigned after;
 } fails[] = {{"device", "the device", 0}, {"pool", "ExAllocatePool", 0}, {"context", "FltAllocateContext", 0}, {"name", "FltGetFileNameInformation", 0}};
 
+void kz_forget_fails(void)
+{
+    for (size_t at = 0; at < sizeof fails / sizeof fails[0]; at++)
+        fails[at].after = 0;
+}
+
 bool kz_fails_now(const char *call)
 {
     for (size_t at = 0; at < sizeof fails / sizeof fails[0]; at++)

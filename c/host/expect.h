@@ -10,6 +10,8 @@ void kz_note_callback(KzCallback callback, PFLT_FILTER filter);
 void kz_note_told(KzMessage message, bool is_counted, const char *line);
 void kz_note_reply(KzReply reply, const uint8_t *bytes, size_t length);
 bool kz_fails_now(const char *call);
+/* A run begins with no call that is to fail. */
+void kz_forget_fails(void);
 void kz_forget_notes(void);
 void kz_next_line(void);
 

@@ -262,6 +262,7 @@ VOID FltUnregisterFilter(PFLT_FILTER Filter)
 {
     KZ_CALL();
     KzPlace place = kz_me->place;
+    char text[512];
     if (Filter != place.filter || !Filter || !is_loaded(Filter) || (place.callback != KZ_IN_UNLOAD && place.callback != KZ_IN_ENTRY)) {
         kz_tell(KZ_UNREGISTERED_OUTSIDE, __func__, "outside the unload callback of the filter, or called twice");
         return;
@@ -273,7 +274,7 @@ VOID FltUnregisterFilter(PFLT_FILTER Filter)
     Filter->end = end(Filter);
     kz_me->place = place;
     if (Filter->end == KZ_BUSY)
-        kz_tell(KZ_UNREGISTER_WAITS, __func__, "operations are in flight at an instance: it returns before they end");
+        kz_tell(KZ_UNREGISTER_WAITS, __func__, "%s: it returns before they end", kz_busy_text(text, sizeof text));
     if (is_gone(Filter))
         kz_tell_kept(Filter);
 }

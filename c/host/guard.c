@@ -12,10 +12,30 @@ enum { ZONE = 32, ZONE_BYTE = 0xfd, GONE_BYTE = 0xdd };
 /* How much of what was given back is kept, to see whether it is written. */
 enum { KEPT = 64, KEPT_BYTES = 4096 };
 
-/* All pieces, the newest first, and those that were given back. Whoever has the manager has these too. */
-static KzPiece *pieces;
-static KzPiece *gone[KEPT];
-static size_t gone_next;
+/* Of each client the pieces that it took, the newest first, and those that it gave back: so their order is its own alone. Whoever has the manager has these too. */
+enum { LISTS = 16 };
+static KzPiece *pieces[LISTS];
+static struct {
+    KzPiece *pieces[KEPT];
+    size_t next;
+} gone[LISTS];
+
+static unsigned my_list(void)
+{
+    return kz_me->number % LISTS;
+}
+
+static KzPiece *first_from(unsigned list)
+{
+    while (list < LISTS && !pieces[list])
+        list++;
+    return list < LISTS ? pieces[list] : NULL;
+}
+
+static KzPiece *piece_behind(const KzPiece *piece)
+{
+    return piece->next ? piece->next : first_from(piece->list + 1);
+}
 
 static uint8_t *body_of(const KzPiece *piece)
 {
@@ -43,10 +63,11 @@ void *kz_take_memory(KzMemory kind, size_t size, int fill, ULONG tag)
     KzPiece *piece = malloc(sizeof *piece + ZONE + size + ZONE);
     if (!piece)
         return NULL;
-    *piece = (KzPiece){.next = pieces, .size = size, .kind = kind, .filter = kz_me->place.filter, .tag = tag};
-    if (pieces)
-        pieces->before = piece;
-    pieces = piece;
+    KzPiece **first = &pieces[my_list()];
+    *piece = (KzPiece){.next = *first, .size = size, .kind = kind, .filter = kz_me->place.filter, .tag = tag, .list = my_list()};
+    if (*first)
+        (*first)->before = piece;
+    *first = piece;
     memset(body_of(piece) - ZONE, ZONE_BYTE, ZONE);
     memset(body_of(piece), fill, size);
     memset(body_of(piece) + size, ZONE_BYTE, ZONE);
@@ -56,7 +77,7 @@ void *kz_take_memory(KzMemory kind, size_t size, int fill, ULONG tag)
 
 KzPiece *kz_piece_of(const void *memory)
 {
-    for (KzPiece *piece = pieces; piece; piece = piece->next)
+    for (KzPiece *piece = first_from(0); piece; piece = piece_behind(piece))
         if (body_of(piece) == memory)
             return piece;
     return NULL;
@@ -104,7 +125,7 @@ static void look_at_last(PFLT_FILTER filter);
 /* Looks at the memory of a filter, as its callback returns. */
 void kz_check_memory(PFLT_FILTER filter)
 {
-    for (KzPiece *piece = pieces; piece; piece = piece->next)
+    for (KzPiece *piece = first_from(0); piece; piece = piece_behind(piece))
         if (piece->filter == filter)
             kz_check_piece(piece);
     look_at_last(filter);
@@ -133,20 +154,20 @@ static void look_at(KzPiece *piece)
     memset(body_of(piece), GONE_BYTE, piece->size);
 }
 
-/* The last few that a filter gave back, as its callback returns. */
+/* The last few that a filter gave back in this client, as its callback returns. */
 static void look_at_last(PFLT_FILTER filter)
 {
     for (size_t at = 1; at <= 8; at++) {
-        KzPiece *piece = gone[(gone_next + KEPT - at) % KEPT];
+        KzPiece *piece = gone[my_list()].pieces[(gone[my_list()].next + KEPT - at) % KEPT];
         if (piece && piece->filter == filter && piece->size <= 256)
             look_at(piece);
     }
 }
 
-static void forget(size_t place)
+static void forget(KzPiece **place)
 {
-    KzPiece *piece = gone[place];
-    gone[place] = NULL;
+    KzPiece *piece = *place;
+    *place = NULL;
     if (!piece)
         return;
     KzPlace before = kz_enter(KZ_IN_NOTHING, piece->filter, NULL, NULL, NULL);
@@ -162,7 +183,7 @@ void kz_give_back(void *memory)
         return;
     kz_check_piece(piece);
     kz_scheduler->touch(body_of(piece), piece->size, KZ_HAS_TAKEN_BACK);
-    *(piece->before ? &piece->before->next : &pieces) = piece->next;
+    *(piece->before ? &piece->before->next : &pieces[piece->list]) = piece->next;
     if (piece->next)
         piece->next->before = piece->before;
     open_all(piece);
@@ -171,16 +192,24 @@ void kz_give_back(void *memory)
         return;
     }
     memset(body_of(piece), GONE_BYTE, piece->size);
-    forget(gone_next);
-    gone[gone_next] = piece;
-    gone_next = (gone_next + 1) % KEPT;
+    size_t *next = &gone[my_list()].next;
+    forget(&gone[my_list()].pieces[*next]);
+    gone[my_list()].pieces[*next] = piece;
+    *next = (*next + 1) % KEPT;
+}
+
+static void forget_list(unsigned list)
+{
+    for (size_t at = 0; at < KEPT; at++)
+        forget(&gone[list].pieces[(gone[list].next + at) % KEPT]);
 }
 
 /* At the end: what was written after its last use is told. */
 void kz_tell_gone(void)
 {
-    for (size_t at = 0; at < KEPT; at++)
-        forget((gone_next + at) % KEPT);
+    for (unsigned list = 0; list < LISTS; list++)
+        if (gone[list].pieces[0])
+            forget_list(list);
 }
 
 /* Memory of a pool that a filter took and never freed. */
@@ -188,7 +217,7 @@ void kz_tell_pools(PFLT_FILTER filter)
 {
     KzPlace before = kz_enter(KZ_IN_NOTHING, filter, NULL, NULL, NULL);
     char tag[8];
-    for (KzPiece *piece = pieces; piece; piece = piece->next)
+    for (KzPiece *piece = first_from(0); piece; piece = piece_behind(piece))
         if (piece->kind == KZ_POOL && piece->filter == filter)
             kz_tell(KZ_POOL_LEAK, "ExFreePoolWithTag", "never called for %llu bytes of a pool, tag '%s'", (unsigned long long)piece->size, kz_tag(piece->tag, tag));
     kz_me->place = before;
@@ -196,15 +225,13 @@ void kz_tell_pools(PFLT_FILTER filter)
 
 void kz_free_memory(void)
 {
-    while (pieces) {
-        KzPiece *piece = pieces;
-        pieces = piece->next;
+    for (KzPiece *piece = first_from(0), *behind; piece; piece = behind) {
+        behind = piece_behind(piece);
         open_all(piece);
         free(piece);
     }
-    for (size_t at = 0; at < KEPT; at++) {
-        free(gone[at]);
-        gone[at] = NULL;
-    }
-    gone_next = 0;
+    memset(pieces, 0, sizeof pieces);
+    for (size_t at = 0; at < (size_t)LISTS * KEPT; at++)
+        free(gone[at / KEPT].pieces[at % KEPT]);
+    memset(gone, 0, sizeof gone);
 }

@@ -11,7 +11,10 @@ uint32_t kz_event_with(KazdrinEvent event, const void *bytes, size_t length)
 {
     if (!event.worker)
         event.worker = kz_me->place.worker;
-    return kazdrin_step(&kz.manager, &event, bytes, length, &kz_me->told, kz_me->room, sizeof kz_me->room);
+    uint32_t status = kazdrin_step(&kz.manager, &event, bytes, length, &kz_me->told, kz_me->room, sizeof kz_me->room);
+    if (status == KZ_BUSY)
+        kz_note_busy(&event, kz_me->told.number);
+    return status;
 }
 
 uint32_t kz_event(KazdrinEvent event)
@@ -109,6 +112,7 @@ int kz_open(const KzDriver *drivers, size_t count)
     kz = (KzHost){.drivers = drivers, .drivers_count = count};
     kz.resumed_end = &kz.resumed;
     kz_forget_notes();
+    kz_forget_fails();
     kz_new_client(kz_me, "first", 0);
     kz_watch_crashes();
     if (kazdrin_open(&kz.manager) != KZ_OK)

@@ -34,6 +34,7 @@ enum {
 #define KZ_BYTES 32768
 /* A listing's buffer, and the most that a driver is given at once. */
 #define KZ_LIST_BYTES 16384
+#define KZ_OWED 16
 #define KZ_LARGEST ((size_t)1 << 30)
 
 typedef enum {
@@ -109,6 +110,7 @@ typedef struct KzFile {
     uint64_t handle;
     bool has_handle, is_directory, is_close_due;
     unsigned users; /* operations, and the handle */
+    unsigned maker; /* the number of the client: lists are in this order, so that they are the same whoever came first */
     PFLT_VOLUME volume;
     char path[256];
 } KzFile;
@@ -172,7 +174,9 @@ struct KzOp {
     uint8_t *asked, *pristine, *answered; /* the bytes that a callback was shown, and what they were before it */
     size_t asked_length, answered_length;
     KzHold held;
-    PFLT_INSTANCE holder;
+    PFLT_INSTANCE holder, owed[KZ_OWED]; /* those whose teardown waits for it, as far as there is room */
+    unsigned owed_count;
+    unsigned maker;
     KzClient *runner; /* who carries it on, also while it is held */
     unsigned users;   /* callbacks that look at it beside its runner */
     bool is_resumed, is_over;
@@ -188,7 +192,6 @@ typedef struct {
     Kazdrin manager;
     const KzDriver *drivers;
     size_t drivers_count;
-    uint64_t places;
     uint32_t helpers; /* a bit for each that is busy */
     PFLT_FILTER filters[16];
     PFLT_VOLUME volumes[8];
@@ -212,6 +215,11 @@ void *kz_memory(size_t size);
 void kz_say(const char *format, ...) __attribute__((format(printf, 1, 2)));
 void kz_put(const char *text);
 void kz_end(void);
+
+/* busy.c: what was in the way of the first event that was refused with 34 since it was forgotten. */
+void kz_forget_busy(void);
+void kz_note_busy(const KazdrinEvent *event, uint64_t number);
+const char *kz_busy_text(char *room, size_t size);
 
 /* told.c: what is told, and where. */
 void kz_tell(KzMessage message, const char *call, const char *format, ...) __attribute__((format(printf, 3, 4)));
@@ -241,6 +249,7 @@ typedef struct KzPiece {
     PFLT_FILTER filter;
     ULONG tag;
     KzMemory kind;
+    unsigned list;
     bool is_told;
 } __attribute__((aligned(16))) KzPiece;
 void *kz_take_memory(KzMemory kind, size_t size, int fill, ULONG tag);
@@ -287,8 +296,12 @@ void kz_free_work(void);
 void kz_tell_ports(PFLT_FILTER filter);
 void kz_free_ports(void);
 
-/* context.c */
+/* contexts.c */
 NTSTATUS kz_registration_of_contexts(PFLT_FILTER filter, uint8_t *mask);
+uint8_t kz_context_kind(FLT_CONTEXT_TYPE type);
+const FLT_CONTEXT_REGISTRATION *kz_registered_context(PFLT_FILTER filter, FLT_CONTEXT_TYPE type, SIZE_T size);
+
+/* context.c */
 bool kz_sends(KzOp *op, PVOID completion, KazdrinEvent *event);
 void kz_keep_rest(const KazdrinEvent *sent);
 void kz_clean_up(void);
@@ -302,11 +315,14 @@ void kz_take_pre(KzOp *op, bool has_post, bool is_completed);
 void kz_take_post(KzOp *op);
 void kz_serve(KzOp *op);
 bool kz_is_touched(KzOp *op);
-void kz_renew_data(KzOp *op);
 void kz_forget_swap(KzOp *op, PFLT_INSTANCE instance);
 void kz_free_data(KzOp *op);
+void kz_keep_mdl(KzOp *op, PMDL mdl);
+
+/* block.c */
 void *kz_block(KzOp *op, size_t size);
 FLT_CALLBACK_DATA *kz_new_data(PETHREAD thread, PFLT_IO_PARAMETER_BLOCK iopb);
+void kz_renew_data(KzOp *op);
 
 /* names.c */
 void kz_wide(PUNICODE_STRING to, WCHAR *room, const char *text);
@@ -318,7 +334,18 @@ void kz_free_names(void);
 bool kz_set_volume(PFLT_VOLUME volume, const char *word);
 void kz_new_volume(PFLT_VOLUME volume);
 
-/* operation.c */
+/* file.c */
+KzFile *kz_file_of(uint64_t handle);
+KzFile *kz_file_with(PFILE_OBJECT object);
+KzFile *kz_new_file(PFLT_VOLUME volume, const char *path, bool is_directory);
+void kz_file_opened(KzFile *file);
+void kz_let_go_file(KzFile *file);
+void kz_drop_file(uint64_t handle);
+
+/* operation.c: also its verdicts, and whether one waits still for what it passed. */
+KazdrinEvent kz_verdict_of(KzOp *op, PFLT_INSTANCE instance, FLT_PREOP_CALLBACK_STATUS said, PVOID completion);
+bool kz_owes(KzOp *op, PFLT_INSTANCE instance, const KazdrinEvent *verdict);
+void kz_leave_flight(KzOp *op, PFLT_INSTANCE instance);
 KzReply kz_perform(KazdrinEvent asked, const void *bytes, size_t length, const char *path);
 KzReply kz_close_file(uint64_t handle);
 void kz_settle(void);
@@ -332,10 +359,8 @@ void kz_pass_reply(KzReply reply, const uint8_t *bytes, size_t length);
 bool kz_drain_next(PFLT_INSTANCE instance);
 FLT_RELATED_OBJECTS kz_objects(PFLT_INSTANCE instance, KzFile *file);
 KzOp *kz_op_with(PFLT_CALLBACK_DATA data);
-KzFile *kz_file_with(PFILE_OBJECT object);
 void kz_tell_held(void);
 void kz_free_ops(void);
-void kz_drop_file(uint64_t handle);
 
 /* filter.c */
 uint64_t kz_filter_phase(PFLT_FILTER filter);

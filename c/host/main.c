@@ -11,12 +11,12 @@ typedef struct {
     unsigned threads;
     double seconds;
     unsigned long long seed;
-    const char *load, *requests;
+    const char *load, *requests, *folder;
 } Asked;
 
 static int usage(const char *name)
 {
-    fprintf(stderr, "usage: %s [--allow KZ0000].. [--strict] [--quiet] [--json] [--junit FILE] [REQUESTS | --load SCENARIO [--threads N] [--seconds S] [--seed N]]\n", name);
+    fprintf(stderr, "usage: %s [--allow KZ0000].. [--strict] [--quiet] [--json] [--junit FILE] [--folder FOLDER] [REQUESTS | --load SCENARIO [--threads N] [--seconds S] [--seed N]]\n", name);
     return 2;
 }
 
@@ -34,6 +34,8 @@ static bool read_pair(const char *word, const char *value, Asked *asked)
         asked->load = value;
     else if (strcmp(word, "--junit") == 0)
         kz_use_junit(value);
+    else if (strcmp(word, "--folder") == 0)
+        asked->folder = value;
     else
         return strcmp(word, "--allow") == 0 && kz_allow(value);
     return !*end;
@@ -63,6 +65,11 @@ int main(int count, char **words)
     Asked asked = {.threads = 4, .seconds = 10, .seed = 1};
     if (!read_words(count, words, &asked))
         return usage(words[0]);
+    int error = asked.folder ? kz_use_folder(asked.folder) : 0;
+    if (error) {
+        fprintf(stderr, "%s: %s\n", asked.folder, strerror(error));
+        return 3;
+    }
     if (asked.load)
         return kz_run_load(kz_drivers, kz_drivers_count, asked.load, asked.threads, asked.seconds, asked.seed);
     if (asked.requests)

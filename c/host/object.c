@@ -40,9 +40,11 @@ static PETHREAD thread_of(uint64_t process, uint64_t id)
     for (PETHREAD one = threads; one; one = one->next)
         if (one->id == id && one->process == owner)
             return one;
-    PETHREAD made = kz_memory(sizeof *made);
-    *made = (struct _ETHREAD){threads, owner, id};
-    return threads = made;
+    PETHREAD made = kz_memory(sizeof *made), *place = &threads;
+    while (*place && (*place)->id < id)
+        place = &(*place)->next;
+    *made = (struct _ETHREAD){*place, owner, id};
+    return *place = made;
 }
 
 PETHREAD KzCurrentThread(VOID)

@@ -1,78 +1,10 @@
 /* Operations: each from its beginning to its reply, with all callbacks in between. */
 #include "expect.h"
+#include "folder.h"
 
 #include <stdlib.h>
 
 typedef enum { GOES, HELD, DONE } Turn;
-
-/* ---- Open files. */
-static KzFile *file_of(uint64_t handle)
-{
-    for (KzFile *file = kz.files; file; file = file->next)
-        if (file->has_handle && file->handle == handle)
-            return file;
-    return NULL;
-}
-
-KzFile *kz_file_with(PFILE_OBJECT object)
-{
-    for (KzFile *file = kz.files; file; file = file->next)
-        if (&file->object == object)
-            return file;
-    return NULL;
-}
-
-static KzFile *new_file(PFLT_VOLUME volume, const char *path, bool is_directory)
-{
-    KzFile *file = kz_memory(sizeof *file + sizeof(WCHAR) * 260);
-    char text[260] = "/";
-    file->volume = volume;
-    file->is_directory = is_directory;
-    strncpy(file->path, path, sizeof file->path - 1);
-    memcpy(text + 1, file->path, sizeof file->path);
-    kz_wide(&file->object.FileName, (WCHAR *)(file + 1), text);
-    file->object.Type = 5;
-    file->object.Size = sizeof(FILE_OBJECT);
-    file->object.DeviceObject = &volume->disk;
-    file->object.SectionObjectPointer = &file->sections;
-    file->object.Flags = FO_SYNCHRONOUS_IO;
-    InitializeListHead(&file->object.IrpList);
-    file->next = kz.files;
-    kz.files = file;
-    return file;
-}
-
-/* The file system opened it: what it keeps with a file object is there. */
-static void open_file(KzFile *file)
-{
-    PFILE_OBJECT object = &file->object;
-    object->FsContext = file;
-    object->FsContext2 = &file->sections;
-    object->Flags |= FO_HANDLE_CREATED | FO_CACHE_SUPPORTED;
-    object->ReadAccess = object->WriteAccess = object->DeleteAccess = TRUE;
-    object->SharedRead = object->SharedWrite = object->SharedDelete = TRUE;
-}
-
-static void let_go(KzFile *file)
-{
-    if (--file->users > 0)
-        return;
-    for (KzFile **at = &kz.files; *at; at = &(*at)->next)
-        if (*at == file) {
-            *at = file->next;
-            break;
-        }
-    free(file);
-}
-
-void kz_drop_file(uint64_t handle)
-{
-    KzFile *file = file_of(handle);
-    if (!file)
-        return;
-    file->has_handle = false;
-    let_go(file);
-}
 
 /* ---- Operations under way. */
 static KzOp *op_of(uint64_t id)
@@ -121,8 +53,12 @@ static KzOp *new_op(uint64_t id, KazdrinEvent asked, KzFile *file, PFLT_VOLUME v
         kz_scheduler->touch(file, 0, KZ_TAKES); /* it comes behind all operations of the file object */
     op->caller_room = caller_room(asked);
     op->caller = kz_block(op, op->caller_room);
-    op->next = kz.ops;
-    kz.ops = op;
+    op->maker = kz_me->number;
+    KzOp **place = &kz.ops;
+    while (*place && (*place)->maker < op->maker)
+        place = &(*place)->next;
+    op->next = *place;
+    *place = op;
     return op;
 }
 
@@ -139,7 +75,7 @@ static void free_op(KzOp *op)
             break;
         }
     kz_free_data(op);
-    let_go(op->file);
+    kz_let_go_file(op->file);
     free(op);
     kz.changes++;
 }
@@ -181,7 +117,7 @@ static void complete(KzOp *op, KazdrinEvent *verdict)
     }
 }
 
-static KazdrinEvent verdict_of(KzOp *op, PFLT_INSTANCE instance, FLT_PREOP_CALLBACK_STATUS said, PVOID completion)
+KazdrinEvent kz_verdict_of(KzOp *op, PFLT_INSTANCE instance, FLT_PREOP_CALLBACK_STATUS said, PVOID completion)
 {
     KazdrinEvent verdict = {.mode = KZ_NO_CALLBACK, .operation = op->id, .worker = kz_me->place.worker};
     switch (said) {
@@ -232,16 +168,28 @@ static FLT_PREOP_CALLBACK_STATUS ask_pre(KzOp *op, PFLT_INSTANCE instance, PVOID
 }
 
 /* Whether it still owes the instance something: then its teardown waits. */
-static bool owes(KzOp *op, PFLT_INSTANCE instance, const KazdrinEvent *verdict)
+bool kz_owes(KzOp *op, PFLT_INSTANCE instance, const KazdrinEvent *verdict)
 {
     if (verdict->mode == KZ_PENDING)
         return true;
     return (verdict->mode == KZ_WITH_CALLBACK || verdict->mode == KZ_SYNCHRONIZE) && kz_registered(instance->filter, kz_major(op->event))->PostOperation;
 }
 
-static void leave_flight(PFLT_INSTANCE instance)
+static void enter_flight(KzOp *op, PFLT_INSTANCE instance)
+{
+    instance->in_flight++;
+    if (op->owed_count < KZ_OWED)
+        op->owed[op->owed_count++] = instance;
+}
+
+void kz_leave_flight(KzOp *op, PFLT_INSTANCE instance)
 {
     instance->in_flight--;
+    for (unsigned at = 0; at < op->owed_count; at++)
+        if (op->owed[at] == instance) {
+            op->owed[at] = op->owed[--op->owed_count];
+            break;
+        }
     kz.changes++;
     kz_scheduler->touch(&instance->in_flight, 0, KZ_GIVES);
 }
@@ -249,11 +197,11 @@ static void leave_flight(PFLT_INSTANCE instance)
 static void pre(KzOp *op, PFLT_INSTANCE instance)
 {
     PVOID completion = NULL;
-    instance->in_flight++;
+    enter_flight(op, instance);
     KzPlace before = kz_enter(KZ_IN_PRE, instance->filter, instance, op, op->data);
     kz_show_pre(op, instance);
     FLT_PREOP_CALLBACK_STATUS said = ask_pre(op, instance, &completion);
-    KazdrinEvent verdict = verdict_of(op, instance, said, completion);
+    KazdrinEvent verdict = kz_verdict_of(op, instance, said, completion);
     kz_scheduler->touch(&op->users, 0, KZ_GIVES); /* what it sends along may be drained by another client */
     kz_keep_rest(&verdict);
     kz_leave(before);
@@ -261,8 +209,8 @@ static void pre(KzOp *op, PFLT_INSTANCE instance)
         op->held = KZ_HELD_PRE;
         op->holder = instance;
     }
-    if (!owes(op, instance, &verdict))
-        leave_flight(instance);
+    if (!kz_owes(op, instance, &verdict))
+        kz_leave_flight(op, instance);
     kz_clean_up();
 }
 
@@ -272,7 +220,7 @@ static void post(KzOp *op, PFLT_INSTANCE instance, PVOID completion)
     KzPlace before = kz_enter(KZ_IN_POST, instance->filter, instance, op, op->data);
     kz_show_post(op, instance);
     if (op->event == KZ_CREATE && NT_SUCCESS(op->data->IoStatus.Status))
-        open_file(op->file);
+        kz_file_opened(op->file);
     FLT_RELATED_OBJECTS objects = kz_objects(instance, op->file);
     PFLT_POST_OPERATION_CALLBACK callback = kz_registered(instance->filter, kz_major(op->event))->PostOperation;
     op->is_in_post = true;
@@ -297,7 +245,7 @@ static void post(KzOp *op, PFLT_INSTANCE instance, PVOID completion)
         op->held = KZ_HELD_POST;
         op->holder = instance;
     } else {
-        leave_flight(instance);
+        kz_leave_flight(op, instance);
     }
     kz_clean_up();
 }
@@ -323,7 +271,7 @@ static void drain(KzOp *op, PFLT_INSTANCE instance, PVOID completion)
     kz_forget_swap(op, instance);
     kz_keep_rest(NULL);
     kz_leave(before);
-    leave_flight(instance);
+    kz_leave_flight(op, instance);
     op->users--;
     if (op->is_over)
         free_op(op);
@@ -350,7 +298,9 @@ static void call_base(KzOp *op)
 {
     KazdrinEvent event = {.worker = kz_me->place.worker, .status = KZ_DEVICE_FAULT};
     bool is_failed = op->event != KZ_CLEANUP && op->event != KZ_CLOSE && kz_refuses("the device");
-    if (!is_failed || kazdrin_based(&kz.manager, &event, (const uint8_t *)"", 0) != KZ_OK)
+    if (is_failed && kazdrin_based(&kz.manager, &event, (const uint8_t *)"", 0) == KZ_OK)
+        return;
+    if (!kz_call_base_folder(event.worker))
         kazdrin_base(&kz.manager, &event);
 }
 
@@ -448,7 +398,7 @@ static KzReply collect(KzOp *op, NTSTATUS *other)
     }
     kz_scheduler->touch(op->file, 0, KZ_GIVES);
     if (op->event == KZ_CREATE && reply.status == KZ_OK) {
-        open_file(op->file);
+        kz_file_opened(op->file);
         op->file->handle = reply.information;
         op->file->has_handle = true;
         op->file->users++;
@@ -520,7 +470,7 @@ static KzReply run(KazdrinEvent asked, const void *bytes, size_t length, const c
         return (KzReply){.status = status};
     uint64_t id = kz_me->told.operation;
     bool is_on_volume = asked.event == KZ_CREATE || asked.event == KZ_LIST;
-    KzFile *file = is_on_volume ? new_file(kz.volumes[asked.volume], asked.event == KZ_LIST ? "" : path, asked.event == KZ_LIST) : file_of(asked.handle);
+    KzFile *file = is_on_volume ? kz_new_file(kz.volumes[asked.volume], asked.event == KZ_LIST ? "" : path, asked.event == KZ_LIST) : kz_file_of(asked.handle);
     KzOp *op = new_op(id, asked, file, file->volume);
     if (carry_to_end(op) == DONE)
         return collect(op, other);
@@ -543,7 +493,7 @@ KzReply kz_close_file(uint64_t handle)
     NTSTATUS other;
     kz_me->told.length = 0;
     KzReply reply = run((KazdrinEvent){.event = KZ_CLEANUP, .handle = handle}, "", 0, NULL, &other);
-    KzFile *file = kz_has_others() && !reply.held && reply.status == KZ_OK ? file_of(handle) : NULL;
+    KzFile *file = kz_has_others() && !reply.held && reply.status == KZ_OK ? kz_file_of(handle) : NULL;
     if (file && file->users > 1)
         file->is_close_due = true; /* as in the kit: whoever ends the last operation of a file object closes it */
     else if (!reply.held && (reply.status == KZ_OK || reply.status == KZ_WRONG_STEP))
@@ -551,109 +501,6 @@ KzReply kz_close_file(uint64_t handle)
     kz_print_reply(reply, other, kz_me->room, 0);
     kz_settle();
     return reply;
-}
-
-/* ---- Held operations go on. */
-static void resume(KzOp *op)
-{
-    op->held = KZ_NOT_HELD_NOW;
-    op->is_resumed = true;
-    kz.changes++;
-    kz_scheduler->touch(op, 0, KZ_GIVES);
-    kz_renew_data(op);
-    if (op->runner)
-        return;
-    op->next_resumed = NULL;
-    *kz.resumed_end = op;
-    kz.resumed_end = &op->next_resumed;
-}
-
-
-/* Makes the event from a callback of the instance that holds the operation: the one that runs, or else the question whether it may be detached, which is refused behind it.
- * Whoever completes an operation in the kit may do so from anywhere. */
-static bool resume_from(const char *call, KzOp *op, KazdrinEvent event)
-{
-    if (kz_me->place.instance == op->holder) {
-        event.worker = kz_me->place.worker;
-        uint32_t status = kz_event(event);
-        if (status != KZ_WRONG_STEP) {
-            if (status == KZ_BAD_REQUEST)
-                kz_tell(KZ_NO_HELD_VERDICT, call, "a verdict that is none of a held operation's");
-            return status == KZ_OK;
-        }
-    }
-    kz_wait(kz_is_not_asked, op->holder, "the query callback of instance %u", op->holder->id);
-    uint8_t worker = kz_helper();
-    bool is_in = kz_enter_query(op->holder, worker);
-    event.worker = worker;
-    event.flag = 0; /* a reference of another callback's doesn't go along */
-    uint32_t status = is_in ? kz_event(event) : KZ_WRONG_STEP;
-    if (is_in)
-        kz_leave_query(op->holder, worker);
-    kz_helped(worker);
-    if (status == KZ_BAD_REQUEST)
-        kz_tell(KZ_NO_HELD_VERDICT, call, "a verdict that is none of a held operation's");
-    else if (status != KZ_OK)
-        kz_tell(KZ_NOWHERE_TO_RESUME, call, "no callback of the instance that holds the operation runs, and it is being torn down: it stays held");
-    return status == KZ_OK;
-}
-
-VOID FltCompletePendedPreOperation(PFLT_CALLBACK_DATA CallbackData, FLT_PREOP_CALLBACK_STATUS CallbackStatus, PVOID Context)
-{
-    KZ_CALL();
-    KzOp *op = kz_op_with(CallbackData);
-    bool is_verdict = CallbackStatus == FLT_PREOP_SUCCESS_WITH_CALLBACK || CallbackStatus == FLT_PREOP_SUCCESS_NO_CALLBACK || CallbackStatus == FLT_PREOP_COMPLETE;
-    if (!op || (op->held != KZ_HELD_PRE && (!op->is_in_pre || op->is_early))) {
-        kz_tell(KZ_COMPLETED_TWICE, __func__, "no operation that a preoperation holds (completed twice?)");
-        return;
-    }
-    if (!is_verdict) {
-        kz_tell(KZ_NO_HELD_VERDICT, __func__, "%d is none of a held operation's verdicts: it stays held", (int)CallbackStatus);
-        return;
-    }
-    if (op->is_in_pre) {
-        op->is_early = true;
-        op->early = CallbackStatus;
-        op->early_context = Context;
-        kz_scheduler->touch(op, 0, KZ_GIVES);
-        return;
-    }
-    bool is_touched = kz_is_touched(op) && CallbackStatus != FLT_PREOP_COMPLETE;
-    if (is_touched && op->data->Flags & FLTFL_CALLBACK_DATA_DIRTY)
-        kz_tell(KZ_CHANGED_WHILE_HELD, __func__, "parameters that were changed while the operation was held don't count");
-    else if (is_touched)
-        kz_tell(KZ_NOT_DIRTY, "FltSetCallbackDataDirty", "never called, though parameters were changed: they don't count");
-    KzPlace before = kz_me->place;
-    KazdrinEvent verdict = verdict_of(op, op->holder, CallbackStatus, Context);
-    kz_me->place = before;
-    verdict.event = KZ_RESUME_PRE;
-    PFLT_INSTANCE holder = op->holder;
-    if (resume_from(__func__, op, verdict)) {
-        resume(op);
-        if (!owes(op, holder, &verdict))
-            leave_flight(holder);
-    }
-}
-
-VOID FltCompletePendedPostOperation(PFLT_CALLBACK_DATA CallbackData)
-{
-    KZ_CALL();
-    KzOp *op = kz_op_with(CallbackData);
-    if (op && op->is_in_post && !op->is_early) {
-        op->is_early = true; /* the callback is about to hold it */
-        return;
-    }
-    if (!op || op->held != KZ_HELD_POST) {
-        kz_tell(KZ_COMPLETED_TWICE, __func__, "no operation that a postoperation holds (completed twice?)");
-        return;
-    }
-    if (op->data->IoStatus.Status != op->status_shown.Status || op->data->IoStatus.Information != op->status_shown.Information)
-        kz_tell(KZ_CHANGED_WHILE_HELD, __func__, "an answer that was changed while the operation was held doesn't count");
-    PFLT_INSTANCE holder = op->holder;
-    if (resume_from(__func__, op, (KazdrinEvent){.event = KZ_RESUME_POST, .operation = op->id})) {
-        resume(op);
-        leave_flight(holder);
-    }
 }
 
 void kz_tell_held(void)

@@ -40,7 +40,7 @@ KzPlace kz_enter(KzCallback callback, PFLT_FILTER filter, PFLT_INSTANCE instance
 {
     KzPlace before = kz_me->place;
     kz_note_callback(callback, filter);
-    kz_me->place = (KzPlace){callback, filter, instance, op, op ? op->id : 0, data, ++kz.places, before.depth + 1, before.worker};
+    kz_me->place = (KzPlace){callback, filter, instance, op, op ? op->id : 0, data, ++kz_me->places, before.depth + 1, before.worker};
     if (filter)
         kz_scheduler->touch(&filter->is_started, 0, KZ_TAKES);
     if (instance)

@@ -211,12 +211,21 @@ static KzReply ask_attach(char **words)
     return outcome(status, number);
 }
 
+/* A detach, an unload or a dismount: one that is refused says what is in its way, and how many. */
+static KzReply ended(uint32_t status)
+{
+    char text[512];
+    if (status == KZ_BUSY)
+        kz_say("in the way: %s\n", kz_busy_text(text, sizeof text));
+    return said((KzReply){.status = status, .information = status == KZ_BUSY ? kz_me->busy_number : 0});
+}
+
 static KzReply ask_detach(char **words)
 {
     uint64_t at;
     if (!read_instance(words[1], &at))
         return wrong();
-    return outcome(at < kz.instances_count ? kz_detach(kz.instances[at]) : KZ_NO_INSTANCE, 0);
+    return ended(at < kz.instances_count ? kz_detach(kz.instances[at]) : KZ_NO_INSTANCE);
 }
 
 static KzReply ask_unload(char **words)
@@ -224,7 +233,7 @@ static KzReply ask_unload(char **words)
     uint64_t at;
     if (!read_filter(words[1], &at))
         return wrong();
-    return outcome(at < kz.filters_count ? kz_unload(kz.filters[at]) : KZ_NO_FILTER, 0);
+    return ended(at < kz.filters_count ? kz_unload(kz.filters[at]) : KZ_NO_FILTER);
 }
 
 static KzReply ask_dismount(char **words)
@@ -232,7 +241,7 @@ static KzReply ask_dismount(char **words)
     uint64_t at;
     if (!read_volume(words[1], &at))
         return wrong();
-    return outcome(at < kz.volumes_count ? kz_dismount(kz.volumes[at]) : KZ_NO_VOLUME, 0);
+    return ended(at < kz.volumes_count ? kz_dismount(kz.volumes[at]) : KZ_NO_VOLUME);
 }
 
 static KzReply ask_create(char **words)
@@ -354,6 +363,7 @@ KzReply kz_request(const char *line)
         return (KzReply){0};
     KZ_CALL_OF("a request");
     kz_note_request(line);
+    kz_forget_busy();
     kz_tick();
     kz_say(">");
     for (size_t at = 0; at < count; at++)

@@ -55,6 +55,8 @@ void kz_on_told(void (*told)(const char *id, const char *line));
 /* Reports of runs of a file: an object of JSON a line in place of text, and a file of JUnit. */
 void kz_use_json(bool is);
 void kz_use_junit(const char *path);
+/* Volume 0 is that folder of the host machine from now on: 0 or an errno. */
+int kz_use_folder(const char *path);
 
 /* How many mistakes and limits were told so far, and how many contexts were born and cleaned up; of a run that was closed, at its end. */
 typedef struct {

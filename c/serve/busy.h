@@ -1,4 +1,4 @@
-/* The calls of the manager that the linker leads here (c/serve/build.sh): what its 34 says, and the host's folder in place of the file system in memory. */
+/* The call of the manager that the linker leads here (c/serve/build.sh): what its 34 says. And the folder in place of the file system in memory. */
 #ifndef KZ_SERVE_BUSY_H
 #define KZ_SERVE_BUSY_H
 

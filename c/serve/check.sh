@@ -2,7 +2,7 @@
 # Builds a server of the drivers in c/serve/tests with the address and undefined sanitizers. The same frames must bring the same bytes as from fltd, and the mount's tests pass above it.
 # Each part says 'N passed, M failed', and the exit status says whether any failed. What isn't here is left out with a line.
 #
-#   c/serve/check.sh [PART ..]    the mount's parts calls, model, deletions, held and ends, or those that are named; `late` has creates and deletions that are held
+#   c/serve/check.sh [PART ..]    the mount's parts calls, model, deletions, held, ends and late (creates and deletions that are held), or those that are named
 #
 # FLTD is the server to compare with (else crates/fltd/out/fltd, or one without proofs), KAZDRIN_LIB the manager's archive, as for c/build.sh, COUNT how many random frames a script has (300).
 set -eu
@@ -36,7 +36,7 @@ may_mount() {
     [ "$(id -u)" != 0 ] || [ $((0x$(sed -n 's/^CapEff:[[:space:]]*//p' /proc/self/status) >> 21 & 1)) = 1 ]
 }
 if may_mount && command -v fusermount3 > /dev/null && CFLAGS="$words" "$top/c/mount/build.sh" "$room/fltmount" 2> /dev/null; then
-    "$top/c/mount/tests/check.py" --server "$room/server" --mount "$room/fltmount" --count 600 ${*:-calls model deletions held ends} || failed=1
+    "$top/c/mount/tests/check.py" --server "$room/server" --mount "$room/fltmount" --count 600 ${*:-calls model deletions held ends late} || failed=1
 else
     echo "serve: left out: the mount above it, since /dev/fuse or libfuse3 isn't here"
 fi

@@ -31,29 +31,6 @@ bool is_body_length(uint64_t length)
 }
 
 /* ---- Texts. */
-static bool is_dots(const uint8_t *part, size_t length)
-{
-    return (length == 1 && part[0] == '.') || (length == 2 && part[0] == '.' && part[1] == '.');
-}
-
-bool is_path(const uint8_t *text, size_t length)
-{
-    size_t begin = 0;
-    if (length == 0 || length > LONGEST_PATH)
-        return false;
-    for (size_t at = 0; at <= length; at++) {
-        if (at < length && text[at] != '/') {
-            if (text[at] < ' ' || text[at] > '~')
-                return false;
-        } else {
-            if (at == begin || is_dots(text + begin, at - begin))
-                return false;
-            begin = at + 1;
-        }
-    }
-    return true;
-}
-
 static bool is_digit(uint8_t letter)
 {
     return letter >= '0' && letter <= '9';
@@ -183,7 +160,7 @@ static uint8_t refusal(const Frame *frame)
     case FRAME_CREATE:
         if (frame->mode > 2)
             return KZ_BAD_REQUEST;
-        return is_path(frame->text, frame->text_length) ? KZ_OK : BAD_PATH;
+        return kz_is_path(frame->text, frame->text_length) ? KZ_OK : BAD_PATH;
     case FRAME_READ:
         return frame->length > KZ_BYTES ? KZ_BAD_REQUEST : KZ_OK;
     case FRAME_WRITE:

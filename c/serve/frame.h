@@ -6,6 +6,8 @@
 #include <stddef.h>
 #include <stdint.h>
 
+#include "../host/listing.h"
+
 enum {
     FRAME_CREATE = 1,
     FRAME_READ,
@@ -29,7 +31,7 @@ enum {
 #define LONGEST_BODY 33000
 #define LONGEST_FRAME (4 + LONGEST_BODY)
 #define REPLY_HEAD 14
-#define LONGEST_PATH 255
+#define LONGEST_PATH KZ_LONGEST_PATH
 
 /* A request. Its texts and bytes lie in the frame. */
 typedef struct {
@@ -46,7 +48,6 @@ uint64_t number_at(const uint8_t *at, unsigned bytes);
 bool is_body_length(uint64_t length);
 /* Reads a body: 0, or the status with which the frame is refused. The number is read in any case. */
 uint8_t frame_read(const uint8_t *body, size_t length, Frame *frame);
-bool is_path(const uint8_t *text, size_t length);
 /* Spells a reply into room for a longest frame: how many bytes it has. */
 size_t frame_reply(uint8_t *room, uint32_t number, uint8_t status, uint64_t information, const uint8_t *bytes, size_t length);
 

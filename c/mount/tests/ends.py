@@ -108,9 +108,10 @@ def after(ground, file):
     }
 
 
-def write_on(path, ends):
-    """Writes until it is refused."""
+def write_on(path, ends, ready):
+    """Writes until it is refused, once all writers have their files."""
     file = os.open(path, os.O_RDWR | os.O_CREAT)
+    ready.wait()
     try:
         while True:
             os.pwrite(file, bytes(4096), 0)
@@ -123,9 +124,11 @@ def dismount_writers(tally, tools):
     """Writers are refused once the volume is gone."""
     with Ground(tally, tools) as ground:
         ends = []
-        writers = [threading.Thread(target=write_on, args=(ground.at(f"w{number}"), ends)) for number in range(WRITERS)]
+        ready = threading.Barrier(WRITERS + 1)
+        writers = [threading.Thread(target=write_on, args=(ground.at(f"w{number}"), ends, ready)) for number in range(WRITERS)]
         for writer in writers:
             writer.start()
+        ready.wait(10 * SOON)
         time.sleep(0.3)
         tally.note("dismount under writers", until(lambda: ground.ask("dismount", 0)[0] == 0), True)
         for writer in writers:

@@ -10,11 +10,13 @@ import time
 from ground import Ground, put, until
 
 SOON = 3
+# Each program that is killed while its create is held keeps a connection of the mount's sixteen, of which some are for looks alone.
+KILLS = (signal.SIGKILL, signal.SIGINT, signal.SIGTERM) * 3
 
 
 def program(words):
     """A program in Python of those words."""
-    return subprocess.Popen([sys.executable, "-c", f"import os; {words}"], stderr=subprocess.PIPE)
+    return subprocess.Popen([sys.executable, "-c", f"import os; {words}"], stdout=subprocess.PIPE, stderr=subprocess.PIPE)
 
 
 def wait(tally, what, process):
@@ -26,6 +28,7 @@ def wait(tally, what, process):
 def ended(process):
     """Whether it ends soon, and how."""
     is_over = until(lambda: process.poll() is not None, SOON)
+    process.stdout.close()
     process.stderr.close()
     return is_over, process.returncode
 
@@ -43,8 +46,9 @@ def creates(tally, ground, file):
     tally.call("what is open goes on", b"hello", os.pread, file, 9, 0)
     free(tally, ground, "it goes on", lambda: maker.poll() is not None)
     tally.note("and ends well", ended(maker), (True, 0))
-    for signal_number in (signal.SIGKILL, signal.SIGINT, signal.SIGTERM) * 6:
-        maker = program(f"os.open({path!r}, os.O_CREAT | os.O_RDWR)")
+    for signal_number in KILLS:
+        maker = program(f"print(flush=True); os.open({path!r}, os.O_CREAT | os.O_RDWR)")
+        maker.stdout.readline()
         time.sleep(0.2)
         maker.send_signal(signal_number)
         tally.note(f"one is ended by {signal_number}", ended(maker)[0], True)
@@ -61,6 +65,7 @@ def deletion(tally, ground, file):
     tally.call("what is open goes on", b"hello", os.pread, file, 9, 0)
     remover = program(f"os.unlink({path!r})")
     free(tally, ground, "a deletion goes on", lambda: remover.poll() is not None)
+    remover.stdout.close()
     remover.stderr.close()
     free(tally, ground, "it is gone", lambda: not os.path.exists(ground.below("late")))
 

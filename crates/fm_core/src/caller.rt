@@ -49,8 +49,8 @@ impl Caller {
     }
 }
 
-// The instance whose callback it is.
-fn instance_in(place: Place) -> Option<InstanceId>
+/// The instance whose callback it is.
+pub(crate) fn instance_in(place: Place) -> Option<InstanceId>
     ensures { result ≡ instance_in place }
 {
     match place {
@@ -66,8 +66,8 @@ fn instance_in(place: Place) -> Option<InstanceId>
     }
 }
 
-// The operation whose callback it is.
-fn operation_in(place: Place) -> Option<OpId>
+/// The operation whose callback it is.
+pub(crate) fn operation_in(place: Place) -> Option<OpId>
     ensures { result ≡ operation_in place }
 {
     match place {

@@ -5,6 +5,7 @@
 //! `State::headline` says so.
 #![tactic(auto)]
 
+mod about;
 mod caller;
 mod cleanups;
 mod contexts;
@@ -37,4 +38,6 @@ pub use fm_flow::{
     Stage,
 };
 pub use fm_stack::{FilterPhase, Phase, VolumePhase};
-pub use fm_world::{FileHandle, HandlePhase, Place, Refused, SetAnswer, Step, StepReply};
+pub use fm_world::{
+    About, AboutOperation, FileHandle, HandlePhase, Place, Refused, SetAnswer, Step, StepReply,
+};

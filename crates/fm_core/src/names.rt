@@ -1,13 +1,15 @@
-//! The names that can be read of a State: of filters, of volumes, and of the files that operations are on.
+//! The names that can be read of a State: of filters, of volumes, of instances with their altitudes, and of the files that operations are on.
 
 ghost use Rattle.std.specs.Prelude.{◌≡◌, slice_get, option_map, option_and_then, option_copied};
 ghost use Rattle.fm_stack.specs.declared.filter.Filter.{Filter};
+ghost use Rattle.fm_stack.specs.declared.instance.Instance.{Instance};
 ghost use Rattle.fm_stack.specs.declared.volume.Volume.{Volume};
 ghost use Rattle.fm_flow.specs.Record.{FlowRecord};
 ghost use Rattle.fm_flow.specs.Table.{operation_at};
 
 use crate::state::State;
-use fm_types::{FilterId, Name, OpId, RelPath, VolumeId};
+use fm_altitude::Altitude;
+use fm_types::{FilterId, InstanceId, Name, OpId, RelPath, VolumeId};
 
 impl State {
     /// The name under which a filter was registered (`FLT_FILTER_FULL_INFORMATION`), also after its unload; none where it isn't there.
@@ -22,6 +24,22 @@ impl State {
         ensures { result ≡ option_map (λ (row : Volume). row.name) (slice_get self.now.stack.volumes volume.0) }
     {
         self.stack.volume_name(volume)
+    }
+
+    /// The name under which an instance was attached (`FltGetInstanceInformation`), also after its detach; none where it isn't there.
+    pub fn instance_name(&self, instance: InstanceId) -> Option<Name>
+        ensures { result ≡ option_map (λ (row : Instance). row.name) (slice_get self.now.stack.instances instance.0) }
+    {
+        let row = self.stack.instance(instance)?;
+        Some(row.name)
+    }
+
+    /// The altitude at which an instance was attached (`FltGetInstanceInformation`), also after its detach; none where it isn't there.
+    pub fn altitude_of(&self, instance: InstanceId) -> Option<Altitude>
+        ensures { result ≡ option_map (λ (row : Instance). row.altitude) (slice_get self.now.stack.instances instance.0) }
+    {
+        let row = self.stack.instance(instance)?;
+        Some(row.altitude)
     }
 
     /// The path of the file that an operation is on, as it was when the operation began (`FltGetFileNameInformation`). None for a listing, and where no

@@ -5,6 +5,7 @@
 mod agreeable;
 mod asks;
 mod callbacks;
+mod either;
 mod filters;
 mod minifilter;
 mod port;
@@ -12,6 +13,7 @@ mod port;
 pub use crate::agreeable::Agreeable;
 pub use crate::asks::{ask_post, ask_pre, ask_query, ask_setup, let_go, tell_complete, tell_start};
 pub use crate::callbacks::Callbacks;
+pub use crate::either::Either;
 pub use crate::filters::Filters;
 pub use crate::minifilter::Minifilter;
 pub use crate::port::Port;

@@ -1,12 +1,13 @@
 //! The trait of what a callback may call.
 
-ghost use Rattle.std.specs.Prelude.{◌≡◌};
+ghost use Rattle.std.specs.Prelude.{◌≡◌, ◌%◌, ◌^◌, ◌-◌};
+ghost use Rattle.fm_filter.specs.Hands.{Gains, GainsOld, GainsSame, GainsSet, Loses, LosesSent, sent_by};
 
 use fm_ctx::SetMode;
 use fm_data::PreVerdict;
 use fm_flow::Hold;
 use fm_types::{Bytes, ContextKind, CtxId, OpId, Status};
-use fm_world::SetAnswer;
+use fm_world::{About, SetAnswer};
 
 /// What a filter's callback may call of the filter manager while it runs (the `Flt` routines of the kit).
 /// A port stands for one callback: its instance, the operation or object that it is called for, and the
@@ -25,7 +26,12 @@ pub trait Port {
     ghost use Rattle.fm_ctx.specs.declared.set_reply.SetMode.{SetMode};
     ghost use Rattle.fm_flow.specs.declared.hold.Hold.{Hold};
     ghost use Rattle.fm_world.specs.declared.set_answer.SetAnswer.{SetAnswer};
+    ghost use Rattle.fm_world.specs.declared.about.About.{About};
+    ghost use Rattle.fm_filter.specs.Hands.{InHand};
     ghost use Rattle.fm_filter.specs.Standing.{Kept};
+
+    /// How `about` may answer.
+    ghost tells: { Self → Result About Status → Type 0 };
 
     /// How `allocate` may answer, and what it makes of the port.
     ghost allocates: { Self → ContextKind → List ℕ → Result CtxId Status → Self → Type 0 };
@@ -63,8 +69,17 @@ pub trait Port {
     /// The same of `resume_post`.
     ghost resumes_post: { Self → OpId → Result (Unit {0}) Status → Self → Type 0 };
 
+    /// The references that the callback holds, in the order in which it got them, if the port says it. A filter that promises to leave nothing behind says so
+    /// by it.
+    ghost hand: { Self → InHand };
+
     /// What no call changes: which worker runs the callback, and what stands in the manager, if the port says it.
     ghost kept: { Self → Kept };
+
+    /// What the callback is called for (`FLT_RELATED_OBJECTS`): its instance with its name and altitude, whose it is, the volume, and the operation with its
+    /// number, kind, open file and path. It takes no memory and changes nothing. Refused with 1 where no more owners of the path can be counted.
+    fn about(&self) -> Result<About, Status>
+        ensures { tells self.now result };
 
     /// Allocates a context of a kind, with its body (`FltAllocateContext`). Its one reference is in the
     /// hand, and it belongs to the callback's instance, or to its filter where it is a volume context.
@@ -72,6 +87,7 @@ pub trait Port {
     /// bytes or there are too many contexts, 26 where the hand has 16 references, 1.
     fn allocate(&mut self, kind: ContextKind, body: Bytes) -> Result<CtxId, Status>
         ensures event { allocates self.old kind body result self.new }
+        ensures hand { Gains result (hand self.old) (hand self.new) }
         ensures kept { kept self.new ≡ kept self.old };
 
     /// Sets a context of the hand on the callback's object of its kind (`FltSetVolumeContext`,
@@ -82,6 +98,7 @@ pub trait Port {
     /// torn down, 26 where the old one is wanted and the hand has 16 references.
     fn set(&mut self, context: CtxId, mode: SetMode, wants_old: bool) -> SetAnswer
         ensures event { sets self.old context mode wants_old result self.new }
+        ensures hand { GainsSet mode wants_old result (hand self.old) (hand self.new) }
         ensures kept { kept self.new ≡ kept self.old };
 
     /// Gets the context of a kind that is set on the callback's object (`FltGetVolumeContext`,
@@ -91,6 +108,7 @@ pub trait Port {
     /// references.
     fn get(&mut self, kind: ContextKind) -> Result<CtxId, Status>
         ensures event { gets self.old kind result self.new }
+        ensures hand { Gains result (hand self.old) (hand self.new) }
         ensures kept { kept self.new ≡ kept self.old };
 
     /// Takes the context of a kind off the callback's object (`FltDeleteVolumeContext`,
@@ -99,30 +117,35 @@ pub trait Port {
     /// with 21, 27, 24 and 26 as `get` is.
     fn delete(&mut self, kind: ContextKind, wants_old: bool) -> Result<Option<CtxId>, Status>
         ensures event { deletes self.old kind wants_old result self.new }
+        ensures hand { GainsOld wants_old result (hand self.old) (hand self.new) }
         ensures kept { kept self.new ≡ kept self.old };
 
     /// Takes one more reference to a context of the hand (`FltReferenceContext`). Refused with 25 where
     /// it isn't there, and 26 where the hand has 16 references.
     fn reference(&mut self, context: CtxId) -> Result<(), Status>
         ensures event { references self.old context result self.new }
+        ensures hand { GainsSame context result (hand self.old) (hand self.new) }
         ensures kept { kept self.new ≡ kept self.old };
 
     /// Gives up one reference of the hand (`FltReleaseContext`): with the last one the context is due for
     /// its cleanup. Refused with 25 where the context isn't in the hand.
     fn release(&mut self, context: CtxId) -> Result<(), Status>
         ensures event { releases self.old context result self.new }
+        ensures hand { Loses context result (hand self.old) (hand self.new) }
         ensures kept { kept self.new ≡ kept self.old };
 
     /// A copy of the body of a context of the hand (what the kit's pointer `PFLT_CONTEXT` points to).
     /// Refused with 25 where the context isn't there, and 1.
     fn read_body(&mut self, context: CtxId) -> Result<Bytes, Status>
         ensures event { reads_body self.old context result self.new }
+        ensures hand { hand self.new ≡ hand self.old }
         ensures kept { kept self.new ≡ kept self.old };
 
     /// Replaces the body of a context of the hand. Refused with 25 where the context isn't there, and 32
     /// where the bytes have another length than the body.
     fn write_body(&mut self, context: CtxId, bytes: &[u8]) -> Result<(), Status>
         ensures event { writes_body self.old context bytes.now result self.new }
+        ensures hand { hand self.new ≡ hand self.old }
         ensures kept { kept self.new ≡ kept self.old };
 
     /// Adds to the number at a place of the body of a context of the hand, and answers the sum
@@ -130,12 +153,24 @@ pub trait Port {
     /// isn't there, and 32 where the number would go past the body's end.
     fn bump(&mut self, context: CtxId, place: u64, by: u64) -> Result<u64, Status>
         ensures event { bumps self.old context place by result self.new }
+        ensures hand { hand self.new ≡ hand self.old }
         ensures kept { kept self.new ≡ kept self.old };
+
+    /// Takes from the number at a place of the body of a context of the hand, and answers what is left, modulo 2^64. It is a `bump` by what makes up the
+    /// difference, and refused as one.
+    fn bump_down(&mut self, context: CtxId, place: u64, by: u64) -> Result<u64, Status>
+        ensures event { bumps self.old context place ((2 ^ 64 - by) % 2 ^ 64) result self.new }
+        ensures hand { hand self.new ≡ hand self.old }
+        ensures kept { kept self.new ≡ kept self.old }
+    {
+        self.bump(context, place, 0u64.wrapping_sub(by))
+    }
 
     /// The first operation, by number, that a callback of that kind of the port's instance holds, if it
     /// holds one.
     fn first_held(&mut self, hold: Hold) -> Result<Option<OpId>, Status>
         ensures event { finds_held self.old hold result self.new }
+        ensures hand { hand self.new ≡ hand self.old }
         ensures kept { kept self.new ≡ kept self.old };
 
     /// Lets an operation go on that a preoperation of the port's instance held
@@ -144,6 +179,7 @@ pub trait Port {
     /// none of them holds the operation.
     fn resume_pre(&mut self, operation: OpId, verdict: PreVerdict) -> Result<(), Status>
         ensures event { resumes_pre self.old operation verdict result self.new }
+        ensures hand { LosesSent (sent_by verdict) (hand self.old) (hand self.new) }
         ensures kept { kept self.new ≡ kept self.old };
 
     /// Lets an operation go on that a postoperation of the port's instance held
@@ -151,5 +187,6 @@ pub trait Port {
     /// resumed operation, 28 where none of them holds the operation.
     fn resume_post(&mut self, operation: OpId) -> Result<(), Status>
         ensures event { resumes_post self.old operation result self.new }
+        ensures hand { hand self.new ≡ hand self.old }
         ensures kept { kept self.new ≡ kept self.old };
 }

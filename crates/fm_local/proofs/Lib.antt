@@ -41,6 +41,7 @@ pub mod Refusing
 pub mod Unloaded
 pub mod Waiting
 pub mod Standing
+pub mod InHand
 pub mod Lent
 pub mod StillWaiting
 pub mod FirstEnded

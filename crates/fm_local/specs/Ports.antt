@@ -1,10 +1,19 @@
 -- What a callback's resumptions through its port may answer beyond what the events say.
-use Rattle.std.specs.Prelude.{[], ◌∷◌, ◌≡◌, Bool, Err, List, Ok, Result, length, ◌++◌, not, nat_le}
+use Rattle.std.specs.Prelude.{[], ◌∷◌, ◌≡◌, Bool, Err, List, Ok, Result, length, ◌++◌, not, nat_le, option_and_then, option_map}
 use Rattle.fm_local.specs.Words.{PreVerdict, OpId, Status, WorkerId, World}
 use Rattle.std.specs.VecDeque.{deque_capacity}
 use Rattle.fm_types.specs.declared.status.Status.TheVariants.{TooMany}
 use Rattle.fm_world.specs.Events.{Unless, ResumesPre, ResumesPost}
+use Rattle.fm_ctx.specs.Bags.{hand_of}
+use Rattle.fm_stack.specs.declared.instance.Instance.{Instance}
+use Rattle.fm_world.specs.Owners.{place_in, row_at}
+use Rattle.fm_world.specs.Workers.{worker_at}
+use Rattle.fm_filter.specs.Hands.{InHand}
 use Rattle.fm_local.specs.declared.local_port.Desk.{Desk}
+
+-- the references of a worker's hand, as long as it is in a callback of an instance
+abbrev pub hand_at : World → WorkerId → InHand
+hand_at w k = option_map (λ (row : Instance). hand_of w.contexts.hands k.0) (option_and_then (row_at w.stack) (place_in (worker_at w.workers k)))
 
 -- whether there is room to note one more resumed operation
 abbrev pub has_room : Desk → Bool

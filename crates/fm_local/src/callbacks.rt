@@ -23,9 +23,9 @@ use crate::bounded::Bounded;
 use crate::leak::{Callback, Leak};
 use crate::local_port::Desk;
 use crate::manager::{LocalManager, WORKER};
-use crate::trace::{Traced, Visit};
+use crate::trace::{PostAnswer, PreAnswer, Traced, Visit};
 use fm_base::Base;
-use fm_core::State;
+use fm_core::{Entry, PreState, State};
 use fm_data::{CallbackData, Completion, PostVerdict, PreVerdict};
 use fm_filter::{
     Filters, Minifilter, ask_post, ask_pre, ask_query, ask_setup, let_go, tell_complete, tell_start,
@@ -72,6 +72,14 @@ fn sent_by(verdict: PreVerdict) -> Option<CtxId> {
     }
 }
 
+// The verdict that counts of the preoperation that was called last for an operation.
+fn counted(state: &State, operation: OpId) -> Option<PreState> {
+    match state.trace(operation)?.last()? {
+        Entry::Pre(visit) => Some(visit.state),
+        _ => None,
+    }
+}
+
 impl<F: Minifilter, B: Base> LocalManager<F, B> {
     /// Calls the setup callback of a new instance. Refused as the end of that callback is.
     pub(crate) fn setup(&mut self, instance: InstanceId) -> Result<(), Status>
@@ -100,34 +108,51 @@ impl<F: Minifilter, B: Base> LocalManager<F, B> {
         ensures kept { CallsBack self.old self.new }
         ensures waits { IsIn WORKER (place.Pre operation instance) self.old.desk.state → Waiting self.old → Waiting self.new × IsApart operation self.new }
     {
+        let found = lent.status();
         let verdict = goes_down(&self.filters, &mut self.desk, instance, &mut lent);
         lent.laws();
         self.desk.state.laws();
-        self.note(operation, Visit::Pre(instance, verdict));
         let returning = Returning {
             callback: Callback::Pre,
             instance,
             operation: Some(operation),
             sent: sent_by(verdict),
         };
-        self.end_pre(verdict, lent, returning)
+        let answer = PreAnswer {
+            given: verdict,
+            counted: None,
+            found,
+            left: lent.status(),
+        };
+        self.end_pre(answer, lent, returning)
+    }
+
+    // Notes what a preoperation answered, and which verdict counts, once it has returned.
+    fn note_pre(&mut self, mut answer: PreAnswer, returning: Returning)
+        ensures { self.new ≡ record self.old { trace = self.new.trace } }
+    {
+        if let Some(operation) = returning.operation {
+            answer.counted = counted(&self.desk.state, operation);
+            self.note(operation, Visit::Pre(returning.instance, answer));
+        }
     }
 
     // The end of a preoperation.
     fn end_pre(
         &mut self,
-        verdict: PreVerdict,
+        answer: PreAnswer,
         back: CallbackData,
         returning: Returning,
     ) -> Result<(), Status>
-        ensures event { PreReturns self.old.desk.state WORKER verdict back result self.new.desk.state }
-        ensures kept { self.new ≡ record self.old { desk = record self.old.desk { state = self.new.desk.state }; hand = self.new.hand; leaks = self.new.leaks } }
+        ensures event { PreReturns self.old.desk.state WORKER answer.given back result self.new.desk.state }
+        ensures kept { self.new ≡ record self.old { desk = record self.old.desk { state = self.new.desk.state }; hand = self.new.hand; leaks = self.new.leaks; trace = self.new.trace } }
         ensures waits { StaysWaiting self.old self.new }
     {
         self.desk.state.laws();
         let before = look_at_hand(&self.desk.state, &mut self.hand);
-        let ended = self.desk.state.pre_returned(WORKER, verdict, back);
+        let ended = self.desk.state.pre_returned(WORKER, answer.given, back);
         self.note_left(before, returning);
+        self.note_pre(answer, returning);
         match ended {
             Ok(()) => Ok(()),
             Err(refused) => Err(refused.status),
@@ -148,6 +173,7 @@ impl<F: Minifilter, B: Base> LocalManager<F, B> {
         ensures kept { CallsBack self.old self.new }
         ensures waits { IsIn WORKER (place.Post operation instance) self.old.desk.state → Waiting self.old → Waiting self.new × IsApart operation self.new }
     {
+        let found = lent.status();
         let verdict = goes_up(
             &self.filters,
             &mut self.desk,
@@ -157,7 +183,12 @@ impl<F: Minifilter, B: Base> LocalManager<F, B> {
         );
         lent.laws();
         self.desk.state.laws();
-        self.note(operation, Visit::Post(instance, verdict));
+        let answer = PostAnswer {
+            given: verdict,
+            found,
+            left: lent.status(),
+        };
+        self.note(operation, Visit::Post(instance, answer));
         let returning = Returning::for_operation(Callback::Post, instance, operation);
         self.end_post(verdict, Some(lent), returning)
     }

@@ -16,4 +16,4 @@ mod trace;
 pub use crate::leak::{Callback, Leak};
 pub use crate::manager::LocalManager;
 pub use crate::refusal::{PortCall, Refusal};
-pub use crate::trace::{Traced, Visit};
+pub use crate::trace::{PostAnswer, PreAnswer, Traced, Visit};

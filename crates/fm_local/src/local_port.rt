@@ -1,13 +1,14 @@
 //! The port of a callback of the one-thread manager.
 
 ghost use Rattle.std.specs.Prelude.{◌≡◌};
-ghost use Rattle.fm_local.specs.Ports.{ResumesPostIn, ResumesPreIn};
+ghost use Rattle.fm_filter.specs.Hands.{LosesSent, sent_by};
+ghost use Rattle.fm_local.specs.Ports.{ResumesPostIn, ResumesPreIn, hand_at};
 ghost use Rattle.fm_local.specs.Waits.{standing_with};
 
 use crate::bounded::Bounded;
 use crate::manager::WORKER;
 use crate::refusal::{PortCall, Refusal};
-use fm_core::{Hold, Place, SetAnswer, SetMode, State};
+use fm_core::{About, Hold, Place, SetAnswer, SetMode, State};
 use fm_data::PreVerdict;
 use fm_filter::Port;
 use fm_types::{Bytes, ContextKind, CtxId, OpId, Status};
@@ -52,6 +53,7 @@ impl Desk {
     fn resume_held_pre(&mut self, operation: OpId, verdict: PreVerdict) -> Result<(), Status>
         ensures event { ResumesPreIn self.old WORKER operation verdict result self.new }
         ensures stands { standing_with self.new.resumed.items.items self.new.state ≡ standing_with self.old.resumed.items.items self.old.state }
+        ensures hand { LosesSent (sent_by verdict) (hand_at self.old.state WORKER) (hand_at self.new.state WORKER) }
     {
         if self.resumed.is_full() {
             return Err(Status::TooMany);
@@ -66,6 +68,7 @@ impl Desk {
     fn resume_held_post(&mut self, operation: OpId) -> Result<(), Status>
         ensures event { ResumesPostIn self.old WORKER operation result self.new }
         ensures stands { standing_with self.new.resumed.items.items self.new.state ≡ standing_with self.old.resumed.items.items self.old.state }
+        ensures hand { hand_at self.new.state WORKER ≡ hand_at self.old.state WORKER }
     {
         if self.resumed.is_full() {
             return Err(Status::TooMany);
@@ -80,10 +83,13 @@ impl Desk {
 impl Port for Desk {
     ghost use Rattle.std.specs.Prelude.{Some};
     ghost use Rattle.fm_world.specs.ContextEvents.{Allocates, Sets, Gets, Deletes, References, Releases, ReadsBody, WritesBody, Bumps};
+    ghost use Rattle.fm_world.specs.About.{Tells};
     ghost use Rattle.fm_world.specs.Events.{FindsHeld};
     ghost use Rattle.fm_local.specs.Waits.{standing_with};
-    ghost use Rattle.fm_local.specs.Ports.{OnState, ResumesPreIn, ResumesPostIn};
+    ghost use Rattle.fm_local.specs.Ports.{OnState, ResumesPreIn, ResumesPostIn, hand_at};
     ghost use Rattle.fm_local.specs.declared.manager.TheConstants.{WORKER};
+
+    ghost tells = { λ desk result. Tells desk.state WORKER result };
 
     ghost allocates = { λ old kind body result new. OnState (λ before after. Allocates before WORKER kind body result after) old new };
 
@@ -109,16 +115,24 @@ impl Port for Desk {
 
     ghost resumes_post = { λ old operation result new. ResumesPostIn old WORKER operation result new };
 
+    ghost hand = { λ desk. hand_at desk.state WORKER };
+
     ghost kept = { λ desk. record { worker = WORKER; standing = Some (standing_with desk.resumed.items.items desk.state) } };
 
-    #[tactic(auto, using(crate::proofs::Standing::allocate_stands))]
+    fn about(&self) -> Result<About, Status> {
+        self.state.about(WORKER)
+    }
+
+    #[tactic(auto, using(crate::proofs::Standing::allocate_stands, crate::proofs::InHand::allocate_hand))]
     fn allocate(&mut self, kind: ContextKind, body: Bytes) -> Result<CtxId, Status> {
+        self.state.laws();
         let answer = self.state.allocate(WORKER, kind, body);
         self.answered(PortCall::Allocate(kind), answer)
     }
 
-    #[tactic(auto, using(crate::proofs::Standing::set_stands))]
+    #[tactic(auto, using(crate::proofs::Standing::set_stands, crate::proofs::InHand::set_hand))]
     fn set(&mut self, context: CtxId, mode: SetMode, wants_old: bool) -> SetAnswer {
+        self.state.laws();
         let answer = self.state.set(WORKER, context, mode, wants_old);
         if let SetAnswer::Refused(status) = answer {
             self.note(PortCall::Set(context), status);
@@ -126,32 +140,37 @@ impl Port for Desk {
         answer
     }
 
-    #[tactic(auto, using(crate::proofs::Standing::get_stands))]
+    #[tactic(auto, using(crate::proofs::Standing::get_stands, crate::proofs::InHand::get_hand))]
     fn get(&mut self, kind: ContextKind) -> Result<CtxId, Status> {
+        self.state.laws();
         let answer = self.state.get(WORKER, kind);
         self.answered(PortCall::Get(kind), answer)
     }
 
-    #[tactic(auto, using(crate::proofs::Standing::delete_stands))]
+    #[tactic(auto, using(crate::proofs::Standing::delete_stands, crate::proofs::InHand::delete_hand))]
     fn delete(&mut self, kind: ContextKind, wants_old: bool) -> Result<Option<CtxId>, Status> {
+        self.state.laws();
         let answer = self.state.delete(WORKER, kind, wants_old);
         self.answered(PortCall::Delete(kind), answer)
     }
 
-    #[tactic(auto, using(crate::proofs::Standing::reference_stands))]
+    #[tactic(auto, using(crate::proofs::Standing::reference_stands, crate::proofs::InHand::reference_hand))]
     fn reference(&mut self, context: CtxId) -> Result<(), Status> {
+        self.state.laws();
         let answer = self.state.reference(WORKER, context);
         self.answered(PortCall::Reference(context), answer)
     }
 
-    #[tactic(auto, using(crate::proofs::Standing::release_stands))]
+    #[tactic(auto, using(crate::proofs::Standing::release_stands, crate::proofs::InHand::release_hand))]
     fn release(&mut self, context: CtxId) -> Result<(), Status> {
+        self.state.laws();
         let answer = self.state.release(WORKER, context);
         self.answered(PortCall::Release(context), answer)
     }
 
-    #[tactic(auto, using(crate::proofs::Standing::read_stands))]
+    #[tactic(auto, using(crate::proofs::Standing::read_stands, crate::proofs::InHand::read_hand))]
     fn read_body(&mut self, context: CtxId) -> Result<Bytes, Status> {
+        self.state.laws();
         let answer = self.state.read_body(WORKER, context);
         if let Err(status) = &answer {
             self.note(PortCall::ReadBody(context), *status);
@@ -159,20 +178,23 @@ impl Port for Desk {
         answer
     }
 
-    #[tactic(auto, using(crate::proofs::Standing::write_stands))]
+    #[tactic(auto, using(crate::proofs::Standing::write_stands, crate::proofs::InHand::write_hand))]
     fn write_body(&mut self, context: CtxId, bytes: &[u8]) -> Result<(), Status> {
+        self.state.laws();
         let answer = self.state.write_body(WORKER, context, bytes);
         self.answered(PortCall::WriteBody(context), answer)
     }
 
-    #[tactic(auto, using(crate::proofs::Standing::bump_stands))]
+    #[tactic(auto, using(crate::proofs::Standing::bump_stands, crate::proofs::InHand::bump_hand))]
     fn bump(&mut self, context: CtxId, place: u64, by: u64) -> Result<u64, Status> {
+        self.state.laws();
         let answer = self.state.bump(WORKER, context, place, by);
         self.answered(PortCall::Bump(context), answer)
     }
 
-    #[tactic(auto, using(crate::proofs::Standing::held_stands))]
+    #[tactic(auto, using(crate::proofs::Standing::held_stands, crate::proofs::InHand::find_hand))]
     fn first_held(&mut self, hold: Hold) -> Result<Option<OpId>, Status> {
+        self.state.laws();
         let answer = self.state.first_held(WORKER, hold);
         self.answered(PortCall::FirstHeld, answer)
     }

@@ -1,10 +1,14 @@
 //! What can be read of the state that the lock keeps. The lock is held for each call alone: what was read may have changed since.
 
+use crate::hand::Hand;
 use crate::manager::Manager;
 use fm_core::State;
 use fm_ctx::Count;
 use fm_stack::{FilterPhase, Phase, VolumePhase};
-use fm_types::{ContextKind, CtxId, FilterId, HandleId, InstanceId, OpId, VolumeId, WorkerId};
+use fm_types::{
+    ContextKind, CtxId, FilterId, HandleId, InstanceId, OpId, Status, VolumeId, WorkerId,
+};
+use fm_world::About;
 use std::sync::Wait;
 use std::sync::ledger::Ledger;
 
@@ -14,6 +18,13 @@ impl<F: Drop, L: Ledger> Manager<F, L> {
         requires { E.IsAlwaysCallable look }
     {
         look(self.locked(rt).state())
+    }
+
+    /// What the callback that the hand's worker is in is called for (`FLT_RELATED_OBJECTS`). It answers as the State does: 30, 1. While the callback runs it
+    /// can't change.
+    pub fn about<R: Wait>(&self, rt: &R, hand: &Hand<L>) -> Result<About, Status> {
+        let worker = hand.worker();
+        self.read(rt, |state| state.about(worker))
     }
 
     /// How many filters were registered: the ids given out are those below.

@@ -4,3 +4,4 @@ pub mod Going
 pub mod Running
 pub mod Rows
 pub mod Newest
+pub mod Telling

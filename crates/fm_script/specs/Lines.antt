@@ -4,8 +4,9 @@ use Rattle.fm_script.specs.Words.{Status, BadRequest, ◌>>=◌, Either, words_o
 use Rattle.fm_script.specs.Commands.{Creates, ReadsAs, is_create, keyword_read, takes_bytes, with_bytes_read}
 use Rattle.fm_text.specs.Hexadecimal.{hex_of, IsNoHexadecimal}
 use Rattle.fm_script.specs.Printing.{Printed}
-use Rattle.fm_script.specs.Runs.{PerformsRead, Refuses, Wants}
+use Rattle.fm_script.specs.Runs.{PerformsRead, Refuses, TellsRead, Wants}
 use Rattle.fm_script.specs.declared.interpreter.Interpreter.{Interpreter}
+use Rattle.fm_script.specs.declared.said.Said.{Said}
 use Rattle.fm_script.specs.declared.script_end.ScriptEnd.{ScriptEnd}
 
 -- a line that asks for nothing
@@ -50,3 +51,9 @@ abbrev pub RunsLine : List ℕ → Result (Unit {0}) ScriptEnd → Interpreter �
 RunsLine line result old new before after =
     Either (nat_lt 4096 (length line)) (Refuses BadRequest result old new before after)
     (Either (is_silent line) (IsIgnored result old new before after) (RunsWords (words_of line) result old new before after))
+
+-- what a line makes, and what is told of it: the same, but that each line is told as a value
+abbrev pub TellsLine : List ℕ → List Said → Interpreter → Interpreter → Type 0
+TellsLine line told old new =
+    Either (nat_lt 4096 (length line)) (TellsRead (Err BadRequest) told old new)
+    (Either (is_silent line) ((told ≡ []) × (new ≡ old)) ((r : Result Task Status) × ReadsTask (words_of line) old r × TellsRead r told old new))

@@ -178,3 +178,8 @@ Refuses status result old new before after = (new ≡ old) × Says (Refused stat
 abbrev pub PerformsRead : Result Task Status → Result (Unit {0}) ScriptEnd → Interpreter → Interpreter → Printed → Printed → Type 0
 PerformsRead (Ok t) = PerformsOr t
 PerformsRead (Err status) = Refuses status
+
+-- what was read is done, or refused, and told as values; which ones a `go` tells isn't said here
+abbrev pub TellsRead : Result Task Status → List Said → Interpreter → Interpreter → Type 0
+TellsRead (Ok t) told old new = Performs t (λ line. told ≡ line ∷ []) old new
+TellsRead (Err status) told old new = (new ≡ old) × (told ≡ Refused status ∷ [])

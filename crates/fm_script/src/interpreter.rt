@@ -1,6 +1,8 @@
 //! What a script drives: the manager's state with what its workers were lent, the devices below, and what the script itself keeps.
 
 mod go;
+mod perform;
+mod read;
 
 ghost use Rattle.std.specs.Prelude.{◌≡◌, MatchResult, OnErr, OnOk};
 ghost use Rattle.fm_session.specs.Sessions.{LendsNext, LentPreReturns, LentPostReturns, LentBaseReturns};

@@ -17,6 +17,7 @@ mod reading;
 mod runner;
 mod said;
 mod script_end;
+mod sink;
 mod task;
 mod teardown_command;
 mod verdict_command;
@@ -32,6 +33,7 @@ pub use crate::said::{
     Said, Word, said_attached, said_called, said_count, said_done, said_given, said_of, said_phase,
 };
 pub use crate::script_end::ScriptEnd;
+pub use crate::sink::Sink;
 pub use crate::task::Task;
 pub use fm_text::{
     read_hex, read_id, read_number, read_status, split_at_byte, split_words, write_hex,

@@ -1,12 +1,13 @@
-//! The names of filters and volumes, to be read.
+//! Rows of instances, and the names of filters and volumes, to be read.
 
-ghost use Rattle.std.specs.Prelude.{◌≡◌, slice_get};
+ghost use Rattle.std.specs.Prelude.{◌≡◌, option_copied, slice_get};
 ghost use Rattle.std.specs.Option.{option_map};
 ghost use Rattle.fm_stack.specs.declared.filter.Filter.{Filter};
 ghost use Rattle.fm_stack.specs.declared.volume.Volume.{Volume};
 
+use crate::instance::Instance;
 use crate::stack::Stack;
-use fm_types::{FilterId, Name, VolumeId};
+use fm_types::{FilterId, InstanceId, Name, VolumeId};
 
 impl Stack {
     /// The name of a filter, whatever its phase, if there is one of that id.
@@ -23,5 +24,12 @@ impl Stack {
     {
         let row = self.volumes.get(volume.0 as usize)?;
         Some(row.name)
+    }
+
+    /// The row of an instance, whatever its phase, if there is one of that id.
+    pub fn instance(&self, instance: InstanceId) -> Option<&Instance>
+        ensures { option_copied result ≡ slice_get self.now.instances instance.0 }
+    {
+        self.instances.get(instance.0 as usize)
     }
 }

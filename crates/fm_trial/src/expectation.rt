@@ -40,6 +40,14 @@ impl Expectation {
         Ok(read_plain(words))
     }
 
+    /// Whether it expects a mistake, which then doesn't count any more.
+    pub(crate) fn is_mistake(&self) -> bool {
+        match self {
+            Expectation::Told(told) => !told.is_limit(),
+            _ => false,
+        }
+    }
+
     /// Whether a reply is as expected, with what was told before it.
     pub(crate) fn is_met(&self, reply: &Reply, told: &[Told]) -> bool {
         match (self, reply) {

@@ -2,11 +2,11 @@
 
 use crate::told::Told;
 use fm_base::MemoryBase;
-use fm_core::Place;
+use fm_core::{Phase, Place};
 use fm_data::Reply;
 use fm_filter::Minifilter;
-use fm_local::{Callback, Leak, LocalManager, Refusal};
-use fm_types::{InstanceId, OpId};
+use fm_local::{Callback, Leak, LocalManager, Refusal, Visit};
+use fm_types::{InstanceId, OpId, Status};
 use std::alloc::AllocError;
 use std::fmt::Write;
 
@@ -58,13 +58,45 @@ pub(crate) fn write_steps<F: Minifilter>(
     Ok(())
 }
 
-// Appends a name.
+// Appends a name, or an altitude.
 fn write_name(text: &mut String, name: &[u8]) -> Result<(), AllocError> {
-    text.push_str("filter ")?;
     for byte in name {
         text.push(char::from(*byte))?;
     }
-    text.push_str(", ")
+    Ok(())
+}
+
+/// Appends of an instance its name, whose it is, and where it stands. Nothing, where it isn't attached.
+pub(crate) fn write_attached<F: Minifilter>(
+    text: &mut String,
+    manager: &Manager<F>,
+    instance: InstanceId,
+) -> Result<(), AllocError> {
+    let state = manager.state();
+    let Some(Phase::Attached) = state.phase(instance) else {
+        return Ok(());
+    };
+    let (Some(name), Some(altitude), Some(filter), Some(volume)) = (
+        state.instance_name(instance),
+        state.altitude_of(instance),
+        state.filter_of(instance),
+        state.volume_of(instance),
+    ) else {
+        return Ok(());
+    };
+    write!(text, "  i{} ", instance.0)?;
+    write_name(text, name.text())?;
+    text.push_str(": ")?;
+    if let Some(filter) = state.filter_name(filter) {
+        write_name(text, filter.text())?;
+    }
+    text.push_str(" at ")?;
+    write_name(text, altitude.text())?;
+    text.push_str(" on ")?;
+    if let Some(volume) = state.volume_name(volume) {
+        write_name(text, volume.text())?;
+    }
+    text.push_str("\n")
 }
 
 // Appends whose instance it is.
@@ -76,7 +108,9 @@ fn write_instance<F: Minifilter>(
     let state = manager.state();
     if let Some(filter) = state.filter_of(instance) {
         if let Some(name) = state.filter_name(filter) {
+            text.push_str("filter ")?;
             write_name(text, name.text())?;
+            text.push_str(", ")?;
         }
     }
     write!(text, "instance {}", instance.0)
@@ -136,6 +170,56 @@ pub(crate) fn write_leak<F: Minifilter>(
 ) -> Result<(), AllocError> {
     write!(text, "{} ({leak})", Told::Leak)?;
     write_callback(text, manager, leak.callback, leak.instance, leak.operation)
+}
+
+// The status that the next step of an operation found, behind that place.
+fn next_status<F: Minifilter>(
+    manager: &Manager<F>,
+    operation: OpId,
+    after: usize,
+) -> Option<Status> {
+    for place in after..manager.traced() {
+        let step = manager.trace(place)?;
+        match step.visit {
+            Visit::Post(_, answer) if step.operation == operation => return Some(answer.found),
+            Visit::Replied(status) if step.operation == operation => return Some(status),
+            _ => {}
+        }
+    }
+    None
+}
+
+/// What is told of the step at a place: which callback of which instance it was, and what. None where nothing is.
+pub(crate) fn told_at<F: Minifilter>(
+    manager: &Manager<F>,
+    place: usize,
+) -> Option<(Told, Callback, InstanceId, OpId)> {
+    let step = manager.trace(place)?;
+    match step.visit {
+        Visit::Pre(instance, answer) => {
+            let told = Told::of_pre(&answer)?;
+            Some((told, Callback::Pre, instance, step.operation))
+        }
+        Visit::Post(instance, answer) => {
+            let next = next_status(manager, step.operation, place.saturating_add(1))?;
+            let told = Told::of_post(&answer, next)?;
+            Some((told, Callback::Post, instance, step.operation))
+        }
+        Visit::Base(_) | Visit::Drain(_) | Visit::Replied(_) => None,
+    }
+}
+
+/// Appends what is told of a step.
+pub(crate) fn write_told<F: Minifilter>(
+    text: &mut String,
+    manager: &Manager<F>,
+    told: Told,
+    callback: Callback,
+    instance: InstanceId,
+    operation: OpId,
+) -> Result<(), AllocError> {
+    write!(text, "{told}")?;
+    write_callback(text, manager, callback, instance, Some(operation))
 }
 
 /// Appends that a call of a port was a mistake.

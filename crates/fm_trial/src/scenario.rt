@@ -2,7 +2,10 @@
 
 use crate::expectation::Expectation;
 use crate::line::Line;
-use crate::report::{Manager, write_leak, write_refusal, write_reply, write_steps};
+use crate::report::{
+    Manager, told_at, write_attached, write_leak, write_refusal, write_reply, write_steps,
+    write_told,
+};
 use crate::told::Told;
 use fm_base::MemoryBase;
 use fm_data::Reply;
@@ -10,7 +13,7 @@ use fm_exec::LocalExec;
 use fm_filter::Minifilter;
 use fm_server::status_reply;
 use fm_types::limits::OPERATIONS;
-use fm_types::{Name, Status};
+use fm_types::{InstanceId, Name, Status};
 use fm_wire::Body;
 use std::alloc::Global;
 use std::fmt::Write;
@@ -31,6 +34,8 @@ pub(crate) struct Scenario<F> {
     exec: LocalExec<F, MemoryBase>,
     last: Option<Reply>,
     told: Vec<Told>,
+    /// How many instances were told.
+    instances: usize,
     held: u64,
     tally: Tally,
 }
@@ -45,6 +50,7 @@ impl<F: Minifilter> Scenario<F> {
             exec: LocalExec::new(alloc, manager),
             last: None,
             told: Vec::new(alloc),
+            instances: 0,
             held: 0,
             tally: Tally { failed: 0, told: 0 },
         })
@@ -98,9 +104,40 @@ impl<F: Minifilter> Scenario<F> {
     // Appends what callbacks did since the last request, and which mistakes they made.
     fn report(&mut self, text: &mut String) -> Result<(), Status> {
         write_steps(text, self.exec.manager())?;
+        self.tell_steps(text)?;
         self.tell_leaks(text)?;
         self.tell_refusals(text)?;
+        self.tell_instances(text)?;
         self.exec.forget_report();
+        Ok(())
+    }
+
+    // Appends the instances that were attached since the last request.
+    fn tell_instances(&mut self, text: &mut String) -> Result<(), Status> {
+        let manager = self.exec.manager();
+        let instances = manager.state().instances();
+        for number in self.instances..instances {
+            if let Ok(number) = u16::try_from(number) {
+                write_attached(text, manager, InstanceId(number))?;
+            }
+        }
+        self.instances = instances;
+        Ok(())
+    }
+
+    // Appends what is told of verdicts and statuses that don't count. A limit of the model is no mistake.
+    fn tell_steps(&mut self, text: &mut String) -> Result<(), Status> {
+        let manager = self.exec.manager();
+        for place in 0..manager.traced() {
+            let Some((told, callback, instance, operation)) = told_at(manager, place) else {
+                continue;
+            };
+            write_told(text, manager, told, callback, instance, operation)?;
+            self.told.push(told)?;
+            if !told.is_limit() {
+                self.tally.told = self.tally.told.saturating_add(1);
+            }
+        }
         Ok(())
     }
 
@@ -159,7 +196,7 @@ impl<F: Minifilter> Scenario<F> {
         if !is_met {
             self.tally.failed = self.tally.failed.saturating_add(1);
             writeln!(text, "line {number} failed: {line}")?;
-        } else if let Expectation::Told(_) = expected {
+        } else if expected.is_mistake() {
             self.tally.told = self.tally.told.saturating_sub(1);
         }
         Ok(())

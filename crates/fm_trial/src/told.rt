@@ -1,6 +1,8 @@
 //! Mistakes of filters, by the numbers under which the host for drivers in C tells them.
 
-use fm_local::{PortCall, Refusal};
+use fm_core::PreState;
+use fm_data::PreVerdict;
+use fm_local::{PortCall, PostAnswer, PreAnswer, Refusal};
 use fm_types::Status;
 use std::fmt;
 
@@ -19,16 +21,31 @@ pub(crate) enum Told {
     HeldToTheEnd,
     /// A held operation was let go on that isn't held.
     NotHeld,
+    /// A preoperation asked for a postoperation that isn't registered.
+    NoPost,
+    /// A preoperation that doesn't complete its operation set a status.
+    StatusNotCompleted,
+    /// A preoperation completed a create with success.
+    CreateCompleted,
+    /// A preoperation completed a cleanup or a close.
+    CloseCompleted,
+    /// A postoperation changed the status of an operation whose answer it can't change.
+    FixedAnswer,
 }
 
 /// All of them.
-const ALL: [Told; 6] = [
+const ALL: [Told; 11] = [
     Told::Leak,
     Told::ReleasedTwice,
     Told::NotReferenced,
     Told::SetNotReferenced,
     Told::HeldToTheEnd,
     Told::NotHeld,
+    Told::NoPost,
+    Told::StatusNotCompleted,
+    Told::CreateCompleted,
+    Told::CloseCompleted,
+    Told::FixedAnswer,
 ];
 
 impl Told {
@@ -41,7 +58,20 @@ impl Told {
             Told::SetNotReferenced => "KZ0110",
             Told::HeldToTheEnd => "KZ0111",
             Told::NotHeld => "KZ0113",
+            Told::NoPost => "KZ0124",
+            Told::StatusNotCompleted => "KZ0125",
+            Told::CreateCompleted => "KZ0221",
+            Told::CloseCompleted => "KZ0222",
+            Told::FixedAnswer => "KZ0223",
         }
+    }
+
+    /// Whether it is a limit of the model, and no mistake of the filter.
+    pub(crate) fn is_limit(self) -> bool {
+        matches!(
+            self,
+            Told::CreateCompleted | Told::CloseCompleted | Told::FixedAnswer
+        )
     }
 
     /// The mistake of that number.
@@ -59,6 +89,26 @@ impl Told {
             _ => None,
         }
     }
+
+    /// Which mistake a preoperation made whose verdict doesn't count as it was given, or that set a status for nothing; none where it made none.
+    pub(crate) fn of_pre(answer: &PreAnswer) -> Option<Told> {
+        match (answer.given, answer.counted) {
+            (PreVerdict::WithCallback(_) | PreVerdict::Synchronize(_), Some(PreState::Passed)) => {
+                Some(Told::NoPost)
+            }
+            (PreVerdict::Complete(_), Some(PreState::Passed)) => Some(Told::CloseCompleted),
+            (PreVerdict::Complete(given), Some(PreState::Completed(counted))) => {
+                (given != counted).then_some(Told::CreateCompleted)
+            }
+            (PreVerdict::Pending, _) => None,
+            _ => (answer.found != answer.left).then_some(Told::StatusNotCompleted),
+        }
+    }
+
+    /// Which limit a postoperation met that left a status, where the next step of the operation found that one; none where it counted.
+    pub(crate) fn of_post(answer: &PostAnswer, next: Status) -> Option<Told> {
+        (answer.found != answer.left && answer.left != next).then_some(Told::FixedAnswer)
+    }
 }
 
 /// The number, and what was done.
@@ -71,7 +121,17 @@ impl fmt::Display for Told {
             Told::SetNotReferenced => "a context was set to which no reference is held",
             Told::HeldToTheEnd => "an operation is held to the end",
             Told::NotHeld => "an operation was let go on that isn't held there",
+            Told::NoPost => "a postoperation was asked for that isn't registered",
+            Told::StatusNotCompleted => {
+                "a preoperation set a status, and doesn't complete the operation"
+            }
+            Told::CreateCompleted => { "a create that is completed with success counts as denied" }
+            Told::CloseCompleted => "a cleanup or a close that is completed goes down all the same",
+            Told::FixedAnswer => {
+                "the status that a postoperation set of this operation doesn't count"
+            }
         };
-        write!(f, "TOLD {} {words}", self.id())
+        let kind = if self.is_limit() { "LIMIT" } else { "TOLD" };
+        write!(f, "{kind} {} {words}", self.id())
     }
 }

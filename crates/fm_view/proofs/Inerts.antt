@@ -1,5 +1,5 @@
 -- JSON that is spelled for a page has no byte that means something in it.
-use Rattle.std.proofs.Common.{◌≡◌, ℕ, ◌<◌, ◌%◌, ◌/◌, ◌++◌, ◌+◌, List, [], ◌∷◌, Bool, true, false, cond, nat_lt, refl, arith, subst, sym}
+use Rattle.std.proofs.Common.{◌≡◌, ℕ, ◌<◌, ◌%◌, ◌/◌, ◌++◌, List, [], ◌∷◌, Bool, true, false, cond, refl, arith, subst, sym}
 use Rattle.std.specs.List.{All}
 use Rattle.std.proofs.lemmas.List.Elements.{All-append, All-cons, All-nil}
 use Rattle.fm_view.specs.Escapes.{IsInert, digit, inert, is_inert, spelled_inert}

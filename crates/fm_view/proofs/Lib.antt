@@ -1,3 +1,2 @@
 mod Escaping
-mod Giving
 mod Inerts

@@ -1,11 +1,9 @@
--- A line that is run to be shown.
-use Rattle.std.specs.Prelude.{ℕ, List, Option, Ok}
-use Rattle.std.specs.Io.KnownBytes.{Appends}
-use Rattle.fm_script.specs.Lines.{RunsLine}
-use Rattle.fm_script.specs.Printing.{Printed}
-use Rattle.fm_script.specs.declared.interpreter.Interpreter.{Interpreter}
+-- What a script prints for what its lines answered.
+use Rattle.std.specs.Prelude.{ℕ, List, [], ◌∷◌}
+use Rattle.fm_script.specs.Sayings.{text_with}
+use Rattle.fm_script.specs.declared.said.Said.{Said}
 
--- the line is run as a script runs it, and a writer that has what was printed is given, as far as its `contents` tell
-abbrev pub Gives : {W : Type 0} → List ℕ → (W → Option (List ℕ)) → W → Interpreter → Interpreter → Printed → Type 0
-Gives line contents given old new before =
-    (after : Printed) × RunsLine line (Ok tt) old new before after × Appends after.given (contents given) after.held
+-- one line for each, behind what was printed before
+abbrev pub printed_behind : List ℕ → List Said → List ℕ
+printed_behind before [] = before
+printed_behind before (said ∷ told) = printed_behind (text_with before said) told

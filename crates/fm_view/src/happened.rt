@@ -1,4 +1,4 @@
-//! What a printed line says that happened, by what its command asked for and what was so before.
+//! What an answer says that happened, by what its command asked for and what was so before.
 
 use crate::event::{Deed, Event, Visit, instance_in, operation_in};
 use crate::verdict::held_at;

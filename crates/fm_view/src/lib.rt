@@ -1,5 +1,5 @@
-//! What happened when a script ran: in words, as JSON, as a page for a browser and as a picture. A run is that of `fltscript`, line by line; what it prints is
-//! read back.
+//! What happened when a script ran: in words, as JSON, as a page for a browser and as a picture. A run is that of `fltscript`, line by line; what a line
+//! answers is told as values.
 #![tactic(auto)]
 
 mod answer;
@@ -27,6 +27,5 @@ mod view;
 mod ways;
 mod words;
 
-pub use crate::answer::read_answer;
 pub use crate::verdict::exit_status;
 pub use crate::view::{Manner, Shown, show_script};

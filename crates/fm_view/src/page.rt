@@ -90,7 +90,7 @@ svg .faded { opacity: 0.18; }
     --completing: #ffd0a0; --emptying: #ffc4bd; --detached: #d4d6d9; --light: 37%; }
   * { print-color-adjust: exact; -webkit-print-color-adjust: exact; }
   html, body { height: auto; display: block; }
-  #chart, #tip, #keys, #legend { display: none !important; }
+  header button, #chart, #tip, #keys, #legend { display: none !important; }
   #paper { display: block; }
   #paper svg { position: static; margin: 0 0 6mm; break-inside: avoid; max-width: 100%; height: auto; }
   #told { overflow: visible; font-size: 9px; }
@@ -110,9 +110,9 @@ svg .faded { opacity: 0.18; }
 </header>
 <div id="legend"></div>
 <div id="chart"><div id="corner">line</div><div id="axis"></div><div id="names"></div><div id="plot"></div></div>
+<div id="paper"></div>
 <div id="told" tabindex="0"></div>
 <div id="tip"></div>
-<div id="paper"></div>
 <script type="application/json" id="run">
 "##;
 
@@ -629,13 +629,13 @@ function fillHeader() {
 
 // On paper the chart stands in bands, one below the other.
 function fillPaper() {
-  const paper = byId('paper'), columns = 66, width = NAMES + columns * STEP + 90;
+  const paper = byId('paper'), bands = Math.ceil(run.columns.length / 66), columns = Math.ceil(run.columns.length / bands), width = NAMES + columns * STEP + 90;
   paper.replaceChildren();
   for (let from = 0; from < run.columns.length; from += columns) {
     const svg = document.createElementNS(SVG, 'svg');
     svg.setAttribute('viewBox', '0 0 ' + width + ' ' + (run.height + 22));
     svg.setAttribute('width', width);
-    for (const lane of run.lanes) add(svg, 'text', { x: 2, y: lane.y + 26, 'font-size': 11 }, (lane.text + ' ' + (lane.altitude || '')).slice(0, 34));
+    for (const lane of run.lanes) add(svg, 'text', { x: 2, y: lane.y + 26, 'font-size': 11 }, (lane.text + ' ' + (lane.altitude || '')).slice(0, 40));
     const clip = add(add(svg, 'clipPath', { id: 'band' + from }), 'rect', { x: from * STEP, y: -30, width: columns * STEP + (from + columns >= run.columns.length ? 90 : 0), height: run.height + 60 });
     const shift = add(svg, 'g', { transform: 'translate(' + (NAMES - from * STEP) + ' 22)', 'clip-path': 'url(#band' + from + ')' });
     drawWindow(shift, run, from, from + columns, null);

@@ -1,10 +1,6 @@
 //! A script that is run line by line as `fltscript` runs it, and shown to a reader.
 
-ghost use Rattle.std.specs.Prelude.{IfOk};
-ghost use Rattle.fm_script.specs.Printing.{printed};
-ghost use Rattle.fm_view.specs.Lines.{Gives};
-
-use crate::answer::read_answer;
+use crate::answer::printed;
 use crate::colour::{Colour, colour_of};
 use crate::event::{Event, Moment};
 use crate::expect::{Expectations, expected_in};
@@ -26,7 +22,7 @@ use crate::verdict::{exit_status, held, say_end, say_expectations, say_fault, sa
 use crate::words::say;
 use fm_core::{Place, Step};
 use fm_data::{FileRequest, Request};
-use fm_script::{Listener, Runner, Said, ScriptEnd, Task, is_silent, read_lines};
+use fm_script::{Interpreter, Listener, Said, ScriptEnd, Task, is_silent, read_lines};
 use fm_types::limits::LINE;
 use fm_types::{Status, WorkerId};
 use std::alloc::{AllocError, Global};
@@ -97,7 +93,7 @@ struct Line<'a> {
 #[derive(Drop)]
 struct View<W: Write + Drop> {
     alloc: Global,
-    runner: Runner<Vec<u8>>,
+    interpreter: Interpreter,
     notes: Notes,
     moments: Vec<Moment>,
     titles: Vec<Label>,
@@ -113,7 +109,7 @@ impl<W: Write + Drop> View<W> {
     fn new(alloc: Global, shown: Shown, writer: W) -> Result<View<W>, ScriptEnd> {
         Ok(View {
             alloc,
-            runner: Runner::new(alloc, Vec::new(alloc))?,
+            interpreter: Interpreter::new(alloc).map_err(|_| ScriptEnd::NoMemory)?,
             notes: Notes::new(alloc),
             moments: Vec::new(alloc),
             titles: Vec::new(alloc),
@@ -153,10 +149,11 @@ impl<W: Write + Drop> View<W> {
     fn run(&mut self, line: &[u8]) -> Result<(), ScriptEnd> {
         let task = self.read(line)?;
         let before = self.before(&task).map_err(|_| ScriptEnd::NoMemory)?;
-        let printed = run_line(&mut self.runner, line, Vec::new(self.alloc))?;
+        let told = self.interpreter.run(self.alloc, line)?;
         let text = self
-            .show_all(line, &task, &before, printed.as_slice())
+            .show_all(line, &task, &before, told.as_slice())
             .map_err(|_| ScriptEnd::NoMemory)?;
+        let printed = printed(self.alloc, told.as_slice()).map_err(|_| ScriptEnd::NoMemory)?;
         self.note_answers(&task, printed);
         self.write(text.as_str())
     }
@@ -251,13 +248,13 @@ impl<W: Write + Drop> View<W> {
         write!(text, "{begin}{:>4}  {}{end}\n", self.line, Ascii(line))
     }
 
-    // Shows what a line printed, and notes it.
+    // Shows what a line answered, and notes it.
     fn show_all(
         &mut self,
         line: &[u8],
         task: &Result<Task, Status>,
         before: &Before,
-        printed: &[u8],
+        told: &[Said],
     ) -> Result<String, AllocError> {
         let mut text = String::new(self.alloc);
         let (changes, leaks) = (self.notes.changes.len(), self.notes.leaks.len());
@@ -271,11 +268,9 @@ impl<W: Write + Drop> View<W> {
             calls: before.calls,
         };
         let mut is_first = true;
-        for answer in printed.split(|byte| *byte == b'\n') {
-            if !answer.is_empty() {
-                self.show(&mut text, &line, answer, is_first)?;
-                is_first = false;
-            }
+        for said in told {
+            self.show(&mut text, &line, said, is_first)?;
+            is_first = false;
         }
         self.note_leaks(task, before)?;
         if self.is_json() {
@@ -305,7 +300,7 @@ impl<W: Write + Drop> View<W> {
 
     // How things are before a line.
     fn before(&self, task: &Result<Task, Status>) -> Result<Before, AllocError> {
-        let interpreter = self.runner.interpreter();
+        let interpreter = &self.interpreter;
         let state = interpreter.state();
         let mut before = Before {
             place: Place::Idle,
@@ -332,7 +327,7 @@ impl<W: Write + Drop> View<W> {
         task: &Result<Task, Status>,
         before: &Before,
     ) -> Result<(), AllocError> {
-        let leaks = self.runner.interpreter().state().leaks();
+        let leaks = self.interpreter.state().leaks();
         let mut left = leaks.saturating_sub(before.leaks);
         let mut sent = self.sent();
         for context in &before.contexts {
@@ -367,15 +362,17 @@ impl<W: Write + Drop> View<W> {
         if line.len() > LINE {
             return Ok(Err(Status::BadRequest));
         }
-        self.runner.read(line).map_err(|_| ScriptEnd::NoMemory)
+        self.interpreter
+            .read(self.alloc, line)
+            .map_err(|_| ScriptEnd::NoMemory)
     }
 
-    // The event of one line that was printed.
+    // The event of one line of an answer.
     fn event(&self, line: &Line<'_>, said: &Said) -> Option<Event> {
         let Some(task) = line.task else {
             return refusal_in(said);
         };
-        let interpreter = self.runner.interpreter();
+        let interpreter = &self.interpreter;
         let asked = Asked {
             task,
             place: line.place,
@@ -388,7 +385,7 @@ impl<W: Write + Drop> View<W> {
 
     // Notes what happened.
     fn note(&mut self, line: &Line<'_>, event: &Event) -> Result<(), AllocError> {
-        let state = self.runner.interpreter().state();
+        let state = self.interpreter.state();
         match (line.task, event) {
             (Some(task), _) => self.notes.learn(self.line, event, task, state)?,
             (None, Event::Refused { status, .. }) => self.notes.refuse(*status),
@@ -406,20 +403,17 @@ impl<W: Write + Drop> View<W> {
         &mut self,
         text: &mut String,
         line: &Line<'_>,
-        answer: &[u8],
+        said: &Said,
         is_first: bool,
     ) -> Result<(), AllocError> {
-        let Some(said) = read_answer(self.alloc, answer)? else {
-            return Ok(());
-        };
-        let Some(event) = self.event(line, &said) else {
+        let Some(event) = self.event(line, said) else {
             return Ok(());
         };
         self.note(line, &event)?;
         if !self.is_json() && !self.is_said() && self.shown.manner != Manner::Picture {
             return Ok(());
         }
-        let bytes = bytes_of(line.task, &said);
+        let bytes = bytes_of(line.task, said);
         let words = self.words(line, &event, bytes.unwrap_or(b""))?;
         if self.shown.manner == Manner::Picture {
             return self.title(line, words.as_str());
@@ -466,7 +460,7 @@ impl<W: Write + Drop> View<W> {
         let Event::Refused { status, context } = event else {
             return Ok(reason);
         };
-        let interpreter = self.runner.interpreter();
+        let interpreter = &self.interpreter;
         let refusal = Refusal {
             notes: &self.notes,
             state: interpreter.state(),
@@ -526,7 +520,7 @@ impl<W: Write + Drop> View<W> {
 
     // The figures of a run that ended so.
     fn tally(&self, end: ScriptEnd) -> Tally {
-        let state = self.runner.interpreter().state();
+        let state = self.interpreter.state();
         let (leaks, held) = (state.leaks(), held(state));
         let (unmet, misuses) = (self.unmet(), self.expectations.misuses);
         let status = exit_status(end, unmet, leaks, held, misuses);
@@ -583,7 +577,7 @@ impl<W: Write + Drop> View<W> {
 
     // What is left at the end, in words.
     fn say_verdict(&self, text: &mut String, end: ScriptEnd) -> Result<(), AllocError> {
-        let state = self.runner.interpreter().state();
+        let state = self.interpreter.state();
         say_end(text, &self.notes, state, self.last)?;
         say_expectations(text, &self.expectations, self.shown.is_strict)?;
         say_fault(text, end)
@@ -643,14 +637,6 @@ fn bytes_of<'a>(task: Option<&'a Task>, said: &'a Said) -> Option<&'a [u8]> {
 // What stands before an answer in a list of them.
 fn between(is_first: bool) -> &'static str {
     if is_first { "; it answered " } else { ", " }
-}
-
-// Runs a line as a script does, and gives what it printed, with what was printed before and not given yet.
-fn run_line<W: Write + Drop>(runner: &mut Runner<W>, line: &[u8], writer: W) -> Result<W, ScriptEnd>
-    ensures { IfOk result (λ given. Gives line.now W.contents given runner.old.interpreter runner.new.interpreter (printed W.contents runner.old.output)) }
-{
-    runner.run(line)?;
-    runner.change_writer(writer)
 }
 
 /// Runs the script that a reader gives, and writes what happened to a writer. It gives the exit status: that of the script's end. Of one that ended well it is

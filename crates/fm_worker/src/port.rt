@@ -10,7 +10,7 @@ use fm_filter::Port;
 use fm_flow::Hold;
 use fm_lock::{Hand, Manager};
 use fm_types::{Bytes, ContextKind, CtxId, OpId, Status};
-use fm_world::SetAnswer;
+use fm_world::{About, SetAnswer};
 use std::sync::Wait;
 use std::sync::ledger::Ledger;
 
@@ -34,11 +34,13 @@ impl<'a, F: Drop, L: Ledger, R: Wait> HandPort<'a, F, L, R> {
 }
 
 impl<'a, F: Drop, L: Ledger, R: Wait> Port for HandPort<'a, F, L, R> {
-    ghost use Rattle.std.specs.Prelude.{◌≡◌, ◌+◌, None};
+    ghost use Rattle.std.specs.Prelude.{◌≡◌, ◌+◌, ⊤, None};
     ghost use Rattle.fm_lock.specs.Events.{Holding};
     ghost use Rattle.fm_world.specs.Hands.{given_by_set, given_with};
     ghost use Rattle.fm_world.specs.StepHands.{Fewer, More};
     ghost use Rattle.fm_worker.specs.Ports.{ResumesPost, ResumesPre};
+
+    ghost tells = { λ port result. ⊤ };
 
     ghost allocates = { λ old kind body result new. Holding (More result (λ _. 1)) old.hand new.hand };
 
@@ -64,12 +66,19 @@ impl<'a, F: Drop, L: Ledger, R: Wait> Port for HandPort<'a, F, L, R> {
 
     ghost resumes_post = { λ old operation result new. ResumesPost operation old.hand old.resumed result new.hand new.resumed };
 
+    ghost hand = { λ port. None };
+
     ghost kept = { λ port. record { worker = port.hand.worker; standing = None } };
+
+    fn about(&self) -> Result<About, Status> {
+        self.manager.about(self.rt, &self.hand)
+    }
 
     fn allocate(&mut self, kind: ContextKind, body: Bytes) -> Result<CtxId, Status> {
         self.manager.allocate(self.rt, &mut self.hand, kind, body)
     }
 
+    #[tactic(auto, using(fm_filter::proofs::Hands::set_unsaid))]
     fn set(&mut self, context: CtxId, mode: SetMode, wants_old: bool) -> SetAnswer {
         self.manager
             .set(self.rt, &mut self.hand, context, mode, wants_old)
@@ -79,6 +88,7 @@ impl<'a, F: Drop, L: Ledger, R: Wait> Port for HandPort<'a, F, L, R> {
         self.manager.get(self.rt, &mut self.hand, kind)
     }
 
+    #[tactic(auto, using(fm_filter::proofs::Hands::old_unsaid))]
     fn delete(&mut self, kind: ContextKind, wants_old: bool) -> Result<Option<CtxId>, Status> {
         self.manager
             .delete(self.rt, &mut self.hand, kind, wants_old)

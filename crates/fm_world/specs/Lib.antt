@@ -8,6 +8,7 @@ pub mod Workers
 pub mod Owners
 pub mod Events
 pub mod ContextEvents
+pub mod About
 pub mod Teardowns
 pub mod EarlyDrains
 pub mod Dismounts

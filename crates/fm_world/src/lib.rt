@@ -5,6 +5,7 @@
 //! `Lasting`. `laws` has the proofs as public functions.
 #![tactic(auto)]
 
+mod about;
 mod file;
 pub mod laws;
 mod place;
@@ -12,6 +13,7 @@ mod refused;
 mod set_answer;
 mod step;
 
+pub use crate::about::{About, AboutOperation};
 pub use crate::file::{FileHandle, FileObject, FileStream, HandlePhase};
 pub use crate::place::Place;
 pub use crate::refused::Refused;

@@ -2,9 +2,9 @@
 #![tactic(auto)]
 
 #[cfg(test)]
-mod asked;
+mod about_tests;
 #[cfg(test)]
-mod beside;
+mod asked;
 #[cfg(test)]
 mod binding_tests;
 #[cfg(test)]
@@ -27,6 +27,8 @@ mod report_tests;
 mod sample_tests;
 #[cfg(test)]
 mod samples;
+#[cfg(test)]
+mod says_about;
 #[cfg(test)]
 mod steps;
 #[cfg(test)]

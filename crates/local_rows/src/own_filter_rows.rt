@@ -1,9 +1,9 @@
 //! The auditing filter among samples, above a folder in memory and above one of the host: the same requests are answered alike.
 
-use crate::beside::Beside;
 use fm_altitude::Altitude;
 use fm_base::{Base, MemoryBase};
 use fm_data::{FileRequest, Reply, Request};
+use fm_filter::Either;
 use fm_host::HostBase;
 use fm_local::LocalManager;
 use fm_samples::{Guard, Sample, Shift};
@@ -59,7 +59,7 @@ fn request_of(alloc: Global, ask: Ask) -> Result<Request, Status> {
 
 // Loads a filter, and attaches it under its own name.
 fn attach<B: Base>(
-    manager: &mut LocalManager<Beside, B>,
+    manager: &mut LocalManager<Either<Audit, Sample>, B>,
     name: &[u8],
     altitude: &[u8],
 ) -> Result<FilterId, Status> {
@@ -70,18 +70,21 @@ fn attach<B: Base>(
 }
 
 // A manager that has the four filters.
-fn four<B: Base>(alloc: Global) -> Result<LocalManager<Beside, B>, Status> {
+fn four<B: Base>(alloc: Global) -> Result<LocalManager<Either<Audit, Sample>, B>, Status> {
     let shift = Sample::Shift(Shift::new(alloc));
     let mut filters = Vec::new(alloc);
-    filters.push((Name::read(b"guard")?, Beside::sample(Sample::Guard(Guard))))?;
-    filters.push((Name::read(b"high")?, Beside::sample(shift)))?;
-    filters.push((Name::read(b"low")?, Beside::sample(shift)))?;
-    filters.push((Name::read(b"audit")?, Beside::audit(Audit::new(alloc))))?;
+    filters.push((Name::read(b"guard")?, Either::Right(Sample::Guard(Guard))))?;
+    filters.push((Name::read(b"high")?, Either::Right(shift)))?;
+    filters.push((Name::read(b"low")?, Either::Right(shift)))?;
+    filters.push((Name::read(b"audit")?, Either::Left(Audit::new(alloc))))?;
     LocalManager::new(alloc, filters)
 }
 
 // Attaches them above that base. The audit is the last, and lies second.
-fn attach_four<B: Base>(manager: &mut LocalManager<Beside, B>, base: B) -> Result<(), Status> {
+fn attach_four<B: Base>(
+    manager: &mut LocalManager<Either<Audit, Sample>, B>,
+    base: B,
+) -> Result<(), Status> {
     manager.mount(Name::read(b"disk")?, base)?;
     attach(manager, b"guard", b"400.5")?;
     attach(manager, b"high", b"200.75")?;
@@ -149,7 +152,7 @@ writes 2, leaked references 0
 
 // Appends the answer to a request.
 fn answer<B: Base>(
-    manager: &mut LocalManager<Beside, B>,
+    manager: &mut LocalManager<Either<Audit, Sample>, B>,
     request: Request,
     told: &mut String,
 ) -> Result<(), Status> {
@@ -170,7 +173,10 @@ fn answer<B: Base>(
 }
 
 // Appends each step.
-fn tell_steps<B: Base>(manager: &LocalManager<Beside, B>, told: &mut String) -> Result<(), Status> {
+fn tell_steps<B: Base>(
+    manager: &LocalManager<Either<Audit, Sample>, B>,
+    told: &mut String,
+) -> Result<(), Status> {
     for place in 0..manager.traced() {
         if let Some(step) = manager.trace(place) {
             writeln!(told, "{step}")?;
@@ -181,7 +187,7 @@ fn tell_steps<B: Base>(manager: &LocalManager<Beside, B>, told: &mut String) -> 
 
 // Appends what the audit, the last filter, counted, and the bytes of the file as the base holds them.
 fn tell_rest<B: Base>(
-    manager: &mut LocalManager<Beside, B>,
+    manager: &mut LocalManager<Either<Audit, Sample>, B>,
     told: &mut String,
 ) -> Result<(), Status> {
     let writes = manager.state().total(FilterId(3));
@@ -198,7 +204,7 @@ fn tell_rest<B: Base>(
 // Appends all that is told of the requests above that base.
 fn tell_above<B: Base>(
     alloc: Global,
-    manager: &mut LocalManager<Beside, B>,
+    manager: &mut LocalManager<Either<Audit, Sample>, B>,
     base: B,
     told: &mut String,
 ) -> Result<(), Status> {

@@ -1,6 +1,7 @@
 //! A filter that audits a volume: it counts what is written to each file, and lets nobody delete one.
 
-ghost use Rattle.std.specs.Prelude.{◌≡◌};
+ghost use Rattle.std.specs.Prelude.{◌≡◌, ⊤, [], Some};
+ghost use Rattle.fm_filter.specs.Hands.{more};
 
 use fm_core::{SetAnswer, SetMode};
 use fm_data::{CallbackData, Completion, Params, PostVerdict, PreVerdict};
@@ -21,28 +22,41 @@ impl Audit {
     }
 
     // The stream's context, with a reference in the hand; the first write makes it. None, with nothing in the hand, where a call was refused.
+    #[tactic(auto, using(fm_filter::proofs::Hands::release_first))]
     fn counter<P: Port>(&self, port: &mut P) -> Option<CtxId>
         ensures far { P.kept port.new ≡ P.kept port.old }
+        ensures held { P.hand port.old ≡ Some [] → P.hand port.new ≡ Some (more result []) }
     {
         if let Ok(there) = port.get(ContextKind::Stream) {
             return Some(there);
         }
-        let body = Bytes::copy_of(self.alloc, &[0; 8]).ok()?;
-        let context = port.allocate(ContextKind::Stream, body).ok()?;
-        let there = match port.set(context, SetMode::Keep, true) {
-            SetAnswer::Linked(_) => return Some(context),
-            SetAnswer::AlreadyDefined(there) => there,
-            SetAnswer::Refused(_) => None,
+        let Ok(body) = Bytes::copy_of(self.alloc, &[0; 8]) else {
+            return None;
         };
-        let _ = port.release(context);
-        there
+        let Ok(context) = port.allocate(ContextKind::Stream, body) else {
+            return None;
+        };
+        match port.set(context, SetMode::Keep, true) {
+            SetAnswer::Linked(_) => Some(context),
+            SetAnswer::AlreadyDefined(there) => {
+                let _ = port.release(context);
+                there
+            }
+            SetAnswer::Refused(_) => {
+                let _ = port.release(context);
+                None
+            }
+        }
     }
 }
 
 impl Agreeable for Audit {
-    ghost use Rattle.std.specs.Prelude.{⊤, true};
+    ghost use Rattle.std.specs.Prelude.{⊤, true, [], ◌∷◌};
+    ghost use Rattle.fm_filter.specs.Registers.{kinds_of, mask_of};
+    ghost use Rattle.fm_types.specs.declared.context_kind.ContextKind.TheVariants.{Stream};
+    ghost use Rattle.fm_types.specs.declared.operation.Operation.TheVariants.{SetDelete, Write};
 
-    ghost registers = { λ _. record { pre = record { 0 = 132 }; post = record { 0 = 0 }; contexts = record { 0 = 4 }; query = true; unload = true } };
+    ghost registers = { λ _. record { pre = mask_of (Write ∷ SetDelete ∷ []); post = mask_of []; contexts = kinds_of (Stream ∷ []); query = true; unload = true } };
 
     ghost pre_may = { λ _ _ _ _. ⊤ };
 
@@ -62,7 +76,15 @@ impl Agreeable for Audit {
         }
     }
 
-    fn pre<P: Port>(&self, lent: &mut CallbackData, port: &mut P) -> PreVerdict {
+    // It leaves no reference behind.
+    #[tactic(auto, using(fm_filter::proofs::Hands::release_first))]
+    fn pre<P: Port>(&self, lent: &mut CallbackData, port: &mut P) -> PreVerdict
+        ensures may { ⊤ }
+        ensures kept { lent.new.received ≡ lent.old.received }
+        ensures quiet { ⊥ → port.new ≡ port.old }
+        ensures far { P.kept port.new ≡ P.kept port.old }
+        ensures clean { P.hand port.old ≡ Some [] → P.hand port.new ≡ Some [] }
+    {
         if let Params::SetDelete = lent.params() {
             return PreVerdict::Complete(Status::AccessDenied);
         }

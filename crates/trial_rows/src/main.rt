@@ -1,19 +1,23 @@
-//! Tries a filter that makes each mistake that a trial tells: what is printed, and the exit status, are what is wanted.
+//! Tries filters that make each mistake that a trial tells, and meet each limit: what is printed, and the exit status, are what is wanted.
 #![tactic(auto)]
 
 mod mistakes;
+mod verdicts;
 
 use crate::mistakes::Mistakes;
+use crate::verdicts::Verdicts;
+use fm_filter::Either;
 use fm_trial::trial;
 use fm_types::{Name, Status};
 use std::alloc::Global;
 use std::io;
 use std::process::ExitCode;
 
-// The filter, under its name.
-fn filters(alloc: Global) -> Result<Vec<(Name, Mistakes)>, Status> {
+// The filters, under their names.
+fn filters(alloc: Global) -> Result<Vec<(Name, Either<Mistakes, Verdicts>)>, Status> {
     let mut filters = Vec::new(alloc);
-    filters.push((Name::read(b"mistakes")?, Mistakes::new(alloc)))?;
+    filters.push((Name::read(b"mistakes")?, Either::Left(Mistakes::new(alloc))))?;
+    filters.push((Name::read(b"verdicts")?, Either::Right(Verdicts)))?;
     Ok(filters)
 }
 

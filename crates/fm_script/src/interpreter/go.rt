@@ -5,48 +5,66 @@ ghost use Rattle.fm_core.specs.Passing.{numbered};
 ghost use Rattle.fm_script.specs.Runs.{Goes};
 
 use super::Interpreter;
-use crate::output::Output;
 use crate::said::{Said, Word, said_given};
 use crate::script_end::ScriptEnd;
+use crate::sink::Sink;
 use fm_data::{Completion, PostVerdict, PreVerdict};
 use fm_session::Given;
+use fm_types::limits::TURNS;
 use fm_types::{InstanceId, OpId, Status, WorkerId};
-use std::io::Write;
 
 impl Interpreter {
-    /// A worker takes the operation's next step, and answers it: a preoperation callback as it is planned, a base call by the devices, a
-    /// postoperation callback and a drain by finishing them, and a done operation by collecting its reply. It prints what happened, and
-    /// says whether the operation goes on.
-    #[tactic(auto, using(crate::proofs::Going::goes_then))]
-    pub fn turn<W: Write + Drop>(
+    /// A worker takes the operation's steps, and answers each, until the operation is held or done. It tells each step.
+    #[tactic(auto, using(crate::proofs::Going::goes_then, crate::proofs::Going::goes_none))]
+    pub fn go<S: Sink>(
         &mut self,
         worker: WorkerId,
         operation: OpId,
-        output: &mut Output<W>,
+        sink: &mut S,
+    ) -> Result<(), ScriptEnd>
+        ensures { Goes worker operation self.old self.new }
+    {
+        for _ in 0..TURNS {
+            if !self.turn(worker, operation, sink)? {
+                return Ok(());
+            }
+        }
+        sink.tell(Said::Refused(Status::WrongStep))
+    }
+
+    // A worker takes the operation's next step, and answers it: a preoperation callback as it is planned, a base call by the devices, a
+    // postoperation callback and a drain by finishing them, and a done operation by collecting its reply. It tells what happened, and
+    // says whether the operation goes on.
+    #[tactic(auto, using(crate::proofs::Going::goes_then))]
+    fn turn<S: Sink>(
+        &mut self,
+        worker: WorkerId,
+        operation: OpId,
+        sink: &mut S,
     ) -> Result<bool, ScriptEnd>
         ensures { Goes worker operation self.old self.new }
     {
         if let Some((instance, verdict)) = self.pass_down(worker, operation) {
-            return say_answered(output, instance, verdict, Ok(()));
+            return say_answered(sink, instance, verdict, Ok(()));
         }
-        self.climb(worker, operation, output)
+        self.climb(worker, operation, sink)
     }
 
     // The same of one that passes no instance on its way down: it passes one on its way up, or takes its next step.
     #[tactic(auto, using(crate::proofs::Going::goes_then))]
-    fn climb<W: Write + Drop>(
+    fn climb<S: Sink>(
         &mut self,
         worker: WorkerId,
         operation: OpId,
-        output: &mut Output<W>,
+        sink: &mut S,
     ) -> Result<bool, ScriptEnd>
         ensures { Goes worker operation self.old self.new }
     {
         if let Some(instance) = self.pass_up(worker, operation) {
-            return say_back(output, Word::Post, instance, Ok(()));
+            return say_back(sink, Word::Post, instance, Ok(()));
         }
         let given = self.next(worker, operation);
-        self.answer(worker, operation, given, output)
+        self.answer(worker, operation, given, sink)
     }
 
     // The operation passes an instance on its way down, in one event, where it is planned to go on and come back.
@@ -67,37 +85,37 @@ impl Interpreter {
         self.session.pass_up(worker, operation)
     }
 
-    // Each line is made where it is printed, and nowhere else: what any arm here makes has its room cleared at every turn.
+    // Each line is made where it is told, and nowhere else: what any arm here makes has its room cleared at every turn.
     #[tactic(auto, using(crate::proofs::Going::goes_none))]
-    fn answer<W: Write + Drop>(
+    fn answer<S: Sink>(
         &mut self,
         worker: WorkerId,
         operation: OpId,
         given: Result<Given, Status>,
-        output: &mut Output<W>,
+        sink: &mut S,
     ) -> Result<bool, ScriptEnd>
         ensures { Goes worker operation self.old self.new }
     {
         match given {
             Ok(Given::Pre(instance)) => {
                 let (verdict, outcome) = self.answer_pre(worker, operation, instance);
-                say_answered(output, instance, verdict, outcome)
+                say_answered(sink, instance, verdict, outcome)
             }
             Ok(Given::Base) => match self.answer_base(worker, operation) {
-                Ok(status) => say_based(output, status),
-                Err(status) => refuses(output, status),
+                Ok(status) => say_based(sink, status),
+                Err(status) => refuses(sink, status),
             },
             Ok(Given::Post(instance, _)) => {
                 let outcome = self.answer_post(worker, operation);
-                say_back(output, Word::Post, instance, outcome)
+                say_back(sink, Word::Post, instance, outcome)
             }
             Ok(Given::Drain(instance, _)) => {
                 let outcome = self.answer_post(worker, operation);
-                say_back(output, Word::Drain, instance, outcome)
+                say_back(sink, Word::Drain, instance, outcome)
             }
-            Ok(Given::Moved) => say_moved(output, self.known(operation)),
-            Ok(Given::Done) => self.answer_done(worker, operation, output),
-            Ok(Given::Held) | Err(_) => say_stopped(output, given),
+            Ok(Given::Moved) => say_moved(sink, self.known(operation)),
+            Ok(Given::Done) => self.answer_done(worker, operation, sink),
+            Ok(Given::Held) | Err(_) => say_stopped(sink, given),
         }
     }
 
@@ -130,18 +148,18 @@ impl Interpreter {
     }
 
     #[tactic(auto, using(crate::proofs::Going::goes_collect))]
-    fn answer_done<W: Write + Drop>(
+    fn answer_done<S: Sink>(
         &mut self,
         worker: WorkerId,
         operation: OpId,
-        output: &mut Output<W>,
+        sink: &mut S,
     ) -> Result<bool, ScriptEnd>
         ensures { Goes worker operation self.old self.new }
     {
         let _ = worker;
         match self.session.collect(operation) {
-            Ok(answer) => ends(output, &Said::Replied(answer)),
-            Err(status) => refuses(output, status),
+            Ok(answer) => ends(sink, Said::Replied(answer)),
+            Err(status) => refuses(sink, status),
         }
     }
 }
@@ -161,70 +179,61 @@ fn number_alone(verdict: PreVerdict) -> Option<u64>
     }
 }
 
-// Prints what a preoperation callback answered. The operation goes on unless that was refused.
-fn say_answered<W: Write + Drop>(
-    output: &mut Output<W>,
+// Tells what a preoperation callback answered. The operation goes on unless that was refused.
+fn say_answered<S: Sink>(
+    sink: &mut S,
     instance: InstanceId,
     verdict: PreVerdict,
     outcome: Result<(), Status>,
 ) -> Result<bool, ScriptEnd> {
-    output.say(&Said::Answered(u64::from(instance.0), verdict))?;
-    goes_on(output, outcome)
+    sink.tell(Said::Answered(u64::from(instance.0), verdict))?;
+    goes_on(sink, outcome)
 }
 
-// Prints that a postoperation callback or a drain returned. The operation goes on unless that was refused.
-fn say_back<W: Write + Drop>(
-    output: &mut Output<W>,
+// Tells that a postoperation callback or a drain returned. The operation goes on unless that was refused.
+fn say_back<S: Sink>(
+    sink: &mut S,
     word: Word,
     instance: InstanceId,
     outcome: Result<(), Status>,
 ) -> Result<bool, ScriptEnd> {
-    output.say(&Said::Id(word, b'i', u64::from(instance.0)))?;
-    goes_on(output, outcome)
+    sink.tell(Said::Id(word, b'i', u64::from(instance.0)))?;
+    goes_on(sink, outcome)
 }
 
-fn goes_on<W: Write + Drop>(
-    output: &mut Output<W>,
-    outcome: Result<(), Status>,
-) -> Result<bool, ScriptEnd> {
+fn goes_on<S: Sink>(sink: &mut S, outcome: Result<(), Status>) -> Result<bool, ScriptEnd> {
     match outcome {
         Ok(()) => Ok(true),
-        Err(status) => refuses(output, status),
+        Err(status) => refuses(sink, status),
     }
 }
 
-// Prints the status of the base. The operation goes on.
-fn say_based<W: Write + Drop>(output: &mut Output<W>, status: Status) -> Result<bool, ScriptEnd> {
-    output.say(&Said::Based(status))?;
+// Tells the status of the base. The operation goes on.
+fn say_based<S: Sink>(sink: &mut S, status: Status) -> Result<bool, ScriptEnd> {
+    sink.tell(Said::Based(status))?;
     Ok(true)
 }
 
-// Prints the status of the base, if it is known. The operation goes on.
-fn say_moved<W: Write + Drop>(
-    output: &mut Output<W>,
-    status: Option<Status>,
-) -> Result<bool, ScriptEnd> {
+// Tells the status of the base, if it is known. The operation goes on.
+fn say_moved<S: Sink>(sink: &mut S, status: Option<Status>) -> Result<bool, ScriptEnd> {
     match status {
-        Some(status) => say_based(output, status),
+        Some(status) => say_based(sink, status),
         None => Ok(true),
     }
 }
 
-// Prints that the operation is held, or why it doesn't go on.
-fn say_stopped<W: Write + Drop>(
-    output: &mut Output<W>,
-    given: Result<Given, Status>,
-) -> Result<bool, ScriptEnd> {
-    ends(output, &said_given(given))
+// Tells that the operation is held, or why it doesn't go on.
+fn say_stopped<S: Sink>(sink: &mut S, given: Result<Given, Status>) -> Result<bool, ScriptEnd> {
+    ends(sink, said_given(given))
 }
 
-// Prints a refusal as the last line.
-fn refuses<W: Write + Drop>(output: &mut Output<W>, status: Status) -> Result<bool, ScriptEnd> {
-    ends(output, &Said::Refused(status))
+// Tells a refusal as the last line.
+fn refuses<S: Sink>(sink: &mut S, status: Status) -> Result<bool, ScriptEnd> {
+    ends(sink, Said::Refused(status))
 }
 
-// Prints the last line.
-fn ends<W: Write + Drop>(output: &mut Output<W>, line: &Said) -> Result<bool, ScriptEnd> {
-    output.say(line)?;
+// Tells the last line.
+fn ends<S: Sink>(sink: &mut S, line: Said) -> Result<bool, ScriptEnd> {
+    sink.tell(line)?;
     Ok(false)
 }

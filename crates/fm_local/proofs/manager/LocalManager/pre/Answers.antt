@@ -1,24 +1,28 @@
-use Rattle.fm_local.proofs.Words.{◌∙◌, ap, LocalManager, subst, sym, WORKER, Place}
+use Rattle.fm_local.proofs.Words.{ap, LocalManager, subst, sym, WORKER, Place}
 use Rattle.fm_local.proofs.Places.{in_still}
 use Rattle.fm_local.proofs.StillWaiting.{pre_apart}
-use Rattle.fm_local.specs.Waits.{IsApart, Waiting}
+use Rattle.fm_local.specs.Waits.{IsApart}
 use Rattle.fm_local.proofs.manager.LocalManager.pre.Goals as goal
 
 pub returns-clause-makes : goal.returns-clause-makes
 returns-clause-makes g c =
     let asked = c.goes_down-verdict in
-    let event = rw (ap (λ m. m.desk.state) c.note.ensures) at c.end_pre.ensures.event in
-    let same = ap (λ m. m.bases.all.items) c.end_pre.ensures.kept ∙ ap (λ m. m.bases.all.items) c.note.ensures in
-    (asked.result, asked.new.lent, c.end_pre.result, asked.ensures.said, record { received = asked.ensures.kept; laws = c.laws.ensures }, (asked.new.desk.state, asked.ensures.rest.far, event), same)
+    let same = ap (λ m. m.bases.all.items) c.end_pre.ensures.kept in (
+      asked.result,
+      asked.new.lent,
+      c.end_pre.result,
+      asked.ensures.said,
+      record { received = asked.ensures.kept; laws = c.laws.ensures },
+      (asked.new.desk.state, asked.ensures.rest.far, c.end_pre.ensures.event),
+      same,
+    )
 
 pub returns-clause-waits : goal.returns-clause-waits
 returns-clause-waits g c there waits =
     let asked = c.goes_down-verdict in
-    let noted = c.note.new.self in
     let desk = asked.new.desk in
     let ended = c.args.self.now.finished.items.items in
     let still = in_still WORKER (Place.Pre c.args.operation c.args.instance) c.args.self.now.desk.state desk.state asked.ensures.rest.far there in
     let waited = asked.ensures.rest.waits ended waits in
     let apart = pre_apart desk.state WORKER c.args.operation c.args.instance desk.resumed.items.items ended c.laws-2.ensures still waited in
-    let here = subst (λ (m : LocalManager g.row.F.Denot g.row.B.Denot). Waiting m × IsApart c.args.operation m) (sym c.note.ensures) (waited, apart) in
-    (c.end_pre.ensures.waits here.0, subst (λ (m : LocalManager g.row.F.Denot g.row.B.Denot). IsApart c.args.operation m) (sym c.end_pre.ensures.kept) (here.1))
+    (c.end_pre.ensures.waits waited, subst (λ (m : LocalManager g.row.F.Denot g.row.B.Denot). IsApart c.args.operation m) (sym c.end_pre.ensures.kept) apart)

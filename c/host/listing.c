@@ -1,8 +1,6 @@
 #define _GNU_SOURCE
 #include "listing.h"
 
-#include "frame.h"
-
 #include <dirent.h>
 #include <errno.h>
 #include <fcntl.h>
@@ -10,6 +8,29 @@
 #include <string.h>
 #include <sys/stat.h>
 #include <unistd.h>
+
+static bool is_dots(const uint8_t *part, size_t length)
+{
+    return (length == 1 && part[0] == '.') || (length == 2 && part[0] == '.' && part[1] == '.');
+}
+
+bool kz_is_path(const uint8_t *text, size_t length)
+{
+    size_t begin = 0;
+    if (length == 0 || length > KZ_LONGEST_PATH)
+        return false;
+    for (size_t at = 0; at <= length; at++) {
+        if (at < length && text[at] != '/') {
+            if (text[at] < ' ' || text[at] > '~')
+                return false;
+        } else {
+            if (at == begin || is_dots(text + begin, at - begin))
+                return false;
+            begin = at + 1;
+        }
+    }
+    return true;
+}
 
 typedef struct {
     char **names;
@@ -47,7 +68,7 @@ static int keep_all(DIR *place, Names *names, size_t size)
     int error = 0;
     errno = 0;
     for (const struct dirent *entry = readdir(place); entry && error == 0; entry = error == 0 ? readdir(place) : NULL) {
-        if (is_path((const uint8_t *)entry->d_name, strlen(entry->d_name)) && may_be_file(dirfd(place), entry))
+        if (kz_is_path((const uint8_t *)entry->d_name, strlen(entry->d_name)) && may_be_file(dirfd(place), entry))
             error = keep(names, entry->d_name);
         if (names->bytes > size)
             error = EOVERFLOW;
@@ -78,7 +99,7 @@ static void free_names(Names *names)
     free(names->names);
 }
 
-int list_names(int folder, uint8_t *room, size_t size, size_t *length)
+int kz_list_names(int folder, uint8_t *room, size_t size, size_t *length)
 {
     Names names = {0};
     int copy = openat(folder, ".", O_RDONLY | O_DIRECTORY | O_CLOEXEC);

@@ -1,10 +1,8 @@
 #define _GNU_SOURCE
 #include "folder.h"
 
-#include "frame.h"
+#include "host.h"
 #include "listing.h"
-
-#include "../host/host.h"
 
 #include <errno.h>
 #include <fcntl.h>
@@ -18,36 +16,36 @@ enum { FILE_NOT_FOUND = 19, ALREADY_EXISTS = 20, END_OF_FILE = 31 };
 
 #define LARGEST ((uint64_t)1 << 40)
 
-int folder_open(Folder *folder, const char *path)
+int kz_open_folder(KzFolder *folder, const char *path)
 {
     folder->descriptor = open(path, O_RDONLY | O_DIRECTORY | O_CLOEXEC);
     return folder->descriptor == -1 ? errno : 0;
 }
 
 /* As fltd says what the host tells. */
-static FolderAnswer refused(int error)
+static KzFolderAnswer refused(int error)
 {
     switch (error) {
     case 0:
-        return (FolderAnswer){.status = KZ_OK};
+        return (KzFolderAnswer){.status = KZ_OK};
     case ENOENT:
     case ENOTDIR:
-        return (FolderAnswer){.status = FILE_NOT_FOUND};
+        return (KzFolderAnswer){.status = FILE_NOT_FOUND};
     case EEXIST:
-        return (FolderAnswer){.status = ALREADY_EXISTS};
+        return (KzFolderAnswer){.status = ALREADY_EXISTS};
     default:
-        return (FolderAnswer){.status = KZ_DEVICE_FAULT};
+        return (KzFolderAnswer){.status = KZ_DEVICE_FAULT};
     }
 }
 
-static int open_below(const Folder *folder, const char *path, int flags)
+static int open_below(const KzFolder *folder, const char *path, int flags)
 {
     struct open_how how = {.flags = (uint64_t)(flags | O_CLOEXEC), .mode = flags & O_CREAT ? 0666 : 0, .resolve = RESOLVE_BENEATH | RESOLVE_NO_MAGICLINKS};
     return (int)syscall(SYS_openat2, folder->descriptor, path, &how, sizeof how);
 }
 
 /* Looks what is there before it is opened: to open a pipe or a device may wait. -1 and errno: it can't be had. */
-static int open_regular(const Folder *folder, const char *path, int flags, struct stat *found)
+static int open_regular(const KzFolder *folder, const char *path, int flags, struct stat *found)
 {
     int file = open_below(folder, path, O_PATH);
     if (file == -1)
@@ -61,7 +59,7 @@ static int open_regular(const Folder *folder, const char *path, int flags, struc
 }
 
 /* Closes it, and answers with what went wrong before, or with nothing. */
-static FolderAnswer done(int file, bool is_right)
+static KzFolderAnswer done(int file, bool is_right)
 {
     int error = is_right ? 0 : errno;
     if (file != -1)
@@ -69,14 +67,14 @@ static FolderAnswer done(int file, bool is_right)
     return refused(error);
 }
 
-static FolderAnswer create_existing(const Folder *folder, const char *path)
+static KzFolderAnswer create_existing(const KzFolder *folder, const char *path)
 {
     struct stat found;
     int file = open_regular(folder, path, O_PATH, &found);
     return done(file, file != -1);
 }
 
-static FolderAnswer create(const Folder *folder, const char *path, uint8_t mode)
+static KzFolderAnswer create(const KzFolder *folder, const char *path, uint8_t mode)
 {
     if (mode == 0)
         return create_existing(folder, path);
@@ -101,13 +99,13 @@ static ssize_t fill(int file, uint8_t *room, size_t length, uint64_t offset)
     return (ssize_t)count;
 }
 
-static FolderAnswer read_part(const Folder *folder, const char *path, uint64_t offset, size_t length)
+static KzFolderAnswer read_part(const KzFolder *folder, const char *path, uint64_t offset, size_t length)
 {
     static uint8_t room[KZ_BYTES];
     struct stat found;
     int file = open_regular(folder, path, O_RDONLY, &found);
     ssize_t count = file == -1 ? -1 : fill(file, room, length, offset);
-    FolderAnswer answer = done(file, count != -1);
+    KzFolderAnswer answer = done(file, count != -1);
     if (answer.status == KZ_OK && count == 0 && length > 0)
         answer.status = END_OF_FILE;
     if (answer.status == KZ_OK) {
@@ -129,31 +127,31 @@ static bool put_all(int file, const uint8_t *bytes, size_t length, uint64_t offs
     return true;
 }
 
-static FolderAnswer write_part(const Folder *folder, const char *path, uint64_t offset, const uint8_t *bytes, size_t length)
+static KzFolderAnswer write_part(const KzFolder *folder, const char *path, uint64_t offset, const uint8_t *bytes, size_t length)
 {
     struct stat found;
     int file = open_regular(folder, path, length > 0 ? O_WRONLY : O_PATH, &found);
     return done(file, file != -1 && put_all(file, bytes, length, offset));
 }
 
-static FolderAnswer size_of(const Folder *folder, const char *path)
+static KzFolderAnswer size_of(const KzFolder *folder, const char *path)
 {
     struct stat found;
     int file = open_regular(folder, path, O_PATH, &found);
-    FolderAnswer answer = done(file, file != -1);
+    KzFolderAnswer answer = done(file, file != -1);
     if (answer.status == KZ_OK)
         answer.information = (uint64_t)found.st_size;
     return answer;
 }
 
-static FolderAnswer set_size(const Folder *folder, const char *path, uint64_t size)
+static KzFolderAnswer set_size(const KzFolder *folder, const char *path, uint64_t size)
 {
     struct stat found;
     int file = open_regular(folder, path, O_WRONLY, &found);
     return done(file, file != -1 && ftruncate(file, (off_t)size) == 0);
 }
 
-static FolderAnswer flush(const Folder *folder, const char *path)
+static KzFolderAnswer flush(const KzFolder *folder, const char *path)
 {
     struct stat found;
     int file = open_regular(folder, path, O_RDONLY, &found);
@@ -161,11 +159,11 @@ static FolderAnswer flush(const Folder *folder, const char *path)
 }
 
 /* A link is taken away, and not what it leads to. */
-static FolderAnswer unlink_file(const Folder *folder, const char *path)
+static KzFolderAnswer unlink_file(const KzFolder *folder, const char *path)
 {
-    char above[LONGEST_PATH + 1] = ".";
+    char above[KZ_LONGEST_PATH + 1] = ".";
     const char *slash = strrchr(path, '/');
-    FolderAnswer answer = create_existing(folder, path);
+    KzFolderAnswer answer = create_existing(folder, path);
     if (answer.status != KZ_OK)
         return answer;
     if (slash) {
@@ -176,14 +174,14 @@ static FolderAnswer unlink_file(const Folder *folder, const char *path)
     return done(place, place != -1 && unlinkat(place, slash ? slash + 1 : path, 0) == 0);
 }
 
-static FolderAnswer list(const Folder *folder)
+static KzFolderAnswer list(const KzFolder *folder)
 {
     static uint8_t room[KZ_BYTES];
     size_t length = 0;
-    int error = list_names(folder->descriptor, room, sizeof room, &length);
+    int error = kz_list_names(folder->descriptor, room, sizeof room, &length);
     if (error == EOVERFLOW)
-        return (FolderAnswer){.status = KZ_TOO_MANY};
-    FolderAnswer answer = refused(error);
+        return (KzFolderAnswer){.status = KZ_TOO_MANY};
+    KzFolderAnswer answer = refused(error);
     if (error == 0) {
         answer.information = answer.length = length;
         answer.bytes = room;
@@ -200,12 +198,12 @@ static bool is_within_limits(const KazdrinData *call)
     return call->operation != KZ_SET_SIZE || call->offset <= LARGEST;
 }
 
-FolderAnswer folder_call(Folder *folder, const KazdrinData *call, const char *path, const uint8_t *bytes)
+KzFolderAnswer kz_call_folder(KzFolder *folder, const KazdrinData *call, const char *path, const uint8_t *bytes)
 {
     if (call->operation == KZ_LIST)
         return list(folder);
     if (!*path || !is_within_limits(call))
-        return (FolderAnswer){.status = KZ_BAD_REQUEST};
+        return (KzFolderAnswer){.status = KZ_BAD_REQUEST};
     switch (call->operation) {
     case KZ_CREATE:
         return create(folder, path, call->mode);

@@ -1,0 +1,76 @@
+/* Open files, as filters see them. */
+#include "host.h"
+
+#include <stdlib.h>
+
+KzFile *kz_file_of(uint64_t handle)
+{
+    for (KzFile *file = kz.files; file; file = file->next)
+        if (file->has_handle && file->handle == handle)
+            return file;
+    return NULL;
+}
+
+KzFile *kz_file_with(PFILE_OBJECT object)
+{
+    for (KzFile *file = kz.files; file; file = file->next)
+        if (&file->object == object)
+            return file;
+    return NULL;
+}
+
+KzFile *kz_new_file(PFLT_VOLUME volume, const char *path, bool is_directory)
+{
+    KzFile *file = kz_memory(sizeof *file + sizeof(WCHAR) * 260);
+    char text[260] = "/";
+    file->volume = volume;
+    file->is_directory = is_directory;
+    strncpy(file->path, path, sizeof file->path - 1);
+    memcpy(text + 1, file->path, sizeof file->path);
+    kz_wide(&file->object.FileName, (WCHAR *)(file + 1), text);
+    file->object.Type = 5;
+    file->object.Size = sizeof(FILE_OBJECT);
+    file->object.DeviceObject = &volume->disk;
+    file->object.SectionObjectPointer = &file->sections;
+    file->object.Flags = FO_SYNCHRONOUS_IO;
+    InitializeListHead(&file->object.IrpList);
+    file->maker = kz_me->number;
+    KzFile **place = &kz.files;
+    while (*place && (*place)->maker < file->maker)
+        place = &(*place)->next;
+    file->next = *place;
+    *place = file;
+    return file;
+}
+
+/* The file system opened it: what it keeps with a file object is there. */
+void kz_file_opened(KzFile *file)
+{
+    PFILE_OBJECT object = &file->object;
+    object->FsContext = file;
+    object->FsContext2 = &file->sections;
+    object->Flags |= FO_HANDLE_CREATED | FO_CACHE_SUPPORTED;
+    object->ReadAccess = object->WriteAccess = object->DeleteAccess = TRUE;
+    object->SharedRead = object->SharedWrite = object->SharedDelete = TRUE;
+}
+
+void kz_let_go_file(KzFile *file)
+{
+    if (--file->users > 0)
+        return;
+    for (KzFile **at = &kz.files; *at; at = &(*at)->next)
+        if (*at == file) {
+            *at = file->next;
+            break;
+        }
+    free(file);
+}
+
+void kz_drop_file(uint64_t handle)
+{
+    KzFile *file = kz_file_of(handle);
+    if (!file)
+        return;
+    file->has_handle = false;
+    kz_let_go_file(file);
+}

@@ -17,6 +17,8 @@ mod put_aside;
 #[cfg(test)]
 mod same_worker;
 #[cfg(test)]
+mod schedules;
+#[cfg(test)]
 mod side_by_side;
 #[cfg(test)]
 mod stress;
@@ -24,3 +26,5 @@ mod stress;
 mod teardown_race;
 #[cfg(test)]
 mod ties;
+#[cfg(test)]
+mod unlocked;

@@ -1,0 +1,269 @@
+//! Filters under many orders of their callbacks: by seeds, and by a search over all.
+
+ghost use Rattle.std.specs.Prelude.{◌≡◌};
+
+use crate::fixture::{
+    Folder, MemoryWorker, Numbers, Workers, alone, attach, begin, collect, create, end, folder,
+    hands_of, make_workers, mounted, on_file, read,
+};
+use crate::unlocked::Unlocked;
+use fm_data::FileRequest;
+use fm_lock::{Hand, Manager};
+use fm_queue::JobQueue;
+use fm_schedule::{Choice, Chooser, Schedule, ScheduleGate, next_path};
+use fm_types::limits::PARTS;
+use fm_types::{FilterId, Name, OpId, Status, WorkerId};
+use std::alloc::Global;
+use std::marker::Brand;
+use std::sync::Wait;
+use std::sync::atomic::{AtomicU64, Ordering};
+use std::sync::ledger::{Blank, Ledger};
+use std::thread;
+use std::thread::Threads;
+use std::time::{Clock, Duration};
+
+/// How many seconds the gate waits for a thread that doesn't come. None waits for another one here.
+const PATIENCE: u64 = 20;
+
+/// How many seeds are tried.
+const SEEDS: u64 = 16;
+
+/// How many orders a search may see.
+const ORDERS: u64 = 1_000;
+
+/// A worker of a manager of the filter, before the gate.
+type Scheduled<'a, 'c, L, R> = MemoryWorker<'a, Unlocked<'c>, L, R, ScheduleGate<'a, R>>;
+
+/// What a run was: its schedule, how many reads the filter counted, and what the manager's report says of contexts.
+#[derive(Drop)]
+struct Run {
+    schedule: Schedule,
+    counted: u64,
+    numbers: Numbers,
+}
+
+impl Run {
+    // Whether choices alone made its order, and nothing was left behind.
+    fn is_clean(&self) -> bool {
+        self.schedule.is_repeatable()
+            && self.numbers.born == self.numbers.cleaned
+            && self.numbers.leaks == 0
+    }
+}
+
+// The filter, its instance, and a file.
+fn open<'c, L: Ledger, R: Wait + Clock + Sync>(
+    rt: &R,
+    alloc: Global,
+    manager: &Manager<Unlocked<'c>, L>,
+    client: &mut Scheduled<'_, 'c, L, R>,
+) -> Result<(), Status> {
+    attach(client, b"unlocked", b"100")?;
+    let creating = manager.begin(rt, create(alloc, b"x")?)?;
+    alone(rt, manager, client, creating)?;
+    Ok(())
+}
+
+// Begins so many reads.
+fn begin_reads<'c, L: Ledger, R: Wait + Clock + Sync>(
+    rt: &R,
+    alloc: Global,
+    manager: &Manager<Unlocked<'c>, L>,
+    client: &mut Scheduled<'_, 'c, L, R>,
+    reads: usize,
+) -> Result<Vec<OpId>, Status> {
+    let mut begun = Vec::new(alloc);
+    for _ in 0..reads {
+        begun.push(begin(rt, manager, client, read(0, 0))?)?;
+    }
+    Ok(begun)
+}
+
+// Collects the answers, closes the file and unloads the filter.
+fn leave<'c, L: Ledger, R: Wait + Clock + Sync>(
+    rt: &R,
+    manager: &Manager<Unlocked<'c>, L>,
+    client: &mut Scheduled<'_, 'c, L, R>,
+    begun: Vec<OpId>,
+) -> Result<(), Status> {
+    for operation in begun {
+        collect(rt, manager, operation)?;
+    }
+    let cleanup = manager.begin(rt, on_file(FileRequest::Cleanup))?;
+    alone(rt, manager, client, cleanup)?;
+    let close = manager.begin(rt, on_file(FileRequest::Close))?;
+    alone(rt, manager, client, close)?;
+    client.unload(FilterId(0))
+}
+
+// What a worker's thread does.
+fn work<'c, L: Ledger, R: Wait + Clock + Sync>(
+    gate: &ScheduleGate<'_, R>,
+    number: WorkerId,
+    worker: &mut Scheduled<'_, 'c, L, R>,
+) {
+    gate.enter(number);
+    worker.work();
+    gate.leave(number);
+}
+
+// Reads that two workers carry on, each in a thread of its own: the hands of all.
+fn read_by_two<'a, 'c, L: Ledger + Send + Sync, R: Threads + Wait + Clock + Sync>(
+    rt: &R,
+    alloc: Global,
+    manager: &Manager<Unlocked<'c>, L>,
+    gate: &ScheduleGate<'a, R>,
+    workers: Workers<'a, Unlocked<'c>, L, R, ScheduleGate<'a, R>, Folder>,
+    reads: usize,
+) -> Result<Vec<Hand<L>>, Status> {
+    let Workers {
+        mut client,
+        mut first,
+        mut second,
+    } = workers;
+    open(rt, alloc, manager, &mut client)?;
+    let begun = begin_reads(rt, alloc, manager, &mut client, reads)?;
+    client.stop_worker();
+    client.stop_worker();
+    gate.expect(2);
+    thread::join(
+        rt,
+        || work(gate, WorkerId(0), &mut first),
+        || work(gate, WorkerId(1), &mut second),
+    );
+    leave(rt, manager, &mut client, begun)?;
+    hands_of(alloc, client, first, second)
+}
+
+fn filters(alloc: Global, counted: &AtomicU64) -> Result<Vec<(Name, Unlocked<'_>)>, Status> {
+    let mut filters = Vec::new(alloc);
+    filters.push((Name::read(b"unlocked")?, Unlocked::new(counted)))?;
+    Ok(filters)
+}
+
+// One run, with a manager and a filter of its own.
+fn run_at<L: Ledger + Send + Sync, R: Threads + Wait + Clock + Sync>(
+    rt: &R,
+    alloc: Global,
+    blank: Blank,
+    chooser: Chooser,
+    reads: usize,
+) -> Result<Run, Status>
+    requires name { blank.name ≡ L.name }
+    requires parts { blank.parts ≡ L.parts }
+    requires all { blank.parts ≡ 49 }
+{
+    let counted = AtomicU64::new(0);
+    let manager = mounted::<Unlocked<'_>, L, R>(rt, alloc, filters(alloc, &counted)?, blank)?;
+    let (queue, mut passes) = JobQueue::new(alloc, 272, 3)?;
+    let gate = ScheduleGate::new(rt, alloc, Duration::from_secs(PATIENCE), chooser);
+    let below = folder(alloc)?;
+    let workers = make_workers(rt, alloc, &manager, &queue, &gate, &mut passes, below)?;
+    let hands = read_by_two(rt, alloc, &manager, &gate, workers, reads)?;
+    let numbers = end(manager, hands)?;
+    Ok(Run {
+        schedule: gate.into_schedule(),
+        counted: counted.load(Ordering::SeqCst),
+        numbers,
+    })
+}
+
+fn run<R: Threads + Wait + Clock + Sync>(
+    rt: &R,
+    alloc: Global,
+    chooser: Chooser,
+    reads: usize,
+) -> Result<Run, Status> {
+    run_at::<Brand, R>(rt, alloc, Blank::new(PARTS), chooser, reads)
+}
+
+// The order of three reads by a seed, which a second run repeats.
+fn order_of<R: Threads + Wait + Clock + Sync>(
+    rt: &R,
+    alloc: Global,
+    seed: u64,
+) -> Result<Vec<Choice>, Status> {
+    let once = run(rt, alloc, Chooser::Seed(seed), 3)?;
+    let again = run(rt, alloc, Chooser::Seed(seed), 3)?;
+    if !once.is_clean() || !again.is_clean() || once.counted != again.counted {
+        return Err(Status::WrongStep);
+    }
+    if once.schedule.choices.as_slice() != again.schedule.choices.as_slice() {
+        return Err(Status::WrongStep);
+    }
+    Ok(once.schedule.choices)
+}
+
+// How many of the seeds have another order than the first one.
+fn others<R: Threads + Wait + Clock + Sync>(rt: &R, alloc: Global) -> Result<u64, Status> {
+    let first = order_of(rt, alloc, 0)?;
+    let mut others = 0_u64;
+    for seed in 1..SEEDS {
+        if order_of(rt, alloc, seed)?.as_slice() != first.as_slice() {
+            others = others.saturating_add(1);
+        }
+    }
+    Ok(others)
+}
+
+#[test]
+fn seeds_repeat_their_orders(rt: HostRuntime) {
+    let seen = others(&rt, rt.alloc());
+    assert!(rt; matches!(seen, Ok(others) if others > 0));
+}
+
+/// What a search found: how many orders there are, and how many of them lose a read.
+#[derive(Clone, Copy, Debug, PartialEq, Eq)]
+struct Found {
+    orders: u64,
+    losing: u64,
+}
+
+// Adds a run of two reads, and says what the next one is.
+fn search_on<R: Threads + Wait + Clock + Sync>(
+    rt: &R,
+    alloc: Global,
+    path: Vec<usize>,
+    found: &mut Found,
+) -> Result<Option<Vec<usize>>, Status> {
+    let run = run(rt, alloc, Chooser::Path(path), 2)?;
+    if !run.is_clean() {
+        return Err(Status::WrongStep);
+    }
+    found.orders = found.orders.saturating_add(1);
+    if run.counted != 2 {
+        found.losing = found.losing.saturating_add(1);
+    }
+    next_path(alloc, run.schedule.choices.as_slice())
+}
+
+// All orders of two reads.
+fn search<R: Threads + Wait + Clock + Sync>(rt: &R, alloc: Global) -> Result<Found, Status> {
+    let mut found = Found {
+        orders: 0,
+        losing: 0,
+    };
+    let mut path = Vec::new(alloc);
+    for _ in 0..ORDERS {
+        match search_on(rt, alloc, path, &mut found)? {
+            Some(next) => path = next,
+            None => return Ok(found),
+        }
+    }
+    Err(Status::TooMany)
+}
+
+// Two steps of one read and two of the other come in 6 orders, and in 2 of them the reads come one after the other.
+#[test]
+fn two_reads_in_every_order(rt: HostRuntime) {
+    let found = search(&rt, rt.alloc());
+    assert!(rt;
+        matches!(
+            found,
+            Ok(Found {
+                orders: 6,
+                losing: 4
+            })
+        )
+    );
+}

@@ -25,6 +25,8 @@ mod stress;
 #[cfg(test)]
 mod teardown_race;
 #[cfg(test)]
+mod teardown_schedules;
+#[cfg(test)]
 mod ties;
 #[cfg(test)]
 mod unlocked;

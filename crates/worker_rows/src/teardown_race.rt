@@ -12,7 +12,7 @@ use fm_queue::JobQueue;
 use fm_samples::{Carry, Meter, Sample};
 use fm_types::limits::PARTS;
 use fm_types::{FilterId, InstanceId, Name, OpId, Status};
-use fm_worker::OpenGate;
+use fm_worker::{Gate, OpenGate};
 use std::alloc::Global;
 use std::marker::Brand;
 use std::sync::Wait;
@@ -30,21 +30,22 @@ const READS: usize = 10;
 /// That of a client or of a worker.
 type OpenWorker<'a, L, R> = MemoryWorker<'a, Sample, L, R, OpenGate>;
 
-// Begins reads.
-fn begin_reads<L: Ledger, R: Wait>(
+/// Begins so many reads.
+pub fn begin_reads<L: Ledger, R: Wait, G: Gate>(
     rt: &R,
     manager: &Manager<Sample, L>,
-    client: &mut OpenWorker<'_, L, R>,
+    client: &mut MemoryWorker<'_, Sample, L, R, G>,
     begun: &mut Vec<OpId>,
+    reads: usize,
 ) -> Result<(), Status> {
-    for _ in 0..READS {
+    for _ in 0..reads {
         begun.push(begin(rt, manager, client, read(0, 0))?)?;
     }
     Ok(())
 }
 
-// The teardown of both instances, as far as it goes now.
-fn tear_down<L: Ledger, R: Wait>(client: &mut OpenWorker<'_, L, R>) {
+/// The teardown of both instances, as far as it goes now.
+pub fn tear_down<L: Ledger, R: Wait, G: Gate>(client: &mut MemoryWorker<'_, Sample, L, R, G>) {
     let _ = client.detach(InstanceId(0));
     let _ = client.detach(InstanceId(1));
 }
@@ -56,9 +57,9 @@ fn race<L: Ledger, R: Wait>(
     client: &mut OpenWorker<'_, L, R>,
     begun: &mut Vec<OpId>,
 ) -> Result<(), Status> {
-    begin_reads(rt, manager, client, begun)?;
+    begin_reads(rt, manager, client, begun, READS)?;
     tear_down(client);
-    begin_reads(rt, manager, client, begun)?;
+    begin_reads(rt, manager, client, begun, READS)?;
     begun.push(begin(rt, manager, client, on_file(FileRequest::Cleanup))?)?;
     Ok(())
 }
@@ -75,11 +76,11 @@ fn race_two<L: Ledger, R: Wait>(
     raced
 }
 
-// All answers are collected, the file is closed, and the rest of both teardowns and both unloads follow.
-fn leave<L: Ledger, R: Wait + Clock>(
+/// All answers are collected, the file is closed, and the rest of both teardowns and both unloads follow.
+pub fn leave<L: Ledger, R: Wait + Clock, G: Gate>(
     rt: &R,
     manager: &Manager<Sample, L>,
-    client: &mut OpenWorker<'_, L, R>,
+    client: &mut MemoryWorker<'_, Sample, L, R, G>,
     begun: Vec<OpId>,
 ) -> Result<(), Status> {
     for operation in begun {
@@ -92,19 +93,20 @@ fn leave<L: Ledger, R: Wait + Clock>(
     client.unload(FilterId(1))
 }
 
-fn filters(alloc: Global) -> Result<Vec<(Name, Sample)>, Status> {
+/// Two filters with contexts.
+pub fn filters(alloc: Global) -> Result<Vec<(Name, Sample)>, Status> {
     let mut filters = Vec::new(alloc);
     filters.push((Name::read(b"carry")?, Sample::Carry(Carry::new(alloc))))?;
     filters.push((Name::read(b"meter")?, Sample::Meter(Meter::new(alloc))))?;
     Ok(filters)
 }
 
-// Both instances, and a file that was read once, so that there are contexts before the race.
-fn open<L: Ledger, R: Wait + Clock>(
+/// Both instances, and a file that was read once, so that there are contexts before the race.
+pub fn open<L: Ledger, R: Wait + Clock, G: Gate>(
     rt: &R,
     alloc: Global,
     manager: &Manager<Sample, L>,
-    client: &mut OpenWorker<'_, L, R>,
+    client: &mut MemoryWorker<'_, Sample, L, R, G>,
 ) -> Result<(), Status> {
     attach(client, b"carry", b"200")?;
     attach(client, b"meter", b"100")?;

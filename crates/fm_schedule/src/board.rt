@@ -134,22 +134,22 @@ impl Board {
     }
 
     // How many stand here.
-    fn open(&self) -> usize {
+    fn options(&self) -> usize {
         self.stands.iter().filter(|stand| stand.is_some()).count()
     }
 
     // Lets the one go on that the chooser picks.
     fn choose(&mut self) {
-        let open = self.open();
-        let Some(last) = open.checked_sub(1) else {
+        let options = self.options();
+        let Some(last) = options.checked_sub(1) else {
             return;
         };
-        let wanted = self.chooser.place(self.made, open);
+        let wanted = self.chooser.place(self.made, options);
         let taken = wanted.min(last);
         self.schedule.has_strayed = self.schedule.has_strayed || taken != wanted;
         self.made = self.made.saturating_add(1);
         if let Some((place, next)) = self.standing(taken) {
-            self.note(place, next, open, taken);
+            self.note(place, next, options, taken);
             self.let_go(place);
         }
     }
@@ -168,11 +168,11 @@ impl Board {
         None
     }
 
-    fn note(&mut self, place: usize, next: Next, open: usize, taken: usize) {
+    fn note(&mut self, place: usize, next: Next, options: usize, taken: usize) {
         let choice = Choice {
             worker: WorkerId(u8::try_from(place).unwrap_or(0)),
             next,
-            open,
+            options,
             taken,
         };
         if self.schedule.choices.push(choice).is_err() {

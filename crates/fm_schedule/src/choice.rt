@@ -1,5 +1,7 @@
 //! Choices, and what a run was by them.
 
+ghost use Rattle.std.specs.Prelude.{◌≡◌, ◌==◌, ◌&&◌, not};
+
 use fm_flow::FlowAction;
 use fm_types::{InstanceId, WorkerId};
 
@@ -38,7 +40,7 @@ pub struct Choice {
     /// What it stood before.
     pub next: Next,
     /// How many could go on, it among them.
-    pub open: usize,
+    pub options: usize,
     /// Its place among them, from 0 on, in the order of the workers' numbers.
     pub taken: usize,
 }
@@ -58,7 +60,9 @@ pub struct Schedule {
 
 impl Schedule {
     /// Whether choices alone made the order, all of which are in the list.
-    pub fn is_repeatable(&self) -> bool {
+    pub fn is_repeatable(&self) -> bool
+        ensures { result ≡ (self.now.passed_over == 0 && self.now.lost == 0 && not self.now.has_strayed) }
+    {
         self.passed_over == 0 && self.lost == 0 && !self.has_strayed
     }
 }

@@ -1,5 +1,7 @@
 //! Who is to go on.
 
+ghost use Rattle.std.specs.Prelude.{◌<◌};
+
 // What is added to the state of a seed at each choice, and what its bits are mixed by: those of splitmix64.
 const STEP: u64 = 0x9e37_79b9_7f4a_7c15;
 
@@ -23,19 +25,24 @@ fn mixed(state: u64) -> u64 {
     twice ^ (twice >> 31)
 }
 
-// A place below that number, or 0.
-fn place_below(bits: u64, open: usize) -> usize {
-    let place = bits.checked_rem(open as u64).unwrap_or(0);
+// A place below that number.
+fn place_below(bits: u64, options: usize) -> usize
+    requires { 0 < options }
+    ensures { result < options }
+{
+    let place = bits.checked_rem(options as u64).unwrap_or(0);
     usize::try_from(place).unwrap_or(0)
 }
 
 impl Chooser {
     // The place that is to be taken of so many, after so many choices. A path may name one that isn't there.
-    pub(crate) fn place(&mut self, made: usize, open: usize) -> usize {
+    pub(crate) fn place(&mut self, made: usize, options: usize) -> usize
+        requires { 0 < options }
+    {
         match self {
             Chooser::Seed(state) => {
                 *state = state.wrapping_add(STEP);
-                place_below(mixed(*state), open)
+                place_below(mixed(*state), options)
             }
             Chooser::Path(path) => path.get(made).copied().unwrap_or(0),
         }

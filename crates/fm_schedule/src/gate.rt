@@ -17,7 +17,7 @@ use std::time::{Clock, Duration};
 ///
 /// The order is the choices' alone as long as no thread waits for another one between two callbacks. One that does can't give up its turn. If nobody came or
 /// left for the time `patience`, the gate goes on without the thread that is at work, and counts it (`Schedule::passed_over`). From then on two threads may run
-/// at once, and time has a part in the order. That is so of a worker that waits for a job, and of a client that waits for an answer: put all jobs and Stops
+/// at once, and time has a part in the order. That is so of a worker that waits for a job, and of a client that waits for an answer. So put all jobs and Stops
 /// before the threads begin, and leave before a wait. A test without such waits takes a patience of seconds, and one with them of some 20 milliseconds.
 ///
 /// Nothing is promised of it by a contract, fairness neither. Threads meet at callbacks of operations alone: two instructions inside callbacks aren't

@@ -18,6 +18,18 @@ pub(crate) enum Expectation {
     Told(Told),
 }
 
+/// The words behind `expect` on a line, with one space between them. Fails if memory is refused.
+pub(crate) fn expected_words(alloc: Global, line: &str) -> Result<String, AllocError> {
+    let mut text = String::new(alloc);
+    for word in line.split_ascii_whitespace().skip(1) {
+        if !text.is_empty() {
+            text.push(' ')?;
+        }
+        text.push_str(word)?;
+    }
+    Ok(text)
+}
+
 // Reads the words behind `expect`, but for bytes.
 fn read_plain(words: &[&str]) -> Option<Expectation> {
     match words {

@@ -1,14 +1,19 @@
 //! Tries filters of one's own: scenarios of requests, one file after another, each answered by a manager of its own over a file system in memory.
 //!
 //! A line of a scenario is a request in the words that `fltc` and the host for drivers in C take, or says what the last one must have come to (`expect`). What
-//! callbacks did, and what they did wrong, is printed between a request and its reply.
+//! callbacks did, and what they did wrong, is printed between a request and its reply; or it is told in the objects of `fltview`, alone or in a page.
 #![tactic(auto)]
 
+mod asked;
 mod expectation;
 mod line;
+mod manner;
+mod objects;
 mod program;
 mod report;
 mod scenario;
 mod told;
+mod voice;
+mod words;
 
 pub use crate::program::trial;

@@ -1,31 +1,23 @@
 //! The trial program.
 
-use crate::scenario::{Scenario, Tally};
+use crate::manner::Manner;
+use crate::scenario::{Scenario, WRONG_FILE};
+use crate::voice::Voice;
+use crate::words::Words;
 use fm_filter::Minifilter;
 use fm_types::{Name, Status};
-use std::alloc::Global;
+use fm_view::{ScriptEnd, Tally, Teller};
+use std::alloc::{AllocError, Global};
 use std::env::{self, Env};
 use std::fs;
 use std::io::{self, Read, Write};
 use std::rt::Files;
-
-/// The exit status of a scenario whose file has a line that says nothing, or can't be read.
-const WRONG_FILE: u8 = 2;
 
 // The error of a program whose memory is refused, or whose filters can't be made.
 fn failed(status: Status) -> io::Error {
     match status {
         Status::NoMemory => io::Error::from(io::ErrorKind::OutOfMemory),
         _ => io::Error::from(io::ErrorKind::Other),
-    }
-}
-
-// The exit status of a scenario that came to that.
-fn status_of(tally: Tally) -> u8 {
-    match tally {
-        Tally { failed: 0, told: 0 } => 0,
-        Tally { failed: 0, .. } => 5,
-        _ => 1,
     }
 }
 
@@ -42,6 +34,7 @@ fn worse(one: u8, other: u8) -> u8 {
 // Takes the lines one after the other. Whether all say something.
 fn take_all<F: Minifilter, W: Write>(
     alloc: Global,
+    manner: Manner,
     scenario: &mut Scenario<F>,
     text: &str,
     out: &mut W,
@@ -51,7 +44,7 @@ fn take_all<F: Minifilter, W: Write>(
         let is_known = scenario
             .take(place.saturating_add(1), line, &mut said)
             .map_err(failed)?;
-        out.write_all(said.as_bytes())?;
+        manner.write(alloc, said.as_str(), out)?;
         if !is_known {
             return Ok(false);
         }
@@ -59,46 +52,136 @@ fn take_all<F: Minifilter, W: Write>(
     Ok(true)
 }
 
-// Runs a scenario: its exit status.
-fn run<F: Minifilter, W: Write>(
+// How a scenario is told that is shown so.
+fn voice_of(alloc: Global, manner: Manner) -> Voice {
+    match manner {
+        Manner::Lines => Voice::Lines,
+        Manner::Json | Manner::Page => Voice::Objects(Teller::new(alloc)),
+    }
+}
+
+// Tells a scenario from its beginning to its end: its exit status.
+fn tell<F: Minifilter, W: Write>(
     alloc: Global,
+    manner: Manner,
+    file: Option<&str>,
     filters: Vec<(Name, F)>,
     text: &str,
     out: &mut W,
 ) -> io::Result<u8> {
-    let mut scenario = Scenario::new(alloc, filters).map_err(failed)?;
-    if !take_all(alloc, &mut scenario, text, out)? {
-        out.flush()?;
-        return Ok(WRONG_FILE);
-    }
+    let voice = voice_of(alloc, manner);
+    let mut scenario = Scenario::new(alloc, filters, voice).map_err(failed)?;
     let mut said = String::new(alloc);
-    let tally = scenario.end(&mut said).map_err(failed)?;
-    out.write_all(said.as_bytes())?;
-    out.flush()?;
-    Ok(status_of(tally))
+    scenario.begin(file, &mut said).map_err(failed)?;
+    manner.write(alloc, said.as_str(), out)?;
+    said.clear();
+    let status = if take_all(alloc, manner, &mut scenario, text, out)? {
+        scenario.end(&mut said).map_err(failed)?
+    } else {
+        scenario.break_off(&mut said).map_err(failed)?
+    };
+    manner.write(alloc, said.as_str(), out)?;
+    Ok(status)
 }
 
-// Says which file comes now.
-fn say_file<W: Write>(alloc: Global, name: &str, out: &mut W) -> io::Result<()> {
+// Runs a scenario: its exit status. A page that is cut off ends as one, so that it shows what came before.
+fn run<F: Minifilter, W: Write>(
+    alloc: Global,
+    manner: Manner,
+    file: Option<&str>,
+    filters: Vec<(Name, F)>,
+    text: &str,
+    out: &mut W,
+) -> io::Result<u8> {
+    manner.begin(out)?;
+    let told = tell(alloc, manner, file, filters, text, out);
+    manner.end(out)?;
+    told
+}
+
+// Says which file comes now. In objects the first one does.
+fn say_file<W: Write>(alloc: Global, manner: Manner, name: &str, out: &mut W) -> io::Result<()> {
+    if manner != Manner::Lines {
+        return Ok(());
+    }
     let line = format!(in alloc; "== {name}\n")?;
     out.write_all(line.as_bytes())
 }
 
 // Says that a file can't be read.
-fn say_unread<W: Write>(alloc: Global, error: &io::Error, out: &mut W) -> io::Result<()> {
-    let line = format!(in alloc; "it can't be read: {error}\n")?;
-    out.write_all(line.as_bytes())?;
-    out.flush()
+fn say_unread<W: Write>(
+    alloc: Global,
+    manner: Manner,
+    file: &str,
+    error: &io::Error,
+    out: &mut W,
+) -> io::Result<()> {
+    let words = format!(in alloc; "it can't be read: {error}\n")?;
+    if manner == Manner::Lines {
+        out.write_all(words.as_bytes())?;
+        return out.flush();
+    }
+    let objects = unread_objects(alloc, file, words.as_str())?;
+    manner.begin(out)?;
+    manner.write(alloc, objects.as_str(), out)?;
+    manner.end(out)
 }
 
-/// Runs the scenarios of the files that the program's words name, each over filters that are made for it, or the one of the input where there are no words.
+// The objects of a file that can't be read: the first and the last.
+fn unread_objects(alloc: Global, file: &str, words: &str) -> Result<String, AllocError> {
+    let mut text = String::new(alloc);
+    let teller = Teller::new(alloc);
+    teller.begin(&mut text, Some(file))?;
+    let tally = Tally {
+        end: ScriptEnd::ReadFault,
+        status: WRONG_FILE,
+        lines: 0,
+        refused: 0,
+        born: 0,
+        cleaned: 0,
+        leaks: 0,
+        held: 0,
+        misuses: 0,
+        unmet: 0,
+        told: Some(0),
+    };
+    teller.say_end(&mut text, &tally, words)?;
+    Ok(text)
+}
+
+// Runs the scenario of a file: its exit status.
+fn run_file<R, F, E, W>(rt: &R, manner: Manner, file: &str, make: &E, out: &mut W) -> io::Result<u8>
+where
+    R: Files + AllocGlobal,
+    F: Minifilter,
+    E: Fn(Global) -> Result<Vec<(Name, F)>, Status>,
+    W: Write,
+    requires { E.IsAlwaysCallable make.now }
+{
+    let alloc = rt.alloc();
+    say_file(alloc, manner, file, out)?;
+    match fs::read_to_string(rt, file) {
+        Ok(text) => {
+            let filters = make(alloc).map_err(failed)?;
+            run(alloc, manner, Some(file), filters, text.as_str(), out)
+        }
+        Err(error) => {
+            say_unread(alloc, manner, file, &error, out)?;
+            Ok(WRONG_FILE)
+        }
+    }
+}
+
+/// Runs the scenarios of the files that the program's words name, each over filters that are made for it, or the one of the input where no word is a file.
 ///
 /// Each request is printed behind `> `, then the steps of its operations, the mistakes that callbacks made, with the numbers of the host for drivers in C, and its
-/// reply. The exit status: 0; 5 if a mistake was told that no line expects; 1 if an expectation isn't met; 2 if a line is no request and no expectation, or a file
-/// can't be read. It fails if memory is refused, if the filters can't be made, or if a write fails.
+/// reply. With the word `--json` the objects of docs/JSON.md are printed instead, one a line, and with `--page` the page of `fltview` that has them. The exit
+/// status: 0; 5 if a mistake was told that no line expects; 1 if an expectation isn't met; 2 if a line is no request and no expectation, or a file can't be read.
+/// It is 2 too, with a sentence on standard error and nothing else, for another word that begins with `--`, for both words, and for a page of several files. It
+/// fails if memory is refused, if the filters can't be made, or if a write fails.
 pub fn trial<R, I, F, E, W>(rt: &R, input: I, make: E, out: &mut W) -> io::Result<u8>
 where
-    R: Env + Files + AllocGlobal,
+    R: Env + Eprint + Files + AllocGlobal,
     I: Read + Drop,
     F: Minifilter,
     E: Fn(Global) -> Result<Vec<(Name, F)>, Status>,
@@ -106,21 +189,22 @@ where
     requires { E.IsAlwaysCallable make }
 {
     let alloc = rt.alloc();
-    let files: Vec<String> = env::args(rt)?.skip(1).collect(alloc)?;
+    let words: Vec<String> = env::args(rt)?.skip(1).collect(alloc)?;
+    let Words { manner, files } = match Words::read(alloc, words)? {
+        Ok(words) => words,
+        Err(refused) => {
+            eprintln!(rt; "{refused}")?;
+            return Ok(WRONG_FILE);
+        }
+    };
     if files.is_empty() {
         let text = io::read_to_string(alloc, input)?;
-        return run(alloc, make(alloc).map_err(failed)?, text.as_str(), out);
+        let filters = make(alloc).map_err(failed)?;
+        return run(alloc, manner, None, filters, text.as_str(), out);
     }
     let mut worst = 0;
     for file in &files {
-        say_file(alloc, file.as_str(), out)?;
-        let status = match fs::read_to_string(rt, file.as_str()) {
-            Ok(text) => run(alloc, make(alloc).map_err(failed)?, text.as_str(), out)?,
-            Err(error) => {
-                say_unread(alloc, &error, out)?;
-                WRONG_FILE
-            }
-        };
+        let status = run_file(rt, manner, file.as_str(), &make, out)?;
         worst = worse(worst, status);
     }
     Ok(worst)

@@ -2,11 +2,12 @@
 
 use crate::told::Told;
 use fm_base::MemoryBase;
-use fm_core::{Phase, Place};
+use fm_core::{Hold, Phase, Place};
 use fm_data::Reply;
 use fm_filter::Minifilter;
 use fm_local::{Callback, Leak, LocalManager, Refusal, Visit};
 use fm_types::{InstanceId, OpId, Status};
+use fm_view::held_at;
 use std::alloc::AllocError;
 use std::fmt::Write;
 
@@ -220,6 +221,29 @@ pub(crate) fn write_told<F: Minifilter>(
 ) -> Result<(), AllocError> {
     write!(text, "{told}")?;
     write_callback(text, manager, callback, instance, Some(operation))
+}
+
+/// Appends that an operation is held to the end, and by whom. It gives the callback that holds it.
+pub(crate) fn write_held<F: Minifilter>(
+    text: &mut String,
+    manager: &Manager<F>,
+    operation: OpId,
+) -> Result<Place, AllocError> {
+    let told = Told::HeldToTheEnd;
+    match held_at(manager.state(), operation) {
+        Some((instance, Hold::Pre)) => {
+            write_told(text, manager, told, Callback::Pre, instance, operation)?;
+            Ok(Place::Pre(operation, instance))
+        }
+        Some((instance, Hold::Post)) => {
+            write_told(text, manager, told, Callback::Post, instance, operation)?;
+            Ok(Place::Post(operation, instance))
+        }
+        None => {
+            writeln!(text, "{told}: operation {}", operation.0)?;
+            Ok(Place::Idle)
+        }
+    }
 }
 
 /// Appends that a call of a port was a mistake.

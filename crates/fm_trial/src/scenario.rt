@@ -1,30 +1,56 @@
 //! A scenario under way.
 
-use crate::expectation::Expectation;
+use crate::asked::Asked;
+use crate::expectation::{Expectation, expected_words};
 use crate::line::Line;
+use crate::objects::place_of;
 use crate::report::{
-    Manager, told_at, write_attached, write_leak, write_refusal, write_reply, write_steps,
+    Manager, told_at, write_attached, write_held, write_leak, write_refusal, write_reply,
     write_told,
 };
 use crate::told::Told;
+use crate::voice::Voice;
 use fm_base::MemoryBase;
+use fm_core::Place;
 use fm_data::Reply;
 use fm_exec::LocalExec;
 use fm_filter::Minifilter;
+use fm_local::PortCall;
 use fm_server::status_reply;
 use fm_types::limits::OPERATIONS;
-use fm_types::{InstanceId, Name, Status};
+use fm_types::{CtxId, InstanceId, Name, OpId, Status, VolumeId};
+use fm_view::{ScriptEnd, Tally};
 use fm_wire::Body;
 use std::alloc::Global;
 use std::fmt::Write;
 
+/// The exit status of a scenario of which a line says nothing.
+pub(crate) const WRONG_FILE: u8 = 2;
+
 /// What a scenario came to so far.
 #[derive(Clone, Copy, Drop)]
-pub(crate) struct Tally {
+struct Count {
     /// How many expectations weren't met.
-    pub(crate) failed: u64,
+    failed: u64,
     /// How many mistakes were told that no line expects.
-    pub(crate) told: u64,
+    told: u64,
+    /// How often something was given back or let go on that wasn't held.
+    misuses: u64,
+}
+
+impl Count {
+    // The exit status of a scenario that came to that.
+    fn status(self) -> u8 {
+        match self {
+            Count {
+                failed: 0,
+                told: 0,
+                ..
+            } => 0,
+            Count { failed: 0, .. } => 5,
+            _ => 1,
+        }
+    }
 }
 
 /// A manager of the filters, with the volume 0 in memory, and what the last request came to.
@@ -32,49 +58,74 @@ pub(crate) struct Tally {
 pub(crate) struct Scenario<F> {
     alloc: Global,
     exec: LocalExec<F, MemoryBase>,
+    voice: Voice,
     last: Option<Reply>,
     told: Vec<Told>,
     /// How many instances were told.
     instances: usize,
-    held: u64,
-    tally: Tally,
+    /// The operations that filters hold.
+    held: Vec<OpId>,
+    /// The last line that isn't empty.
+    lines: usize,
+    count: Count,
 }
 
 impl<F: Minifilter> Scenario<F> {
-    /// Before its first request. Refused with 1, if memory is refused.
-    pub(crate) fn new(alloc: Global, filters: Vec<(Name, F)>) -> Result<Scenario<F>, Status> {
+    /// Before its first request, told so. Refused with 1, if memory is refused.
+    pub(crate) fn new(
+        alloc: Global,
+        filters: Vec<(Name, F)>,
+        voice: Voice,
+    ) -> Result<Scenario<F>, Status> {
         let mut manager: Manager<F> = Manager::new(alloc, filters)?;
         manager.mount(Name::read(b"v0")?, MemoryBase::new(alloc))?;
         Ok(Scenario {
             alloc,
             exec: LocalExec::new(alloc, manager),
+            voice,
             last: None,
             told: Vec::new(alloc),
             instances: 0,
-            held: 0,
-            tally: Tally { failed: 0, told: 0 },
+            held: Vec::new(alloc),
+            lines: 0,
+            count: Count {
+                failed: 0,
+                told: 0,
+                misuses: 0,
+            },
         })
     }
 
-    /// Does what a line says, and appends what is printed of it. Whether the line says something. Refused with 1, if memory is refused.
+    /// Appends what stands before the first line. Refused with 1, if memory is refused.
+    pub(crate) fn begin(&mut self, file: Option<&str>, text: &mut String) -> Result<(), Status> {
+        let volume = VolumeId(0);
+        if let Some(name) = self.exec.manager().state().volume_name(volume) {
+            self.voice.begin(text, file, (volume, name))?;
+        }
+        Ok(())
+    }
+
+    /// Does what a line says, and appends what is told of it. Whether the line says something. Refused with 1, if memory is refused.
     pub(crate) fn take(
         &mut self,
         number: usize,
         line: &str,
         text: &mut String,
     ) -> Result<bool, Status> {
+        self.voice.take_line(number, line)?;
+        if !line.is_empty() {
+            self.lines = number;
+        }
         match Line::read(self.alloc, line)? {
-            Line::Nothing => Ok(true),
-            Line::Request(body) => self.ask(line, body, text).map(|()| true),
-            Line::Expect(expected) => self.expect(number, line, &expected, text).map(|()| true),
+            Line::Nothing => self.voice.say_nothing(text, line)?,
+            Line::Request(body) => self.ask(line, body, text)?,
+            Line::Expect(expected) => self.expect(number, line, &expected, text)?,
             Line::Unknown => {
-                writeln!(
-                    text,
-                    "line {number}: no request, and nothing that is expected: {line}"
-                )?;
-                Ok(false)
+                self.voice.say_unknown(text, number, line)?;
+                return Ok(false);
             }
         }
+        Ok(true)
     }
 
     // The reply to a request. What is none is answered 32.
@@ -89,26 +140,30 @@ impl<F: Minifilter> Scenario<F> {
 
     // Makes a request.
     fn ask(&mut self, line: &str, body: Body, text: &mut String) -> Result<(), Status> {
-        writeln!(text, "> {line}")?;
+        self.voice.ask(text, line, &body)?;
         self.told.clear();
+        let asked = Asked::of(&body);
         let reply = self.reply_to(body);
-        self.report(text)?;
-        write_reply(text, &reply)?;
-        if let Reply::Held(_) = reply {
-            self.held = self.held.saturating_add(1);
+        self.report(asked, &reply, text)?;
+        if let Reply::Held(operation) = &reply {
+            self.held.push(*operation)?;
         }
         self.last = Some(reply);
         self.take_finished(text)
     }
 
-    // Appends what callbacks did since the last request, and which mistakes they made.
-    fn report(&mut self, text: &mut String) -> Result<(), Status> {
-        write_steps(text, self.exec.manager())?;
+    // Appends what callbacks did since the last request, which mistakes they made, and the reply.
+    fn report(&mut self, asked: Asked, reply: &Reply, text: &mut String) -> Result<(), Status> {
+        self.voice
+            .say_steps(text, self.exec.manager(), asked, reply)?;
         self.tell_steps(text)?;
         self.tell_leaks(text)?;
         self.tell_refusals(text)?;
-        self.tell_instances(text)?;
         self.exec.forget_report();
+        if let Voice::Lines = self.voice {
+            self.tell_instances(text)?;
+            write_reply(text, reply)?;
+        }
         Ok(())
     }
 
@@ -125,58 +180,85 @@ impl<F: Minifilter> Scenario<F> {
         Ok(())
     }
 
-    // Appends what is told of verdicts and statuses that don't count. A limit of the model is no mistake.
+    // Appends what is told, and counts it. A limit of the model is no mistake.
+    fn tell(
+        &mut self,
+        told: Told,
+        words: &str,
+        about: (Place, Option<CtxId>),
+        text: &mut String,
+    ) -> Result<(), Status> {
+        self.voice.tell(text, told, words, about)?;
+        self.told.push(told)?;
+        if !told.is_limit() {
+            self.count.told = self.count.told.saturating_add(1);
+        }
+        if told.is_misuse() {
+            self.count.misuses = self.count.misuses.saturating_add(1);
+        }
+        Ok(())
+    }
+
+    // Appends what is told of verdicts and statuses that don't count.
     fn tell_steps(&mut self, text: &mut String) -> Result<(), Status> {
-        let manager = self.exec.manager();
-        for place in 0..manager.traced() {
+        for place in 0..self.exec.manager().traced() {
+            let manager = self.exec.manager();
             let Some((told, callback, instance, operation)) = told_at(manager, place) else {
                 continue;
             };
-            write_told(text, manager, told, callback, instance, operation)?;
-            self.told.push(told)?;
-            if !told.is_limit() {
-                self.tally.told = self.tally.told.saturating_add(1);
-            }
+            let mut words = String::new(self.alloc);
+            write_told(&mut words, manager, told, callback, instance, operation)?;
+            let place = place_of(callback, instance, Some(operation));
+            self.tell(told, words.as_str(), (place, None), text)?;
         }
         Ok(())
     }
 
     fn tell_leaks(&mut self, text: &mut String) -> Result<(), Status> {
-        let manager = self.exec.manager();
-        for place in 0..manager.leaked() {
-            if let Some(leak) = manager.leak(place) {
-                write_leak(text, manager, &leak)?;
-                self.told.push(Told::Leak)?;
-                self.tally.told = self.tally.told.saturating_add(1);
+        for at in 0..self.exec.manager().leaked() {
+            let manager = self.exec.manager();
+            let Some(leak) = manager.leak(at) else {
+                continue;
+            };
+            let mut words = String::new(self.alloc);
+            write_leak(&mut words, manager, &leak)?;
+            let place = place_of(leak.callback, leak.instance, leak.operation);
+            if let Voice::Objects(teller) = &mut self.voice {
+                teller.say_leaked(text, leak.context, leak.kind, place)?;
             }
+            let about = (place, Some(leak.context));
+            self.tell(Told::Leak, words.as_str(), about, text)?;
         }
         Ok(())
     }
 
     fn tell_refusals(&mut self, text: &mut String) -> Result<(), Status> {
-        let manager = self.exec.manager();
-        for place in 0..manager.refused_calls() {
-            let Some(refusal) = manager.refused_call(place) else {
+        for at in 0..self.exec.manager().refused_calls() {
+            let manager = self.exec.manager();
+            let Some(refusal) = manager.refused_call(at) else {
                 continue;
             };
             if let Some(told) = Told::of(&refusal) {
-                write_refusal(text, manager, told, &refusal)?;
-                self.told.push(told)?;
-                self.tally.told = self.tally.told.saturating_add(1);
+                let mut words = String::new(self.alloc);
+                write_refusal(&mut words, manager, told, &refusal)?;
+                let about = (refusal.place, context_of(refusal.call));
+                self.tell(told, words.as_str(), about, text)?;
             }
         }
         Ok(())
     }
 
-    // Appends the replies of operations that were held and have ended.
+    // Appends the replies of operations that were held and have ended. In lines the step by which each was handed out stands with the next request.
     fn take_finished(&mut self, text: &mut String) -> Result<(), Status> {
         for _ in 0..OPERATIONS {
             let Some((operation, reply)) = self.exec.finished() else {
                 break;
             };
-            write!(text, "o{}: ", operation.0)?;
-            write_reply(text, &reply)?;
-            self.held = self.held.saturating_sub(1);
+            self.voice.say_finished(text, operation, &reply)?;
+            self.held.retain(|other| *other != operation);
+        }
+        if let Voice::Objects(_) = self.voice {
+            self.exec.forget_report();
         }
         Ok(())
     }
@@ -194,20 +276,74 @@ impl<F: Minifilter> Scenario<F> {
             None => false,
         };
         if !is_met {
-            self.tally.failed = self.tally.failed.saturating_add(1);
-            writeln!(text, "line {number} failed: {line}")?;
+            self.count.failed = self.count.failed.saturating_add(1);
         } else if expected.is_mistake() {
-            self.tally.told = self.tally.told.saturating_sub(1);
+            self.count.told = self.count.told.saturating_sub(1);
+        }
+        let words = expected_words(self.alloc, line)?;
+        let answered = self.answered()?;
+        let (words, answered) = (words.as_str(), answered.as_str());
+        self.voice
+            .say_expectation(text, (number, line), words, is_met, answered)?;
+        Ok(())
+    }
+
+    // What the last request was answered, and what was told of it: a line for each.
+    fn answered(&self) -> Result<String, Status> {
+        let mut text = String::new(self.alloc);
+        if let Some(reply) = &self.last {
+            write_reply(&mut text, reply)?;
+        }
+        for told in &self.told {
+            writeln!(text, "told {}", told.id())?;
+        }
+        Ok(text)
+    }
+
+    /// The end: what is still held, open or alive is said, and what became of contexts. The exit status: 0; 5 if a mistake was told that no line expects; 1 if an
+    /// expectation wasn't met. Refused with 1, if memory is refused.
+    pub(crate) fn end(&mut self, text: &mut String) -> Result<u8, Status> {
+        self.tell_held(text)?;
+        let mut words = String::new(self.alloc);
+        self.write_left(&mut words)?;
+        let status = self.count.status();
+        self.voice.end(text, &self.tally(status), words.as_str())?;
+        Ok(status)
+    }
+
+    /// The end behind a line that says nothing: its exit status, 2. In lines nothing is appended. Refused with 1, if memory is refused.
+    pub(crate) fn break_off(&mut self, text: &mut String) -> Result<u8, Status> {
+        if let Voice::Objects(_) = self.voice {
+            let mut words = String::new(self.alloc);
+            self.write_left(&mut words)?;
+            self.voice
+                .end(text, &self.tally(WRONG_FILE), words.as_str())?;
+        }
+        Ok(WRONG_FILE)
+    }
+
+    // Appends that operations are held. In objects each stands by itself, with who holds it.
+    fn tell_held(&mut self, text: &mut String) -> Result<(), Status> {
+        if self.held.is_empty() {
+            return Ok(());
+        }
+        self.count.told = self.count.told.saturating_add(1);
+        let told = Told::HeldToTheEnd;
+        if let Voice::Lines = self.voice {
+            writeln!(text, "{told}: {} of them", self.held.len())?;
+            return Ok(());
+        }
+        self.voice.take_line(self.lines, "")?;
+        for operation in &self.held {
+            let mut words = String::new(self.alloc);
+            let place = write_held(&mut words, self.exec.manager(), *operation)?;
+            self.voice.tell(text, told, words.as_str(), (place, None))?;
         }
         Ok(())
     }
 
-    /// The end: what is still held, open or alive is said, and what became of contexts. What the scenario came to. Refused with 1, if memory is refused.
-    pub(crate) fn end(&mut self, text: &mut String) -> Result<Tally, Status> {
-        if self.held > 0 {
-            writeln!(text, "{}: {} of them", Told::HeldToTheEnd, self.held)?;
-            self.tally.told = self.tally.told.saturating_add(1);
-        }
+    // Appends what is open or alive, and what became of contexts.
+    fn write_left(&self, text: &mut String) -> Result<(), Status> {
         let state = self.exec.manager().state();
         let alive = state.born().saturating_sub(state.cleaned_count());
         if state.handles() > 0 {
@@ -225,9 +361,40 @@ impl<F: Minifilter> Scenario<F> {
             state.born(),
             state.cleaned_count(),
             state.leaks(),
-            self.tally.told,
-            self.tally.failed
+            self.count.told,
+            self.count.failed
         )?;
-        Ok(self.tally)
+        Ok(())
+    }
+
+    // The figures of an end with that exit status.
+    fn tally(&self, status: u8) -> Tally {
+        let state = self.exec.manager().state();
+        Tally {
+            end: ScriptEnd::Ended,
+            status,
+            lines: u32::try_from(self.lines).unwrap_or(u32::MAX),
+            refused: self.voice.refused(),
+            born: state.born(),
+            cleaned: state.cleaned_count(),
+            leaks: state.leaks(),
+            held: self.held.len() as u64,
+            misuses: self.count.misuses,
+            unmet: self.count.failed,
+            told: Some(self.count.told),
+        }
+    }
+}
+
+// The context that a call of a port is about.
+fn context_of(call: PortCall) -> Option<CtxId> {
+    match call {
+        PortCall::Set(context)
+        | PortCall::Reference(context)
+        | PortCall::Release(context)
+        | PortCall::ReadBody(context)
+        | PortCall::WriteBody(context)
+        | PortCall::Bump(context) => Some(context),
+        _ => None,
     }
 }

@@ -74,6 +74,11 @@ impl Told {
         )
     }
 
+    /// Whether something was given back or let go on that isn't held.
+    pub(crate) fn is_misuse(self) -> bool {
+        matches!(self, Told::ReleasedTwice | Told::NotHeld)
+    }
+
     /// The mistake of that number.
     pub(crate) fn read(id: &str) -> Option<Told> {
         ALL.into_iter().find(|told| told.id() == id)

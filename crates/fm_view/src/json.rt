@@ -4,17 +4,16 @@ use crate::event::{Deed, Event, instance_in, operation_in};
 use crate::named::{Ascii, kind_word, mode_word};
 use crate::notes::{Change, LeakNote, Notes, What};
 use crate::object::Object;
-use crate::subject::{filter_of, handle_of, instance_of, operation_of, volume_of, worker_of};
+use crate::subject::Subject;
 use crate::tally::Tally;
 use fm_core::{Count, Phase, Place};
 use fm_data::PreVerdict;
-use fm_script::Task;
 use fm_types::Status;
 use serde_json::Value;
 use std::alloc::{AllocError, Global};
 
 /// The number of the schema: a member that goes or means something else raises it.
-const FORMAT: u64 = 1;
+pub const FORMAT: u64 = 1;
 
 /// What an object says beside its event.
 #[derive(Clone, Copy)]
@@ -27,12 +26,21 @@ pub struct Told<'a> {
     pub words: &'a str,
     /// Why it was refused, if it was.
     pub reason: &'a str,
+    /// What else it says.
+    pub detail: Detail<'a>,
+}
+
+/// What an event doesn't have itself, where there is such a thing.
+#[derive(Clone, Copy, Default)]
+pub struct Detail<'a> {
     /// The bytes that were written, read or told.
     pub bytes: Option<&'a [u8]>,
-    /// What the line asked for, if it could be read.
-    pub task: Option<&'a Task>,
-    /// Where its worker was before.
-    pub place: Place,
+    /// The verdict that counts in place of the one that a preoperation gave.
+    pub counted: Option<PreVerdict>,
+    /// The status that a postoperation left in place of another one.
+    pub left: Option<Status>,
+    /// What a line that was refused names.
+    pub subject: Subject,
 }
 
 /// Appends the first object: the number of the schema.
@@ -69,10 +77,25 @@ pub fn say_json(
     object.maybe("operation", 'o', event.operation())?;
     object.maybe("instance", 'i', event.instance().map(u64::from))?;
     put_event(&mut object, notes, event, told)?;
-    if let Some(bytes) = told.bytes {
-        object.bytes("bytes", bytes)?;
-    }
+    put_detail(&mut object, &told.detail)?;
     object.finish(text)
+}
+
+// What an event doesn't have itself, but for what a refused line names.
+fn put_detail(object: &mut Object, detail: &Detail<'_>) -> Result<(), AllocError> {
+    if let Some(counted) = detail.counted {
+        object.text("counted", verdict_word(counted))?;
+        if let PreVerdict::Complete(status) = counted {
+            object.number("counted_status", u64::from(status.number()))?;
+        }
+    }
+    if let Some(status) = detail.left {
+        put_status(object, status)?;
+    }
+    match detail.bytes {
+        Some(bytes) => object.bytes("bytes", bytes),
+        None => Ok(()),
+    }
 }
 
 // What an event has beside ids of its operation, its instance and its worker.
@@ -107,7 +130,7 @@ fn put_event(
         Event::OnContext { context, deed, .. } => put_deed(object, notes, *context, *deed),
         Event::Refused { status, context } => {
             object.text("reason", told.reason)?;
-            put_subject(object, told)?;
+            put_subject(object, &told.detail.subject)?;
             object.maybe("context", 'c', *context)?;
             put_status(object, *status)
         }
@@ -285,32 +308,13 @@ fn put_deed(
 }
 
 // What a line that was refused names.
-fn put_subject(object: &mut Object, told: &Told<'_>) -> Result<(), AllocError> {
-    let Some(task) = told.task else {
-        return Ok(());
-    };
-    object.maybe(
-        "worker",
-        'w',
-        worker_of(task).map(|worker| u64::from(worker.0)),
-    )?;
-    object.maybe(
-        "filter",
-        'f',
-        filter_of(task, told.place).map(|filter| u64::from(filter.0)),
-    )?;
-    object.maybe(
-        "volume",
-        'v',
-        volume_of(task).map(|volume| u64::from(volume.0)),
-    )?;
-    object.maybe(
-        "instance",
-        'i',
-        instance_of(task, told.place).map(u64::from),
-    )?;
-    object.maybe("operation", 'o', operation_of(task, told.place))?;
-    object.maybe("handle", 'h', handle_of(task))
+fn put_subject(object: &mut Object, subject: &Subject) -> Result<(), AllocError> {
+    object.maybe("worker", 'w', subject.worker)?;
+    object.maybe("filter", 'f', subject.filter)?;
+    object.maybe("volume", 'v', subject.volume)?;
+    object.maybe("instance", 'i', subject.instance)?;
+    object.maybe("operation", 'o', subject.operation)?;
+    object.maybe("handle", 'h', subject.handle)
 }
 
 /// Appends how far the life of an instance came on a line.
@@ -358,8 +362,8 @@ pub fn say_expectation_json(
     object.finish(text)
 }
 
-// The lines of what was printed.
-fn answers(alloc: Global, printed: &[u8]) -> Result<Vec<Value>, AllocError> {
+/// The lines of what was printed, as texts.
+pub fn answers(alloc: Global, printed: &[u8]) -> Result<Vec<Value>, AllocError> {
     let mut all = Vec::new(alloc);
     for answer in printed.split(|byte| *byte == b'\n') {
         if !answer.is_empty() {
@@ -387,6 +391,9 @@ pub fn say_end_json(
     object.number("held", tally.held)?;
     object.number("misuses", tally.misuses)?;
     object.number("unmet", tally.unmet)?;
+    if let Some(told) = tally.told {
+        object.number("told", told)?;
+    }
     object.finish(text)
 }
 
@@ -402,8 +409,8 @@ pub fn phase_name(phase: Phase) -> &'static str {
     }
 }
 
-// The name of the callback that is there.
-fn callback_of(place: Place) -> &'static str {
+/// The name of the callback that is there.
+pub fn callback_of(place: Place) -> &'static str {
     match place {
         Place::Idle => "none",
         Place::Setup(_) => "setup",

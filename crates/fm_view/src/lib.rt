@@ -1,5 +1,5 @@
 //! What happened when a script ran: in words, as JSON, as a page for a browser and as a picture. A run is that of `fltscript`, line by line; what a line
-//! answers is told as values.
+//! answers is told as values. A run of something else, as a trial of filters, is told in the same objects by a `Teller`.
 #![tactic(auto)]
 
 mod answer;
@@ -21,11 +21,20 @@ mod reason;
 mod status;
 mod subject;
 mod tally;
+mod teller;
 mod usage;
 mod verdict;
 mod view;
 mod ways;
 mod words;
 
-pub use crate::verdict::exit_status;
+pub use crate::event::{Event, Visit};
+pub use crate::inert::Inert;
+pub use crate::json::Detail;
+pub use crate::page::{PAGE_BEGIN, PAGE_END};
+pub use crate::subject::Subject;
+pub use crate::tally::Tally;
+pub use crate::teller::{Teller, Telling};
+pub use crate::verdict::{exit_status, held_at};
 pub use crate::view::{Manner, Shown, show_script};
+pub use fm_script::ScriptEnd;

@@ -294,8 +294,8 @@ impl Notes {
         Ok(())
     }
 
-    // An instance is there.
-    fn attach(
+    /// An instance is there.
+    pub fn attach(
         &mut self,
         name: Name,
         altitude: Altitude,
@@ -370,8 +370,8 @@ impl Notes {
         self.contexts.get(usize::try_from(number).ok()?).copied()
     }
 
-    // A reply of success was handed out: a create's handle is open, and a close's isn't any more.
-    fn reply(&mut self, operation: u64, information: u64) -> Result<(), AllocError> {
+    /// A reply of success was handed out: a create's handle is open, and a close's isn't any more.
+    pub fn reply(&mut self, operation: u64, information: u64) -> Result<(), AllocError> {
         match self.what(Some(operation)) {
             Some(What::Create(volume, ..)) => {
                 let volume = *volume;
@@ -501,8 +501,8 @@ impl Notes {
         }
     }
 
-    // Notes how far the life of each filter, volume and instance is.
-    fn follow(&mut self, line: u32, state: &State) -> Result<(), AllocError> {
+    /// Notes how far the life of each filter, volume and instance is.
+    pub fn follow(&mut self, line: u32, state: &State) -> Result<(), AllocError> {
         for (at, note) in self.instances.iter_mut().enumerate() {
             if let Some((instance, phase)) = phase_at(state, at) {
                 if phase != note.phase {
@@ -584,8 +584,8 @@ fn changes_phases(event: &Event) -> bool {
     )
 }
 
-// What a request does.
-fn what_of(request: &Request) -> Result<What, AllocError> {
+/// What a request does.
+pub fn what_of(request: &Request) -> Result<What, AllocError> {
     let what = match request {
         Request::Create { volume, path, mode } => What::Create(volume.0, path.share()?, *mode),
         Request::List { volume } => What::List(volume.0),

@@ -56,6 +56,7 @@ svg .small { font-size: 9px; }
 svg .number { fill: var(--quiet); text-anchor: middle; cursor: pointer; }
 svg .number.bad { fill: var(--bad); font-weight: 700; }
 svg .bad-text { fill: var(--bad); font-weight: 700; font-size: 9px; }
+svg .limit-text { fill: var(--hold); font-weight: 700; font-size: 9px; }
 svg .lane { stroke: var(--lane); }
 svg .top { stroke: var(--ink); stroke-width: 1.5; }
 svg .floor { fill: var(--base); }
@@ -66,6 +67,7 @@ svg .link { fill: var(--bar-edge); } svg .thread { stroke: var(--bar-edge); stro
 svg .way { fill: none; stroke-width: 2; } svg .held { stroke-dasharray: 2 5; }
 svg .hit { fill: transparent; cursor: pointer; }
 svg .red { stroke: var(--bad); fill: none; stroke-width: 2.5; } svg .red-fill { fill: var(--bad); } svg .hold { stroke: var(--hold); stroke-width: 3.5; }
+svg .told { fill: var(--bad); stroke: var(--paper); } svg .told.limit { fill: var(--hold); } svg .told-stroke { stroke: var(--paper); stroke-width: 1.5; }
 svg .callback { stroke: var(--quiet); stroke-width: 2; fill: none; }
 svg .here { fill: var(--pick); }
 svg .faded { opacity: 0.18; }
@@ -77,8 +79,8 @@ svg .faded { opacity: 0.18; }
 #told .command { overflow-wrap: anywhere; }
 #told .words { white-space: pre-wrap; overflow-wrap: anywhere; }
 #told .comment { color: var(--quiet); grid-column: 2 / 4; }
-#told .Refused .words, #told .Leaked .words, #told .Unmet .words, #told .fault .words { color: var(--bad); }
-#told .Held .words, #told .PostHeld .words { color: var(--hold); }
+#told .Refused .words, #told .Leaked .words, #told .Told .words, #told .Unmet .words, #told .fault .words { color: var(--bad); }
+#told .Held .words, #told .PostHeld .words, #told .limit .words { color: var(--hold); }
 #told .End { cursor: default; border-top: 1px solid var(--rule); margin-top: 6px; padding-top: 6px; }
 #tip { position: fixed; z-index: 9; max-width: 440px; padding: 5px 9px; background: var(--panel); border: 1px solid var(--quiet); border-radius: 5px;
   box-shadow: 0 3px 12px #0004; font: 12px/1.45 ui-monospace, monospace; white-space: pre-wrap; overflow-wrap: anywhere; pointer-events: none; display: none; }
@@ -123,7 +125,8 @@ pub const PAGE_END: &str = r##"</script>
 // A run is drawn from its objects: columns are what happened, in order; lanes are clients, instances by altitude, and file systems.
 const STEP = 15, LANE = 30, ROW = 13, ROWS = 12, BAR = 12, NAMES = 210, SVG = 'http://www.w3.org/2000/svg';
 const HUES = [210, 22, 135, 280, 330, 45, 181, 90];
-const SILENT = new Set(['Run', 'End', 'Comment', 'Became', 'Leaked', 'Met', 'Unmet']);
+const SILENT = new Set(['Run', 'End', 'Comment', 'Became', 'Leaked', 'Told', 'Met', 'Unmet']);
+const RETURNS = { preoperation: ['Pre'], postoperation: ['Post', 'PostHeld'], drain: ['Drained'] };
 const PHASES = ['setup', 'stopping', 'completing', 'emptying', 'detached'];
 const byId = (id) => document.getElementById(id);
 
@@ -145,17 +148,28 @@ function compareAltitudes(one, other) {
   return a[1] === b[1] ? 0 : a[1] < b[1] ? -1 : 1;
 }
 
-// What the run has: columns, instances, operations with their stops, contexts, shades, leaks.
+// What the run has: columns, instances, operations with their stops, contexts, shades, leaks, and what is told of callbacks.
 function modelOf(all) {
-  const run = { columns: [], rows: [], volumes: new Map(), instances: new Map(), operations: new Map(), contexts: new Map(), shades: [], leaks: [], trouble: [], end: null };
+  const run = { columns: [], rows: [], volumes: new Map(), instances: new Map(), operations: new Map(), contexts: new Map(), shades: [], leaks: [], mistakes: [], trouble: [], end: null };
   for (const told of all) {
     if (!SILENT.has(told.event)) { told.column = run.columns.length; run.columns.push(told); }
-    const at = Math.max(run.columns.length - 1, 0);
+    const at = returnOf(run, told, Math.max(run.columns.length - 1, 0));
     if (told.column === undefined && told.event !== 'Run') told.near = at;
     if (told.event !== 'Run' && told.event !== 'Became') run.rows.push(told);
     note(run, told, at);
   }
   return run;
+}
+
+// A trial tells of a callback once its whole request is over: the column is that of the callback's return. Anything else is where the run is.
+function returnOf(run, told, at) {
+  if (told.event !== 'Told' && told.event !== 'Leaked') return at;
+  const names = RETURNS[told.callback] || [];
+  for (let column = at; column >= 0 && run.columns[column]; column -= 1) {
+    const other = run.columns[column];
+    if (names.includes(other.event) && other.operation === told.operation && other.instance === told.instance) return column;
+  }
+  return at;
 }
 
 function note(run, told, at) {
@@ -165,7 +179,9 @@ function note(run, told, at) {
   if (told.event === 'Began') run.operations.set(told.operation, { id: told.operation, told, stops: [], at });
   if (told.event === 'Allocated') run.contexts.set(told.context, { id: told.context, kind: told.kind, owner: told.owner, from: at, until: null, links: [] });
   if (told.context && run.contexts.has(told.context)) noteContext(run.contexts.get(told.context), told, at);
+  if (told.event === 'Run') run.told = told;
   if (told.event === 'Leaked') run.leaks.push({ ...told, at });
+  if (told.event === 'Told') run.mistakes.push({ told, at });
   if (told.event === 'End') run.end = told;
   if (told.operation && run.operations.has(told.operation)) run.operations.get(told.operation).stops.push(told);
   if (isTrouble(told)) run.trouble.push(told);
@@ -177,7 +193,7 @@ function noteContext(context, told, at) {
 }
 
 function isTrouble(told) {
-  return ['Refused', 'Leaked', 'Unmet'].includes(told.event) || (told.event === 'Base' && told.status === 18);
+  return ['Refused', 'Leaked', 'Told', 'Unmet'].includes(told.event) || (told.event === 'Base' && told.status === 18);
 }
 
 function labelOf(told) {
@@ -309,6 +325,7 @@ function drawWindow(svg, run, from, until, chosen) {
   for (const operation of run.operations.values()) drawWay(svg, run, operation, from, until);
   for (let column = from; column < until && column < run.columns.length; column += 1) drawOwn(svg, run, run.columns[column]);
   for (const leak of run.leaks) if (leak.at >= from && leak.at <= until) drawLeak(svg, run, leak);
+  for (const mistake of run.mistakes) if (mistake.at >= from && mistake.at <= until) drawTold(svg, run, mistake);
 }
 
 function drawLanes(svg, run, left, right, from, until) {
@@ -436,6 +453,17 @@ function drawLeak(svg, run, leak) {
   drawHit(svg, leak, x, instance.y);
 }
 
+// What is told of a callback stands above its lane, and what no instance did above all.
+function drawTold(svg, run, { told, at }) {
+  const instance = run.instances.get(told.instance), kind = told.telling === 'limit' ? ' limit' : '';
+  const x = xOf(at), y = instance && instance.y !== undefined ? instance.y - 9 : 20;
+  add(svg, 'path', { class: 'told' + kind, d: 'M' + x + ' ' + y + 'l7 -12h-14z' });
+  add(svg, 'path', { class: 'told-stroke', d: 'M' + x + ' ' + (y - 11) + 'v4m0 2v1.5' });
+  add(svg, 'text', { class: kind ? 'limit-text' : 'bad-text', x: x + 8, y: y - 4 }, told.id);
+  const hit = add(svg, 'rect', { class: 'hit', x: x - 7, y: y - 13, width: 14, height: 13 });
+  hit.told = told;
+}
+
 // The numbers of the lines: each at its first column, unless it would run into the one before.
 function drawAxis(svg, run, from, until) {
   let free = -1;
@@ -502,7 +530,7 @@ function fillList() {
   let line = -1;
   for (const told of run.rows) {
     const row = document.createElement('div');
-    row.className = told.event + (told.event === 'Base' && told.status === 18 ? ' fault' : '');
+    row.className = told.event + (told.event === 'Base' && told.status === 18 ? ' fault' : '') + (told.telling === 'limit' ? ' limit' : '');
     row.told = told;
     told.row = row;
     cell(row, 'line', told.line === line || told.event === 'End' ? '' : String(told.line));
@@ -598,6 +626,8 @@ function fillLegend() {
     ['path', { class: 'red-fill', d: 'M11 0l-8 11h5l-2 8l8 -12h-5z' }, 'device fault'],
     ['path', { class: 'red', d: 'M9 8m-4 0a4 4 0 1 0 8 0a4 4 0 1 0 -8 0m1 3l6 -6' }, 'the line was refused'],
     ['circle', { class: 'red', cx: 9, cy: 8, r: 7 }, 'left a reference behind'],
+    ['path', { class: 'told', d: 'M9 14l7 -12h-14z' }, 'a mistake of a filter, with its number'],
+    ['path', { class: 'told limit', d: 'M9 14l7 -12h-14z' }, 'a limit of the model, with its number'],
     ['path', { class: 'callback', d: 'M6 0h-4v16h4m6 -16h4v16h-4' }, 'a callback of a setup or a teardown, from entry to return'],
     ['rect', { class: 'bar', x: 0, y: 4, width: 18, height: 8, rx: 3 }, 'a context; a dot where it is set'],
   ];
@@ -620,11 +650,16 @@ function fillLegend() {
 
 function fillHeader() {
   const end = run.end, verdict = byId('verdict');
+  if (isTrial()) document.title = document.querySelector('h1').textContent = 'Kazdrin: a trial' + (run.told.file ? ' of ' + run.told.file : '');
   if (!end) { verdict.textContent = 'cut off'; verdict.className = 'bad'; return; }
-  const words = { Well: 'well', Left: 'something is left behind', Unexpected: 'not as expected', NoMemory: 'no memory', ReadFault: 'not read to its end', WriteFault: 'not written' };
+  const words = { Well: 'well', Left: isTrial() ? 'a mistake was told' : 'something is left behind', Unexpected: 'not as expected', WrongLine: 'a line says nothing', NoMemory: 'no memory', ReadFault: 'not read to its end', WriteFault: 'not written' };
   verdict.textContent = words[end.verdict];
   verdict.className = end.status === 0 ? '' : 'bad';
-  byId('figures').textContent = end.line + ' lines, ' + end.refused + ' refused, ' + end.leaks + ' references left behind, ' + end.held + ' operations held, status ' + end.status;
+  byId('figures').textContent = end.line + ' lines, ' + end.refused + ' refused, ' + end.leaks + ' references left behind, ' + end.held + ' operations held, ' + (isTrial() ? end.told + ' mistakes told, ' : '') + 'status ' + end.status;
+}
+
+function isTrial() {
+  return run.told !== undefined && run.told.origin === 'trial';
 }
 
 // On paper the chart stands in bands, one below the other.

@@ -6,6 +6,40 @@ use fm_data::Request;
 use fm_script::Task;
 use fm_types::{FilterId, OpId, VolumeId, WorkerId};
 
+/// What a line that was refused names, by numbers.
+#[derive(Clone, Copy, Debug, Default)]
+pub struct Subject {
+    /// The worker.
+    pub worker: Option<u64>,
+    /// The filter.
+    pub filter: Option<u64>,
+    /// The volume.
+    pub volume: Option<u64>,
+    /// The instance.
+    pub instance: Option<u64>,
+    /// The operation.
+    pub operation: Option<u64>,
+    /// The handle.
+    pub handle: Option<u64>,
+}
+
+impl Subject {
+    /// That of a line of a script, whose worker was there before; nothing where the line couldn't be read.
+    pub fn of(task: Option<&Task>, place: Place) -> Subject {
+        let Some(task) = task else {
+            return Subject::default();
+        };
+        Subject {
+            worker: worker_of(task).map(|worker| u64::from(worker.0)),
+            filter: filter_of(task, place).map(|filter| u64::from(filter.0)),
+            volume: volume_of(task).map(|volume| u64::from(volume.0)),
+            instance: instance_of(task, place).map(u64::from),
+            operation: operation_of(task, place),
+            handle: handle_of(task),
+        }
+    }
+}
+
 /// The worker of a line.
 pub fn worker_of(task: &Task) -> Option<WorkerId> {
     match task {

@@ -24,16 +24,19 @@ pub struct Tally {
     pub misuses: u64,
     /// How much wasn't as the script expects.
     pub unmet: u64,
+    /// How many mistakes were told that no line expects, in a trial.
+    pub told: Option<u64>,
 }
 
 impl Tally {
-    /// The verdict in a word.
+    /// The verdict in a word. A script that ended has no status 2: that is a trial's, of which a line says nothing.
     pub fn verdict(&self) -> &'static str {
         match (self.end, self.status) {
             (ScriptEnd::NoMemory, _) => "NoMemory",
             (ScriptEnd::ReadFault, _) => "ReadFault",
             (ScriptEnd::WriteFault, _) => "WriteFault",
             (ScriptEnd::Ended, 0) => "Well",
+            (ScriptEnd::Ended, 2) => "WrongLine",
             (ScriptEnd::Ended, 5) => "Left",
             (ScriptEnd::Ended, _) => "Unexpected",
         }

@@ -7,8 +7,8 @@ use crate::expect::{Expectations, expected_in};
 use crate::happened::{Asked, refusal_in};
 use crate::inert::Inert;
 use crate::json::{
-    Told, say_begin_json, say_change_json, say_comment_json, say_end_json, say_expectation_json,
-    say_json, say_leak_json,
+    Detail, Told, say_begin_json, say_change_json, say_comment_json, say_end_json,
+    say_expectation_json, say_json, say_leak_json,
 };
 use crate::label::Label;
 use crate::named::{Ascii, Stated};
@@ -16,7 +16,7 @@ use crate::notes::Notes;
 use crate::page::{PAGE_BEGIN, PAGE_END};
 use crate::picture::draw;
 use crate::reason::{Refusal, say_refusal};
-use crate::subject::worker_of;
+use crate::subject::{Subject, worker_of};
 use crate::tally::Tally;
 use crate::verdict::{exit_status, held, say_end, say_expectations, say_fault, say_leak};
 use crate::words::say;
@@ -427,9 +427,11 @@ impl<W: Write + Drop> View<W> {
             command: line.text,
             words: words.as_str(),
             reason: reason.as_str(),
-            bytes,
-            task: line.task,
-            place: line.place,
+            detail: Detail {
+                bytes,
+                subject: Subject::of(line.task, line.place),
+                ..Detail::default()
+            },
         };
         say_json(self.alloc, text, &self.notes, &event, &told)
     }
@@ -535,6 +537,7 @@ impl<W: Write + Drop> View<W> {
             held,
             misuses,
             unmet,
+            told: None,
         }
     }
 

@@ -1,8 +1,10 @@
 //! What happened, in words.
 
 use crate::event::{Deed, Event};
+use crate::json::Detail;
 use crate::named::{Ascii, Counted, Named, PlaceName, Stated, kind_word};
 use crate::notes::{Notes, What};
+use crate::status::sentence;
 use fm_core::{Count, Phase, Place};
 use fm_data::PreVerdict;
 use fm_types::Status;
@@ -10,6 +12,27 @@ use std::alloc::AllocError;
 
 /// How many bytes of a body or of a reply are shown.
 const SHOWN: usize = 32;
+
+/// Appends what happened, with what its event doesn't have itself. A refusal has the sentence of its status.
+pub fn say_detail(
+    text: &mut String,
+    notes: &Notes,
+    event: &Event,
+    detail: &Detail<'_>,
+) -> Result<(), AllocError> {
+    if let Event::Refused { status, .. } = event {
+        return write!(text, "REFUSED {}: {}", Stated(*status), sentence(*status));
+    }
+    say(text, notes, event, detail.bytes.unwrap_or(b""))?;
+    if let Some(counted) = detail.counted {
+        write!(text, ", but counts as one that ")?;
+        say_verdict(text, counted, None)?;
+    }
+    match detail.left {
+        Some(status) => write!(text, ", and sets {}", Stated(status)),
+        None => Ok(()),
+    }
+}
 
 /// Appends what happened.
 pub fn say(

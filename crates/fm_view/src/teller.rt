@@ -1,0 +1,391 @@
+//! A run that is told in objects as it goes, by what isn't a script: a trial of filters as code.
+
+use crate::event::{Event, instance_in, operation_in};
+use crate::json::{
+    Detail, FORMAT, Told, answers, callback_of, say_change_json, say_comment_json, say_end_json,
+    say_json,
+};
+use crate::named::{PlaceName, kind_word};
+use crate::notes::{Loaded, Notes, OperationNote, What, what_of};
+use crate::object::Object;
+use crate::status::sentence;
+use crate::subject::Subject;
+use crate::tally::Tally;
+use crate::words::say_detail;
+use fm_core::{FilterPhase, Phase, Place, State, VolumePhase};
+use fm_data::{FileRequest, Request};
+use fm_types::{ContextKind, CtxId, FilterId, InstanceId, Name, Status, VolumeId};
+use std::alloc::{AllocError, Global};
+
+/// What is told of a callback.
+#[derive(Clone, Copy)]
+pub struct Telling<'a> {
+    /// Its number, which stays.
+    pub id: &'a str,
+    /// Whether it is a limit of the model, and no mistake.
+    pub is_limit: bool,
+    /// What was done, in words.
+    pub words: &'a str,
+    /// Inside which callback it was done.
+    pub place: Place,
+    /// Which context it was done with, if it was with one.
+    pub context: Option<CtxId>,
+}
+
+// What a request does, and what it brings.
+#[derive(Drop)]
+struct Asked {
+    what: What,
+    bytes: Option<Vec<u8>>,
+}
+
+/// Tells a run in the objects of docs/JSON.md, each appended to a text as one line. It notes what it is told, so that an object can name what came before: an
+/// operation by its request, an instance by its name. Each call that appends fails where memory is refused, and the text may then end amid an object.
+#[derive(Drop)]
+pub struct Teller {
+    alloc: Global,
+    notes: Notes,
+    line: u32,
+    command: String,
+    asked: Option<Asked>,
+    contexts: Vec<CtxId>,
+    changes: usize,
+}
+
+impl Teller {
+    /// Before the first line.
+    pub fn new(alloc: Global) -> Teller {
+        Teller {
+            alloc,
+            notes: Notes::new(alloc),
+            line: 0,
+            command: String::new(alloc),
+            asked: None,
+            contexts: Vec::new(alloc),
+            changes: 0,
+        }
+    }
+
+    /// Appends the first object: the number of the schema, that this is a trial, and of which file.
+    pub fn begin(&self, text: &mut String, file: Option<&str>) -> Result<(), AllocError> {
+        let mut object = Object::new(self.alloc, 0, "Run")?;
+        object.number("format", FORMAT)?;
+        object.text("origin", "trial")?;
+        if let Some(file) = file {
+            object.written("file", "raw", file.as_bytes())?;
+        }
+        object.finish(text)
+    }
+
+    /// Goes on to a line, of which is told what follows. What is asked for by the one before is forgotten.
+    pub fn take_line(&mut self, line: u32, command: &str) -> Result<(), AllocError> {
+        self.line = line;
+        self.command.clear();
+        self.asked = None;
+        self.command.push_str(command)
+    }
+
+    /// How many lines were refused so far.
+    pub fn refused(&self) -> u64 {
+        self.notes.refused()
+    }
+
+    /// Appends that the line asks for nothing.
+    pub fn say_comment(&self, text: &mut String) -> Result<(), AllocError> {
+        say_comment_json(self.alloc, text, self.line, self.command.as_bytes())
+    }
+
+    /// Appends what happened, and notes it.
+    pub fn say_event(
+        &mut self,
+        text: &mut String,
+        event: &Event,
+        detail: &Detail<'_>,
+    ) -> Result<(), AllocError> {
+        self.note(event)?;
+        let mut words = String::new(self.alloc);
+        let reason = match event {
+            Event::Refused { status, .. } => sentence(*status),
+            _ => "",
+        };
+        say_detail(&mut words, &self.notes, event, detail)?;
+        let told = Told {
+            line: self.line,
+            command: self.command.as_bytes(),
+            words: words.as_str(),
+            reason,
+            detail: *detail,
+        };
+        say_json(self.alloc, text, &self.notes, event, &told)
+    }
+
+    // Notes what an event named.
+    fn note(&mut self, event: &Event) -> Result<(), AllocError> {
+        match event {
+            Event::Refused { status, .. } => self.notes.refuse(*status),
+            Event::Replied {
+                operation,
+                status: Status::Success,
+                information,
+            } => self.notes.reply(*operation, *information)?,
+            _ => {}
+        }
+        Ok(())
+    }
+
+    /// Appends that the line was refused, and what it names.
+    pub fn say_refused(
+        &mut self,
+        text: &mut String,
+        status: Status,
+        subject: Subject,
+    ) -> Result<(), AllocError> {
+        let refused = Event::Refused {
+            status,
+            context: None,
+        };
+        let detail = Detail {
+            subject,
+            ..Detail::default()
+        };
+        self.say_event(text, &refused, &detail)
+    }
+
+    /// Appends that a filter was loaded. Filters are numbered in that order.
+    pub fn say_loaded(
+        &mut self,
+        text: &mut String,
+        filter: FilterId,
+        name: Name,
+    ) -> Result<(), AllocError> {
+        self.notes.filters.push(Loaded {
+            name,
+            phase: FilterPhase::Loaded,
+            since: self.line,
+        })?;
+        let loaded = Event::Loaded { filter: filter.0 };
+        self.say_event(text, &loaded, &Detail::default())
+    }
+
+    /// Appends that a volume was mounted. Volumes are numbered in that order.
+    pub fn say_mounted(
+        &mut self,
+        text: &mut String,
+        volume: VolumeId,
+        name: Name,
+    ) -> Result<(), AllocError> {
+        self.notes.volumes.push(Loaded {
+            name,
+            phase: VolumePhase::Mounted,
+            since: self.line,
+        })?;
+        let mounted = Event::Mounted { volume: volume.0 };
+        self.say_event(text, &mounted, &Detail::default())
+    }
+
+    /// Appends that the line asks for an end, which a trial passes over.
+    pub fn say_stopped(&self, text: &mut String) -> Result<(), AllocError> {
+        let mut object = Object::new(self.alloc, self.line, "Stopped")?;
+        object.written("command", "raw", self.command.as_bytes())?;
+        object.text("words", "a trial ends with its file, and goes on here")?;
+        object.finish(text)
+    }
+
+    /// Notes what the line asks for, before it is asked: what begins on the line is that.
+    pub fn ask(&mut self, request: &Request) -> Result<(), AllocError> {
+        let mut bytes = None;
+        if let Request::OnHandle {
+            request: FileRequest::Write { bytes: given, .. },
+            ..
+        } = request
+        {
+            bytes = Some(Vec::from_slice(self.alloc, given.as_slice())?);
+        }
+        self.asked = Some(Asked {
+            what: what_of(request)?,
+            bytes,
+        });
+        Ok(())
+    }
+
+    /// How many operations began so far.
+    pub fn begun(&self) -> u64 {
+        self.notes.operations.len() as u64
+    }
+
+    /// Appends that an operation of the line's request began; nothing where no request was noted. Operations are numbered in that order.
+    pub fn say_began(&mut self, text: &mut String, operation: u64) -> Result<(), AllocError> {
+        let Some(Asked { what, bytes }) = self.next_asked() else {
+            return Ok(());
+        };
+        self.notes.operations.push(OperationNote {
+            what,
+            line: self.line,
+        })?;
+        let detail = Detail {
+            bytes: match &bytes {
+                Some(bytes) => Some(bytes.as_slice()),
+                None => None,
+            },
+            ..Detail::default()
+        };
+        self.say_event(text, &Event::Began { operation }, &detail)
+    }
+
+    // What of the request begins next. A close is a cleanup first, unless that began before.
+    fn next_asked(&mut self) -> Option<Asked> {
+        if let Some(
+            Asked {
+                what: What::Close(handle),
+                ..
+            },
+        ) = &self.asked
+        {
+            let handle = *handle;
+            if !self.is_cleaned(handle) {
+                return Some(Asked {
+                    what: What::Cleanup(handle),
+                    bytes: None,
+                });
+            }
+        }
+        self.asked.take()
+    }
+
+    // Whether the cleanup of a handle began.
+    fn is_cleaned(&self, handle: u64) -> bool {
+        self.notes.operations.iter().any(
+            |note| matches!(&note.what, What::Cleanup(other) if *other == handle),
+        )
+    }
+
+    /// Appends the instances that were attached since the last call, and how far the life of each came.
+    pub fn say_lives(&mut self, text: &mut String, state: &State) -> Result<(), AllocError> {
+        for number in self.notes.instances.len()..state.instances() {
+            if let Ok(number) = u16::try_from(number) {
+                self.say_attached(text, state, InstanceId(number))?;
+            }
+        }
+        self.notes.follow(self.line, state)?;
+        self.say_changes(text)
+    }
+
+    // Notes an instance, and appends that it was attached, unless it declined.
+    fn say_attached(
+        &mut self,
+        text: &mut String,
+        state: &State,
+        instance: InstanceId,
+    ) -> Result<(), AllocError> {
+        let (Some(name), Some(altitude), Some(filter), Some(volume), Some(phase)) = (
+            state.instance_name(instance),
+            state.altitude_of(instance),
+            state.filter_of(instance),
+            state.volume_of(instance),
+            state.phase(instance),
+        ) else {
+            return Ok(());
+        };
+        let owner = (filter.0, volume.0);
+        self.notes.attach(name, altitude, owner, phase, self.line)?;
+        if phase != Phase::Attached {
+            return Ok(());
+        }
+        let attached = Event::Attached {
+            instance: instance.0,
+        };
+        self.say_event(text, &attached, &Detail::default())
+    }
+
+    // Appends the changes of lives that weren't told yet.
+    fn say_changes(&mut self, text: &mut String) -> Result<(), AllocError> {
+        for change in self.notes.changes.iter().skip(self.changes) {
+            say_change_json(self.alloc, text, change)?;
+        }
+        self.changes = self.notes.changes.len();
+        Ok(())
+    }
+
+    /// Appends that the callback that returned there left a reference behind.
+    pub fn say_leaked(
+        &mut self,
+        text: &mut String,
+        context: CtxId,
+        kind: Option<ContextKind>,
+        place: Place,
+    ) -> Result<(), AllocError> {
+        let number = self.number_of(context)?;
+        let kind = kind.map(kind_word);
+        let mut words = String::new(self.alloc);
+        write!(words, "LEAKED c{number}")?;
+        if let Some(kind) = kind {
+            write!(words, " ({kind} context)")?;
+        }
+        write!(words, ", {}", PlaceName(&self.notes, place))?;
+        let mut object = Object::new(self.alloc, self.line, "Leaked")?;
+        object.text("words", words.as_str())?;
+        object.id("context", 'c', number)?;
+        if let Some(kind) = kind {
+            object.text("kind", kind)?;
+        }
+        put_place(&mut object, place)?;
+        object.finish(text)
+    }
+
+    // The number of a context: how many others were told before it.
+    fn number_of(&mut self, context: CtxId) -> Result<u64, AllocError> {
+        match self.contexts.iter().position(|other| *other == context) {
+            Some(number) => Ok(number as u64),
+            None => {
+                self.contexts.push(context)?;
+                Ok(self.contexts.len().saturating_sub(1) as u64)
+            }
+        }
+    }
+
+    /// Appends what is told of a callback.
+    pub fn say_told(&mut self, text: &mut String, telling: &Telling<'_>) -> Result<(), AllocError> {
+        let kind = if telling.is_limit { "limit" } else { "mistake" };
+        let mut object = Object::new(self.alloc, self.line, "Told")?;
+        object.text("id", telling.id)?;
+        object.text("telling", kind)?;
+        object.text("words", telling.words)?;
+        object.id("worker", 'w', 0)?;
+        if let Some(context) = telling.context {
+            let number = self.number_of(context)?;
+            object.id("context", 'c', number)?;
+        }
+        put_place(&mut object, telling.place)?;
+        object.finish(text)
+    }
+
+    /// Appends whether the line's expectation was met: the words that are expected, and the lines of what was answered.
+    pub fn say_expectation(
+        &self,
+        text: &mut String,
+        expected: &str,
+        is_met: bool,
+        answered: &str,
+    ) -> Result<(), AllocError> {
+        let event = if is_met { "Met" } else { "Unmet" };
+        let mut object = Object::new(self.alloc, self.line, event)?;
+        object.written("command", "raw", self.command.as_bytes())?;
+        object.text("expected", expected)?;
+        if !is_met {
+            object.list("answered", answers(self.alloc, answered.as_bytes())?)?;
+        }
+        object.finish(text)
+    }
+
+    /// Appends the last object: what is left, in figures and in words, and the exit status.
+    pub fn say_end(&self, text: &mut String, tally: &Tally, words: &str) -> Result<(), AllocError> {
+        say_end_json(self.alloc, text, tally, words)
+    }
+}
+
+// Which callback it is, of which instance, and for which operation.
+fn put_place(object: &mut Object, place: Place) -> Result<(), AllocError> {
+    object.text("callback", callback_of(place))?;
+    object.maybe("instance", 'i', instance_in(place).map(u64::from))?;
+    object.maybe("operation", 'o', operation_in(place))
+}

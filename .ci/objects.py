@@ -1,8 +1,9 @@
 #!/usr/bin/env python3
 """Checks the JSON of scripts against the tables of docs/JSON.md, and each run's objects against what the run printed.
 
-    .ci/objects.py --program FLTVIEW [SCRIPT ..]     of these scripts; else of all stored ones
+    .ci/objects.py --program FLTVIEW [--trial PROGRAM] [SCRIPT ..]     of these scripts; else of all stored ones
 
+With --trial it checks a trial too, of the program trial_rows: its stored scenario, and one of what that one lacks. The lines that the trial prints say the same.
 It ends with status 1 if an object isn't as the tables say, if an event of a table never came, or if the page has other objects.
 """
 import json
@@ -15,8 +16,39 @@ import tempfile
 # A script that isn't as it expects, with bytes that are no text: none is stored, since stored scripts are tests that pass.
 OWN = b"load f\n#! expect ok f0\nload f\n#! expect ok f1\n# \\ and \xff\n\xff\\\n"
 
+# A scenario of what the stored one lacks: refusals, an end of filters, and at last a line that says nothing.
+OWN_TRIAL = """load mistakes
+load nobody
+expect 6
+attach 0 0 m 100
+attach 0 0 n 100
+attach 7 0 n 101
+  # <a remark> & caf\u00e9
+create 0 new f
+create 0 existing nothing
+write 0 0 6162
+list 0
+querysize 0
+setsize 0 1
+read 9 0 1
+close 0
+close 0
+dismount 0
+\texpect  status\t32
+expect told KZ0101
+stop
+detach 0
+detach 0
+unload 0
+read what
+""".encode()
+
+# The word of a step in a trial's lines, for each event that tells one.
+STEPS = {"Pre": "pre", "Base": "base", "Post": "post", "PostHeld": "post", "Drained": "drain", "Replied": "reply"}
+
 TOP = pathlib.Path(__file__).resolve().parent.parent
 DATA = TOP / "crates" / "examples" / "data"
+TRIAL = TOP / "crates" / "trial_rows" / "stdin"
 MOST = 2**64 - 1
 
 
@@ -38,14 +70,14 @@ def words_of(cell):
 
 
 def schema():
-    """What each member is, and for each event what it has and may have, and whether a printed line is told by it."""
-    members, upper, lower = tables((TOP / "docs" / "JSON.md").read_text())
+    """What each member is; for each event what it has and may have, and whether a printed line is told by it; and the events that come in trials alone."""
+    members, upper, lower, trial = tables((TOP / "docs" / "JSON.md").read_text())
     kinds = {words_of(row[0])[0]: row[1] for row in members}
     events = {}
-    for rows, more, is_printed in ((upper, ["command", "words"], True), (lower, [], False)):
+    for rows, more, is_printed in ((upper, ["command", "words"], True), (lower + trial, [], False)):
         for name, has, may, _ in rows:
             events[words_of(name)[0]] = (set(words_of(has)) | {"line", "event", *more}, set(words_of(may)), is_printed)
-    return kinds, events
+    return kinds, events, {words_of(row[0])[0] for row in trial}
 
 
 def is_text(value, may_end=False):
@@ -82,8 +114,8 @@ def run(program, word, script):
         return subprocess.run([program, word], stdin=it, capture_output=True, timeout=120).stdout.decode("ascii")
 
 
-def whole_faults(all_told, events, script):
-    """What is wrong with a run as a whole."""
+def frame_faults(all_told):
+    """What is wrong with the beginning, the order and the end of a run."""
     faults = []
     names = [told["event"] for told in all_told]
     if names[:1] != ["Run"] or names[-1:] != ["End"] or names.count("Run") + names.count("End") != 2:
@@ -95,6 +127,15 @@ def whole_faults(all_told, events, script):
     end = all_told[-1]
     if end["refused"] != names.count("Refused") or end["leaks"] != names.count("Leaked"):
         faults.append("End counts other refusals or leaks")
+    return faults
+
+
+def script_faults(all_told, events, script):
+    """What is wrong with the run of a script as a whole."""
+    faults = frame_faults(all_told)
+    names = [told["event"] for told in all_told]
+    if any("kind" not in told or "owner" not in told for told in all_told if told["event"] == "Leaked"):
+        faults.append("a leak without kind or owner")
     printed = script.with_suffix(".out")
     if printed.exists():
         told = sum(events[name][2] for name in names)
@@ -103,6 +144,43 @@ def whole_faults(all_told, events, script):
     comments = [line for line in script.read_bytes().split(b"\n") if line.startswith(b"#") and len(line) <= 4096]
     if names.count("Comment") + names.count("Met") + names.count("Unmet") != len(comments):
         faults.append("another number of comments")
+    return faults
+
+
+def trial_faults(program, all_told, scenario):
+    """What is wrong with a trial as a whole: whether its lines say the same."""
+    faults = frame_faults(all_told)
+    with open(scenario, "rb") as it:
+        done = subprocess.run([program], stdin=it, capture_output=True, timeout=120)
+    lines = done.stdout.decode().splitlines()
+    steps = [tuple(line.split()[:2]) for line in lines if re.match(r"  o[0-9]+ ", line)]
+    if steps != [(told["operation"], STEPS[told["event"]]) for told in all_told if told["event"] in STEPS]:
+        faults.append("its lines have other steps")
+    told_lines = [line for line in lines if line.startswith(("TOLD ", "LIMIT ")) and " KZ0111 " not in line]
+    if told_lines != [told["words"] for told in all_told if told["event"] == "Told" and told["id"] != "KZ0111"]:
+        faults.append("its lines tell something else")
+    unmet = [int(line.split()[1]) for line in lines if re.match(r"line [0-9]+ failed", line)]
+    if unmet != [told["line"] for told in all_told if told["event"] == "Unmet"]:
+        faults.append("its lines have other expectations that weren't met")
+    heads = {"mistake": "TOLD", "limit": "LIMIT"}
+    if any(told["words"].split()[:2] != [heads[told["telling"]], told["id"]] for told in all_told if told["event"] == "Told"):
+        faults.append("what is told has another number or kind in its words")
+    if all_told[-1].get("status") != done.returncode:
+        faults.append("another exit status")
+    return faults + line_faults(all_told, scenario)
+
+
+def line_faults(all_told, scenario):
+    """Whether each line of a scenario has the objects of its kind."""
+    faults = []
+    wanted = {"#": {"Comment"}, "expect": {"Met", "Unmet"}}
+    for number, line in enumerate(scenario.read_text().split("\n"), 1):
+        words = line.split()
+        kind = "" if not words else "#" if words[0].startswith("#") else words[0]
+        here = {told["event"] for told in all_told if told["line"] == number} - {"Told", "End"}
+        right = wanted.get(kind)
+        if (not words and here) or (right and (len(here) != 1 or not here <= right)) or (words and not right and not here):
+            faults.append(f"line {number} has the objects {sorted(here)}")
     return faults
 
 
@@ -115,31 +193,48 @@ def page_faults(program, script, text):
     return [] if [json.loads(line) for line in match[2].splitlines()] == [json.loads(line) for line in text.splitlines()] else ["the page has other objects"]
 
 
-def main():
-    words = sys.argv[1:]
-    if len(words) < 2 or words[0] != "--program":
+def check(script, program, kinds, events, rest):
+    """Checks one run: prints what is wrong with it. Its objects, and whether all is right. `rest` has what is wrong with it as a whole."""
+    text = run(program, "--json", script)
+    all_told = [json.loads(line) for line in text.splitlines()]
+    faults = [f"object {at}: {fault}" for at, told in enumerate(all_told) for fault in faults_of(told, kinds, events)]
+    faults += rest(all_told) + page_faults(program, script, text)
+    for fault in faults[:5]:
+        print(f"{script}: {fault}")
+    return all_told, not faults
+
+
+def words_behind(words, name):
+    """The program behind an option, as a path, and the words without both."""
+    if name not in words:
+        return None, words
+    at = words.index(name)
+    if at + 1 == len(words):
         sys.exit(__doc__)
-    program = str(pathlib.Path(words[1]).resolve())
+    return str(pathlib.Path(words[at + 1]).resolve()), words[:at] + words[at + 2 :]
+
+
+def main():
+    program, words = words_behind(sys.argv[1:], "--program")
+    trial, words = words_behind(words, "--trial")
+    if program is None:
+        sys.exit(__doc__)
     room = tempfile.TemporaryDirectory()
-    own = pathlib.Path(room.name) / "own.flt"
+    own, own_trial = pathlib.Path(room.name) / "own.flt", pathlib.Path(room.name) / "own.trial"
     own.write_bytes(OWN)
-    scripts = [pathlib.Path(word) for word in words[2:]] or [*sorted(DATA.rglob("*.flt")), own]
-    kinds, events = schema()
-    seen, bad, count = set(), 0, 0
-    for script in scripts:
-        text = run(program, "--json", script)
-        all_told = [json.loads(line) for line in text.splitlines()]
-        faults = [f"object {at}: {fault}" for at, told in enumerate(all_told) for fault in faults_of(told, kinds, events)]
-        faults += whole_faults(all_told, events, script) + page_faults(program, script, text)
-        for fault in faults[:5]:
-            print(f"{script}: {fault}")
-        seen |= {told["event"] for told in all_told}
-        bad += bool(faults)
-        count += len(all_told)
-    absent = sorted(set(events) - seen) if not words[2:] else []
+    own_trial.write_bytes(OWN_TRIAL)
+    scripts = [pathlib.Path(word) for word in words] or [*sorted(DATA.rglob("*.flt")), own]
+    kinds, events, trial_events = schema()
+    runs = [check(script, program, kinds, events, lambda told, script=script: script_faults(told, events, script)) for script in scripts]
+    if trial:
+        runs += [check(it, trial, kinds, events, lambda told, it=it: trial_faults(trial, told, it)) for it in (TRIAL, own_trial)]
+    seen = {told["event"] for all_told, _ in runs for told in all_told}
+    bad = sum(not is_right for _, is_right in runs)
+    absent = sorted(set(events) - seen - (set() if trial else trial_events)) if not words else []
     for name in absent:
         print(f"no stored script has the event {name}")
-    print(f"{len(scripts)} scripts, {count} objects: {bad} not as docs/JSON.md says")
+    count = sum(len(all_told) for all_told, _ in runs)
+    print(f"{len(scripts)} scripts, {len(runs) - len(scripts)} trials, {count} objects: {bad} not as docs/JSON.md says")
     sys.exit(1 if bad or absent else 0)
 
 

@@ -33,6 +33,14 @@ impl Asked {
             Asked::Nothing => Subject::default(),
         }
     }
+
+    /// Why it is refused, where that isn't told by the status: a trial dismounts nothing.
+    pub(crate) fn reason(&self) -> Option<&'static str> {
+        match self {
+            Asked::Control(Control::Dismount { .. }) => Some("a trial dismounts no volume"),
+            _ => None,
+        }
+    }
 }
 
 // What a request names.

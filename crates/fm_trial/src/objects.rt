@@ -224,7 +224,9 @@ fn say_plain(
             },
             Asked::Control(control),
         ) => say_control(teller, text, control, *information),
-        (Reply::Done { status, .. }, _) => teller.say_refused(text, *status, asked.subject()),
+        (Reply::Done { status, .. }, _) => {
+            teller.say_refused(text, *status, asked.reason(), asked.subject())
+        }
         (Reply::Held(_), _) => Ok(()),
     }
 }

@@ -72,7 +72,8 @@ impl Voice {
                 "line {number}: no request, and nothing that is expected: {line}"
             ),
             Voice::Objects(teller) => {
-                teller.say_refused(text, Status::BadRequest, Subject::default())
+                let reason = Some("it is no request, and nothing that is expected");
+                teller.say_refused(text, Status::BadRequest, reason, Subject::default())
             }
         }
     }

@@ -41,6 +41,8 @@ pub struct Detail<'a> {
     pub left: Option<Status>,
     /// What a line that was refused names.
     pub subject: Subject,
+    /// Why it was refused, if its status alone doesn't tell.
+    pub reason: Option<&'a str>,
 }
 
 /// Appends the first object: the number of the schema.

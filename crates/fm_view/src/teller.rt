@@ -105,7 +105,7 @@ impl Teller {
         self.note(event)?;
         let mut words = String::new(self.alloc);
         let reason = match event {
-            Event::Refused { status, .. } => sentence(*status),
+            Event::Refused { status, .. } => detail.reason.unwrap_or(sentence(*status)),
             _ => "",
         };
         say_detail(&mut words, &self.notes, event, detail)?;
@@ -133,11 +133,12 @@ impl Teller {
         Ok(())
     }
 
-    /// Appends that the line was refused, and what it names.
+    /// Appends that the line was refused, what it names, and why; the sentence of the status, where no reason is given.
     pub fn say_refused(
         &mut self,
         text: &mut String,
         status: Status,
+        reason: Option<&str>,
         subject: Subject,
     ) -> Result<(), AllocError> {
         let refused = Event::Refused {
@@ -146,6 +147,7 @@ impl Teller {
         };
         let detail = Detail {
             subject,
+            reason,
             ..Detail::default()
         };
         self.say_event(text, &refused, &detail)

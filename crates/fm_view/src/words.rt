@@ -13,7 +13,7 @@ use std::alloc::AllocError;
 /// How many bytes of a body or of a reply are shown.
 const SHOWN: usize = 32;
 
-/// Appends what happened, with what its event doesn't have itself. A refusal has the sentence of its status.
+/// Appends what happened, with what its event doesn't have itself. A refusal without a reason has the sentence of its status.
 pub fn say_detail(
     text: &mut String,
     notes: &Notes,
@@ -21,7 +21,8 @@ pub fn say_detail(
     detail: &Detail<'_>,
 ) -> Result<(), AllocError> {
     if let Event::Refused { status, .. } = event {
-        return write!(text, "REFUSED {}: {}", Stated(*status), sentence(*status));
+        let reason = detail.reason.unwrap_or(sentence(*status));
+        return write!(text, "REFUSED {}: {reason}", Stated(*status));
     }
     say(text, notes, event, detail.bytes.unwrap_or(b""))?;
     if let Some(counted) = detail.counted {

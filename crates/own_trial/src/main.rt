@@ -1,4 +1,4 @@
-//! Tries the filters of own_filter: `own_trial FILE ..` runs the scenarios of these files, and without words the one of its input.
+//! Tries the filters of own_filter: `own_trial [--json | --page] FILE ..` runs the scenarios of these files, and without a file the one of its input.
 #![tactic(auto)]
 
 use fm_trial::trial;

@@ -181,7 +181,7 @@ function note(run, told, at) {
   if (told.context && run.contexts.has(told.context)) noteContext(run.contexts.get(told.context), told, at);
   if (told.event === 'Run') run.told = told;
   if (told.event === 'Leaked') run.leaks.push({ ...told, at });
-  if (told.event === 'Told') run.mistakes.push({ told, at });
+  if (told.event === 'Told') run.mistakes.push({ told, at, before: run.mistakes.filter((one) => one.at === at && one.told.instance === told.instance).length });
   if (told.event === 'End') run.end = told;
   if (told.operation && run.operations.has(told.operation)) run.operations.get(told.operation).stops.push(told);
   if (isTrouble(told)) run.trouble.push(told);
@@ -453,13 +453,13 @@ function drawLeak(svg, run, leak) {
   drawHit(svg, leak, x, instance.y);
 }
 
-// What is told of a callback stands above its lane, and what no instance did above all.
-function drawTold(svg, run, { told, at }) {
+// What is told of a callback stands above its lane, and what no instance did above all. Of several at one place the first has its number beside it.
+function drawTold(svg, run, { told, at, before }) {
   const instance = run.instances.get(told.instance), kind = told.telling === 'limit' ? ' limit' : '';
-  const x = xOf(at), y = instance && instance.y !== undefined ? instance.y - 9 : 20;
+  const x = xOf(at) + before * 10, y = instance && instance.y !== undefined ? instance.y - 9 : 20;
   add(svg, 'path', { class: 'told' + kind, d: 'M' + x + ' ' + y + 'l7 -12h-14z' });
   add(svg, 'path', { class: 'told-stroke', d: 'M' + x + ' ' + (y - 11) + 'v4m0 2v1.5' });
-  add(svg, 'text', { class: kind ? 'limit-text' : 'bad-text', x: x + 8, y: y - 4 }, told.id);
+  if (before === 0) add(svg, 'text', { class: kind ? 'limit-text' : 'bad-text', x: x + 8, y: y - 13 }, told.id);
   const hit = add(svg, 'rect', { class: 'hit', x: x - 7, y: y - 13, width: 14, height: 13 });
   hit.told = told;
 }

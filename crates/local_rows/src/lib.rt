@@ -20,6 +20,8 @@ mod forgets;
 #[cfg(test)]
 mod memory_tests;
 #[cfg(test)]
+mod order_tests;
+#[cfg(test)]
 mod own_filter_rows;
 #[cfg(test)]
 mod report_tests;

@@ -5,10 +5,10 @@ mod contexts;
 mod log;
 mod order;
 mod plan;
-mod play;
+mod playing;
 mod recorder;
 
 pub use crate::log::Log;
 pub use crate::order::ORDER;
-pub use crate::play::{Host, Told, play};
+pub use crate::playing::{Host, Told, play};
 pub use crate::recorder::{Recorder, recorders};

@@ -13,6 +13,8 @@ mod holds;
 #[cfg(test)]
 mod in_flight;
 #[cfg(test)]
+mod order_tests;
+#[cfg(test)]
 mod put_aside;
 #[cfg(test)]
 mod same_worker;

@@ -204,8 +204,8 @@ if echo 'int main(void) { return 0; }' | cc -fsanitize=address,undefined -x c -o
     try fuzz.asan "$room/fuzz.asan" 20000 3
 fi
 
-# The tests of the explorer and of threads: their last lines have counts of their own.
-for part in explore threads; do
+# The tests of the explorer and of threads, and the lists that all managers are held to: their last lines have counts of their own.
+for part in explore threads order; do
     c/$part.sh > "$room/$part.log" 2>&1
     sed '$d' "$room/$part.log"
     counts=$(tail -n 1 "$room/$part.log")

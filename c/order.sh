@@ -17,7 +17,7 @@ for name in $(sed -n 's/^load //p' "$room"/*.list | sort -u); do
     cp c/tests/recorder.c "$room/$name.c"
     drivers="$drivers $room/$name.c"
 done
-if ! KZ_MAIN="" c/build.sh "$room/recorders" $drivers; then
+if ! c/build.sh "$room/recorders" $drivers; then
     echo "order: 0 passed, 1 failed (recorder, as it was built)"
     exit 1
 fi

@@ -1,5 +1,5 @@
 /* A filter that says what it sees, one line a callback, for the lists of crates/recorder/src/order.rt. What it answers it knows by its own name, so that c/order.sh builds it
- * under several: with and none ask for every postoperation, or for none; hold pends reads, and late never lets them go at a teardown; keep holds the postoperations of reads;
+ * under several: with and none ask for every postoperation, or for none; hold pends reads and changes of a size, and late lets only the first read go at a teardown; keep holds the postoperations of reads;
  * carry sends a context along, meter sets two; deny completes creates, and sync has reads synchronized. Its instances are named in the order in which they are set up. */
 #include <fltKernel.h>
 
@@ -84,16 +84,19 @@ static VOID Hold(PFLT_CALLBACK_DATA Data, PFLT_INSTANCE Instance)
     gHeldCount++;
 }
 
-/* Lets go on what an instance holds, the first that came first. */
-static VOID LetGo(PFLT_INSTANCE Instance, FLT_PREOP_CALLBACK_STATUS Verdict)
+/* Lets go on what an instance holds, up to so many, the first that came first. */
+static VOID LetGo(PFLT_INSTANCE Instance, FLT_PREOP_CALLBACK_STATUS Verdict, ULONG Most)
 {
     ULONG at, count = gHeldCount;
 
     gHeldCount = 0;
     for (at = 0; at < count; at++) {
-        if (gHeld[at].Instance != Instance) {
+        if (gHeld[at].Instance != Instance || Most == 0) {
             Hold(gHeld[at].Data, gHeld[at].Instance);
-        } else if (Is("keep")) {
+            continue;
+        }
+        Most--;
+        if (Is("keep")) {
             FltCompletePendedPostOperation(gHeld[at].Data);
         } else {
             FltCompletePendedPreOperation(gHeld[at].Data, Verdict, NULL);
@@ -166,8 +169,14 @@ static FLT_PREOP_CALLBACK_STATUS Pre(PFLT_CALLBACK_DATA Data, PCFLT_RELATED_OBJE
         return PreRead(Data, FltObjects, CompletionContext);
     case IRP_MJ_FLUSH_BUFFERS:
         if (Is("hold") || Is("keep") || Is("late")) {
-            LetGo(FltObjects->Instance, FLT_PREOP_SUCCESS_WITH_CALLBACK);
+            LetGo(FltObjects->Instance, FLT_PREOP_SUCCESS_WITH_CALLBACK, MOST);
             return FLT_PREOP_SUCCESS_WITH_CALLBACK;
+        }
+        break;
+    case IRP_MJ_SET_INFORMATION:
+        if (Is("hold")) {
+            Hold(Data, FltObjects->Instance);
+            return FLT_PREOP_PENDING;
         }
         break;
     case IRP_MJ_CREATE:
@@ -220,9 +229,7 @@ static VOID Start(PCFLT_RELATED_OBJECTS FltObjects, FLT_INSTANCE_TEARDOWN_FLAGS 
 {
     UNREFERENCED_PARAMETER(Reason);
     Saw("start", FltObjects);
-    if (!Is("late")) {
-        LetGo(FltObjects->Instance, FLT_PREOP_SUCCESS_NO_CALLBACK);
-    }
+    LetGo(FltObjects->Instance, FLT_PREOP_SUCCESS_NO_CALLBACK, Is("late") ? 1 : MOST);
 }
 
 static VOID Complete(PCFLT_RELATED_OBJECTS FltObjects, FLT_INSTANCE_TEARDOWN_FLAGS Reason)

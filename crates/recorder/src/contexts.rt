@@ -11,9 +11,6 @@ use fm_types::{Bytes, ContextKind, CtxId};
 use fm_world::SetAnswer;
 use std::alloc::Global;
 
-/// How many operations a filter lets go on at once.
-const MOST: usize = 16;
-
 /// The context of that kind on the callback's object, with a reference in the hand. The first callback sets it. None if a call is refused.
 pub(crate) fn set_once<P: Port>(alloc: Global, kind: ContextKind, port: &mut P) -> Option<CtxId>
     ensures far { P.kept port.new ≡ P.kept port.old }
@@ -41,19 +38,17 @@ pub(crate) fn set_and_release<P: Port>(alloc: Global, kind: ContextKind, port: &
     }
 }
 
-/// Lets all go on that the instance holds, the first by number first, those that a preoperation holds with that verdict.
-pub(crate) fn let_go<P: Port>(plan: Plan, verdict: PreVerdict, port: &mut P)
+/// Lets all go on that the instance holds, three at most, the first by number first, those that a preoperation holds with that verdict.
+pub(crate) fn let_all_go<P: Port>(plan: Plan, verdict: PreVerdict, port: &mut P)
     ensures far { P.kept port.new ≡ P.kept port.old }
 {
-    for _ in 0..MOST {
-        if !let_first_go(plan, verdict, port) {
-            return;
-        }
+    if let_first_go(plan, verdict, port) && let_first_go(plan, verdict, port) {
+        let_first_go(plan, verdict, port);
     }
 }
 
-// Lets the first go on. False where none is held.
-fn let_first_go<P: Port>(plan: Plan, verdict: PreVerdict, port: &mut P) -> bool
+/// Lets the first go on. False where none is held.
+pub(crate) fn let_first_go<P: Port>(plan: Plan, verdict: PreVerdict, port: &mut P) -> bool
     ensures far { P.kept port.new ≡ P.kept port.old }
 {
     match plan {

@@ -1,6 +1,6 @@
 //! What filters saw, in the order in which they saw it.
 
-use fm_types::{Name, Operation, Status};
+use fm_types::{ContextKind, Name, Operation, Status};
 use std::alloc::{AllocError, Global};
 use std::sync::OnceLock;
 use std::sync::atomic::{AtomicUsize, Ordering};
@@ -8,15 +8,40 @@ use std::sync::atomic::{AtomicUsize, Ordering};
 /// How many callbacks a log has room for.
 const ROOM: usize = 256;
 
+/// Which callback.
+#[derive(Clone, Copy)]
+pub(crate) enum Callback {
+    Setup,
+    Pre,
+    Post,
+    Drain,
+    Query,
+    Start,
+    Complete,
+    Cleanup,
+    Unload,
+}
+
+/// What a callback is for.
+#[derive(Clone, Copy)]
+pub(crate) enum For {
+    /// An instance, or the filter alone.
+    Itself,
+    /// An operation of that kind.
+    Operation(Operation),
+    /// A context of that kind.
+    Context(ContextKind),
+}
+
 /// One callback.
-#[derive(Clone, Copy, Debug)]
+#[derive(Clone, Copy)]
 pub(crate) struct Seen {
     /// Which one it was.
-    pub(crate) callback: &'static str,
+    pub(crate) callback: Callback,
     /// The name of the instance that it was called for, or of the filter.
     pub(crate) whose: Name,
-    /// The kind of the operation or of the context, if it is for one.
-    pub(crate) what: Option<&'static str>,
+    /// What it was for.
+    pub(crate) what: For,
 }
 
 /// What all filters of a manager saw. Callbacks of several threads may note in it; each place is written once.
@@ -67,30 +92,53 @@ impl Log {
 // Appends a line.
 fn write_seen(seen: &Seen, text: &mut String) -> Result<(), AllocError> {
     text.push_str("saw ")?;
-    text.push_str(seen.callback)?;
+    text.push_str(callback_word(seen.callback))?;
     text.push_str(" ")?;
     for byte in seen.whose.text() {
         text.push(char::from(*byte))?;
     }
-    if let Some(what) = seen.what {
-        text.push_str(" ")?;
-        text.push_str(what)?;
-    }
+    text.push_str(for_word(seen.what))?;
     text.push_str("\n")
 }
 
-/// The word of the requests for a kind of operation.
-pub(crate) fn word_of(kind: Operation) -> &'static str {
+// The host for drivers in C has the same words.
+fn callback_word(callback: Callback) -> &'static str {
+    match callback {
+        Callback::Setup => "setup",
+        Callback::Pre => "pre",
+        Callback::Post => "post",
+        Callback::Drain => "drain",
+        Callback::Query => "query",
+        Callback::Start => "start",
+        Callback::Complete => "complete",
+        Callback::Cleanup => "cleanup",
+        Callback::Unload => "unload",
+    }
+}
+
+// The word of the requests for a kind of operation, or that for a kind of context, behind a space.
+fn for_word(what: For) -> &'static str {
+    match what {
+        For::Itself => "",
+        For::Operation(kind) => operation_word(kind),
+        For::Context(ContextKind::Volume) => " volume",
+        For::Context(ContextKind::Instance) => " instance",
+        For::Context(ContextKind::Stream) => " stream",
+        For::Context(ContextKind::Handle) => " handle",
+    }
+}
+
+fn operation_word(kind: Operation) -> &'static str {
     match kind {
-        Operation::Create => "create",
-        Operation::Read => "read",
-        Operation::Write => "write",
-        Operation::QuerySize => "querysize",
-        Operation::SetSize => "setsize",
-        Operation::Flush => "flush",
-        Operation::List => "list",
-        Operation::SetDelete => "setdelete",
-        Operation::Cleanup => "cleanup",
-        Operation::Close => "close",
+        Operation::Create => " create",
+        Operation::Read => " read",
+        Operation::Write => " write",
+        Operation::QuerySize => " querysize",
+        Operation::SetSize => " setsize",
+        Operation::Flush => " flush",
+        Operation::List => " list",
+        Operation::SetDelete => " setdelete",
+        Operation::Cleanup => " cleanup",
+        Operation::Close => " close",
     }
 }

@@ -39,14 +39,14 @@ saw pre hold-1 write
 read 0 0 1
 saw pre hold-1 read
 expect held
-read 0 1 1
-saw pre hold-1 read
+setsize 0 1
+saw pre hold-1 setsize
 expect held
 flush 0
 saw pre hold-1 flush
 saw post hold-1 flush
 saw post hold-1 read
-saw post hold-1 read
+saw post hold-1 setsize
 close 0
 saw pre hold-1 cleanup
 saw pre hold-1 close
@@ -315,23 +315,46 @@ saw unload with
 expect status 0
 close 0
 
-# a detach that its own filter is in the way of
+# drained before another read goes on, and its own filter is in the way of a detach
 load late
-attach 0 0 late-1 100
+load keep
+attach 0 0 late-1 200
 saw setup late-1
+attach 1 0 keep-1 100
+saw setup keep-1
 create 0 always a
 saw pre late-1 create
+saw pre keep-1 create
+read 0 0 1
+saw pre late-1 read
+expect held
+flush 0
+saw pre late-1 flush
+saw pre keep-1 flush
+saw post keep-1 flush
+saw post late-1 flush
+saw pre keep-1 read
+saw post keep-1 read
+read 0 0 1
+saw pre late-1 read
+expect held
 read 0 0 1
 saw pre late-1 read
 expect held
 detach 0
 saw query late-1
 saw start late-1
+saw drain late-1 read
+saw pre keep-1 read
+saw post keep-1 read
 expect status 34
 detach 0
 expect status 34
 flush 0
-expect status 0
+saw pre keep-1 flush
+saw post keep-1 flush
+detach 0
+expect status 34
 unload 0
 saw unload late
 expect status 34
@@ -339,6 +362,11 @@ detach 0
 expect status 34
 unload 0
 expect status 34
+unload 1
+saw unload keep
+saw start keep-1
+saw complete keep-1
+expect status 0
 
 # a create that is denied below one filter and above another
 load with

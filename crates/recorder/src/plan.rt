@@ -10,9 +10,10 @@ pub(crate) enum Plan {
     With,
     /// Asks for none.
     Without,
-    /// Holds each read in its preoperation. A flush lets them go on, and each has a postoperation then; the start of a teardown lets them go on without.
+    /// Holds each read and each change of a size in its preoperation. A flush lets them go on, and each has a postoperation then; the start of a teardown lets
+    /// them go on without.
     Hold,
-    /// The same, but the start of a teardown lets nothing go on.
+    /// Holds each read so, but the start of a teardown lets only the first of them go on.
     Late,
     /// Holds each read in its postoperation, until a flush or the start of a teardown.
     Keep,

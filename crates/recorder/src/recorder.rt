@@ -2,8 +2,8 @@
 
 ghost use Rattle.std.specs.Prelude.{◌≡◌, ⊤};
 
-use crate::contexts::{let_go, set_and_release, set_once};
-use crate::log::{Log, Seen, word_of};
+use crate::contexts::{let_all_go, let_first_go, set_and_release, set_once};
+use crate::log::{Callback, For, Log, Seen};
 use crate::plan::Plan;
 use fm_data::{CallbackData, Completion, Params, PostVerdict, PreVerdict};
 use fm_filter::{Minifilter, Port};
@@ -44,19 +44,23 @@ pub fn recorders<'a>(alloc: Global, log: &'a Log) -> Result<Vec<(Name, Recorder<
 
 impl Recorder<'_> {
     // Notes a callback of an instance.
-    fn note<P: Port>(&self, callback: &'static str, port: &P) {
+    fn note<P: Port>(&self, callback: Callback, port: &P) {
         let Ok(about) = port.about() else {
             return;
+        };
+        let what = match about.operation {
+            Some(operation) => For::Operation(operation.kind),
+            None => For::Itself,
         };
         self.log.note(Seen {
             callback,
             whose: about.instance_name,
-            what: about.operation.map(|operation| word_of(operation.kind)),
+            what,
         });
     }
 
     // Notes a callback of the filter alone.
-    fn note_own(&self, callback: &'static str, what: Option<&'static str>) {
+    fn note_own(&self, callback: Callback, what: For) {
         self.log.note(Seen {
             callback,
             whose: self.name,
@@ -98,7 +102,7 @@ impl Recorder<'_> {
     {
         match self.plan {
             Plan::Hold | Plan::Late | Plan::Keep => {
-                let_go(self.plan, PreVerdict::WithCallback(NOTHING), port);
+                let_all_go(self.plan, PreVerdict::WithCallback(NOTHING), port);
                 PreVerdict::WithCallback(NOTHING)
             }
             _ => self.pass(),
@@ -116,7 +120,7 @@ fn release<P: Port>(completion: Completion, port: &mut P)
 }
 
 impl Minifilter for Recorder<'_> {
-    ghost use Rattle.std.specs.Prelude.{⊤};
+    ghost use Rattle.std.specs.Prelude.{⊤, true};
 
     ghost registers = { λ _. record { pre = record { 0 = 1023 }; post = record { 0 = 1023 }; contexts = record { 0 = 14 }; query = true; unload = true } };
 
@@ -153,7 +157,7 @@ impl Minifilter for Recorder<'_> {
     }
 
     fn setup<P: Port>(&self, port: &mut P) -> bool {
-        self.note("setup", port);
+        self.note(Callback::Setup, port);
         if self.plan == Plan::Meter {
             set_and_release(self.alloc, ContextKind::Instance, port);
         }
@@ -161,10 +165,11 @@ impl Minifilter for Recorder<'_> {
     }
 
     fn pre<P: Port>(&self, lent: &mut CallbackData, port: &mut P) -> PreVerdict {
-        self.note("pre", port);
+        self.note(Callback::Pre, port);
         match lent.params() {
             Params::Read { .. } => self.read(port),
             Params::Flush => self.flush(port),
+            Params::SetSize { .. } if self.plan == Plan::Hold => PreVerdict::Pending,
             Params::Create { .. } if self.plan == Plan::Deny => {
                 PreVerdict::Complete(Status::AccessDenied)
             }
@@ -178,7 +183,7 @@ impl Minifilter for Recorder<'_> {
         completion: Completion,
         port: &mut P,
     ) -> PostVerdict {
-        self.note("post", port);
+        self.note(Callback::Post, port);
         release(completion, port);
         match lent.params() {
             Params::Read { .. } if self.plan == Plan::Keep => PostVerdict::MoreProcessing,
@@ -187,39 +192,35 @@ impl Minifilter for Recorder<'_> {
     }
 
     fn drain<P: Port>(&self, completion: Completion, port: &mut P) {
-        self.note("drain", port);
+        self.note(Callback::Drain, port);
         release(completion, port);
     }
 
     fn query_teardown<P: Port>(&self, port: &mut P) -> bool {
-        self.note("query", port);
+        self.note(Callback::Query, port);
         true
     }
 
     fn teardown_start<P: Port>(&self, port: &mut P) {
-        self.note("start", port);
-        if self.plan != Plan::Late {
-            let_go(self.plan, PreVerdict::NoCallback, port);
+        self.note(Callback::Start, port);
+        if self.plan == Plan::Late {
+            let_first_go(self.plan, PreVerdict::NoCallback, port);
+        } else {
+            let_all_go(self.plan, PreVerdict::NoCallback, port);
         }
     }
 
     fn teardown_complete<P: Port>(&self, port: &mut P) {
-        self.note("complete", port);
+        self.note(Callback::Complete, port);
     }
 
     fn unload(&self) -> bool {
-        self.note_own("unload", None);
+        self.note_own(Callback::Unload, For::Itself);
         true
     }
 
     fn cleanup(&self, kind: ContextKind, _body: &[u8]) -> u64 {
-        let what = match kind {
-            ContextKind::Volume => "volume",
-            ContextKind::Instance => "instance",
-            ContextKind::Stream => "stream",
-            ContextKind::Handle => "handle",
-        };
-        self.note_own("cleanup", Some(what));
+        self.note_own(Callback::Cleanup, For::Context(kind));
         0
     }
 }

@@ -7,15 +7,16 @@ use fm_types::{Name, Status};
 use fm_wire::{Body, Control};
 use recorder::{Host, Log, ORDER, Recorder, Told, play, recorders};
 use std::alloc::Global;
+use std::sync::Arc;
 use std::test::Fail;
 
 /// A manager of recording filters.
-type Manager<'a> = LocalManager<Recorder<'a>, MemoryBase>;
+type Manager = LocalManager<Recorder, MemoryBase>;
 
 /// The manager of a list.
 #[derive(Drop)]
-struct Local<'m, 'a> {
-    manager: &'m mut Manager<'a>,
+struct Local<'m> {
+    manager: &'m mut Manager,
 }
 
 // What a call that gives nothing, or nothing that is looked at, came to.
@@ -27,7 +28,7 @@ fn told_of<T: Drop>(answer: Result<T, Status>) -> Told {
 }
 
 // Makes a request that isn't for a file system.
-fn control(manager: &mut Manager<'_>, control: Control) -> Result<Told, Status> {
+fn control(manager: &mut Manager, control: Control) -> Result<Told, Status> {
     match control {
         Control::Load { name } => Ok(told_of(manager.load(&name))),
         Control::Attach {
@@ -43,11 +44,11 @@ fn control(manager: &mut Manager<'_>, control: Control) -> Result<Told, Status> 
 }
 
 // Hands out the replies of what was held.
-fn take_finished(manager: &mut Manager<'_>) {
+fn take_finished(manager: &mut Manager) {
     while manager.finished().is_some() {}
 }
 
-impl Host for Local<'_, '_> {
+impl Host for Local<'_> {
     fn ask(&mut self, body: Body) -> Result<Told, Status> {
         let told = match body {
             Body::Operation(request) => match self.manager.answer(request) {
@@ -64,7 +65,7 @@ impl Host for Local<'_, '_> {
 
 // Takes a new manager through a list: the list as it comes out.
 fn played(alloc: Global, list: &str) -> Result<String, Status> {
-    let log = Log::new(alloc)?;
+    let log = Arc::new(alloc, Log::new(alloc)?)?;
     let mut manager = LocalManager::new(alloc, recorders(alloc, &log)?)?;
     manager.mount(Name::read(b"v0")?, MemoryBase::new(alloc))?;
     let mut local = Local {

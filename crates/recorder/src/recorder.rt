@@ -8,7 +8,9 @@ use crate::plan::Plan;
 use fm_data::{CallbackData, Completion, Params, PostVerdict, PreVerdict};
 use fm_filter::{Minifilter, Port};
 use fm_types::{ContextKind, ContextMask, Name, OpMask, Registration, Status};
+use fm_world::About;
 use std::alloc::Global;
+use std::sync::Arc;
 
 /// What a postoperation is asked for with, where no context goes along.
 const NOTHING: Completion = Completion {
@@ -17,46 +19,47 @@ const NOTHING: Completion = Completion {
 };
 
 /// Notes each of its callbacks, and answers by its plan.
-#[derive(Clone, Copy)]
-pub struct Recorder<'a> {
+#[derive(Drop)]
+pub struct Recorder {
     alloc: Global,
-    log: &'a Log,
+    log: Arc<Log>,
     name: Name,
     plan: Plan,
 }
 
 /// A recording filter of each plan, under its name, all with one log. Refused with 1.
-pub fn recorders<'a>(alloc: Global, log: &'a Log) -> Result<Vec<(Name, Recorder<'a>)>, Status> {
+pub fn recorders(alloc: Global, log: &Arc<Log>) -> Result<Vec<(Name, Recorder)>, Status> {
     let mut filters = Vec::new(alloc);
     for (name, plan) in Plan::all(alloc)? {
-        filters.push((
+        let recorder = Recorder {
+            alloc,
+            log: Arc::try_clone(log)?,
             name,
-            Recorder {
-                alloc,
-                log,
-                name,
-                plan,
-            },
-        ))?;
+            plan,
+        };
+        filters.push((name, recorder))?;
     }
     Ok(filters)
 }
 
-impl Recorder<'_> {
+// What a callback of an instance is for.
+fn what_of(about: &About) -> For {
+    match &about.operation {
+        Some(operation) => For::Operation(operation.kind),
+        None => For::Itself,
+    }
+}
+
+impl Recorder {
     // Notes a callback of an instance.
     fn note<P: Port>(&self, callback: Callback, port: &P) {
-        let Ok(about) = port.about() else {
-            return;
-        };
-        let what = match about.operation {
-            Some(operation) => For::Operation(operation.kind),
-            None => For::Itself,
-        };
-        self.log.note(Seen {
-            callback,
-            whose: about.instance_name,
-            what,
-        });
+        if let Ok(about) = port.about() {
+            self.log.note(Seen {
+                callback,
+                whose: about.instance_name,
+                what: what_of(&about),
+            });
+        }
     }
 
     // Notes a callback of the filter alone.
@@ -119,7 +122,7 @@ fn release<P: Port>(completion: Completion, port: &mut P)
     }
 }
 
-impl Minifilter for Recorder<'_> {
+impl Minifilter for Recorder {
     ghost use Rattle.std.specs.Prelude.{⊤, true};
 
     ghost registers = { λ _. record { pre = record { 0 = 1023 }; post = record { 0 = 1023 }; contexts = record { 0 = 14 }; query = true; unload = true } };

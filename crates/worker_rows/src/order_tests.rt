@@ -16,8 +16,8 @@ use fm_worker::OpenGate;
 use recorder::{Host, Log, ORDER, Recorder, Told, play, recorders};
 use std::alloc::Global;
 use std::marker::Brand;
-use std::sync::Wait;
 use std::sync::ledger::{Blank, Ledger};
+use std::sync::{Arc, Wait};
 use std::test::Fail;
 use std::time::Clock;
 
@@ -25,16 +25,16 @@ use std::time::Clock;
 const ROUNDS: u32 = 3;
 
 /// That of the client or of the worker.
-type Hand<'m, 'l, L, R> = MemoryWorker<'m, Recorder<'l>, L, R, OpenGate>;
+type Hand<'m, L, R> = MemoryWorker<'m, Recorder, L, R, OpenGate>;
 
 /// A client and a worker, and the operations that filters hold.
 #[derive(Drop)]
-struct Crew<'m, 'l, L: Ledger, R: Wait> {
+struct Crew<'m, L: Ledger, R: Wait> {
     rt: &'m R,
     alloc: Global,
-    manager: &'m Manager<Recorder<'l>, L>,
-    client: Hand<'m, 'l, L, R>,
-    worker: Hand<'m, 'l, L, R>,
+    manager: &'m Manager<Recorder, L>,
+    client: Hand<'m, L, R>,
+    worker: Hand<'m, L, R>,
     held: Vec<OpId>,
 }
 
@@ -65,7 +65,7 @@ fn take_seat(rundown: &RundownGate, seats: &mut Vec<GateSeat>) -> Option<GateSea
     seats.pop()
 }
 
-impl<L: Ledger, R: Wait + Clock> Crew<'_, '_, L, R> {
+impl<L: Ledger, R: Wait + Clock> Crew<'_, L, R> {
     // The answer of an operation, if it is done.
     fn answer_of(&self, operation: OpId) -> Result<Told, Status> {
         match self.manager.is_done(self.rt, operation) {
@@ -156,7 +156,7 @@ impl<L: Ledger, R: Wait + Clock> Crew<'_, '_, L, R> {
     }
 }
 
-impl<L: Ledger, R: Wait + Clock> Host for Crew<'_, '_, L, R> {
+impl<L: Ledger, R: Wait + Clock> Host for Crew<'_, L, R> {
     fn ask(&mut self, body: Body) -> Result<Told, Status> {
         let told = self.make(body)?;
         for _ in 0..ROUNDS {
@@ -178,7 +178,7 @@ fn played<L: Ledger, R: Wait + Clock>(
     requires parts { blank.parts ≡ L.parts }
     requires all { blank.parts ≡ 49 }
 {
-    let log = Log::new(alloc)?;
+    let log = Arc::new(alloc, Log::new(alloc)?)?;
     let manager = mounted::<_, L, R>(rt, alloc, recorders(alloc, &log)?, blank)?;
     let (queue, mut passes) = JobQueue::new(alloc, 272, 2)?;
     let gate = OpenGate;

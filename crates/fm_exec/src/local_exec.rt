@@ -2,6 +2,7 @@
 
 ghost use Rattle.std.specs.Prelude.{◌≡◌};
 ghost use Rattle.fm_exec.specs.Locals.{Answers, AnswersControl, Loads};
+ghost use Rattle.fm_local.specs.Offered.{ForgetsReport, HandsOutFirst};
 
 use crate::said::{filter_reply, instance_reply, number_reply, status_reply, unit_reply};
 use fm_base::Base;
@@ -42,13 +43,15 @@ impl<F: Minifilter, B: Base> LocalExec<F, B> {
 
     /// Forgets the steps, the leaks and the refused calls that could be read, as the manager's `forget_report`.
     pub fn forget_report(&mut self)
-        ensures { self.new ≡ record self.old { manager = record self.old.manager { desk = record self.old.manager.desk { refusals = self.new.manager.desk.refusals }; leaks = self.new.manager.leaks; trace = self.new.manager.trace } } }
+        ensures forgets { ForgetsReport self.old.manager self.new.manager }
+        ensures same { self.new.alloc ≡ self.old.alloc }
     {
         self.manager.forget_report();
     }
 
     /// The reply of an operation that was held and has ended, as the manager's `finished`.
     pub fn finished(&mut self) -> Option<(OpId, Reply)>
+        ensures first { HandsOutFirst self.old.manager result self.new.manager }
         ensures same { self.new.alloc ≡ self.old.alloc }
     {
         self.manager.finished()

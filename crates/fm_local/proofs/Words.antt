@@ -2,7 +2,7 @@
 pub use Rattle.std.specs.Prelude.{[], ⊤, ◌∷◌, ◌≡◌, ◌≤◌, ◌⊎◌, Bool, Err, List, None, Ok, Option, Result, Some, false, length, option_and_then}
 pub use Rattle.std.specs.Prelude.{slice_get, suc, true, zero, ℕ}
 pub use Rattle.fm_local.specs.Words.{Answer, BaseCall, Completion, Data, FilterId, Finished, FlowAction, FlowRecord, Folder, Instance, InstanceId}
-pub use Rattle.fm_local.specs.Words.{LocalManager, OpId, Operation, Params, PostVerdict, PreVerdict, StackWorld, Status, VolumeId, WorkerId, World}
+pub use Rattle.fm_local.specs.Words.{Parts, OpId, Operation, Params, PostVerdict, PreVerdict, StackWorld, Status, VolumeId, WorkerId, World}
 pub use Rattle.fm_local.specs.Words.{bare_answer, worker_at}
 pub use Rattle.std.proofs.Common.{◌&&◌, ◌++◌, ◌+◌, ◌<◌, ◌==◌, ◌||◌, ◌∙◌, IsOk, ap, ap₂, arith, cond, count_by, drop, eq-eqb, find, inl, inr, is_some}
 pub use Rattle.std.proofs.Common.{length-append, map, nat_lt, not, option_map, refl, subst, sym, take, true≢false, unwrap_or}
@@ -70,7 +70,7 @@ pub use Rattle.fm_local.specs.Requests.{IsAtRest, NoneStops, Tidies, under}
 pub use Rattle.fm_local.specs.Turns.{Carries, Does, Turns}
 pub use Rattle.fm_local.specs.Visits.{Visits}
 pub use Rattle.fm_filter.specs.declared.filters.Filters.{Filters}
-pub use Rattle.fm_local.specs.declared.manager.TheConstants.{WORKER}
+pub use Rattle.fm_local.specs.declared.parts.TheConstants.{WORKER}
 pub use Rattle.fm_local.specs.declared.requests.TheConstants.{RESUMPTIONS}
 pub use Rattle.fm_types.specs.declared.limits.TheConstants.{TURNS}
 pub use Rattle.fm_local.specs.declared.requests.Turn.{Turn}

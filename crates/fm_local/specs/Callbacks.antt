@@ -6,7 +6,7 @@ use Rattle.fm_local.specs.Managers.{IsQuietIn}
 use Rattle.fm_local.specs.Waits.{Wait}
 use Rattle.fm_local.specs.declared.callbacks.Consent.{Consent}
 use Rattle.fm_local.specs.declared.callbacks.News.{News}
-use Rattle.fm_local.specs.declared.local_port.Desk.{Desk}
+use Rattle.fm_local.specs.declared.local_port.Work.{Work}
 
 -- what it may answer, where it is asked
 abbrev pub consents : {F : Type 0} → (F → Bool → Type 0) → (F → Bool → Type 0) → Consent → F → Bool → Type 0
@@ -20,7 +20,7 @@ was_told started completed drained News.Complete f = completed f
 was_told started completed drained (News.Drain completion) f = drained f completion
 
 -- a quiet filter leaves all, and any one where the instances and the workers stand; and those that wait do so still
-pub record CallsOnly {F : Type 0} (is_quiet : F → Type 0) (filter : Option F) (old new : Desk) : Type 0 where
+pub record CallsOnly {F : Type 0} (is_quiet : F → Type 0) (filter : Option F) (old new : Work) : Type 0 where
   pub quiet : IsQuietIn is_quiet filter → new ≡ old
   pub far : standing_of new.state ≡ standing_of old.state
   pub waits : (ended : List OpId) → Wait old.state.flow old.resumed.items.items ended → Wait new.state.flow new.resumed.items.items ended

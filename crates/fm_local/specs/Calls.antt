@@ -12,7 +12,7 @@ use Rattle.fm_stack.specs.declared.instance.Phase.{Phase}
 use Rattle.fm_world.specs.Events.{Registers, SetsUp}
 use Rattle.fm_world.specs.Teardowns.{QueryReturns, AsksUnload, UnloadReturns}
 use Rattle.fm_filter.specs.declared.filters.Filters.{Filters}
-use Rattle.fm_local.specs.declared.manager.LocalManager.{LocalManager}
+use Rattle.fm_local.specs.declared.parts.Parts.{Parts}
 use Rattle.fm_local.specs.Chains.{filter_in}
 use Rattle.fm_local.specs.Cleanups.{HasNoneDue}
 use Rattle.fm_filter.specs.Handed.{handed_in, numbered, place_called}
@@ -33,7 +33,7 @@ pub record Numbers {F : Type 0} (old : Filters F) (name : List ℕ) (f : FilterI
   pub others : (n : ℕ) → n ≢ f.0 → numbered new n ≡ numbered old n
 
 -- the file systems after one more is placed, if there is room for it
-abbrev pub placed : {F B : Type 0} → LocalManager F B → B → List B
+abbrev pub placed : {F B : Type 0} → Parts F B → B → List B
 placed m base = cond (nat_lt (vec_len m.bases.all) (vec_capacity m.bases.all)) (m.bases.all.items ++ base ∷ []) m.bases.all.items
 
 -- what a callback that agrees or refuses may answer, if there is one; no filter refuses

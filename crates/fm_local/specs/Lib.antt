@@ -19,3 +19,5 @@ pub mod Turns
 pub mod Visits
 pub mod Waits
 pub mod Offered
+pub mod Private
+pub mod Between

@@ -9,18 +9,18 @@ use Rattle.fm_stack.specs.declared.instance.Instance.{Instance}
 use Rattle.fm_world.specs.Owners.{place_in, row_at}
 use Rattle.fm_world.specs.Workers.{worker_at}
 use Rattle.fm_filter.specs.Hands.{InHand}
-use Rattle.fm_local.specs.declared.local_port.Desk.{Desk}
+use Rattle.fm_local.specs.declared.local_port.Work.{Work}
 
 -- the references of a worker's hand, as long as it is in a callback of an instance
 abbrev pub hand_at : World → WorkerId → InHand
 hand_at w k = option_map (λ (row : Instance). hand_of w.contexts.hands k.0) (option_and_then (row_at w.stack) (place_in (worker_at w.workers k)))
 
 -- whether there is room to note one more resumed operation
-abbrev pub has_room : Desk → Bool
-has_room desk = not (nat_le (deque_capacity desk.resumed.items) (length desk.resumed.items.items))
+abbrev pub has_room : Work → Bool
+has_room work = not (nat_le (deque_capacity work.resumed.items) (length work.resumed.items.items))
 
 -- an event, by which nothing that waits to be carried on changes
-abbrev pub OnState : (World → World → Type 0) → Desk → Desk → Type 0
+abbrev pub OnState : (World → World → Type 0) → Work → Work → Type 0
 OnState Event old new = Event old.state new.state × (new.resumed ≡ old.resumed)
 
 -- what waits after a resumption: that operation behind the others
@@ -29,10 +29,10 @@ queued o (Ok done) waiting = waiting ++ o ∷ []
 queued o (Err why) waiting = waiting
 
 -- refused where there is no room, and else the event
-abbrev pub ResumesPreIn : Desk → WorkerId → OpId → PreVerdict → Result (Unit {0}) Status → Desk → Type 0
+abbrev pub ResumesPreIn : Work → WorkerId → OpId → PreVerdict → Result (Unit {0}) Status → Work → Type 0
 ResumesPreIn old k o verdict result new =
     Unless TooMany (has_room old) result old.state new.state (ResumesPre old.state k o verdict result new.state) × (new.resumed.items.items ≡ queued o result old.resumed.items.items)
 
-abbrev pub ResumesPostIn : Desk → WorkerId → OpId → Result (Unit {0}) Status → Desk → Type 0
+abbrev pub ResumesPostIn : Work → WorkerId → OpId → Result (Unit {0}) Status → Work → Type 0
 ResumesPostIn old k o result new =
     Unless TooMany (has_room old) result old.state new.state (ResumesPost old.state k o result new.state) × (new.resumed.items.items ≡ queued o result old.resumed.items.items)

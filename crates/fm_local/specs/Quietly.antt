@@ -1,8 +1,10 @@
 -- What a manager's calls make of its state where its filters are plain: the events that they name, one after the other, with cleanups and nothing else
 -- in between; and that the manager is ready again.
 use Rattle.std.specs.Prelude.{[], ◌≡◌, ◌⊎◌, Bool, Err, IsErr, List, Ok, Option, Result, false, length, slice_get, suc, true, zero, ℕ, IsOk}
+use Rattle.fm_filter.specs.declared.minifilter.Minifilter as filter
+use Rattle.fm_base.specs.declared.base.Base as base
 use Rattle.fm_local.specs.Words.{Data, Completion, PostVerdict, PreVerdict, Folder, Finishes, Attaches, AsksDetach, CompletesTeardown, EmptiesFilter}
-use Rattle.fm_local.specs.Words.{FinishesFilter, StartsTeardown, FilterId, InstanceId, StackWorld, Status, VolumeId, WorkerId, World, LocalManager}
+use Rattle.fm_local.specs.Words.{FinishesFilter, StartsTeardown, FilterId, InstanceId, StackWorld, Status, VolumeId, WorkerId, World, Parts}
 use Rattle.fm_stack.specs.Detaching.{is_to_complete}
 use Rattle.fm_stack.specs.Instances.{passes}
 use Rattle.fm_world.specs.Events.{is_stopping_row}
@@ -91,22 +93,21 @@ module _ (k : WorkerId) (f : FilterId) where
 -- ---- of a manager
 
 -- the bases and the filters are as before, and nothing waits that was resumed
-pub record IsSettled {F B : Type 0} (old new : LocalManager F B) : Type 0 where
+pub record IsSettled {F B : Type 0} (old new : Parts F B) : Type 0 where
   pub bases : new.bases ≡ old.bases
   pub filters : new.filters ≡ old.filters
-  pub settled : new.desk.resumed.items.items ≡ []
+  pub settled : new.work.resumed.items.items ≡ []
 
 -- a teardown starts, and that is all
-pub record StartsAlone {F B : Type 0} (k : WorkerId) (i : InstanceId) (old new : LocalManager F B) : Type 0 where
+pub record StartsAlone {F B : Type 0} (k : WorkerId) (i : InstanceId) (old new : Parts F B) : Type 0 where
   pub started : World
-  pub starts : StartsTeardown old.desk.state k i (Ok tt) started
-  pub returns : StartReturns started k (Ok tt) new.desk.state
+  pub starts : StartsTeardown old.work.state k i (Ok tt) started
+  pub returns : StartReturns started k (Ok tt) new.work.state
   pub bases : new.bases ≡ old.bases
   pub filters : new.filters ≡ old.filters
-  pub resumed : new.desk.resumed ≡ old.desk.resumed
+  pub resumed : new.work.resumed ≡ old.work.resumed
 
 -- and the manager is ready again
-pub record LeavesReady {F B : Type 0} (pre : F → Data → PreVerdict → Data → Type 0) (post : F → Data → Completion → PostVerdict → Data → Type 0) (is_quiet : F → Type 0)
-    (folder : B → Option Folder) (faults : B → ℕ) (k : WorkerId) (old new : LocalManager F B) : Type 0 where
+pub record LeavesReady {F B : Type 0} (own : filter.Ghosts F) (below : base.Ghosts B) (k : WorkerId) (old new : Parts F B) : Type 0 where
   pub settles : IsSettled old new
-  pub ready : IsReady pre post is_quiet folder faults k new
+  pub ready : IsReady own below k new

@@ -1,7 +1,7 @@
 -- Operations that wait: those that were resumed, to be carried on, and those that ended, to be handed out.
 use Rattle.std.specs.Prelude.{[], ⊤, ◌∷◌, ◌≡◌, ◌==◌, ◌&&◌, All, Bool, List, None, Ok, Option, Result, Some, cond, false, filter, map, not, true, ℕ}
 use Rattle.std.specs.List.{list_any}
-use Rattle.fm_local.specs.Words.{Answer, FlowAction, FlowRecord, LocalManager, OpId, Operation, Status, WorkerId, World}
+use Rattle.fm_local.specs.Words.{Answer, FlowAction, FlowRecord, Parts, OpId, Operation, Status, WorkerId, World}
 use Rattle.fm_filter.specs.Standing.{Shape, Standing, shape_of}
 use Rattle.fm_flow.specs.declared.stage.Stage.{Stage}
 use Rattle.fm_flow.specs.declared.stage.Stage.TheVariants.{Ascending, Descending}
@@ -88,19 +88,19 @@ standing_with resumed w = record { stack = w.stack; workers = w.workers; operati
 
 -- ---- of a manager
 
-abbrev pub Waiting : {F B : Type 0} → LocalManager F B → Type 0
-Waiting m = Wait m.desk.state.flow m.desk.resumed.items.items m.finished.items.items
+abbrev pub Waiting : {F B : Type 0} → Parts F B → Type 0
+Waiting m = Wait m.work.state.flow m.work.resumed.items.items m.finished.items.items
 
 -- where that was so it is so again
-abbrev pub StaysWaiting : {F B : Type 0} → LocalManager F B → LocalManager F B → Type 0
+abbrev pub StaysWaiting : {F B : Type 0} → Parts F B → Parts F B → Type 0
 StaysWaiting old new = Waiting old → Waiting new
 
 -- an operation neither is to go on nor has its answer handed out later
-abbrev pub IsApart : {F B : Type 0} → OpId → LocalManager F B → Type 0
-IsApart o m = (is_among o m.desk.resumed.items.items ≡ false) × (is_among o m.finished.items.items ≡ false)
+abbrev pub IsApart : {F B : Type 0} → OpId → Parts F B → Type 0
+IsApart o m = (is_among o m.work.resumed.items.items ≡ false) × (is_among o m.finished.items.items ≡ false)
 
 -- so it is again
-abbrev pub StaysApart : {F B : Type 0} → OpId → LocalManager F B → LocalManager F B → Type 0
+abbrev pub StaysApart : {F B : Type 0} → OpId → Parts F B → Parts F B → Type 0
 StaysApart o old new = Waiting old → IsApart o old → Waiting new × IsApart o new
 
 -- the worker is inside the callback of an operation that it was given
@@ -113,7 +113,7 @@ IsGiven k o _ w = ⊤
 -- ---- handed out
 
 -- of those that ended the first is handed out, with the answer that the state has for it, and waits no more; where none waits nothing changes
-abbrev pub HandsOut : {F B : Type 0} → List OpId → LocalManager F B → Option (OpId × Reply) → LocalManager F B → Type 0
-HandsOut [] old said new = (said ≡ None) × (new.desk ≡ old.desk) × (new.finished.items.items ≡ [])
+abbrev pub HandsOut : {F B : Type 0} → List OpId → Parts F B → Option (OpId × Reply) → Parts F B → Type 0
+HandsOut [] old said new = (said ≡ None) × (new.work ≡ old.work) × (new.finished.items.items ≡ [])
 HandsOut (o ∷ ended) old said new =
-    (answer : Answer) × (said ≡ Some (o, replied answer)) × Collects old.desk.state o (Ok answer) new.desk.state × (new.finished.items.items ≡ ended)
+    (answer : Answer) × (said ≡ Some (o, replied answer)) × Collects old.work.state o (Ok answer) new.work.state × (new.finished.items.items ≡ ended)

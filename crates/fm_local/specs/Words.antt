@@ -14,4 +14,4 @@ pub use Rattle.fm_world.specs.Words.{Answer, FilterId, FlowAction, FlowRecord, I
 pub use Rattle.fm_world.specs.Words.{VolumeId, WorkerId}
 pub use Rattle.fm_world.specs.Workers.{worker_at}
 pub use Rattle.fm_world.specs.World.{World}
-pub use Rattle.fm_local.specs.declared.manager.LocalManager.{LocalManager}
+pub use Rattle.fm_local.specs.declared.parts.Parts.{Parts}

@@ -1,13 +1,13 @@
 //! The laws of folds, as functions that promise them and do nothing.
 
 ghost use Rattle.fm_device.specs.Bases.{BasesCarry};
+ghost use Rattle.fm_world.specs.Words.{WorkerId};
 ghost use Rattle.fm_local.specs.Actions.{RepliesAreFolds};
 ghost use Rattle.fm_local.specs.Functions.{OneFold};
 ghost use Rattle.fm_local.specs.Requests.{CarriedAreFolds, CarriedIsFold};
 ghost use Rattle.fm_local.specs.Shifts.{ShiftRound};
 ghost use Rattle.fm_local.specs.Visits.{OneWay};
 ghost use Rattle.fm_local.specs.Waits.{EndedLasts};
-ghost use Rattle.fm_world.specs.Words.{WorkerId};
 
 use fm_base::Base;
 use fm_device::Device;
@@ -39,7 +39,7 @@ pub fn carried_are_folds<F: Minifilter, B: Base>()
 /// Requests that a manager which is ready is asked one after the other: all replies are those of the folds of its filters over its file systems, these and the
 /// open handles are left as the folds say, and the manager is ready again; none is ever held. It does nothing.
 pub fn replies_are_folds<F: Minifilter, B: Base>()
-    ensures { (k : WorkerId) → RepliesAreFolds F.pre_may F.post_may F.is_quiet B.folder B.faults k }
+    ensures { (k : WorkerId) → RepliesAreFolds F.Minifilter B.Base k }
 {}
 
 /// A write and a later read of the same range, through the same instances, all of them of the filter shift, both answered with success,

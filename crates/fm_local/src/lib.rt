@@ -8,6 +8,7 @@ pub mod laws;
 mod leak;
 mod local_port;
 mod manager;
+mod parts;
 mod refusal;
 mod requests;
 mod teardowns;

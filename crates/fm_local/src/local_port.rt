@@ -6,7 +6,7 @@ ghost use Rattle.fm_local.specs.Ports.{ResumesPostIn, ResumesPreIn, hand_at};
 ghost use Rattle.fm_local.specs.Waits.{standing_with};
 
 use crate::bounded::Bounded;
-use crate::manager::WORKER;
+use crate::parts::WORKER;
 use crate::refusal::{PortCall, Refusal};
 use fm_core::{About, Hold, Place, SetAnswer, SetMode, State};
 use fm_data::PreVerdict;
@@ -17,13 +17,13 @@ use fm_types::{Bytes, ContextKind, CtxId, OpId, Status};
 /// event of the state, for the worker of the manager. What a callback resumes is noted, so that the manager carries it on afterwards, and so is each call that
 /// is refused.
 #[derive(Drop)]
-pub(crate) struct Desk {
+pub(crate) struct Work {
     pub(crate) state: State,
     pub(crate) resumed: Bounded<OpId>,
     pub(crate) refusals: Bounded<Refusal>,
 }
 
-impl Desk {
+impl Work {
     // Notes a call that was refused.
     fn note(&mut self, call: PortCall, status: Status)
         ensures state { self.new.state ≡ self.old.state }
@@ -80,16 +80,16 @@ impl Desk {
     }
 }
 
-impl Port for Desk {
+impl Port for Work {
     ghost use Rattle.std.specs.Prelude.{Some};
     ghost use Rattle.fm_world.specs.ContextEvents.{Allocates, Sets, Gets, Deletes, References, Releases, ReadsBody, WritesBody, Bumps};
     ghost use Rattle.fm_world.specs.About.{Tells};
     ghost use Rattle.fm_world.specs.Events.{FindsHeld};
     ghost use Rattle.fm_local.specs.Waits.{standing_with};
     ghost use Rattle.fm_local.specs.Ports.{OnState, ResumesPreIn, ResumesPostIn, hand_at};
-    ghost use Rattle.fm_local.specs.declared.manager.TheConstants.{WORKER};
+    ghost use Rattle.fm_local.specs.declared.parts.TheConstants.{WORKER};
 
-    ghost tells = { λ desk result. Tells desk.state WORKER result };
+    ghost tells = { λ work result. Tells work.state WORKER result };
 
     ghost allocates = { λ old kind body result new. OnState (λ before after. Allocates before WORKER kind body result after) old new };
 
@@ -115,22 +115,22 @@ impl Port for Desk {
 
     ghost resumes_post = { λ old operation result new. ResumesPostIn old WORKER operation result new };
 
-    ghost hand = { λ desk. hand_at desk.state WORKER };
+    ghost hand = { λ work. hand_at work.state WORKER };
 
-    ghost kept = { λ desk. record { worker = WORKER; standing = Some (standing_with desk.resumed.items.items desk.state) } };
+    ghost kept = { λ work. record { worker = WORKER; standing = Some (standing_with work.resumed.items.items work.state) } };
 
     fn about(&self) -> Result<About, Status> {
         self.state.about(WORKER)
     }
 
-    #[tactic(auto, using(crate::proofs::Standing::allocate_stands, crate::proofs::InHand::allocate_hand))]
+    #[tactic(auto, using(crate::proofs::queues::Standing::allocate_stands, crate::proofs::queues::Hands::allocate_hand))]
     fn allocate(&mut self, kind: ContextKind, body: Bytes) -> Result<CtxId, Status> {
         self.state.laws();
         let answer = self.state.allocate(WORKER, kind, body);
         self.answered(PortCall::Allocate(kind), answer)
     }
 
-    #[tactic(auto, using(crate::proofs::Standing::set_stands, crate::proofs::InHand::set_hand))]
+    #[tactic(auto, using(crate::proofs::queues::Standing::set_stands, crate::proofs::queues::Hands::set_hand))]
     fn set(&mut self, context: CtxId, mode: SetMode, wants_old: bool) -> SetAnswer {
         self.state.laws();
         let answer = self.state.set(WORKER, context, mode, wants_old);
@@ -140,35 +140,35 @@ impl Port for Desk {
         answer
     }
 
-    #[tactic(auto, using(crate::proofs::Standing::get_stands, crate::proofs::InHand::get_hand))]
+    #[tactic(auto, using(crate::proofs::queues::Standing::get_stands, crate::proofs::queues::Hands::get_hand))]
     fn get(&mut self, kind: ContextKind) -> Result<CtxId, Status> {
         self.state.laws();
         let answer = self.state.get(WORKER, kind);
         self.answered(PortCall::Get(kind), answer)
     }
 
-    #[tactic(auto, using(crate::proofs::Standing::delete_stands, crate::proofs::InHand::delete_hand))]
+    #[tactic(auto, using(crate::proofs::queues::Standing::delete_stands, crate::proofs::queues::Hands::delete_hand))]
     fn delete(&mut self, kind: ContextKind, wants_old: bool) -> Result<Option<CtxId>, Status> {
         self.state.laws();
         let answer = self.state.delete(WORKER, kind, wants_old);
         self.answered(PortCall::Delete(kind), answer)
     }
 
-    #[tactic(auto, using(crate::proofs::Standing::reference_stands, crate::proofs::InHand::reference_hand))]
+    #[tactic(auto, using(crate::proofs::queues::Standing::reference_stands, crate::proofs::queues::Hands::reference_hand))]
     fn reference(&mut self, context: CtxId) -> Result<(), Status> {
         self.state.laws();
         let answer = self.state.reference(WORKER, context);
         self.answered(PortCall::Reference(context), answer)
     }
 
-    #[tactic(auto, using(crate::proofs::Standing::release_stands, crate::proofs::InHand::release_hand))]
+    #[tactic(auto, using(crate::proofs::queues::Standing::release_stands, crate::proofs::queues::Hands::release_hand))]
     fn release(&mut self, context: CtxId) -> Result<(), Status> {
         self.state.laws();
         let answer = self.state.release(WORKER, context);
         self.answered(PortCall::Release(context), answer)
     }
 
-    #[tactic(auto, using(crate::proofs::Standing::read_stands, crate::proofs::InHand::read_hand))]
+    #[tactic(auto, using(crate::proofs::queues::Standing::read_stands, crate::proofs::queues::Hands::read_hand))]
     fn read_body(&mut self, context: CtxId) -> Result<Bytes, Status> {
         self.state.laws();
         let answer = self.state.read_body(WORKER, context);
@@ -178,21 +178,21 @@ impl Port for Desk {
         answer
     }
 
-    #[tactic(auto, using(crate::proofs::Standing::write_stands, crate::proofs::InHand::write_hand))]
+    #[tactic(auto, using(crate::proofs::queues::Standing::write_stands, crate::proofs::queues::Hands::write_hand))]
     fn write_body(&mut self, context: CtxId, bytes: &[u8]) -> Result<(), Status> {
         self.state.laws();
         let answer = self.state.write_body(WORKER, context, bytes);
         self.answered(PortCall::WriteBody(context), answer)
     }
 
-    #[tactic(auto, using(crate::proofs::Standing::bump_stands, crate::proofs::InHand::bump_hand))]
+    #[tactic(auto, using(crate::proofs::queues::Standing::bump_stands, crate::proofs::queues::Hands::bump_hand))]
     fn bump(&mut self, context: CtxId, place: u64, by: u64) -> Result<u64, Status> {
         self.state.laws();
         let answer = self.state.bump(WORKER, context, place, by);
         self.answered(PortCall::Bump(context), answer)
     }
 
-    #[tactic(auto, using(crate::proofs::Standing::held_stands, crate::proofs::InHand::find_hand))]
+    #[tactic(auto, using(crate::proofs::queues::Standing::held_stands, crate::proofs::queues::Hands::find_hand))]
     fn first_held(&mut self, hold: Hold) -> Result<Option<OpId>, Status> {
         self.state.laws();
         let answer = self.state.first_held(WORKER, hold);

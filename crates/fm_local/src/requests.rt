@@ -1,23 +1,17 @@
 //! Requests, each carried from its first callback to its reply.
 
-ghost use Rattle.std.specs.Prelude.{◌≡◌, ◌<◌, ◌≤◌, ◌++◌, ◌∷◌, ℕ, [], Ok, Result, false, length, true};
-ghost use Rattle.std.specs.VecDeque.{deque_capacity};
+ghost use Rattle.std.specs.Prelude.{◌≡◌, Ok, false};
 ghost use Rattle.fm_data.specs.declared.request.FileRequest.TheVariants as asked;
 ghost use Rattle.fm_data.specs.declared.request.Request.TheVariants as client;
-ghost use Rattle.fm_device.specs.Bases.{BasesCarry};
 ghost use Rattle.fm_flow.specs.Answered.{bare_answer};
 ghost use Rattle.fm_flow.specs.declared.action.FlowAction.TheVariants as step;
-ghost use Rattle.fm_local.specs.Actions.{Acts, AnswersIn, ArePlainFilters, CarriesIn, CarriesOn, CarriesOnAll, ClosesAfter, ClosesIn, ClosesRefused, ClosesThen, GivesFinished, GoesOn, IsBegun, IsDoneAt, IsReady, Makes, OnlyState, PerformsAlone, PerformsIn, RefusesIn, RefusesOne, RepliesWith, Requests, RequestsOne, ResumesNone, RunsAlone, RunsIn, RunsOn, Settles, TakesDone, TakesTurn, TurnsAs, WaitsAtEnd, closed_handle, ends_turn, goes_on, is_over, replied, reply_of};
-ghost use Rattle.fm_local.specs.Cleanups.{HasNoneDue, LeavesNoneDue};
-ghost use Rattle.fm_filter.specs.Handed.{numbered};
-ghost use Rattle.fm_local.specs.Offered.{AnswersAny, AnswersReady};
-ghost use Rattle.fm_local.specs.Places.{StaysOut};
-ghost use Rattle.fm_local.specs.Requests.{Tidies};
-ghost use Rattle.fm_local.specs.Turns.{Does};
-ghost use Rattle.fm_local.specs.Waits.{HandsOut, IsApart, IsEnded, IsGiven, StaysApart, StaysWaiting, Waiting};
-ghost use Rattle.fm_world.specs.Events.{BaseReturns, Collects};
+ghost use Rattle.fm_local.specs.Actions.{CarriesIn, CarriesOn, CarriesOnAll, ClosesAfter, ClosesRefused, ClosesThen, GivesFinished, OnlyState, PerformsAlone, RefusesIn, RefusesOne, RepliesWith, RequestsOne, RunsAlone, RunsOn, Settles, TakesDone, closed_handle, ends_turn, goes_on, is_over, replied};
+ghost use Rattle.fm_local.specs.Between.{StaysBetween};
+ghost use Rattle.fm_local.specs.Offered.{AnswersAny, AnswersReady, HasNoneDue, SameAround, SameFilters, StaysOut};
+ghost use Rattle.fm_local.specs.Private.{Acts, ActsApart, BaseReturns, Calls, CarriesOnOne, ClosesIn, DoneAtOnce, EndsAnswered, EndsAtOnce, GoesOn, HandsOutAnswer, Makes, PerformsIf, PerformsIn, ResumedNone, RunsIn, SameResumed, SettlesAlone, StateTraced, StaysQuiet, TakesEnded, TakesTurn, TidiesAlone, TurnsAs, TurnsOnly, WaitsFrom};
+ghost use Rattle.fm_local.specs.Waits.{HandsOut, StaysApart, StaysWaiting, Waiting};
 
-use crate::manager::{LocalManager, WORKER};
+use crate::parts::{Parts, WORKER};
 use crate::trace::Visit;
 use fm_base::Base;
 use fm_core::Action;
@@ -42,37 +36,27 @@ enum Turn {
     Done,
 }
 
-impl<F: Minifilter, B: Base> LocalManager<F, B> {
-    /// Answers a request: the operation goes down through the instances of its volume to the file system and back up. `Held` says that a filter holds it:
-    /// its reply comes from `finished`, once a callback has resumed it. Close is a cleanup, unless that began before, and then the close itself; where the
-    /// cleanup is held it is the one that `Held` names, and the request is to be made again. A request that can't begin is answered with the status of its
-    /// refusal, and changes nothing. Whatever the filters, each of their callbacks runs between the event that enters it and the one that ends it, what they
-    /// resumed goes on after the whole request, in the order of the resumptions, and what is due is cleaned up. A manager that is ready (all its filters plain, nothing under way or
-    /// being torn down) answers with the fold of its filters over its file systems, never with `Held`, and is ready again.
-    pub fn answer(&mut self, request: Request) -> Reply
+impl<F: Minifilter, B: Base> Parts<F, B> {
+    /// As `LocalManager::answer`.
+    pub(crate) fn answer(&mut self, request: Request) -> Reply
         ensures fold { AnswersReady F.Minifilter B.Base request self.old result self.new }
         ensures refused { RefusesIn request self.old result self.new }
         ensures requests { AnswersAny F.Minifilter B.Base request self.old result self.new }
-        ensures none_due { LeavesNoneDue WORKER self.old.desk.state self.new.desk.state }
-        ensures out { StaysOut WORKER self.old.desk.state self.new.desk.state }
-        ensures waits { StaysWaiting self.old self.new }
+        ensures between { StaysBetween self.old self.new }
     {
-        self.desk.state.laws();
+        self.work.state.laws();
         match closed_handle(&request) {
             Some(handle) => self.close(handle),
             None => self.perform(request),
         }
     }
 
-    /// The reply of an operation that was held, in the order in which they ended. It is never a refusal: of a manager that `new` made, whatever was called
-    /// since, each operation that waits here is done and wasn't handed out, and waits once. None where none waits, and nothing changes then.
-    pub fn finished(&mut self) -> Option<(OpId, Reply)>
+    /// As `LocalManager::finished`.
+    pub(crate) fn finished(&mut self) -> Option<(OpId, Reply)>
         ensures first { Waiting self.old → HandsOut self.old.finished.items.items self.old result self.new }
         ensures any { GivesFinished self.old result self.new }
-        ensures none_due { LeavesNoneDue WORKER self.old.desk.state self.new.desk.state }
-        ensures out { StaysOut WORKER self.old.desk.state self.new.desk.state }
-        ensures waits { StaysWaiting self.old self.new }
-        ensures kept { (self.new.filters ≡ self.old.filters) × (self.new.bases ≡ self.old.bases) × (self.new.desk.resumed ≡ self.old.desk.resumed) }
+        ensures between { StaysBetween self.old self.new }
+        ensures kept { SameAround self.old self.new }
     {
         let (operation, answer) = self.take_done()?;
         Some((operation, self.hand_out(operation, answer)))
@@ -81,10 +65,10 @@ impl<F: Minifilter, B: Base> LocalManager<F, B> {
     // The first of the operations that ended, with its answer. One without an answer, which nothing here leaves, is passed over.
     fn take_done(&mut self) -> Option<(OpId, Answer)>
         ensures takes { TakesDone self.old result self.new }
-        ensures kept { self.new ≡ record self.old { desk = record self.old.desk { state = self.new.desk.state }; finished = self.new.finished } }
+        ensures kept { TakesEnded self.old self.new }
     {
         while let Some(operation) = self.finished.take() {
-            if let Ok(answer) = self.desk.state.collect(operation) {
+            if let Ok(answer) = self.work.state.collect(operation) {
                 return Some((operation, answer));
             }
         }
@@ -93,15 +77,13 @@ impl<F: Minifilter, B: Base> LocalManager<F, B> {
 
     // A cleanup, and then the close.
     fn close(&mut self, handle: HandleId) -> Reply
-        ensures fold { IsReady F.pre_may F.post_may F.is_quiet B.folder B.faults WORKER self.old → AnswersIn F.pre_may F.post_may F.is_quiet B.folder B.faults WORKER (client.OnHandle handle asked.Close) self.old result self.new }
+        ensures fold { AnswersReady F.Minifilter B.Base (client.OnHandle handle asked.Close) self.old result self.new }
         ensures refused { RefusesIn (client.OnHandle handle asked.Close) self.old result self.new }
-        ensures requests { Requests F.pre_may F.post_may F.drained B.folder B.faults WORKER F.cleanup_may TURNS RESUMPTIONS (client.OnHandle handle asked.Close) self.old result self.new }
-        ensures none_due { LeavesNoneDue WORKER self.old.desk.state self.new.desk.state }
-        ensures out { StaysOut WORKER self.old.desk.state self.new.desk.state }
-        ensures waits { StaysWaiting self.old self.new }
+        ensures requests { AnswersAny F.Minifilter B.Base (client.OnHandle handle asked.Close) self.old result self.new }
+        ensures between { StaysBetween self.old self.new }
     {
-        self.desk.state.laws();
-        match self.desk.state.begin(Request::OnHandle {
+        self.work.state.laws();
+        match self.work.state.begin(Request::OnHandle {
             handle,
             request: FileRequest::Cleanup,
         }) {
@@ -112,11 +94,9 @@ impl<F: Minifilter, B: Base> LocalManager<F, B> {
 
     // A close whose cleanup was refused: it goes on if the cleanup began before.
     fn close_where_cleaned(&mut self, refused: Status, handle: HandleId) -> Reply
-        ensures does { IsReady F.pre_may F.post_may F.is_quiet B.folder B.faults WORKER self.old → is_over refused ≡ true → PerformsIn F.pre_may F.post_may F.is_quiet B.folder B.faults WORKER (client.OnHandle handle asked.Close) self.old result self.new }
-        ensures closes { ClosesRefused F.pre_may F.post_may F.drained B.folder B.faults WORKER F.cleanup_may TURNS RESUMPTIONS (is_over refused) refused handle self.old result self.new }
-        ensures none_due { LeavesNoneDue WORKER self.old.desk.state self.new.desk.state }
-        ensures out { StaysOut WORKER self.old.desk.state self.new.desk.state }
-        ensures waits { StaysWaiting self.old self.new }
+        ensures does { PerformsIf F.Minifilter B.Base (is_over refused) (client.OnHandle handle asked.Close) self.old result self.new }
+        ensures closes { ClosesRefused F.Minifilter B.Base WORKER TURNS RESUMPTIONS (is_over refused) refused handle self.old result self.new }
+        ensures between { StaysBetween self.old self.new }
     {
         if !is_over(refused) {
             return self.refusal(refused);
@@ -129,11 +109,11 @@ impl<F: Minifilter, B: Base> LocalManager<F, B> {
 
     // A close after its cleanup, which has begun. What callbacks of both resumed goes on after both.
     fn close_after(&mut self, cleanup: OpId, handle: HandleId) -> Reply
-        ensures does { ArePlainFilters F.pre_may F.post_may F.is_quiet (numbered self.old.filters) → IsBegun WORKER cleanup self.old.desk.state → self.old.desk.resumed.items.items ≡ [] → ClosesIn F.pre_may F.post_may F.is_quiet B.folder B.faults WORKER cleanup handle self.old result self.new }
-        ensures closes { ClosesAfter F.pre_may F.post_may F.drained B.folder B.faults WORKER F.cleanup_may TURNS RESUMPTIONS cleanup handle self.old result self.new }
-        ensures none_due { HasNoneDue WORKER self.new.desk.state }
-        ensures out { StaysOut WORKER self.old.desk.state self.new.desk.state }
-        ensures waits { Waiting self.old → IsApart cleanup self.old → Waiting self.new }
+        ensures does { ClosesIn F.Minifilter B.Base cleanup handle self.old result self.new }
+        ensures closes { ClosesAfter F.Minifilter B.Base WORKER TURNS RESUMPTIONS cleanup handle self.old result self.new }
+        ensures none_due { HasNoneDue self.new }
+        ensures out { StaysOut self.old self.new }
+        ensures waits { WaitsFrom cleanup self.old self.new }
     {
         let cleaned = self.run_alone(cleanup);
         let reply = self.then_close(cleaned, handle);
@@ -144,9 +124,9 @@ impl<F: Minifilter, B: Base> LocalManager<F, B> {
     // The close, unless its cleanup was answered so that it ends there.
     fn then_close(&mut self, cleaned: Reply, handle: HandleId) -> Reply
         ensures stops { goes_on cleaned ≡ false → (result ≡ cleaned) × (self.new ≡ self.old) }
-        ensures does { IsReady F.pre_may F.post_may F.is_quiet B.folder B.faults WORKER self.old → goes_on cleaned ≡ true → PerformsIn F.pre_may F.post_may F.is_quiet B.folder B.faults WORKER (client.OnHandle handle asked.Close) self.old result self.new }
-        ensures closes { ClosesThen F.pre_may F.post_may F.drained B.folder B.faults WORKER TURNS (goes_on cleaned) handle self.old cleaned result self.new }
-        ensures out { StaysOut WORKER self.old.desk.state self.new.desk.state }
+        ensures does { PerformsIf F.Minifilter B.Base (goes_on cleaned) (client.OnHandle handle asked.Close) self.old result self.new }
+        ensures closes { ClosesThen F.Minifilter B.Base WORKER TURNS (goes_on cleaned) handle self.old cleaned result self.new }
+        ensures out { StaysOut self.old self.new }
         ensures waits { StaysWaiting self.old self.new }
     {
         if !goes_on(&cleaned) {
@@ -160,13 +140,13 @@ impl<F: Minifilter, B: Base> LocalManager<F, B> {
 
     // One operation, from its beginning to its reply. What its callbacks resumed waits.
     fn perform_alone(&mut self, request: Request) -> Reply
-        ensures does { IsReady F.pre_may F.post_may F.is_quiet B.folder B.faults WORKER self.old → PerformsIn F.pre_may F.post_may F.is_quiet B.folder B.faults WORKER request self.old result self.new }
-        ensures performs { PerformsAlone F.pre_may F.post_may F.drained B.folder B.faults WORKER TURNS request self.old result self.new }
-        ensures out { StaysOut WORKER self.old.desk.state self.new.desk.state }
+        ensures does { PerformsIn F.Minifilter B.Base request self.old result self.new }
+        ensures performs { PerformsAlone F.Minifilter B.Base WORKER TURNS request self.old result self.new }
+        ensures out { StaysOut self.old self.new }
         ensures waits { StaysWaiting self.old self.new }
     {
-        self.desk.state.laws();
-        match self.desk.state.begin(request) {
+        self.work.state.laws();
+        match self.work.state.begin(request) {
             Ok(operation) => self.run_alone(operation),
             Err(status) => self.refusal(status),
         }
@@ -174,15 +154,13 @@ impl<F: Minifilter, B: Base> LocalManager<F, B> {
 
     // One operation, from its beginning to its reply, with all that its callbacks resumed.
     fn perform(&mut self, request: Request) -> Reply
-        ensures does { IsReady F.pre_may F.post_may F.is_quiet B.folder B.faults WORKER self.old → PerformsIn F.pre_may F.post_may F.is_quiet B.folder B.faults WORKER request self.old result self.new }
+        ensures does { PerformsIn F.Minifilter B.Base request self.old result self.new }
         ensures refused { RefusesOne request self.old result self.new }
-        ensures requests { RequestsOne F.pre_may F.post_may F.drained B.folder B.faults WORKER F.cleanup_may TURNS RESUMPTIONS request self.old result self.new }
-        ensures none_due { LeavesNoneDue WORKER self.old.desk.state self.new.desk.state }
-        ensures out { StaysOut WORKER self.old.desk.state self.new.desk.state }
-        ensures waits { StaysWaiting self.old self.new }
+        ensures requests { RequestsOne F.Minifilter B.Base WORKER TURNS RESUMPTIONS request self.old result self.new }
+        ensures between { StaysBetween self.old self.new }
     {
-        self.desk.state.laws();
-        match self.desk.state.begin(request) {
+        self.work.state.laws();
+        match self.work.state.begin(request) {
             Ok(operation) => self.run(operation),
             Err(status) => self.refusal(status),
         }
@@ -190,11 +168,11 @@ impl<F: Minifilter, B: Base> LocalManager<F, B> {
 
     // An operation that began, to its reply, with all that its callbacks resumed.
     fn run(&mut self, operation: OpId) -> Reply
-        ensures runs { ArePlainFilters F.pre_may F.post_may F.is_quiet (numbered self.old.filters) → IsBegun WORKER operation self.old.desk.state → self.old.desk.resumed.items.items ≡ [] → RunsIn F.pre_may F.post_may F.is_quiet B.folder B.faults WORKER operation self.old result self.new }
-        ensures goes { RunsOn F.pre_may F.post_may F.drained B.folder B.faults WORKER F.cleanup_may TURNS RESUMPTIONS operation self.old result self.new }
-        ensures none_due { HasNoneDue WORKER self.new.desk.state }
-        ensures out { StaysOut WORKER self.old.desk.state self.new.desk.state }
-        ensures waits { Waiting self.old → IsApart operation self.old → Waiting self.new }
+        ensures runs { RunsIn F.Minifilter B.Base operation self.old result self.new }
+        ensures goes { RunsOn F.Minifilter B.Base WORKER TURNS RESUMPTIONS operation self.old result self.new }
+        ensures none_due { HasNoneDue self.new }
+        ensures out { StaysOut self.old self.new }
+        ensures waits { WaitsFrom operation self.old self.new }
     {
         let reply = self.run_alone(operation);
         self.settle();
@@ -203,9 +181,9 @@ impl<F: Minifilter, B: Base> LocalManager<F, B> {
 
     // The same without what its callbacks resumed.
     fn run_alone(&mut self, operation: OpId) -> Reply
-        ensures runs { ArePlainFilters F.pre_may F.post_may F.is_quiet (numbered self.old.filters) → IsBegun WORKER operation self.old.desk.state → self.old.desk.resumed.items.items ≡ [] → RunsIn F.pre_may F.post_may F.is_quiet B.folder B.faults WORKER operation self.old result self.new }
-        ensures goes { RunsAlone F.pre_may F.post_may F.drained B.folder B.faults WORKER TURNS operation self.old result self.new }
-        ensures out { StaysOut WORKER self.old.desk.state self.new.desk.state }
+        ensures runs { RunsIn F.Minifilter B.Base operation self.old result self.new }
+        ensures goes { RunsAlone F.Minifilter B.Base WORKER TURNS operation self.old result self.new }
+        ensures out { StaysOut self.old self.new }
         ensures waits { StaysApart operation self.old self.new }
     {
         let ended = self.carry(operation);
@@ -214,10 +192,10 @@ impl<F: Minifilter, B: Base> LocalManager<F, B> {
 
     // The answer of an operation whose turns ended so.
     fn reply_after(&mut self, operation: OpId, ended: Turn) -> Reply
-        ensures answer { ended ≡ Turn.Done → (collected : Result Answer Status) × Collects self.old.desk.state operation collected self.new.desk.state × (result ≡ reply_of collected) }
+        ensures answer { ended ≡ Turn.Done → HandsOutAnswer operation self.old result self.new }
         ensures replies { RepliesWith ended operation self.old result self.new }
-        ensures kept { self.new ≡ record self.old { desk = record self.old.desk { state = self.new.desk.state }; trace = self.new.trace } }
-        ensures out { StaysOut WORKER self.old.desk.state self.new.desk.state }
+        ensures kept { StateTraced self.old self.new }
+        ensures out { StaysOut self.old self.new }
         ensures waits { StaysApart operation self.old self.new }
     {
         match ended {
@@ -239,12 +217,12 @@ impl<F: Minifilter, B: Base> LocalManager<F, B> {
 
     // Hands out the answer of a done operation.
     fn reply(&mut self, operation: OpId) -> Reply
-        ensures answer { (collected : Result Answer Status) × Collects self.old.desk.state operation collected self.new.desk.state × (result ≡ reply_of collected) }
-        ensures kept { self.new ≡ record self.old { desk = record self.old.desk { state = self.new.desk.state }; trace = self.new.trace } }
-        ensures out { StaysOut WORKER self.old.desk.state self.new.desk.state }
+        ensures answer { HandsOutAnswer operation self.old result self.new }
+        ensures kept { StateTraced self.old self.new }
+        ensures out { StaysOut self.old self.new }
         ensures waits { StaysApart operation self.old self.new }
     {
-        match self.desk.state.collect(operation) {
+        match self.work.state.collect(operation) {
             Ok(answer) => self.hand_out(operation, answer),
             Err(status) => self.refusal(status),
         }
@@ -270,14 +248,14 @@ impl<F: Minifilter, B: Base> LocalManager<F, B> {
 
     // Turn after turn of an operation, until it is done or held.
     fn carry(&mut self, operation: OpId) -> Turn
-        ensures carried { CarriesIn F.pre_may F.post_may F.is_quiet B.folder B.faults WORKER operation self.old result self.new }
-        ensures quiet { ResumesNone F.pre_may F.post_may F.is_quiet B.folder B.faults WORKER self.old self.new }
-        ensures kept { self.new ≡ record self.old { desk = self.new.desk; bases = self.new.bases; trace = self.new.trace; hand = self.new.hand; leaks = self.new.leaks } }
-        ensures at_once { IsDoneAt WORKER operation self.old.desk.state → (result ≡ Turn.Done) × (self.new ≡ self.old) }
-        ensures goes { GoesOn F.pre_may F.post_may F.drained (BasesCarry B.folder B.faults) (numbered self.old.filters) WORKER operation TURNS result self.old.desk.state self.old.bases.all.items self.new.desk.state self.new.bases.all.items }
-        ensures out { StaysOut WORKER self.old.desk.state self.new.desk.state }
+        ensures carried { CarriesIn F.Minifilter B.Base WORKER operation self.old result self.new }
+        ensures quiet { StaysQuiet F.Minifilter self.old self.new }
+        ensures kept { TurnsOnly self.old self.new }
+        ensures at_once { DoneAtOnce operation self.old result self.new }
+        ensures goes { GoesOn F.Minifilter B.Base operation self.old result self.new }
+        ensures out { StaysOut self.old self.new }
         ensures waits { StaysApart operation self.old self.new }
-        ensures ended { result ≡ Turn.Done → IsEnded self.new.desk.state.flow operation }
+        ensures ended { EndsAnswered operation result self.new }
     {
         for _made in 0..TURNS {
             match self.turn(operation) {
@@ -290,29 +268,29 @@ impl<F: Minifilter, B: Base> LocalManager<F, B> {
 
     // What is next for an operation, done.
     fn turn(&mut self, operation: OpId) -> Turn
-        ensures turned { ArePlainFilters F.pre_may F.post_may F.is_quiet (numbered self.old.filters) → TurnsAs F.pre_may F.post_may (BasesCarry B.folder B.faults) (numbered self.old.filters) WORKER operation self.old.desk.state self.old.bases.all.items result self.new.desk.state self.new.bases.all.items }
-        ensures quiet { ArePlainFilters F.pre_may F.post_may F.is_quiet (numbered self.old.filters) → self.new.desk.resumed ≡ self.old.desk.resumed }
-        ensures kept { self.new ≡ record self.old { desk = self.new.desk; bases = self.new.bases; trace = self.new.trace; hand = self.new.hand; leaks = self.new.leaks } }
-        ensures at_once { IsDoneAt WORKER operation self.old.desk.state → (result ≡ Turn.Done) × (self.new ≡ self.old) }
-        ensures takes { TakesTurn F.pre_may F.post_may F.drained (BasesCarry B.folder B.faults) (numbered self.old.filters) WORKER operation result self.old.desk.state self.old.bases.all.items self.new.desk.state self.new.bases.all.items }
-        ensures out { StaysOut WORKER self.old.desk.state self.new.desk.state }
+        ensures turned { TurnsAs F.Minifilter B.Base operation self.old result self.new }
+        ensures quiet { StaysQuiet F.Minifilter self.old self.new }
+        ensures kept { TurnsOnly self.old self.new }
+        ensures at_once { DoneAtOnce operation self.old result self.new }
+        ensures takes { TakesTurn F.Minifilter B.Base operation self.old result self.new }
+        ensures out { StaysOut self.old self.new }
         ensures waits { StaysApart operation self.old self.new }
-        ensures ended { result ≡ Turn.Done → IsEnded self.new.desk.state.flow operation }
+        ensures ended { EndsAnswered operation result self.new }
     {
-        self.desk.state.laws();
-        let said = self.desk.state.next(WORKER, operation);
+        self.work.state.laws();
+        let said = self.work.state.next(WORKER, operation);
         self.act(operation, said)
     }
 
     // A callback, or the call of the file system.
     fn act(&mut self, operation: OpId, said: Result<Action, Status>) -> Turn
-        ensures acts { ArePlainFilters F.pre_may F.post_may F.is_quiet (numbered self.old.filters) → Acts F.pre_may F.post_may (BasesCarry B.folder B.faults) (numbered self.old.filters) WORKER operation said self.old.desk.state self.old.bases.all.items result self.new.desk.state self.new.bases.all.items }
-        ensures quiet { ArePlainFilters F.pre_may F.post_may F.is_quiet (numbered self.old.filters) → self.new.desk.resumed ≡ self.old.desk.resumed }
-        ensures kept { self.new ≡ record self.old { desk = self.new.desk; bases = self.new.bases; trace = self.new.trace; hand = self.new.hand; leaks = self.new.leaks } }
+        ensures acts { Acts F.Minifilter B.Base operation said self.old result self.new }
+        ensures quiet { StaysQuiet F.Minifilter self.old self.new }
+        ensures kept { TurnsOnly self.old self.new }
         ensures at_once { said ≡ Ok step.Done → (result ≡ Turn.Done) × (self.new ≡ self.old) }
         ensures ends { result ≡ ends_turn said }
-        ensures makes { Makes F.pre_may F.post_may F.drained (BasesCarry B.folder B.faults) (numbered self.old.filters) WORKER operation said self.old.desk.state self.old.bases.all.items self.new.desk.state self.new.bases.all.items }
-        ensures waits { IsGiven WORKER operation said self.old.desk.state → StaysApart operation self.old self.new }
+        ensures makes { Makes F.Minifilter B.Base operation said self.old self.new }
+        ensures waits { ActsApart operation said self.old self.new }
     {
         match said {
             Ok(Action::Pre(instance, data)) => {
@@ -340,9 +318,9 @@ impl<F: Minifilter, B: Base> LocalManager<F, B> {
 
     // Has the file system of the call's volume carry it out.
     fn call(&mut self, operation: OpId, call: BaseCall) -> Result<(), Status>
-        ensures does { Does F.pre_may F.post_may (BasesCarry B.folder B.faults) (numbered self.old.filters) WORKER operation (Ok (step.Base call)) self.old.desk.state self.old.bases.all.items self.new.desk.state self.new.bases.all.items }
-        ensures quiet { self.new.desk.resumed ≡ self.old.desk.resumed }
-        ensures kept { self.new ≡ record self.old { desk = self.new.desk; bases = self.new.bases; trace = self.new.trace } }
+        ensures does { Calls F.Minifilter B.Base operation call self.old self.new }
+        ensures quiet { SameResumed self.old self.new }
+        ensures kept { self.new ≡ record self.old { work = self.new.work; bases = self.new.bases; trace = self.new.trace } }
         ensures waits { StaysWaiting self.old self.new }
     {
         let answer = self.bases.call(&call);
@@ -352,12 +330,12 @@ impl<F: Minifilter, B: Base> LocalManager<F, B> {
 
     // The end of a call of the file system.
     fn end_call(&mut self, call: BaseCall, answer: Answer) -> Result<(), Status>
-        ensures event { BaseReturns self.old.desk.state WORKER call answer result self.new.desk.state }
+        ensures event { BaseReturns call answer self.old result self.new }
         ensures kept { OnlyState self.old self.new }
         ensures waits { StaysWaiting self.old self.new }
     {
-        self.desk.state.laws();
-        match self.desk.state.base_returned(WORKER, call, answer) {
+        self.work.state.laws();
+        match self.work.state.base_returned(WORKER, call, answer) {
             Ok(()) => Ok(()),
             Err(refused) => Err(refused.status),
         }
@@ -365,13 +343,13 @@ impl<F: Minifilter, B: Base> LocalManager<F, B> {
 
     /// Carries on what callbacks resumed, in the order of the resumptions, and then cleans up what is due.
     pub(crate) fn settle(&mut self)
-        ensures tidies { self.old.desk.resumed.items.items ≡ [] → Tidies self.old.desk.state self.new.desk.state }
-        ensures carries_on { (o : OpId) → WaitsAtEnd F.pre_may F.post_may F.is_quiet B.folder B.faults WORKER o self.old → self.new.finished.items.items ≡ self.old.finished.items.items ++ o ∷ [] }
-        ensures kept { self.old.desk.resumed.items.items ≡ [] → (self.new.bases ≡ self.old.bases) × (self.new.filters ≡ self.old.filters) × (self.new.desk.resumed.items.items ≡ []) }
-        ensures none_due { HasNoneDue WORKER self.new.desk.state }
-        ensures all { Settles F.pre_may F.post_may F.drained B.folder B.faults WORKER F.cleanup_may TURNS RESUMPTIONS self.old self.new }
-        ensures filters { self.new.filters ≡ self.old.filters }
-        ensures out { StaysOut WORKER self.old.desk.state self.new.desk.state }
+        ensures tidies { TidiesAlone self.old self.new }
+        ensures carries_on { CarriesOnOne F.Minifilter B.Base self.old self.new }
+        ensures kept { SettlesAlone self.old self.new }
+        ensures none_due { HasNoneDue self.new }
+        ensures all { Settles F.Minifilter B.Base WORKER TURNS RESUMPTIONS self.old self.new }
+        ensures filters { SameFilters self.old self.new }
+        ensures out { StaysOut self.old self.new }
         ensures waits { StaysWaiting self.old self.new }
     {
         self.carry_on_resumed();
@@ -380,18 +358,18 @@ impl<F: Minifilter, B: Base> LocalManager<F, B> {
 
     // Carries on what callbacks resumed, in the order of the resumptions; where they resumed nothing, nothing changes.
     fn carry_on_resumed(&mut self)
-        ensures none { self.old.desk.resumed.items.items ≡ [] → self.new ≡ self.old }
-        ensures one { (o : OpId) → WaitsAtEnd F.pre_may F.post_may F.is_quiet B.folder B.faults WORKER o self.old → self.new.finished.items.items ≡ self.old.finished.items.items ++ o ∷ [] }
-        ensures all { CarriesOnAll F.pre_may F.post_may F.drained B.folder B.faults WORKER TURNS RESUMPTIONS self.old self.new }
-        ensures filters { self.new.filters ≡ self.old.filters }
-        ensures out { StaysOut WORKER self.old.desk.state self.new.desk.state }
+        ensures none { ResumedNone self.old → self.new ≡ self.old }
+        ensures one { CarriesOnOne F.Minifilter B.Base self.old self.new }
+        ensures all { CarriesOnAll F.Minifilter B.Base WORKER TURNS RESUMPTIONS self.old self.new }
+        ensures filters { SameFilters self.old self.new }
+        ensures out { StaysOut self.old self.new }
         ensures waits { StaysWaiting self.old self.new }
     {
-        if self.desk.resumed.is_empty() {
+        if self.work.resumed.is_empty() {
             return;
         }
         for _made in 0..RESUMPTIONS {
-            match self.desk.resumed.take() {
+            match self.work.resumed.take() {
                 Some(operation) => self.carry_on(operation),
                 None => return,
             }
@@ -400,11 +378,11 @@ impl<F: Minifilter, B: Base> LocalManager<F, B> {
 
     // Carries on an operation that was resumed, and notes its end.
     fn carry_on(&mut self, operation: OpId)
-        ensures at_end { IsDoneAt WORKER operation self.old.desk.state → length self.old.finished.items.items < deque_capacity self.old.finished.items → (self.new.desk ≡ self.old.desk) × (self.new.finished.items.items ≡ self.old.finished.items.items ++ operation ∷ []) }
-        ensures goes { CarriesOn F.pre_may F.post_may F.drained B.folder B.faults WORKER TURNS operation self.old self.new }
-        ensures filters { self.new.filters ≡ self.old.filters }
-        ensures out { StaysOut WORKER self.old.desk.state self.new.desk.state }
-        ensures waits { Waiting self.old → IsApart operation self.old → Waiting self.new }
+        ensures at_end { EndsAtOnce operation self.old self.new }
+        ensures goes { CarriesOn F.Minifilter B.Base WORKER TURNS operation self.old self.new }
+        ensures filters { SameFilters self.old self.new }
+        ensures out { StaysOut self.old self.new }
+        ensures waits { WaitsFrom operation self.old self.new }
     {
         if let Turn::Done = self.carry(operation) {
             self.finished.put(operation);

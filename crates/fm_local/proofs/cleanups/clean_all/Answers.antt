@@ -1,6 +1,6 @@
 use Rattle.fm_local.proofs.Words.{numbered, WORKER}
-use Rattle.fm_local.proofs.Cleaning.{cleans_more}
-use Rattle.fm_local.proofs.Tidying.{tidies_both}
+use Rattle.fm_local.proofs.instances.Cleanups.{cleans_more}
+use Rattle.fm_local.proofs.instances.Tidiness.{tidies_both}
 use Rattle.fm_local.proofs.cleanups.clean_all.Goals as goal
 
 pub loop-preserved : goal.loop-preserved

@@ -1,5 +1,5 @@
 use Rattle.fm_local.proofs.Words.{numbered, WORKER}
-use Rattle.fm_local.proofs.Cleaning.{cleans_nothing, cleans_refused}
+use Rattle.fm_local.proofs.instances.Cleanups.{cleans_nothing, cleans_refused}
 use Rattle.fm_local.proofs.cleanups.clean_next.Goals as goal
 
 pub returns-in-Ok-None-clause-cleans : goal.returns-in-Ok-None-clause-cleans

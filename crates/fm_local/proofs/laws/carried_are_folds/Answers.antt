@@ -1,5 +1,5 @@
 use Rattle.fm_local.proofs.Words.{BasesCarry}
-use Rattle.fm_local.proofs.AllPerformed.{all_answered}
+use Rattle.fm_local.proofs.operations.RequestLists.{all_answered}
 use Rattle.fm_local.proofs.laws.carried_are_folds.Goals as goal
 
 pub returns : goal.returns

@@ -1,5 +1,5 @@
 use Rattle.fm_local.proofs.Words.{BasesCarry}
-use Rattle.fm_local.proofs.Performed.{answered}
+use Rattle.fm_local.proofs.operations.RequestFold.{answered}
 use Rattle.fm_local.proofs.laws.carried_is_fold.Goals as goal
 
 pub returns : goal.returns

@@ -1,4 +1,4 @@
-use Rattle.fm_local.proofs.OneFold.{one_fold}
+use Rattle.fm_local.proofs.operations.OneFold.{one_fold}
 use Rattle.fm_local.proofs.laws.one_fold.Goals as goal
 
 pub returns : goal.returns

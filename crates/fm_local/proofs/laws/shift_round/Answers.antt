@@ -1,4 +1,4 @@
-use Rattle.fm_local.proofs.RoundTrip.{round}
+use Rattle.fm_local.proofs.samples.RoundTrip.{round}
 use Rattle.fm_local.proofs.laws.shift_round.Goals as goal
 
 pub returns : goal.returns

@@ -1,0 +1,12 @@
+pub mod Cleanups
+pub mod Drains
+pub mod LastEvents
+pub mod Detaches
+pub mod NoneDue
+pub mod Ready
+pub mod Rest
+pub mod Tidiness
+pub mod Teardowns
+pub mod DrainCount
+pub mod Unloads
+pub mod FilterNumbers

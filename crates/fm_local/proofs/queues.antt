@@ -1,0 +1,12 @@
+pub mod Waits
+pub mod ManagerWaits
+pub mod LooseOperations
+pub mod EndedLasts
+pub mod FirstEnded
+pub mod HandedOut
+pub mod SameOperations
+pub mod OtherRecords
+pub mod Places
+pub mod Standing
+pub mod Hands
+pub mod Room

@@ -168,7 +168,7 @@ fn run_at<L: Ledger + Send + Sync, R: Threads + Wait + Clock + Sync>(
     })
 }
 
-fn run<R: Threads + Wait + Clock + Sync>(
+fn one_run<R: Threads + Wait + Clock + Sync>(
     rt: &R,
     alloc: Global,
     chooser: Chooser,
@@ -183,8 +183,8 @@ fn order_of<R: Threads + Wait + Clock + Sync>(
     alloc: Global,
     seed: u64,
 ) -> Result<Vec<Choice>, Status> {
-    let once = run(rt, alloc, Chooser::Seed(seed), 3)?;
-    let again = run(rt, alloc, Chooser::Seed(seed), 3)?;
+    let once = one_run(rt, alloc, Chooser::Seed(seed), 3)?;
+    let again = one_run(rt, alloc, Chooser::Seed(seed), 3)?;
     if !once.is_clean() || !again.is_clean() || once.counted != again.counted {
         return Err(Status::WrongStep);
     }
@@ -226,7 +226,7 @@ fn search_on<R: Threads + Wait + Clock + Sync>(
     path: Vec<usize>,
     found: &mut Found,
 ) -> Result<Option<Vec<usize>>, Status> {
-    let run = run(rt, alloc, Chooser::Path(path), 2)?;
+    let run = one_run(rt, alloc, Chooser::Path(path), 2)?;
     if !run.is_clean() {
         return Err(Status::WrongStep);
     }

@@ -134,6 +134,21 @@ fn wait_and_put<L: Ledger, R: Wait + Clock + Sync>(
     put
 }
 
+// What the client's thread does.
+fn go_beside<L: Ledger, R: Wait + Clock + Sync>(
+    rt: &R,
+    manager: &Manager<Sample, L>,
+    gate: &ScheduleGate<'_, R>,
+    client: &mut Scheduled<'_, L, R>,
+    begun: &mut Vec<OpId>,
+    beside: Beside,
+) -> Result<(), Status> {
+    match beside {
+        Beside::Detach => put_and_detach(rt, manager, gate, client, begun),
+        Beside::Read => wait_and_put(rt, manager, gate, client, begun),
+    }
+}
+
 // All three at once, and then the rest: the hands.
 fn go_and_leave<'a, L: Ledger + Send + Sync, R: Threads + Wait + Clock + Sync>(
     rt: &R,
@@ -154,10 +169,7 @@ fn go_and_leave<'a, L: Ledger + Send + Sync, R: Threads + Wait + Clock + Sync>(
     gate.expect(3);
     let (gone, _) = thread::join(
         rt,
-        || match beside {
-            Beside::Detach => put_and_detach(rt, manager, gate, &mut client, &mut begun),
-            Beside::Read => wait_and_put(rt, manager, gate, &mut client, &mut begun),
-        },
+        || go_beside(rt, manager, gate, &mut client, &mut begun, beside),
         || {
             thread::join(
                 rt,
@@ -198,7 +210,7 @@ fn run_at<L: Ledger + Send + Sync, R: Threads + Wait + Clock + Sync>(
     })
 }
 
-fn run<R: Threads + Wait + Clock + Sync>(
+fn one_run<R: Threads + Wait + Clock + Sync>(
     rt: &R,
     alloc: Global,
     seed: u64,
@@ -214,8 +226,8 @@ fn repeats<R: Threads + Wait + Clock + Sync>(
     alloc: Global,
     seed: u64,
 ) -> Result<bool, Status> {
-    let once = run(rt, alloc, seed, Beside::Detach, LONG)?;
-    let again = run(rt, alloc, seed, Beside::Detach, LONG)?;
+    let once = one_run(rt, alloc, seed, Beside::Detach, LONG)?;
+    let again = one_run(rt, alloc, seed, Beside::Detach, LONG)?;
     Ok(
         once.is_clean()
             && again.is_clean()
@@ -235,6 +247,6 @@ fn detach_under_seeds(rt: HostRuntime) {
 // The client has its turn while it waits for the workers. They go on all the same, and it gets its answer.
 #[test]
 fn waiting_client_is_passed_over(rt: HostRuntime) {
-    let seen = run(&rt, rt.alloc(), 0, Beside::Read, SHORT);
+    let seen = one_run(&rt, rt.alloc(), 0, Beside::Read, SHORT);
     assert!(rt; matches!(&seen, Ok(run) if run.is_clean() && run.schedule.passed_over > 0));
 }

@@ -2,6 +2,7 @@
 
 use crate::manner::Manner;
 use std::alloc::{AllocError, Global};
+use std::fmt;
 
 /// What the words of a program ask for.
 #[derive(Drop)]
@@ -59,8 +60,8 @@ fn manner_of(word: &str) -> Option<Manner> {
 }
 
 /// The sentence that says so.
-impl std::fmt::Display for Refused {
-    fn fmt<W: std::fmt::Write>(&self, f: &mut std::fmt::Formatter<W>) -> std::fmt::Result {
+impl fmt::Display for Refused {
+    fn fmt<W: fmt::Write>(&self, f: &mut fmt::Formatter<W>) -> fmt::Result {
         match self {
             Refused::Unknown(word) => {
                 write!(

@@ -52,6 +52,17 @@ pub struct Teller {
     changes: usize,
 }
 
+// Appends why a line was refused, if it was.
+fn say_reason(text: &mut String, event: &Event, detail: &Detail<'_>) -> Result<(), AllocError> {
+    let Event::Refused { status, .. } = event else {
+        return Ok(());
+    };
+    match detail.reason {
+        Some(reason) => text.push_str(reason),
+        None => text.push_str(sentence(*status)),
+    }
+}
+
 impl Teller {
     /// Before the first line.
     pub fn new(alloc: Global) -> Teller {
@@ -104,16 +115,14 @@ impl Teller {
     ) -> Result<(), AllocError> {
         self.note(event)?;
         let mut words = String::new(self.alloc);
-        let reason = match event {
-            Event::Refused { status, .. } => detail.reason.unwrap_or(sentence(*status)),
-            _ => "",
-        };
         say_detail(&mut words, &self.notes, event, detail)?;
+        let mut reason = String::new(self.alloc);
+        say_reason(&mut reason, event, detail)?;
         let told = Told {
             line: self.line,
             command: self.command.as_bytes(),
             words: words.as_str(),
-            reason,
+            reason: reason.as_str(),
             detail: *detail,
         };
         say_json(self.alloc, text, &self.notes, event, &told)

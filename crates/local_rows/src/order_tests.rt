@@ -3,6 +3,7 @@
 use fm_base::MemoryBase;
 use fm_data::Reply;
 use fm_local::LocalManager;
+use fm_types::limits::OPERATIONS;
 use fm_types::{Name, Status};
 use fm_wire::{Body, Control};
 use recorder::{Host, Log, ORDER, Recorder, Told, play, recorders};
@@ -45,7 +46,11 @@ fn control(manager: &mut Manager, control: Control) -> Result<Told, Status> {
 
 // Hands out the replies of what was held.
 fn take_finished(manager: &mut Manager) {
-    while manager.finished().is_some() {}
+    for _ in 0..OPERATIONS {
+        if manager.finished().is_none() {
+            return;
+        }
+    }
 }
 
 impl Host for Local<'_> {

@@ -29,7 +29,7 @@ type Hand<'m, L, R> = MemoryWorker<'m, Recorder, L, R, OpenGate>;
 
 /// A client and a worker, and the operations that filters hold.
 #[derive(Drop)]
-struct Crew<'m, L: Ledger, R: Wait> {
+struct WorkerHost<'m, L: Ledger, R: Wait> {
     rt: &'m R,
     alloc: Global,
     manager: &'m Manager<Recorder, L>,
@@ -65,7 +65,7 @@ fn take_seat(rundown: &RundownGate, seats: &mut Vec<GateSeat>) -> Option<GateSea
     seats.pop()
 }
 
-impl<L: Ledger, R: Wait + Clock> Crew<'_, L, R> {
+impl<L: Ledger, R: Wait + Clock> WorkerHost<'_, L, R> {
     // The answer of an operation, if it is done.
     fn answer_of(&self, operation: OpId) -> Result<Told, Status> {
         match self.manager.is_done(self.rt, operation) {
@@ -156,7 +156,7 @@ impl<L: Ledger, R: Wait + Clock> Crew<'_, L, R> {
     }
 }
 
-impl<L: Ledger, R: Wait + Clock> Host for Crew<'_, L, R> {
+impl<L: Ledger, R: Wait + Clock> Host for WorkerHost<'_, L, R> {
     fn ask(&mut self, body: Body) -> Result<Told, Status> {
         let told = self.make(body)?;
         for _ in 0..ROUNDS {
@@ -184,7 +184,7 @@ fn played<L: Ledger, R: Wait + Clock>(
     let gate = OpenGate;
     let client = new_worker(rt, alloc, &manager, &queue, &gate, &mut passes)?;
     let worker = new_worker(rt, alloc, &manager, &queue, &gate, &mut passes)?;
-    let mut crew = Crew {
+    let mut host = WorkerHost {
         rt,
         alloc,
         manager: &manager,
@@ -192,14 +192,19 @@ fn played<L: Ledger, R: Wait + Clock>(
         worker,
         held: Vec::new(alloc),
     };
-    play(alloc, &log, &mut crew, list)
+    play(alloc, &log, &mut host, list)
+}
+
+// The same by a manager of its own.
+fn one_list<R: Wait + Clock>(rt: &R, alloc: Global, list: &str) -> Result<String, Status> {
+    played::<Brand, R>(rt, alloc, Blank::new(PARTS), list)
 }
 
 #[test]
 fn order_of_callbacks(rt: HostRuntime) -> Result<(), Fail> {
     let mut differing = String::new(rt.alloc());
     for list in ORDER.trim().split("\n\n") {
-        let told = played::<Brand, _>(&rt, rt.alloc(), Blank::new(PARTS), list)?;
+        let told = one_list(&rt, rt.alloc(), list)?;
         if told.as_str().trim_end() != list {
             differing.push_str(told.as_str())?;
         }

@@ -15,9 +15,9 @@ use fm_types::limits::PARTS;
 use fm_types::{FilterId, Name, OpId, Status, WorkerId};
 use std::alloc::Global;
 use std::marker::Brand;
-use std::sync::Wait;
 use std::sync::atomic::{AtomicU64, Ordering};
 use std::sync::ledger::{Blank, Ledger};
+use std::sync::{Arc, Wait};
 use std::thread;
 use std::thread::Threads;
 use std::time::{Clock, Duration};
@@ -32,7 +32,7 @@ const SEEDS: u64 = 16;
 const ORDERS: u64 = 1_000;
 
 /// A worker of a manager of the filter, before the gate.
-type Scheduled<'a, 'c, L, R> = MemoryWorker<'a, Unlocked<'c>, L, R, ScheduleGate<'a, R>>;
+type Scheduled<'a, L, R> = MemoryWorker<'a, Unlocked, L, R, ScheduleGate<'a, R>>;
 
 /// What a run was: its schedule, how many reads the filter counted, and what the manager's report says of contexts.
 #[derive(Drop)]
@@ -52,11 +52,11 @@ impl Run {
 }
 
 // The filter, its instance, and a file.
-fn open<'c, L: Ledger, R: Wait + Clock + Sync>(
+fn open<L: Ledger, R: Wait + Clock + Sync>(
     rt: &R,
     alloc: Global,
-    manager: &Manager<Unlocked<'c>, L>,
-    client: &mut Scheduled<'_, 'c, L, R>,
+    manager: &Manager<Unlocked, L>,
+    client: &mut Scheduled<'_, L, R>,
 ) -> Result<(), Status> {
     attach(client, b"unlocked", b"100")?;
     let creating = manager.begin(rt, create(alloc, b"x")?)?;
@@ -65,11 +65,11 @@ fn open<'c, L: Ledger, R: Wait + Clock + Sync>(
 }
 
 // Begins so many reads.
-fn begin_reads<'c, L: Ledger, R: Wait + Clock + Sync>(
+fn begin_reads<L: Ledger, R: Wait + Clock + Sync>(
     rt: &R,
     alloc: Global,
-    manager: &Manager<Unlocked<'c>, L>,
-    client: &mut Scheduled<'_, 'c, L, R>,
+    manager: &Manager<Unlocked, L>,
+    client: &mut Scheduled<'_, L, R>,
     reads: usize,
 ) -> Result<Vec<OpId>, Status> {
     let mut begun = Vec::new(alloc);
@@ -80,10 +80,10 @@ fn begin_reads<'c, L: Ledger, R: Wait + Clock + Sync>(
 }
 
 // Collects the answers, closes the file and unloads the filter.
-fn leave<'c, L: Ledger, R: Wait + Clock + Sync>(
+fn leave<L: Ledger, R: Wait + Clock + Sync>(
     rt: &R,
-    manager: &Manager<Unlocked<'c>, L>,
-    client: &mut Scheduled<'_, 'c, L, R>,
+    manager: &Manager<Unlocked, L>,
+    client: &mut Scheduled<'_, L, R>,
     begun: Vec<OpId>,
 ) -> Result<(), Status> {
     for operation in begun {
@@ -97,10 +97,10 @@ fn leave<'c, L: Ledger, R: Wait + Clock + Sync>(
 }
 
 // What a worker's thread does.
-fn work<'c, L: Ledger, R: Wait + Clock + Sync>(
+fn work<L: Ledger, R: Wait + Clock + Sync>(
     gate: &ScheduleGate<'_, R>,
     number: WorkerId,
-    worker: &mut Scheduled<'_, 'c, L, R>,
+    worker: &mut Scheduled<'_, L, R>,
 ) {
     gate.enter(number);
     worker.work();
@@ -108,12 +108,12 @@ fn work<'c, L: Ledger, R: Wait + Clock + Sync>(
 }
 
 // Reads that two workers carry on, each in a thread of its own: the hands of all.
-fn read_by_two<'a, 'c, L: Ledger + Send + Sync, R: Threads + Wait + Clock + Sync>(
+fn read_by_two<'a, L: Ledger + Send + Sync, R: Threads + Wait + Clock + Sync>(
     rt: &R,
     alloc: Global,
-    manager: &Manager<Unlocked<'c>, L>,
+    manager: &Manager<Unlocked, L>,
     gate: &ScheduleGate<'a, R>,
-    workers: Workers<'a, Unlocked<'c>, L, R, ScheduleGate<'a, R>, Folder>,
+    workers: Workers<'a, Unlocked, L, R, ScheduleGate<'a, R>, Folder>,
     reads: usize,
 ) -> Result<Vec<Hand<L>>, Status> {
     let Workers {
@@ -135,9 +135,10 @@ fn read_by_two<'a, 'c, L: Ledger + Send + Sync, R: Threads + Wait + Clock + Sync
     hands_of(alloc, client, first, second)
 }
 
-fn filters(alloc: Global, counted: &AtomicU64) -> Result<Vec<(Name, Unlocked<'_>)>, Status> {
+fn filters(alloc: Global, counted: &Arc<AtomicU64>) -> Result<Vec<(Name, Unlocked)>, Status> {
     let mut filters = Vec::new(alloc);
-    filters.push((Name::read(b"unlocked")?, Unlocked::new(counted)))?;
+    let filter = Unlocked::new(Arc::try_clone(counted)?);
+    filters.push((Name::read(b"unlocked")?, filter))?;
     Ok(filters)
 }
 
@@ -153,8 +154,8 @@ fn run_at<L: Ledger + Send + Sync, R: Threads + Wait + Clock + Sync>(
     requires parts { blank.parts ≡ L.parts }
     requires all { blank.parts ≡ 49 }
 {
-    let counted = AtomicU64::new(0);
-    let manager = mounted::<Unlocked<'_>, L, R>(rt, alloc, filters(alloc, &counted)?, blank)?;
+    let counted = Arc::new(alloc, AtomicU64::new(0))?;
+    let manager = mounted::<Unlocked, L, R>(rt, alloc, filters(alloc, &counted)?, blank)?;
     let (queue, mut passes) = JobQueue::new(alloc, 272, 3)?;
     let gate = ScheduleGate::new(rt, alloc, Duration::from_secs(PATIENCE), chooser);
     let below = folder(alloc)?;

@@ -5,23 +5,24 @@ ghost use Rattle.std.specs.Prelude.{◌≡◌};
 use fm_data::{CallbackData, Completion, PostVerdict, PreVerdict};
 use fm_filter::{Agreeable, Port};
 use fm_types::{ContextKind, ContextMask, OpMask, Registration};
+use std::sync::Arc;
 use std::sync::atomic::{AtomicU64, Ordering};
 
 /// Counts reads by a number that others share: it looks at the number in the preoperation, and stores one more in the postoperation. A read that comes in
 /// between isn't counted.
-#[derive(Clone, Copy)]
-pub struct Unlocked<'a> {
-    counted: &'a AtomicU64,
+#[derive(Drop)]
+pub struct Unlocked {
+    counted: Arc<AtomicU64>,
 }
 
-impl<'a> Unlocked<'a> {
+impl Unlocked {
     /// The filter, which counts there.
-    pub fn new(counted: &'a AtomicU64) -> Unlocked<'a> {
+    pub fn new(counted: Arc<AtomicU64>) -> Unlocked {
         Unlocked { counted }
     }
 }
 
-impl Agreeable for Unlocked<'_> {
+impl Agreeable for Unlocked {
     ghost use Rattle.std.specs.Prelude.{⊤, true};
     ghost use Rattle.fm_samples.specs.Common.{CountsNothing};
 

@@ -2,6 +2,7 @@
 
 ghost use Rattle.std.specs.Prelude.{◌≡◌};
 
+use fm_core::AboutOperation;
 use fm_data::{CallbackData, Completion, Params, PostVerdict, PreVerdict};
 use fm_filter::{Agreeable, Port};
 use fm_types::{ContextKind, ContextMask, OpMask, Registration, Status};
@@ -17,17 +18,21 @@ const NOTHING: Completion = Completion {
     context: None,
 };
 
-// Whether the callback is for the file `done`, and stands at 50.
+// Whether the operation is on the file `done`.
+fn is_on_done(operation: &AboutOperation) -> bool {
+    match &operation.path {
+        Some(path) => path.path().text() == b"done".as_slice(),
+        None => false,
+    }
+}
+
+// Whether the callback is for that file, and stands at 50.
 fn is_done<P: Port>(port: &P) -> bool {
     let Ok(about) = port.about() else {
         return false;
     };
-    let Some(operation) = about.operation else {
-        return false;
-    };
-    match operation.path {
-        Some(path) => path.path().text() == b"done".as_slice()
-            && about.altitude.text() == b"50".as_slice(),
+    match &about.operation {
+        Some(operation) => is_on_done(operation) && about.altitude.text() == b"50".as_slice(),
         None => false,
     }
 }

@@ -1,13 +1,19 @@
 #!/usr/bin/env bash
 # c/archive.sh [--unproved] : with --unproved an archive from the sources alone, without proofs and with run-time checks, in a minute; its path is printed, and c/build.sh takes it
 # where there is no proved one. Without that word it makes crates/kazdrin_c/out/libkazdrin_c.a. `rt ci` leaves the libraries of the crates below in this checkout: over them the crate is proved once
-# more, and built, in some five minutes of a processor. Without them `rt lib` proves every crate below first.
+# more, and built, in some five minutes of a processor. Without them `rt lib` proves every crate below first. With --support it prints where the kit keeps what the archive is
+# linked with.
 set -eu
+here=$(CDPATH='' cd -- "$(dirname -- "$0")" && pwd)
 if [ "${1:-}" = --unproved ]; then
-    exec "$(dirname "$0")/../tools/unproved" --archive
+    exec "$here/../tools/unproved" --archive
 fi
-cd "$(dirname "$0")/../crates/kazdrin_c"
-kit=${KIT:-$(dirname "$(rt doc | head -1)")}
+kit=$(dirname "$(dirname "$(readlink -f "$(command -v rt)")")")
+if [ "${1:-}" = --support ]; then
+    echo "$kit/c"
+    exit 0
+fi
+cd "$here/../crates/kazdrin_c"
 words=()
 for name in std $(sed -n 's/^kazdrin_c staticlib: *//p' ../../crates.txt); do
     library=../$name/out/rlib/$name.rlib

@@ -1,98 +1,160 @@
 #!/usr/bin/env bash
-# c/build.sh [--explore | --sanitize=thread] PROGRAM DRIVER.. : builds a program that runs requests through those drivers, or with --explore one that runs a scenario under every
-# schedule. With --sanitize=thread the drivers' code is watched by the compiler's thread sanitizer. A driver is a file of C or C++, or a folder with such files; each is loaded by
-# the name of its file or folder. Behind --driver, up to the next one, the files are one driver, by the name of the first.
+# c/build.sh [WORD..] PROGRAM DRIVER.. : builds a program that runs requests through those drivers. A driver is a file of C or C++, or a folder with such files; each is loaded by
+# the name of its file or folder. Behind --driver, up to the next one, the files are one driver, by the name of the first. The words:
+#
+#   --explore           a program that runs a scenario under every schedule (docs/EXPLORE.md)
+#   --serve             a server of the drivers, behind the frames of docs/FRAMES.md
+#   --sanitize=WORDS    under these sanitizers of the compiler; `thread` watches the drivers alone
+#   --main FILE         a main program of your own, above c/include/kzflt.h
+#   --fuzz, --libfuzzer a program of random requests, as c/fuzz.sh makes it
 #
 # CC is the compiler (cc), CXX that of C++ (c++), CFLAGS are more words for the drivers and the host, KZAPI what the drivers see (KZAPI="-DNTDDI_VERSION=0x06000000 -DDBG=0"),
-# KAZDRIN_LIB the archive of crates/kazdrin_c (else that of c/archive.sh, or one without proofs), KZ_MAIN the main program, KZ_HOST the host's objects where they are built already.
+# KAZDRIN_LIB the archive of crates/kazdrin_c (else that of c/archive.sh, or one without proofs). The host is compiled once for each CC and CFLAGS, and kept.
 set -eu
 here=$(cd "$(dirname "$(readlink -f "$0")")" && pwd)
-explores=""
-races=""
-case "${1:-}" in
---explore)
-    explores=1
-    shift
-    ;;
---sanitize=thread)
-    races=1
-    shift
-    ;;
-esac
-if [ $# -lt 2 ]; then
-    echo "usage: c/build.sh [--explore | --sanitize=thread] PROGRAM DRIVER.c..  or  PROGRAM FOLDER..  or  PROGRAM --driver FILE.c FILE.c.." >&2
+say() {
+    echo "c/build.sh: $1" >&2
+}
+usage() {
+    sed -n '2,3s/^# //p' "$here/build.sh" >&2
     exit 2
-fi
+}
+kind=""
+sanitizers=""
+main=""
+while [ $# -gt 0 ]; do
+    case "$1" in
+    --explore | --serve | --fuzz | --libfuzzer) kind=${1#--} ;;
+    --sanitize=?*) sanitizers=${1#--sanitize=} ;;
+    --main)
+        [ $# -gt 1 ] || usage
+        main=$2
+        shift
+        ;;
+    --driver | [!-]*) break ;;
+    *) usage ;;
+    esac
+    shift
+done
+[ $# -ge 2 ] && [ "$1" != --driver ] || usage
 program=$1
 shift
 cc=${CC:-cc}
+cflags=${CFLAGS:-}
+is_clang() {
+    $cc --version 2> /dev/null | grep -q clang
+}
+case " $cflags ${KZAPI:-} " in
+*" -flto"*)
+    say "-flto can't be had: names in a driver's object are changed behind the compiler, and a link-time optimizer would see them as they were"
+    exit 2
+    ;;
+esac
+
+# ---- The manager's archive, and what it needs of the kit: an installed tree has both.
 library=${KAZDRIN_LIB:-$here/../lib/libkazdrin_c.a}
 [ -n "${KAZDRIN_LIB:-}" ] || [ -f "$library" ] || library=$here/../crates/kazdrin_c/out/libkazdrin_c.a
 if [ -z "${KAZDRIN_LIB:-}" ] && [ ! -f "$library" ]; then
-    echo "c/build.sh: the manager's archive isn't proved here (c/archive.sh proves it): taking one without proofs" >&2
+    say "the manager's archive isn't proved here (c/archive.sh proves it): taking one without proofs"
     library=$("$here/archive.sh" --unproved)
 fi
 if [ ! -f "$library" ]; then
-    echo "c/build.sh: there is no $library; make it by c/archive.sh, or name one as KAZDRIN_LIB" >&2
+    say "there is no $library; make it by c/archive.sh, or name one as KAZDRIN_LIB"
     exit 1
 fi
-# An installed tree has what it needs of the kit.
 support=$here/../lib
-[ -f "$support/libos_c.a" ] || support=${KIT:-$(dirname "$(rt doc | head -1)")}/c
-common="-fshort-wchar -fno-strict-aliasing -O1 -g -I$here/include ${CFLAGS:-}"
-own="-std=gnu11 -Wall -Wextra -Werror $common"
-# A driver's warnings are its author's; pointers are taken as the kit's compiler takes them. What the kit's projects set is set.
+[ -f "$support/liblibc_c.a" ] || support=$("$here/archive.sh" --support)
+
+# ---- The host's libraries, by the compiler and its words: those of this tree, or beside the user's other caches where it can't be written.
+host_cflags=$cflags
+case "$sanitizers" in
+"" | thread) ;;
+*) host_cflags="$cflags -fsanitize=$sanitizers -fno-sanitize-recover=undefined" ;;
+esac
+out=$here/../out/c
+make=(make -s --no-print-directory -C "$here")
+if ! mkdir -p "$out" 2> /dev/null || [ ! -w "$out" ]; then
+    out=${XDG_CACHE_HOME:-$HOME/.cache}/kazdrin/$(echo "$here" | sha256sum | cut -c1-12)
+    mkdir -p "$out"
+    ln -sfn "$here" "$out/src"
+    make=(make -s --no-print-directory -C "$out" -f src/Makefile SRC=src OUT=.)
+fi
+exec 9> "$out/.lock"
+flock 9
+key=$("${make[@]}" where LIBRARIES="host $kind" CC="$cc" CFLAGS="$host_cflags")
+exec 9>&-
+host=$out/$key
+
+# ---- Words for the compiler. A driver's warnings are its author's; pointers are taken as the kit's compiler takes them. What the kit's projects set is set.
+includes=(-I"$here/include")
+common="-fshort-wchar -fno-strict-aliasing -O1 -g $host_cflags"
 driver="-fwrapv -fms-extensions $common \
 -D_WIN64=1 -D_M_AMD64=100 -D_M_X64=100 -D_AMD64_=1 -D_WIN32_WINNT=0x0A00 -DWINVER=0x0A00 -DNTDDI_VERSION=0x0A000002 -DDBG=1 -D_KERNEL_MODE=1 -DKZ_DRIVER=1 -include ntdef.h ${KZAPI:-}"
+link="$common"
+renames=""
+volatiles() {
+    if is_clang; then echo "-mllvm -tsan-distinguish-volatile=1"; else echo "--param=tsan-distinguish-volatile=1"; fi
+}
+libraries=("$host/libkazdrin_host.a")
 # The explorer is behind the compiler's calls before each access of a driver's code; its addresses are those of the program's file.
-if [ -n "$explores" ]; then
-    driver="$driver -fsanitize=thread -fno-pie $($cc --version | grep -q clang && echo "-mllvm -tsan-distinguish-volatile=1" || echo "--param=tsan-distinguish-volatile=1")"
-    own="$own -fno-pie -no-pie -Wl,-z,now"
+case "$kind" in
+explore)
+    driver="$driver -fsanitize=thread -fno-pie $(volatiles)"
+    link="$link -no-pie -Wl,-z,now"
+    libraries=("$host/libkazdrin_explore.a" "${libraries[@]}")
+    renames="memcpy:KzHookCopy memmove:KzHookMove memset:KzHookFill memcmp:KzHookCompare"
+    ;;
+libfuzzer)
+    driver="$driver -fsanitize=fuzzer-no-link"
+    link="$link -fsanitize=fuzzer -no-pie"
+    libraries=("$host/libkazdrin_libfuzzer.a" "${libraries[@]}")
+    ;;
+serve | fuzz) libraries=("$host/libkazdrin_$kind.a" "${libraries[@]}") ;;
+esac
+if [ "$sanitizers" = thread ]; then
+    driver="$driver -fsanitize=thread $(volatiles)"
+    link="$link -fsanitize=thread"
 fi
-link="${KZ_LINK:-}"
-if [ -n "$races" ]; then
-    driver="$driver -fsanitize=thread $($cc --version | grep -q clang && echo "-mllvm -tsan-distinguish-volatile=1" || echo "--param=tsan-distinguish-volatile=1")"
-    link="-fsanitize=thread"
-fi
+# The C library's calls of wide text are the host's.
+changes=()
+for pair in $renames wcslen:KzWcslen wcsnlen:KzWcsnlen wcscmp:KzWcscmp wcsncmp:KzWcsncmp wcscpy:KzWcscpy wcsncpy:KzWcsncpy wcscat:KzWcscat wcsncat:KzWcsncat \
+    wcschr:KzWcschr wcsrchr:KzWcsrchr wcsstr:KzWcsstr wcspbrk:KzWcspbrk wcsspn:KzWcsspn wcscspn:KzWcscspn wcscasecmp:KzWcsicmp wcsncasecmp:KzWcsnicmp \
+    wmemset:KzWmemset wcstol:KzWcstol wcstoul:KzWcstoul swprintf:KzSwprintfRoom vswprintf:KzVsnwprintf towupper:KzTowupper towlower:KzTowlower; do
+    changes+=(--redefine-sym "${pair%:*}=${pair#*:}")
+done
+# libFuzzer plays all sessions in one process: the drivers' variables are in sections by which they are put back before each.
+[ "$kind" != libfuzzer ] || changes+=(--rename-section .data=kz_data,alloc,load,data,contents --rename-section .bss=kz_bss,alloc)
+
+# ---- Drivers: each a name and its files. All but its entry is its own, so that two drivers may use one name.
 room=$(mktemp -d)
 trap 'rm -rf "$room"' EXIT
 count=0
-: > "$room/declarations"
 : > "$room/entries"
-
-# One driver: its name, and its files. All but its entry is its own, so that two drivers may use one name; the C library's calls of wide text are the host's.
+compile() {
+    case "$2" in
+    *.cpp | *.cc | *.cxx) ${CXX:-c++} -std=gnu++17 -fno-exceptions -fno-rtti -w $driver "${includes[@]}" -DDriverEntry="$3" -c -o "$1" "$2" ;;
+    *) $cc -std=gnu11 -Wall -Wno-incompatible-pointer-types -Wno-int-conversion -Wno-multichar -Wno-unknown-pragmas -Wno-missing-braces $driver "${includes[@]}" -DDriverEntry="$3" -c -o "$1" "$2" ;;
+    esac
+}
 add() {
-    local name=$1 file objects="" entry=kz_entry_$count
+    local name=$1 file object objects=() entry=kz_entry_$count
     shift
     for file in "$@"; do
-        local object="$room/${count}_$(basename "$file").o"
-        case "$file" in
-        *.cpp | *.cc | *.cxx) ${CXX:-c++} -std=gnu++17 -fno-exceptions -fno-rtti -w $driver -DDriverEntry="$entry" -c -o "$object" "$file" ;;
-        *) $cc -std=gnu11 -Wall -Wno-incompatible-pointer-types -Wno-int-conversion -Wno-multichar -Wno-unknown-pragmas -Wno-missing-braces $driver -DDriverEntry="$entry" -c -o "$object" "$file" ;;
-        esac
-        objects="$objects $object"
+        object="$room/${count}_$(basename "$file").o"
+        compile "$object" "$file" "$entry"
+        objects+=("$object")
     done
-    $cc -nostdlib -r -o "$room/driver_$count.o" $objects
+    $cc -nostdlib -r -o "$room/driver_$count.o" "${objects[@]}"
     if ! nm "$room/driver_$count.o" | grep -q " T $entry\$"; then
-        echo "c/build.sh: $name has no DriverEntry" >&2
+        say "$name has no DriverEntry"
         exit 1
     fi
-    objcopy --keep-global-symbol="$entry" $renamed "$room/driver_$count.o"
-    echo "DRIVER_INITIALIZE $entry;" >> "$room/declarations"
-    echo "{\"$name\", $entry}," >> "$room/entries"
+    objcopy --keep-global-symbol="$entry" "${changes[@]}" "$room/driver_$count.o"
+    name=${name//\\/\\\\}
+    printf 'int %s(void *, void *);\n' "$entry" >> "$room/declarations"
+    printf '{"%s", %s},\n' "${name//\"/\\\"}" "$entry" >> "$room/entries"
     count=$((count + 1))
 }
-renamed="${KZ_SECTIONS:-}"
-for pair in wcslen:KzWcslen wcsnlen:KzWcsnlen wcscmp:KzWcscmp wcsncmp:KzWcsncmp wcscpy:KzWcscpy wcsncpy:KzWcsncpy wcscat:KzWcscat wcsncat:KzWcsncat wcschr:KzWcschr \
-    wcsrchr:KzWcsrchr wcsstr:KzWcsstr wcspbrk:KzWcspbrk wcsspn:KzWcsspn wcscspn:KzWcscspn wcscasecmp:KzWcsicmp wcsncasecmp:KzWcsnicmp wmemset:KzWmemset \
-    wcstol:KzWcstol wcstoul:KzWcstoul swprintf:KzSwprintfRoom vswprintf:KzVsnwprintf towupper:KzTowupper towlower:KzTowlower; do
-    renamed="$renamed --redefine-sym ${pair%:*}=${pair#*:}"
-done
-
-if [ -n "$explores" ]; then
-    renamed="$renamed --redefine-sym memcpy=KzHookCopy --redefine-sym memmove=KzHookMove --redefine-sym memset=KzHookFill --redefine-sym memcmp=KzHookCompare"
-fi
-
 name_of() {
     local name
     name=$(basename "$1")
@@ -107,12 +169,17 @@ while [ $# -gt 0 ]; do
             shift
         done
         if [ ${#files[@]} = 0 ]; then
-            echo "c/build.sh: no file behind --driver" >&2
+            say "no file behind --driver"
             exit 2
         fi
         add "$(name_of "${files[0]}")" "${files[@]}"
     elif [ -d "$1" ]; then
-        add "$(basename "$(cd "$1" && pwd)")" $(find "$1" -maxdepth 1 -name '*.c' -o -maxdepth 1 -name '*.cpp' | sort)
+        mapfile -d '' -t files < <(find "$1" -maxdepth 1 \( -name '*.c' -o -name '*.cpp' -o -name '*.cc' -o -name '*.cxx' \) -print0 | LC_ALL=C sort -z)
+        if [ ${#files[@]} = 0 ]; then
+            say "$1 has no file of C or C++"
+            exit 2
+        fi
+        add "$(basename "$(cd "$1" && pwd)")" "${files[@]}"
         shift
     else
         add "$(name_of "$1")" "$1"
@@ -120,24 +187,16 @@ while [ $# -gt 0 ]; do
     fi
 done
 {
-    echo "#include <kzflt.h>"
     cat "$room/declarations"
-    echo "const KzDriver kz_drivers[] = {"
+    echo "const struct { const char *name; int (*entry)(void *, void *); } kz_drivers[] = {"
     cat "$room/entries"
     echo "};"
-    echo "const size_t kz_drivers_count = sizeof kz_drivers / sizeof kz_drivers[0];"
+    echo "const unsigned long kz_drivers_count = sizeof kz_drivers / sizeof kz_drivers[0];"
 } > "$room/drivers.c"
-sources=""
-for source in "$here"/host/*.c; do
-    [ "$(basename "$source")" = main.c ] || sources="$sources $source"
-done
-main=${KZ_MAIN:-$here/host/main.c}
-if [ -n "${KZ_HOST:-}" ]; then
-    sources=$KZ_HOST
+if [ -n "$main" ]; then
+    $cc -std=gnu11 -Wall -Wextra $common "${includes[@]}" -I"$here/host" -I"$here" -c -o "$room/main.o" "$main"
+    libraries=("$room/main.o" "${libraries[@]}")
 fi
-if [ -n "$explores" ]; then
-    main=$(echo "$here"/explore/*.c)
-    [ -z "${KZ_EXPLORER:-}" ] || { main=""; sources=$KZ_EXPLORER; }
-fi
-[ -z "$races" ] || { for source in "$room/drivers.c" $sources $main; do case "$source" in *.c) $cc $own -c -o "$room/own_$(basename "$source" .c).o" "$source" ;; *) cp "$source" "$room/own_$(basename "$source")" ;; esac; done; sources=$(echo "$room"/own_*.o); main=""; }
-$cc $own $link -o "$program" $([ -n "$races" ] || echo "$room/drivers.c") "$room"/driver_*.o $sources $main "$library" "$support/libos_c.a" "$support/liblibc_c.a"
+kit=("$support/liblibc_c.a")
+[ ! -f "$support/libos_c.a" ] || kit=("$support/libos_c.a" "${kit[@]}")
+$cc $link -o "$program" "$room/drivers.c" "$room"/driver_*.o "${libraries[@]}" "$library" "${kit[@]}" -pthread

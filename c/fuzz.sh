@@ -5,7 +5,7 @@
 # c/fuzz.sh --libfuzzer DRIVER.c.. [-- WORD..] : the same by clang's libFuzzer (Debian: libclang-rt-14-dev), which looks for requests that reach more of the driver's code; the words
 # are its own (-runs=100000, -max_total_time=60, a folder for what it learns). What fails is written to failure.txt, and not shrunk.
 set -eu
-here=$(cd "$(dirname "$0")" && pwd)
+here=$(cd "$(dirname "$(readlink -f "$0")")" && pwd)
 way=own
 if [ "${1:-}" = --libfuzzer ]; then
     way=libfuzzer
@@ -24,28 +24,26 @@ fi
 room=$(mktemp -d)
 trap 'rm -rf "$room"' EXIT
 own() {
+    local sanitizers=()
     if [ -z "${CFLAGS:-}" ] && echo 'int main(void) { return 0; }' | ${CC:-cc} -fsanitize=address,undefined -x c -o "$room/sanitized" - 2> /dev/null; then
-        export CFLAGS="-fsanitize=address,undefined -fno-sanitize-recover=undefined"
+        sanitizers=(--sanitize=address,undefined)
     fi
-    KZ_HOST="" KZ_MAIN="$here/fuzz/session.c $here/fuzz/fuzz.c" "$here/build.sh" "$room/fuzz" "${drivers[@]}"
+    "$here/build.sh" --fuzz "${sanitizers[@]}" "$room/fuzz" "${drivers[@]}"
     "$room/fuzz" "$@"
 }
 
-# The drivers' variables are in sections by which they are put back before each session.
 libfuzzer() {
     export CC=${CC:-clang}
-    if ! echo 'int LLVMFuzzerTestOneInput(const char *data, long size) { return data && size > 9; }' | "$CC" -fsanitize=fuzzer,address,undefined -x c -o "$room/sanitized" - 2> /dev/null; then
+    if ! echo 'int LLVMFuzzerTestOneInput(const char *data, long size) { return data && size > 9; }' | $CC -fsanitize=fuzzer,address,undefined -x c -o "$room/sanitized" - 2> /dev/null; then
         echo "c/fuzz.sh: left out: libFuzzer, since $CC has no -fsanitize=fuzzer here" >&2
         exit 3
     fi
-    local words="-fsanitize=address,undefined -fno-sanitize-recover=undefined -fno-pie" status=0
-    local sections="--rename-section .data=kz_data,alloc,load,data,contents --rename-section .bss=kz_bss,alloc"
-    CFLAGS="$words ${CFLAGS:-}" KZAPI="-fsanitize=fuzzer-no-link ${KZAPI:-}" KZ_LINK="-fsanitize=fuzzer -no-pie" KZ_SECTIONS=$sections KZ_HOST="" \
-        KZ_MAIN="$here/fuzz/session.c $here/fuzz/libfuzzer.c" "$here/build.sh" "$room/fuzz" "${drivers[@]}"
+    local status=0
+    "$here/build.sh" --libfuzzer --sanitize=address,undefined "$room/fuzz" "${drivers[@]}"
     "$room/fuzz" -max_len=2048 -len_control=0 -artifact_prefix="$room/" "$@" || status=$?
     for input in "$room"/crash-* "$room"/leak-* "$room"/timeout-* "$room"/oom-*; do
         [ -f "$input" ] || continue
-        KZ_REQUESTS=failure.txt "$room/fuzz" -artifact_prefix="$room/" "$input" > /dev/null 2>&1 || true
+        "$room/fuzz" -artifact_prefix="$room/" --requests=failure.txt "$input" > /dev/null 2>&1 || true
         echo "c/fuzz.sh: $(wc -l < failure.txt) requests in failure.txt"
         break
     done

@@ -1,37 +1,37 @@
 #!/usr/bin/env bash
-# c/install.sh PREFIX : installs what a driver's test needs: the archive, the headers, the host's sources and the script that builds programs of them, a package for CMake
-# (find_package(Kazdrin)) and one for pkg-config. Nothing there names this checkout or the kit. KAZDRIN_LIB is the archive, else the proved one, else one without proofs.
+# c/install.sh PREFIX (make -C c install PREFIX=..) : installs what a driver's test needs: the archive, the headers, the host's sources and its libraries for the compiler CC, the scripts
+# that build programs of drivers, a package for CMake (find_package(Kazdrin)) and one for pkg-config. Nothing there names this checkout or the kit. KAZDRIN_LIB is the archive,
+# else the proved one, else one without proofs.
 set -eu
 here=$(cd "$(dirname "$0")" && pwd)
 prefix=${1:?usage: c/install.sh PREFIX}
 library=${KAZDRIN_LIB:-$here/../crates/kazdrin_c/out/libkazdrin_c.a}
 [ -f "$library" ] || library=$("$here/archive.sh" --unproved)
-kit=${KIT:-$(dirname "$(rt doc | head -1)")}
-mkdir -p "$prefix/bin" "$prefix/lib/cmake/Kazdrin" "$prefix/lib/pkgconfig" "$prefix/share/kazdrin/lib" "$prefix/share/kazdrin/c"
+support=$("$here/archive.sh" --support)
+mkdir -p "$prefix/bin" "$prefix/lib/cmake/Kazdrin" "$prefix/lib/pkgconfig"
 prefix=$(cd "$prefix" && pwd)
 share=$prefix/share/kazdrin
+mkdir -p "$share/lib" "$share/c/tests"
 cp "$library" "$share/lib/libkazdrin_c.a"
-cp "$kit/c/libos_c.a" "$kit/c/liblibc_c.a" "$share/lib/"
-cp -R "$here/include" "$here/host" "$here/explore" "$here/scenarios" "$here/build.sh" "$share/c/"
+cp "$support/libos_c.a" "$support/liblibc_c.a" "$share/lib/"
+cp -Rp "$here/include" "$here/host" "$here/explore" "$here/serve" "$here/wire" "$here/fuzz" "$here/Makefile" "$here/build.sh" "$here/fuzz.sh" "$share/c/"
+cp -Rp "$here/tests/scenarios" "$share/c/tests/"
 cp "$here/cmake/KazdrinConfig.cmake" "$prefix/lib/cmake/Kazdrin/"
 ln -sf ../share/kazdrin/c/build.sh "$prefix/bin/kazdrin-build"
+ln -sf ../share/kazdrin/c/fuzz.sh "$prefix/bin/kazdrin-fuzz"
 
-# The host as a library, for test programs of an author's own.
-room=$(mktemp -d)
-trap 'rm -rf "$room"' EXIT
-for source in "$here"/host/*.c; do
-    [ "$(basename "$source")" != main.c ] || continue
-    ${CC:-cc} -std=gnu11 -fshort-wchar -fno-strict-aliasing -O1 -g -I"$here/include" -c -o "$room/$(basename "$source" .c).o" "$source"
-done
-rm -f "$share/lib/libkazdrin_host.a"
-ar rcs "$share/lib/libkazdrin_host.a" "$room"/*.o
-cat > "$prefix/lib/pkgconfig/kazdrin.pc" <<PC
-prefix=\${pcfiledir}/../..
-share=\${prefix}/share/kazdrin
+# Its libraries are those of this checkout: their times say that they are newer than the sources.
+mkdir -p "$share/out/c"
+key=$(make -s --no-print-directory -C "$here" where CC="${CC:-cc}" CFLAGS=)
+cp -Rp "$here/../out/c/$key" "$share/out/c/"
+cp "$share/out/c/$key/libkazdrin_host.a" "$share/lib/"
+cat > "$prefix/lib/pkgconfig/kazdrin.pc" <<'PC'
+prefix=${pcfiledir}/../..
+share=${prefix}/share/kazdrin
 Name: kazdrin
 Description: A user-mode model of the Windows Filter Manager, for minifilters in C
 Version: 1
-Cflags: -I\${share}/c/include -fshort-wchar -fno-strict-aliasing
-Libs: -L\${share}/lib -lkazdrin_host -lkazdrin_c -los_c -llibc_c
+Cflags: "-I${share}/c/include" -fshort-wchar -fno-strict-aliasing
+Libs: "-L${share}/lib" -lkazdrin_host -lkazdrin_c -los_c -llibc_c
 PC
 echo "installed in $prefix"

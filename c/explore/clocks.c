@@ -254,14 +254,14 @@ void ex_touch(const void *object, size_t size, KzTouch how)
 {
     if (!is_watched())
         return;
-    if (how == KZ_HAS_TAKEN_BACK) {
+    if (how == KZT_HAS_TAKEN_BACK) {
         take_back(object, size);
         return;
     }
     Object *one = object_of(object);
     if (!one)
         return;
-    if (how == KZ_TAKES)
+    if (how == KZT_TAKES)
         take(one);
     else
         give(one);
@@ -270,6 +270,6 @@ void ex_touch(const void *object, size_t size, KzTouch how)
 /* An interlocked call: it comes behind those before it on the same memory. */
 void ex_in_order(const void *object)
 {
-    ex_touch(object, 0, KZ_TAKES);
-    ex_touch(object, 0, KZ_GIVES);
+    ex_touch(object, 0, KZT_TAKES);
+    ex_touch(object, 0, KZT_GIVES);
 }

@@ -2,8 +2,8 @@
 #ifndef KZ_EXPLORE_H
 #define KZ_EXPLORE_H
 
-#include "../host/host.h"
-#include "../host/scenario.h"
+#include "host.h"
+#include "run/scenario.h"
 
 #include <setjmp.h>
 

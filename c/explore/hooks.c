@@ -58,25 +58,25 @@ void __tsan_vptr_read(void **at)
     void __tsan_volatile_read##size(void *at)              \
     {                                                      \
         ex_access(at, size, false, true, FROM);            \
-        ex_touch(at, 0, KZ_TAKES);                         \
+        ex_touch(at, 0, KZT_TAKES);                         \
     }                                                      \
     void __tsan_volatile_write##size(void *at);            \
     void __tsan_volatile_write##size(void *at)             \
     {                                                      \
         ex_access(at, size, true, true, FROM);             \
-        ex_touch(at, 0, KZ_GIVES);                         \
+        ex_touch(at, 0, KZT_GIVES);                         \
     }                                                      \
     void __tsan_unaligned_volatile_read##size(void *at);   \
     void __tsan_unaligned_volatile_read##size(void *at)    \
     {                                                      \
         ex_access(at, size, false, true, FROM);            \
-        ex_touch(at, 0, KZ_TAKES);                         \
+        ex_touch(at, 0, KZT_TAKES);                         \
     }                                                      \
     void __tsan_unaligned_volatile_write##size(void *at);  \
     void __tsan_unaligned_volatile_write##size(void *at)   \
     {                                                      \
         ex_access(at, size, true, true, FROM);             \
-        ex_touch(at, 0, KZ_GIVES);                         \
+        ex_touch(at, 0, KZT_GIVES);                         \
     }
 ACCESSES(1)
 ACCESSES(2)

@@ -1,19 +1,29 @@
 /* The same requests, drawn from the bytes of libFuzzer, which looks at what of the drivers' code they reach. All sessions run in one process: before each the drivers' own variables are
- * what they were when the program began. A session that ends otherwise than with 0 ends the program. KZ_REQUESTS names a file that gets the requests of each session before it runs. */
+ * what they were when the program began. A session that ends otherwise than with 0 ends the program. --requests=FILE names a file that gets the requests of each session before it runs. */
 #include "session.h"
 
 #include <stdlib.h>
 #include <string.h>
 
-/* The drivers' variables: c/fuzz.sh has objcopy give their sections these names. */
+/* The drivers' variables: c/build.sh has objcopy give their sections these names. */
 extern unsigned char __start_kz_data[], __stop_kz_data[], __start_kz_bss[], __stop_kz_bss[];
 
 static char lines[REQUESTS][LINE];
 static const char *session[REQUESTS];
 static const uint8_t *bytes;
 static size_t left;
+static const char *requests; /* the file's name */
 
+int LLVMFuzzerInitialize(int *count, char ***words);
 int LLVMFuzzerTestOneInput(const uint8_t *data, size_t size);
+
+int LLVMFuzzerInitialize(int *count, char ***words)
+{
+    for (int at = 1; at < *count; at++)
+        if (strncmp((*words)[at], "--requests=", 11) == 0)
+            requests = (*words)[at] + 11;
+    return 0;
+}
 
 static unsigned draw(unsigned limit)
 {
@@ -59,8 +69,8 @@ int LLVMFuzzerTestOneInput(const uint8_t *data, size_t size)
         session_request(lines[count++], draw);
     for (size_t at = 0; at < count; at++)
         session[at] = lines[at];
-    if (getenv("KZ_REQUESTS"))
-        session_write(getenv("KZ_REQUESTS"), session, count);
+    if (requests)
+        session_write(requests, session, count);
     kz_is_quiet = 1;
     int status = kz_run(kz_drivers, kz_drivers_count, session, count);
     if (status != 0) {

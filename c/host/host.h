@@ -4,32 +4,10 @@
 
 #include "kazdrin.h"
 #include "kzflt.h"
-#include "messages.h"
+#include "run/messages.h"
+#include "wire/status.h"
 
 #include <stdbool.h>
-
-/* The numbers of statuses of which the host speaks. */
-enum {
-    KZ_OK = 0,
-    KZ_NO_MEMORY = 1,
-    KZ_NO_FILTER = 6,
-    KZ_NO_VOLUME = 7,
-    KZ_NO_INSTANCE = 8,
-    KZ_NOT_LOADED = 9,
-    KZ_ALREADY_LOADED = 10,
-    KZ_DO_NOT_DETACH = 12,
-    KZ_ACCESS_DENIED = 17,
-    KZ_DEVICE_FAULT = 18,
-    KZ_ALREADY_DEFINED = 22,
-    KZ_NO_CONTEXT = 24,
-    KZ_NOT_HELD = 25,
-    KZ_HAND_FULL = 26,
-    KZ_NOT_PENDED = 28,
-    KZ_TOO_MANY = 29,
-    KZ_WRONG_STEP = 30,
-    KZ_BAD_REQUEST = 32,
-    KZ_BUSY = 34
-};
 
 #define KZ_BYTES 32768
 /* A listing's buffer, and the most that a driver is given at once. */
@@ -242,7 +220,7 @@ NTSTATUS kz_ntstatus(uint32_t number);
 uint32_t kz_number(NTSTATUS status, bool *is_exact);
 
 /* guard.c */
-typedef enum { KZ_POOL, KZ_CONTEXT, KZ_NAME, KZ_BUFFER, KZ_DATA } KzMemory;
+typedef enum { KZK_POOL, KZK_CONTEXT, KZK_NAME, KZK_BUFFER, KZK_DATA } KzMemory;
 typedef struct KzPiece {
     struct KzPiece *next, *before;
     size_t size;
@@ -384,6 +362,6 @@ bool kz_is_not_asked(void *instance);
 bool kz_enter_query(PFLT_INSTANCE instance, uint8_t worker);
 void kz_leave_query(PFLT_INSTANCE instance, uint8_t worker);
 
-#include "client.h"
+#include "run/client.h"
 
 #endif

@@ -49,73 +49,73 @@ enum { KZ_LENT_NOTHING, KZ_LENT_PRE, KZ_LENT_BASE, KZ_LENT_POST, KZ_LENT_DRAIN }
 
 /* The numbers of events. `bytes` are the text, the body or the data that kazdrin_step is passed. */
 enum {
-    KZ_REGISTER = 1,      /* bytes: the name; pre, post, contexts, query, unload */
-    KZ_MOUNT = 2,         /* bytes: the name */
-    KZ_SETUP_DONE = 3,    /* worker, flag: whether the instance is attached */
-    KZ_CREATE = 4,        /* volume, mode; bytes: the path */
-    KZ_LIST = 5,          /* volume */
-    KZ_READ = 6,          /* handle, offset, len */
-    KZ_WRITE = 7,         /* handle, offset; bytes: the data */
-    KZ_QUERY_SIZE = 8,    /* handle */
-    KZ_SET_SIZE = 9,      /* handle, offset: the size */
-    KZ_FLUSH = 10,        /* handle */
-    KZ_SET_DELETE = 11,   /* handle */
-    KZ_CLEANUP = 12,      /* handle */
-    KZ_CLOSE = 13,        /* handle */
-    KZ_RESUME_PRE = 14,   /* worker, operation, and a verdict */
-    KZ_RESUME_POST = 15,  /* worker, operation */
-    KZ_FIRST_HELD = 16,   /* worker, mode: 0 preoperations, 1 postoperations */
-    KZ_COLLECT = 17,      /* operation */
-    KZ_ALLOCATE = 18,     /* worker, kind; bytes: the body */
-    KZ_SET = 19,          /* worker, slot, generation, mode: 0 keep, 1 replace; flag: whether the old one is wanted */
-    KZ_GET = 20,          /* worker, kind */
-    KZ_DELETE = 21,       /* worker, kind, flag: whether the old one is wanted */
-    KZ_REFERENCE = 22,    /* worker, slot, generation */
-    KZ_RELEASE = 23,      /* worker, slot, generation */
-    KZ_READ_BODY = 24,    /* worker, slot, generation */
-    KZ_WRITE_BODY = 25,   /* worker, slot, generation; bytes: the body */
-    KZ_BUMP = 26,         /* worker, slot, generation, offset: the place, number */
-    KZ_TAKE_DUE = 27,     /* worker */
-    KZ_CLEANED = 28,      /* worker, number */
-    KZ_ASK_DETACH = 29,   /* worker, instance */
-    KZ_QUERY_RETURNED = 30,    /* worker, flag: whether it may go */
-    KZ_START_TEARDOWN = 31,    /* worker, instance */
-    KZ_START_RETURNED = 32,    /* worker */
-    KZ_DRAIN_TAKE = 33,        /* worker, instance */
-    KZ_DRAIN_DONE = 34,        /* worker */
-    KZ_COMPLETE_TEARDOWN = 35, /* worker, instance */
-    KZ_COMPLETE_RETURNED = 36, /* worker */
-    KZ_FINISH = 37,            /* instance */
-    KZ_ASK_UNLOAD = 38,        /* worker, filter */
-    KZ_UNLOAD_RETURNED = 39,   /* worker, flag: whether it may go */
-    KZ_FORCE_UNLOAD = 40,      /* filter */
-    KZ_EMPTY_FILTER = 41,      /* filter */
-    KZ_FINISH_FILTER = 42,     /* filter */
-    KZ_START_DISMOUNT = 43,    /* volume */
-    KZ_DROP_HANDLE = 44,       /* volume */
-    KZ_EMPTY_VOLUME = 45,      /* volume */
-    KZ_FINISH_VOLUME = 46      /* volume */
+    KZE_REGISTER = 1,      /* bytes: the name; pre, post, contexts, query, unload */
+    KZE_MOUNT = 2,         /* bytes: the name */
+    KZE_SETUP_DONE = 3,    /* worker, flag: whether the instance is attached */
+    KZE_CREATE = 4,        /* volume, mode; bytes: the path */
+    KZE_LIST = 5,          /* volume */
+    KZE_READ = 6,          /* handle, offset, len */
+    KZE_WRITE = 7,         /* handle, offset; bytes: the data */
+    KZE_QUERY_SIZE = 8,    /* handle */
+    KZE_SET_SIZE = 9,      /* handle, offset: the size */
+    KZE_FLUSH = 10,        /* handle */
+    KZE_SET_DELETE = 11,   /* handle */
+    KZE_CLEANUP = 12,      /* handle */
+    KZE_CLOSE = 13,        /* handle */
+    KZE_RESUME_PRE = 14,   /* worker, operation, and a verdict */
+    KZE_RESUME_POST = 15,  /* worker, operation */
+    KZE_FIRST_HELD = 16,   /* worker, mode: 0 preoperations, 1 postoperations */
+    KZE_COLLECT = 17,      /* operation */
+    KZE_ALLOCATE = 18,     /* worker, kind; bytes: the body */
+    KZE_SET = 19,          /* worker, slot, generation, mode: 0 keep, 1 replace; flag: whether the old one is wanted */
+    KZE_GET = 20,          /* worker, kind */
+    KZE_DELETE = 21,       /* worker, kind, flag: whether the old one is wanted */
+    KZE_REFERENCE = 22,    /* worker, slot, generation */
+    KZE_RELEASE = 23,      /* worker, slot, generation */
+    KZE_READ_BODY = 24,    /* worker, slot, generation */
+    KZE_WRITE_BODY = 25,   /* worker, slot, generation; bytes: the body */
+    KZE_BUMP = 26,         /* worker, slot, generation, offset: the place, number */
+    KZE_TAKE_DUE = 27,     /* worker */
+    KZE_CLEANED = 28,      /* worker, number */
+    KZE_ASK_DETACH = 29,   /* worker, instance */
+    KZE_QUERY_RETURNED = 30,    /* worker, flag: whether it may go */
+    KZE_START_TEARDOWN = 31,    /* worker, instance */
+    KZE_START_RETURNED = 32,    /* worker */
+    KZE_DRAIN_TAKE = 33,        /* worker, instance */
+    KZE_DRAIN_DONE = 34,        /* worker */
+    KZE_COMPLETE_TEARDOWN = 35, /* worker, instance */
+    KZE_COMPLETE_RETURNED = 36, /* worker */
+    KZE_FINISH = 37,            /* instance */
+    KZE_ASK_UNLOAD = 38,        /* worker, filter */
+    KZE_UNLOAD_RETURNED = 39,   /* worker, flag: whether it may go */
+    KZE_FORCE_UNLOAD = 40,      /* filter */
+    KZE_EMPTY_FILTER = 41,      /* filter */
+    KZE_FINISH_FILTER = 42,     /* filter */
+    KZE_START_DISMOUNT = 43,    /* volume */
+    KZE_DROP_HANDLE = 44,       /* volume */
+    KZE_EMPTY_VOLUME = 45,      /* volume */
+    KZE_FINISH_VOLUME = 46      /* volume */
 };
 
 /* A preoperation's verdict, in `mode`. The first two ask for the postoperation, with `number`, and with the context in slot and generation if `flag` isn't 0.
  * Complete has a status by its number. */
-enum { KZ_WITH_CALLBACK, KZ_SYNCHRONIZE, KZ_NO_CALLBACK, KZ_COMPLETE, KZ_PENDING };
+enum { KZV_WITH_CALLBACK, KZV_SYNCHRONIZE, KZV_NO_CALLBACK, KZV_COMPLETE, KZV_PENDING };
 
 /* A postoperation's verdict, in `mode`. */
-enum { KZ_FINISHED, KZ_MORE_PROCESSING };
+enum { KZV_FINISHED, KZV_MORE_PROCESSING };
 
 /* What a worker is to do next, in `action`: call the instance's preoperation, have the base called, call the instance's postoperation with its number (and
  * its context, if `has` isn't 0), give it a drain; nothing, ask again; nothing, a filter holds the operation; nothing, it is done. */
-enum { KZ_PRE, KZ_BASE, KZ_POST, KZ_DRAIN, KZ_MOVED, KZ_HELD, KZ_DONE };
+enum { KZA_PRE, KZA_BASE, KZA_POST, KZA_DRAIN, KZA_MOVED, KZA_HELD, KZA_DONE };
 
 /* Of what kazdrin_phase tells the phase, in `mode`, and the phases. */
-enum { KZ_OF_INSTANCE, KZ_OF_FILTER, KZ_OF_VOLUME };
-enum { KZ_INSTANCE_SETUP, KZ_INSTANCE_ATTACHED, KZ_INSTANCE_STOPPING, KZ_INSTANCE_COMPLETING, KZ_INSTANCE_EMPTYING, KZ_INSTANCE_DETACHED };
-enum { KZ_FILTER_LOADED, KZ_FILTER_UNLOADING, KZ_FILTER_EMPTIED, KZ_FILTER_NOT_LOADED };
-enum { KZ_VOLUME_MOUNTED, KZ_VOLUME_DISMOUNTING, KZ_VOLUME_EMPTIED, KZ_VOLUME_FINISHED };
+enum { KZP_OF_INSTANCE, KZP_OF_FILTER, KZP_OF_VOLUME };
+enum { KZP_INSTANCE_SETUP, KZP_INSTANCE_ATTACHED, KZP_INSTANCE_STOPPING, KZP_INSTANCE_COMPLETING, KZP_INSTANCE_EMPTYING, KZP_INSTANCE_DETACHED };
+enum { KZP_FILTER_LOADED, KZP_FILTER_UNLOADING, KZP_FILTER_EMPTIED, KZP_FILTER_NOT_LOADED };
+enum { KZP_VOLUME_MOUNTED, KZP_VOLUME_DISMOUNTING, KZP_VOLUME_EMPTIED, KZP_VOLUME_FINISHED };
 
 /* What every call but kazdrin_open and kazdrin_close answers on a handle that is closed. */
-#define KZ_CLOSED 35
+#define KZS_CLOSED 35
 
 /* Each answers 0, or the number of the status with which it was refused. */
 uint32_t kazdrin_open(Kazdrin *kazdrin);

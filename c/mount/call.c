@@ -1,7 +1,7 @@
 /* Asking, and what is left of it. */
 #include "call.h"
 
-#include "status.h"
+#include "error.h"
 
 #include <errno.h>
 #include <stdlib.h>
@@ -79,7 +79,7 @@ int call_open(Call *call, const char *path, uint8_t mode)
         error = call_ask(call, request_create((uint8_t)call->mount->options.volume, mode, path), &reply);
     if (error != 0)
         return error;
-    if (reply.status != STATUS_SUCCESS)
+    if (reply.status != KZS_OK)
         return mode == CREATE_EXISTING ? errno_of_look(reply.status) : errno_of(reply.status);
     call->has_handle = true;
     call->handle = reply.information;
@@ -142,7 +142,7 @@ static void *settle(void *abandoned)
     if (receive(call, &reply) != 0) {
         call->has_handle = false;
         pool_lost(pool, call->line);
-    } else if (call->code == FRAME_CREATE && reply.status == STATUS_SUCCESS) {
+    } else if (call->code == FRAME_CREATE && reply.status == KZS_OK) {
         call->has_handle = true;
         call->handle = reply.information;
     }

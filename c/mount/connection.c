@@ -76,13 +76,9 @@ static void advance(struct msghdr *message, size_t sent)
 
 int connection_send(Connection *connection, const Request *request)
 {
-    uint8_t head[9 + sizeof request->fields];
-    size_t length = SHORTEST_BODY + request->fields_length + request->length;
-    put_number(head, length, 4);
-    put_number(head + 4, request->code, 1);
-    put_number(head + 5, ++connection->number, 4);
-    memcpy(head + 9, request->fields, request->fields_length);
-    struct iovec parts[2] = {{head, 9 + request->fields_length}, {(void *)request->bytes, request->length}};
+    uint8_t head[LONGEST_REQUEST_HEAD];
+    size_t length = request_head(request, ++connection->number, head);
+    struct iovec parts[2] = {{head, length}, {(void *)request->bytes, request->length}};
     struct msghdr message = {.msg_iov = parts, .msg_iovlen = 2};
     connection->received = 0;
     while (message.msg_iovlen > 0) {
@@ -95,22 +91,11 @@ int connection_send(Connection *connection, const Request *request)
     return 0;
 }
 
-/* Reads the frame that has come whole. */
-static int read_reply(const Connection *connection, Reply *reply)
-{
-    const uint8_t *body = connection->room + 4;
-    size_t length = connection->received - 4;
-    if (length < REPLY_HEAD || body[0] != FRAME_REPLY || number_at(body + 1, 4) != connection->number)
-        return EPROTO;
-    *reply = (Reply){body[5], number_at(body + 6, 8), body + REPLY_HEAD, length - REPLY_HEAD};
-    return 0;
-}
-
 /* How many bytes the frame has with its length in front, and 0 where no frame has so many. */
 static size_t whole(const Connection *connection)
 {
-    uint64_t length = number_at(connection->room, 4);
-    return length < SHORTEST_BODY || length > LONGEST_BODY ? 0 : (size_t)length + 4;
+    uint64_t length = number_at(connection->room, FRAME_HEAD);
+    return is_body_length(length) ? (size_t)length + FRAME_HEAD : 0;
 }
 
 int connection_receive(Connection *connection, Reply *reply)
@@ -124,12 +109,12 @@ int connection_receive(Connection *connection, Reply *reply)
         if (count == 0)
             return EIO;
         connection->received += (size_t)count;
-        if (connection->received < 4)
+        if (connection->received < FRAME_HEAD)
             continue;
         if (connection->received > whole(connection))
             return EPROTO;
         if (connection->received == whole(connection))
-            return read_reply(connection, reply);
+            return reply_read(connection->room + FRAME_HEAD, connection->received - FRAME_HEAD, connection->number, reply) ? 0 : EPROTO;
     }
 }
 

@@ -2,7 +2,7 @@
 #ifndef KZ_MOUNT_CONNECTION_H
 #define KZ_MOUNT_CONNECTION_H
 
-#include "request.h"
+#include "wire/client.h"
 #include "wait.h"
 
 #include <sys/types.h>
@@ -18,7 +18,7 @@ typedef struct {
     int socket; /* -1: it is gone */
     uint32_t number;
     size_t received;
-    uint8_t room[4 + LONGEST_BODY];
+    uint8_t room[LONGEST_FRAME]; /* a reply's bytes lie in it until the server is asked again */
 } Connection;
 
 /* Each answers 0 or an errno. */

@@ -1,7 +1,7 @@
 #include "data.h"
 
 #include "files.h"
-#include "status.h"
+#include "error.h"
 
 #include <errno.h>
 #include <fcntl.h>
@@ -15,7 +15,7 @@ static File *file_of(const struct fuse_file_info *info)
 static int ask_read(Call *call, uint64_t handle, size_t size, uint64_t offset, Reply *reply)
 {
     int error = call_ask(call, request_read(handle, offset, (uint32_t)size), reply);
-    if (error == 0 && reply->status == STATUS_END_OF_FILE)
+    if (error == 0 && reply->status == KZS_END_OF_FILE)
         reply->length = 0;
     else if (error == 0)
         error = errno_of(reply->status);

@@ -2,7 +2,7 @@
 
 #include "attributes.h"
 #include "path.h"
-#include "status.h"
+#include "error.h"
 
 #include <errno.h>
 #include <linux/fuse.h>
@@ -88,7 +88,7 @@ static int ask_list(Call *call, char **names)
     if (error == 0)
         error = call_ask(call, request_list((uint8_t)call->mount->options.volume), &reply);
     if (error == 0)
-        error = reply.status == STATUS_TOO_MANY ? EOVERFLOW : errno_of(reply.status);
+        error = reply.status == KZS_TOO_MANY ? EOVERFLOW : errno_of(reply.status);
     if (error == 0) {
         *names = strndup((const char *)reply.bytes, reply.length);
         error = *names ? 0 : ENOMEM;

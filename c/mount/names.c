@@ -3,7 +3,7 @@
 #include "attributes.h"
 #include "files.h"
 #include "path.h"
-#include "status.h"
+#include "error.h"
 
 #include <errno.h>
 

@@ -2,7 +2,7 @@
 #ifndef KZ_MOUNT_NODES_H
 #define KZ_MOUNT_NODES_H
 
-#include "request.h"
+#include "wire/client.h"
 #include "wait.h"
 
 #include <sys/stat.h>

@@ -2,7 +2,7 @@
 #ifndef KZ_MOUNT_PATH_H
 #define KZ_MOUNT_PATH_H
 
-#include "request.h"
+#include "wire/client.h"
 
 #include <stdbool.h>
 

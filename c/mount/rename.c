@@ -4,7 +4,7 @@
 
 #include "names.h"
 #include "path.h"
-#include "status.h"
+#include "error.h"
 
 #include <errno.h>
 #include <stdlib.h>
@@ -33,10 +33,10 @@ static int copy_piece(Call *call, uint64_t from, uint64_t to, uint64_t offset)
     int error = call_ask(call, request_read(from, offset, sizeof piece), &reply);
     if (error != 0)
         return -error;
-    if (reply.status == STATUS_END_OF_FILE || (reply.status == STATUS_SUCCESS && reply.length == 0))
+    if (reply.status == KZS_END_OF_FILE || (reply.status == KZS_OK && reply.length == 0))
         return 0;
-    if (reply.status != STATUS_SUCCESS || reply.length > sizeof piece)
-        return -(reply.status != STATUS_SUCCESS ? errno_of(reply.status) : EPROTO);
+    if (reply.status != KZS_OK || reply.length > sizeof piece)
+        return -(reply.status != KZS_OK ? errno_of(reply.status) : EPROTO);
     size_t length = reply.length;
     memcpy(piece, reply.bytes, length);
     error = call_do(call, request_write(to, offset, piece, length), &reply);

@@ -1,14 +1,10 @@
 /* The host is one thread's, and so is all of this. */
 #include "answer.h"
 
-#include "busy.h"
-
-#include "../host/host.h"
+#include "host.h"
 
 #include <stdlib.h>
 #include <string.h>
-
-enum { NO_HANDLE = 14, DISMOUNTING = 33 };
 
 static Link *all;
 static size_t all_count;
@@ -27,9 +23,9 @@ static Link *waiting_for(uint64_t operation)
 
 static void finish(Link *link, KzReply reply, const uint8_t *bytes, size_t length)
 {
-    if (link->code == FRAME_CREATE && reply.status == KZ_OK)
+    if (link->code == FRAME_CREATE && reply.status == KZS_OK)
         link_add(link, reply.information);
-    if (link->code == FRAME_CLOSE && reply.status == KZ_OK)
+    if (link->code == FRAME_CLOSE && reply.status == KZS_OK)
         link_forget(link, link->handle);
     link_reply(link, (uint8_t)reply.status, reply.information, bytes, length);
 }
@@ -65,7 +61,7 @@ static void create(Link *link, const Frame *frame)
     char path[LONGEST_PATH + 1] = "";
     memcpy(path, frame->text, frame->text_length);
     asking = link;
-    kz_perform((KazdrinEvent){.event = KZ_CREATE, .volume = frame->volume, .mode = frame->mode}, path, frame->text_length, path);
+    kz_perform((KazdrinEvent){.event = KZE_CREATE, .volume = frame->volume, .mode = frame->mode}, path, frame->text_length, path);
 }
 
 static void close_handle(Link *link)
@@ -78,8 +74,8 @@ static void close_handle(Link *link)
 static KazdrinEvent event_of(const Frame *frame)
 {
     static const uint8_t events[] = {
-        [FRAME_READ] = KZ_READ,         [FRAME_WRITE] = KZ_WRITE, [FRAME_QUERY_SIZE] = KZ_QUERY_SIZE, [FRAME_SET_SIZE] = KZ_SET_SIZE,
-        [FRAME_FLUSH] = KZ_FLUSH,       [FRAME_LIST] = KZ_LIST,   [FRAME_SET_DELETE] = KZ_SET_DELETE,
+        [FRAME_READ] = KZE_READ,         [FRAME_WRITE] = KZE_WRITE, [FRAME_QUERY_SIZE] = KZE_QUERY_SIZE, [FRAME_SET_SIZE] = KZE_SET_SIZE,
+        [FRAME_FLUSH] = KZE_FLUSH,       [FRAME_LIST] = KZE_LIST,   [FRAME_SET_DELETE] = KZE_SET_DELETE,
     };
     return (KazdrinEvent){.event = events[frame->code], .volume = frame->volume, .handle = frame->handle, .offset = frame->offset, .len = frame->length};
 }
@@ -93,17 +89,17 @@ static bool is_of_handle(uint8_t code)
 static uint8_t refusal(const Link *link, const Frame *frame)
 {
     if (is_of_handle(frame->code) && !link_has(link, frame->handle))
-        return NO_HANDLE;
+        return KZS_NO_HANDLE;
     if (frame->volume >= kz.volumes_count)
-        return KZ_NO_VOLUME;
-    return is_closed[frame->volume] ? DISMOUNTING : KZ_OK;
+        return KZS_NO_VOLUME;
+    return is_closed[frame->volume] ? KZS_DISMOUNTING : KZS_OK;
 }
 
 static void operate(Link *link, const Frame *frame)
 {
     uint8_t status = refusal(link, frame);
     link->handle = frame->handle;
-    if (status != KZ_OK) {
+    if (status != KZS_OK) {
         link_reply(link, status, 0, NULL, 0);
     } else if (frame->code == FRAME_CREATE) {
         create(link, frame);
@@ -135,9 +131,9 @@ static uint32_t attach(const Frame *frame, uint64_t *number)
     copy_text(name, frame->text, frame->text_length);
     copy_text(altitude, frame->altitude, frame->altitude_length);
     if (frame->filter >= kz.filters_count)
-        return KZ_NO_FILTER;
+        return KZS_NO_FILTER;
     if (frame->volume >= kz.volumes_count)
-        return KZ_NO_VOLUME;
+        return KZS_NO_VOLUME;
     return kz_attach(kz.filters[frame->filter], kz.volumes[frame->volume], name, altitude, FLTFL_INSTANCE_SETUP_MANUAL_ATTACHMENT, number);
 }
 
@@ -154,9 +150,9 @@ static uint32_t dismount(uint8_t volume)
 {
     KazdrinTold told = {0};
     is_closed[volume] = true;
-    if (kazdrin_phase(&kz.manager, &(KazdrinEvent){.mode = KZ_OF_VOLUME, .volume = volume}, &told) == KZ_OK && told.has && told.number == KZ_VOLUME_FINISHED)
-        return DISMOUNTING;
-    return is_anybody_waiting() ? KZ_BUSY : kz_dismount(kz.volumes[volume]);
+    if (kazdrin_phase(&kz.manager, &(KazdrinEvent){.mode = KZP_OF_VOLUME, .volume = volume}, &told) == KZS_OK && told.has && told.number == KZP_VOLUME_FINISHED)
+        return KZS_DISMOUNTING;
+    return is_anybody_waiting() ? KZS_BUSY : kz_dismount(kz.volumes[volume]);
 }
 
 static uint32_t control(const Frame *frame, uint64_t *number)
@@ -167,13 +163,13 @@ static uint32_t control(const Frame *frame, uint64_t *number)
     case FRAME_ATTACH:
         return attach(frame, number);
     case FRAME_DETACH:
-        return frame->instance < kz.instances_count ? kz_detach(kz.instances[frame->instance]) : KZ_NO_INSTANCE;
+        return frame->instance < kz.instances_count ? kz_detach(kz.instances[frame->instance]) : KZS_NO_INSTANCE;
     case FRAME_UNLOAD:
-        return frame->filter < kz.filters_count ? kz_unload(kz.filters[frame->filter]) : KZ_NO_FILTER;
+        return frame->filter < kz.filters_count ? kz_unload(kz.filters[frame->filter]) : KZS_NO_FILTER;
     case FRAME_DISMOUNT:
-        return frame->volume < kz.volumes_count ? dismount(frame->volume) : KZ_NO_VOLUME;
+        return frame->volume < kz.volumes_count ? dismount(frame->volume) : KZS_NO_VOLUME;
     default:
-        return KZ_OK;
+        return KZS_OK;
     }
 }
 
@@ -181,9 +177,9 @@ static uint32_t control(const Frame *frame, uint64_t *number)
 static void manage(Link *link, const Frame *frame)
 {
     uint64_t number = 0;
-    busy_forget();
+    kz_forget_busy();
     uint32_t status = control(frame, &number);
-    uint64_t information = status == KZ_BUSY ? busy_number() : status == KZ_OK ? number : 0;
+    uint64_t information = status == KZS_BUSY ? kz_me->busy_number : status == KZS_OK ? number : 0;
     link_reply(link, (uint8_t)status, information, NULL, 0);
 }
 
@@ -194,13 +190,13 @@ bool answer_frame(Link *link, const uint8_t *body, size_t length)
     link->code = frame.code;
     link->number = frame.number;
     kz_tick();
-    if (status != KZ_OK)
+    if (status != KZS_OK)
         link_reply(link, status, 0, NULL, 0);
     else if (frame.code < FRAME_LOAD)
         operate(link, &frame);
     else
         manage(link, &frame);
-    return status == KZ_OK && frame.code == FRAME_STOP;
+    return status == KZS_OK && frame.code == FRAME_STOP;
 }
 
 void answer_due_closes(void)
@@ -215,7 +211,7 @@ void answer_due_closes(void)
 /* A handle that is there no more is closed, too. */
 static bool was_closed(KzReply reply)
 {
-    return !reply.held && (reply.status == KZ_OK || reply.status == NO_HANDLE || reply.status == DISMOUNTING);
+    return !reply.held && (reply.status == KZS_OK || reply.status == KZS_NO_HANDLE || reply.status == KZS_DISMOUNTING);
 }
 
 /* Each handle is tried once. */

@@ -1,6 +1,6 @@
 #include "link.h"
 
-#include "../host/host.h"
+#include "host.h"
 
 #include <errno.h>
 #include <stdlib.h>
@@ -35,7 +35,7 @@ const uint8_t *link_frame(Link *link, size_t *length)
     uint64_t wanted = number_at(link->in, 4);
     if (!is_body_length(wanted)) {
         link->number = 0;
-        link_reply(link, KZ_BAD_REQUEST, 0, NULL, 0);
+        link_reply(link, KZS_BAD_REQUEST, 0, NULL, 0);
         link->is_faulted = true;
         return NULL;
     }

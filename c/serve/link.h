@@ -2,7 +2,7 @@
 #ifndef KZ_SERVE_LINK_H
 #define KZ_SERVE_LINK_H
 
-#include "frame.h"
+#include "wire/server.h"
 
 #define LINKS 32
 

@@ -2,9 +2,7 @@
  * Exit status: 0, or 5 where a driver's mistake was told, 1 for want of memory, 2 for wrong words, 3 where the folder or the socket isn't to be had. */
 #define _GNU_SOURCE
 #include "answer.h"
-#include "busy.h"
-
-#include "../host/host.h"
+#include "host.h"
 
 #include <errno.h>
 #include <poll.h>
@@ -167,7 +165,7 @@ int main(int count, char **words)
     }
     for (size_t at = 0; at < LINKS; at++)
         links[at].socket = -1;
-    int error = serve_folder(words[1]);
+    int error = kz_use_folder(words[1]);
     errno = error;
     if (error != 0)
         return fault(words[1]);

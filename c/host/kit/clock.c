@@ -1,0 +1,449 @@
+/* Time and what waits for it: events, semaphores, mutexes, timers. The clock begins with a year, goes on by a millisecond for each request, and otherwise only where a
+ * test or a driver asks for it. A timer never fires unless time passes. */
+#include "host.h"
+
+enum { EVENT_KEEPS = 0, EVENT_RESETS = 1, MUTANT = 2, SEMAPHORE = 5, TIMER_KEEPS = 8, TIMER_RESETS = 9 };
+#define BEGINS 134116992000000000LL /* 2026-01-01 00:00:00 UTC */
+#define MILLISECOND 10000LL
+
+static LONGLONG passed;
+static PKTIMER timers[64];
+static size_t timers_count;
+static PRKDPC dpcs[64];
+static size_t dpcs_count;
+
+VOID KeQuerySystemTime(PLARGE_INTEGER CurrentTime)
+{
+    KZ_INSIDE();
+    CurrentTime->QuadPart = BEGINS + passed;
+}
+
+ULONGLONG KeQueryInterruptTime(VOID)
+{
+    KZ_INSIDE();
+    return (ULONGLONG)passed;
+}
+
+VOID KeQueryTickCount(PLARGE_INTEGER CurrentCount)
+{
+    KZ_INSIDE();
+    CurrentCount->QuadPart = passed / (LONGLONG)KeQueryTimeIncrement();
+}
+
+ULONG KeQueryTimeIncrement(VOID)
+{
+    return 156250;
+}
+
+LARGE_INTEGER KeQueryPerformanceCounter(PLARGE_INTEGER PerformanceFrequency)
+{
+    KZ_INSIDE();
+    if (PerformanceFrequency)
+        PerformanceFrequency->QuadPart = 10000000;
+    return (LARGE_INTEGER){.QuadPart = passed};
+}
+
+VOID ExSystemTimeToLocalTime(PLARGE_INTEGER SystemTime, PLARGE_INTEGER LocalTime)
+{
+    *LocalTime = *SystemTime;
+}
+
+VOID ExLocalTimeToSystemTime(PLARGE_INTEGER LocalTime, PLARGE_INTEGER SystemTime)
+{
+    *SystemTime = *LocalTime;
+}
+
+/* Days since 1601 of a date of the Gregorian calendar. */
+static LONGLONG days_before(int year, int month, int day)
+{
+    LONGLONG y = month <= 2 ? year - 1 : year, shifted = (month + 9) % 12;
+    return y * 365 + y / 4 - y / 100 + y / 400 + (shifted * 306 + 5) / 10 + day - 1 - 584694;
+}
+
+VOID RtlTimeToTimeFields(PLARGE_INTEGER Time, PTIME_FIELDS TimeFields)
+{
+    LONGLONG milliseconds = Time->QuadPart / MILLISECOND, days = milliseconds / 86400000, rest = milliseconds % 86400000;
+    int year = (int)(1601 + days / 366), month = 1;
+    while (days_before(year + 1, 1, 1) <= days)
+        year++;
+    while (month < 12 && days_before(year, month + 1, 1) <= days)
+        month++;
+    *TimeFields = (TIME_FIELDS){(CSHORT)year,
+                                (CSHORT)month,
+                                (CSHORT)(days - days_before(year, month, 1) + 1),
+                                (CSHORT)(rest / 3600000),
+                                (CSHORT)(rest / 60000 % 60),
+                                (CSHORT)(rest / 1000 % 60),
+                                (CSHORT)(rest % 1000),
+                                (CSHORT)((days + 1) % 7)};
+}
+
+BOOLEAN RtlTimeFieldsToTime(PTIME_FIELDS TimeFields, PLARGE_INTEGER Time)
+{
+    if (TimeFields->Year < 1601 || TimeFields->Month < 1 || TimeFields->Month > 12 || TimeFields->Day < 1 || TimeFields->Day > 31)
+        return FALSE;
+    LONGLONG days = days_before(TimeFields->Year, TimeFields->Month, TimeFields->Day);
+    Time->QuadPart =
+        (((days * 24 + TimeFields->Hour) * 60 + TimeFields->Minute) * 60 + TimeFields->Second) * 10000000 + TimeFields->Milliseconds * MILLISECOND;
+    return TRUE;
+}
+
+/* ---- Deferred procedure calls: they run once the request is answered, at DISPATCH_LEVEL. */
+VOID KeInitializeDpc(PRKDPC Dpc, PKDEFERRED_ROUTINE DeferredRoutine, PVOID DeferredContext)
+{
+    *Dpc = (KDPC){.DeferredRoutine = DeferredRoutine, .DeferredContext = DeferredContext};
+}
+
+BOOLEAN KeInsertQueueDpc(PRKDPC Dpc, PVOID SystemArgument1, PVOID SystemArgument2)
+{
+    KZ_CALL();
+    if (Dpc->DpcData || dpcs_count == sizeof dpcs / sizeof dpcs[0])
+        return FALSE;
+    Dpc->SystemArgument1 = SystemArgument1;
+    Dpc->SystemArgument2 = SystemArgument2;
+    Dpc->DpcData = kz_me->place.filter;
+    if (!Dpc->DpcData)
+        Dpc->DpcData = Dpc;
+    dpcs[dpcs_count++] = Dpc;
+    kz_scheduler->touch(Dpc, 0, KZT_GIVES);
+    return TRUE;
+}
+
+BOOLEAN KeRemoveQueueDpc(PRKDPC Dpc)
+{
+    KZ_CALL();
+    for (size_t at = 0; at < dpcs_count; at++)
+        if (dpcs[at] == Dpc) {
+            memmove(dpcs + at, dpcs + at + 1, (--dpcs_count - at) * sizeof dpcs[0]);
+            Dpc->DpcData = NULL;
+            return TRUE;
+        }
+    return FALSE;
+}
+
+bool kz_has_dpc(void)
+{
+    return dpcs_count > 0;
+}
+
+bool kz_run_dpc(void)
+{
+    if (!dpcs_count)
+        return false;
+    PRKDPC dpc = dpcs[0];
+    PFLT_FILTER filter = dpc->DpcData == dpc ? NULL : dpc->DpcData;
+    KeRemoveQueueDpc(dpc);
+    KzPlace before = kz_enter(KZ_IN_TIMER, filter, NULL, NULL, NULL);
+    KIRQL irql = KfRaiseIrql(DISPATCH_LEVEL);
+    kz_scheduler->touch(dpc, 0, KZT_TAKES);
+    unsigned depth = kz_let_driver("timer");
+    dpc->DeferredRoutine(dpc, dpc->DeferredContext, dpc->SystemArgument1, dpc->SystemArgument2);
+    kz_driver_returned(depth, "timer returns");
+    KeLowerIrql(irql);
+    kz_leave(before);
+    return true;
+}
+
+VOID KeFlushQueuedDpcs(VOID)
+{
+    KZ_INSIDE();
+    while (kz_run_dpc())
+        ;
+}
+
+/* ---- Timers. */
+VOID KeInitializeTimerEx(PKTIMER Timer, TIMER_TYPE Type)
+{
+    *Timer = (KTIMER){.Header.Type = (UCHAR)(Type == NotificationTimer ? TIMER_KEEPS : TIMER_RESETS)};
+}
+
+VOID KeInitializeTimer(PKTIMER Timer)
+{
+    KeInitializeTimerEx(Timer, NotificationTimer);
+}
+
+BOOLEAN KeCancelTimer(PKTIMER Timer)
+{
+    KZ_CALL();
+    for (size_t at = 0; at < timers_count; at++)
+        if (timers[at] == Timer) {
+            memmove(timers + at, timers + at + 1, (--timers_count - at) * sizeof timers[0]);
+            return TRUE;
+        }
+    return FALSE;
+}
+
+BOOLEAN KeSetTimerEx(PKTIMER Timer, LARGE_INTEGER DueTime, LONG Period, PKDPC Dpc)
+{
+    KZ_CALL();
+    BOOLEAN was_set = KeCancelTimer(Timer);
+    LONGLONG due = DueTime.QuadPart < 0 ? passed - DueTime.QuadPart : DueTime.QuadPart - BEGINS;
+    Timer->DueTime.QuadPart = (ULONGLONG)due;
+    Timer->Period = Period;
+    Timer->Dpc = Dpc;
+    Timer->Header.SignalState = 0;
+    Timer->TimerListEntry.Flink = (PLIST_ENTRY)kz_me->place.filter;
+    if (timers_count < sizeof timers / sizeof timers[0])
+        timers[timers_count++] = Timer;
+    return was_set;
+}
+
+BOOLEAN KeSetTimer(PKTIMER Timer, LARGE_INTEGER DueTime, PKDPC Dpc)
+{
+    return KeSetTimerEx(Timer, DueTime, 0, Dpc);
+}
+
+BOOLEAN KeReadStateTimer(PKTIMER Timer)
+{
+    KZ_INSIDE();
+    return Timer->Header.SignalState != 0;
+}
+
+static PKTIMER next_due(LONGLONG until)
+{
+    PKTIMER next = NULL;
+    for (size_t at = 0; at < timers_count; at++)
+        if ((LONGLONG)timers[at]->DueTime.QuadPart <= until && (!next || timers[at]->DueTime.QuadPart < next->DueTime.QuadPart))
+            next = timers[at];
+    return next;
+}
+
+static void fire(PKTIMER timer)
+{
+    PFLT_FILTER filter = (PFLT_FILTER)timer->TimerListEntry.Flink;
+    KeCancelTimer(timer);
+    if ((LONGLONG)timer->DueTime.QuadPart > passed)
+        passed = (LONGLONG)timer->DueTime.QuadPart;
+    timer->Header.SignalState = 1;
+    if (timer->Period) {
+        timer->DueTime.QuadPart += (ULONGLONG)timer->Period * MILLISECOND;
+        if (timers_count < sizeof timers / sizeof timers[0])
+            timers[timers_count++] = timer;
+    }
+    if (timer->Dpc) {
+        KzPlace before = kz_me->place;
+        kz_me->place.filter = filter;
+        KeInsertQueueDpc(timer->Dpc, NULL, NULL);
+        kz_me->place = before;
+    }
+}
+
+/* Lets that many units of 100 nanoseconds pass; what is due meanwhile fires, one after the other. */
+static void pass(LONGLONG units)
+{
+    LONGLONG until = passed + units;
+    for (PKTIMER timer = next_due(until); timer; timer = next_due(until)) {
+        fire(timer);
+        KeFlushQueuedDpcs();
+    }
+    if (until > passed)
+        passed = until;
+}
+
+void kz_pass(uint64_t milliseconds)
+{
+    pass((LONGLONG)milliseconds * MILLISECOND);
+}
+
+void kz_tick(void)
+{
+    passed += MILLISECOND;
+}
+
+void kz_forget_timers(PFLT_FILTER filter)
+{
+    for (size_t at = timers_count; at-- > 0;)
+        if ((PFLT_FILTER)timers[at]->TimerListEntry.Flink == filter) {
+            KzPlace before = kz_enter(KZ_IN_NOTHING, filter, NULL, NULL, NULL);
+            kz_tell(KZM_TIMER_LEFT, "KeCancelTimer", "never called for a timer that is set: it would fire in a driver that is gone");
+            kz_me->place = before;
+            KeCancelTimer(timers[at]);
+        }
+}
+
+void kz_free_clock(void)
+{
+    passed = 0;
+    timers_count = dpcs_count = 0;
+}
+
+/* ---- What can be waited for. */
+VOID KeInitializeEvent(PRKEVENT Event, EVENT_TYPE Type, BOOLEAN State)
+{
+    *Event = (KEVENT){.Header = {.Type = (UCHAR)(Type == NotificationEvent ? EVENT_KEEPS : EVENT_RESETS), .SignalState = State}};
+}
+
+LONG KeSetEvent(PRKEVENT Event, KPRIORITY Increment, BOOLEAN Wait)
+{
+    KZ_CALL();
+    (void)Increment, (void)Wait;
+    LONG before = Event->Header.SignalState;
+    Event->Header.SignalState = 1;
+    kz_scheduler->touch(Event, 0, KZT_GIVES);
+    return before;
+}
+
+LONG KeResetEvent(PRKEVENT Event)
+{
+    KZ_CALL();
+    LONG before = Event->Header.SignalState;
+    Event->Header.SignalState = 0;
+    kz_scheduler->touch(Event, 0, KZT_TAKES);
+    return before;
+}
+
+VOID KeClearEvent(PRKEVENT Event)
+{
+    KZ_CALL();
+    Event->Header.SignalState = 0;
+}
+
+LONG KeReadStateEvent(PRKEVENT Event)
+{
+    KZ_CALL();
+    kz_scheduler->touch(Event, 0, KZT_TAKES);
+    return Event->Header.SignalState;
+}
+
+VOID KeInitializeSemaphore(PRKSEMAPHORE Semaphore, LONG Count, LONG Limit)
+{
+    *Semaphore = (KSEMAPHORE){.Header = {.Type = SEMAPHORE, .SignalState = Count}, .Limit = Limit};
+}
+
+LONG KeReleaseSemaphore(PRKSEMAPHORE Semaphore, KPRIORITY Increment, LONG Adjustment, BOOLEAN Wait)
+{
+    KZ_CALL();
+    (void)Increment, (void)Wait;
+    LONG before = Semaphore->Header.SignalState;
+    kz_scheduler->touch(Semaphore, 0, KZT_GIVES);
+    if (before > Semaphore->Limit - Adjustment)
+        kz_tell(KZM_LOCK_NOT_HELD, __func__, "past the limit of the semaphore");
+    else
+        Semaphore->Header.SignalState += Adjustment;
+    return before;
+}
+
+VOID KeInitializeMutex(PRKMUTEX Mutex, ULONG Level)
+{
+    (void)Level;
+    *Mutex = (KMUTEX){.Header = {.Type = MUTANT, .SignalState = 1}};
+}
+
+LONG KeReleaseMutex(PRKMUTEX Mutex, BOOLEAN Wait)
+{
+    KZ_CALL();
+    (void)Wait;
+    LONG before = Mutex->Header.SignalState;
+    KzLetGo(Mutex, __func__);
+    Mutex->Header.SignalState = KzIsHeld(Mutex) ? 0 : 1;
+    return before;
+}
+
+/* Whether it doesn't have to be waited for; then it is taken. */
+static bool is_there(PDISPATCHER_HEADER object)
+{
+    if (object->Type == MUTANT) {
+        KzTake(object, KZ_AGAIN, PASSIVE_LEVEL, "KeWaitForSingleObject");
+        object->SignalState = 0;
+        return true;
+    }
+    if (object->SignalState <= 0)
+        return false;
+    kz_scheduler->touch(object, 0, KZT_TAKES);
+    if (object->Type == SEMAPHORE)
+        object->SignalState--;
+    else if (object->Type == EVENT_RESETS || object->Type == TIMER_RESETS)
+        object->SignalState = 0;
+    return true;
+}
+
+static LONGLONG units_of(PLARGE_INTEGER timeout)
+{
+    return timeout->QuadPart <= 0 ? -timeout->QuadPart : timeout->QuadPart - BEGINS - passed;
+}
+
+static bool is_signalled(void *object)
+{
+    PDISPATCHER_HEADER header = object;
+    return header->Type == MUTANT ? !kz_is_taken(object) : header->SignalState > 0;
+}
+
+/* Beside other clients it waits for one of them, or for as long as it is to. */
+static NTSTATUS wait_for(PDISPATCHER_HEADER object, LONGLONG units)
+{
+    kz_me->timeout = units > 0 ? (uint64_t)(units / MILLISECOND) + 1 : 0;
+    bool is_over = (kz_me->timeout && kz_scheduler->choose(2, "the time is over")) || !kz_wait(is_signalled, object, "KeWaitForSingleObject");
+    kz_me->timeout = 0;
+    if (is_over)
+        return STATUS_TIMEOUT;
+    return is_there(object) ? STATUS_SUCCESS : STATUS_TIMEOUT;
+}
+
+/* What else runs here, work items and timers, goes on meanwhile. */
+NTSTATUS KeWaitForSingleObject(PVOID Object, KWAIT_REASON WaitReason, KPROCESSOR_MODE WaitMode, BOOLEAN Alertable, PLARGE_INTEGER Timeout)
+{
+    KZ_CALL();
+    (void)WaitReason, (void)WaitMode, (void)Alertable;
+    if (is_signalled(Object) && is_there(Object))
+        return STATUS_SUCCESS;
+    if (Timeout && units_of(Timeout) <= 0)
+        return STATUS_TIMEOUT;
+    if (KeGetCurrentIrql() > APC_LEVEL)
+        kz_tell(KZM_IRQL, __func__, "a wait at IRQL %u", KeGetCurrentIrql());
+    if (kz_has_others())
+        return wait_for(Object, Timeout ? units_of(Timeout) : 0);
+    while (kz_run_dpc() || kz_work())
+        if (is_there(Object))
+            return STATUS_SUCCESS;
+    for (LONGLONG until = Timeout ? passed + units_of(Timeout) : passed + 3600 * 1000 * MILLISECOND; next_due(until);) {
+        fire(next_due(until));
+        KeFlushQueuedDpcs();
+        while (kz_work())
+            ;
+        if (is_there(Object))
+            return STATUS_SUCCESS;
+    }
+    if (Timeout)
+        pass(units_of(Timeout));
+    else
+        kz_tell(KZM_NOBODY_SETS, __func__, "nobody else runs here who would set it: the wait ends with STATUS_TIMEOUT");
+    return STATUS_TIMEOUT;
+}
+
+NTSTATUS KeWaitForMultipleObjects(ULONG Count, PVOID Object[], WAIT_TYPE WaitType, KWAIT_REASON WaitReason, KPROCESSOR_MODE WaitMode, BOOLEAN Alertable,
+                                  PLARGE_INTEGER Timeout, PVOID WaitBlockArray)
+{
+    (void)WaitBlockArray;
+    LARGE_INTEGER now = {.QuadPart = 0};
+    if (WaitType == WaitAny) {
+        for (ULONG at = 0; at < Count; at++)
+            if (KeWaitForSingleObject(Object[at], WaitReason, WaitMode, Alertable, &now) == STATUS_SUCCESS)
+                return (NTSTATUS)at;
+        return Count ? KeWaitForSingleObject(Object[0], WaitReason, WaitMode, Alertable, Timeout) : STATUS_INVALID_PARAMETER;
+    }
+    for (ULONG at = 0; at < Count; at++) {
+        NTSTATUS status = KeWaitForSingleObject(Object[at], WaitReason, WaitMode, Alertable, Timeout);
+        if (status != STATUS_SUCCESS)
+            return status;
+    }
+    return STATUS_SUCCESS;
+}
+
+static bool never(void *unused)
+{
+    (void)unused;
+    return false;
+}
+
+NTSTATUS KeDelayExecutionThread(KPROCESSOR_MODE WaitMode, BOOLEAN Alertable, PLARGE_INTEGER Interval)
+{
+    KZ_CALL();
+    (void)WaitMode, (void)Alertable;
+    kz_me->timeout = (uint64_t)(units_of(Interval) > 0 ? units_of(Interval) / MILLISECOND : 0) + 1;
+    kz_wait(never, NULL, "KeDelayExecutionThread");
+    kz_me->timeout = 0;
+    while (!kz_has_others() && kz_work())
+        ;
+    pass(units_of(Interval));
+    return STATUS_SUCCESS;
+}

@@ -1,0 +1,594 @@
+/* Contexts. A context's body is memory of the host; the manager's body is the address of its header, and the manager alone decides when no object and no callback has it.
+ *
+ * The manager knows references of the callback that runs, and lets go of what that leaves behind. A driver may keep one longer, in a list or in a structure that goes to
+ * its postoperation: then the host keeps it for the driver, and the context isn't cleaned up before it was released. What is never released is told at the filter's end,
+ * with the callback that left it behind. */
+#include "host.h"
+
+#include <stdlib.h>
+
+/* How many headers of contexts that were cleaned up are remembered, to tell their use. */
+#define REMEMBERED 256
+
+/* A reference that the host keeps for the driver, and where it was left. */
+typedef struct Kept {
+    struct Kept *next;
+    KzPlace place;
+} Kept;
+
+typedef struct Header {
+    struct Header *next;
+    PVOID body;
+    uint32_t slot, generation;
+    uint8_t kind;
+    bool is_known; /* to the manager: not before it is set, if no callback of an instance allocated it, and not once it was cleaned up there */
+    bool is_in_cleanup, is_told;
+    FLT_CONTEXT_TYPE type;
+    PFLT_FILTER filter;
+    const FLT_CONTEXT_REGISTRATION *how;
+    Kept *kept;
+} Header;
+
+static Header *live;
+static Header dead[REMEMBERED];
+static size_t dead_next;
+
+static const char *const kind_names[] = {"a volume", "an instance", "a stream", "a stream handle"};
+
+/* ---- Finding. */
+static Header *find(PVOID body)
+{
+    for (Header *one = live; one; one = one->next)
+        if (one->body == body)
+            return one;
+    return NULL;
+}
+
+/* The context with that body. A body that was freed, or that is none, is told. */
+static Header *context_of(PVOID body, const char *call)
+{
+    Header *found = find(body);
+    if (found)
+        return found;
+    for (size_t at = 0; at < REMEMBERED; at++)
+        if (body && dead[at].body == body) {
+            kz_tell(KZM_CLEANED_UP, call, "%s context that was cleaned up", kind_names[dead[at].kind]);
+            return NULL;
+        }
+    kz_tell(KZM_NO_CONTEXT_THERE, call, "no context");
+    return NULL;
+}
+
+static Header *known(uint32_t slot, uint32_t generation)
+{
+    for (Header *one = live; one; one = one->next)
+        if (one->is_known && one->slot == slot && one->generation == generation)
+            return one;
+    return NULL;
+}
+
+static PVOID body_of(uint32_t slot, uint32_t generation)
+{
+    Header *one = known(slot, generation);
+    return one ? one->body : NULL;
+}
+
+/* The same, for a callback that gets a reference. */
+static PVOID taken_body(uint32_t slot, uint32_t generation)
+{
+    Header *one = known(slot, generation);
+    if (one)
+        kz_scheduler->touch(one, 0, KZT_TAKES);
+    return one ? one->body : NULL;
+}
+
+/* ---- References that the host keeps. */
+static void keep(Header *context, const KzPlace *place)
+{
+    Kept *made = kz_memory(sizeof *made);
+    *made = (Kept){context->kept, *place};
+    context->kept = made;
+}
+
+static void drop(Header *context)
+{
+    Kept *gone = context->kept;
+    context->kept = gone->next;
+    free(gone);
+}
+
+/* ---- The end of a context: its filter's cleanup callback is called, and then its memory is freed. */
+static void finish(Header *context)
+{
+    KzPlace before = kz_enter(KZ_IN_CLEANUP, context->filter, NULL, NULL, NULL);
+    context->is_in_cleanup = true;
+    kz_scheduler->touch(context, 0, KZT_TAKES);
+    if (context->how->ContextCleanupCallback) {
+        unsigned depth = kz_let_driver("context cleanup");
+        context->how->ContextCleanupCallback(context->body, context->type);
+        kz_driver_returned(depth, "context cleanup returns");
+    }
+    kz_leave(before);
+    for (Header **at = &live; *at; at = &(*at)->next)
+        if (*at == context) {
+            *at = context->next;
+            break;
+        }
+    if (context->how->ContextFreeCallback)
+        context->how->ContextFreeCallback(context->body, context->type);
+    else
+        kz_give_back(context->body);
+    dead[dead_next] = *context;
+    dead_next = (dead_next + 1) % REMEMBERED;
+    while (context->kept)
+        drop(context);
+    free(context);
+}
+
+/* What is due in the manager: another worker takes it. As in the kit, it is called inside the call that gave up the last reference. */
+void kz_clean_up(void)
+{
+    uint8_t worker = kz_helper();
+    while (kz_event((KazdrinEvent){.event = KZE_TAKE_DUE, .worker = worker}) == KZS_OK && kz_me->told.has) {
+        Header *context;
+        memcpy(&context, kz_me->room, sizeof context);
+        context->is_known = false;
+        uint8_t own = kz_me->place.worker;
+        kz_me->place.worker = worker;
+        KazdrinTold told = kz_me->told;
+        if (!context->kept)
+            finish(context);
+        kz_me->told = told;
+        kz_me->place.worker = own;
+        kz_event((KazdrinEvent){.event = KZE_CLEANED, .worker = worker});
+        kz.changes++;
+    }
+    kz_helped(worker);
+}
+
+/* ---- Allocation. */
+static PVOID new_body(const FLT_CONTEXT_REGISTRATION *how, SIZE_T size, POOL_TYPE pool)
+{
+    if (how->ContextAllocateCallback)
+        return how->ContextAllocateCallback(pool, size, how->ContextType);
+    return kz_take_memory(KZK_CONTEXT, size, 0xcc, how->PoolTag); /* as in the kit, it isn't zeroed */
+}
+
+/* The manager gets to know a context, and the callback holds it. */
+static uint32_t make_known(Header *context)
+{
+    uint32_t status = kz_event_with((KazdrinEvent){.event = KZE_ALLOCATE, .kind = context->kind}, &context, sizeof context);
+    if (status == KZS_OK) {
+        context->slot = kz_me->told.slot;
+        context->generation = kz_me->told.generation;
+        context->is_known = true;
+    }
+    return status;
+}
+
+NTSTATUS FltAllocateContext(PFLT_FILTER Filter, FLT_CONTEXT_TYPE ContextType, SIZE_T ContextSize, POOL_TYPE PoolType, PFLT_CONTEXT *ReturnedContext)
+{
+    KZ_INSIDE();
+    *ReturnedContext = NULL;
+    if (!Filter || Filter != kz_me->place.filter || !Filter->is_registered) {
+        kz_tell(KZM_OTHER_FILTER, __func__, "of a filter that isn't the callback's own");
+        return STATUS_INVALID_PARAMETER;
+    }
+    const FLT_CONTEXT_REGISTRATION *how = kz_registered_context(Filter, ContextType, ContextSize);
+    if (!how)
+        return STATUS_FLT_CONTEXT_ALLOCATION_NOT_FOUND;
+    if (kz_context_kind(ContextType) > 3) {
+        kz_tell(KZM_NO_SUCH_CONTEXTS, __func__, "contexts of files, transactions and sections aren't modelled: it answers STATUS_NOT_SUPPORTED");
+        return STATUS_NOT_SUPPORTED;
+    }
+    PVOID body = kz_refuses(__func__) ? NULL : new_body(how, ContextSize, PoolType);
+    if (!body)
+        return STATUS_INSUFFICIENT_RESOURCES;
+    Header *made = kz_memory(sizeof *made);
+    *made = (Header){.next = live, .body = body, .kind = kz_context_kind(ContextType), .type = ContextType, .filter = Filter, .how = how};
+    live = made;
+    uint32_t status = make_known(made);
+    if (status == KZS_WRONG_STEP || status == KZS_HAND_FULL) {
+        keep(made, &kz_me->place); /* in no callback of an instance, or where 16 are held: the manager gets to know it once it is set */
+    } else if (status != KZS_OK) {
+        live = made->next;
+        if (how->ContextFreeCallback)
+            how->ContextFreeCallback(body, ContextType);
+        else
+            kz_give_back(body);
+        free(made);
+        kz_tell_refused(__func__, status);
+        return kz_ntstatus(status);
+    }
+    *ReturnedContext = body;
+    return STATUS_SUCCESS;
+}
+
+/* ---- Counting. */
+VOID FltReferenceContext(PFLT_CONTEXT Context)
+{
+    KZ_INSIDE();
+    Header *context = context_of(Context, __func__);
+    if (!context)
+        return;
+    bool is_counted =
+        context->is_known && kz_event((KazdrinEvent){.event = KZE_REFERENCE, .slot = context->slot, .generation = context->generation}) == KZS_OK;
+    if (!is_counted)
+        keep(context, &kz_me->place);
+}
+
+VOID FltReleaseContext(PFLT_CONTEXT Context)
+{
+    KZ_CALL();
+    Header *context = context_of(Context, __func__);
+    if (!context)
+        return;
+    if (context->is_in_cleanup) {
+        kz_tell(KZM_OWN_CLEANUP, __func__, "%s context in its own cleanup callback", kind_names[context->kind]);
+        return;
+    }
+    kz_scheduler->touch(context, 0, KZT_GIVES);
+    if (context->is_known && kz_event((KazdrinEvent){.event = KZE_RELEASE, .slot = context->slot, .generation = context->generation}) == KZS_OK) {
+        kz_clean_up();
+        return;
+    }
+    if (!context->kept) {
+        kz_tell(KZM_RELEASED_TWICE, __func__, "%s context to which no reference is held (released twice?)", kind_names[context->kind]);
+        return;
+    }
+    drop(context);
+    if (!context->kept && !context->is_known)
+        finish(context);
+}
+
+/* ---- Objects. The manager knows those of the callback alone; the host asks it for others of volumes and instances as from their own callback. */
+static PFILE_OBJECT own_file(void)
+{
+    return kz_me->place.op ? &kz_me->place.op->file->object : NULL;
+}
+
+static bool is_own(PFLT_INSTANCE instance, PFLT_VOLUME volume, PFILE_OBJECT file)
+{
+    PFLT_INSTANCE own = kz_me->place.instance;
+    return own && (!instance || instance == own) && (!volume || volume == own->volume) && (!file || file == own_file());
+}
+
+static bool is_object(PFLT_INSTANCE instance, PFLT_VOLUME volume, PFILE_OBJECT file)
+{
+    bool is_volume = !volume;
+    for (size_t at = 0; at < kz.volumes_count; at++)
+        is_volume |= kz.volumes[at] == volume;
+    return is_volume && (!instance || kz_is_instance(instance)) && (!file || kz_file_with(file));
+}
+
+/* Tells that it is none of the callback's own objects. */
+static NTSTATUS refuse(const char *call, PFLT_INSTANCE instance, PFLT_VOLUME volume, PFILE_OBJECT file)
+{
+    if (!is_object(instance, volume, file)) {
+        kz_tell(KZM_NO_FILTER_OBJECT, call, "no object of the filter manager");
+        return STATUS_INVALID_PARAMETER;
+    }
+    kz_tell(KZM_NOT_OWN_OBJECT, call, "of an object that isn't the callback's own: it answers STATUS_NOT_SUPPORTED");
+    return STATUS_NOT_SUPPORTED;
+}
+
+static PFLT_INSTANCE instance_on(PFLT_FILTER filter, PFLT_VOLUME volume)
+{
+    for (size_t at = 0; at < kz.instances_count; at++)
+        if (kz.instances[at]->filter == filter && kz.instances[at]->volume == volume && kz_phase(kz.instances[at]) == KZP_INSTANCE_ATTACHED && !kz.instances[at]->is_asked)
+            return kz.instances[at];
+    return NULL;
+}
+
+static NTSTATUS set(const char *call, uint8_t kind, FLT_SET_CONTEXT_OPERATION how, PFLT_CONTEXT body, PFLT_CONTEXT *old)
+{
+    Header *context = context_of(body, call);
+    if (!context)
+        return STATUS_INVALID_PARAMETER;
+    if (context->kind != kind) {
+        kz_tell(KZM_OTHER_KIND, call, "%s context", kind_names[context->kind]);
+        return STATUS_INVALID_PARAMETER;
+    }
+    if (!context->is_known) {
+        uint32_t made = make_known(context);
+        if (made != KZS_OK) {
+            kz_tell(KZM_KEPT_SET, call, "a context that was kept from another callback can't be set here: it answers STATUS_NOT_SUPPORTED");
+            return STATUS_NOT_SUPPORTED;
+        }
+        drop(context);
+    }
+    kz_scheduler->touch(context, 0, KZT_GIVES);
+    uint32_t status = kz_event((KazdrinEvent){.event = KZE_SET,
+                                              .slot = context->slot,
+                                              .generation = context->generation,
+                                              .mode = how == FLT_SET_CONTEXT_REPLACE_IF_EXISTS,
+                                              .flag = old != NULL});
+    if (old && (status == KZS_OK || status == KZS_ALREADY_DEFINED) && kz_me->told.has)
+        *old = taken_body(kz_me->told.slot, kz_me->told.generation);
+    if (status == KZS_NOT_HELD && context->kept)
+        return STATUS_FLT_CONTEXT_ALREADY_LINKED; /* the manager holds it by a link alone */
+    if (status == KZS_NOT_HELD)
+        kz_tell(KZM_NOT_REFERENCED, call, "%s context to which no reference is held", kind_names[kind]);
+    kz_tell_refused(call, status);
+    kz_clean_up();
+    return kz_ntstatus(status);
+}
+
+static NTSTATUS get(const char *call, uint8_t kind, PFLT_CONTEXT *found)
+{
+    uint32_t status = kz_event((KazdrinEvent){.event = KZE_GET, .kind = kind});
+    if (status == KZS_OK)
+        *found = taken_body(kz_me->told.slot, kz_me->told.generation);
+    kz_tell_refused(call, status);
+    return kz_ntstatus(status);
+}
+
+/* The context of a volume or an instance that isn't the callback's own: the host keeps the reference. */
+static NTSTATUS get_elsewhere(const char *call, uint8_t kind, PFLT_INSTANCE instance, PFLT_VOLUME volume, PFLT_CONTEXT *found)
+{
+    PFLT_INSTANCE at = instance ? instance : instance_on(kz_me->place.filter, volume);
+    uint8_t worker = kz_helper(), own = kz_me->place.worker;
+    if (!is_object(instance, volume, NULL) || !at || at->filter != kz_me->place.filter || !kz_enter_query(at, worker)) {
+        kz_helped(worker);
+        return refuse(call, instance, volume, NULL);
+    }
+    kz_me->place.worker = worker;
+    NTSTATUS status = get(call, kind, found);
+    if (*found)
+        keep(find(*found), &kz_me->place);
+    kz_me->place.worker = own;
+    kz_leave_query(at, worker);
+    kz_helped(worker);
+    return status;
+}
+
+static NTSTATUS take_off(const char *call, uint8_t kind, PFLT_CONTEXT *old)
+{
+    uint32_t status = kz_event((KazdrinEvent){.event = KZE_DELETE, .kind = kind, .flag = old != NULL});
+    if (old && status == KZS_OK && kz_me->told.has)
+        *old = taken_body(kz_me->told.slot, kz_me->told.generation);
+    kz_tell_refused(call, status);
+    kz_clean_up();
+    return kz_ntstatus(status);
+}
+
+NTSTATUS FltSetVolumeContext(PFLT_VOLUME Volume, FLT_SET_CONTEXT_OPERATION Operation, PFLT_CONTEXT NewContext, PFLT_CONTEXT *OldContext)
+{
+    KZ_CALL();
+    if (OldContext)
+        *OldContext = NULL;
+    return is_own(NULL, Volume, NULL) ? set(__func__, 0, Operation, NewContext, OldContext) : refuse(__func__, NULL, Volume, NULL);
+}
+
+NTSTATUS FltSetInstanceContext(PFLT_INSTANCE Instance, FLT_SET_CONTEXT_OPERATION Operation, PFLT_CONTEXT NewContext, PFLT_CONTEXT *OldContext)
+{
+    KZ_CALL();
+    if (OldContext)
+        *OldContext = NULL;
+    return is_own(Instance, NULL, NULL) ? set(__func__, 1, Operation, NewContext, OldContext) : refuse(__func__, Instance, NULL, NULL);
+}
+
+NTSTATUS FltSetStreamContext(PFLT_INSTANCE Instance, PFILE_OBJECT FileObject, FLT_SET_CONTEXT_OPERATION Operation, PFLT_CONTEXT NewContext,
+                             PFLT_CONTEXT *OldContext)
+{
+    KZ_CALL();
+    if (OldContext)
+        *OldContext = NULL;
+    return is_own(Instance, NULL, FileObject) ? set(__func__, 2, Operation, NewContext, OldContext) : refuse(__func__, Instance, NULL, FileObject);
+}
+
+NTSTATUS FltSetStreamHandleContext(PFLT_INSTANCE Instance, PFILE_OBJECT FileObject, FLT_SET_CONTEXT_OPERATION Operation, PFLT_CONTEXT NewContext,
+                                   PFLT_CONTEXT *OldContext)
+{
+    KZ_CALL();
+    if (OldContext)
+        *OldContext = NULL;
+    return is_own(Instance, NULL, FileObject) ? set(__func__, 3, Operation, NewContext, OldContext) : refuse(__func__, Instance, NULL, FileObject);
+}
+
+NTSTATUS FltGetVolumeContext(PFLT_FILTER Filter, PFLT_VOLUME Volume, PFLT_CONTEXT *Context)
+{
+    KZ_CALL();
+    (void)Filter;
+    *Context = NULL;
+    return is_own(NULL, Volume, NULL) ? get(__func__, 0, Context) : get_elsewhere(__func__, 0, NULL, Volume, Context);
+}
+
+NTSTATUS FltGetInstanceContext(PFLT_INSTANCE Instance, PFLT_CONTEXT *Context)
+{
+    KZ_CALL();
+    *Context = NULL;
+    return is_own(Instance, NULL, NULL) ? get(__func__, 1, Context) : get_elsewhere(__func__, 1, Instance, NULL, Context);
+}
+
+NTSTATUS FltGetStreamContext(PFLT_INSTANCE Instance, PFILE_OBJECT FileObject, PFLT_CONTEXT *Context)
+{
+    KZ_CALL();
+    *Context = NULL;
+    return is_own(Instance, NULL, FileObject) ? get(__func__, 2, Context) : refuse(__func__, Instance, NULL, FileObject);
+}
+
+NTSTATUS FltGetStreamHandleContext(PFLT_INSTANCE Instance, PFILE_OBJECT FileObject, PFLT_CONTEXT *Context)
+{
+    KZ_CALL();
+    *Context = NULL;
+    return is_own(Instance, NULL, FileObject) ? get(__func__, 3, Context) : refuse(__func__, Instance, NULL, FileObject);
+}
+
+NTSTATUS FltDeleteVolumeContext(PFLT_FILTER Filter, PFLT_VOLUME Volume, PFLT_CONTEXT *OldContext)
+{
+    KZ_CALL();
+    (void)Filter;
+    if (OldContext)
+        *OldContext = NULL;
+    return is_own(NULL, Volume, NULL) ? take_off(__func__, 0, OldContext) : refuse(__func__, NULL, Volume, NULL);
+}
+
+NTSTATUS FltDeleteInstanceContext(PFLT_INSTANCE Instance, PFLT_CONTEXT *OldContext)
+{
+    KZ_CALL();
+    if (OldContext)
+        *OldContext = NULL;
+    return is_own(Instance, NULL, NULL) ? take_off(__func__, 1, OldContext) : refuse(__func__, Instance, NULL, NULL);
+}
+
+NTSTATUS FltDeleteStreamContext(PFLT_INSTANCE Instance, PFILE_OBJECT FileObject, PFLT_CONTEXT *OldContext)
+{
+    KZ_CALL();
+    if (OldContext)
+        *OldContext = NULL;
+    return is_own(Instance, NULL, FileObject) ? take_off(__func__, 2, OldContext) : refuse(__func__, Instance, NULL, FileObject);
+}
+
+NTSTATUS FltDeleteStreamHandleContext(PFLT_INSTANCE Instance, PFILE_OBJECT FileObject, PFLT_CONTEXT *OldContext)
+{
+    KZ_CALL();
+    if (OldContext)
+        *OldContext = NULL;
+    return is_own(Instance, NULL, FileObject) ? take_off(__func__, 3, OldContext) : refuse(__func__, Instance, NULL, FileObject);
+}
+
+/* Takes a context off its object, if that is the callback's own. The caller's reference stays. */
+VOID FltDeleteContext(PFLT_CONTEXT Context)
+{
+    KZ_CALL();
+    Header *context = context_of(Context, __func__);
+    PFLT_CONTEXT there = NULL;
+    if (!context || get(__func__, context->kind, &there) != STATUS_SUCCESS)
+        return;
+    if (there == Context)
+        kz_event((KazdrinEvent){.event = KZE_DELETE, .kind = context->kind});
+    else
+        kz_tell(KZM_NOT_OWN_OBJECT, __func__, "a context of an object that isn't the callback's own: it stays there");
+    FltReleaseContext(there);
+}
+
+/* ---- What a callback holds as it returns. */
+static uint64_t held_count(void)
+{
+    KazdrinCounts counts = {0};
+    kazdrin_counts(&kz.manager, &(KazdrinEvent){.worker = kz_me->place.worker}, &counts);
+    return counts.held;
+}
+
+static bool held_at(uint32_t place, uint32_t *slot, uint32_t *generation)
+{
+    KazdrinTold told = {0};
+    kazdrin_held_at(&kz.manager, &(KazdrinEvent){.len = place, .worker = kz_me->place.worker}, &told);
+    *slot = told.slot;
+    *generation = told.generation;
+    return told.has;
+}
+
+/* Which reference a completion takes along in the manager: that to the context that it points to, or else the last one that the callback holds. Others the host keeps. */
+bool kz_sends(KzOp *op, PVOID completion, KazdrinEvent *event)
+{
+    event->number = (uintptr_t)completion;
+    uint64_t count = completion ? held_count() : 0;
+    Header *named = count ? find(completion) : NULL;
+    uint32_t slot, generation;
+    for (uint32_t place = 0; place < count; place++) {
+        if (!held_at(place, &slot, &generation))
+            continue;
+        if (named ? named->slot == slot && named->generation == generation : place + 1 == count) {
+            event->slot = slot;
+            event->generation = generation;
+            event->flag = 1;
+        }
+    }
+    if (event->flag && !named) {
+        KzSent *sent = kz_block(op, sizeof *sent);
+        *sent = (KzSent){op->sent, body_of(event->slot, event->generation), kz_me->place};
+        op->sent = sent;
+    }
+    return event->flag;
+}
+
+/* Where a reference was left: in the preoperation that sent it beside something else, or here. */
+static KzPlace left_in(PVOID body)
+{
+    for (KzSent **at = kz_me->place.op ? &kz_me->place.op->sent : NULL; at && *at; at = &(*at)->next)
+        if ((*at)->body == body && (*at)->place.instance == kz_me->place.instance) {
+            KzPlace place = (*at)->place;
+            *at = (*at)->next;
+            return place;
+        }
+    return kz_me->place;
+}
+
+/* The callback is about to return: the host keeps what it still holds, but for the one reference that its completion takes along. */
+void kz_keep_rest(const KazdrinEvent *sent)
+{
+    bool is_to_go = sent && sent->flag;
+    uint64_t count = held_count();
+    for (uint32_t at = 0; at < count; at++) {
+        uint32_t slot, generation;
+        if (!held_at(at, &slot, &generation))
+            continue;
+        if (is_to_go && sent->slot == slot && sent->generation == generation) {
+            is_to_go = false;
+            continue;
+        }
+        Header *context = known(slot, generation);
+        if (!context)
+            continue;
+        KzPlace place = left_in(context->body);
+        keep(context, &place);
+    }
+}
+
+static void tell_leaks(Header *context)
+{
+    for (Kept *kept = context->kept; kept; kept = kept->next) {
+        KzPlace before = kz_enter_again(&kept->place);
+        kz_tell(KZM_LEAK, "FltReleaseContext", "never called for a reference to %s context", kind_names[context->kind]);
+        kz_me->place = before;
+        kz.counts.leaked++;
+    }
+}
+
+static Header *told_and_kept(PFLT_FILTER filter)
+{
+    for (Header *one = live; one; one = one->next)
+        if (one->filter == filter && one->is_told && one->kept && !one->is_known)
+            return one;
+    return NULL;
+}
+
+/* A filter ends: what it kept it never released. Its cleanup callbacks are called all the same, so that what the contexts hold isn't told once more; what those allocate
+ * and leave is told, and no more. */
+void kz_tell_kept(PFLT_FILTER filter)
+{
+    for (Header *one = live; one; one = one->next)
+        if (one->filter == filter && one->kept && !one->is_told) {
+            one->is_told = true;
+            tell_leaks(one);
+        }
+    for (Header *one = told_and_kept(filter); one; one = told_and_kept(filter)) {
+        while (one->kept)
+            drop(one);
+        finish(one);
+    }
+    for (Header *one = live; one; one = one->next)
+        if (one->filter == filter && one->kept && !one->is_told) {
+            one->is_told = true;
+            tell_leaks(one);
+            while (one->kept)
+                drop(one);
+        }
+}
+
+void kz_free_contexts(void)
+{
+    while (live) {
+        Header *one = live;
+        live = one->next;
+        while (one->kept)
+            drop(one);
+        if (one->how->ContextFreeCallback)
+            one->how->ContextFreeCallback(one->body, one->type);
+        free(one);
+    }
+    memset(dead, 0, sizeof dead);
+    dead_next = 0;
+}

@@ -1,0 +1,432 @@
+/* Locks. What a client holds stands in a list, by the lock's address, with the callback that took it. */
+#include "host.h"
+
+typedef struct {
+    const void *lock;
+    KzClient *client;
+    unsigned count;
+    bool is_shared;
+    KIRQL irql;
+    const char *call;
+    uint64_t place; /* the callback's number: kz_me->place.number */
+} Held;
+
+static Held held[256];
+static size_t held_count;
+
+static Held *find(const void *lock)
+{
+    for (size_t at = 0; at < held_count; at++)
+        if (held[at].lock == lock && held[at].client == kz_me)
+            return &held[at];
+    return NULL;
+}
+
+/* Whether another client is in the way. */
+static Held *other(const void *lock, KzClient *client, bool is_shared)
+{
+    for (size_t at = 0; at < held_count; at++)
+        if (held[at].lock == lock && held[at].client != client && !(is_shared && held[at].is_shared))
+            return &held[at];
+    return NULL;
+}
+
+static bool may_share(const Held *one, int how)
+{
+    if (how == KZ_SHARED_AGAIN)
+        return true;
+    if (how == KZ_AGAIN)
+        return !one->is_shared;
+    return how == KZ_SHARED && one->is_shared;
+}
+
+static bool is_shared(int how)
+{
+    return how == KZ_SHARED || how == KZ_SHARED_AGAIN;
+}
+
+static void note(PVOID lock, int how, KIRQL irql, const char *call)
+{
+    Held *one = find(lock);
+    if (one)
+        one->count++;
+    else if (held_count < sizeof held / sizeof held[0])
+        held[held_count++] = (Held){lock, kz_me, 1, is_shared(how), irql, call, kz_me->place.number};
+    kz_scheduler->touch(lock, 0, KZT_TAKES);
+}
+
+BOOLEAN KzTryTake(PVOID Lock, int How, KIRQL Irql, PCSTR Call)
+{
+    KZ_CALL_OF(Call);
+    Held *one = find(Lock);
+    if ((one && !may_share(one, How)) || other(Lock, kz_me, is_shared(How)))
+        return FALSE;
+    note(Lock, How, Irql, Call);
+    return TRUE;
+}
+
+typedef struct {
+    PVOID lock;
+    KzClient *client;
+    bool is_shared;
+} Wanted;
+
+static bool is_free(void *wanted)
+{
+    Wanted *one = wanted;
+    return !other(one->lock, one->client, one->is_shared);
+}
+
+VOID KzTake(PVOID Lock, int How, KIRQL Irql, PCSTR Call)
+{
+    KZ_CALL_OF(Call);
+    Held *one = find(Lock);
+    Wanted wanted = {Lock, kz_me, is_shared(How)};
+    if (one && !may_share(one, How)) {
+        kz_tell(KZM_WAITS_FOR_EVER, Call, "the lock is held already, and by the same thread: it would wait for ever");
+    } else if (!is_free(&wanted)) {
+        kz_wait(is_free, &wanted, "%s of a lock that %s holds", Call, other(Lock, kz_me, wanted.is_shared)->client->name);
+    }
+    note(Lock, How, Irql, Call);
+}
+
+static void let_go(Held *one, PVOID lock, const char *call)
+{
+    if (!one) {
+        kz_tell(KZM_LOCK_NOT_HELD, call, "the lock isn't held");
+        return;
+    }
+    if (--one->count == 0) {
+        memmove(one, one + 1, (size_t)(held + held_count - one - 1) * sizeof *one);
+        held_count--;
+    }
+    kz_scheduler->touch(lock, 0, KZT_GIVES);
+}
+
+VOID KzLetGo(PVOID Lock, PCSTR Call)
+{
+    KZ_CALL_OF(Call);
+    let_go(find(Lock), Lock, Call);
+}
+
+VOID KzForgetLock(PVOID Lock, PCSTR Call)
+{
+    KZ_CALL_OF(Call);
+    Held *one = find(Lock);
+    if (!one)
+        one = other(Lock, kz_me, false);
+    if (!one)
+        return;
+    kz_tell(KZM_LOCK_DELETED, Call, "the lock is still held");
+    one->count = 1;
+    let_go(one, Lock, Call);
+}
+
+/* By another client. */
+bool kz_is_taken(const void *lock)
+{
+    return other(lock, kz_me, false) != NULL;
+}
+
+BOOLEAN KzIsHeldAlone(const VOID *Lock)
+{
+    KZ_INSIDE();
+    Held *one = find(Lock);
+    return one && !one->is_shared;
+}
+
+ULONG KzIsHeld(const VOID *Lock)
+{
+    KZ_INSIDE();
+    Held *one = find(Lock);
+    return one ? one->count : 0;
+}
+
+/* What the callback that returns took and didn't let go. */
+void kz_tell_locks(void)
+{
+    for (size_t at = 0; at < held_count;) {
+        if (held[at].client != kz_me || held[at].place != kz_me->place.number) {
+            at++;
+            continue;
+        }
+        bool is_region = held[at].lock == &kz_me->region;
+        kz_tell(KZM_LOCK_AT_RETURN, held[at].call, is_region ? "the critical region isn't left as the callback returns" : "the lock is still held as the callback returns");
+        held[at].count = 1;
+        let_go(&held[at], (PVOID)(uintptr_t)held[at].lock, held[at].call);
+    }
+    if (kz_me->place.callback != KZ_IN_NOTHING && kz_me->raised > PASSIVE_LEVEL && kz_me->place.depth == 1) {
+        kz_tell(KZM_LOCK_AT_RETURN, "KeLowerIrql", "the IRQL is still raised as the callback returns");
+        kz_me->raised = PASSIVE_LEVEL;
+    }
+}
+
+void kz_free_locks(void)
+{
+    held_count = 0;
+    kz_me->raised = PASSIVE_LEVEL;
+}
+
+/* ---- IRQL: that of the locks that are held, or to which it was raised. */
+KIRQL KeGetCurrentIrql(VOID)
+{
+    KZ_INSIDE();
+    KIRQL highest = kz_me->raised;
+    for (size_t at = 0; at < held_count; at++)
+        if (held[at].client == kz_me && held[at].irql > highest)
+            highest = held[at].irql;
+    return highest;
+}
+
+KIRQL KfRaiseIrql(KIRQL NewIrql)
+{
+    KIRQL before = KeGetCurrentIrql();
+    if (NewIrql < before)
+        kz_tell(KZM_IRQL, "KeRaiseIrql", "to %u, below the current %u", NewIrql, before);
+    kz_me->raised = NewIrql;
+    return before;
+}
+
+VOID KeLowerIrql(KIRQL NewIrql)
+{
+    if (NewIrql > kz_me->raised)
+        kz_tell(KZM_IRQL, "KeLowerIrql", "to %u, above the current %u", NewIrql, kz_me->raised);
+    kz_me->raised = NewIrql;
+}
+
+void KzPagedCode(PCSTR Function)
+{
+    KIRQL irql = KeGetCurrentIrql();
+    if (irql > APC_LEVEL)
+        kz_tell(KZM_IRQL, "PAGED_CODE", "%s runs at IRQL %u", Function, irql);
+}
+
+/* ---- Resources: an owner may take one again. */
+BOOLEAN ExAcquireResourceExclusiveLite(PERESOURCE Resource, BOOLEAN Wait)
+{
+    if (!Wait)
+        return KzTryTake(Resource, KZ_AGAIN, PASSIVE_LEVEL, __func__);
+    KzTake(Resource, KZ_AGAIN, PASSIVE_LEVEL, __func__);
+    return TRUE;
+}
+
+BOOLEAN ExAcquireResourceSharedLite(PERESOURCE Resource, BOOLEAN Wait)
+{
+    if (!Wait)
+        return KzTryTake(Resource, KZ_SHARED_AGAIN, PASSIVE_LEVEL, __func__);
+    KzTake(Resource, KZ_SHARED_AGAIN, PASSIVE_LEVEL, __func__);
+    return TRUE;
+}
+
+BOOLEAN ExAcquireSharedStarveExclusive(PERESOURCE Resource, BOOLEAN Wait)
+{
+    return ExAcquireResourceSharedLite(Resource, Wait);
+}
+
+BOOLEAN ExAcquireSharedWaitForExclusive(PERESOURCE Resource, BOOLEAN Wait)
+{
+    return ExAcquireResourceSharedLite(Resource, Wait);
+}
+
+VOID ExReleaseResourceLite(PERESOURCE Resource)
+{
+    KzLetGo(Resource, __func__);
+}
+
+VOID ExReleaseResourceForThreadLite(PERESOURCE Resource, ERESOURCE_THREAD ResourceThreadId)
+{
+    (void)ResourceThreadId;
+    KzLetGo(Resource, __func__);
+}
+
+VOID ExConvertExclusiveToSharedLite(PERESOURCE Resource)
+{
+    KZ_CALL();
+    Held *one = find(Resource);
+    if (!one || one->is_shared)
+        kz_tell(KZM_LOCK_NOT_HELD, __func__, "the resource isn't held exclusively");
+    else
+        one->is_shared = true;
+}
+
+VOID KeEnterCriticalRegion(VOID)
+{
+    KZ_INSIDE();
+    note(&kz_me->region, KZ_AGAIN, PASSIVE_LEVEL, __func__);
+}
+
+VOID KeLeaveCriticalRegion(VOID)
+{
+    KZ_INSIDE();
+    let_go(find(&kz_me->region), &kz_me->region, __func__);
+}
+
+BOOLEAN KeAreApcsDisabled(VOID)
+{
+    KZ_INSIDE();
+    return find(&kz_me->region) != NULL || KeGetCurrentIrql() > PASSIVE_LEVEL;
+}
+
+KIRQL KzTakeSpinLock(PVOID Lock, PCSTR Call)
+{
+    KIRQL before = KeGetCurrentIrql();
+    KzTake(Lock, KZ_ALONE, DISPATCH_LEVEL, Call);
+    return before;
+}
+
+KIRQL KzTakeSpinLockShared(PVOID Lock, PCSTR Call)
+{
+    KIRQL before = KeGetCurrentIrql();
+    KzTake(Lock, KZ_SHARED, DISPATCH_LEVEL, Call);
+    return before;
+}
+
+/* ---- Lists under a spin lock. */
+PLIST_ENTRY ExInterlockedInsertHeadList(PLIST_ENTRY ListHead, PLIST_ENTRY ListEntry, PKSPIN_LOCK Lock)
+{
+    KzTake(Lock, KZ_ALONE, DISPATCH_LEVEL, __func__);
+    PLIST_ENTRY first = IsListEmpty(ListHead) ? NULL : ListHead->Flink;
+    InsertHeadList(ListHead, ListEntry);
+    KzLetGo(Lock, __func__);
+    return first;
+}
+
+PLIST_ENTRY ExInterlockedInsertTailList(PLIST_ENTRY ListHead, PLIST_ENTRY ListEntry, PKSPIN_LOCK Lock)
+{
+    KzTake(Lock, KZ_ALONE, DISPATCH_LEVEL, __func__);
+    PLIST_ENTRY last = IsListEmpty(ListHead) ? NULL : ListHead->Blink;
+    InsertTailList(ListHead, ListEntry);
+    KzLetGo(Lock, __func__);
+    return last;
+}
+
+PLIST_ENTRY ExInterlockedRemoveHeadList(PLIST_ENTRY ListHead, PKSPIN_LOCK Lock)
+{
+    KzTake(Lock, KZ_ALONE, DISPATCH_LEVEL, __func__);
+    PLIST_ENTRY first = IsListEmpty(ListHead) ? NULL : RemoveHeadList(ListHead);
+    KzLetGo(Lock, __func__);
+    return first;
+}
+
+PSINGLE_LIST_ENTRY ExInterlockedPushEntryList(PSINGLE_LIST_ENTRY ListHead, PSINGLE_LIST_ENTRY ListEntry, PKSPIN_LOCK Lock)
+{
+    KzTake(Lock, KZ_ALONE, DISPATCH_LEVEL, __func__);
+    PSINGLE_LIST_ENTRY first = ListHead->Next;
+    PushEntryList(ListHead, ListEntry);
+    KzLetGo(Lock, __func__);
+    return first;
+}
+
+PSINGLE_LIST_ENTRY ExInterlockedPopEntryList(PSINGLE_LIST_ENTRY ListHead, PKSPIN_LOCK Lock)
+{
+    KzTake(Lock, KZ_ALONE, DISPATCH_LEVEL, __func__);
+    PSINGLE_LIST_ENTRY first = PopEntryList(ListHead);
+    KzLetGo(Lock, __func__);
+    return first;
+}
+
+LARGE_INTEGER ExInterlockedAddLargeInteger(PLARGE_INTEGER Addend, LARGE_INTEGER Increment, PKSPIN_LOCK Lock)
+{
+    KzTake(Lock, KZ_ALONE, DISPATCH_LEVEL, __func__);
+    LARGE_INTEGER before = *Addend;
+    Addend->QuadPart += Increment.QuadPart;
+    KzLetGo(Lock, __func__);
+    return before;
+}
+
+/* Whoever uses it next comes behind this client. */
+static void in_order_of(PVOID object)
+{
+    kz_scheduler->touch(object, 0, KZT_TAKES);
+    kz_scheduler->touch(object, 0, KZT_GIVES);
+}
+
+VOID InitializeSListHead(PSLIST_HEADER ListHead)
+{
+    ListHead->Alignment[0] = ListHead->Alignment[1] = 0;
+}
+
+PSLIST_ENTRY InterlockedPushEntrySList(PSLIST_HEADER ListHead, PSLIST_ENTRY ListEntry)
+{
+    KZ_CALL();
+    in_order_of(ListHead);
+    PSLIST_ENTRY first = ListHead->First;
+    ListEntry->Next = first;
+    ListHead->First = ListEntry;
+    ListHead->Depth++;
+    return first;
+}
+
+PSLIST_ENTRY InterlockedPopEntrySList(PSLIST_HEADER ListHead)
+{
+    KZ_CALL();
+    in_order_of(ListHead);
+    PSLIST_ENTRY first = ListHead->First;
+    if (first) {
+        ListHead->First = first->Next;
+        ListHead->Depth--;
+    }
+    return first;
+}
+
+PSLIST_ENTRY InterlockedFlushSList(PSLIST_HEADER ListHead)
+{
+    KZ_CALL();
+    in_order_of(ListHead);
+    PSLIST_ENTRY first = ListHead->First;
+    InitializeSListHead(ListHead);
+    return first;
+}
+
+USHORT QueryDepthSList(PSLIST_HEADER ListHead)
+{
+    KZ_CALL();
+    return (USHORT)ListHead->Depth;
+}
+
+/* ---- Rundown protection: a count, and a mark that nobody enters any more. */
+VOID ExInitializeRundownProtection(PEX_RUNDOWN_REF RunRef)
+{
+    RunRef->Count = 0;
+}
+
+VOID ExReInitializeRundownProtection(PEX_RUNDOWN_REF RunRef)
+{
+    RunRef->Count = 0;
+}
+
+BOOLEAN ExAcquireRundownProtection(PEX_RUNDOWN_REF RunRef)
+{
+    KZ_CALL();
+    in_order_of(RunRef);
+    if (RunRef->Count & 1)
+        return FALSE;
+    RunRef->Count += 2;
+    return TRUE;
+}
+
+VOID ExReleaseRundownProtection(PEX_RUNDOWN_REF RunRef)
+{
+    KZ_CALL();
+    in_order_of(RunRef);
+    if (RunRef->Count < 2)
+        kz_tell(KZM_LOCK_NOT_HELD, __func__, "the rundown protection isn't held");
+    else
+        RunRef->Count -= 2;
+}
+
+VOID ExWaitForRundownProtectionRelease(PEX_RUNDOWN_REF RunRef)
+{
+    KZ_CALL();
+    in_order_of(RunRef);
+    RunRef->Count |= 1;
+    while (RunRef->Count > 1 && kz_work())
+        ;
+    if (RunRef->Count > 1)
+        kz_tell(KZM_NOBODY_SETS, __func__, "%llu are inside, and nobody else runs here: it doesn't wait", (unsigned long long)(RunRef->Count / 2));
+}
+
+VOID ExRundownCompleted(PEX_RUNDOWN_REF RunRef)
+{
+    RunRef->Count = 1;
+}

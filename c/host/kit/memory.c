@@ -1,0 +1,237 @@
+/* Memory that drivers see: each piece lies between two red zones, and is filled before its first use and after its last one. What is written where it mustn't be is told.
+ * Under the address sanitizer the zones are its own, and it tells. */
+#include "host.h"
+
+#include <stdlib.h>
+
+/* There under the address sanitizer alone. */
+extern void __asan_poison_memory_region(const volatile void *start, size_t size) __attribute__((weak));
+extern void __asan_unpoison_memory_region(const volatile void *start, size_t size) __attribute__((weak));
+
+enum { ZONE = 32, ZONE_BYTE = 0xfd, GONE_BYTE = 0xdd };
+/* How much of what was given back is kept, to see whether it is written. */
+enum { KEPT = 64, KEPT_BYTES = 4096 };
+
+/* Of each client the pieces that it took, the newest first, and those that it gave back: so their order is its own alone. Whoever has the manager has these too. */
+enum { LISTS = 16 };
+static KzPiece *pieces[LISTS];
+static struct {
+    KzPiece *pieces[KEPT];
+    size_t next;
+} gone[LISTS];
+
+static unsigned my_list(void)
+{
+    return kz_me->number % LISTS;
+}
+
+static KzPiece *first_from(unsigned list)
+{
+    while (list < LISTS && !pieces[list])
+        list++;
+    return list < LISTS ? pieces[list] : NULL;
+}
+
+static KzPiece *piece_behind(const KzPiece *piece)
+{
+    return piece->next ? piece->next : first_from(piece->list + 1);
+}
+
+static uint8_t *body_of(const KzPiece *piece)
+{
+    return (uint8_t *)piece + sizeof *piece + ZONE;
+}
+
+static void shut(const KzPiece *piece)
+{
+    if (__asan_poison_memory_region) {
+        __asan_poison_memory_region(body_of(piece) - ZONE, ZONE);
+        __asan_poison_memory_region(body_of(piece) + piece->size, ZONE);
+    }
+}
+
+static void open_all(const KzPiece *piece)
+{
+    if (__asan_unpoison_memory_region)
+        __asan_unpoison_memory_region(body_of(piece) - ZONE, ZONE + piece->size + ZONE);
+}
+
+void *kz_take_memory(KzMemory kind, size_t size, int fill, ULONG tag)
+{
+    if (size > KZ_LARGEST)
+        return NULL;
+    KzPiece *piece = malloc(sizeof *piece + ZONE + size + ZONE);
+    if (!piece)
+        return NULL;
+    KzPiece **first = &pieces[my_list()];
+    *piece = (KzPiece){.next = *first, .size = size, .kind = kind, .filter = kz_me->place.filter, .tag = tag, .list = my_list()};
+    if (*first)
+        (*first)->before = piece;
+    *first = piece;
+    memset(body_of(piece) - ZONE, ZONE_BYTE, ZONE);
+    memset(body_of(piece), fill, size);
+    memset(body_of(piece) + size, ZONE_BYTE, ZONE);
+    shut(piece);
+    return body_of(piece);
+}
+
+KzPiece *kz_piece_of(const void *memory)
+{
+    for (KzPiece *piece = first_from(0); piece; piece = piece_behind(piece))
+        if (body_of(piece) == memory)
+            return piece;
+    return NULL;
+}
+
+static bool is_filled(const uint8_t *bytes, size_t size, uint8_t byte)
+{
+    for (size_t at = 0; at < size; at++)
+        if (bytes[at] != byte)
+            return false;
+    return true;
+}
+
+const char *kz_tag(ULONG tag, char *room)
+{
+    for (int at = 0; at < 4; at++) {
+        char letter = (char)(tag >> 8 * at & 127);
+        room[at] = letter < ' ' || letter == 127 ? '.' : letter;
+    }
+    room[4] = 0;
+    return room;
+}
+
+void kz_check_piece(KzPiece *piece)
+{
+    if (__asan_poison_memory_region || piece->is_told)
+        return;
+    bool is_before = !is_filled(body_of(piece) - ZONE, ZONE, ZONE_BYTE), is_behind = !is_filled(body_of(piece) + piece->size, ZONE, ZONE_BYTE);
+    if (!is_before && !is_behind)
+        return;
+    piece->is_told = true;
+    const char *where = is_behind ? "past" : "before";
+    char tag[8];
+    unsigned long long size = piece->size;
+    if (piece->kind == KZK_POOL)
+        kz_tell(KZM_PAST_POOL, "ExAllocatePoolWithTag", "memory %s the %llu bytes of a pool was written, tag '%s'", where, size, kz_tag(piece->tag, tag));
+    else if (piece->kind == KZK_CONTEXT)
+        kz_tell(KZM_PAST_CONTEXT, "FltAllocateContext", "memory %s the %llu bytes of a context was written", where, size);
+    else
+        kz_tell(KZM_PAST_BUFFER, "FLT_CALLBACK_DATA", "memory %s a buffer of %llu bytes was written", where, size);
+}
+
+static void look_at_last(PFLT_FILTER filter);
+
+/* Looks at the memory of a filter, as its callback returns. */
+void kz_check_memory(PFLT_FILTER filter)
+{
+    for (KzPiece *piece = first_from(0); piece; piece = piece_behind(piece))
+        if (piece->filter == filter)
+            kz_check_piece(piece);
+    look_at_last(filter);
+}
+
+/* And at the buffers of its operation. */
+void kz_check_blocks(const KzOp *op)
+{
+    for (const KzBlock *block = op->blocks; block; block = block->next)
+        kz_check_piece((KzPiece *)((uint8_t *)block->bytes - ZONE - sizeof(KzPiece)));
+}
+
+/* Whether memory that was given back was written since: then that is told, once. */
+static void look_at(KzPiece *piece)
+{
+    char tag[8];
+    if (is_filled(body_of(piece), piece->size, GONE_BYTE))
+        return;
+    if (piece->kind == KZK_POOL)
+        kz_tell(KZM_WRITTEN_FREED, "ExFreePoolWithTag", "%llu bytes of a pool were written after they were freed, tag '%s'", (unsigned long long)piece->size,
+                kz_tag(piece->tag, tag));
+    else if (piece->kind == KZK_DATA)
+        kz_tell(KZM_WRITTEN_DATA, "FltCompletePendedPreOperation", "callback data was written after the operation was completed");
+    else
+        kz_tell(KZM_WRITTEN_CONTEXT, "FltReleaseContext", "%llu bytes were written after they were cleaned up", (unsigned long long)piece->size);
+    memset(body_of(piece), GONE_BYTE, piece->size);
+}
+
+/* The last few that a filter gave back in this client, as its callback returns. */
+static void look_at_last(PFLT_FILTER filter)
+{
+    for (size_t at = 1; at <= 8; at++) {
+        KzPiece *piece = gone[my_list()].pieces[(gone[my_list()].next + KEPT - at) % KEPT];
+        if (piece && piece->filter == filter && piece->size <= 256)
+            look_at(piece);
+    }
+}
+
+static void forget(KzPiece **place)
+{
+    KzPiece *piece = *place;
+    *place = NULL;
+    if (!piece)
+        return;
+    KzPlace before = kz_enter(KZ_IN_NOTHING, piece->filter, NULL, NULL, NULL);
+    look_at(piece);
+    kz_me->place = before;
+    free(piece);
+}
+
+void kz_give_back(void *memory)
+{
+    KzPiece *piece = memory ? (KzPiece *)((uint8_t *)memory - ZONE - sizeof(KzPiece)) : NULL;
+    if (!piece)
+        return;
+    kz_check_piece(piece);
+    kz_scheduler->touch(body_of(piece), piece->size, KZT_HAS_TAKEN_BACK);
+    *(piece->before ? &piece->before->next : &pieces[piece->list]) = piece->next;
+    if (piece->next)
+        piece->next->before = piece->before;
+    open_all(piece);
+    if (__asan_poison_memory_region || piece->size > KEPT_BYTES) {
+        free(piece);
+        return;
+    }
+    memset(body_of(piece), GONE_BYTE, piece->size);
+    size_t *next = &gone[my_list()].next;
+    forget(&gone[my_list()].pieces[*next]);
+    gone[my_list()].pieces[*next] = piece;
+    *next = (*next + 1) % KEPT;
+}
+
+static void forget_list(unsigned list)
+{
+    for (size_t at = 0; at < KEPT; at++)
+        forget(&gone[list].pieces[(gone[list].next + at) % KEPT]);
+}
+
+/* At the end: what was written after its last use is told. */
+void kz_tell_gone(void)
+{
+    for (unsigned list = 0; list < LISTS; list++)
+        if (gone[list].pieces[0])
+            forget_list(list);
+}
+
+/* Memory of a pool that a filter took and never freed. */
+void kz_tell_pools(PFLT_FILTER filter)
+{
+    KzPlace before = kz_enter(KZ_IN_NOTHING, filter, NULL, NULL, NULL);
+    char tag[8];
+    for (KzPiece *piece = first_from(0); piece; piece = piece_behind(piece))
+        if (piece->kind == KZK_POOL && piece->filter == filter)
+            kz_tell(KZM_POOL_LEAK, "ExFreePoolWithTag", "never called for %llu bytes of a pool, tag '%s'", (unsigned long long)piece->size, kz_tag(piece->tag, tag));
+    kz_me->place = before;
+}
+
+void kz_free_memory(void)
+{
+    for (KzPiece *piece = first_from(0), *behind; piece; piece = behind) {
+        behind = piece_behind(piece);
+        open_all(piece);
+        free(piece);
+    }
+    memset(pieces, 0, sizeof pieces);
+    for (size_t at = 0; at < (size_t)LISTS * KEPT; at++)
+        free(gone[at / KEPT].pieces[at % KEPT]);
+    memset(gone, 0, sizeof gone);
+}

@@ -1,0 +1,260 @@
+/* Names of files and volumes. */
+#include "host.h"
+
+#include <stdio.h>
+#include <stdlib.h>
+
+/* What a driver is given lies in memory that is filled once it was released. */
+typedef struct Named {
+    FLT_FILE_NAME_INFORMATION shown;
+    struct Named *next;
+    KzPlace place;
+    unsigned references;
+    WCHAR name[320], volume[64];
+} Named;
+
+static Named *all;
+
+/* A text of ASCII in a room that is large enough; `/` is the kit's `\`. */
+void kz_wide(PUNICODE_STRING to, WCHAR *room, const char *text)
+{
+    USHORT length = 0;
+    for (; text[length]; length++)
+        room[length] = (WCHAR)(text[length] == '/' ? '\\' : text[length]);
+    room[length] = 0;
+    *to = (UNICODE_STRING){(USHORT)(length * sizeof(WCHAR)), (USHORT)((length + 1) * sizeof(WCHAR)), room};
+}
+
+/* The other way round; how many letters there are. */
+size_t kz_narrow(char *room, size_t size, PCUNICODE_STRING text)
+{
+    size_t length = text ? text->Length / sizeof(WCHAR) : 0, fits = length < size ? length : size - 1;
+    for (size_t at = 0; at < fits; at++)
+        room[at] = (char)(text->Buffer[at] == '\\' ? '/' : text->Buffer[at] & 127);
+    room[fits] = 0;
+    return length;
+}
+
+static void device_name(char *room, size_t size, PFLT_VOLUME volume)
+{
+    snprintf(room, size, "/Device/%s", volume->name);
+}
+
+static NTSTATUS name_of(PFLT_VOLUME volume, const char *path, FLT_FILE_NAME_OPTIONS options, PFLT_FILE_NAME_INFORMATION *shown)
+{
+    char text[320];
+    Named *made = kz_refuses("FltGetFileNameInformation") ? NULL : kz_take_memory(KZK_NAME, sizeof *made, 0, 0);
+    if (!made)
+        return STATUS_INSUFFICIENT_RESOURCES;
+    device_name(text, sizeof text, volume);
+    kz_wide(&made->shown.Volume, made->volume, text);
+    snprintf(text + strlen(text), sizeof text - strlen(text), "/%s", path);
+    kz_wide(&made->shown.Name, made->name, text);
+    made->shown.Size = sizeof made->shown;
+    made->shown.Format = options & FLT_VALID_FILE_NAME_FORMATS;
+    made->references = 1;
+    made->place = kz_me->place;
+    made->next = all;
+    all = made;
+    *shown = &made->shown;
+    return STATUS_SUCCESS;
+}
+
+NTSTATUS FltGetFileNameInformation(PFLT_CALLBACK_DATA CallbackData, FLT_FILE_NAME_OPTIONS NameOptions, PFLT_FILE_NAME_INFORMATION *FileNameInformation)
+{
+    KZ_INSIDE();
+    *FileNameInformation = NULL;
+    KzOp *op = kz_me->place.data == CallbackData && kz_me->place.op ? kz_me->place.op : kz_op_with(CallbackData);
+    if (!op) {
+        kz_tell(KZM_NOT_OWN_DATA, __func__, "callback data of no operation");
+        return STATUS_INVALID_PARAMETER;
+    }
+    if (FltGetFileNameFormat(NameOptions) < FLT_FILE_NAME_NORMALIZED || FltGetFileNameFormat(NameOptions) > FLT_FILE_NAME_SHORT)
+        return STATUS_INVALID_PARAMETER;
+    return name_of(op->volume, op->file->path, NameOptions, FileNameInformation);
+}
+
+NTSTATUS FltGetFileNameInformationUnsafe(PFILE_OBJECT FileObject, PFLT_INSTANCE Instance, FLT_FILE_NAME_OPTIONS NameOptions,
+                                         PFLT_FILE_NAME_INFORMATION *FileNameInformation)
+{
+    KZ_INSIDE();
+    (void)Instance;
+    *FileNameInformation = NULL;
+    KzFile *file = kz_file_with(FileObject);
+    return file ? name_of(file->volume, file->path, NameOptions, FileNameInformation) : STATUS_INVALID_PARAMETER;
+}
+
+/* Nothing is renamed or linked here. */
+NTSTATUS FltGetDestinationFileNameInformation(PFLT_INSTANCE Instance, PFILE_OBJECT FileObject, HANDLE RootDirectory, PWSTR FileName, ULONG FileNameLength,
+                                              FLT_FILE_NAME_OPTIONS NameOptions, PFLT_FILE_NAME_INFORMATION *RetFileNameInformation)
+{
+    (void)Instance, (void)FileObject, (void)RootDirectory, (void)FileName, (void)FileNameLength, (void)NameOptions;
+    *RetFileNameInformation = NULL;
+    return STATUS_INVALID_PARAMETER;
+}
+
+/* No name is a short one, so that none is tunneled. */
+NTSTATUS FltGetTunneledName(PFLT_CALLBACK_DATA CallbackData, PFLT_FILE_NAME_INFORMATION FileNameInformation,
+                            PFLT_FILE_NAME_INFORMATION *RetTunneledFileNameInformation)
+{
+    (void)CallbackData, (void)FileNameInformation;
+    *RetTunneledFileNameInformation = NULL;
+    return STATUS_SUCCESS;
+}
+
+static Named **find(PFLT_FILE_NAME_INFORMATION shown, const char *call)
+{
+    for (Named **at = &all; *at; at = &(*at)->next)
+        if (&(*at)->shown == shown)
+            return at;
+    kz_tell(KZM_NO_NAME, call, "no name information (released twice?)");
+    return NULL;
+}
+
+VOID FltReferenceFileNameInformation(PFLT_FILE_NAME_INFORMATION FileNameInformation)
+{
+    KZ_INSIDE();
+    Named **at = find(FileNameInformation, __func__);
+    if (at)
+        (*at)->references++;
+}
+
+VOID FltReleaseFileNameInformation(PFLT_FILE_NAME_INFORMATION FileNameInformation)
+{
+    KZ_INSIDE();
+    Named **at = find(FileNameInformation, __func__);
+    if (!at || --(*at)->references > 0)
+        return;
+    Named *gone = *at;
+    *at = gone->next;
+    kz_give_back(gone);
+}
+
+NTSTATUS FltPurgeFileNameInformationCache(PFLT_INSTANCE Instance, PFILE_OBJECT FileObject)
+{
+    (void)Instance, (void)FileObject;
+    return STATUS_SUCCESS;
+}
+
+/* ---- Parts of a name: the last component, its extension and its stream. */
+static UNICODE_STRING part(PCUNICODE_STRING name, size_t start, size_t end)
+{
+    USHORT length = (USHORT)((end - start) * sizeof(WCHAR));
+    return length ? (UNICODE_STRING){length, length, name->Buffer + start} : (UNICODE_STRING){0, 0, NULL};
+}
+
+static size_t last(PCUNICODE_STRING name, size_t start, size_t end, WCHAR letter)
+{
+    for (size_t at = end; at-- > start;)
+        if (name->Buffer[at] == letter)
+            return at;
+    return end;
+}
+
+static size_t first(PCUNICODE_STRING name, size_t start, size_t end, WCHAR letter)
+{
+    while (start < end && name->Buffer[start] != letter)
+        start++;
+    return start;
+}
+
+/* Where the last component begins: behind the last backslash. */
+static size_t final_start(PCUNICODE_STRING name)
+{
+    size_t end = name->Length / sizeof(WCHAR), slash = last(name, 0, end, '\\');
+    return slash == end ? 0 : slash + 1;
+}
+
+NTSTATUS FltParseFileName(PCUNICODE_STRING FileName, PUNICODE_STRING Extension, PUNICODE_STRING Stream, PUNICODE_STRING FinalComponent)
+{
+    size_t start = final_start(FileName), end = FileName->Length / sizeof(WCHAR), colon = first(FileName, start, end, ':');
+    size_t dot = last(FileName, start, colon, '.');
+    if (Extension)
+        *Extension = dot == colon ? part(FileName, end, end) : part(FileName, dot + 1, colon);
+    if (Stream)
+        *Stream = part(FileName, colon, end);
+    if (FinalComponent)
+        *FinalComponent = part(FileName, start, end);
+    return STATUS_SUCCESS;
+}
+
+NTSTATUS FltParseFileNameInformation(PFLT_FILE_NAME_INFORMATION FileNameInformation)
+{
+    PFLT_FILE_NAME_INFORMATION info = FileNameInformation;
+    FltParseFileName(&info->Name, &info->Extension, &info->Stream, &info->FinalComponent);
+    size_t volume = info->Volume.Length / sizeof(WCHAR), start = final_start(&info->Name);
+    info->ParentDir = start > volume ? part(&info->Name, volume, start) : part(&info->Name, volume, volume);
+    info->NamesParsed = FLTFL_FILE_NAME_PARSED_FINAL_COMPONENT | FLTFL_FILE_NAME_PARSED_EXTENSION | FLTFL_FILE_NAME_PARSED_STREAM;
+    if (info->Format == FLT_FILE_NAME_NORMALIZED || info->Format == FLT_FILE_NAME_OPENED)
+        info->NamesParsed |= FLTFL_FILE_NAME_PARSED_PARENT_DIR;
+    return STATUS_SUCCESS;
+}
+
+/* ---- Volumes. */
+static NTSTATUS put_name(const char *text, PUNICODE_STRING to, PULONG needed)
+{
+    WCHAR room[128];
+    UNICODE_STRING name;
+    kz_wide(&name, room, text);
+    if (needed)
+        *needed = name.Length;
+    if (!to || to->MaximumLength < name.Length)
+        return STATUS_BUFFER_TOO_SMALL;
+    RtlCopyUnicodeString(to, &name);
+    return STATUS_SUCCESS;
+}
+
+NTSTATUS FltGetVolumeName(PFLT_VOLUME Volume, PUNICODE_STRING VolumeName, PULONG BufferSizeNeeded)
+{
+    char text[64];
+    device_name(text, sizeof text, Volume);
+    return put_name(text, VolumeName, BufferSizeNeeded);
+}
+
+NTSTATUS FltGetVolumeGuidName(PFLT_VOLUME Volume, PUNICODE_STRING VolumeGuidName, PULONG BufferSizeNeeded)
+{
+    char text[80];
+    snprintf(text, sizeof text, "/?" "?/Volume{00000000-0000-0000-0000-%012x}", Volume->id + 1u);
+    return put_name(text, VolumeGuidName, BufferSizeNeeded);
+}
+
+/* As a drive's letter, from C: on. The driver frees it. */
+NTSTATUS IoVolumeDeviceToDosName(PVOID VolumeDeviceObject, PUNICODE_STRING DosName)
+{
+    KZ_INSIDE();
+    for (size_t at = 0; at < kz.volumes_count; at++) {
+        if (VolumeDeviceObject != &kz.volumes[at]->disk && VolumeDeviceObject != &kz.volumes[at]->device)
+            continue;
+        DosName->Buffer = ExAllocatePoolWithTag(PagedPool, 3 * sizeof(WCHAR), 'nsoD');
+        if (!DosName->Buffer)
+            return STATUS_INSUFFICIENT_RESOURCES;
+        DosName->Length = 2 * sizeof(WCHAR);
+        DosName->MaximumLength = 3 * sizeof(WCHAR);
+        DosName->Buffer[0] = (WCHAR)('C' + kz.volumes[at]->id);
+        DosName->Buffer[1] = ':';
+        DosName->Buffer[2] = 0;
+        return STATUS_SUCCESS;
+    }
+    return STATUS_INVALID_PARAMETER;
+}
+
+/* ---- The end. */
+void kz_tell_names(PFLT_FILTER filter)
+{
+    for (Named *one = all; one; one = one->next) {
+        if (one->place.filter != filter)
+            continue;
+        KzPlace before = kz_enter_again(&one->place);
+        kz_tell(KZM_NAME_LEAK, "FltReleaseFileNameInformation", "never called for a name");
+        kz_me->place = before;
+    }
+}
+
+void kz_free_names(void)
+{
+    while (all) {
+        Named *one = all;
+        all = one->next;
+        kz_give_back(one);
+    }
+}

@@ -1,0 +1,195 @@
+/* What a driver asks of its callback data: whether it is dirty, where its buffer is, and who asked for the operation. */
+#include "host.h"
+
+VOID FltSetCallbackDataDirty(PFLT_CALLBACK_DATA Data)
+{
+    Data->Flags |= FLTFL_CALLBACK_DATA_DIRTY;
+}
+
+VOID FltClearCallbackDataDirty(PFLT_CALLBACK_DATA Data)
+{
+    Data->Flags &= ~FLTFL_CALLBACK_DATA_DIRTY;
+}
+
+BOOLEAN FltIsCallbackDataDirty(PFLT_CALLBACK_DATA Data)
+{
+    return (Data->Flags & FLTFL_CALLBACK_DATA_DIRTY) != 0;
+}
+
+/* The buffer of an operation, as the kit hands out pointers to its fields. */
+NTSTATUS FltDecodeParameters(PFLT_CALLBACK_DATA CallbackData, PMDL **MdlAddressPointer, PVOID **Buffer, PULONG *Length, LOCK_OPERATION *DesiredAccess)
+{
+    FLT_PARAMETERS *now = &CallbackData->Iopb->Parameters;
+    PMDL *mdl = NULL;
+    PVOID *buffer;
+    ULONG *length;
+    LOCK_OPERATION access = IoWriteAccess;
+    switch (CallbackData->Iopb->MajorFunction) {
+    case IRP_MJ_READ:
+        mdl = &now->Read.MdlAddress;
+        buffer = &now->Read.ReadBuffer;
+        length = &now->Read.Length;
+        break;
+    case IRP_MJ_WRITE:
+        mdl = &now->Write.MdlAddress;
+        buffer = &now->Write.WriteBuffer;
+        length = &now->Write.Length;
+        access = IoReadAccess;
+        break;
+    case IRP_MJ_DIRECTORY_CONTROL:
+        mdl = &now->DirectoryControl.QueryDirectory.MdlAddress;
+        buffer = &now->DirectoryControl.QueryDirectory.DirectoryBuffer;
+        length = &now->DirectoryControl.QueryDirectory.Length;
+        break;
+    case IRP_MJ_QUERY_INFORMATION:
+        buffer = &now->QueryFileInformation.InfoBuffer;
+        length = &now->QueryFileInformation.Length;
+        break;
+    case IRP_MJ_SET_INFORMATION:
+        buffer = &now->SetFileInformation.InfoBuffer;
+        length = &now->SetFileInformation.Length;
+        access = IoReadAccess;
+        break;
+    default:
+        return STATUS_INVALID_PARAMETER;
+    }
+    if (MdlAddressPointer)
+        *MdlAddressPointer = mdl;
+    if (Buffer)
+        *Buffer = buffer;
+    if (Length)
+        *Length = length;
+    if (DesiredAccess)
+        *DesiredAccess = access;
+    return STATUS_SUCCESS;
+}
+
+/* A description of the buffer, which the manager frees. It changes no parameter. */
+NTSTATUS FltLockUserBuffer(PFLT_CALLBACK_DATA CallbackData)
+{
+    KZ_INSIDE();
+    PMDL *mdl;
+    PVOID *buffer;
+    PULONG length;
+    KzOp *op = kz_op_with(CallbackData);
+    if (!op) {
+        kz_tell(KZM_NOT_OWN_DATA, __func__, "callback data of no operation");
+        return STATUS_INVALID_PARAMETER;
+    }
+    NTSTATUS status = FltDecodeParameters(CallbackData, &mdl, &buffer, &length, NULL);
+    if (!NT_SUCCESS(status) || !mdl || *mdl || !*buffer || !*length)
+        return status;
+    PFLT_FILTER filter = kz_me->place.filter;
+    kz_me->place.filter = NULL;
+    PMDL made = IoAllocateMdl(*buffer, *length, FALSE, FALSE, NULL);
+    if (made) {
+        made->MdlFlags |= MDL_PAGES_LOCKED;
+        kz_keep_mdl(op, made);
+        *mdl = made;
+        *(PMDL *)((PUCHAR)&op->shown + ((PUCHAR)mdl - (PUCHAR)op->iopb)) = made;
+        if (op->visits && *buffer == op->visits->received)
+            op->visits->received_mdl = made;
+    }
+    kz_me->place.filter = filter;
+    return made ? STATUS_SUCCESS : STATUS_INSUFFICIENT_RESOURCES;
+}
+
+PVOID FltGetSwappedBufferMdlAddress(PFLT_CALLBACK_DATA CallbackData)
+{
+    KZ_INSIDE();
+    KzOp *op = kz_op_with(CallbackData);
+    return op && op->mdls ? op->mdls->mdl : NULL;
+}
+
+/* The driver frees it itself. */
+VOID FltRetainSwappedBufferMdlAddress(PFLT_CALLBACK_DATA CallbackData)
+{
+    KZ_INSIDE();
+    KzOp *op = kz_op_with(CallbackData);
+    if (op && op->mdls)
+        op->mdls->mdl = NULL;
+}
+
+/* The IRQL is low enough: it is done at once. */
+BOOLEAN FltDoCompletionProcessingWhenSafe(PFLT_CALLBACK_DATA Data, PCFLT_RELATED_OBJECTS FltObjects, PVOID CompletionContext, FLT_POST_OPERATION_FLAGS Flags,
+                                          PFLT_POST_OPERATION_CALLBACK SafePostCallback, PFLT_POSTOP_CALLBACK_STATUS RetPostOperationStatus)
+{
+    if (Flags & FLTFL_POST_OPERATION_DRAINING) {
+        kz_tell(KZM_HELD_DRAIN, __func__, "in a drain, where it mustn't be called");
+        *RetPostOperationStatus = FLT_POSTOP_FINISHED_PROCESSING;
+        return FALSE;
+    }
+    *RetPostOperationStatus = SafePostCallback(Data, FltObjects, CompletionContext, Flags);
+    return TRUE;
+}
+
+HANDLE FltGetRequestorProcessIdEx(PFLT_CALLBACK_DATA CallbackData)
+{
+    KZ_INSIDE();
+    return PsGetThreadProcessId(CallbackData->Thread);
+}
+
+ULONG FltGetRequestorProcessId(PFLT_CALLBACK_DATA CallbackData)
+{
+    KZ_INSIDE();
+    return HandleToULong(FltGetRequestorProcessIdEx(CallbackData));
+}
+
+PEPROCESS FltGetRequestorProcess(PFLT_CALLBACK_DATA CallbackData)
+{
+    KZ_INSIDE();
+    return IoThreadToProcess(CallbackData->Thread);
+}
+
+NTSTATUS FltGetRequestorSessionId(PFLT_CALLBACK_DATA CallbackData, PULONG SessionId)
+{
+    (void)CallbackData;
+    *SessionId = 1;
+    return STATUS_SUCCESS;
+}
+
+/* No operation answers STATUS_PENDING to the filter that asked to be told, so that the routine isn't called. */
+NTSTATUS FltRequestOperationStatusCallback(PFLT_CALLBACK_DATA Data, PFLT_GET_OPERATION_STATUS_CALLBACK CallbackRoutine, PVOID RequesterContext)
+{
+    (void)Data, (void)CallbackRoutine, (void)RequesterContext;
+    kz_tell(KZM_STATUS_LOST, __func__, "the routine is never called");
+    return STATUS_SUCCESS;
+}
+
+NTSTATUS FltIsDirectory(PFILE_OBJECT FileObject, PFLT_INSTANCE Instance, PBOOLEAN IsDirectory)
+{
+    KZ_INSIDE();
+    (void)Instance;
+    KzFile *file = kz_file_with(FileObject);
+    *IsDirectory = file && file->is_directory;
+    return file ? STATUS_SUCCESS : STATUS_INVALID_PARAMETER;
+}
+
+BOOLEAN FltIsOperationSynchronous(PFLT_CALLBACK_DATA CallbackData)
+{
+    (void)CallbackData;
+    return TRUE;
+}
+
+BOOLEAN FltIs32bitProcess(PFLT_CALLBACK_DATA CallbackData)
+{
+    (void)CallbackData;
+    return FALSE;
+}
+
+BOOLEAN FltIsIoCanceled(PFLT_CALLBACK_DATA CallbackData)
+{
+    (void)CallbackData;
+    return FALSE;
+}
+
+PCHAR FltGetIrpName(UCHAR IrpMajorCode)
+{
+    static const char *const names[] = {"IRP_MJ_CREATE", "IRP_MJ_CREATE_NAMED_PIPE", "IRP_MJ_CLOSE", "IRP_MJ_READ", "IRP_MJ_WRITE",
+                                        "IRP_MJ_QUERY_INFORMATION", "IRP_MJ_SET_INFORMATION", "IRP_MJ_QUERY_EA", "IRP_MJ_SET_EA", "IRP_MJ_FLUSH_BUFFERS",
+                                        "IRP_MJ_QUERY_VOLUME_INFORMATION", "IRP_MJ_SET_VOLUME_INFORMATION", "IRP_MJ_DIRECTORY_CONTROL",
+                                        "IRP_MJ_FILE_SYSTEM_CONTROL", "IRP_MJ_DEVICE_CONTROL", "IRP_MJ_INTERNAL_DEVICE_CONTROL", "IRP_MJ_SHUTDOWN",
+                                        "IRP_MJ_LOCK_CONTROL", "IRP_MJ_CLEANUP", "IRP_MJ_CREATE_MAILSLOT", "IRP_MJ_QUERY_SECURITY", "IRP_MJ_SET_SECURITY",
+                                        "IRP_MJ_POWER", "IRP_MJ_SYSTEM_CONTROL", "IRP_MJ_DEVICE_CHANGE", "IRP_MJ_QUERY_QUOTA", "IRP_MJ_SET_QUOTA", "IRP_MJ_PNP"};
+    return (PCHAR)(IrpMajorCode < sizeof names / sizeof names[0] ? names[IrpMajorCode] : "IRP_MJ_OTHER");
+}

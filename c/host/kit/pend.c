@@ -1,0 +1,104 @@
+/* Operations that a filter holds go on: it completes what it pended, in any order and from anywhere. */
+#include "run/expect.h"
+
+static void resume(KzOp *op)
+{
+    op->held = KZ_NOT_HELD_NOW;
+    op->is_resumed = true;
+    kz.changes++;
+    kz_scheduler->touch(op, 0, KZT_GIVES);
+    kz_renew_data(op);
+    if (op->runner)
+        return;
+    op->next_resumed = NULL;
+    *kz.resumed_end = op;
+    kz.resumed_end = &op->next_resumed;
+}
+
+
+/* Makes the event from a callback of the instance that holds the operation: the one that runs, or else the question whether it may be detached, which is refused behind it.
+ * Whoever completes an operation in the kit may do so from anywhere. */
+static bool resume_from(const char *call, KzOp *op, KazdrinEvent event)
+{
+    if (kz_me->place.instance == op->holder) {
+        event.worker = kz_me->place.worker;
+        uint32_t status = kz_event(event);
+        if (status != KZS_WRONG_STEP) {
+            if (status == KZS_BAD_REQUEST)
+                kz_tell(KZM_NO_HELD_VERDICT, call, "a verdict that is none of a held operation's");
+            return status == KZS_OK;
+        }
+    }
+    kz_wait(kz_is_not_asked, op->holder, "the query callback of instance %u", op->holder->id);
+    uint8_t worker = kz_helper();
+    bool is_in = kz_enter_query(op->holder, worker);
+    event.worker = worker;
+    event.flag = 0; /* a reference of another callback's doesn't go along */
+    uint32_t status = is_in ? kz_event(event) : KZS_WRONG_STEP;
+    if (is_in)
+        kz_leave_query(op->holder, worker);
+    kz_helped(worker);
+    if (status == KZS_BAD_REQUEST)
+        kz_tell(KZM_NO_HELD_VERDICT, call, "a verdict that is none of a held operation's");
+    else if (status != KZS_OK)
+        kz_tell(KZM_NOWHERE_TO_RESUME, call, "no callback of the instance that holds the operation runs, and it is being torn down: it stays held");
+    return status == KZS_OK;
+}
+
+VOID FltCompletePendedPreOperation(PFLT_CALLBACK_DATA CallbackData, FLT_PREOP_CALLBACK_STATUS CallbackStatus, PVOID Context)
+{
+    KZ_CALL();
+    KzOp *op = kz_op_with(CallbackData);
+    bool is_verdict = CallbackStatus == FLT_PREOP_SUCCESS_WITH_CALLBACK || CallbackStatus == FLT_PREOP_SUCCESS_NO_CALLBACK || CallbackStatus == FLT_PREOP_COMPLETE;
+    if (!op || (op->held != KZ_HELD_PRE && (!op->is_in_pre || op->is_early))) {
+        kz_tell(KZM_COMPLETED_TWICE, __func__, "no operation that a preoperation holds (completed twice?)");
+        return;
+    }
+    if (!is_verdict) {
+        kz_tell(KZM_NO_HELD_VERDICT, __func__, "%d is none of a held operation's verdicts: it stays held", (int)CallbackStatus);
+        return;
+    }
+    if (op->is_in_pre) {
+        op->is_early = true;
+        op->early = CallbackStatus;
+        op->early_context = Context;
+        kz_scheduler->touch(op, 0, KZT_GIVES);
+        return;
+    }
+    bool is_touched = kz_is_touched(op) && CallbackStatus != FLT_PREOP_COMPLETE;
+    if (is_touched && op->data->Flags & FLTFL_CALLBACK_DATA_DIRTY)
+        kz_tell(KZM_CHANGED_WHILE_HELD, __func__, "parameters that were changed while the operation was held don't count");
+    else if (is_touched)
+        kz_tell(KZM_NOT_DIRTY, "FltSetCallbackDataDirty", "never called, though parameters were changed: they don't count");
+    KzPlace before = kz_me->place;
+    KazdrinEvent verdict = kz_verdict_of(op, op->holder, CallbackStatus, Context);
+    kz_me->place = before;
+    verdict.event = KZE_RESUME_PRE;
+    PFLT_INSTANCE holder = op->holder;
+    if (resume_from(__func__, op, verdict)) {
+        resume(op);
+        if (!kz_owes(op, holder, &verdict))
+            kz_leave_flight(op, holder);
+    }
+}
+
+VOID FltCompletePendedPostOperation(PFLT_CALLBACK_DATA CallbackData)
+{
+    KZ_CALL();
+    KzOp *op = kz_op_with(CallbackData);
+    if (op && op->is_in_post && !op->is_early) {
+        op->is_early = true; /* the callback is about to hold it */
+        return;
+    }
+    if (!op || op->held != KZ_HELD_POST) {
+        kz_tell(KZM_COMPLETED_TWICE, __func__, "no operation that a postoperation holds (completed twice?)");
+        return;
+    }
+    if (op->data->IoStatus.Status != op->status_shown.Status || op->data->IoStatus.Information != op->status_shown.Information)
+        kz_tell(KZM_CHANGED_WHILE_HELD, __func__, "an answer that was changed while the operation was held doesn't count");
+    PFLT_INSTANCE holder = op->holder;
+    if (resume_from(__func__, op, (KazdrinEvent){.event = KZE_RESUME_POST, .operation = op->id})) {
+        resume(op);
+        kz_leave_flight(op, holder);
+    }
+}

@@ -1,0 +1,198 @@
+/* Pools, lookaside lists and memory descriptions. */
+#include "host.h"
+
+/* ---- Pools. As in the kit, they aren't zeroed. */
+PVOID ExAllocatePoolWithTag(POOL_TYPE PoolType, SIZE_T NumberOfBytes, ULONG Tag)
+{
+    KZ_INSIDE();
+    if (kz_refuses(__func__))
+        return NULL;
+    (void)PoolType;
+    return kz_take_memory(KZK_POOL, NumberOfBytes, 0xcd, Tag);
+}
+
+PVOID ExAllocatePool(POOL_TYPE PoolType, SIZE_T NumberOfBytes)
+{
+    return ExAllocatePoolWithTag(PoolType, NumberOfBytes, 'enoN');
+}
+
+PVOID ExAllocatePoolWithQuotaTag(POOL_TYPE PoolType, SIZE_T NumberOfBytes, ULONG Tag)
+{
+    return ExAllocatePoolWithTag(PoolType, NumberOfBytes, Tag);
+}
+
+PVOID ExAllocatePoolUninitialized(POOL_TYPE PoolType, SIZE_T NumberOfBytes, ULONG Tag)
+{
+    return ExAllocatePoolWithTag(PoolType, NumberOfBytes, Tag);
+}
+
+PVOID ExAllocatePoolZero(POOL_TYPE PoolType, SIZE_T NumberOfBytes, ULONG Tag)
+{
+    KZ_INSIDE();
+    if (kz_refuses(__func__))
+        return NULL;
+    (void)PoolType;
+    return kz_take_memory(KZK_POOL, NumberOfBytes, 0, Tag);
+}
+
+PVOID ExAllocatePool2(POOL_FLAGS Flags, SIZE_T NumberOfBytes, ULONG Tag)
+{
+    KZ_INSIDE();
+    if (kz_refuses(__func__))
+        return NULL;
+    return kz_take_memory(KZK_POOL, NumberOfBytes, Flags & POOL_FLAG_UNINITIALIZED ? 0xcd : 0, Tag);
+}
+
+/* Whether that is memory of a pool. */
+static KzPiece *pool_of(PVOID memory, const char *call)
+{
+    KzPiece *piece = kz_piece_of(memory);
+    if (piece && piece->kind == KZK_POOL)
+        return piece;
+    kz_tell(KZM_NO_POOL, call, piece && piece->kind == KZK_CONTEXT ? "a context, which isn't a pool's memory" : "memory that isn't a pool's (freed twice?)");
+    return NULL;
+}
+
+static void free_pool(PVOID memory, const char *call)
+{
+    KZ_INSIDE();
+    if (pool_of(memory, call))
+        kz_give_back(memory);
+}
+
+VOID ExFreePoolWithTag(PVOID P, ULONG Tag)
+{
+    KZ_INSIDE();
+    KzPiece *piece = pool_of(P, __func__);
+    char own[8], given[8];
+    if (!piece)
+        return;
+    if (Tag && (Tag & ~PROTECTED_POOL) != (piece->tag & ~PROTECTED_POOL))
+        kz_tell(KZM_WRONG_TAG, __func__, "a pool's memory with the tag '%s', which was taken with '%s'", kz_tag(Tag, given), kz_tag(piece->tag, own));
+    kz_give_back(P);
+}
+
+VOID ExFreePool(PVOID P)
+{
+    free_pool(P, __func__);
+}
+
+VOID ExFreePool2(PVOID P, ULONG Tag, PVOID ExtendedParameters, ULONG ExtendedParametersCount)
+{
+    (void)ExtendedParameters, (void)ExtendedParametersCount;
+    ExFreePoolWithTag(P, Tag);
+}
+
+/* ---- Lookaside lists. */
+#define MADE 0x4c6f6f6b41736964ULL
+
+VOID KzInitializeLookaside(GENERAL_LOOKASIDE *List, PALLOCATE_FUNCTION Allocate, PFREE_FUNCTION Free, POOL_TYPE Type, SIZE_T Size, ULONG Tag)
+{
+    *List = (GENERAL_LOOKASIDE){.Size = (ULONG)Size, .Tag = Tag, .Type = Type, .Allocate = Allocate, .Free = Free, .Initialized = MADE};
+}
+
+static bool is_made(const GENERAL_LOOKASIDE *list, const char *call)
+{
+    if (list->Initialized != MADE)
+        kz_tell(KZM_NO_LOOKASIDE, call, "a lookaside list that wasn't initialized, or was deleted");
+    return list->Initialized == MADE;
+}
+
+PVOID KzAllocateFromLookaside(GENERAL_LOOKASIDE *List, PCSTR Call)
+{
+    if (!is_made(List, Call))
+        return NULL;
+    __atomic_add_fetch(&List->TotalAllocates, 1, __ATOMIC_RELAXED);
+    return List->Allocate ? List->Allocate(List->Type, List->Size, List->Tag) : ExAllocatePoolWithTag(List->Type, List->Size, List->Tag);
+}
+
+VOID KzFreeToLookaside(GENERAL_LOOKASIDE *List, PVOID Entry, PCSTR Call)
+{
+    if (!is_made(List, Call))
+        return;
+    __atomic_add_fetch(&List->TotalFrees, 1, __ATOMIC_RELAXED);
+    if (List->Free)
+        List->Free(Entry);
+    else
+        free_pool(Entry, Call);
+}
+
+VOID KzDeleteLookaside(GENERAL_LOOKASIDE *List)
+{
+    if (is_made(List, "ExDeleteNPagedLookasideList"))
+        List->Initialized = 0;
+}
+
+/* ---- Memory descriptions: the pages are always there. */
+PMDL IoAllocateMdl(PVOID VirtualAddress, ULONG Length, BOOLEAN SecondaryBuffer, BOOLEAN ChargeQuota, PIRP Irp)
+{
+    KZ_INSIDE();
+    (void)SecondaryBuffer, (void)ChargeQuota, (void)Irp;
+    PMDL mdl = ExAllocatePoolWithTag(NonPagedPool, sizeof *mdl, 'ldM ');
+    if (mdl) {
+        MmInitializeMdl(mdl, VirtualAddress, Length);
+        mdl->Size = sizeof *mdl;
+    }
+    return mdl;
+}
+
+VOID IoFreeMdl(PMDL Mdl)
+{
+    free_pool(Mdl, __func__);
+}
+
+VOID IoBuildPartialMdl(PMDL SourceMdl, PMDL TargetMdl, PVOID VirtualAddress, ULONG Length)
+{
+    ULONG skipped = (ULONG)((PUCHAR)VirtualAddress - (PUCHAR)MmGetMdlVirtualAddress(SourceMdl));
+    MmInitializeMdl(TargetMdl, VirtualAddress, Length ? Length : SourceMdl->ByteCount - skipped);
+    TargetMdl->Size = sizeof *TargetMdl;
+    TargetMdl->MdlFlags |= MDL_PARTIAL;
+}
+
+VOID MmBuildMdlForNonPagedPool(PMDL MemoryDescriptorList)
+{
+    MemoryDescriptorList->MdlFlags |= MDL_SOURCE_IS_NONPAGED_POOL;
+    MemoryDescriptorList->MappedSystemVa = MmGetMdlVirtualAddress(MemoryDescriptorList);
+}
+
+VOID MmProbeAndLockPages(PMDL MemoryDescriptorList, KPROCESSOR_MODE AccessMode, LOCK_OPERATION Operation)
+{
+    (void)AccessMode, (void)Operation;
+    MemoryDescriptorList->MdlFlags |= MDL_PAGES_LOCKED;
+}
+
+VOID MmUnlockPages(PMDL MemoryDescriptorList)
+{
+    MemoryDescriptorList->MdlFlags &= ~MDL_PAGES_LOCKED;
+}
+
+PVOID MmMapLockedPagesSpecifyCache(PMDL MemoryDescriptorList, KPROCESSOR_MODE AccessMode, MEMORY_CACHING_TYPE CacheType, PVOID RequestedAddress,
+                                   ULONG BugCheckOnFailure, ULONG Priority)
+{
+    (void)AccessMode, (void)CacheType, (void)RequestedAddress, (void)BugCheckOnFailure, (void)Priority;
+    return MmGetMdlVirtualAddress(MemoryDescriptorList);
+}
+
+VOID MmUnmapLockedPages(PVOID BaseAddress, PMDL MemoryDescriptorList)
+{
+    (void)BaseAddress, (void)MemoryDescriptorList;
+}
+
+BOOLEAN MmIsAddressValid(PVOID VirtualAddress)
+{
+    return VirtualAddress != NULL;
+}
+
+PVOID MmGetSystemRoutineAddress(PUNICODE_STRING SystemRoutineName)
+{
+    (void)SystemRoutineName; /* as in an older kernel: a driver that asks copes with none */
+    return NULL;
+}
+
+SIZE_T RtlCompareMemory(const VOID *Source1, const VOID *Source2, SIZE_T Length)
+{
+    SIZE_T same = 0;
+    while (same < Length && ((const UCHAR *)Source1)[same] == ((const UCHAR *)Source2)[same])
+        same++;
+    return same;
+}

@@ -1,0 +1,500 @@
+/* What the manager leaves out by name is declared: it answers STATUS_NOT_SUPPORTED, or that there is none, and is told once as a LIMIT. A port is made, so that a driver that
+ * has one beside its callbacks loads; nobody ever connects to it. */
+#include "host.h"
+
+#include <stdlib.h>
+
+/* ---- Ports. */
+struct _FLT_PORT {
+    PFLT_PORT next;
+    PFLT_FILTER filter;
+};
+
+static PFLT_PORT ports;
+static UCHAR descriptor;
+
+NTSTATUS FltBuildDefaultSecurityDescriptor(PSECURITY_DESCRIPTOR *SecurityDescriptor, ACCESS_MASK DesiredAccess)
+{
+    (void)DesiredAccess;
+    *SecurityDescriptor = &descriptor;
+    return STATUS_SUCCESS;
+}
+
+VOID FltFreeSecurityDescriptor(PSECURITY_DESCRIPTOR SecurityDescriptor)
+{
+    if (SecurityDescriptor != &descriptor)
+        kz_tell(KZM_NO_FILTER_OBJECT, __func__, "no security descriptor of FltBuildDefaultSecurityDescriptor");
+}
+
+NTSTATUS FltCreateCommunicationPort(PFLT_FILTER Filter, PFLT_PORT *ServerPort, POBJECT_ATTRIBUTES ObjectAttributes, PVOID ServerPortCookie,
+                                    PFLT_CONNECT_NOTIFY ConnectNotifyCallback, PFLT_DISCONNECT_NOTIFY DisconnectNotifyCallback,
+                                    PFLT_MESSAGE_NOTIFY MessageNotifyCallback, LONG MaxConnections)
+{
+    KZ_INSIDE();
+    (void)ObjectAttributes, (void)ServerPortCookie, (void)ConnectNotifyCallback, (void)DisconnectNotifyCallback, (void)MessageNotifyCallback, (void)MaxConnections;
+    kz_tell(KZM_PORT, __func__, "the port is made, and nobody ever connects to it");
+    PFLT_PORT made = kz_memory(sizeof *made);
+    *made = (struct _FLT_PORT){ports, Filter};
+    ports = made;
+    *ServerPort = made;
+    return STATUS_SUCCESS;
+}
+
+VOID FltCloseCommunicationPort(PFLT_PORT ServerPort)
+{
+    KZ_INSIDE();
+    for (PFLT_PORT *at = &ports; *at; at = &(*at)->next)
+        if (*at == ServerPort) {
+            *at = ServerPort->next;
+            free(ServerPort);
+            return;
+        }
+    kz_tell(KZM_NO_HANDLE, __func__, "no port (closed twice?)");
+}
+
+VOID FltCloseClientPort(PFLT_FILTER Filter, PFLT_PORT *ClientPort)
+{
+    (void)Filter;
+    *ClientPort = NULL;
+}
+
+NTSTATUS FltSendMessage(PFLT_FILTER Filter, PFLT_PORT *ClientPort, PVOID SenderBuffer, ULONG SenderBufferLength, PVOID ReplyBuffer, PULONG ReplyLength,
+                        PLARGE_INTEGER Timeout)
+{
+    (void)Filter, (void)ClientPort, (void)SenderBuffer, (void)SenderBufferLength, (void)ReplyBuffer, (void)ReplyLength, (void)Timeout;
+    return STATUS_PORT_DISCONNECTED; /* as in the kit, where nobody is connected */
+}
+
+void kz_tell_ports(PFLT_FILTER filter)
+{
+    for (PFLT_PORT one = ports; one; one = one->next)
+        if (one->filter == filter) {
+            KzPlace before = kz_enter(KZ_IN_NOTHING, filter, NULL, NULL, NULL);
+            kz_tell(KZM_PORT_LEAK, "FltCloseCommunicationPort", "never called for a port");
+            kz_me->place = before;
+        }
+}
+
+void kz_free_ports(void)
+{
+    while (ports) {
+        PFLT_PORT one = ports;
+        ports = one->next;
+        free(one);
+    }
+}
+
+/* ---- Answers. Arguments aren't looked at. */
+static NTSTATUS none(KzMessage message, const char *call)
+{
+    kz_tell(message, call, "isn't modelled: it answers STATUS_NOT_SUPPORTED");
+    return STATUS_NOT_SUPPORTED;
+}
+
+static void nothing(KzMessage message, const char *call)
+{
+    kz_tell(message, call, "isn't modelled: it does nothing");
+}
+
+#pragma GCC diagnostic ignored "-Wunused-parameter"
+#define NONE(message, name, ...)        \
+    NTSTATUS name(__VA_ARGS__)          \
+    {                                   \
+        return none((message), #name);  \
+    }
+#define NOTHING_DONE(message, name, ...) \
+    VOID name(__VA_ARGS__)               \
+    {                                    \
+        nothing((message), #name);       \
+    }
+
+/* I/O that a filter begins itself. */
+NTSTATUS FltCreateFile(PFLT_FILTER Filter, PFLT_INSTANCE Instance, PHANDLE FileHandle, ACCESS_MASK DesiredAccess, POBJECT_ATTRIBUTES ObjectAttributes,
+                       PIO_STATUS_BLOCK IoStatusBlock, PLARGE_INTEGER AllocationSize, ULONG FileAttributes, ULONG ShareAccess, ULONG CreateDisposition,
+                       ULONG CreateOptions, PVOID EaBuffer, ULONG EaLength, ULONG Flags)
+{
+    *FileHandle = NULL;
+    return none(KZM_OWN_IO, __func__);
+}
+
+NTSTATUS FltCreateFileEx(PFLT_FILTER Filter, PFLT_INSTANCE Instance, PHANDLE FileHandle, PFILE_OBJECT *FileObject, ACCESS_MASK DesiredAccess,
+                         POBJECT_ATTRIBUTES ObjectAttributes, PIO_STATUS_BLOCK IoStatusBlock, PLARGE_INTEGER AllocationSize, ULONG FileAttributes,
+                         ULONG ShareAccess, ULONG CreateDisposition, ULONG CreateOptions, PVOID EaBuffer, ULONG EaLength, ULONG Flags)
+{
+    *FileHandle = NULL;
+    if (FileObject)
+        *FileObject = NULL;
+    return none(KZM_OWN_IO, __func__);
+}
+
+NTSTATUS FltCreateFileEx2(PFLT_FILTER Filter, PFLT_INSTANCE Instance, PHANDLE FileHandle, PFILE_OBJECT *FileObject, ACCESS_MASK DesiredAccess,
+                          POBJECT_ATTRIBUTES ObjectAttributes, PIO_STATUS_BLOCK IoStatusBlock, PLARGE_INTEGER AllocationSize, ULONG FileAttributes,
+                          ULONG ShareAccess, ULONG CreateDisposition, ULONG CreateOptions, PVOID EaBuffer, ULONG EaLength, ULONG Flags,
+                          PIO_DRIVER_CREATE_CONTEXT DriverContext)
+{
+    *FileHandle = NULL;
+    if (FileObject)
+        *FileObject = NULL;
+    return none(KZM_OWN_IO, __func__);
+}
+
+NTSTATUS FltOpenVolume(PFLT_INSTANCE Instance, PHANDLE VolumeHandle, PFILE_OBJECT *VolumeFileObject)
+{
+    *VolumeHandle = NULL;
+    if (VolumeFileObject)
+        *VolumeFileObject = NULL;
+    return none(KZM_OWN_IO, __func__);
+}
+
+NTSTATUS FltClose(HANDLE FileHandle)
+{
+    return ZwClose(FileHandle);
+}
+
+NONE(KZM_OWN_IO, FltReadFile, PFLT_INSTANCE InitiatingInstance, PFILE_OBJECT FileObject, PLARGE_INTEGER ByteOffset, ULONG Length, PVOID Buffer,
+     FLT_IO_OPERATION_FLAGS Flags, PULONG BytesRead, PFLT_COMPLETED_ASYNC_IO_CALLBACK CallbackRoutine, PVOID CallbackContext)
+NONE(KZM_OWN_IO, FltWriteFile, PFLT_INSTANCE InitiatingInstance, PFILE_OBJECT FileObject, PLARGE_INTEGER ByteOffset, ULONG Length, PVOID Buffer,
+     FLT_IO_OPERATION_FLAGS Flags, PULONG BytesWritten, PFLT_COMPLETED_ASYNC_IO_CALLBACK CallbackRoutine, PVOID CallbackContext)
+NONE(KZM_OWN_IO, FltQueryInformationFile, PFLT_INSTANCE Instance, PFILE_OBJECT FileObject, PVOID FileInformation, ULONG Length,
+     FILE_INFORMATION_CLASS FileInformationClass, PULONG LengthReturned)
+NONE(KZM_OWN_IO, FltSetInformationFile, PFLT_INSTANCE Instance, PFILE_OBJECT FileObject, PVOID FileInformation, ULONG Length,
+     FILE_INFORMATION_CLASS FileInformationClass)
+NONE(KZM_OWN_IO, FltQueryDirectoryFile, PFLT_INSTANCE Instance, PFILE_OBJECT FileObject, PVOID FileInformation, ULONG Length,
+     FILE_INFORMATION_CLASS FileInformationClass, BOOLEAN ReturnSingleEntry, PUNICODE_STRING FileName, BOOLEAN RestartScan, PULONG LengthReturned)
+NONE(KZM_OWN_IO, FltQueryVolumeInformation, PFLT_INSTANCE Instance, PIO_STATUS_BLOCK Iosb, PVOID FsInformation, ULONG Length,
+     FS_INFORMATION_CLASS FsInformationClass)
+NONE(KZM_OWN_IO, FltSetVolumeInformation, PFLT_INSTANCE Instance, PIO_STATUS_BLOCK Iosb, PVOID FsInformation, ULONG Length,
+     FS_INFORMATION_CLASS FsInformationClass)
+NONE(KZM_OWN_IO, FltQueryVolumeInformationFile, PFLT_INSTANCE Instance, PFILE_OBJECT FileObject, PVOID FsInformation, ULONG Length,
+     FS_INFORMATION_CLASS FsInformationClass, PULONG LengthReturned)
+NONE(KZM_OWN_IO, FltQueryEaFile, PFLT_INSTANCE Instance, PFILE_OBJECT FileObject, PVOID ReturnedEaData, ULONG Length, BOOLEAN ReturnSingleEntry, PVOID EaList,
+     ULONG EaListLength, PULONG EaIndex, BOOLEAN RestartScan, PULONG LengthReturned)
+NONE(KZM_OWN_IO, FltSetEaFile, PFLT_INSTANCE Instance, PFILE_OBJECT FileObject, PVOID EaBuffer, ULONG Length)
+NONE(KZM_SECURITY, FltQuerySecurityObject, PFLT_INSTANCE Instance, PFILE_OBJECT FileObject, SECURITY_INFORMATION SecurityInformation,
+     PSECURITY_DESCRIPTOR SecurityDescriptor, ULONG Length, PULONG LengthNeeded)
+NONE(KZM_SECURITY, FltSetSecurityObject, PFLT_INSTANCE Instance, PFILE_OBJECT FileObject, SECURITY_INFORMATION SecurityInformation,
+     PSECURITY_DESCRIPTOR SecurityDescriptor)
+NONE(KZM_OWN_IO, FltFlushBuffers2, PFLT_INSTANCE Instance, PFILE_OBJECT FileObject, ULONG FlushType, PFLT_CALLBACK_DATA CallbackData)
+NONE(KZM_OWN_IO, FltNotifyFilterChangeDirectory, PVOID NotifySync, PLIST_ENTRY NotifyList, PVOID FsContext, PVOID FullDirectoryName, BOOLEAN WatchTree,
+     BOOLEAN IgnoreBuffer, ULONG CompletionFilter, PFLT_CALLBACK_DATA NotifyCallbackData, PVOID TraverseCallback, PVOID SubjectContext, PVOID FilterCallback)
+NONE(KZM_OWN_IO, FltFlushBuffers, PFLT_INSTANCE Instance, PFILE_OBJECT FileObject)
+NONE(KZM_OWN_IO, FltFsControlFile, PFLT_INSTANCE Instance, PFILE_OBJECT FileObject, ULONG FsControlCode, PVOID InputBuffer, ULONG InputBufferLength,
+     PVOID OutputBuffer, ULONG OutputBufferLength, PULONG LengthReturned)
+NONE(KZM_OWN_IO, FltDeviceIoControlFile, PFLT_INSTANCE Instance, PFILE_OBJECT FileObject, ULONG IoControlCode, PVOID InputBuffer, ULONG InputBufferLength,
+     PVOID OutputBuffer, ULONG OutputBufferLength, PULONG LengthReturned)
+NONE(KZM_REPARSE, FltTagFile, PFLT_INSTANCE InitiatingInstance, PFILE_OBJECT FileObject, ULONG FileTag, GUID *Guid, PVOID DataBuffer, USHORT DataBufferLength)
+NONE(KZM_REPARSE, FltUntagFile, PFLT_INSTANCE InitiatingInstance, PFILE_OBJECT FileObject, ULONG FileTag, GUID *Guid)
+NONE(KZM_REPARSE, IoReplaceFileObjectName, PFILE_OBJECT FileObject, PWSTR NewFileName, USHORT FileNameLength)
+
+NTSTATUS FltAllocateCallbackData(PFLT_INSTANCE Instance, PFILE_OBJECT FileObject, PFLT_CALLBACK_DATA *RetNewCallbackData)
+{
+    *RetNewCallbackData = NULL;
+    return none(KZM_OWN_IO, __func__);
+}
+
+NOTHING_DONE(KZM_OWN_IO, FltFreeCallbackData, PFLT_CALLBACK_DATA CallbackData)
+NOTHING_DONE(KZM_OWN_IO, FltReuseCallbackData, PFLT_CALLBACK_DATA CallbackData)
+NOTHING_DONE(KZM_OWN_IO, FltPerformSynchronousIo, PFLT_CALLBACK_DATA CallbackData)
+NONE(KZM_OWN_IO, FltPerformAsynchronousIo, PFLT_CALLBACK_DATA CallbackData, PFLT_COMPLETED_ASYNC_IO_CALLBACK CallbackRoutine, PVOID CallbackContext)
+NOTHING_DONE(KZM_OWN_IO, FltReissueSynchronousIo, PFLT_INSTANCE InitiatingInstance, PFLT_CALLBACK_DATA CallbackData)
+
+NTSTATUS ZwCreateFile(PHANDLE FileHandle, ACCESS_MASK DesiredAccess, POBJECT_ATTRIBUTES ObjectAttributes, PIO_STATUS_BLOCK IoStatusBlock,
+                      PLARGE_INTEGER AllocationSize, ULONG FileAttributes, ULONG ShareAccess, ULONG CreateDisposition, ULONG CreateOptions, PVOID EaBuffer,
+                      ULONG EaLength)
+{
+    *FileHandle = NULL;
+    return none(KZM_OWN_IO, __func__);
+}
+
+NONE(KZM_OWN_IO, ZwReadFile, HANDLE FileHandle, HANDLE Event, PVOID ApcRoutine, PVOID ApcContext, PIO_STATUS_BLOCK IoStatusBlock, PVOID Buffer, ULONG Length,
+     PLARGE_INTEGER ByteOffset, PULONG Key)
+NONE(KZM_OWN_IO, ZwWriteFile, HANDLE FileHandle, HANDLE Event, PVOID ApcRoutine, PVOID ApcContext, PIO_STATUS_BLOCK IoStatusBlock, PVOID Buffer, ULONG Length,
+     PLARGE_INTEGER ByteOffset, PULONG Key)
+
+/* Cancellation. An open that is to be cancelled stays: its caller has the handle. */
+NOTHING_DONE(KZM_CANCEL, FltCancelFileOpen, PFLT_INSTANCE Instance, PFILE_OBJECT FileObject)
+
+BOOLEAN FltCancelIo(PFLT_CALLBACK_DATA CallbackData)
+{
+    nothing(KZM_CANCEL, __func__);
+    return FALSE;
+}
+
+NTSTATUS FltSetCancelCompletion(PFLT_CALLBACK_DATA CallbackData, VOID (*CanceledCallback)(PFLT_CALLBACK_DATA CallbackData))
+{
+    kz_tell(KZM_CANCEL, __func__, "nothing is cancelled: the routine is never called");
+    return STATUS_SUCCESS;
+}
+
+NTSTATUS FltClearCancelCompletion(PFLT_CALLBACK_DATA CallbackData)
+{
+    return STATUS_SUCCESS;
+}
+
+/* File, transaction and section contexts. A file system without file contexts answers so. */
+NTSTATUS FltSetFileContext(PFLT_INSTANCE Instance, PFILE_OBJECT FileObject, FLT_SET_CONTEXT_OPERATION Operation, PFLT_CONTEXT NewContext,
+                           PFLT_CONTEXT *OldContext)
+{
+    if (OldContext)
+        *OldContext = NULL;
+    return none(KZM_NO_SUCH_CONTEXTS, __func__);
+}
+
+NTSTATUS FltGetFileContext(PFLT_INSTANCE Instance, PFILE_OBJECT FileObject, PFLT_CONTEXT *Context)
+{
+    *Context = NULL;
+    return none(KZM_NO_SUCH_CONTEXTS, __func__);
+}
+
+NTSTATUS FltDeleteFileContext(PFLT_INSTANCE Instance, PFILE_OBJECT FileObject, PFLT_CONTEXT *OldContext)
+{
+    if (OldContext)
+        *OldContext = NULL;
+    return none(KZM_NO_SUCH_CONTEXTS, __func__);
+}
+
+NTSTATUS FltSetTransactionContext(PFLT_INSTANCE Instance, PKTRANSACTION Transaction, FLT_SET_CONTEXT_OPERATION Operation, PFLT_CONTEXT NewContext,
+                                  PFLT_CONTEXT *OldContext)
+{
+    if (OldContext)
+        *OldContext = NULL;
+    return none(KZM_TRANSACTION, __func__);
+}
+
+NTSTATUS FltGetTransactionContext(PFLT_INSTANCE Instance, PKTRANSACTION Transaction, PFLT_CONTEXT *Context)
+{
+    *Context = NULL;
+    return none(KZM_TRANSACTION, __func__);
+}
+
+NTSTATUS FltDeleteTransactionContext(PFLT_INSTANCE Instance, PKTRANSACTION Transaction, PFLT_CONTEXT *OldContext)
+{
+    if (OldContext)
+        *OldContext = NULL;
+    return none(KZM_TRANSACTION, __func__);
+}
+
+NTSTATUS FltGetSectionContext(PFLT_INSTANCE Instance, PFILE_OBJECT FileObject, PFLT_CONTEXT *Context)
+{
+    *Context = NULL;
+    return none(KZM_SECTION, __func__);
+}
+
+NONE(KZM_TRANSACTION, FltEnlistInTransaction, PFLT_INSTANCE Instance, PKTRANSACTION Transaction, PFLT_CONTEXT TransactionContext, ULONG NotificationMask)
+NONE(KZM_TRANSACTION, FltRollbackEnlistment, PFLT_INSTANCE Instance, PKTRANSACTION Transaction, PFLT_CONTEXT TransactionContext)
+NONE(KZM_TRANSACTION, FltCommitComplete, PFLT_INSTANCE Instance, PKTRANSACTION Transaction, PFLT_CONTEXT TransactionContext)
+NONE(KZM_TRANSACTION, FltPrepareComplete, PFLT_INSTANCE Instance, PKTRANSACTION Transaction, PFLT_CONTEXT TransactionContext)
+NONE(KZM_TRANSACTION, FltRollbackComplete, PFLT_INSTANCE Instance, PKTRANSACTION Transaction, PFLT_CONTEXT TransactionContext)
+
+/* Oplocks: none is ever granted, so that none has to be broken. */
+VOID FltInitializeOplock(POPLOCK Oplock)
+{
+    *Oplock = NULL;
+}
+
+VOID FltUninitializeOplock(POPLOCK Oplock)
+{
+    *Oplock = NULL;
+}
+
+FLT_PREOP_CALLBACK_STATUS FltOplockFsctrl(POPLOCK Oplock, PFLT_CALLBACK_DATA CallbackData, ULONG OpenCount)
+{
+    CallbackData->IoStatus.Status = none(KZM_OPLOCK, __func__);
+    return FLT_PREOP_COMPLETE;
+}
+
+FLT_PREOP_CALLBACK_STATUS FltCheckOplock(POPLOCK Oplock, PFLT_CALLBACK_DATA CallbackData, PVOID Context, PVOID WaitCompletionRoutine, PVOID PrePostCallback)
+{
+    nothing(KZM_OPLOCK, __func__);
+    return FLT_PREOP_SUCCESS_WITH_CALLBACK;
+}
+
+BOOLEAN FltOplockIsFastIoPossible(POPLOCK Oplock)
+{
+    return TRUE;
+}
+
+BOOLEAN FltCurrentBatchOplock(POPLOCK Oplock)
+{
+    return FALSE;
+}
+
+/* Sections. */
+NTSTATUS FltCreateSectionForDataScan(PFLT_INSTANCE Instance, PFILE_OBJECT FileObject, PFLT_CONTEXT SectionContext, ACCESS_MASK DesiredAccess,
+                                     POBJECT_ATTRIBUTES ObjectAttributes, PLARGE_INTEGER MaximumSize, ULONG SectionPageProtection, ULONG AllocationAttributes,
+                                     ULONG Flags, PHANDLE SectionHandle, PVOID *SectionObject, PLARGE_INTEGER SectionFileSize)
+{
+    *SectionHandle = NULL;
+    *SectionObject = NULL;
+    return none(KZM_SECTION, __func__);
+}
+
+NONE(KZM_SECTION, FltCloseSectionForDataScan, PFLT_CONTEXT SectionContext)
+
+/* That it can't is an answer which a scanner copes with at the setup of its instance. */
+NONE(KZM_SECTION, FltRegisterForDataScan, PFLT_INSTANCE Instance)
+
+/* No create has extra parameters. */
+NTSTATUS FltGetEcpListFromCallbackData(PFLT_FILTER Filter, PFLT_CALLBACK_DATA CallbackData, PVOID *EcpList)
+{
+    *EcpList = NULL;
+    return STATUS_SUCCESS;
+}
+
+NTSTATUS FltFindExtraCreateParameter(PFLT_FILTER Filter, PVOID EcpList, const GUID *EcpType, PVOID *EcpContext, ULONG *EcpContextSize)
+{
+    if (EcpContext)
+        *EcpContext = NULL;
+    return STATUS_NOT_FOUND;
+}
+
+/* Threads, processes, tokens. */
+NTSTATUS PsCreateSystemThread(PHANDLE ThreadHandle, ULONG DesiredAccess, POBJECT_ATTRIBUTES ObjectAttributes, HANDLE ProcessHandle, CLIENT_ID *ClientId,
+                              PKSTART_ROUTINE StartRoutine, PVOID StartContext)
+{
+    *ThreadHandle = NULL;
+    return none(KZM_THREAD, __func__);
+}
+
+NONE(KZM_THREAD, PsTerminateSystemThread, NTSTATUS ExitStatus)
+
+NTSTATUS PsSetCreateProcessNotifyRoutine(PCREATE_PROCESS_NOTIFY_ROUTINE NotifyRoutine, BOOLEAN Remove)
+{
+    if (!Remove)
+        kz_tell(KZM_NOTIFY, __func__, "no process begins or ends: the routine is never called");
+    return STATUS_SUCCESS;
+}
+
+NTSTATUS PsSetCreateProcessNotifyRoutineEx(PCREATE_PROCESS_NOTIFY_ROUTINE_EX NotifyRoutine, BOOLEAN Remove)
+{
+    if (!Remove)
+        kz_tell(KZM_NOTIFY, __func__, "no process begins or ends: the routine is never called");
+    return STATUS_SUCCESS;
+}
+
+NTSTATUS ObOpenObjectByPointer(PVOID Object, ULONG HandleAttributes, PVOID PassedAccessState, ACCESS_MASK DesiredAccess, POBJECT_TYPE ObjectType,
+                               KPROCESSOR_MODE AccessMode, PHANDLE Handle)
+{
+    *Handle = NULL;
+    return none(KZM_SECURITY, __func__);
+}
+
+NTSTATUS SeLocateProcessImageName(PEPROCESS Process, PUNICODE_STRING *ImageFileName)
+{
+    *ImageFileName = NULL;
+    return none(KZM_SECURITY, __func__);
+}
+
+NONE(KZM_SECURITY, ZwQueryInformationProcess, HANDLE ProcessHandle, ULONG ProcessInformationClass, PVOID ProcessInformation, ULONG ProcessInformationLength,
+     PULONG ReturnLength)
+NONE(KZM_SECTION, ZwMapViewOfSection, HANDLE SectionHandle, HANDLE ProcessHandle, PVOID *BaseAddress, ULONG_PTR ZeroBits, SIZE_T CommitSize,
+     PLARGE_INTEGER SectionOffset, PSIZE_T ViewSize, ULONG InheritDisposition, ULONG AllocationType, ULONG Win32Protect)
+NONE(KZM_SECTION, ZwUnmapViewOfSection, HANDLE ProcessHandle, PVOID BaseAddress)
+NONE(KZM_OWN_IO, FsRtlGetFileSize, PFILE_OBJECT FileObject, PLARGE_INTEGER FileSize)
+
+/* No file is opened in a transaction. */
+PTXN_PARAMETER_BLOCK IoGetTransactionParameterBlock(PFILE_OBJECT FileObject)
+{
+    return NULL;
+}
+
+#define NEVER(name, ...)                                                                    NTSTATUS name(__VA_ARGS__)                                                              {                                                                                           kz_tell(KZM_NOTIFY, #name, "nothing of that happens: the routine is never called");         return STATUS_SUCCESS;                                                              }
+NEVER(PsSetCreateThreadNotifyRoutine, PCREATE_THREAD_NOTIFY_ROUTINE NotifyRoutine)
+NEVER(PsSetLoadImageNotifyRoutine, PLOAD_IMAGE_NOTIFY_ROUTINE NotifyRoutine)
+
+NTSTATUS PsRemoveCreateThreadNotifyRoutine(PCREATE_THREAD_NOTIFY_ROUTINE NotifyRoutine)
+{
+    return STATUS_SUCCESS;
+}
+
+NTSTATUS PsRemoveLoadImageNotifyRoutine(PLOAD_IMAGE_NOTIFY_ROUTINE NotifyRoutine)
+{
+    return STATUS_SUCCESS;
+}
+
+NTSTATUS SeQueryInformationToken(PACCESS_TOKEN Token, ULONG TokenInformationClass, PVOID *TokenInformation)
+{
+    *TokenInformation = NULL;
+    return none(KZM_SECURITY, __func__);
+}
+
+PACCESS_TOKEN PsReferencePrimaryToken(PEPROCESS Process)
+{
+    nothing(KZM_SECURITY, __func__);
+    return NULL;
+}
+
+VOID PsDereferencePrimaryToken(PACCESS_TOKEN PrimaryToken)
+{
+}
+
+/* A routine that an older filter manager lacks: whoever asks for one copes with none. */
+PVOID FltGetRoutineAddress(PCSTR FltMgrRoutineName)
+{
+    return NULL;
+}
+
+/* Devices of a driver's own. */
+NTSTATUS IoCreateDevice(PDRIVER_OBJECT DriverObject, ULONG DeviceExtensionSize, PUNICODE_STRING DeviceName, DEVICE_TYPE DeviceType, ULONG DeviceCharacteristics,
+                        BOOLEAN Exclusive, PDEVICE_OBJECT *DeviceObject)
+{
+    kz_tell(KZM_DEVICE, __func__, "the device is made, and nobody ever opens it");
+    PDEVICE_OBJECT made = ExAllocatePoolZero(NonPagedPool, sizeof *made + DeviceExtensionSize, 'iveD');
+    *DeviceObject = made;
+    if (!made)
+        return STATUS_INSUFFICIENT_RESOURCES;
+    made->Type = 3;
+    made->Size = (USHORT)(sizeof *made + DeviceExtensionSize);
+    made->DriverObject = DriverObject;
+    made->DeviceType = DeviceType;
+    made->Characteristics = DeviceCharacteristics;
+    made->DeviceExtension = made + 1;
+    made->Flags = DO_DEVICE_INITIALIZING;
+    made->NextDevice = DriverObject->DeviceObject;
+    DriverObject->DeviceObject = made;
+    return STATUS_SUCCESS;
+}
+
+VOID IoDeleteDevice(PDEVICE_OBJECT DeviceObject)
+{
+    ExFreePoolWithTag(DeviceObject, 'iveD');
+}
+
+NTSTATUS IoCreateSymbolicLink(PUNICODE_STRING SymbolicLinkName, PUNICODE_STRING DeviceName)
+{
+    return STATUS_SUCCESS;
+}
+
+NTSTATUS IoDeleteSymbolicLink(PUNICODE_STRING SymbolicLinkName)
+{
+    return STATUS_SUCCESS;
+}
+
+BOOLEAN IoIs32bitProcess(PIRP Irp)
+{
+    return FALSE;
+}
+
+/* The manager's own requests, made by a driver. */
+NTSTATUS FltAttachVolume(PFLT_FILTER Filter, PFLT_VOLUME Volume, PCUNICODE_STRING InstanceName, PFLT_INSTANCE *RetInstance)
+{
+    if (RetInstance)
+        *RetInstance = NULL;
+    return none(KZM_ATTACH, __func__);
+}
+
+NTSTATUS FltAttachVolumeAtAltitude(PFLT_FILTER Filter, PFLT_VOLUME Volume, PCUNICODE_STRING Altitude, PCUNICODE_STRING InstanceName, PFLT_INSTANCE *RetInstance)
+{
+    if (RetInstance)
+        *RetInstance = NULL;
+    return none(KZM_ATTACH, __func__);
+}
+
+NONE(KZM_ATTACH, FltDetachVolume, PFLT_FILTER Filter, PFLT_VOLUME Volume, PCUNICODE_STRING InstanceName)
+NONE(KZM_ATTACH, FltLoadFilter, PCUNICODE_STRING FilterName)
+NONE(KZM_ATTACH, FltUnloadFilter, PCUNICODE_STRING FilterName)
+NONE(KZM_ATTACH, FltGetInstanceInformation, PFLT_INSTANCE Instance, INSTANCE_INFORMATION_CLASS InformationClass, PVOID Buffer, ULONG BufferSize,
+     PULONG BytesReturned)
+NONE(KZM_ATTACH, FltGetFilterInformation, PFLT_FILTER Filter, FILTER_INFORMATION_CLASS InformationClass, PVOID Buffer, ULONG BufferSize, PULONG BytesReturned)
+NONE(KZM_ATTACH, FltGetVolumeInformation, PFLT_VOLUME Volume, FILTER_VOLUME_INFORMATION_CLASS InformationClass, PVOID Buffer, ULONG BufferSize,
+     PULONG BytesReturned)

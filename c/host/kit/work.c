@@ -1,0 +1,226 @@
+/* Work items. A routine runs once the request is answered, or as soon as something waits, one after the other, in the system's process.
+ *
+ * In the manager it is a callback of its instance: the question whether that may be detached, which is refused behind it. So it holds references, and completes what
+ * its instance holds, as any callback does. A routine on a filter, or on an instance that isn't attached, runs in no callback of the manager. */
+#include "host.h"
+
+#include <stdlib.h>
+
+typedef enum { GENERIC, DEFERRED, DEVICE, SYSTEM } Kind;
+
+/* A driver's item is this; a system's item is the driver's own memory, which one of these stands for. */
+struct _FLT_GENERIC_WORKITEM {
+    PFLT_GENERIC_WORKITEM next;
+    Kind kind;
+    bool is_queued;
+    PVOID object, context, item;
+    PFLT_FILTER filter;
+    PVOID routine;
+};
+
+static PFLT_GENERIC_WORKITEM first, *last = &first;
+
+static PVOID allocate(ULONG tag)
+{
+    return ExAllocatePoolZero(NonPagedPool, sizeof(struct _FLT_GENERIC_WORKITEM), tag);
+}
+
+static void free_item(PFLT_GENERIC_WORKITEM item, const char *call)
+{
+    KzPiece *piece = kz_piece_of(item);
+    if (!piece || piece->kind != KZK_POOL || piece->size != sizeof *item)
+        kz_tell(KZM_NO_POOL, call, "no work item (freed twice?)");
+    else if (item->is_queued)
+        kz_tell(KZM_WORK_LEFT, call, "a work item that is queued");
+    else
+        kz_give_back(item);
+}
+
+static void enqueue(PFLT_GENERIC_WORKITEM item)
+{
+    item->next = NULL;
+    item->is_queued = true;
+    *last = item;
+    last = &item->next;
+    kz_scheduler->touch(item, 0, KZT_GIVES);
+}
+
+static NTSTATUS queue(PFLT_GENERIC_WORKITEM item, Kind kind, PVOID object, PVOID routine, PVOID context, const char *call)
+{
+    if (item->is_queued) {
+        kz_tell(KZM_WORK_LEFT, call, "a work item that is queued already");
+        return STATUS_INVALID_PARAMETER;
+    }
+    *item = (struct _FLT_GENERIC_WORKITEM){NULL, kind, false, object, context, item, kz_me->place.filter, routine};
+    enqueue(item);
+    return STATUS_SUCCESS;
+}
+
+PFLT_GENERIC_WORKITEM FltAllocateGenericWorkItem(VOID)
+{
+    return allocate('wgMF');
+}
+
+VOID FltFreeGenericWorkItem(PFLT_GENERIC_WORKITEM FltWorkItem)
+{
+    KZ_INSIDE();
+    free_item(FltWorkItem, __func__);
+}
+
+NTSTATUS FltQueueGenericWorkItem(PFLT_GENERIC_WORKITEM FltWorkItem, PVOID FltObject, PFLT_GENERIC_WORKITEM_ROUTINE WorkerRoutine, WORK_QUEUE_TYPE QueueType,
+                                 PVOID Context)
+{
+    KZ_CALL();
+    (void)QueueType;
+    if (!kz_is_instance(FltObject) && !kz_is_filter(FltObject)) {
+        kz_tell(KZM_NO_FILTER_OBJECT, __func__, "neither a filter nor an instance");
+        return STATUS_INVALID_PARAMETER;
+    }
+    if (kz_is_instance(FltObject) && kz_phase(FltObject) > KZP_INSTANCE_STOPPING)
+        return STATUS_FLT_DELETING_OBJECT;
+    return queue(FltWorkItem, GENERIC, FltObject, (PVOID)WorkerRoutine, Context, __func__);
+}
+
+PFLT_DEFERRED_IO_WORKITEM FltAllocateDeferredIoWorkItem(VOID)
+{
+    return allocate('wdMF');
+}
+
+VOID FltFreeDeferredIoWorkItem(PFLT_DEFERRED_IO_WORKITEM FltWorkItem)
+{
+    KZ_INSIDE();
+    free_item((PFLT_GENERIC_WORKITEM)FltWorkItem, __func__);
+}
+
+NTSTATUS FltQueueDeferredIoWorkItem(PFLT_DEFERRED_IO_WORKITEM FltWorkItem, PFLT_CALLBACK_DATA Data, PFLT_DEFERRED_IO_WORKITEM_ROUTINE WorkerRoutine,
+                                    WORK_QUEUE_TYPE QueueType, PVOID Context)
+{
+    KZ_CALL();
+    (void)QueueType;
+    KzOp *op = kz_op_with(Data);
+    if (!op) {
+        kz_tell(KZM_NOT_OWN_DATA, __func__, "callback data of no operation");
+        return STATUS_INVALID_PARAMETER;
+    }
+    PFLT_GENERIC_WORKITEM item = (PFLT_GENERIC_WORKITEM)FltWorkItem;
+    NTSTATUS status = queue(item, DEFERRED, Data->Iopb->TargetInstance, (PVOID)WorkerRoutine, Context, __func__);
+    item->item = Data;
+    return status;
+}
+
+PIO_WORKITEM IoAllocateWorkItem(PDEVICE_OBJECT DeviceObject)
+{
+    PFLT_GENERIC_WORKITEM made = allocate('wiO ');
+    if (made)
+        made->object = DeviceObject;
+    return (PIO_WORKITEM)made;
+}
+
+VOID IoFreeWorkItem(PIO_WORKITEM IoWorkItem)
+{
+    KZ_INSIDE();
+    free_item((PFLT_GENERIC_WORKITEM)IoWorkItem, __func__);
+}
+
+VOID IoQueueWorkItem(PIO_WORKITEM IoWorkItem, PIO_WORKITEM_ROUTINE WorkerRoutine, WORK_QUEUE_TYPE QueueType, PVOID Context)
+{
+    KZ_CALL();
+    (void)QueueType;
+    PFLT_GENERIC_WORKITEM item = (PFLT_GENERIC_WORKITEM)IoWorkItem;
+    queue(item, DEVICE, item->object, (PVOID)WorkerRoutine, Context, __func__);
+}
+
+VOID ExQueueWorkItem(PWORK_QUEUE_ITEM WorkItem, WORK_QUEUE_TYPE QueueType)
+{
+    KZ_CALL();
+    (void)QueueType;
+    PFLT_GENERIC_WORKITEM made = kz_memory(sizeof *made);
+    queue(made, SYSTEM, NULL, (PVOID)WorkItem->WorkerRoutine, WorkItem->Parameter, __func__);
+}
+
+static void call(PFLT_GENERIC_WORKITEM item)
+{
+    struct _FLT_GENERIC_WORKITEM one = *item;
+    kz_scheduler->touch(item, 0, KZT_TAKES);
+    if (one.kind == SYSTEM)
+        free(item);
+    if (one.kind == GENERIC)
+        ((PFLT_GENERIC_WORKITEM_ROUTINE)one.routine)(item, one.object, one.context);
+    else if (one.kind == DEFERRED)
+        ((PFLT_DEFERRED_IO_WORKITEM_ROUTINE)one.routine)((PFLT_DEFERRED_IO_WORKITEM)item, one.item, one.context);
+    else if (one.kind == DEVICE)
+        ((PIO_WORKITEM_ROUTINE)one.routine)(one.object, one.context);
+    else
+        ((PWORKER_THREAD_ROUTINE)one.routine)(one.context);
+}
+
+static void run(PFLT_GENERIC_WORKITEM item)
+{
+    PFLT_INSTANCE instance = item->kind <= DEFERRED && kz_is_instance(item->object) ? item->object : NULL;
+    uint64_t process = kz_me->process, thread = kz_me->thread;
+    KzPlace before = kz_enter(KZ_IN_WORK, item->filter, instance, NULL, NULL);
+    uint8_t worker = kz_helper();
+    bool is_inside = instance && kz_enter_query(instance, worker);
+    kz_me->place.worker = worker;
+    kz_me->process = 4;
+    kz_me->thread = 8;
+    item->is_queued = false;
+    unsigned depth = kz_let_driver("work item");
+    call(item);
+    kz_driver_returned(depth, "work item returns");
+    kz_keep_rest(NULL);
+    kz_me->process = process;
+    kz_me->thread = thread;
+    kz_leave(before);
+    if (is_inside)
+        kz_leave_query(instance, worker);
+    kz_helped(worker);
+}
+
+/* One of an instance whose work item runs already waits for that. */
+static PFLT_GENERIC_WORKITEM *next(void)
+{
+    PFLT_GENERIC_WORKITEM *at = &first;
+    while (*at && (*at)->kind <= DEFERRED && kz_is_instance((*at)->object) && ((PFLT_INSTANCE)(*at)->object)->is_asked)
+        at = &(*at)->next;
+    return at;
+}
+
+bool kz_has_work(void)
+{
+    return *next() != NULL;
+}
+
+/* Runs the next work item; false if there is none. */
+bool kz_work(void)
+{
+    PFLT_GENERIC_WORKITEM *at = next(), item = *at;
+    if (!item)
+        return false;
+    *at = item->next;
+    if (last == &item->next)
+        last = at;
+    run(item);
+    return true;
+}
+
+void kz_tell_work(PFLT_FILTER filter)
+{
+    for (PFLT_GENERIC_WORKITEM one = first; one; one = one->next)
+        if (one->filter == filter) {
+            KzPlace before = kz_enter(KZ_IN_NOTHING, filter, NULL, NULL, NULL);
+            kz_tell(KZM_WORK_LEFT, "FltQueueGenericWorkItem", "a work item is queued still: it would run in a driver that is gone");
+            kz_me->place = before;
+        }
+}
+
+void kz_free_work(void)
+{
+    while (first) {
+        PFLT_GENERIC_WORKITEM one = first;
+        first = one->next;
+        if (one->kind == SYSTEM)
+            free(one);
+    }
+    last = &first;
+}

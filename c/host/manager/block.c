@@ -1,0 +1,40 @@
+/* Memory of an operation: blocks that live as long as it does, and its callback data. */
+#include "host.h"
+
+#include <stdlib.h>
+
+/* Memory that lives as long as its operation, between red zones. */
+void *kz_block(KzOp *op, size_t size)
+{
+    KzBlock *block = kz_memory(sizeof *block);
+    *block = (KzBlock){op->blocks, kz_take_memory(KZK_BUFFER, size, 0, 0)};
+    op->blocks = block;
+    if (!block->bytes) {
+        fprintf(stderr, "no memory\n");
+        exit(1);
+    }
+    return block->bytes;
+}
+
+FLT_CALLBACK_DATA *kz_new_data(PETHREAD thread, PFLT_IO_PARAMETER_BLOCK iopb)
+{
+    FLT_CALLBACK_DATA fresh = {.Flags = FLTFL_CALLBACK_DATA_IRP_OPERATION, .Thread = thread, .Iopb = iopb, .RequestorMode = UserMode};
+    FLT_CALLBACK_DATA *made = kz_take_memory(KZK_DATA, sizeof fresh, 0, 0);
+    memcpy(made, &fresh, sizeof fresh);
+    return made;
+}
+
+/* A filter completed what it held: its structures aren't its any more. They are filled, and the operation goes on with others. */
+void kz_renew_data(KzOp *op)
+{
+    PFLT_IO_PARAMETER_BLOCK iopb = kz_take_memory(KZK_DATA, sizeof *iopb, 0, 0);
+    *iopb = *op->iopb;
+    FLT_CALLBACK_DATA *data = kz_new_data(op->thread, iopb);
+    data->Flags = op->data->Flags;
+    data->IoStatus = op->data->IoStatus;
+    kz_piece_of(op->data)->filter = kz_piece_of(op->iopb)->filter = op->holder->filter;
+    kz_give_back(op->iopb);
+    kz_give_back(op->data);
+    op->iopb = iopb;
+    op->data = data;
+}

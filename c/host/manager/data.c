@@ -1,0 +1,584 @@
+/* Callback data: what the manager lends is shown in the kit's structures, and what a callback left in them is put back. */
+#include "host.h"
+
+#include <stdlib.h>
+
+static void *copied(KzOp *op, const void *bytes, size_t length)
+{
+    void *copy = kz_block(op, length);
+    memcpy(copy, bytes, length);
+    return copy;
+}
+
+static size_t least(size_t a, size_t b)
+{
+    return a < b ? a : b;
+}
+
+/* ---- Buffers that the answer comes into: of a read, a listing, a query. Each instance on the way down receives the one that is in force above it, and may put another in
+ * its place. */
+static PVOID *buffer_in(KzOp *op, FLT_PARAMETERS *parameters, PMDL **mdl, ULONG **length)
+{
+    static PMDL none;
+    switch (op->event) {
+    case KZE_READ:
+        *mdl = &parameters->Read.MdlAddress;
+        *length = &parameters->Read.Length;
+        return &parameters->Read.ReadBuffer;
+    case KZE_LIST:
+        *mdl = &parameters->DirectoryControl.QueryDirectory.MdlAddress;
+        *length = &parameters->DirectoryControl.QueryDirectory.Length;
+        return &parameters->DirectoryControl.QueryDirectory.DirectoryBuffer;
+    case KZE_QUERY_SIZE:
+        *mdl = &none;
+        none = NULL;
+        *length = &parameters->QueryFileInformation.Length;
+        return &parameters->QueryFileInformation.InfoBuffer;
+    default:
+        return NULL;
+    }
+}
+
+static bool has_buffer(const KzOp *op)
+{
+    return op->event == KZE_READ || op->event == KZE_LIST || op->event == KZE_QUERY_SIZE;
+}
+
+static void visit(KzOp *op, PFLT_INSTANCE instance)
+{
+    KzVisit *above = op->visits, *made = kz_memory(sizeof *made);
+    *made = (KzVisit){.above = above, .instance = instance, .received = op->caller, .room = op->caller_room};
+    if (above) {
+        made->received = above->swapped ? above->swapped : above->received;
+        made->room = above->swapped ? above->swapped_room : above->room;
+        made->received_mdl = above->swapped ? (op->mdls && op->mdls->mdl && MmGetMdlVirtualAddress(op->mdls->mdl) == above->swapped ? op->mdls->mdl : NULL)
+                                            : above->received_mdl;
+    }
+    op->visits = made;
+}
+
+static void leave_visit(KzOp *op)
+{
+    KzVisit *visited = op->visits;
+    op->visits = visited->above;
+    free(visited);
+}
+
+/* An instance that is drained frees its buffer: those below go on with one of the operation's own. */
+void kz_forget_swap(KzOp *op, PFLT_INSTANCE instance)
+{
+    for (KzVisit *below = NULL, *at = op->visits; at; below = at, at = at->above) {
+        if (at->instance != instance || !at->swapped)
+            continue;
+        PVOID gone = at->swapped;
+        at->swapped = kz_block(op, at->swapped_room);
+        if (below)
+            for (KzVisit *lower = op->visits; lower != at; lower = lower->above)
+                if (lower->received == gone) {
+                    lower->received = at->swapped;
+                    lower->received_mdl = NULL;
+                }
+        for (KzMdl *one = op->mdls; one; one = one->next)
+            if (one->mdl && MmGetMdlVirtualAddress(one->mdl) == gone) {
+                IoFreeMdl(one->mdl);
+                one->mdl = NULL;
+            }
+        PMDL *mdl;
+        ULONG *length;
+        PVOID *buffer = buffer_in(op, &op->iopb->Parameters, &mdl, &length);
+        if (buffer && *buffer == gone) {
+            *buffer = at->swapped;
+            *mdl = NULL;
+            op->shown = *op->iopb;
+        }
+    }
+}
+
+void kz_free_data(KzOp *op)
+{
+    while (op->visits)
+        leave_visit(op);
+    for (; op->mdls; op->mdls = op->mdls->next)
+        if (op->mdls->mdl)
+            IoFreeMdl(op->mdls->mdl);
+    kz_give_back(op->iopb);
+    kz_give_back(op->data);
+    while (op->blocks) {
+        KzBlock *block = op->blocks;
+        op->blocks = block->next;
+        kz_give_back(block->bytes);
+        free(block);
+    }
+}
+
+/* ---- What is asked for. */
+static ULONG options_of(uint8_t mode)
+{
+    return (ULONG)(mode == 0 ? FILE_OPEN : mode == 1 ? FILE_CREATE : FILE_OPEN_IF) << 24 | FILE_NON_DIRECTORY_FILE | FILE_SYNCHRONOUS_IO_NONALERT;
+}
+
+#define ACCESS (FILE_GENERIC_READ | FILE_GENERIC_WRITE | DELETE)
+
+static void show_create(KzOp *op, FLT_PARAMETERS *shown)
+{
+    op->access = (ACCESS_STATE){.RemainingDesiredAccess = ACCESS, .OriginalDesiredAccess = ACCESS};
+    op->security = (IO_SECURITY_CONTEXT){.AccessState = &op->access, .DesiredAccess = ACCESS};
+    shown->Create.SecurityContext = &op->security;
+    shown->Create.Options = options_of(op->lent.mode);
+    shown->Create.FileAttributes = FILE_ATTRIBUTE_NORMAL;
+    shown->Create.ShareAccess = FILE_SHARE_VALID_FLAGS;
+}
+
+static void show_information(KzOp *op, FLT_PARAMETERS *shown)
+{
+    if (op->event == KZE_SET_SIZE) {
+        FILE_END_OF_FILE_INFORMATION end = {.EndOfFile.QuadPart = (LONGLONG)op->lent.offset};
+        op->asked = copied(op, &end, sizeof end);
+        op->asked_length = sizeof end;
+        shown->SetFileInformation.FileInformationClass = FileEndOfFileInformation;
+    } else {
+        FILE_DISPOSITION_INFORMATION gone = {TRUE};
+        op->asked = copied(op, &gone, sizeof gone);
+        op->asked_length = sizeof gone;
+        shown->SetFileInformation.FileInformationClass = FileDispositionInformation;
+    }
+    shown->SetFileInformation.Length = (ULONG)op->asked_length;
+    shown->SetFileInformation.InfoBuffer = op->asked;
+}
+
+static void show_buffer(KzOp *op, FLT_PARAMETERS *shown)
+{
+    PMDL *mdl;
+    ULONG *length;
+    PVOID *buffer = buffer_in(op, shown, &mdl, &length);
+    *buffer = op->visits->received;
+    *mdl = op->visits->received_mdl;
+}
+
+static void show_parameters(KzOp *op, FLT_PARAMETERS *shown)
+{
+    switch (op->event) {
+    case KZE_CREATE:
+        show_create(op, shown);
+        break;
+    case KZE_READ:
+        shown->Read.Length = op->lent.len;
+        shown->Read.ByteOffset.QuadPart = (LONGLONG)op->lent.offset;
+        show_buffer(op, shown);
+        break;
+    case KZE_WRITE:
+        op->asked = copied(op, kz_me->room, op->lent.length);
+        op->asked_length = op->lent.length;
+        shown->Write.Length = (ULONG)op->asked_length;
+        shown->Write.ByteOffset.QuadPart = (LONGLONG)op->lent.offset;
+        shown->Write.WriteBuffer = op->asked;
+        break;
+    case KZE_QUERY_SIZE:
+        shown->QueryFileInformation.Length = sizeof(FILE_STANDARD_INFORMATION);
+        shown->QueryFileInformation.FileInformationClass = FileStandardInformation;
+        show_buffer(op, shown);
+        break;
+    case KZE_SET_SIZE:
+    case KZE_SET_DELETE:
+        show_information(op, shown);
+        break;
+    case KZE_LIST:
+        shown->DirectoryControl.QueryDirectory.FileInformationClass = FileNamesInformation;
+        shown->DirectoryControl.QueryDirectory.Length = op->visits->room;
+        show_buffer(op, shown);
+        break;
+    }
+}
+
+static ULONG irp_flags_of(uint8_t event)
+{
+    switch (event) {
+    case KZE_CREATE:
+        return IRP_CREATE_OPERATION | IRP_SYNCHRONOUS_API | IRP_DEFER_IO_COMPLETION;
+    case KZE_READ:
+        return IRP_READ_OPERATION | IRP_DEFER_IO_COMPLETION;
+    case KZE_WRITE:
+        return IRP_WRITE_OPERATION | IRP_DEFER_IO_COMPLETION;
+    case KZE_CLOSE:
+    case KZE_CLEANUP:
+        return IRP_CLOSE_OPERATION | IRP_SYNCHRONOUS_API;
+    case KZE_QUERY_SIZE:
+    case KZE_SET_SIZE:
+    case KZE_SET_DELETE:
+        return IRP_BUFFERED_IO | IRP_SYNCHRONOUS_API;
+    default:
+        return IRP_SYNCHRONOUS_API;
+    }
+}
+
+/* Fills the kit's structures from what the worker was lent. */
+static void show(KzOp *op, PFLT_INSTANCE instance)
+{
+    kazdrin_lent(&kz.manager, &(KazdrinEvent){.worker = kz_me->place.worker}, &op->lent, kz_me->room, sizeof kz_me->room);
+    memset(op->iopb, 0, sizeof *op->iopb);
+    op->iopb->IrpFlags = irp_flags_of(op->event);
+    op->iopb->MajorFunction = kz_major(op->event);
+    op->iopb->MinorFunction = op->event == KZE_LIST ? IRP_MN_QUERY_DIRECTORY : IRP_MN_NORMAL;
+    op->iopb->OperationFlags = op->event == KZE_LIST ? SL_RESTART_SCAN : 0;
+    op->iopb->TargetFileObject = &op->file->object;
+    op->iopb->TargetInstance = instance;
+    op->asked = NULL;
+    op->asked_length = 0;
+    show_parameters(op, &op->iopb->Parameters);
+    op->pristine = op->asked ? copied(op, op->asked, op->asked_length) : NULL;
+    op->shown = *op->iopb;
+    op->data->Flags = FLTFL_CALLBACK_DATA_IRP_OPERATION;
+    if (irp_flags_of(op->event) & IRP_BUFFERED_IO)
+        op->data->Flags |= FLTFL_CALLBACK_DATA_SYSTEM_BUFFER;
+}
+
+/* What the manager doesn't look at isn't lost: a completion that wasn't seen by any postoperation yet is put in the answer. */
+static void put_served(KzOp *op)
+{
+    if (!op->is_served)
+        return;
+    op->is_served = false;
+    KazdrinEvent put = {.worker = kz_me->place.worker, .status = op->lent.status, .number = op->lent.number, .offset = op->served, .flag = op->served_bytes != NULL};
+    if (kazdrin_answer(&kz.manager, &put, op->served_bytes ? op->served_bytes : (const uint8_t *)"", op->served_length) != KZS_OK)
+        kz_tell(KZM_LONG_ANSWER, "FLT_PREOP_COMPLETE", "an answer past a limit: it doesn't count");
+    kazdrin_lent(&kz.manager, &(KazdrinEvent){.flag = 1, .worker = kz_me->place.worker}, &op->lent, kz_me->room, sizeof kz_me->room);
+}
+
+void kz_show_pre(KzOp *op, PFLT_INSTANCE instance)
+{
+    if (has_buffer(op))
+        visit(op, instance);
+    show(op, instance);
+    op->data->IoStatus = op->status_shown = (IO_STATUS_BLOCK){.Status = STATUS_SUCCESS};
+}
+
+/* ---- What a preoperation left. */
+void kz_keep_mdl(KzOp *op, PMDL mdl)
+{
+    for (KzMdl *one = op->mdls; one; one = one->next)
+        if (one->mdl == mdl)
+            return;
+    KzMdl *kept = kz_block(op, sizeof *kept);
+    *kept = (KzMdl){op->mdls, mdl};
+    op->mdls = kept;
+}
+
+static void note_swap(KzOp *op, bool has_post)
+{
+    KzVisit *visited = op->visits;
+    PMDL *mdl, *mdl_shown;
+    ULONG *length, *length_shown;
+    PVOID *buffer = buffer_in(op, &op->iopb->Parameters, &mdl, &length);
+    PVOID *buffer_shown = buffer_in(op, &op->shown.Parameters, &mdl_shown, &length_shown);
+    if (op->event != KZE_QUERY_SIZE && *mdl && *mdl != visited->received_mdl) {
+        kz_keep_mdl(op, *mdl);
+        visited->swapped = MmGetMdlVirtualAddress(*mdl);
+    } else if (*buffer != *buffer_shown) {
+        visited->swapped = *buffer;
+    }
+    visited->swapped_room = *length;
+    if (visited->swapped && !has_post)
+        kz_tell(KZM_LOST_SWAP, "FltSetCallbackDataDirty", "a buffer was swapped and no postoperation is asked for: what comes into it never comes to the caller's");
+}
+
+static const uint8_t *written(KzOp *op)
+{
+    PMDL mdl = op->iopb->Parameters.Write.MdlAddress;
+    if (!mdl)
+        return op->iopb->Parameters.Write.WriteBuffer;
+    kz_keep_mdl(op, mdl);
+    return MmGetMdlVirtualAddress(mdl);
+}
+
+/* The parameters that the callback left, as the manager's event; false for what it hasn't. */
+static bool changed(KzOp *op, KazdrinEvent *event, const uint8_t **bytes, size_t *length)
+{
+    const FLT_PARAMETERS *now = &op->iopb->Parameters;
+    *event = (KazdrinEvent){.event = op->event, .worker = kz_me->place.worker};
+    switch (op->event) {
+    case KZE_CREATE: {
+        ULONG disposition = now->Create.Options >> 24;
+        *bytes = (const uint8_t *)op->file->path;
+        *length = strlen(op->file->path);
+        event->mode = (uint8_t)(disposition == FILE_CREATE ? 1 : disposition == FILE_OPEN ? 0 : 2);
+        return disposition >= FILE_OPEN && disposition <= FILE_OPEN_IF;
+    }
+    case KZE_READ:
+        event->offset = (uint64_t)now->Read.ByteOffset.QuadPart;
+        event->len = now->Read.Length;
+        return true;
+    case KZE_WRITE:
+        *bytes = written(op);
+        *length = now->Write.Length;
+        event->offset = (uint64_t)now->Write.ByteOffset.QuadPart;
+        return true;
+    case KZE_SET_SIZE:
+        event->offset = (uint64_t)((PFILE_END_OF_FILE_INFORMATION)now->SetFileInformation.InfoBuffer)->EndOfFile.QuadPart;
+        return now->SetFileInformation.FileInformationClass == FileEndOfFileInformation;
+    case KZE_SET_DELETE:
+        return now->SetFileInformation.FileInformationClass == FileDispositionInformation &&
+               ((PFILE_DISPOSITION_INFORMATION)now->SetFileInformation.InfoBuffer)->DeleteFile;
+    default:
+        return true;
+    }
+}
+
+static bool is_in_place(KzOp *op)
+{
+    return op->asked && memcmp(op->asked, op->pristine, op->asked_length) != 0;
+}
+
+/* Whether the parameters differ from those that the callback was shown, or from those that it left. */
+bool kz_is_touched(KzOp *op)
+{
+    return memcmp(op->iopb, &op->shown, sizeof *op->iopb) != 0 || is_in_place(op);
+}
+
+/* The target may be another instance of the filter, or another file: the manager sends it nowhere else. */
+static void check_target(KzOp *op, bool is_dirty)
+{
+    bool is_same = op->iopb->TargetInstance == op->shown.TargetInstance && op->iopb->TargetFileObject == op->shown.TargetFileObject;
+    if (is_same)
+        return;
+    if (!kz_is_instance(op->iopb->TargetInstance) || !kz_file_with(op->iopb->TargetFileObject))
+        kz_tell(KZM_NO_TARGET, "FLT_IO_PARAMETER_BLOCK", "TargetInstance or TargetFileObject was changed to what is none");
+    else if (is_dirty)
+        kz_tell(KZM_REDIRECTED, "FLT_IO_PARAMETER_BLOCK", "an operation goes to no other instance or file: TargetInstance and TargetFileObject stay");
+    op->iopb->TargetInstance = op->shown.TargetInstance;
+    op->iopb->TargetFileObject = op->shown.TargetFileObject;
+}
+
+/* Bytes that were changed in the caller's own buffer are written, as in the kit. */
+static void take_in_place(KzOp *op)
+{
+    kz_tell(KZM_WRITE_IN_PLACE, "FLT_IO_PARAMETER_BLOCK", "the bytes of WriteBuffer were changed in place: that is the caller's own memory");
+    KazdrinEvent event = {.event = KZE_WRITE, .worker = kz_me->place.worker, .offset = op->lent.offset};
+    kazdrin_change(&kz.manager, &event, op->asked, op->asked_length);
+    memcpy(op->pristine, op->asked, op->asked_length);
+}
+
+void kz_take_pre(KzOp *op, bool has_post, bool is_completed)
+{
+    const uint8_t *bytes = (const uint8_t *)"";
+    size_t length = 0;
+    KazdrinEvent event;
+    bool is_dirty = op->data->Flags & FLTFL_CALLBACK_DATA_DIRTY;
+    check_target(op, is_dirty);
+    if (!is_completed && (op->data->IoStatus.Status != op->status_shown.Status || op->data->IoStatus.Information != op->status_shown.Information))
+        kz_tell(KZM_STATUS_NOT_COMPLETED, "FLT_CALLBACK_DATA", "IoStatus was set by a preoperation that doesn't complete: it doesn't count");
+    if (op->event == KZE_WRITE && is_in_place(op) && !is_completed)
+        take_in_place(op);
+    if (!is_dirty) {
+        if (kz_is_touched(op) && !is_completed)
+            kz_tell(KZM_NOT_DIRTY, "FltSetCallbackDataDirty", "never called, though parameters were changed: they don't count");
+        *op->iopb = op->shown;
+        return;
+    }
+    if (has_buffer(op))
+        note_swap(op, has_post);
+    if (!changed(op, &event, &bytes, &length) || kazdrin_change(&kz.manager, &event, bytes, length) != KZS_OK)
+        kz_tell(KZM_OTHER_PARAMETERS, "FltSetCallbackDataDirty", "parameters of another operation, or past a limit of the manager: they don't count");
+    op->shown = *op->iopb;
+    if (op->asked)
+        memcpy(op->pristine, op->asked, op->asked_length);
+}
+
+/* ---- The answer. A listing is the kit's chain of names, and the manager's names, each before a line's end. */
+static size_t entry_size(size_t letters)
+{
+    return (offsetof(FILE_NAMES_INFORMATION, FileName) + letters * sizeof(WCHAR) + 7) & ~(size_t)7;
+}
+
+/* How many bytes of a chain fit in a buffer. */
+static size_t show_names(const uint8_t *names, size_t length, uint8_t *chain, size_t room)
+{
+    size_t place = 0, start = 0;
+    PFILE_NAMES_INFORMATION before = NULL;
+    for (size_t at = 0; at < length; at++) {
+        if (names[at] != '\n')
+            continue;
+        if (place + entry_size(at - start) > room)
+            break;
+        PFILE_NAMES_INFORMATION entry = (PFILE_NAMES_INFORMATION)(chain + place);
+        memset(entry, 0, entry_size(at - start));
+        entry->FileNameLength = (ULONG)((at - start) * sizeof(WCHAR));
+        for (size_t letter = start; letter < at; letter++)
+            entry->FileName[letter - start] = names[letter];
+        if (before)
+            before->NextEntryOffset = (ULONG)((uint8_t *)entry - (uint8_t *)before);
+        before = entry;
+        place += entry_size(at - start);
+        start = at + 1;
+    }
+    return place;
+}
+
+/* The names that a chain has, in `room`; how many bytes they take. */
+static size_t names_in(const uint8_t *chain, size_t size, uint8_t *room, size_t space)
+{
+    size_t length = 0, place = 0;
+    while (place + offsetof(FILE_NAMES_INFORMATION, FileName) <= size) {
+        const FILE_NAMES_INFORMATION *entry = (const FILE_NAMES_INFORMATION *)(chain + place);
+        size_t letters = entry->FileNameLength / sizeof(WCHAR);
+        if (entry_size(letters) > size - place || length + letters + 1 > space)
+            break;
+        for (size_t at = 0; at < letters; at++)
+            room[length++] = (uint8_t)entry->FileName[at];
+        room[length++] = '\n';
+        if (!entry->NextEntryOffset)
+            break;
+        place += entry->NextEntryOffset;
+    }
+    return length;
+}
+
+static void show_size(PFILE_STANDARD_INFORMATION info, uint64_t size)
+{
+    *info = (FILE_STANDARD_INFORMATION){
+        .AllocationSize.QuadPart = (LONGLONG)((size + 511) & ~(uint64_t)511), .EndOfFile.QuadPart = (LONGLONG)size, .NumberOfLinks = 1};
+}
+
+static void show_answer(KzOp *op)
+{
+    KzVisit *visited = op->visits;
+    uint8_t *below = visited ? visited->swapped ? visited->swapped : visited->received : NULL;
+    size_t room = visited ? visited->swapped ? visited->swapped_room : visited->room : 0;
+    op->data->IoStatus.Information = op->lent.information;
+    switch (op->event) {
+    case KZE_CREATE:
+        op->data->IoStatus.Information = op->lent.status ? 0 : op->lent.mode == 1 ? FILE_CREATED : FILE_OPENED;
+        break;
+    case KZE_READ:
+        memcpy(below, op->answered, least(op->answered_length, room));
+        break;
+    case KZE_QUERY_SIZE:
+        op->data->IoStatus.Information = 0;
+        if (op->lent.status == KZS_OK && room >= sizeof(FILE_STANDARD_INFORMATION)) {
+            show_size((PFILE_STANDARD_INFORMATION)below, op->lent.information);
+            op->data->IoStatus.Information = sizeof(FILE_STANDARD_INFORMATION);
+        }
+        break;
+    case KZE_LIST: {
+        size_t size = show_names(op->answered, op->answered_length, below, room);
+        op->data->IoStatus.Information = size;
+        /* Names that have no room in the buffer aren't shown, and aren't lost: what the callback saw is what its answer is compared with. */
+        op->answered_length = names_in(below, size, op->answered, op->answered_length);
+        op->lent.information = op->answered_length;
+        break;
+    }
+    }
+}
+
+void kz_show_post(KzOp *op, PFLT_INSTANCE instance)
+{
+    while (has_buffer(op) && op->visits && op->visits->instance != instance)
+        leave_visit(op);
+    if (has_buffer(op) && !op->visits)
+        visit(op, instance);
+    show(op, instance);
+    kazdrin_lent(&kz.manager, &(KazdrinEvent){.flag = 1, .worker = kz_me->place.worker}, &op->lent, kz_me->room, sizeof kz_me->room);
+    put_served(op);
+    op->answered = copied(op, kz_me->room, op->lent.length);
+    op->answered_length = op->lent.length;
+    op->data->Flags |= FLTFL_CALLBACK_DATA_POST_OPERATION;
+    op->data->IoStatus.Status = op->other ? op->other : kz_ntstatus(op->lent.status);
+    show_answer(op);
+    op->status_shown = op->data->IoStatus;
+    op->shown = *op->iopb;
+}
+
+/* The answer that a callback left in the buffer that it received: its number for the manager, and where its bytes are. */
+static const uint8_t *answer_in(KzOp *op, uint64_t said, uint64_t *information, size_t *length)
+{
+    PMDL *mdl;
+    ULONG *asked;
+    PVOID *buffer = has_buffer(op) ? buffer_in(op, &op->shown.Parameters, &mdl, &asked) : NULL;
+    size_t room = op->visits ? op->visits->room : 0;
+    *length = 0;
+    switch (op->event) {
+    case KZE_READ:
+        *length = least(said, room);
+        *information = *length;
+        return *buffer;
+    case KZE_QUERY_SIZE:
+        *information = said >= sizeof(FILE_STANDARD_INFORMATION) ? (uint64_t)((PFILE_STANDARD_INFORMATION)*buffer)->EndOfFile.QuadPart : 0;
+        return NULL;
+    case KZE_LIST:
+        *length = said ? names_in(*buffer, least(said, room), kz_me->room, KZ_BYTES) : 0;
+        *information = *length;
+        return kz_me->room;
+    default:
+        *information = said;
+        return NULL;
+    }
+}
+
+static size_t most_of(KzOp *op)
+{
+    return has_buffer(op) ? op->visits->room : op->event == KZE_WRITE ? op->shown.Parameters.Write.Length : SIZE_MAX;
+}
+
+static void check_length(KzOp *op, const char *call)
+{
+    uint64_t said = op->data->IoStatus.Information;
+    if (said > most_of(op))
+        kz_tell(KZM_PAST_LENGTH, call, "IoStatus.Information %llu is past the %llu bytes that were asked for", (unsigned long long)said,
+                (unsigned long long)most_of(op));
+}
+
+/* A preoperation completed it: what is beside the status waits until the manager can be told. */
+void kz_serve(KzOp *op)
+{
+    uint64_t said = op->data->IoStatus.Information;
+    check_length(op, "FLT_PREOP_COMPLETE");
+    if (!NT_SUCCESS(op->data->IoStatus.Status) || op->event == KZE_CREATE || op->event == KZE_CLEANUP || op->event == KZE_CLOSE)
+        return;
+    const uint8_t *bytes = answer_in(op, least(said, most_of(op)), &op->served, &op->served_length);
+    op->served_bytes = bytes ? copied(op, bytes, op->served_length) : NULL;
+    op->is_served = said != 0;
+}
+
+static bool is_same(KzOp *op, uint64_t information, const uint8_t *bytes, size_t length)
+{
+    if (op->data->IoStatus.Status != op->status_shown.Status || information != op->lent.information)
+        return false;
+    return !bytes || (length == op->answered_length && memcmp(bytes, op->answered, length) == 0);
+}
+
+/* The number of a status, and the kit's own where that stands for another. */
+static uint32_t status_of(KzOp *op, NTSTATUS status)
+{
+    bool is_exact;
+    uint32_t number = kz_number(status, &is_exact);
+    op->other = is_exact ? STATUS_SUCCESS : status;
+    return number;
+}
+
+void kz_take_post(KzOp *op)
+{
+    uint64_t information, said = op->data->IoStatus.Information;
+    size_t length;
+    check_target(op, op->data->Flags & FLTFL_CALLBACK_DATA_DIRTY);
+    check_length(op, "FLT_CALLBACK_DATA");
+    const uint8_t *bytes = answer_in(op, said, &information, &length);
+    if (!has_buffer(op) && said == op->status_shown.Information)
+        information = op->lent.information;
+    if (op->event == KZE_QUERY_SIZE && !NT_SUCCESS(op->data->IoStatus.Status))
+        information = op->lent.information;
+    if (kz_is_touched(op) && op->data->Flags & FLTFL_CALLBACK_DATA_DIRTY)
+        kz_tell(KZM_DIRTY_POST, "FltSetCallbackDataDirty", "parameters that a postoperation changes don't count");
+    if (is_same(op, information, bytes, length))
+        return;
+    if (op->data->IoStatus.Status == STATUS_PENDING) {
+        kz_tell(KZM_COMPLETED_PENDING, "FLT_CALLBACK_DATA", "IoStatus.Status is STATUS_PENDING: it doesn't count");
+        return;
+    }
+    if (op->event == KZE_CREATE || op->event == KZE_CLEANUP || op->event == KZE_CLOSE) {
+        kz_tell(KZM_CREATE_ANSWER, "FLT_CALLBACK_DATA", "IoStatus of a create, a cleanup or a close, changed in a postoperation: it doesn't count");
+        return;
+    }
+    uint32_t status = op->data->IoStatus.Status == op->status_shown.Status ? op->lent.status : status_of(op, op->data->IoStatus.Status);
+    KazdrinEvent put = {.worker = kz_me->place.worker, .status = (uint8_t)status, .number = op->lent.number, .offset = information, .flag = bytes != NULL};
+    if (kazdrin_answer(&kz.manager, &put, bytes ? bytes : (const uint8_t *)"", length) != KZS_OK)
+        kz_tell(KZM_LONG_ANSWER, "FLT_CALLBACK_DATA", "an answer past a limit of the manager: it doesn't count");
+}

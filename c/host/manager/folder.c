@@ -1,0 +1,227 @@
+#define _GNU_SOURCE
+#include "manager/folder.h"
+
+#include "host.h"
+#include "manager/listing.h"
+
+#include "wire/frame.h"
+
+#include <errno.h>
+#include <fcntl.h>
+#include <linux/openat2.h>
+#include <string.h>
+#include <sys/stat.h>
+#include <sys/syscall.h>
+#include <unistd.h>
+
+enum { FILE_NOT_FOUND = 19, ALREADY_EXISTS = 20, END_OF_FILE = 31 };
+
+#define LARGEST ((uint64_t)1 << 40)
+
+int kz_open_folder(KzFolder *folder, const char *path)
+{
+    folder->descriptor = open(path, O_RDONLY | O_DIRECTORY | O_CLOEXEC);
+    return folder->descriptor == -1 ? errno : 0;
+}
+
+/* As fltd says what the host tells. */
+static KzFolderAnswer refused(int error)
+{
+    switch (error) {
+    case 0:
+        return (KzFolderAnswer){.status = KZS_OK};
+    case ENOENT:
+    case ENOTDIR:
+        return (KzFolderAnswer){.status = FILE_NOT_FOUND};
+    case EEXIST:
+        return (KzFolderAnswer){.status = ALREADY_EXISTS};
+    default:
+        return (KzFolderAnswer){.status = KZS_DEVICE_FAULT};
+    }
+}
+
+static int open_below(const KzFolder *folder, const char *path, int flags)
+{
+    struct open_how how = {.flags = (uint64_t)(flags | O_CLOEXEC), .mode = flags & O_CREAT ? 0666 : 0, .resolve = RESOLVE_BENEATH | RESOLVE_NO_MAGICLINKS};
+    return (int)syscall(SYS_openat2, folder->descriptor, path, &how, sizeof how);
+}
+
+/* Looks what is there before it is opened: to open a pipe or a device may wait. -1 and errno: it can't be had. */
+static int open_regular(const KzFolder *folder, const char *path, int flags, struct stat *found)
+{
+    int file = open_below(folder, path, O_PATH);
+    if (file == -1)
+        return -1;
+    bool is_regular = fstat(file, found) == 0 && S_ISREG(found->st_mode);
+    if (is_regular && flags == O_PATH)
+        return file;
+    close(file);
+    errno = EIO;
+    return is_regular ? open_below(folder, path, flags | O_NONBLOCK | O_NOCTTY) : -1;
+}
+
+/* Closes it, and answers with what went wrong before, or with nothing. */
+static KzFolderAnswer done(int file, bool is_right)
+{
+    int error = is_right ? 0 : errno;
+    if (file != -1)
+        close(file);
+    return refused(error);
+}
+
+static KzFolderAnswer create_existing(const KzFolder *folder, const char *path)
+{
+    struct stat found;
+    int file = open_regular(folder, path, O_PATH, &found);
+    return done(file, file != -1);
+}
+
+static KzFolderAnswer create(const KzFolder *folder, const char *path, uint8_t mode)
+{
+    if (mode == 0)
+        return create_existing(folder, path);
+    int file = open_below(folder, path, O_WRONLY | O_CREAT | O_EXCL);
+    if (file == -1 && errno == EEXIST && mode == 2)
+        return create_existing(folder, path);
+    return done(file, file != -1);
+}
+
+/* Reads until there are so many, or the file ends: how many, or -1. */
+static ssize_t fill(int file, uint8_t *room, size_t length, uint64_t offset)
+{
+    size_t count = 0;
+    while (count < length) {
+        ssize_t more = pread(file, room + count, length - count, (off_t)(offset + count));
+        if (more == 0)
+            break;
+        if (more == -1 && errno != EINTR)
+            return -1;
+        count += more > 0 ? (size_t)more : 0;
+    }
+    return (ssize_t)count;
+}
+
+static KzFolderAnswer read_part(const KzFolder *folder, const char *path, uint64_t offset, size_t length)
+{
+    static uint8_t room[KZ_BYTES];
+    struct stat found;
+    int file = open_regular(folder, path, O_RDONLY, &found);
+    ssize_t count = file == -1 ? -1 : fill(file, room, length, offset);
+    KzFolderAnswer answer = done(file, count != -1);
+    if (answer.status == KZS_OK && count == 0 && length > 0)
+        answer.status = END_OF_FILE;
+    if (answer.status == KZS_OK) {
+        answer.information = answer.length = (size_t)count;
+        answer.bytes = room;
+    }
+    return answer;
+}
+
+static bool put_all(int file, const uint8_t *bytes, size_t length, uint64_t offset)
+{
+    size_t count = 0;
+    while (count < length) {
+        ssize_t more = pwrite(file, bytes + count, length - count, (off_t)(offset + count));
+        if (more == -1 && errno != EINTR)
+            return false;
+        count += more > 0 ? (size_t)more : 0;
+    }
+    return true;
+}
+
+static KzFolderAnswer write_part(const KzFolder *folder, const char *path, uint64_t offset, const uint8_t *bytes, size_t length)
+{
+    struct stat found;
+    int file = open_regular(folder, path, length > 0 ? O_WRONLY : O_PATH, &found);
+    return done(file, file != -1 && put_all(file, bytes, length, offset));
+}
+
+static KzFolderAnswer size_of(const KzFolder *folder, const char *path)
+{
+    struct stat found;
+    int file = open_regular(folder, path, O_PATH, &found);
+    KzFolderAnswer answer = done(file, file != -1);
+    if (answer.status == KZS_OK)
+        answer.information = (uint64_t)found.st_size;
+    return answer;
+}
+
+static KzFolderAnswer set_size(const KzFolder *folder, const char *path, uint64_t size)
+{
+    struct stat found;
+    int file = open_regular(folder, path, O_WRONLY, &found);
+    return done(file, file != -1 && ftruncate(file, (off_t)size) == 0);
+}
+
+static KzFolderAnswer flush(const KzFolder *folder, const char *path)
+{
+    struct stat found;
+    int file = open_regular(folder, path, O_RDONLY, &found);
+    return done(file, file != -1 && fsync(file) == 0);
+}
+
+/* A link is taken away, and not what it leads to. */
+static KzFolderAnswer unlink_file(const KzFolder *folder, const char *path)
+{
+    char above[LONGEST_PATH + 1] = ".";
+    const char *slash = strrchr(path, '/');
+    KzFolderAnswer answer = create_existing(folder, path);
+    if (answer.status != KZS_OK)
+        return answer;
+    if (slash) {
+        memcpy(above, path, (size_t)(slash - path));
+        above[slash - path] = '\0';
+    }
+    int place = open_below(folder, above, O_PATH | O_DIRECTORY);
+    return done(place, place != -1 && unlinkat(place, slash ? slash + 1 : path, 0) == 0);
+}
+
+static KzFolderAnswer list(const KzFolder *folder)
+{
+    static uint8_t room[KZ_BYTES];
+    size_t length = 0;
+    int error = kz_list_names(folder->descriptor, room, sizeof room, &length);
+    if (error == EOVERFLOW)
+        return (KzFolderAnswer){.status = KZS_TOO_MANY};
+    KzFolderAnswer answer = refused(error);
+    if (error == 0) {
+        answer.information = answer.length = length;
+        answer.bytes = room;
+    }
+    return answer;
+}
+
+/* A driver may have put other parameters in place of the client's. */
+static bool is_within_limits(const KazdrinData *call)
+{
+    uint64_t length = call->operation == KZE_READ ? call->len : call->operation == KZE_WRITE ? call->length : 0;
+    if (call->operation == KZE_READ || call->operation == KZE_WRITE)
+        return length <= KZ_BYTES && call->offset <= LARGEST && length <= LARGEST - call->offset;
+    return call->operation != KZE_SET_SIZE || call->offset <= LARGEST;
+}
+
+KzFolderAnswer kz_call_folder(KzFolder *folder, const KazdrinData *call, const char *path, const uint8_t *bytes)
+{
+    if (call->operation == KZE_LIST)
+        return list(folder);
+    if (!*path || !is_within_limits(call))
+        return (KzFolderAnswer){.status = KZS_BAD_REQUEST};
+    switch (call->operation) {
+    case KZE_CREATE:
+        return create(folder, path, call->mode);
+    case KZE_READ:
+        return read_part(folder, path, call->offset, call->len);
+    case KZE_WRITE:
+        return write_part(folder, path, call->offset, bytes, call->length);
+    case KZE_QUERY_SIZE:
+        return size_of(folder, path);
+    case KZE_SET_SIZE:
+        return set_size(folder, path, call->offset);
+    case KZE_FLUSH:
+        return flush(folder, path);
+    case KZE_CLOSE:
+        return unlink_file(folder, path);
+    default:
+        return refused(0);
+    }
+}

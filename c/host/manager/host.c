@@ -1,0 +1,171 @@
+/* The host's one state, and its calls of the manager. */
+#include "run/expect.h"
+
+#include <stdarg.h>
+#include <stdlib.h>
+
+KzHost kz;
+int kz_is_quiet;
+
+uint32_t kz_event_with(KazdrinEvent event, const void *bytes, size_t length)
+{
+    if (!event.worker)
+        event.worker = kz_me->place.worker;
+    uint32_t status = kazdrin_step(&kz.manager, &event, bytes, length, &kz_me->told, kz_me->room, sizeof kz_me->room);
+    if (status == KZS_BUSY)
+        kz_note_busy(&event, kz_me->told.number);
+    return status;
+}
+
+uint32_t kz_event(KazdrinEvent event)
+{
+    return kz_event_with(event, "", 0);
+}
+
+typedef struct {
+    PFLT_INSTANCE instance;
+    uint64_t changes;
+} Busy;
+
+static bool is_free(void *busy)
+{
+    const Busy *one = busy;
+    return kz.changes != one->changes && (!one->instance || !one->instance->in_flight);
+}
+
+static bool wait_until_free(Busy *busy)
+{
+    if (busy->instance)
+        return kz_wait(is_free, busy, "what is in flight at instance %u to end", busy->instance->id);
+    return kz_wait(is_free, busy, "what goes on still to end");
+}
+
+/* An event that waits for what is in flight, or for contexts: others may end that meanwhile. */
+uint32_t kz_until_free(const char *name, KazdrinEvent event, PFLT_INSTANCE instance)
+{
+    kz_pause(name);
+    Busy busy = {instance, kz.changes};
+    uint32_t status = kz_event(event);
+    while (status == KZS_BUSY && kz_has_others() && wait_until_free(&busy)) {
+        busy.changes = kz.changes;
+        status = kz_event(event);
+    }
+    return status;
+}
+
+/* Another worker of the session, which is idle: it cleans up, or is in a callback, while the current one is in its own. */
+uint8_t kz_helper(void)
+{
+    uint8_t place = 0;
+    while (place < 31 && kz.helpers >> place & 1)
+        place++;
+    kz.helpers |= (uint32_t)1 << place;
+    return (uint8_t)(16 + place);
+}
+
+void kz_helped(uint8_t worker)
+{
+    kz.helpers &= ~((uint32_t)1 << (worker - 16));
+}
+
+/* Memory that is all zeros. A test program has no use of going on without. */
+void *kz_memory(size_t size)
+{
+    void *memory = calloc(1, size ? size : 1);
+    if (!memory) {
+        fprintf(stderr, "no memory\n");
+        exit(1);
+    }
+    return memory;
+}
+
+void kz_say(const char *format, ...)
+{
+    char text[1024];
+    if (kz_is_quiet)
+        return;
+    va_list arguments;
+    va_start(arguments, format);
+    vsnprintf(text, sizeof text, format, arguments);
+    va_end(arguments);
+    kz_put(text);
+}
+
+/* What is said goes where the scheduler puts it. */
+void kz_put(const char *text)
+{
+    kz_scheduler->put(text);
+}
+
+KzCounts kz_counts(void)
+{
+    KazdrinCounts counts = {0};
+    if (kazdrin_counts(&kz.manager, &(KazdrinEvent){0}, &counts) == KZS_OK) {
+        kz.counts.born = counts.born;
+        kz.counts.cleaned = counts.cleaned;
+    }
+    return kz.counts;
+}
+
+int kz_open(const KzDriver *drivers, size_t count)
+{
+    kz = (KzHost){.drivers = drivers, .drivers_count = count};
+    kz.resumed_end = &kz.resumed;
+    kz_forget_notes();
+    kz_forget_fails();
+    kz_new_client(kz_me, "first", 0);
+    kz_watch_crashes();
+    if (kazdrin_open(&kz.manager) != KZS_OK)
+        return 1;
+    uint64_t number;
+    return kz_mount("v0", &number) == KZS_OK ? 0 : 1;
+}
+
+static void free_all(void)
+{
+    kz_free_ops();
+    kz_free_contexts();
+    kz_free_names();
+    kz_free_work();
+    kz_free_memory();
+    kz_free_locks();
+    kz_free_clock();
+    kz_free_objects();
+    kz_free_registry();
+    kz_free_ports();
+    kz_free_told();
+    for (size_t at = 0; at < kz.filters_count; at++)
+        free(kz.filters[at]);
+    for (size_t at = 0; at < kz.volumes_count; at++)
+        free(kz.volumes[at]);
+    for (size_t at = 0; at < kz.instances_count; at++)
+        free(kz.instances[at]);
+    free(kz.instances);
+    kz.instances = NULL;
+    kz.filters_count = kz.volumes_count = kz.instances_count = 0;
+}
+
+/* All that is looked at once no request comes any more. */
+void kz_end(void)
+{
+    kz_unload_all();
+    kz_tell_held();
+    for (size_t at = 0; at < kz.filters_count; at++) {
+        kz_tell_names(kz.filters[at]);
+        kz_tell_pools(kz.filters[at]);
+    }
+    kz_tell_objects();
+    kz_tell_keys();
+    kz_tell_gone();
+    KzCounts counts = kz_counts();
+    kz_say("contexts born %llu, cleaned %llu, leaked references %llu, told %llu, limits %llu\n", (unsigned long long)counts.born,
+           (unsigned long long)counts.cleaned, (unsigned long long)counts.leaked, (unsigned long long)counts.told, (unsigned long long)counts.limits);
+}
+
+int kz_close(void)
+{
+    kz_end();
+    free_all();
+    kazdrin_close(&kz.manager);
+    return kz.counts.told ? 5 : kz_unmet() ? 1 : 0;
+}

@@ -1,0 +1,530 @@
+/* Operations: each from its beginning to its reply, with all callbacks in between. */
+#include "run/expect.h"
+#include "manager/folder.h"
+
+#include <stdlib.h>
+
+typedef enum { GOES, HELD, DONE } Turn;
+
+/* ---- Operations under way. */
+static KzOp *op_of(uint64_t id)
+{
+    for (KzOp *op = kz.ops; op; op = op->next)
+        if (op->id == id)
+            return op;
+    return NULL;
+}
+
+KzOp *kz_op_with(PFLT_CALLBACK_DATA data)
+{
+    for (KzOp *op = kz.ops; op; op = op->next)
+        if (op->data == data)
+            return op;
+    return NULL;
+}
+
+static ULONG caller_room(KazdrinEvent asked)
+{
+    switch (asked.event) {
+    case KZE_READ:
+        return asked.len;
+    case KZE_LIST:
+        return KZ_LIST_BYTES;
+    case KZE_QUERY_SIZE:
+        return sizeof(FILE_STANDARD_INFORMATION);
+    default:
+        return 0;
+    }
+}
+
+static KzOp *new_op(uint64_t id, KazdrinEvent asked, KzFile *file, PFLT_VOLUME volume)
+{
+    KzOp *op = kz_memory(sizeof *op);
+    op->id = id;
+    op->event = (uint8_t)asked.event;
+    op->file = file;
+    op->volume = volume;
+    op->thread = PsGetCurrentThread();
+    op->iopb = kz_take_memory(KZK_DATA, sizeof *op->iopb, 0, 0);
+    op->data = kz_new_data(op->thread, op->iopb);
+    file->users++;
+    kz_scheduler->touch(&file->handle, 0, KZT_TAKES);
+    if (asked.event == KZE_CLOSE)
+        kz_scheduler->touch(file, 0, KZT_TAKES); /* it comes behind all operations of the file object */
+    op->caller_room = caller_room(asked);
+    op->caller = kz_block(op, op->caller_room);
+    op->maker = kz_me->number;
+    KzOp **place = &kz.ops;
+    while (*place && (*place)->maker < op->maker)
+        place = &(*place)->next;
+    op->next = *place;
+    *place = op;
+    return op;
+}
+
+/* Not before the last callback that looks at it has returned: a drain comes before the operation's turn. */
+static void free_op(KzOp *op)
+{
+    op->is_over = true;
+    kz_scheduler->touch(&op->is_over, 0, op->users ? KZT_GIVES : KZT_TAKES);
+    if (op->users)
+        return;
+    for (KzOp **at = &kz.ops; *at; at = &(*at)->next)
+        if (*at == op) {
+            *at = op->next;
+            break;
+        }
+    kz_free_data(op);
+    kz_let_go_file(op->file);
+    free(op);
+    kz.changes++;
+}
+
+FLT_RELATED_OBJECTS kz_objects(PFLT_INSTANCE instance, KzFile *file)
+{
+    return (FLT_RELATED_OBJECTS){sizeof(FLT_RELATED_OBJECTS), 0, instance->filter, instance->volume, instance, file ? &file->object : NULL, NULL};
+}
+
+/* ---- A preoperation. */
+static bool asks_for_post(FLT_PREOP_CALLBACK_STATUS said)
+{
+    return said == FLT_PREOP_SUCCESS_WITH_CALLBACK || said == FLT_PREOP_SYNCHRONIZE;
+}
+
+/* An operation that a filter completes, with what its answer counts as. */
+static void complete(KzOp *op, KazdrinEvent *verdict)
+{
+    IO_STATUS_BLOCK said = op->data->IoStatus;
+    bool is_exact;
+    verdict->mode = KZV_COMPLETE;
+    if (said.Status == STATUS_PENDING) {
+        kz_tell(KZM_COMPLETED_PENDING, "FLT_PREOP_COMPLETE", "IoStatus.Status is STATUS_PENDING: it counts as STATUS_SUCCESS");
+        said.Status = STATUS_SUCCESS;
+    }
+    verdict->status = (uint8_t)kz_number(said.Status, &is_exact);
+    op->other = is_exact ? STATUS_SUCCESS : said.Status;
+    if (op->event == KZE_CLEANUP || op->event == KZE_CLOSE) {
+        op->other = STATUS_SUCCESS;
+        if (NT_SUCCESS(said.Status))
+            kz_tell(KZM_CLOSE_COMPLETED, "FLT_PREOP_COMPLETE", "of a cleanup or a close: it counts as FLT_PREOP_SUCCESS_NO_CALLBACK");
+        else
+            kz_tell(KZM_FAILED_CLOSE, "FLT_PREOP_COMPLETE", "of a cleanup or a close with 0x%08x: these can't fail", (unsigned)said.Status);
+    } else if (op->event == KZE_CREATE && NT_SUCCESS(said.Status)) {
+        op->other = STATUS_SUCCESS;
+        kz_tell(KZM_CREATE_COMPLETED, "FLT_PREOP_COMPLETE", "of a create with success: it counts as STATUS_ACCESS_DENIED");
+    } else {
+        kz_serve(op);
+    }
+}
+
+KazdrinEvent kz_verdict_of(KzOp *op, PFLT_INSTANCE instance, FLT_PREOP_CALLBACK_STATUS said, PVOID completion)
+{
+    KazdrinEvent verdict = {.mode = KZV_NO_CALLBACK, .operation = op->id, .worker = kz_me->place.worker};
+    switch (said) {
+    case FLT_PREOP_SUCCESS_WITH_CALLBACK:
+    case FLT_PREOP_SYNCHRONIZE:
+        verdict.mode = said == FLT_PREOP_SYNCHRONIZE ? KZV_SYNCHRONIZE : KZV_WITH_CALLBACK;
+        kz_sends(op, completion, &verdict);
+        if (!kz_registered(instance->filter, kz_major(op->event))->PostOperation)
+            kz_tell(KZM_NO_POST, "FLT_PREOP_SUCCESS_WITH_CALLBACK", "no postoperation is registered: it counts as FLT_PREOP_SUCCESS_NO_CALLBACK");
+        break;
+    case FLT_PREOP_SUCCESS_NO_CALLBACK:
+        break;
+    case FLT_PREOP_PENDING:
+        verdict.mode = KZV_PENDING;
+        break;
+    case FLT_PREOP_COMPLETE:
+        complete(op, &verdict);
+        break;
+    default:
+        kz_tell(KZM_NO_VERDICT, "PFLT_PRE_OPERATION_CALLBACK", "%d is no verdict for an IRP: it counts as FLT_PREOP_SUCCESS_NO_CALLBACK", (int)said);
+    }
+    return verdict;
+}
+
+/* A filter that registered the postoperation alone is taken past as if its preoperation had asked for it. A preoperation that pends may have been completed before it
+ * returns: then that is its verdict. */
+static FLT_PREOP_CALLBACK_STATUS ask_pre(KzOp *op, PFLT_INSTANCE instance, PVOID *completion)
+{
+    PFLT_PRE_OPERATION_CALLBACK callback = kz_registered(instance->filter, kz_major(op->event))->PreOperation;
+    if (!callback)
+        return FLT_PREOP_SUCCESS_WITH_CALLBACK;
+    FLT_RELATED_OBJECTS objects = kz_objects(instance, op->file);
+    op->is_in_pre = true;
+    op->is_early = false;
+    unsigned depth = kz_let_driver("preoperation");
+    FLT_PREOP_CALLBACK_STATUS said = callback(op->data, &objects, completion);
+    kz_driver_returned(depth, "preoperation returns");
+    op->is_in_pre = false;
+    if (op->is_early && said == FLT_PREOP_PENDING) {
+        said = op->early;
+        *completion = op->early_context;
+        kz_scheduler->touch(op, 0, KZT_TAKES);
+    } else if (op->is_early) {
+        kz_tell(KZM_COMPLETED_NOT_PENDED, "FltCompletePendedPreOperation", "called for an operation that the preoperation doesn't pend");
+    }
+    kz_take_pre(op, asks_for_post(said) || said == FLT_PREOP_PENDING, said == FLT_PREOP_COMPLETE || said == FLT_PREOP_PENDING);
+    return said;
+}
+
+/* Whether it still owes the instance something: then its teardown waits. */
+bool kz_owes(KzOp *op, PFLT_INSTANCE instance, const KazdrinEvent *verdict)
+{
+    if (verdict->mode == KZV_PENDING)
+        return true;
+    return (verdict->mode == KZV_WITH_CALLBACK || verdict->mode == KZV_SYNCHRONIZE) && kz_registered(instance->filter, kz_major(op->event))->PostOperation;
+}
+
+static void enter_flight(KzOp *op, PFLT_INSTANCE instance)
+{
+    instance->in_flight++;
+    if (op->owed_count < KZ_OWED)
+        op->owed[op->owed_count++] = instance;
+}
+
+void kz_leave_flight(KzOp *op, PFLT_INSTANCE instance)
+{
+    instance->in_flight--;
+    for (unsigned at = 0; at < op->owed_count; at++)
+        if (op->owed[at] == instance) {
+            op->owed[at] = op->owed[--op->owed_count];
+            break;
+        }
+    kz.changes++;
+    kz_scheduler->touch(&instance->in_flight, 0, KZT_GIVES);
+}
+
+static void pre(KzOp *op, PFLT_INSTANCE instance)
+{
+    PVOID completion = NULL;
+    enter_flight(op, instance);
+    KzPlace before = kz_enter(KZ_IN_PRE, instance->filter, instance, op, op->data);
+    kz_show_pre(op, instance);
+    FLT_PREOP_CALLBACK_STATUS said = ask_pre(op, instance, &completion);
+    KazdrinEvent verdict = kz_verdict_of(op, instance, said, completion);
+    kz_scheduler->touch(&op->users, 0, KZT_GIVES); /* what it sends along may be drained by another client */
+    kz_keep_rest(&verdict);
+    kz_leave(before);
+    if (kazdrin_pre_returned(&kz.manager, &verdict) == KZS_OK && said == FLT_PREOP_PENDING) {
+        op->held = KZ_HELD_PRE;
+        op->holder = instance;
+    }
+    if (!kz_owes(op, instance, &verdict))
+        kz_leave_flight(op, instance);
+    kz_clean_up();
+}
+
+/* ---- A postoperation, and a drain in its place. */
+static void post(KzOp *op, PFLT_INSTANCE instance, PVOID completion)
+{
+    KzPlace before = kz_enter(KZ_IN_POST, instance->filter, instance, op, op->data);
+    kz_show_post(op, instance);
+    if (op->event == KZE_CREATE && NT_SUCCESS(op->data->IoStatus.Status))
+        kz_file_opened(op->file);
+    FLT_RELATED_OBJECTS objects = kz_objects(instance, op->file);
+    PFLT_POST_OPERATION_CALLBACK callback = kz_registered(instance->filter, kz_major(op->event))->PostOperation;
+    op->is_in_post = true;
+    op->is_early = false;
+    unsigned depth = kz_let_driver("postoperation");
+    FLT_POSTOP_CALLBACK_STATUS said = callback(op->data, &objects, completion, 0);
+    kz_driver_returned(depth, "postoperation returns");
+    op->is_in_post = false;
+    kz_take_post(op);
+    kz_keep_rest(NULL);
+    bool is_more = said == FLT_POSTOP_MORE_PROCESSING_REQUIRED;
+    if (is_more && op->is_early)
+        is_more = false, said = FLT_POSTOP_FINISHED_PROCESSING;
+    else if (op->is_early)
+        kz_tell(KZM_COMPLETED_TWICE, "FltCompletePendedPostOperation", "called for an operation that the postoperation doesn't hold");
+    if (!is_more && said != FLT_POSTOP_FINISHED_PROCESSING)
+        kz_tell(KZM_NO_VERDICT, "PFLT_POST_OPERATION_CALLBACK", "%d is no verdict: it counts as FLT_POSTOP_FINISHED_PROCESSING", (int)said);
+    kz_leave(before);
+    op->status_shown = op->data->IoStatus;
+    KazdrinEvent verdict = {.mode = is_more ? KZV_MORE_PROCESSING : KZV_FINISHED, .worker = kz_me->place.worker};
+    if (kazdrin_post_returned(&kz.manager, &verdict) == KZS_OK && is_more) {
+        op->held = KZ_HELD_POST;
+        op->holder = instance;
+    } else {
+        kz_leave_flight(op, instance);
+    }
+    kz_clean_up();
+}
+
+/* The callback data of a drain is its own, since another filter may hold the operation: it says only what the operation is. */
+static void drain(KzOp *op, PFLT_INSTANCE instance, PVOID completion)
+{
+    FLT_IO_PARAMETER_BLOCK iopb = {.MajorFunction = kz_major(op->event), .TargetInstance = instance, .TargetFileObject = &op->file->object};
+    FLT_CALLBACK_DATA data = {.Flags = FLTFL_CALLBACK_DATA_IRP_OPERATION | FLTFL_CALLBACK_DATA_POST_OPERATION | FLTFL_CALLBACK_DATA_DRAINING_IO,
+                              .Thread = op->thread,
+                              .Iopb = &iopb,
+                              .RequestorMode = UserMode};
+    KzPlace before = kz_enter(KZ_IN_DRAIN, instance->filter, instance, op, &data);
+    FLT_RELATED_OBJECTS objects = kz_objects(instance, op->file);
+    PFLT_POST_OPERATION_CALLBACK callback = kz_registered(instance->filter, kz_major(op->event))->PostOperation;
+    op->users++;
+    kz_scheduler->touch(&op->users, 0, KZT_TAKES);
+    unsigned depth = kz_let_driver("drain");
+    FLT_POSTOP_CALLBACK_STATUS said = callback(&data, &objects, completion, FLTFL_POST_OPERATION_DRAINING);
+    kz_driver_returned(depth, "drain returns");
+    if (said != FLT_POSTOP_FINISHED_PROCESSING)
+        kz_tell(KZM_HELD_DRAIN, "FLTFL_POST_OPERATION_DRAINING", "a drain can't be held: it counts as FLT_POSTOP_FINISHED_PROCESSING");
+    kz_forget_swap(op, instance);
+    kz_keep_rest(NULL);
+    kz_leave(before);
+    kz_leave_flight(op, instance);
+    op->users--;
+    if (op->is_over)
+        free_op(op);
+}
+
+/* Has a stopping instance let go of what the first operation owes it, before its turn; false if none does. */
+bool kz_drain_next(PFLT_INSTANCE instance)
+{
+    kz_pause("drain");
+    if (kz_event((KazdrinEvent){.event = KZE_DRAIN_TAKE, .instance = instance->id}) != KZS_OK || !kz_me->told.action)
+        return false;
+    KzOp *op = op_of(kz_me->told.operation);
+    PVOID completion = (PVOID)(uintptr_t)kz_me->told.number;
+    if (op)
+        drain(op, instance, completion);
+    kz_event((KazdrinEvent){.event = KZE_DRAIN_DONE});
+    kz_clean_up();
+    return true;
+}
+
+/* ---- Turns. */
+/* The device may fail, but for a cleanup or a close. */
+static void call_base(KzOp *op)
+{
+    KazdrinEvent event = {.worker = kz_me->place.worker, .status = KZS_DEVICE_FAULT};
+    bool is_failed = op->event != KZE_CLEANUP && op->event != KZE_CLOSE && kz_refuses("the device");
+    if (is_failed && kazdrin_based(&kz.manager, &event, (const uint8_t *)"", 0) == KZS_OK)
+        return;
+    if (!kz_call_base_folder(event.worker))
+        kazdrin_base(&kz.manager, &event);
+}
+
+static Turn turn(KzOp *op)
+{
+    kz_scheduler->touch(op, 0, KZT_TAKES); /* behind whoever let it go on */
+    KazdrinTold told = {0};
+    KazdrinEvent next = {.operation = op->id, .worker = kz_me->place.worker};
+    if (kazdrin_next(&kz.manager, &next, &told) != KZS_OK)
+        return HELD;
+    PFLT_INSTANCE instance = told.instance < kz.instances_count ? kz.instances[told.instance] : NULL;
+    PVOID completion = (PVOID)(uintptr_t)told.number;
+    switch (told.action) {
+    case KZA_PRE:
+        pre(op, instance);
+        return GOES;
+    case KZA_BASE:
+        call_base(op);
+        return GOES;
+    case KZA_POST:
+        post(op, instance, completion);
+        return GOES;
+    case KZA_DRAIN:
+        drain(op, instance, completion);
+        kazdrin_post_returned(&kz.manager, &(KazdrinEvent){.mode = KZV_FINISHED, .worker = kz_me->place.worker});
+        kz_clean_up();
+        return GOES;
+    case KZA_MOVED:
+        return GOES;
+    case KZA_HELD:
+        return HELD;
+    default:
+        return DONE;
+    }
+}
+
+static Turn carry(KzOp *op)
+{
+    Turn made;
+    do {
+        kz_pause("next");
+        made = turn(op);
+    } while (made == GOES);
+    return made;
+}
+
+static bool is_resumed(void *op)
+{
+    return ((KzOp *)op)->is_resumed;
+}
+
+/* Its own client carries it on, also behind a callback that holds it, if somebody else may let it go on meanwhile. */
+static Turn carry_to_end(KzOp *op)
+{
+    op->runner = kz_me;
+    Turn made = carry(op);
+    while (made == HELD && kz_wait(is_resumed, op, "operation %llu, which a %soperation holds", (unsigned long long)op->id, op->held == KZ_HELD_POST ? "post" : "pre")) {
+        op->is_resumed = false;
+        made = carry(op);
+    }
+    op->runner = NULL;
+    return made;
+}
+
+/* ---- Replies. The kit's own status stands behind a number that stands for another. */
+void kz_print_reply(KzReply reply, NTSTATUS other, const uint8_t *bytes, size_t length)
+{
+    kz_pass_reply(reply, bytes, length);
+    kz_note_reply(reply, bytes, length);
+    if (reply.held) {
+        kz_say("held %llu\n", (unsigned long long)reply.operation);
+        return;
+    }
+    kz_say("status %u", reply.status);
+    if (other)
+        kz_say(" (0x%08x)", (unsigned)other);
+    kz_say(" info %llu bytes ", (unsigned long long)reply.information);
+    for (size_t at = 0; at < length; at++)
+        kz_say("%02x", bytes[at]);
+    kz_say(length ? "\n" : "-\n");
+}
+
+/* The answer of a done operation, which is forgotten. Its bytes lie in kz_me->room, and its own status of the kit in `other`. */
+static KzReply collect(KzOp *op, NTSTATUS *other)
+{
+    kz_pause("collect");
+    kz_clean_up(); /* a close is over, and with it the contexts of its handle: the caller is told behind that */
+    kz_event((KazdrinEvent){.event = KZE_COLLECT, .operation = op->id});
+    KzReply reply = {.status = kz_me->told.status, .information = kz_me->told.information, .operation = op->id};
+    *other = op->other;
+    if (op->is_served) {
+        reply.information = op->served;
+        kz_me->told.length = op->served_bytes ? op->served_length : 0;
+        memcpy(kz_me->room, op->served_bytes ? op->served_bytes : (const uint8_t *)"", kz_me->told.length);
+    }
+    kz_scheduler->touch(op->file, 0, KZT_GIVES);
+    if (op->event == KZE_CREATE && reply.status == KZS_OK) {
+        kz_file_opened(op->file);
+        op->file->handle = reply.information;
+        op->file->has_handle = true;
+        op->file->users++;
+        kz_scheduler->touch(&op->file->handle, 0, KZT_GIVES);
+    } else if (op->event == KZE_SET_DELETE && reply.status == KZS_OK) {
+        op->file->object.DeletePending = TRUE;
+    } else if (op->event == KZE_CLEANUP && reply.status == KZS_OK) {
+        op->file->object.Flags |= FO_CLEANUP_COMPLETE;
+    } else if (op->event == KZE_CLOSE && reply.status == KZS_OK) {
+        kz_drop_file(op->file->handle);
+    }
+    free_op(op);
+    return reply;
+}
+
+static KzReply run(KazdrinEvent asked, const void *bytes, size_t length, const char *path, NTSTATUS *other);
+
+/* The close of a file whose handle was closed while operations on it went on; false if none is due. */
+static bool close_due(void)
+{
+    KzFile *file = kz.files;
+    NTSTATUS other;
+    while (file && !(file->is_close_due && file->users == 1))
+        file = file->next;
+    if (!file)
+        return false;
+    file->is_close_due = false;
+    run((KazdrinEvent){.event = KZE_CLOSE, .handle = file->handle}, "", 0, NULL, &other);
+    return true;
+}
+
+static void carry_resumed(void)
+{
+    KzOp *op = kz.resumed;
+    NTSTATUS other;
+    kz.resumed = op->next_resumed;
+    if (!kz.resumed)
+        kz.resumed_end = &kz.resumed;
+    Turn made;
+    op->runner = kz_me;
+    do {
+        op->is_resumed = false;
+        made = carry(op);
+    } while (made == HELD && op->is_resumed);
+    op->runner = NULL;
+    if (made != DONE)
+        return;
+    kz_say("operation %llu: ", (unsigned long long)op->id);
+    KzReply reply = collect(op, &other);
+    kz_print_reply(reply, other, kz_me->room, kz_me->told.length);
+}
+
+/* What was let go on, what is due, and what waits for its turn, until nothing of it is left. */
+void kz_settle(void)
+{
+    do {
+        while (kz.resumed)
+            carry_resumed();
+        kz_clean_up();
+    } while (close_due() || (!kz_has_others() && (kz_run_dpc() || kz_work())) || kz.resumed);
+}
+
+/* Begins an operation and carries it on. Refused, it has no reply but the status. */
+static KzReply run(KazdrinEvent asked, const void *bytes, size_t length, const char *path, NTSTATUS *other)
+{
+    *other = STATUS_SUCCESS;
+    uint32_t status = kz_event_with(asked, bytes, length);
+    if (status != KZS_OK)
+        return (KzReply){.status = status};
+    uint64_t id = kz_me->told.operation;
+    bool is_on_volume = asked.event == KZE_CREATE || asked.event == KZE_LIST;
+    KzFile *file = is_on_volume ? kz_new_file(kz.volumes[asked.volume], asked.event == KZE_LIST ? "" : path, asked.event == KZE_LIST) : kz_file_of(asked.handle);
+    KzOp *op = new_op(id, asked, file, file->volume);
+    if (carry_to_end(op) == DONE)
+        return collect(op, other);
+    return (KzReply){.held = 1, .operation = id};
+}
+
+KzReply kz_perform(KazdrinEvent asked, const void *bytes, size_t length, const char *path)
+{
+    NTSTATUS other;
+    kz_me->told.length = 0;
+    KzReply reply = run(asked, bytes, length, path, &other);
+    kz_print_reply(reply, other, kz_me->room, kz_me->told.length);
+    kz_settle();
+    return reply;
+}
+
+/* A cleanup and then the close; the close alone if the cleanup was made before. */
+KzReply kz_close_file(uint64_t handle)
+{
+    NTSTATUS other;
+    kz_me->told.length = 0;
+    KzReply reply = run((KazdrinEvent){.event = KZE_CLEANUP, .handle = handle}, "", 0, NULL, &other);
+    KzFile *file = kz_has_others() && !reply.held && reply.status == KZS_OK ? kz_file_of(handle) : NULL;
+    if (file && file->users > 1)
+        file->is_close_due = true; /* as in the kit: whoever ends the last operation of a file object closes it */
+    else if (!reply.held && (reply.status == KZS_OK || reply.status == KZS_WRONG_STEP))
+        reply = run((KazdrinEvent){.event = KZE_CLOSE, .handle = handle}, "", 0, NULL, &other);
+    kz_print_reply(reply, other, kz_me->room, 0);
+    kz_settle();
+    return reply;
+}
+
+void kz_tell_held(void)
+{
+    for (KzOp *op = kz.ops; op; op = op->next) {
+        if (op->held == KZ_NOT_HELD_NOW)
+            continue;
+        bool is_pre = op->held == KZ_HELD_PRE;
+        KzPlace before = kz_enter(is_pre ? KZ_IN_PRE : KZ_IN_POST, op->holder->filter, op->holder, op, NULL);
+        kz_tell(KZM_NEVER_COMPLETED, is_pre ? "FltCompletePendedPreOperation" : "FltCompletePendedPostOperation", "never called for an operation that is held");
+        kz_me->place = before;
+    }
+}
+
+void kz_free_ops(void)
+{
+    kz.resumed = NULL;
+    while (kz.ops) {
+        kz.ops->users = 0;
+        free_op(kz.ops);
+    }
+    while (kz.files) {
+        KzFile *file = kz.files;
+        kz.files = file->next;
+        free(file);
+    }
+}

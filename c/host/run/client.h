@@ -1,0 +1,86 @@
+/* Clients: who makes requests, and who carries other work on. What runs is a client's own; the rest of the host is everybody's, and belongs to who is inside. */
+#ifndef KZ_CLIENT_H
+#define KZ_CLIENT_H
+
+#define KZ_LINE (2 * KZ_BYTES + 64)
+
+struct KzClient {
+    const char *name;
+    KzPlace place;
+    uint64_t places; /* how many callbacks it was in */
+    KazdrinTold told;
+    KazdrinEvent busy;     /* the event that was refused with 34; event 0 if none was */
+    uint64_t busy_number;  /* how many were in its way */
+    uint64_t process, thread; /* who asks */
+    PIRP top_level;
+    KIRQL raised;
+    int region;      /* stands for its critical region */
+    unsigned inside; /* how many calls of the host it is in; 0 in a driver's code */
+    unsigned number;
+    struct {
+        char name[24];
+        uint64_t handle;
+    } names[32]; /* that its creates gave, by `as` */
+    size_t names_count;
+    uint64_t timeout; /* of its wait, in milliseconds; 0 if it has none */
+    char waits[160];  /* what it waits for */
+    char line[KZ_LINE];
+    uint8_t bytes[KZ_BYTES];
+    uint8_t room[KZ_BYTES + 64];
+};
+
+/* The one that runs. */
+extern _Thread_local KzClient *kz_me;
+extern KzClient kz_first;
+void kz_new_client(KzClient *client, const char *name, unsigned number);
+
+/* A wait that is ours: in the kit a teardown goes on beside a work item. Who is stuck by it isn't so on Windows. */
+#define KZ_NO_TEARDOWN_BESIDE "a work item of instance "
+
+/* ---- A scheduler says who goes on. */
+
+/* Whether a client can go on. It changes nothing. */
+typedef bool KzCan(void *what);
+
+/* What is done with an object or with memory, for who looks whether two clients are in order. */
+typedef enum { KZT_TAKES, KZT_GIVES, KZT_HAS_TAKEN_BACK } KzTouch;
+
+typedef struct {
+    /* The client stands before what is named, in no call of the host: another may go on first. */
+    void (*point)(const char *name, const void *from);
+    /* It can't go on, and waits for what is named until it can. False: nobody brings that about, or its time is over. */
+    bool (*wait)(KzCan *can, void *what, const char *why);
+    void (*touch)(const void *object, size_t size, KzTouch how);
+    /* Which of so many answers the call gets; 0 is the usual one. */
+    unsigned (*choose)(unsigned count, const char *name);
+    /* One client at a time is inside. */
+    void (*lock)(void);
+    void (*unlock)(void);
+    void (*put)(const char *text);
+    bool has_others; /* clients run beside one another, and work items beside them */
+} KzScheduler;
+
+/* A request of a scenario: $ in it is the handle of the client's last create. */
+KzReply kz_scripted_request(const char *line, uint64_t *handle);
+
+extern const KzScheduler kz_in_order;
+extern const KzScheduler *kz_scheduler;
+
+/* ---- Calls of the host. The outermost one has a point before it, or none where no other client can tell. */
+unsigned kz_begin_call(const char *name, const void *from);
+unsigned kz_go_inside(void);
+void kz_end_call(unsigned *depth);
+#define KZ_CALL_OF(name) __attribute__((cleanup(kz_end_call), unused)) unsigned kz_depth = kz_begin_call((name), __builtin_return_address(0))
+#define KZ_CALL() KZ_CALL_OF(__func__)
+#define KZ_INSIDE() __attribute__((cleanup(kz_end_call), unused)) unsigned kz_depth = kz_go_inside()
+
+/* A driver's code begins, and has returned: nobody is inside meanwhile. */
+unsigned kz_let_driver(const char *name);
+void kz_driver_returned(unsigned depth, const char *name);
+/* The client steps out of the host for a moment. */
+void kz_pause(const char *name);
+bool kz_wait(KzCan *can, void *what, const char *why, ...) __attribute__((format(printf, 3, 4)));
+bool kz_refuses(const char *call);
+bool kz_has_others(void);
+
+#endif

@@ -1,0 +1,198 @@
+/* A load: threads that carry out the clients of a scenario again and again, for so many seconds, and one for work items. */
+#include "run/scenario.h"
+#include "run/threads.h"
+
+#include <pthread.h>
+#include <stdlib.h>
+#include <time.h>
+#include <unistd.h>
+
+enum { THREADS = 15, STILL = 5 /* seconds in which nobody goes on: then all are stuck */ };
+
+typedef struct {
+    KzClient client;
+    pthread_t thread;
+    char name[48];
+    const KzScript *script;
+    uint64_t rounds, handle;
+    bool has_ended; /* under the host's mutex */
+} Thread;
+
+static Thread threads[THREADS + 1]; /* by the client's number, from 1 on */
+static KzScenario scenario;
+static bool is_time; /* that no round begins any more */
+
+/* A request with $ for the handle of the client's last create. */
+KzReply kz_scripted_request(const char *line, uint64_t *handle)
+{
+    char words[1024];
+    const char *dollar = strchr(line, '$');
+    if (dollar)
+        snprintf(words, sizeof words, "%.*s%llu%s", (int)(dollar - line), line, (unsigned long long)*handle, dollar + 1);
+    KzReply reply = kz_request(dollar ? words : line);
+    if (strncmp(line, "create ", 7) == 0 && !reply.status && !reply.held)
+        *handle = reply.information;
+    return reply;
+}
+
+static void play(Thread *me)
+{
+    for (size_t at = 0; at < me->script->count; at++)
+        kz_scripted_request(me->script->requests[at], &me->handle);
+    me->rounds++;
+}
+
+static void say_ended(Thread *me)
+{
+    KZ_INSIDE();
+    me->has_ended = true;
+}
+
+static void *live(void *given)
+{
+    Thread *me = given;
+    kz_me = &me->client;
+    while (!__atomic_load_n(&is_time, __ATOMIC_ACQUIRE))
+        play(me);
+    say_ended(me);
+    return NULL;
+}
+
+static bool has_work(void *unused)
+{
+    (void)unused;
+    return kz_has_dpc() || kz_has_work();
+}
+
+static bool work(void)
+{
+    KZ_INSIDE();
+    if (!kz_wait(has_work, NULL, "a work item"))
+        return false;
+    if (!kz_run_dpc())
+        kz_work();
+    kz_settle();
+    return true;
+}
+
+static void *work_on(void *given)
+{
+    kz_me = &((Thread *)given)->client;
+    while (work())
+        ;
+    return NULL;
+}
+
+static void start(unsigned number, const KzScript *script, void *(*life)(void *))
+{
+    Thread *one = &threads[number];
+    *one = (Thread){.script = script};
+    snprintf(one->name, sizeof one->name, script ? "%s-%u" : "%s", script ? script->name : "work", number);
+    kz_new_client(&one->client, one->name, number);
+    pthread_create(&one->thread, NULL, life, one);
+}
+
+static double now(void)
+{
+    struct timespec time;
+    clock_gettime(CLOCK_MONOTONIC, &time);
+    return (double)time.tv_sec + (double)time.tv_nsec / 1e9;
+}
+
+/* ---- The end: whoever still waits may be let go by the last requests of the scenario; else it is stuck. */
+static bool have_ended(unsigned count)
+{
+    KZ_INSIDE();
+    for (unsigned at = 1; at <= count; at++)
+        if (!threads[at].has_ended)
+            return false;
+    return true;
+}
+
+static void play_finally(void)
+{
+    uint64_t handle = 0;
+    for (size_t at = 0; at < scenario.clients_count; at++)
+        for (size_t line = 0; scenario.clients[at].is_finally && line < scenario.clients[at].count; line++)
+            kz_scripted_request(scenario.clients[at].requests[line], &handle);
+}
+
+static void tell_stuck(unsigned count)
+{
+    KZ_INSIDE();
+    printf("STUCK\n");
+    for (unsigned at = 1; at <= count; at++)
+        if (!threads[at].has_ended && threads[at].client.waits[0])
+            printf("  %s waits for %s\n", threads[at].name, threads[at].client.waits);
+}
+
+/* Watches until the time is over and all have ended; false if nobody goes on any more. */
+static bool watch(unsigned count, double seconds)
+{
+    double since = now(), moved = since;
+    uint64_t last = 0;
+    while (now() - since < seconds || !have_ended(count)) {
+        usleep(20000);
+        if (now() - since >= seconds)
+            __atomic_store_n(&is_time, true, __ATOMIC_RELEASE);
+        uint64_t moves = kz_moves();
+        moved = moves == last ? moved : now();
+        last = moves;
+        if (now() - moved > 0.5 && is_time)
+            play_finally();
+        if (now() - moved > STILL)
+            return false;
+    }
+    return true;
+}
+
+static const KzScript *script_of(unsigned number)
+{
+    size_t count = 0;
+    for (size_t at = 0; at < scenario.clients_count; at++)
+        count += !scenario.clients[at].is_finally;
+    size_t place = (number - 1) % count;
+    for (size_t at = 0; at < scenario.clients_count; at++)
+        if (!scenario.clients[at].is_finally && place-- == 0)
+            return &scenario.clients[at];
+    return NULL;
+}
+
+static void report(unsigned count, double seconds)
+{
+    uint64_t rounds = 0;
+    for (unsigned at = 1; at <= count; at++)
+        rounds += threads[at].rounds;
+    fprintf(stderr, "%u threads, %.0f s: %llu rounds\n", count, seconds, (unsigned long long)rounds);
+}
+
+int kz_run_load(const KzDriver *drivers, size_t drivers_count, const char *path, unsigned count, double seconds, uint64_t seed)
+{
+    int status = kz_read_scenario(path, &scenario);
+    if (status || !script_of(1))
+        return status ? status : 2;
+    count = count < 1 ? 1 : count > THREADS - 1 ? THREADS - 1 : count;
+    kz_is_quiet = 1;
+    if (kz_open(drivers, drivers_count) != 0)
+        return 1;
+    for (size_t at = 0; at < scenario.setup_count; at++)
+        kz_request(scenario.setup[at]);
+    kz_use_threads(seed);
+    for (unsigned number = 1; number <= count; number++)
+        start(number, script_of(number), live);
+    start(count + 1, NULL, work_on);
+    if (!watch(count, seconds)) {
+        tell_stuck(count);
+        fflush(stdout);
+        _exit(6);
+    }
+    kz_end_waits();
+    for (unsigned number = 1; number <= count + 1; number++)
+        pthread_join(threads[number].thread, NULL);
+    report(count, seconds);
+    kz_scheduler = &kz_in_order;
+    kz_is_quiet = 0;
+    status = kz_close();
+    kz_free_scenario(&scenario);
+    return status;
+}

@@ -1,0 +1,116 @@
+/* A scenario: set-up lines, `client NAME: request; request`, and `finally: request`, for when nobody else can go on. */
+#include "host.h"
+#include "run/scenario.h"
+
+#include <stdlib.h>
+
+static char *trimmed(char *text)
+{
+    text += strspn(text, " \t\r\n");
+    size_t length = strlen(text);
+    while (length && strchr(" \t\r\n", text[length - 1]))
+        text[--length] = 0;
+    return text;
+}
+
+static char *copy_of(const char *text)
+{
+    return strcpy(kz_memory(strlen(text) + 1), text);
+}
+
+static bool add_requests(KzScript *one, char *text)
+{
+    char *rest = NULL;
+    for (char *request = strtok_r(text, ";", &rest); request; request = strtok_r(NULL, ";", &rest)) {
+        request = trimmed(request);
+        if (!*request)
+            continue;
+        if (one->count == KZ_REQUESTS)
+            return false;
+        one->requests[one->count++] = copy_of(request);
+    }
+    return one->count > 0;
+}
+
+static bool is_name(const KzScenario *scenario, const char *name)
+{
+    size_t length = strspn(name, "abcdefghijklmnopqrstuvwxyzABCDEFGHIJKLMNOPQRSTUVWXYZ0123456789_-");
+    if (!length || name[length] || length > 30 || strcmp(name, "fail") == 0 || strcmp(name, "work") == 0)
+        return false;
+    for (size_t at = 0; at < scenario->clients_count; at++)
+        if (strcmp(scenario->clients[at].name, name) == 0)
+            return false;
+    return true;
+}
+
+bool kz_is_same_script(const KzScript *a, const KzScript *b)
+{
+    bool is_same = a->count == b->count && a->is_finally == b->is_finally;
+    for (size_t at = 0; is_same && at < a->count; at++)
+        is_same = strcmp(a->requests[at], b->requests[at]) == 0;
+    return is_same;
+}
+
+static bool read_client(KzScenario *scenario, char *line)
+{
+    char *colon = strchr(line, ':');
+    if (!colon || scenario->clients_count == KZ_CLIENTS)
+        return false;
+    *colon = 0;
+    bool is_finally = strcmp(trimmed(line), "finally") == 0;
+    const char *name = is_finally ? "finally" : trimmed(line + strlen("client"));
+    if (!is_name(scenario, name))
+        return false;
+    KzScript *one = &scenario->clients[scenario->clients_count++];
+    snprintf(one->name, sizeof one->name, "%s", name);
+    one->is_finally = is_finally;
+    return add_requests(one, colon + 1);
+}
+
+static bool read_line(KzScenario *scenario, char *line)
+{
+    line[strcspn(line, "#")] = 0;
+    line = trimmed(line);
+    if (!*line)
+        return true;
+    if (strncmp(line, "client ", 7) == 0 || strncmp(line, "finally:", 8) == 0)
+        return read_client(scenario, line);
+    if (scenario->clients_count > 0)
+        return false;
+    scenario->setup = realloc(scenario->setup, (scenario->setup_count + 1) * sizeof *scenario->setup);
+    scenario->setup[scenario->setup_count++] = copy_of(line);
+    return true;
+}
+
+int kz_read_scenario(const char *path, KzScenario *scenario)
+{
+    static char line[KZ_LINE];
+    FILE *file = fopen(path, "r");
+    int number = 0;
+    bool is_right = true;
+    if (!file) {
+        fprintf(stderr, "%s: can't be read\n", path);
+        return 3;
+    }
+    while (is_right && fgets(line, sizeof line, file)) {
+        number++;
+        is_right = read_line(scenario, line);
+    }
+    fclose(file);
+    if (!is_right)
+        fprintf(stderr, "%s:%d: not understood\n", path, number);
+    else if (!scenario->clients_count)
+        fprintf(stderr, "%s: has no client\n", path);
+    return is_right && scenario->clients_count ? 0 : 2;
+}
+
+void kz_free_scenario(KzScenario *scenario)
+{
+    for (size_t at = 0; at < scenario->setup_count; at++)
+        free(scenario->setup[at]);
+    free(scenario->setup);
+    for (size_t at = 0; at < scenario->clients_count; at++)
+        for (size_t request = 0; request < scenario->clients[at].count; request++)
+            free(scenario->clients[at].requests[request]);
+    *scenario = (KzScenario){0};
+}

@@ -1,0 +1,432 @@
+/* Requests in words, one a line, and runs of them. */
+#include "run/expect.h"
+
+#include <stdlib.h>
+
+#define WORDS 8
+
+/* ---- Single words. */
+static bool read_number(const char *word, uint64_t limit, uint64_t *number)
+{
+    *number = 0;
+    if (!*word)
+        return false;
+    for (; *word; word++) {
+        if (*word < '0' || *word > '9' || *number > (UINT64_MAX - 9) / 10)
+            return false;
+        *number = *number * 10 + (uint64_t)(*word - '0');
+    }
+    return *number < limit;
+}
+
+static int digit(char letter)
+{
+    const char *digits = "0123456789abcdef", *found = letter ? strchr(digits, letter) : NULL;
+    return found ? (int)(found - digits) : -1;
+}
+
+static bool read_hex(const char *word, uint8_t *bytes, size_t *length)
+{
+    for (*length = 0; *word; word += 2) {
+        int high = digit(word[0]), low = high < 0 ? -1 : digit(word[1]);
+        if (low < 0 || *length == KZ_BYTES)
+            return false;
+        bytes[(*length)++] = (uint8_t)(high << 4 | low);
+    }
+    return true;
+}
+
+/* ---- Things by their numbers or their names: a filter by its driver's, a volume and an instance by their own, a handle by that which its create gave it. */
+static bool read_filter(const char *word, uint64_t *number)
+{
+    for (size_t at = kz.filters_count; at-- > 0;)
+        if (strcmp(kz.filters[at]->driver->name, word) == 0) {
+            *number = at;
+            return true;
+        }
+    return read_number(word, 256, number);
+}
+
+static bool read_volume(const char *word, uint64_t *number)
+{
+    for (size_t at = kz.volumes_count; at-- > 0;)
+        if (strcmp(kz.volumes[at]->name, word) == 0) {
+            *number = at;
+            return true;
+        }
+    return read_number(word, 256, number);
+}
+
+static bool read_instance(const char *word, uint64_t *number)
+{
+    for (size_t at = kz.instances_count; at-- > 0;)
+        if (strcmp(kz.instances[at]->name, word) == 0) {
+            *number = at;
+            return true;
+        }
+    return read_number(word, 65536, number);
+}
+
+static bool read_handle(const char *word, uint64_t *number)
+{
+    const KzClient *clients[] = {kz_me, &kz_first};
+    for (int who = 0; who < 2; who++)
+        for (size_t at = clients[who]->names_count; at-- > 0;)
+            if (strcmp(clients[who]->names[at].name, word) == 0) {
+                *number = clients[who]->names[at].handle;
+                return true;
+            }
+    return read_number(word, UINT64_MAX, number);
+}
+
+static bool is_name(const char *word)
+{
+    return !(*word >= '0' && *word <= '9') && strlen(word) < sizeof kz_me->names[0].name;
+}
+
+static void name_handle(const char *word, uint64_t handle)
+{
+    size_t at = 0;
+    while (at < kz_me->names_count && strcmp(kz_me->names[at].name, word) != 0)
+        at++;
+    if (at == sizeof kz_me->names / sizeof kz_me->names[0])
+        at = 0;
+    else if (at == kz_me->names_count)
+        kz_me->names_count++;
+    snprintf(kz_me->names[at].name, sizeof kz_me->names[at].name, "%s", word);
+    kz_me->names[at].handle = handle;
+}
+
+/* ---- Requests. Each answers; `words` has the word that names it first. */
+static const KzReply bad = {.status = KZS_BAD_REQUEST};
+static bool is_wrong; /* the last line isn't understood */
+
+static KzReply said(KzReply reply)
+{
+    kz_print_reply(reply, STATUS_SUCCESS, NULL, 0);
+    return reply;
+}
+
+static KzReply wrong(void)
+{
+    __atomic_store_n(&is_wrong, true, __ATOMIC_RELAXED);
+    return said(bad);
+}
+
+static KzReply outcome(uint32_t status, uint64_t number)
+{
+    return said((KzReply){.status = status, .information = status == KZS_OK ? number : 0});
+}
+
+static KzReply ask_load(char **words)
+{
+    uint64_t number = 0;
+    NTSTATUS other;
+    uint32_t status = kz_load(words[1], words[2] ? words[2] : "", &number, &other);
+    KzReply reply = {.status = status, .information = status == KZS_OK ? number : 0};
+    kz_print_reply(reply, other, NULL, 0);
+    return reply;
+}
+
+static bool set_volume(PFLT_VOLUME volume, char **words)
+{
+    for (; *words; words++)
+        if (!kz_set_volume(volume, *words))
+            return false;
+    return true;
+}
+
+/* Filters that are attached by themselves are, once it has its properties. */
+static KzReply ask_mount(char **words)
+{
+    uint64_t number = 0;
+    struct _FLT_VOLUME tried;
+    kz_new_volume(&tried);
+    if (!set_volume(&tried, words + 2))
+        return wrong();
+    uint32_t status = kz_mount(words[1], &number);
+    if (status != KZS_OK)
+        return outcome(status, 0);
+    set_volume(kz.volumes[number], words + 2);
+    for (size_t at = 0; at < kz.filters_count; at++)
+        kz_attach_by_itself(kz.filters[at], kz.volumes[number], FLTFL_INSTANCE_SETUP_AUTOMATIC_ATTACHMENT | FLTFL_INSTANCE_SETUP_NEWLY_MOUNTED_VOLUME);
+    return outcome(status, number);
+}
+
+static KzReply ask_volume(char **words)
+{
+    uint64_t at;
+    if (!read_volume(words[1], &at) || at >= kz.volumes_count || !set_volume(kz.volumes[at], words + 2))
+        return wrong();
+    return outcome(KZS_OK, 0);
+}
+
+/* Who asks from then on: `as process 42`, `as process 42 thread 7`. */
+static KzReply ask_as(char **words)
+{
+    uint64_t process, thread;
+    if (strcmp(words[1], "process") != 0 || !read_number(words[2], UINT32_MAX, &process) || (words[3] && (strcmp(words[3], "thread") != 0 || !words[4])))
+        return wrong();
+    if (!read_number(words[3] ? words[4] : "0", UINT32_MAX, &thread))
+        return wrong();
+    kz_me->process = process;
+    kz_me->thread = words[3] ? thread : process + 4;
+    return outcome(KZS_OK, 0);
+}
+
+static KzReply ask_time(char **words)
+{
+    uint64_t milliseconds;
+    if (!read_number(words[1], (uint64_t)1 << 40, &milliseconds))
+        return wrong();
+    kz_pass(milliseconds);
+    kz_settle();
+    return outcome(KZS_OK, 0);
+}
+
+static KzReply ask_registry(char **words)
+{
+    return kz_read_registry(words[1]) ? outcome(KZS_OK, 0) : wrong();
+}
+
+/* The Nth call of a kind from here on fails: `fail device 3`. */
+static KzReply ask_fail(char **words)
+{
+    return kz_fail(words) ? outcome(KZS_OK, 0) : wrong();
+}
+
+static KzReply ask_attach(char **words)
+{
+    uint64_t filter, volume, number = 0;
+    if (!read_filter(words[1], &filter) || !read_volume(words[2], &volume))
+        return wrong();
+    if (words[5] && (strcmp(words[4], "as") != 0 || !is_name(words[5])))
+        return wrong();
+    const char *altitude = words[5] ? words[3] : words[4], *name = words[5] ? words[5] : words[3];
+    if (filter >= kz.filters_count)
+        return outcome(KZS_NO_FILTER, 0);
+    if (volume >= kz.volumes_count)
+        return outcome(KZS_NO_VOLUME, 0);
+    uint32_t status = kz_attach(kz.filters[filter], kz.volumes[volume], name, altitude, FLTFL_INSTANCE_SETUP_MANUAL_ATTACHMENT, &number);
+    return outcome(status, number);
+}
+
+/* A detach, an unload or a dismount: one that is refused says what is in its way, and how many. */
+static KzReply ended(uint32_t status)
+{
+    char text[512];
+    if (status == KZS_BUSY)
+        kz_say("in the way: %s\n", kz_busy_text(text, sizeof text));
+    return said((KzReply){.status = status, .information = status == KZS_BUSY ? kz_me->busy_number : 0});
+}
+
+static KzReply ask_detach(char **words)
+{
+    uint64_t at;
+    if (!read_instance(words[1], &at))
+        return wrong();
+    return ended(at < kz.instances_count ? kz_detach(kz.instances[at]) : KZS_NO_INSTANCE);
+}
+
+static KzReply ask_unload(char **words)
+{
+    uint64_t at;
+    if (!read_filter(words[1], &at))
+        return wrong();
+    return ended(at < kz.filters_count ? kz_unload(kz.filters[at]) : KZS_NO_FILTER);
+}
+
+static KzReply ask_dismount(char **words)
+{
+    uint64_t at;
+    if (!read_volume(words[1], &at))
+        return wrong();
+    return ended(at < kz.volumes_count ? kz_dismount(kz.volumes[at]) : KZS_NO_VOLUME);
+}
+
+static KzReply ask_create(char **words)
+{
+    static const char *const modes[] = {"existing", "new", "always"};
+    uint64_t volume;
+    uint8_t mode = 0;
+    while (mode < 3 && strcmp(modes[mode], words[2]) != 0)
+        mode++;
+    if (mode == 3 || !read_volume(words[1], &volume) || (words[4] && (strcmp(words[4], "as") != 0 || !words[5] || !is_name(words[5]))))
+        return wrong();
+    KzReply reply = kz_perform((KazdrinEvent){.event = KZE_CREATE, .volume = (uint8_t)volume, .mode = mode}, words[3], strlen(words[3]), words[3]);
+    if (words[4] && !reply.status && !reply.held)
+        name_handle(words[5], reply.information);
+    return reply;
+}
+
+static KzReply ask_list(char **words)
+{
+    uint64_t volume;
+    if (!read_volume(words[1], &volume))
+        return wrong();
+    return kz_perform((KazdrinEvent){.event = KZE_LIST, .volume = (uint8_t)volume}, "", 0, NULL);
+}
+
+static KzReply ask_read(char **words)
+{
+    uint64_t handle, offset, length;
+    if (!read_handle(words[1], &handle) || !read_number(words[2], UINT64_MAX, &offset) || !read_number(words[3], KZ_BYTES + 1, &length))
+        return wrong();
+    return kz_perform((KazdrinEvent){.event = KZE_READ, .handle = handle, .offset = offset, .len = (uint32_t)length}, "", 0, NULL);
+}
+
+static KzReply ask_write(char **words)
+{
+    uint8_t *bytes = kz_me->bytes;
+    uint64_t handle, offset;
+    size_t length;
+    if (!read_handle(words[1], &handle) || !read_number(words[2], UINT64_MAX, &offset) || !read_hex(words[3], bytes, &length))
+        return wrong();
+    return kz_perform((KazdrinEvent){.event = KZE_WRITE, .handle = handle, .offset = offset}, bytes, length, NULL);
+}
+
+static KzReply ask_set_size(char **words)
+{
+    uint64_t handle, size;
+    if (!read_handle(words[1], &handle) || !read_number(words[2], UINT64_MAX, &size))
+        return wrong();
+    return kz_perform((KazdrinEvent){.event = KZE_SET_SIZE, .handle = handle, .offset = size}, "", 0, NULL);
+}
+
+static KzReply on_handle(char **words, uint32_t event)
+{
+    uint64_t handle;
+    if (!read_handle(words[1], &handle))
+        return wrong();
+    return kz_perform((KazdrinEvent){.event = event, .handle = handle}, "", 0, NULL);
+}
+
+static KzReply ask_query_size(char **words)
+{
+    return on_handle(words, KZE_QUERY_SIZE);
+}
+
+static KzReply ask_flush(char **words)
+{
+    return on_handle(words, KZE_FLUSH);
+}
+
+static KzReply ask_set_delete(char **words)
+{
+    return on_handle(words, KZE_SET_DELETE);
+}
+
+static KzReply ask_close(char **words)
+{
+    uint64_t handle;
+    return read_handle(words[1], &handle) ? kz_close_file(handle) : wrong();
+}
+
+/* How many words each has, with its name: at least, and at most. */
+static const struct {
+    const char *name;
+    size_t least, most;
+    KzReply (*ask)(char **words);
+} requests[] = {
+    {"load", 2, 3, ask_load},         {"mount", 2, 6, ask_mount},         {"volume", 3, 7, ask_volume},         {"attach", 5, 6, ask_attach},
+    {"detach", 2, 2, ask_detach},     {"unload", 2, 2, ask_unload},       {"dismount", 2, 2, ask_dismount},     {"create", 4, 6, ask_create},
+    {"list", 2, 2, ask_list},         {"read", 4, 4, ask_read},           {"write", 4, 4, ask_write},           {"setsize", 3, 3, ask_set_size},
+    {"querysize", 2, 2, ask_query_size}, {"flush", 2, 2, ask_flush},      {"setdelete", 2, 2, ask_set_delete},  {"close", 2, 2, ask_close},
+    {"as", 3, 5, ask_as},             {"time", 2, 2, ask_time},           {"registry", 2, 2, ask_registry},
+    {"fail", 3, 3, ask_fail},
+};
+
+/* ---- Lines. */
+static size_t split(char *line, char **words)
+{
+    size_t count = 0;
+    char *rest = NULL;
+    for (char *word = strtok_r(line, " \t\r\n", &rest); word && count < WORDS; word = strtok_r(NULL, " \t\r\n", &rest))
+        words[count++] = word;
+    words[count] = NULL;
+    return count;
+}
+
+KzReply kz_request(const char *line)
+{
+    char *words[WORDS + 1];
+    const char *expected = line + strspn(line, " \t");
+    if (strlen(line) >= sizeof kz_me->line)
+        return wrong();
+    if (strncmp(expected, "expect ", 7) == 0) {
+        kz_say("> %.900s%s", expected, strchr(expected, '\n') ? "" : "\n");
+        return kz_expect(expected + 7) ? (KzReply){0} : wrong();
+    }
+    strcpy(kz_me->line, line);
+    size_t count = split(kz_me->line, words);
+    if (count == 0 || words[0][0] == '#')
+        return (KzReply){0};
+    KZ_CALL_OF("a request");
+    kz_note_request(line);
+    kz_forget_busy();
+    kz_tick();
+    kz_say(">");
+    for (size_t at = 0; at < count; at++)
+        kz_say(" %s", words[at]);
+    kz_say("\n");
+    for (size_t at = 0; at < sizeof requests / sizeof requests[0]; at++)
+        if (strcmp(requests[at].name, words[0]) == 0)
+            return count >= requests[at].least && count <= requests[at].most ? requests[at].ask(words) : wrong();
+    return wrong();
+}
+
+int kz_run(const KzDriver *drivers, size_t count, const char *const *lines, size_t length)
+{
+    if (kz_open(drivers, count) != 0)
+        return 1;
+    for (size_t at = 0; at < length; at++)
+        kz_request(lines[at]);
+    return kz_close();
+}
+
+/* A line that is longer than any request is none: what is left of it is passed over. */
+static void request_or_bad(const char *line, FILE *file)
+{
+    if (strchr(line, '\n') || feof(file)) {
+        kz_request(line);
+        return;
+    }
+    for (int letter = getc(file); letter != '\n' && letter != EOF; letter = getc(file))
+        ;
+    said(bad);
+}
+
+static int run_file(const KzDriver *drivers, size_t count, FILE *file, const char *name)
+{
+    static char line[KZ_LINE];
+    if (kz_open(drivers, count) != 0)
+        return 1;
+    is_wrong = false;
+    while (!is_wrong && fgets(line, sizeof line, file)) {
+        kz_next_line();
+        request_or_bad(line, file);
+    }
+    if (is_wrong)
+        fprintf(stderr, "%s:%u: not understood\n", name, kz_line());
+    int status = kz_close();
+    status = ferror(file) ? 3 : is_wrong ? 2 : status;
+    kz_report_end(name, status);
+    return status;
+}
+
+int kz_run_file(const KzDriver *drivers, size_t count, FILE *file)
+{
+    return run_file(drivers, count, file, "requests");
+}
+
+int kz_run_path(const KzDriver *drivers, size_t count, const char *path)
+{
+    FILE *file = fopen(path, "r");
+    if (!file) {
+        fprintf(stderr, "%s: can't be read\n", path);
+        return 3;
+    }
+    int status = run_file(drivers, count, file, path);
+    fclose(file);
+    return status;
+}

@@ -1,0 +1,46 @@
+#!/usr/bin/env bash
+# c/tests/scripts/check.sh [PART ..] (make -C c check PART='..') : the tests of the C half, all or those of some parts:
+#
+#   host      the host: stored requests through drivers, expectations, reports, CMake, random requests
+#   explore   schedules
+#   threads   drivers under real threads
+#   order     the lists that all managers are held to
+#   mount     the mount above fltd
+#   serve     the server of drivers: the same frames as fltd, and the mount above it
+#
+# Each part says 'PART: N passed, M failed', and 'C: ..' the sum. The exit status says whether any failed. Without a C compiler it says so and tries nothing.
+# KAZDRIN_LIB is the manager's archive, as for c/build.sh; FLTD the server for mount and serve (else that of crates/fltd/out, or one without proofs).
+set -u
+here=$(cd "$(dirname "$0")" && pwd)
+for tool in "${CC:-cc}" objcopy make; do
+    command -v ${tool%% *} > /dev/null || {
+        echo "C: not tried, since there is no $tool here"
+        exit 0
+    }
+done
+if [ -z "${KAZDRIN_LIB:-}" ]; then
+    KAZDRIN_LIB=$here/../../../crates/kazdrin_c/out/libkazdrin_c.a
+    [ -f "$KAZDRIN_LIB" ] || KAZDRIN_LIB=$("$here/../../archive.sh" --unproved) || exit 1
+    export KAZDRIN_LIB
+fi
+[ $# -gt 0 ] || set -- host explore threads order mount serve
+passed=0
+failed=0
+report=$(mktemp)
+trap 'rm -f "$report"' EXIT
+for part in "$@"; do
+    [ -x "$here/$part.sh" ] || {
+        echo "there is no part $part" >&2
+        exit 2
+    }
+    begun=$SECONDS
+    "$here/$part.sh" > "$report" 2>&1 || [ $? = 1 ] || echo "$part: 0 passed, 1 failed" >> "$report"
+    cat "$report"
+    echo "$part: $((SECONDS - begun)) s"
+    while read -r more less; do
+        passed=$((passed + more))
+        failed=$((failed + less))
+    done < <(sed -n 's/^[a-z]*: \([0-9]*\) passed, \([0-9]*\) failed.*/\1 \2/p' "$report")
+done
+echo "C: $passed passed, $failed failed"
+[ "$failed" = 0 ]

@@ -1,0 +1,122 @@
+#!/usr/bin/env bash
+# The explorer's tests: the drivers of c/tests/misuse/schedules, each under every schedule of its scenario; what is found is compared with what is stored, and the shortest schedule of
+# each kind is played again. Then all samples with four clients: up to one preemption, and with --whole up to two.
+set -u
+WHOLE=${1:-}
+. "$(dirname "$0")/tally.sh" explore
+bound=1
+[ "$WHOLE" != --whole ] || bound=2
+schedules=$tests/misuse/schedules
+scenarios=$tests/scenarios
+timeless() {
+    sed 's/, [0-9.]* s, /, /'
+}
+
+# Plays each schedule that is named in a report again: it ends as the search did, and shows the same.
+play() {
+    local schedule count=0
+    while read -r schedule; do
+        "$room/$1" --trace --replay "$schedule" "$scenarios/$1.txt" > "$room/played" 2>&1
+        [ $? = "$2" ] || { echo "$1: '$schedule' ends otherwise"; return 1; }
+        count=$((count + 1))
+    done < <(sed -n "s/^  --replay '\(.*\)'/\1/p" "$room/$1.out")
+    [ "$count" -gt 0 ]
+}
+# What a search found, each kind in a line, without the numbers and names in which two schedules differ.
+kinds() {
+    awk '/ schedules:$/ { text = ""; inside = 1; next } /^  the shortest:/ { print text; inside = 0; next } inside { text = text "|" $0 }' "$1" |
+        sed 's/operation [0-9]*/operation N/g; s/([a-z]*)/()/g' | sort
+}
+
+# Known states are left out soundly: a program finds the kinds of ends in "$room/kinds" without them, too.
+reduce() {
+    local program=$1 words=$2 scenario=$3 way
+    shift 3
+    [ -s "$room/kinds" ] || return 1
+    for way in "$@"; do
+        "$room/$program" --ends $words $way "$scenario" > "$room/reduced"
+        kinds "$room/reduced" | diff "$room/kinds" - || return 1
+        grep -q "^[a-z 0-9]*: .* [1-9][0-9]* given up, [1-9][0-9]* states" "$room/reduced" || return 1
+    done
+}
+for scenario in $scenarios/*.txt; do
+    name=$(basename "$scenario" .txt)
+    [ -f "$schedules/$name.c" ] || continue
+    status=$(cat "$tests/expected/explore-$name.status" 2> /dev/null || echo 0)
+    build "$name" --explore "$room/$name" "$schedules/$name.c"
+    "$room/$name" $(sed -n 's/^# words: //p' "$scenario") "$scenario" 2>&1 > "$room/$name.whole"
+    [ $? = "$status" ] && timeless < "$room/$name.whole" > "$room/$name.out" && diff "$tests/expected/explore-$name.out" "$room/$name.out"
+    tell $? "$name"
+    case "$name" in polls) ways="--reduce" ;; *) ways="--reduce --states" ;; esac
+    words="--bound 3 $(sed -n 's/^# words: --fail-each/--fails 1/p' "$scenario")"
+    "$room/$name" --ends $words "$scenario" > "$room/plain"
+    kinds "$room/plain" > "$room/kinds"
+    reduce "$name" "$words" "$scenario" $ways
+    tell $? "$name with known states left out"
+    grep -q -e --replay "$room/$name.out" || continue
+    play "$name" "$status"
+    tell $? "$name, played again,"
+done
+
+# A schedule as a reader sees it.
+"$room/stuckdetach" --trace --replay 'r*3 d*9 r*4 finally*4' $scenarios/stuckdetach.txt > "$room/trace.out"
+[ $? = 6 ] && diff $tests/expected/explore-trace.out "$room/trace.out"
+tell $? "trace"
+
+# The shards of a search add up to the whole.
+sum=0
+for shard in 0 1 2; do
+    sum=$((sum + $("$room/settwice" --shard "$shard/3" $scenarios/settwice.txt | sed -n 's/^bound 2: \([0-9]*\) .*/\1/p')))
+done
+[ "$sum" = "$("$room/settwice" $scenarios/settwice.txt | sed -n 's/^bound 2: \([0-9]*\) .*/\1/p')" ]
+tell $? "shards"
+
+# Stored ends: none differs; and where one is left out or made up, it is new or gone.
+"$room/settwice" --learn "$room/ends" $scenarios/settwice.txt > "$room/learned" && "$room/settwice" --expect-ends "$room/ends" $scenarios/settwice.txt > "$room/ended"
+[ $? = 0 ] && grep -q "^5 ends" "$room/learned" && ! grep -q "new\|gone" "$room/ended"
+tell $? "stored ends"
+sed 's/a stream had 2 creates/a stream had 3 creates/' "$room/ends" > "$room/other"
+"$room/settwice" --expect-ends "$room/other" $scenarios/settwice.txt > "$room/ended"
+[ $? = 1 ] && [ "$(grep -c "^new:" "$room/ended")" = 2 ] && [ "$(grep -c "^gone:" "$room/ended")" = 2 ] && grep -q -e --replay "$room/ended"
+tell $? "stored ends that differ"
+
+# A search by states ends of itself; one whose memory is full says so.
+"$room/lostrelease" --states $scenarios/lostrelease.txt > "$room/states.out"
+[ $? = 5 ] && grep -q "^no bound: .*; told [1-9]" "$room/states.out"
+tell $? "states"
+"$room/settwice" --states --memory 0 $scenarios/settwice.txt > "$room/full.out"
+[ $? = 4 ] && grep -q "isn't whole" "$room/full.out"
+tell $? "a full memory"
+
+# Seeds, by a coin and by priorities: the same words find the same, and the seed that is shown repeats its schedule alone.
+draw() {
+    local program=$1 scenario=$2 seed
+    shift 2
+    "$room/$program" "$@" "$scenario" | timeless > "$room/seed.1"
+    "$room/$program" "$@" "$scenario" | timeless | cmp - "$room/seed.1" || return 1
+    seed=$(sed -n 's/^  \(--seed .*\)/\1/p' "$room/seed.1" | head -n 1)
+    [ -n "$seed" ] || return 1
+    "$room/$program" $seed "$scenario" > "$room/seed.2"
+    grep -q "^1 schedules" "$room/seed.2" && [ "$(sed -n 's/^  --replay//p' "$room/seed.1" | head -n 1)" = "$(sed -n 's/^  --replay//p' "$room/seed.2" | head -n 1)" ]
+}
+draw lostrelease $scenarios/lostrelease.txt --seed 7 --runs 200 && grep -q "TOLD KZ0101" "$room/seed.1"
+tell $? "seed"
+draw stuckdetach $scenarios/stuckdetach-long.txt --seed 1 --runs 500 --pct 2 && grep -q STUCK "$room/seed.1"
+tell $? "seed with priorities"
+
+# All samples with four clients: nothing is found.
+for driver in c/samples/*.c; do
+    name=$(basename "$driver" .c)
+    build "$name" --explore "$room/$name" "$driver"
+    sed "s/DRIVER/$name/" $scenarios/four-clients.txt > "$room/$name.txt"
+    "$room/$name" --ends --bound "$bound" "$room/$name.txt" > "$room/plain"
+    tell $? "$name under every schedule"
+    [ "$bound" = 1 ] || grep '^bound' "$room/plain"
+    kinds "$room/plain" > "$room/kinds"
+    reduce "$name" "--bound $bound" "$room/$name.txt" --reduce
+    tell $? "$name with known states left out"
+    sed "s/DRIVER/$name/" $scenarios/refusals.txt > "$room/$name.txt"
+    "$room/$name" --fail-each "$room/$name.txt" > "$room/$name.out"
+    tell $? "$name with each refusal"
+done
+finish

@@ -1,0 +1,122 @@
+#!/usr/bin/env bash
+# The host's tests: the program of the archive's calls, stored requests through the drivers of c/samples and c/tests, each also under valgrind, main programs, reports, a folder,
+# CMake, and random requests.
+set -u
+. "$(dirname "$0")/tally.sh" host
+
+make -s -C c libraries
+tell $? "the host's libraries, as they were built,"
+support=$(c/archive.sh --support)
+${CC:-cc} -std=c11 -O1 -g -Wall -Wextra -Werror -Ic/include -o "$room/calls" $tests/programs/calls.c "$KAZDRIN_LIB" "$support/libos_c.a" "$support/liblibc_c.a"
+tell $? "calls, as it was built,"
+try calls "$room/calls"
+look calls "$room/calls"
+
+# One program of all drivers plays all requests.
+drivers=(c/samples/*.c $tests/misuse/*.c $tests/drivers/*.c $tests/drivers/two-files)
+command -v "${CXX:-c++}" > /dev/null && drivers+=($tests/drivers/*.cpp)
+build drivers "$room/drivers" "${drivers[@]}"
+for requests in $tests/requests/*.txt; do
+    name=$(basename "$requests" .txt)
+    [ "$name" != plus ] || command -v "${CXX:-c++}" > /dev/null || continue
+    try "$name" "$room/drivers" "$requests"
+done
+look "all requests" "$room/drivers" $tests/requests/*.txt
+
+build run --main $tests/programs/run.c "$room/run" c/samples/passthrough.c
+try run "$room/run"
+
+# A crash says where it was, and ends the program as it would have.
+printf 'load crash\nattach 0 0 c 100\ncreate 0 new a\nread 0 0 1\n' > "$room/crash.txt"
+try crash "$room/drivers" "$room/crash.txt" 2> /dev/null
+
+# Limits count if they are to, and what is allowed isn't told.
+"$room/drivers" --strict $tests/requests/left.txt > "$room/strict.out"
+[ $? = 5 ] && tail -n 1 "$room/strict.out" | grep -q "told 12, limits 12"
+tell $? "strict"
+"$room/drivers" --allow KZ0130 $tests/requests/answers.txt > "$room/allow.out"
+[ $? = 5 ] && ! grep -q KZ0130 "$room/allow.out" && tail -n 1 "$room/allow.out" | grep -q "told 7, limits 3"
+tell $? "allow"
+
+# Expectations: their exit statuses, and reports for other programs.
+"$room/drivers" --allow KZ0141 --json --junit "$room/expects.xml" $tests/requests/expects.txt > "$room/expects.json"
+tell $? "expectations that are met"
+printf 'load ctx\nexpect status 7\nexpect callbacks entry:ctx\n' > "$room/unmet.txt"
+"$room/drivers" --quiet --junit "$room/unmet.xml" "$room/unmet.txt" > "$room/unmet.out"
+[ $? = 1 ] && [ ! -s "$room/unmet.out" ]
+tell $? "an expectation that isn't met"
+printf 'load ctx\nlaod ctx\nunload 0\n' > "$room/wrong.txt"
+"$room/drivers" "$room/wrong.txt" > "$room/wrong.out" 2> "$room/wrong.err"
+[ $? = 2 ] && grep -q "wrong.txt:2: not understood" "$room/wrong.err"
+tell $? "a line that isn't understood"
+if command -v python3 > /dev/null; then
+    python3 $tests/scripts/reports.py "$room"
+    tell $? "JSON and JUnit, as they are read,"
+    python3 $tests/scripts/numbers.py
+    tell $? "numbers and sentences of what is told"
+fi
+
+# A folder of the host machine as volume 0: regular files below it alone, and what is written stands in them.
+mkdir -p "$room/folder/base/sub"
+printf abcd > "$room/folder/base/old"
+printf secret > "$room/folder/outside"
+ln -s ../outside "$room/folder/base/out"
+ln -s old "$room/folder/base/in"
+mkfifo "$room/folder/base/pipe"
+timeout 60 "$room/drivers" --folder "$room/folder/base" $tests/scripts/folder.txt > "$room/folder.out" && ! grep -q unmet "$room/folder.out" &&
+    [ "$(cat "$room/folder/base/old" "$room/folder/base/sub/new" "$room/folder/outside")" = "abxyasecret" ] && [ ! -e "$room/folder/base/gone" ]
+tell $? "a folder"
+"$room/drivers" --folder "$room/none" $tests/scripts/folder.txt > "$room/folder.out" 2>&1
+[ $? = 3 ] && [ "$(cat "$room/folder.out")" = "$room/none: No such file or directory" ]
+tell $? "a folder that isn't there"
+
+# An installed tree, in a folder with spaces and without the kit: a driver is built by CMake, and tested by ctest; and by the installed script, though the tree can't be written.
+mkdir "$room/a fresh folder"
+cp $tests/cmake/CMakeLists.txt c/samples/ctx.c $tests/requests/ctx.txt "$room/a fresh folder/"
+sed "s/DRIVER/ctx/" $tests/scenarios/four-clients.txt > "$room/a fresh folder/four-clients.txt"
+c/install.sh "$room/an installed tree" > "$room/install.log" 2>&1 || { cat "$room/install.log"; false; }
+tell $? "install"
+if command -v cmake > /dev/null; then
+    (
+        unset KAZDRIN_LIB
+        cd "$room/a fresh folder" && cmake -S . -B build -DCMAKE_PREFIX_PATH="$room/an installed tree" && cmake --build build && cd build && ctest --output-on-failure
+    ) > "$room/cmake.log" 2>&1 || { cat "$room/cmake.log"; false; }
+    tell $? "CMake"
+fi
+(
+    unset KAZDRIN_LIB
+    cd "$room/a fresh folder" && "$room/an installed tree/bin/kazdrin-build" "./my program" ctx.c && "./my program" ctx.txt | diff "$OLDPWD/$tests/expected/ctx.out" -
+)
+tell $? "an installed tree"
+
+# Random requests find a call that may be refused; what is left of the session ends as it did.
+build fuzzer --fuzz "$room/fuzzer" $tests/misuse/schedules/refusal.c
+"$room/fuzzer" 50 1 "$room/failure.txt" > "$room/fuzzer.out"
+[ $? = 139 ] && [ "$(wc -l < "$room/failure.txt")" -le 6 ]
+tell $? "random requests"
+build refused "$room/refused" $tests/misuse/schedules/refusal.c
+{ "$room/refused" "$room/failure.txt" > "$room/refused.out"; } 2> /dev/null
+[ $? = 139 ]
+tell $? "random requests, played again,"
+
+# Names of files that are none of C, and a driver of files that are named one by one; words that can't be had are refused with a sentence.
+mkdir "$room/odd folder"
+cp c/samples/ctx.c "$room/odd folder/2my.odd name.c"
+build names "$room/names" "$room/odd folder/2my.odd name.c" --driver $tests/drivers/two-files/main.c $tests/drivers/two-files/count.c
+printf 'load main\nunload 0\n' | "$room/names" > "$room/names.out" && tail -n 1 "$room/names.out" | grep -q "told 0, limits 0"
+tell $? "names"
+CFLAGS=-flto c/build.sh "$room/lto" c/samples/ctx.c 2> "$room/lto.err"
+[ $? = 2 ] && grep -q "can't be had" "$room/lto.err"
+tell $? "a link-time optimizer"
+c/build.sh "$room/empty" "$room/a fresh folder/build/none" 2> /dev/null
+[ $? != 0 ] && [ ! -e "$room/empty" ]
+tell $? "a driver that isn't there"
+
+build fuzz --main $tests/programs/samples.c "$room/fuzz" c/samples/*.c
+try fuzz "$room/fuzz" 100000 1
+look fuzz "$room/fuzz" 1000 2
+if has_sanitizers address,undefined; then
+    build fuzz.asan --sanitize=address,undefined --main $tests/programs/samples.c "$room/fuzz.asan" c/samples/*.c
+    try fuzz.asan "$room/fuzz.asan" 20000 3
+fi
+finish

@@ -1,0 +1,26 @@
+#!/usr/bin/env bash
+# The lists of crates/recorder/src/order.rt through the host: c/tests/drivers/recorder.c under each name that a list loads plays each list, and what the filters see, request by
+# request, is compared with what stands there.
+set -u
+. "$(dirname "$0")/tally.sh" order
+awk -v room="$room" '
+    /^pub const ORDER/ { on = 1; next }
+    /^";/ { on = 0 }
+    on && /^# / { file = sprintf("%s/%02d.list", room, ++count) }
+    on && NF { print > file }' crates/recorder/src/order.rt
+drivers=()
+for name in $(sed -n 's/^load //p' "$room"/*.list | sort -u); do
+    cp $tests/drivers/recorder.c "$room/$name.c"
+    drivers+=("$room/$name.c")
+done
+build recorder "$room/recorders" "${drivers[@]}"
+for list in "$room"/*.list; do
+    grep -v '^saw ' "$list" > "$list.txt"
+    # What is held to the end stays held there on purpose.
+    "$room/recorders" --allow KZ0111 "$list.txt" > "$list.out" 2>&1
+    status=$?
+    { head -n 1 "$list"; sed -n 's/^> //p; /^saw /p' "$list.out"; } > "$list.seen"
+    [ "$status" = 0 ] && diff "$list" "$list.seen" || { grep -E '^(unmet|TOLD|LIMIT)' "$list.out"; false; }
+    tell $? "$(head -n 1 "$list"), with status $status,"
+done
+finish

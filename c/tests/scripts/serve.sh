@@ -1,0 +1,32 @@
+#!/usr/bin/env bash
+# c/tests/scripts/serve.sh [PART ..] : the server of drivers. It is built of the drivers in c/tests/serve/drivers with the address and undefined sanitizers. The same frames must bring the
+# same bytes as from fltd, and the mount's tests pass above it: the parts calls, model, deletions, held, ends and late (creates and deletions that are held), or those that are named.
+# FLTD is the server to compare with (else crates/fltd/out/fltd, or one without proofs), COUNT how many random frames a script has (300).
+set -u
+. "$(dirname "$0")/tally.sh" serve
+command -v python3 > /dev/null || {
+    echo "serve: not tried, since there is no python3 here"
+    exit 0
+}
+fltd=$(server_of_mount)
+cp $tests/serve/drivers/*.c "$room"
+# Two more that the mount's tests name.
+cp c/samples/passthrough.c "$room/meter.c"
+cp c/samples/nullfilter.c "$room/carry.c"
+words=()
+if has_sanitizers address,undefined; then
+    words=(--sanitize=address,undefined)
+else
+    echo "serve: left out: the sanitizers, which cc hasn't here"
+fi
+c/build.sh --serve "${words[@]}" "$room/server" "$room"/*.c || exit 2
+status=0
+$tests/serve/frames.py --count "${COUNT:-300}" "$fltd" "$room/server" || status=1
+if why=$(may_mount); then
+    make -s -C c fltmount PROGRAM="$room/fltmount" CFLAGS="-O1 ${words:+-fsanitize=address,undefined -fno-sanitize-recover=undefined}" || exit 2
+    [ $# -gt 0 ] || set -- calls model deletions held ends late
+    $tests/mount/check.py --server "$room/server" --mount "$room/fltmount" --count 600 "$@" || status=1
+else
+    echo "serve: left out: the mount above it, since $why"
+fi
+exit "$status"

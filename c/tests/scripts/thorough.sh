@@ -1,0 +1,70 @@
+#!/usr/bin/env bash
+# c/tests/scripts/thorough.sh [PART ..] (make -C c thorough PART='..') : the long tests of the C half.
+#
+#   explore     each sample with four clients, under every schedule with at most two preemptions
+#   threads     each sample for ten seconds with eight threads
+#   libfuzzer   libFuzzer over a driver with a mistake, which it must find, and over one without
+#   mount       the mount: COUNT random operations (100000), what of it shows races under the thread sanitizer, and some under valgrind: half an hour
+#
+# KAZDRIN_LIB is the manager's archive, as for c/build.sh, FLTD the server below the mount. The exit status says whether anything failed.
+set -u
+here=$(cd "$(dirname "$0")" && pwd)
+. "$here/tally.sh" thorough
+export KAZDRIN_LIB=${KAZDRIN_LIB:-$(c/archive.sh --unproved)}
+
+explore() {
+    "$here/explore.sh" --whole
+    tell $? explore
+}
+
+threads() {
+    "$here/threads.sh" --whole
+    tell $? threads
+}
+
+libfuzzer() {
+    local top=$PWD
+    cd "$room"
+    "$top/c/fuzz.sh" --libfuzzer "$top/$tests/misuse/schedules/refusal.c" -- -runs=20000 -seed=1 > found.out 2>&1
+    [ $? != 0 ]
+    tell $? "libFuzzer finds a call that may be refused:"
+    if grep -q "left out" found.out; then
+        cat found.out
+    else
+        "$top/c/build.sh" ./refusal "$top/$tests/misuse/schedules/refusal.c"
+        ./refusal failure.txt > played.out 2>&1
+        [ $? != 0 ]
+        tell $? "what libFuzzer found, played again,"
+        "$top/c/fuzz.sh" --libfuzzer "$top/c/samples/ctx.c" -- -runs=2000 -seed=1 > silent.out 2>&1 || { cat silent.out; false; }
+        tell $? "libFuzzer above ctx"
+    fi
+    cd "$top"
+}
+
+mount() {
+    local count=${COUNT:-100000} program=$room/fltmount.threads
+    export FLTD=${FLTD:-$(server_of_mount)}
+    COUNT=$count "$here/mount.sh"
+    tell $? mount
+    [ -c /dev/fuse ] && make -s -C c fltmount PROGRAM="$room/fltmount" || return
+    if make -s -C c fltmount PROGRAM="$program" CFLAGS="-O1 -fsanitize=thread" 2> /dev/null; then
+        $tests/mount/check.py --server "$FLTD" --mount "$program" --count 6000 calls model deletions held ends
+        tell $? "mount with threads"
+    fi
+    if command -v valgrind > /dev/null; then
+        $tests/mount/check.py --server "$FLTD" --mount "valgrind -q --error-exitcode=99 --leak-check=full $room/fltmount" --count 300 model deletions
+        tell $? "mount under valgrind"
+    fi
+}
+
+[ $# -gt 0 ] || set -- explore threads libfuzzer mount
+for part in "$@"; do
+    case $part in
+    explore | threads | libfuzzer | mount) "$part" ;;
+    *)
+        echo "there is no part $part" >&2
+        exit 2
+        ;;
+    esac
+done
+finish

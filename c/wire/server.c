@@ -1,0 +1,173 @@
+/* How requests are read, and replies spelled. */
+#include "server.h"
+
+#include <string.h>
+
+#define LONGEST_NAME 32
+#define LONGEST_ALTITUDE 64
+
+/* ---- Texts. */
+static bool is_digit(uint8_t letter)
+{
+    return letter >= '0' && letter <= '9';
+}
+
+static bool is_name_letter(uint8_t letter)
+{
+    return is_digit(letter) || (letter >= 'a' && letter <= 'z') || (letter >= 'A' && letter <= 'Z') || letter == '_' || letter == '-';
+}
+
+static bool is_name(const uint8_t *text, size_t length)
+{
+    size_t at = 0;
+    while (at < length && is_name_letter(text[at]))
+        at++;
+    return length > 0 && at == length && length <= LONGEST_NAME;
+}
+
+static bool is_altitude(const uint8_t *text, size_t length)
+{
+    size_t digits = 0, points = 0;
+    for (size_t at = 0; at < length; at++) {
+        digits += is_digit(text[at]);
+        points += text[at] == '.';
+    }
+    return length <= LONGEST_ALTITUDE && digits > 0 && points <= 1 && digits + points == length;
+}
+
+/* ---- Fields, in their order. */
+typedef struct {
+    const uint8_t *at;
+    size_t left;
+    bool is_short;
+} Fields;
+
+static uint64_t take(Fields *fields, unsigned bytes)
+{
+    if (fields->left < bytes) {
+        fields->is_short = true;
+        return 0;
+    }
+    uint64_t number = number_at(fields->at, bytes);
+    fields->at += bytes;
+    fields->left -= bytes;
+    return number;
+}
+
+static void take_rest(Fields *fields, const uint8_t **text, size_t *length)
+{
+    *text = fields->at;
+    *length = fields->left;
+    fields->at += fields->left;
+    fields->left = 0;
+}
+
+static void take_attach(Fields *fields, Frame *frame)
+{
+    frame->filter = (uint8_t)take(fields, 1);
+    frame->volume = (uint8_t)take(fields, 1);
+    frame->text_length = (size_t)take(fields, 1);
+    if (frame->text_length > fields->left) {
+        fields->is_short = true;
+        return;
+    }
+    frame->text = fields->at;
+    fields->at += frame->text_length;
+    fields->left -= frame->text_length;
+    take_rest(fields, &frame->altitude, &frame->altitude_length);
+}
+
+/* False: there is no such code. */
+static bool take_fields(Fields *fields, Frame *frame)
+{
+    switch (frame->code) {
+    case FRAME_CREATE:
+        frame->volume = (uint8_t)take(fields, 1);
+        frame->mode = (uint8_t)take(fields, 1);
+        take_rest(fields, &frame->text, &frame->text_length);
+        return true;
+    case FRAME_READ:
+        frame->handle = take(fields, 8);
+        frame->offset = take(fields, 8);
+        frame->length = (uint32_t)take(fields, 4);
+        return true;
+    case FRAME_WRITE:
+        frame->handle = take(fields, 8);
+        frame->offset = take(fields, 8);
+        take_rest(fields, &frame->text, &frame->text_length);
+        return true;
+    case FRAME_SET_SIZE:
+        frame->handle = take(fields, 8);
+        frame->offset = take(fields, 8);
+        return true;
+    case FRAME_QUERY_SIZE:
+    case FRAME_FLUSH:
+    case FRAME_SET_DELETE:
+    case FRAME_CLOSE:
+        frame->handle = take(fields, 8);
+        return true;
+    case FRAME_LIST:
+    case FRAME_DISMOUNT:
+        frame->volume = (uint8_t)take(fields, 1);
+        return true;
+    case FRAME_LOAD:
+        take_rest(fields, &frame->text, &frame->text_length);
+        return true;
+    case FRAME_ATTACH:
+        take_attach(fields, frame);
+        return true;
+    case FRAME_DETACH:
+        frame->instance = (uint16_t)take(fields, 2);
+        return true;
+    case FRAME_UNLOAD:
+        frame->filter = (uint8_t)take(fields, 1);
+        return true;
+    case FRAME_STOP:
+        return true;
+    default:
+        return false;
+    }
+}
+
+/* What is wrong with fields that are all there. */
+static uint8_t refusal(const Frame *frame)
+{
+    switch (frame->code) {
+    case FRAME_CREATE:
+        if (frame->mode > CREATE_ALWAYS)
+            return KZS_BAD_REQUEST;
+        return is_path(frame->text, frame->text_length) ? KZS_OK : KZS_BAD_PATH;
+    case FRAME_READ:
+        return frame->length > LONGEST_TRANSFER ? KZS_BAD_REQUEST : KZS_OK;
+    case FRAME_WRITE:
+        return frame->text_length > LONGEST_TRANSFER ? KZS_BAD_REQUEST : KZS_OK;
+    case FRAME_LOAD:
+        return is_name(frame->text, frame->text_length) ? KZS_OK : KZS_BAD_NAME;
+    case FRAME_ATTACH:
+        if (!is_name(frame->text, frame->text_length))
+            return KZS_BAD_NAME;
+        return is_altitude(frame->altitude, frame->altitude_length) ? KZS_OK : KZS_BAD_ALTITUDE;
+    default:
+        return KZS_OK;
+    }
+}
+
+uint8_t frame_read(const uint8_t *body, size_t length, Frame *frame)
+{
+    *frame = (Frame){.code = body[0], .number = (uint32_t)number_at(body + 1, 4)};
+    Fields fields = {body + SHORTEST_BODY, length - SHORTEST_BODY, false};
+    if (!take_fields(&fields, frame) || fields.is_short || fields.left > 0)
+        return KZS_BAD_REQUEST;
+    return refusal(frame);
+}
+
+size_t frame_reply(uint8_t *room, uint32_t number, uint8_t status, uint64_t information, const uint8_t *bytes, size_t length)
+{
+    put_number(room, REPLY_HEAD + length, FRAME_HEAD);
+    room[4] = FRAME_REPLY;
+    put_number(room + 5, number, 4);
+    room[9] = status;
+    put_number(room + 10, information, 8);
+    memcpy(room + 18, length ? bytes : (const uint8_t *)"", length);
+    return 18 + length;
+}

@@ -1,0 +1,44 @@
+/* The manager's statuses, by the numbers that a reply carries (docs/SCRIPT.md has them in words). */
+#ifndef KZ_WIRE_STATUS_H
+#define KZ_WIRE_STATUS_H
+
+enum {
+    KZS_OK,
+    KZS_NO_MEMORY,
+    KZS_BAD_ALTITUDE,
+    KZS_BAD_NAME,
+    KZS_NAME_COLLISION,
+    KZS_ALTITUDE_COLLISION,
+    KZS_NO_FILTER,
+    KZS_NO_VOLUME,
+    KZS_NO_INSTANCE,
+    KZS_NOT_LOADED,
+    KZS_ALREADY_LOADED,
+    KZS_DO_NOT_ATTACH,
+    KZS_DO_NOT_DETACH,
+    KZS_DELETING_OBJECT,
+    KZS_NO_HANDLE,
+    KZS_BAD_PATH,
+    KZS_DELETE_PENDING,
+    KZS_ACCESS_DENIED,
+    KZS_DEVICE_FAULT,
+    KZS_FILE_NOT_FOUND,
+    KZS_ALREADY_EXISTS,
+    KZS_NOT_REGISTERED,
+    KZS_ALREADY_DEFINED,
+    KZS_ALREADY_LINKED,
+    KZS_NO_CONTEXT,
+    KZS_NOT_HELD,
+    KZS_HAND_FULL,
+    KZS_NO_OBJECT,
+    KZS_NOT_PENDED,
+    KZS_TOO_MANY,
+    KZS_WRONG_STEP,
+    KZS_END_OF_FILE,
+    KZS_BAD_REQUEST,
+    KZS_DISMOUNTING,
+    KZS_BUSY,
+    KZS_COUNT /* how many there are */
+};
+
+#endif

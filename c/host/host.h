@@ -121,7 +121,34 @@ typedef struct KzSent {
     KzPlace place;
 } KzSent;
 
-typedef enum { KZ_NOT_HELD_NOW, KZ_HELD_PRE, KZ_HELD_POST } KzHold;
+/* Where an operation is, as its filters see it. */
+typedef enum {
+    KZ_GOES_ON,
+    KZ_IN_PREOPERATION,
+    KZ_COMPLETED_IN_PRE, /* by the preoperation that is to pend it, or meanwhile: that waits for its return */
+    KZ_IN_POSTOPERATION,
+    KZ_COMPLETED_IN_POST,
+    KZ_HELD_BY_PRE,
+    KZ_HELD_BY_POST,
+    KZ_RESUMED, /* its runner, or whoever comes to it, is to carry it on */
+    KZ_OVER
+} KzStage;
+
+/* What the callback that runs was shown, and what the bytes were before it. */
+typedef struct {
+    FLT_IO_PARAMETER_BLOCK parameters;
+    IO_STATUS_BLOCK status;
+    uint8_t *asked, *pristine, *answered;
+    size_t asked_length, answered_length;
+} KzShown;
+
+/* What a completion left beside its status, until the manager has it: a number, and whether bytes lie in the buffer. */
+typedef struct {
+    bool is_there;
+    uint64_t number;
+    const uint8_t *bytes;
+    size_t length;
+} KzServed;
 
 struct KzOp {
     KzOp *next;
@@ -133,33 +160,24 @@ struct KzOp {
     IO_SECURITY_CONTEXT security;
     ACCESS_STATE access;
     PFLT_IO_PARAMETER_BLOCK iopb;
-    FLT_IO_PARAMETER_BLOCK shown;
     FLT_CALLBACK_DATA *data;
-    IO_STATUS_BLOCK status_shown;
     KazdrinData lent;
+    KzShown shown;
     NTSTATUS other; /* the kit's status that the manager counts as another */
-    /* What a completion left beside its status, until the manager has it: a number, and whether bytes lie in the buffer. */
-    bool is_served;
-    uint64_t served;
-    const uint8_t *served_bytes;
-    size_t served_length;
+    KzServed served;
     KzBlock *blocks;
     KzVisit *visits;
     KzMdl *mdls;
     KzSent *sent;
     PVOID caller; /* the buffer of the caller */
     ULONG caller_room;
-    uint8_t *asked, *pristine, *answered; /* the bytes that a callback was shown, and what they were before it */
-    size_t asked_length, answered_length;
-    KzHold held;
+    KzStage stage;
     PFLT_INSTANCE holder, owed[KZ_OWED]; /* those whose teardown waits for it, as far as there is room */
     unsigned owed_count;
     unsigned maker;
     KzClient *runner; /* who carries it on, also while it is held */
     unsigned users;   /* callbacks that look at it beside its runner */
-    bool is_resumed, is_over;
-    /* Completed by the callback that is to hold it, or meanwhile: that waits for its return. */
-    bool is_early, is_in_pre, is_in_post;
+    /* With what it was completed in its preoperation. */
     FLT_PREOP_CALLBACK_STATUS early;
     PVOID early_context;
     KzOp *next_resumed;
@@ -183,10 +201,20 @@ typedef struct {
 
 extern KzHost kz;
 
-/* host.c: events, and memory that must be there. An event is the current callback's worker's unless it says another. */
-uint32_t kz_event(KazdrinEvent event);
-uint32_t kz_event_with(KazdrinEvent event, const void *bytes, size_t length);
+/* host.c: events of a worker, and memory that must be there. */
+typedef struct {
+    uint32_t status; /* 0, or that with which the event was refused */
+    KazdrinTold told;
+} KzTold;
+
+KzTold kz_event(uint8_t worker, KazdrinEvent event);
+/* An event that is handed a text or bytes. */
+KzTold kz_event_with(uint8_t worker, KazdrinEvent event, const void *bytes, size_t length);
+/* One that answers with bytes: they go into the caller's room, and told.length says how many there are. */
+KzTold kz_event_into(uint8_t worker, KazdrinEvent event, uint8_t *room, size_t size);
 uint32_t kz_until_free(const char *name, KazdrinEvent event, PFLT_INSTANCE instance);
+/* The worker of the manager that the client is in. */
+uint8_t kz_worker(void);
 uint8_t kz_helper(void);
 void kz_helped(uint8_t worker);
 void *kz_memory(size_t size);
@@ -202,7 +230,7 @@ const char *kz_busy_text(char *room, size_t size);
 /* told.c: what is told, and where. */
 void kz_tell(KzMessage message, const char *call, const char *format, ...) __attribute__((format(printf, 3, 4)));
 void kz_tell_refused(const char *call, uint32_t status);
-KzPlace kz_enter(KzCallback callback, PFLT_FILTER filter, PFLT_INSTANCE instance, KzOp *op, PFLT_CALLBACK_DATA data);
+KzPlace kz_enter(KzCallback callback, uint8_t worker, PFLT_FILTER filter, PFLT_INSTANCE instance, KzOp *op, PFLT_CALLBACK_DATA data);
 KzPlace kz_enter_again(const KzPlace *place);
 void kz_leave(KzPlace before);
 size_t kz_place_text(char *room, size_t size);
@@ -335,6 +363,7 @@ void kz_set_sink(KzSink *to);
 void kz_pass_reply(KzReply reply, const uint8_t *bytes, size_t length);
 
 bool kz_drain_next(PFLT_INSTANCE instance);
+bool kz_is_held(const KzOp *op);
 FLT_RELATED_OBJECTS kz_objects(PFLT_INSTANCE instance, KzFile *file);
 KzOp *kz_op_with(PFLT_CALLBACK_DATA data);
 void kz_tell_held(void);

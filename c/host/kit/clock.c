@@ -133,7 +133,7 @@ bool kz_run_dpc(void)
     PRKDPC dpc = dpcs[0];
     PFLT_FILTER filter = dpc->DpcData == dpc ? NULL : dpc->DpcData;
     KeRemoveQueueDpc(dpc);
-    KzPlace before = kz_enter(KZ_IN_TIMER, filter, NULL, NULL, NULL);
+    KzPlace before = kz_enter(KZ_IN_TIMER, kz_worker(), filter, NULL, NULL, NULL);
     KIRQL irql = KfRaiseIrql(DISPATCH_LEVEL);
     kz_scheduler->touch(dpc, 0, KZT_TAKES);
     unsigned depth = kz_let_driver("timer");
@@ -254,7 +254,7 @@ void kz_forget_timers(PFLT_FILTER filter)
 {
     for (size_t at = timers_count; at-- > 0;)
         if ((PFLT_FILTER)timers[at]->TimerListEntry.Flink == filter) {
-            KzPlace before = kz_enter(KZ_IN_NOTHING, filter, NULL, NULL, NULL);
+            KzPlace before = kz_enter(KZ_IN_NOTHING, kz_worker(), filter, NULL, NULL, NULL);
             kz_tell(KZM_TIMER_LEFT, "KeCancelTimer", "never called for a timer that is set: it would fire in a driver that is gone");
             kz_me->place = before;
             KeCancelTimer(timers[at]);

@@ -98,9 +98,9 @@ static void drop(Header *context)
 }
 
 /* ---- The end of a context: its filter's cleanup callback is called, and then its memory is freed. */
-static void finish(Header *context)
+static void finish(Header *context, uint8_t worker)
 {
-    KzPlace before = kz_enter(KZ_IN_CLEANUP, context->filter, NULL, NULL, NULL);
+    KzPlace before = kz_enter(KZ_IN_CLEANUP, worker, context->filter, NULL, NULL, NULL);
     context->is_in_cleanup = true;
     kz_scheduler->touch(context, 0, KZT_TAKES);
     if (context->how->ContextCleanupCallback) {
@@ -125,22 +125,23 @@ static void finish(Header *context)
     free(context);
 }
 
+/* The next one that is due in the manager; NULL if none is. Its body there is the header's address. */
+static Header *take_due(uint8_t worker)
+{
+    Header *context = NULL;
+    KzTold due = kz_event_into(worker, (KazdrinEvent){.event = KZE_TAKE_DUE}, (uint8_t *)&context, sizeof context);
+    return due.status == KZS_OK && due.told.has ? context : NULL;
+}
+
 /* What is due in the manager: another worker takes it. As in the kit, it is called inside the call that gave up the last reference. */
 void kz_clean_up(void)
 {
     uint8_t worker = kz_helper();
-    while (kz_event((KazdrinEvent){.event = KZE_TAKE_DUE, .worker = worker}) == KZS_OK && kz_me->told.has) {
-        Header *context;
-        memcpy(&context, kz_me->room, sizeof context);
+    for (Header *context = take_due(worker); context; context = take_due(worker)) {
         context->is_known = false;
-        uint8_t own = kz_me->place.worker;
-        kz_me->place.worker = worker;
-        KazdrinTold told = kz_me->told;
         if (!context->kept)
-            finish(context);
-        kz_me->told = told;
-        kz_me->place.worker = own;
-        kz_event((KazdrinEvent){.event = KZE_CLEANED, .worker = worker});
+            finish(context, worker);
+        kz_event(worker, (KazdrinEvent){.event = KZE_CLEANED});
         kz.changes++;
     }
     kz_helped(worker);
@@ -157,13 +158,13 @@ static PVOID new_body(const FLT_CONTEXT_REGISTRATION *how, SIZE_T size, POOL_TYP
 /* The manager gets to know a context, and the callback holds it. */
 static uint32_t make_known(Header *context)
 {
-    uint32_t status = kz_event_with((KazdrinEvent){.event = KZE_ALLOCATE, .kind = context->kind}, &context, sizeof context);
-    if (status == KZS_OK) {
-        context->slot = kz_me->told.slot;
-        context->generation = kz_me->told.generation;
+    KzTold made = kz_event_with(kz_worker(), (KazdrinEvent){.event = KZE_ALLOCATE, .kind = context->kind}, &context, sizeof context);
+    if (made.status == KZS_OK) {
+        context->slot = made.told.slot;
+        context->generation = made.told.generation;
         context->is_known = true;
     }
-    return status;
+    return made.status;
 }
 
 NTSTATUS FltAllocateContext(PFLT_FILTER Filter, FLT_CONTEXT_TYPE ContextType, SIZE_T ContextSize, POOL_TYPE PoolType, PFLT_CONTEXT *ReturnedContext)
@@ -212,7 +213,7 @@ VOID FltReferenceContext(PFLT_CONTEXT Context)
     if (!context)
         return;
     bool is_counted =
-        context->is_known && kz_event((KazdrinEvent){.event = KZE_REFERENCE, .slot = context->slot, .generation = context->generation}) == KZS_OK;
+        context->is_known && kz_event(kz_worker(), (KazdrinEvent){.event = KZE_REFERENCE, .slot = context->slot, .generation = context->generation}).status == KZS_OK;
     if (!is_counted)
         keep(context, &kz_me->place);
 }
@@ -228,7 +229,7 @@ VOID FltReleaseContext(PFLT_CONTEXT Context)
         return;
     }
     kz_scheduler->touch(context, 0, KZT_GIVES);
-    if (context->is_known && kz_event((KazdrinEvent){.event = KZE_RELEASE, .slot = context->slot, .generation = context->generation}) == KZS_OK) {
+    if (context->is_known && kz_event(kz_worker(), (KazdrinEvent){.event = KZE_RELEASE, .slot = context->slot, .generation = context->generation}).status == KZS_OK) {
         kz_clean_up();
         return;
     }
@@ -238,7 +239,7 @@ VOID FltReleaseContext(PFLT_CONTEXT Context)
     }
     drop(context);
     if (!context->kept && !context->is_known)
-        finish(context);
+        finish(context, kz_worker());
 }
 
 /* ---- Objects. The manager knows those of the callback alone; the host asks it for others of volumes and instances as from their own callback. */
@@ -298,13 +299,15 @@ static NTSTATUS set(const char *call, uint8_t kind, FLT_SET_CONTEXT_OPERATION ho
         drop(context);
     }
     kz_scheduler->touch(context, 0, KZT_GIVES);
-    uint32_t status = kz_event((KazdrinEvent){.event = KZE_SET,
-                                              .slot = context->slot,
-                                              .generation = context->generation,
-                                              .mode = how == FLT_SET_CONTEXT_REPLACE_IF_EXISTS,
-                                              .flag = old != NULL});
-    if (old && (status == KZS_OK || status == KZS_ALREADY_DEFINED) && kz_me->told.has)
-        *old = taken_body(kz_me->told.slot, kz_me->told.generation);
+    KazdrinEvent event = {.event = KZE_SET,
+                          .slot = context->slot,
+                          .generation = context->generation,
+                          .mode = how == FLT_SET_CONTEXT_REPLACE_IF_EXISTS,
+                          .flag = old != NULL};
+    KzTold answer = kz_event(kz_worker(), event);
+    uint32_t status = answer.status;
+    if (old && (status == KZS_OK || status == KZS_ALREADY_DEFINED) && answer.told.has)
+        *old = taken_body(answer.told.slot, answer.told.generation);
     if (status == KZS_NOT_HELD && context->kept)
         return STATUS_FLT_CONTEXT_ALREADY_LINKED; /* the manager holds it by a link alone */
     if (status == KZS_NOT_HELD)
@@ -314,29 +317,27 @@ static NTSTATUS set(const char *call, uint8_t kind, FLT_SET_CONTEXT_OPERATION ho
     return kz_ntstatus(status);
 }
 
-static NTSTATUS get(const char *call, uint8_t kind, PFLT_CONTEXT *found)
+static NTSTATUS get(const char *call, uint8_t worker, uint8_t kind, PFLT_CONTEXT *found)
 {
-    uint32_t status = kz_event((KazdrinEvent){.event = KZE_GET, .kind = kind});
-    if (status == KZS_OK)
-        *found = taken_body(kz_me->told.slot, kz_me->told.generation);
-    kz_tell_refused(call, status);
-    return kz_ntstatus(status);
+    KzTold answer = kz_event(worker, (KazdrinEvent){.event = KZE_GET, .kind = kind});
+    if (answer.status == KZS_OK)
+        *found = taken_body(answer.told.slot, answer.told.generation);
+    kz_tell_refused(call, answer.status);
+    return kz_ntstatus(answer.status);
 }
 
 /* The context of a volume or an instance that isn't the callback's own: the host keeps the reference. */
 static NTSTATUS get_elsewhere(const char *call, uint8_t kind, PFLT_INSTANCE instance, PFLT_VOLUME volume, PFLT_CONTEXT *found)
 {
     PFLT_INSTANCE at = instance ? instance : instance_on(kz_me->place.filter, volume);
-    uint8_t worker = kz_helper(), own = kz_me->place.worker;
+    uint8_t worker = kz_helper();
     if (!is_object(instance, volume, NULL) || !at || at->filter != kz_me->place.filter || !kz_enter_query(at, worker)) {
         kz_helped(worker);
         return refuse(call, instance, volume, NULL);
     }
-    kz_me->place.worker = worker;
-    NTSTATUS status = get(call, kind, found);
+    NTSTATUS status = get(call, worker, kind, found);
     if (*found)
         keep(find(*found), &kz_me->place);
-    kz_me->place.worker = own;
     kz_leave_query(at, worker);
     kz_helped(worker);
     return status;
@@ -344,12 +345,12 @@ static NTSTATUS get_elsewhere(const char *call, uint8_t kind, PFLT_INSTANCE inst
 
 static NTSTATUS take_off(const char *call, uint8_t kind, PFLT_CONTEXT *old)
 {
-    uint32_t status = kz_event((KazdrinEvent){.event = KZE_DELETE, .kind = kind, .flag = old != NULL});
-    if (old && status == KZS_OK && kz_me->told.has)
-        *old = taken_body(kz_me->told.slot, kz_me->told.generation);
-    kz_tell_refused(call, status);
+    KzTold answer = kz_event(kz_worker(), (KazdrinEvent){.event = KZE_DELETE, .kind = kind, .flag = old != NULL});
+    if (old && answer.status == KZS_OK && answer.told.has)
+        *old = taken_body(answer.told.slot, answer.told.generation);
+    kz_tell_refused(call, answer.status);
     kz_clean_up();
-    return kz_ntstatus(status);
+    return kz_ntstatus(answer.status);
 }
 
 NTSTATUS FltSetVolumeContext(PFLT_VOLUME Volume, FLT_SET_CONTEXT_OPERATION Operation, PFLT_CONTEXT NewContext, PFLT_CONTEXT *OldContext)
@@ -391,28 +392,28 @@ NTSTATUS FltGetVolumeContext(PFLT_FILTER Filter, PFLT_VOLUME Volume, PFLT_CONTEX
     KZ_CALL();
     (void)Filter;
     *Context = NULL;
-    return is_own(NULL, Volume, NULL) ? get(__func__, 0, Context) : get_elsewhere(__func__, 0, NULL, Volume, Context);
+    return is_own(NULL, Volume, NULL) ? get(__func__, kz_worker(), 0, Context) : get_elsewhere(__func__, 0, NULL, Volume, Context);
 }
 
 NTSTATUS FltGetInstanceContext(PFLT_INSTANCE Instance, PFLT_CONTEXT *Context)
 {
     KZ_CALL();
     *Context = NULL;
-    return is_own(Instance, NULL, NULL) ? get(__func__, 1, Context) : get_elsewhere(__func__, 1, Instance, NULL, Context);
+    return is_own(Instance, NULL, NULL) ? get(__func__, kz_worker(), 1, Context) : get_elsewhere(__func__, 1, Instance, NULL, Context);
 }
 
 NTSTATUS FltGetStreamContext(PFLT_INSTANCE Instance, PFILE_OBJECT FileObject, PFLT_CONTEXT *Context)
 {
     KZ_CALL();
     *Context = NULL;
-    return is_own(Instance, NULL, FileObject) ? get(__func__, 2, Context) : refuse(__func__, Instance, NULL, FileObject);
+    return is_own(Instance, NULL, FileObject) ? get(__func__, kz_worker(), 2, Context) : refuse(__func__, Instance, NULL, FileObject);
 }
 
 NTSTATUS FltGetStreamHandleContext(PFLT_INSTANCE Instance, PFILE_OBJECT FileObject, PFLT_CONTEXT *Context)
 {
     KZ_CALL();
     *Context = NULL;
-    return is_own(Instance, NULL, FileObject) ? get(__func__, 3, Context) : refuse(__func__, Instance, NULL, FileObject);
+    return is_own(Instance, NULL, FileObject) ? get(__func__, kz_worker(), 3, Context) : refuse(__func__, Instance, NULL, FileObject);
 }
 
 NTSTATUS FltDeleteVolumeContext(PFLT_FILTER Filter, PFLT_VOLUME Volume, PFLT_CONTEXT *OldContext)
@@ -454,10 +455,10 @@ VOID FltDeleteContext(PFLT_CONTEXT Context)
     KZ_CALL();
     Header *context = context_of(Context, __func__);
     PFLT_CONTEXT there = NULL;
-    if (!context || get(__func__, context->kind, &there) != STATUS_SUCCESS)
+    if (!context || get(__func__, kz_worker(), context->kind, &there) != STATUS_SUCCESS)
         return;
     if (there == Context)
-        kz_event((KazdrinEvent){.event = KZE_DELETE, .kind = context->kind});
+        kz_event(kz_worker(), (KazdrinEvent){.event = KZE_DELETE, .kind = context->kind});
     else
         kz_tell(KZM_NOT_OWN_OBJECT, __func__, "a context of an object that isn't the callback's own: it stays there");
     FltReleaseContext(there);
@@ -467,14 +468,14 @@ VOID FltDeleteContext(PFLT_CONTEXT Context)
 static uint64_t held_count(void)
 {
     KazdrinCounts counts = {0};
-    kazdrin_counts(&kz.manager, &(KazdrinEvent){.worker = kz_me->place.worker}, &counts);
+    kazdrin_counts(&kz.manager, &(KazdrinEvent){.worker = kz_worker()}, &counts);
     return counts.held;
 }
 
 static bool held_at(uint32_t place, uint32_t *slot, uint32_t *generation)
 {
     KazdrinTold told = {0};
-    kazdrin_held_at(&kz.manager, &(KazdrinEvent){.len = place, .worker = kz_me->place.worker}, &told);
+    kazdrin_held_at(&kz.manager, &(KazdrinEvent){.len = place, .worker = kz_worker()}, &told);
     *slot = told.slot;
     *generation = told.generation;
     return told.has;
@@ -567,7 +568,7 @@ void kz_tell_kept(PFLT_FILTER filter)
     for (Header *one = told_and_kept(filter); one; one = told_and_kept(filter)) {
         while (one->kept)
             drop(one);
-        finish(one);
+        finish(one, kz_worker());
     }
     for (Header *one = live; one; one = one->next)
         if (one->filter == filter && one->kept && !one->is_told) {

@@ -170,7 +170,7 @@ static void forget(KzPiece **place)
     *place = NULL;
     if (!piece)
         return;
-    KzPlace before = kz_enter(KZ_IN_NOTHING, piece->filter, NULL, NULL, NULL);
+    KzPlace before = kz_enter(KZ_IN_NOTHING, kz_worker(), piece->filter, NULL, NULL, NULL);
     look_at(piece);
     kz_me->place = before;
     free(piece);
@@ -215,7 +215,7 @@ void kz_tell_gone(void)
 /* Memory of a pool that a filter took and never freed. */
 void kz_tell_pools(PFLT_FILTER filter)
 {
-    KzPlace before = kz_enter(KZ_IN_NOTHING, filter, NULL, NULL, NULL);
+    KzPlace before = kz_enter(KZ_IN_NOTHING, kz_worker(), filter, NULL, NULL, NULL);
     char tag[8];
     for (KzPiece *piece = first_from(0); piece; piece = piece_behind(piece))
         if (piece->kind == KZK_POOL && piece->filter == filter)

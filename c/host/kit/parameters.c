@@ -86,7 +86,7 @@ NTSTATUS FltLockUserBuffer(PFLT_CALLBACK_DATA CallbackData)
         made->MdlFlags |= MDL_PAGES_LOCKED;
         kz_keep_mdl(op, made);
         *mdl = made;
-        *(PMDL *)((PUCHAR)&op->shown + ((PUCHAR)mdl - (PUCHAR)op->iopb)) = made;
+        *(PMDL *)((PUCHAR)&op->shown.parameters + ((PUCHAR)mdl - (PUCHAR)op->iopb)) = made;
         if (op->visits && *buffer == op->visits->received)
             op->visits->received_mdl = made;
     }

@@ -3,8 +3,7 @@
 
 static void resume(KzOp *op)
 {
-    op->held = KZ_NOT_HELD_NOW;
-    op->is_resumed = true;
+    op->stage = KZ_RESUMED;
     kz.changes++;
     kz_scheduler->touch(op, 0, KZT_GIVES);
     kz_renew_data(op);
@@ -15,14 +14,12 @@ static void resume(KzOp *op)
     kz.resumed_end = &op->next_resumed;
 }
 
-
 /* Makes the event from a callback of the instance that holds the operation: the one that runs, or else the question whether it may be detached, which is refused behind it.
  * Whoever completes an operation in the kit may do so from anywhere. */
 static bool resume_from(const char *call, KzOp *op, KazdrinEvent event)
 {
     if (kz_me->place.instance == op->holder) {
-        event.worker = kz_me->place.worker;
-        uint32_t status = kz_event(event);
+        uint32_t status = kz_event(kz_worker(), event).status;
         if (status != KZS_WRONG_STEP) {
             if (status == KZS_BAD_REQUEST)
                 kz_tell(KZM_NO_HELD_VERDICT, call, "a verdict that is none of a held operation's");
@@ -32,9 +29,8 @@ static bool resume_from(const char *call, KzOp *op, KazdrinEvent event)
     kz_wait(kz_is_not_asked, op->holder, "the query callback of instance %u", op->holder->id);
     uint8_t worker = kz_helper();
     bool is_in = kz_enter_query(op->holder, worker);
-    event.worker = worker;
     event.flag = 0; /* a reference of another callback's doesn't go along */
-    uint32_t status = is_in ? kz_event(event) : KZS_WRONG_STEP;
+    uint32_t status = is_in ? kz_event(worker, event).status : KZS_WRONG_STEP;
     if (is_in)
         kz_leave_query(op->holder, worker);
     kz_helped(worker);
@@ -50,7 +46,7 @@ VOID FltCompletePendedPreOperation(PFLT_CALLBACK_DATA CallbackData, FLT_PREOP_CA
     KZ_CALL();
     KzOp *op = kz_op_with(CallbackData);
     bool is_verdict = CallbackStatus == FLT_PREOP_SUCCESS_WITH_CALLBACK || CallbackStatus == FLT_PREOP_SUCCESS_NO_CALLBACK || CallbackStatus == FLT_PREOP_COMPLETE;
-    if (!op || (op->held != KZ_HELD_PRE && (!op->is_in_pre || op->is_early))) {
+    if (!op || (op->stage != KZ_HELD_BY_PRE && op->stage != KZ_IN_PREOPERATION)) {
         kz_tell(KZM_COMPLETED_TWICE, __func__, "no operation that a preoperation holds (completed twice?)");
         return;
     }
@@ -58,8 +54,8 @@ VOID FltCompletePendedPreOperation(PFLT_CALLBACK_DATA CallbackData, FLT_PREOP_CA
         kz_tell(KZM_NO_HELD_VERDICT, __func__, "%d is none of a held operation's verdicts: it stays held", (int)CallbackStatus);
         return;
     }
-    if (op->is_in_pre) {
-        op->is_early = true;
+    if (op->stage == KZ_IN_PREOPERATION) {
+        op->stage = KZ_COMPLETED_IN_PRE;
         op->early = CallbackStatus;
         op->early_context = Context;
         kz_scheduler->touch(op, 0, KZT_GIVES);
@@ -86,15 +82,15 @@ VOID FltCompletePendedPostOperation(PFLT_CALLBACK_DATA CallbackData)
 {
     KZ_CALL();
     KzOp *op = kz_op_with(CallbackData);
-    if (op && op->is_in_post && !op->is_early) {
-        op->is_early = true; /* the callback is about to hold it */
+    if (op && op->stage == KZ_IN_POSTOPERATION) {
+        op->stage = KZ_COMPLETED_IN_POST; /* the callback is about to hold it */
         return;
     }
-    if (!op || op->held != KZ_HELD_POST) {
+    if (!op || op->stage != KZ_HELD_BY_POST) {
         kz_tell(KZM_COMPLETED_TWICE, __func__, "no operation that a postoperation holds (completed twice?)");
         return;
     }
-    if (op->data->IoStatus.Status != op->status_shown.Status || op->data->IoStatus.Information != op->status_shown.Information)
+    if (op->data->IoStatus.Status != op->shown.status.Status || op->data->IoStatus.Information != op->shown.status.Information)
         kz_tell(KZM_CHANGED_WHILE_HELD, __func__, "an answer that was changed while the operation was held doesn't count");
     PFLT_INSTANCE holder = op->holder;
     if (resume_from(__func__, op, (KazdrinEvent){.event = KZE_RESUME_POST, .operation = op->id})) {

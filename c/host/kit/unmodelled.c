@@ -69,7 +69,7 @@ void kz_tell_ports(PFLT_FILTER filter)
 {
     for (PFLT_PORT one = ports; one; one = one->next)
         if (one->filter == filter) {
-            KzPlace before = kz_enter(KZ_IN_NOTHING, filter, NULL, NULL, NULL);
+            KzPlace before = kz_enter(KZ_IN_NOTHING, kz_worker(), filter, NULL, NULL, NULL);
             kz_tell(KZM_PORT_LEAK, "FltCloseCommunicationPort", "never called for a port");
             kz_me->place = before;
         }

@@ -158,10 +158,9 @@ static void run(PFLT_GENERIC_WORKITEM item)
 {
     PFLT_INSTANCE instance = item->kind <= DEFERRED && kz_is_instance(item->object) ? item->object : NULL;
     uint64_t process = kz_me->process, thread = kz_me->thread;
-    KzPlace before = kz_enter(KZ_IN_WORK, item->filter, instance, NULL, NULL);
     uint8_t worker = kz_helper();
+    KzPlace before = kz_enter(KZ_IN_WORK, worker, item->filter, instance, NULL, NULL);
     bool is_inside = instance && kz_enter_query(instance, worker);
-    kz_me->place.worker = worker;
     kz_me->process = 4;
     kz_me->thread = 8;
     item->is_queued = false;
@@ -208,7 +207,7 @@ void kz_tell_work(PFLT_FILTER filter)
 {
     for (PFLT_GENERIC_WORKITEM one = first; one; one = one->next)
         if (one->filter == filter) {
-            KzPlace before = kz_enter(KZ_IN_NOTHING, filter, NULL, NULL, NULL);
+            KzPlace before = kz_enter(KZ_IN_NOTHING, kz_worker(), filter, NULL, NULL, NULL);
             kz_tell(KZM_WORK_LEFT, "FltQueueGenericWorkItem", "a work item is queued still: it would run in a driver that is gone");
             kz_me->place = before;
         }

@@ -89,7 +89,7 @@ void kz_forget_swap(KzOp *op, PFLT_INSTANCE instance)
         if (buffer && *buffer == gone) {
             *buffer = at->swapped;
             *mdl = NULL;
-            op->shown = *op->iopb;
+            op->shown.parameters = *op->iopb;
         }
     }
 }
@@ -133,17 +133,17 @@ static void show_information(KzOp *op, FLT_PARAMETERS *shown)
 {
     if (op->event == KZE_SET_SIZE) {
         FILE_END_OF_FILE_INFORMATION end = {.EndOfFile.QuadPart = (LONGLONG)op->lent.offset};
-        op->asked = copied(op, &end, sizeof end);
-        op->asked_length = sizeof end;
+        op->shown.asked = copied(op, &end, sizeof end);
+        op->shown.asked_length = sizeof end;
         shown->SetFileInformation.FileInformationClass = FileEndOfFileInformation;
     } else {
         FILE_DISPOSITION_INFORMATION gone = {TRUE};
-        op->asked = copied(op, &gone, sizeof gone);
-        op->asked_length = sizeof gone;
+        op->shown.asked = copied(op, &gone, sizeof gone);
+        op->shown.asked_length = sizeof gone;
         shown->SetFileInformation.FileInformationClass = FileDispositionInformation;
     }
-    shown->SetFileInformation.Length = (ULONG)op->asked_length;
-    shown->SetFileInformation.InfoBuffer = op->asked;
+    shown->SetFileInformation.Length = (ULONG)op->shown.asked_length;
+    shown->SetFileInformation.InfoBuffer = op->shown.asked;
 }
 
 static void show_buffer(KzOp *op, FLT_PARAMETERS *shown)
@@ -167,11 +167,11 @@ static void show_parameters(KzOp *op, FLT_PARAMETERS *shown)
         show_buffer(op, shown);
         break;
     case KZE_WRITE:
-        op->asked = copied(op, kz_me->room, op->lent.length);
-        op->asked_length = op->lent.length;
-        shown->Write.Length = (ULONG)op->asked_length;
+        op->shown.asked = copied(op, kz_me->room, op->lent.length);
+        op->shown.asked_length = op->lent.length;
+        shown->Write.Length = (ULONG)op->shown.asked_length;
         shown->Write.ByteOffset.QuadPart = (LONGLONG)op->lent.offset;
-        shown->Write.WriteBuffer = op->asked;
+        shown->Write.WriteBuffer = op->shown.asked;
         break;
     case KZE_QUERY_SIZE:
         shown->QueryFileInformation.Length = sizeof(FILE_STANDARD_INFORMATION);
@@ -214,7 +214,7 @@ static ULONG irp_flags_of(uint8_t event)
 /* Fills the kit's structures from what the worker was lent. */
 static void show(KzOp *op, PFLT_INSTANCE instance)
 {
-    kazdrin_lent(&kz.manager, &(KazdrinEvent){.worker = kz_me->place.worker}, &op->lent, kz_me->room, sizeof kz_me->room);
+    kazdrin_lent(&kz.manager, &(KazdrinEvent){.worker = kz_worker()}, &op->lent, kz_me->room, sizeof kz_me->room);
     memset(op->iopb, 0, sizeof *op->iopb);
     op->iopb->IrpFlags = irp_flags_of(op->event);
     op->iopb->MajorFunction = kz_major(op->event);
@@ -222,11 +222,11 @@ static void show(KzOp *op, PFLT_INSTANCE instance)
     op->iopb->OperationFlags = op->event == KZE_LIST ? SL_RESTART_SCAN : 0;
     op->iopb->TargetFileObject = &op->file->object;
     op->iopb->TargetInstance = instance;
-    op->asked = NULL;
-    op->asked_length = 0;
+    op->shown.asked = NULL;
+    op->shown.asked_length = 0;
     show_parameters(op, &op->iopb->Parameters);
-    op->pristine = op->asked ? copied(op, op->asked, op->asked_length) : NULL;
-    op->shown = *op->iopb;
+    op->shown.pristine = op->shown.asked ? copied(op, op->shown.asked, op->shown.asked_length) : NULL;
+    op->shown.parameters = *op->iopb;
     op->data->Flags = FLTFL_CALLBACK_DATA_IRP_OPERATION;
     if (irp_flags_of(op->event) & IRP_BUFFERED_IO)
         op->data->Flags |= FLTFL_CALLBACK_DATA_SYSTEM_BUFFER;
@@ -235,13 +235,13 @@ static void show(KzOp *op, PFLT_INSTANCE instance)
 /* What the manager doesn't look at isn't lost: a completion that wasn't seen by any postoperation yet is put in the answer. */
 static void put_served(KzOp *op)
 {
-    if (!op->is_served)
+    if (!op->served.is_there)
         return;
-    op->is_served = false;
-    KazdrinEvent put = {.worker = kz_me->place.worker, .status = op->lent.status, .number = op->lent.number, .offset = op->served, .flag = op->served_bytes != NULL};
-    if (kazdrin_answer(&kz.manager, &put, op->served_bytes ? op->served_bytes : (const uint8_t *)"", op->served_length) != KZS_OK)
+    op->served.is_there = false;
+    KazdrinEvent put = {.worker = kz_worker(), .status = op->lent.status, .number = op->lent.number, .offset = op->served.number, .flag = op->served.bytes != NULL};
+    if (kazdrin_answer(&kz.manager, &put, op->served.bytes ? op->served.bytes : (const uint8_t *)"", op->served.length) != KZS_OK)
         kz_tell(KZM_LONG_ANSWER, "FLT_PREOP_COMPLETE", "an answer past a limit: it doesn't count");
-    kazdrin_lent(&kz.manager, &(KazdrinEvent){.flag = 1, .worker = kz_me->place.worker}, &op->lent, kz_me->room, sizeof kz_me->room);
+    kazdrin_lent(&kz.manager, &(KazdrinEvent){.flag = 1, .worker = kz_worker()}, &op->lent, kz_me->room, sizeof kz_me->room);
 }
 
 void kz_show_pre(KzOp *op, PFLT_INSTANCE instance)
@@ -249,7 +249,7 @@ void kz_show_pre(KzOp *op, PFLT_INSTANCE instance)
     if (has_buffer(op))
         visit(op, instance);
     show(op, instance);
-    op->data->IoStatus = op->status_shown = (IO_STATUS_BLOCK){.Status = STATUS_SUCCESS};
+    op->data->IoStatus = op->shown.status = (IO_STATUS_BLOCK){.Status = STATUS_SUCCESS};
 }
 
 /* ---- What a preoperation left. */
@@ -269,7 +269,7 @@ static void note_swap(KzOp *op, bool has_post)
     PMDL *mdl, *mdl_shown;
     ULONG *length, *length_shown;
     PVOID *buffer = buffer_in(op, &op->iopb->Parameters, &mdl, &length);
-    PVOID *buffer_shown = buffer_in(op, &op->shown.Parameters, &mdl_shown, &length_shown);
+    PVOID *buffer_shown = buffer_in(op, &op->shown.parameters.Parameters, &mdl_shown, &length_shown);
     if (op->event != KZE_QUERY_SIZE && *mdl && *mdl != visited->received_mdl) {
         kz_keep_mdl(op, *mdl);
         visited->swapped = MmGetMdlVirtualAddress(*mdl);
@@ -294,7 +294,7 @@ static const uint8_t *written(KzOp *op)
 static bool changed(KzOp *op, KazdrinEvent *event, const uint8_t **bytes, size_t *length)
 {
     const FLT_PARAMETERS *now = &op->iopb->Parameters;
-    *event = (KazdrinEvent){.event = op->event, .worker = kz_me->place.worker};
+    *event = (KazdrinEvent){.event = op->event, .worker = kz_worker()};
     switch (op->event) {
     case KZE_CREATE: {
         ULONG disposition = now->Create.Options >> 24;
@@ -325,36 +325,36 @@ static bool changed(KzOp *op, KazdrinEvent *event, const uint8_t **bytes, size_t
 
 static bool is_in_place(KzOp *op)
 {
-    return op->asked && memcmp(op->asked, op->pristine, op->asked_length) != 0;
+    return op->shown.asked && memcmp(op->shown.asked, op->shown.pristine, op->shown.asked_length) != 0;
 }
 
 /* Whether the parameters differ from those that the callback was shown, or from those that it left. */
 bool kz_is_touched(KzOp *op)
 {
-    return memcmp(op->iopb, &op->shown, sizeof *op->iopb) != 0 || is_in_place(op);
+    return memcmp(op->iopb, &op->shown.parameters, sizeof *op->iopb) != 0 || is_in_place(op);
 }
 
 /* The target may be another instance of the filter, or another file: the manager sends it nowhere else. */
 static void check_target(KzOp *op, bool is_dirty)
 {
-    bool is_same = op->iopb->TargetInstance == op->shown.TargetInstance && op->iopb->TargetFileObject == op->shown.TargetFileObject;
+    bool is_same = op->iopb->TargetInstance == op->shown.parameters.TargetInstance && op->iopb->TargetFileObject == op->shown.parameters.TargetFileObject;
     if (is_same)
         return;
     if (!kz_is_instance(op->iopb->TargetInstance) || !kz_file_with(op->iopb->TargetFileObject))
         kz_tell(KZM_NO_TARGET, "FLT_IO_PARAMETER_BLOCK", "TargetInstance or TargetFileObject was changed to what is none");
     else if (is_dirty)
         kz_tell(KZM_REDIRECTED, "FLT_IO_PARAMETER_BLOCK", "an operation goes to no other instance or file: TargetInstance and TargetFileObject stay");
-    op->iopb->TargetInstance = op->shown.TargetInstance;
-    op->iopb->TargetFileObject = op->shown.TargetFileObject;
+    op->iopb->TargetInstance = op->shown.parameters.TargetInstance;
+    op->iopb->TargetFileObject = op->shown.parameters.TargetFileObject;
 }
 
 /* Bytes that were changed in the caller's own buffer are written, as in the kit. */
 static void take_in_place(KzOp *op)
 {
     kz_tell(KZM_WRITE_IN_PLACE, "FLT_IO_PARAMETER_BLOCK", "the bytes of WriteBuffer were changed in place: that is the caller's own memory");
-    KazdrinEvent event = {.event = KZE_WRITE, .worker = kz_me->place.worker, .offset = op->lent.offset};
-    kazdrin_change(&kz.manager, &event, op->asked, op->asked_length);
-    memcpy(op->pristine, op->asked, op->asked_length);
+    KazdrinEvent event = {.event = KZE_WRITE, .worker = kz_worker(), .offset = op->lent.offset};
+    kazdrin_change(&kz.manager, &event, op->shown.asked, op->shown.asked_length);
+    memcpy(op->shown.pristine, op->shown.asked, op->shown.asked_length);
 }
 
 void kz_take_pre(KzOp *op, bool has_post, bool is_completed)
@@ -364,23 +364,23 @@ void kz_take_pre(KzOp *op, bool has_post, bool is_completed)
     KazdrinEvent event;
     bool is_dirty = op->data->Flags & FLTFL_CALLBACK_DATA_DIRTY;
     check_target(op, is_dirty);
-    if (!is_completed && (op->data->IoStatus.Status != op->status_shown.Status || op->data->IoStatus.Information != op->status_shown.Information))
+    if (!is_completed && (op->data->IoStatus.Status != op->shown.status.Status || op->data->IoStatus.Information != op->shown.status.Information))
         kz_tell(KZM_STATUS_NOT_COMPLETED, "FLT_CALLBACK_DATA", "IoStatus was set by a preoperation that doesn't complete: it doesn't count");
     if (op->event == KZE_WRITE && is_in_place(op) && !is_completed)
         take_in_place(op);
     if (!is_dirty) {
         if (kz_is_touched(op) && !is_completed)
             kz_tell(KZM_NOT_DIRTY, "FltSetCallbackDataDirty", "never called, though parameters were changed: they don't count");
-        *op->iopb = op->shown;
+        *op->iopb = op->shown.parameters;
         return;
     }
     if (has_buffer(op))
         note_swap(op, has_post);
     if (!changed(op, &event, &bytes, &length) || kazdrin_change(&kz.manager, &event, bytes, length) != KZS_OK)
         kz_tell(KZM_OTHER_PARAMETERS, "FltSetCallbackDataDirty", "parameters of another operation, or past a limit of the manager: they don't count");
-    op->shown = *op->iopb;
-    if (op->asked)
-        memcpy(op->pristine, op->asked, op->asked_length);
+    op->shown.parameters = *op->iopb;
+    if (op->shown.asked)
+        memcpy(op->shown.pristine, op->shown.asked, op->shown.asked_length);
 }
 
 /* ---- The answer. A listing is the kit's chain of names, and the manager's names, each before a line's end. */
@@ -449,7 +449,7 @@ static void show_answer(KzOp *op)
         op->data->IoStatus.Information = op->lent.status ? 0 : op->lent.mode == 1 ? FILE_CREATED : FILE_OPENED;
         break;
     case KZE_READ:
-        memcpy(below, op->answered, least(op->answered_length, room));
+        memcpy(below, op->shown.answered, least(op->shown.answered_length, room));
         break;
     case KZE_QUERY_SIZE:
         op->data->IoStatus.Information = 0;
@@ -459,11 +459,11 @@ static void show_answer(KzOp *op)
         }
         break;
     case KZE_LIST: {
-        size_t size = show_names(op->answered, op->answered_length, below, room);
+        size_t size = show_names(op->shown.answered, op->shown.answered_length, below, room);
         op->data->IoStatus.Information = size;
         /* Names that have no room in the buffer aren't shown, and aren't lost: what the callback saw is what its answer is compared with. */
-        op->answered_length = names_in(below, size, op->answered, op->answered_length);
-        op->lent.information = op->answered_length;
+        op->shown.answered_length = names_in(below, size, op->shown.answered, op->shown.answered_length);
+        op->lent.information = op->shown.answered_length;
         break;
     }
     }
@@ -476,15 +476,15 @@ void kz_show_post(KzOp *op, PFLT_INSTANCE instance)
     if (has_buffer(op) && !op->visits)
         visit(op, instance);
     show(op, instance);
-    kazdrin_lent(&kz.manager, &(KazdrinEvent){.flag = 1, .worker = kz_me->place.worker}, &op->lent, kz_me->room, sizeof kz_me->room);
+    kazdrin_lent(&kz.manager, &(KazdrinEvent){.flag = 1, .worker = kz_worker()}, &op->lent, kz_me->room, sizeof kz_me->room);
     put_served(op);
-    op->answered = copied(op, kz_me->room, op->lent.length);
-    op->answered_length = op->lent.length;
+    op->shown.answered = copied(op, kz_me->room, op->lent.length);
+    op->shown.answered_length = op->lent.length;
     op->data->Flags |= FLTFL_CALLBACK_DATA_POST_OPERATION;
     op->data->IoStatus.Status = op->other ? op->other : kz_ntstatus(op->lent.status);
     show_answer(op);
-    op->status_shown = op->data->IoStatus;
-    op->shown = *op->iopb;
+    op->shown.status = op->data->IoStatus;
+    op->shown.parameters = *op->iopb;
 }
 
 /* The answer that a callback left in the buffer that it received: its number for the manager, and where its bytes are. */
@@ -492,7 +492,7 @@ static const uint8_t *answer_in(KzOp *op, uint64_t said, uint64_t *information, 
 {
     PMDL *mdl;
     ULONG *asked;
-    PVOID *buffer = has_buffer(op) ? buffer_in(op, &op->shown.Parameters, &mdl, &asked) : NULL;
+    PVOID *buffer = has_buffer(op) ? buffer_in(op, &op->shown.parameters.Parameters, &mdl, &asked) : NULL;
     size_t room = op->visits ? op->visits->room : 0;
     *length = 0;
     switch (op->event) {
@@ -515,7 +515,7 @@ static const uint8_t *answer_in(KzOp *op, uint64_t said, uint64_t *information, 
 
 static size_t most_of(KzOp *op)
 {
-    return has_buffer(op) ? op->visits->room : op->event == KZE_WRITE ? op->shown.Parameters.Write.Length : SIZE_MAX;
+    return has_buffer(op) ? op->visits->room : op->event == KZE_WRITE ? op->shown.parameters.Parameters.Write.Length : SIZE_MAX;
 }
 
 static void check_length(KzOp *op, const char *call)
@@ -533,16 +533,16 @@ void kz_serve(KzOp *op)
     check_length(op, "FLT_PREOP_COMPLETE");
     if (!NT_SUCCESS(op->data->IoStatus.Status) || op->event == KZE_CREATE || op->event == KZE_CLEANUP || op->event == KZE_CLOSE)
         return;
-    const uint8_t *bytes = answer_in(op, least(said, most_of(op)), &op->served, &op->served_length);
-    op->served_bytes = bytes ? copied(op, bytes, op->served_length) : NULL;
-    op->is_served = said != 0;
+    const uint8_t *bytes = answer_in(op, least(said, most_of(op)), &op->served.number, &op->served.length);
+    op->served.bytes = bytes ? copied(op, bytes, op->served.length) : NULL;
+    op->served.is_there = said != 0;
 }
 
 static bool is_same(KzOp *op, uint64_t information, const uint8_t *bytes, size_t length)
 {
-    if (op->data->IoStatus.Status != op->status_shown.Status || information != op->lent.information)
+    if (op->data->IoStatus.Status != op->shown.status.Status || information != op->lent.information)
         return false;
-    return !bytes || (length == op->answered_length && memcmp(bytes, op->answered, length) == 0);
+    return !bytes || (length == op->shown.answered_length && memcmp(bytes, op->shown.answered, length) == 0);
 }
 
 /* The number of a status, and the kit's own where that stands for another. */
@@ -561,7 +561,7 @@ void kz_take_post(KzOp *op)
     check_target(op, op->data->Flags & FLTFL_CALLBACK_DATA_DIRTY);
     check_length(op, "FLT_CALLBACK_DATA");
     const uint8_t *bytes = answer_in(op, said, &information, &length);
-    if (!has_buffer(op) && said == op->status_shown.Information)
+    if (!has_buffer(op) && said == op->shown.status.Information)
         information = op->lent.information;
     if (op->event == KZE_QUERY_SIZE && !NT_SUCCESS(op->data->IoStatus.Status))
         information = op->lent.information;
@@ -577,8 +577,8 @@ void kz_take_post(KzOp *op)
         kz_tell(KZM_CREATE_ANSWER, "FLT_CALLBACK_DATA", "IoStatus of a create, a cleanup or a close, changed in a postoperation: it doesn't count");
         return;
     }
-    uint32_t status = op->data->IoStatus.Status == op->status_shown.Status ? op->lent.status : status_of(op, op->data->IoStatus.Status);
-    KazdrinEvent put = {.worker = kz_me->place.worker, .status = (uint8_t)status, .number = op->lent.number, .offset = information, .flag = bytes != NULL};
+    uint32_t status = op->data->IoStatus.Status == op->shown.status.Status ? op->lent.status : status_of(op, op->data->IoStatus.Status);
+    KazdrinEvent put = {.worker = kz_worker(), .status = (uint8_t)status, .number = op->lent.number, .offset = information, .flag = bytes != NULL};
     if (kazdrin_answer(&kz.manager, &put, bytes ? bytes : (const uint8_t *)"", length) != KZS_OK)
         kz_tell(KZM_LONG_ANSWER, "FLT_CALLBACK_DATA", "an answer past a limit of the manager: it doesn't count");
 }

@@ -134,7 +134,7 @@ static bool is_skipped(const FLT_OPERATION_REGISTRATION *one)
     return is_data && one->Flags & (FLTFL_OPERATION_REGISTRATION_SKIP_CACHED_IO | FLTFL_OPERATION_REGISTRATION_SKIP_NON_DASD_IO);
 }
 
-static uint32_t register_with_manager(PFLT_FILTER filter, uint8_t contexts)
+static KzTold register_with_manager(PFLT_FILTER filter, uint8_t contexts)
 {
     char name[40];
     KazdrinEvent event = {.event = KZE_REGISTER, .contexts = contexts};
@@ -150,7 +150,7 @@ static uint32_t register_with_manager(PFLT_FILTER filter, uint8_t contexts)
     event.query = 1; /* the host asks it for work items too, and the filter's callback itself */
     event.unload = filter->registration.FilterUnloadCallback != NULL;
     name_of(filter, name);
-    return kz_event_with(event, name, strlen(name));
+    return kz_event_with(kz_worker(), event, name, strlen(name));
 }
 
 NTSTATUS FltRegisterFilter(PDRIVER_OBJECT Driver, CONST FLT_REGISTRATION *Registration, PFLT_FILTER *RetFilter)
@@ -168,10 +168,10 @@ NTSTATUS FltRegisterFilter(PDRIVER_OBJECT Driver, CONST FLT_REGISTRATION *Regist
     if (!NT_SUCCESS(checked))
         return checked;
     tell_unmodelled(&filter->registration);
-    uint32_t status = register_with_manager(filter, contexts);
-    if (status != KZS_OK)
-        return kz_ntstatus(status);
-    filter->id = kz_me->told.filter;
+    KzTold answer = register_with_manager(filter, contexts);
+    if (answer.status != KZS_OK)
+        return kz_ntstatus(answer.status);
+    filter->id = answer.told.filter;
     filter->is_registered = true;
     kz.filters[kz.filters_count++] = filter;
     *RetFilter = filter;
@@ -254,7 +254,7 @@ static uint32_t end(PFLT_FILTER filter)
 static void force(PFLT_FILTER filter)
 {
     filter->is_mandatory = true;
-    kz_event((KazdrinEvent){.event = KZE_FORCE_UNLOAD, .filter = filter->id});
+    kz_event(kz_worker(), (KazdrinEvent){.event = KZE_FORCE_UNLOAD, .filter = filter->id});
 }
 
 /* Inside the unload callback it ends that in the manager, and tears down what is left; in DriverEntry, and in a mandatory unload, it takes the registration back. */
@@ -270,7 +270,7 @@ VOID FltUnregisterFilter(PFLT_FILTER Filter)
     if (place.callback == KZ_IN_ENTRY || Filter->is_mandatory)
         force(Filter);
     else
-        kz_event((KazdrinEvent){.event = KZE_UNLOAD_RETURNED, .flag = 1});
+        kz_event(kz_worker(), (KazdrinEvent){.event = KZE_UNLOAD_RETURNED, .flag = 1});
     Filter->end = end(Filter);
     kz_me->place = place;
     if (Filter->end == KZS_BUSY)
@@ -282,7 +282,7 @@ VOID FltUnregisterFilter(PFLT_FILTER Filter)
 /* Calls the unload callback. */
 static void call_unload(PFLT_FILTER filter, FLT_FILTER_UNLOAD_FLAGS flags)
 {
-    KzPlace before = kz_enter(KZ_IN_UNLOAD, filter, NULL, NULL, NULL);
+    KzPlace before = kz_enter(KZ_IN_UNLOAD, kz_worker(), filter, NULL, NULL, NULL);
     unsigned depth = kz_let_driver("unload");
     NTSTATUS said = filter->registration.FilterUnloadCallback(flags);
     kz_driver_returned(depth, "unload returns");
@@ -306,7 +306,7 @@ static void tell_left(PFLT_FILTER filter)
 
 static uint32_t ask(PFLT_FILTER filter)
 {
-    uint32_t status = kz_event((KazdrinEvent){.event = KZE_ASK_UNLOAD, .filter = filter->id});
+    uint32_t status = kz_event(kz_worker(), (KazdrinEvent){.event = KZE_ASK_UNLOAD, .filter = filter->id}).status;
     if (status != KZS_OK)
         return status;
     call_unload(filter, 0);
@@ -314,7 +314,7 @@ static uint32_t ask(PFLT_FILTER filter)
         tell_left(filter);
     if (!is_loaded(filter))
         return filter->end;
-    return kz_event((KazdrinEvent){.event = KZE_UNLOAD_RETURNED, .flag = 0});
+    return kz_event(kz_worker(), (KazdrinEvent){.event = KZE_UNLOAD_RETURNED, .flag = 0}).status;
 }
 
 uint32_t kz_unload(PFLT_FILTER filter)
@@ -362,7 +362,7 @@ static void name_driver(PFLT_FILTER filter)
 
 static uint32_t enter(PFLT_FILTER filter, NTSTATUS *other)
 {
-    KzPlace before = kz_enter(KZ_IN_ENTRY, filter, NULL, NULL, NULL);
+    KzPlace before = kz_enter(KZ_IN_ENTRY, kz_worker(), filter, NULL, NULL, NULL);
     name_driver(filter);
     unsigned depth = kz_let_driver("DriverEntry");
     NTSTATUS said = filter->driver->entry(&filter->object, &filter->registry_path);

@@ -7,19 +7,36 @@
 KzHost kz;
 int kz_is_quiet;
 
-uint32_t kz_event_with(KazdrinEvent event, const void *bytes, size_t length)
+uint8_t kz_worker(void)
 {
-    if (!event.worker)
-        event.worker = kz_me->place.worker;
-    uint32_t status = kazdrin_step(&kz.manager, &event, bytes, length, &kz_me->told, kz_me->room, sizeof kz_me->room);
-    if (status == KZS_BUSY)
-        kz_note_busy(&event, kz_me->told.number);
-    return status;
+    return kz_me->place.worker;
 }
 
-uint32_t kz_event(KazdrinEvent event)
+static KzTold ask(uint8_t worker, KazdrinEvent event, const void *bytes, size_t length, uint8_t *room, size_t size)
 {
-    return kz_event_with(event, "", 0);
+    KzTold answer = {0};
+    event.worker = worker;
+    answer.status = kazdrin_step(&kz.manager, &event, bytes, length, &answer.told, room, size);
+    if (answer.status == KZS_BUSY)
+        kz_note_busy(&event, answer.told.number);
+    return answer;
+}
+
+KzTold kz_event(uint8_t worker, KazdrinEvent event)
+{
+    uint8_t none;
+    return ask(worker, event, "", 0, &none, 0);
+}
+
+KzTold kz_event_with(uint8_t worker, KazdrinEvent event, const void *bytes, size_t length)
+{
+    uint8_t none;
+    return ask(worker, event, bytes, length, &none, 0);
+}
+
+KzTold kz_event_into(uint8_t worker, KazdrinEvent event, uint8_t *room, size_t size)
+{
+    return ask(worker, event, "", 0, room, size);
 }
 
 typedef struct {
@@ -45,10 +62,10 @@ uint32_t kz_until_free(const char *name, KazdrinEvent event, PFLT_INSTANCE insta
 {
     kz_pause(name);
     Busy busy = {instance, kz.changes};
-    uint32_t status = kz_event(event);
+    uint32_t status = kz_event(kz_worker(), event).status;
     while (status == KZS_BUSY && kz_has_others() && wait_until_free(&busy)) {
         busy.changes = kz.changes;
-        status = kz_event(event);
+        status = kz_event(kz_worker(), event).status;
     }
     return status;
 }

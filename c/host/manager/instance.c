@@ -5,11 +5,11 @@
 
 uint32_t kz_mount(const char *name, uint64_t *number)
 {
-    uint32_t status = kz_event_with((KazdrinEvent){.event = KZE_MOUNT}, name, strlen(name));
-    if (status != KZS_OK)
-        return status;
+    KzTold answer = kz_event_with(kz_worker(), (KazdrinEvent){.event = KZE_MOUNT}, name, strlen(name));
+    if (answer.status != KZS_OK)
+        return answer.status;
     PFLT_VOLUME volume = kz_memory(sizeof *volume);
-    volume->id = kz_me->told.volume;
+    volume->id = answer.told.volume;
     snprintf(volume->name, sizeof volume->name, "%s", name);
     kz_new_volume(volume);
     kz.volumes[kz.volumes_count++] = volume;
@@ -29,7 +29,7 @@ uint64_t kz_phase(PFLT_INSTANCE instance)
 static bool set_up(PFLT_INSTANCE instance, FLT_INSTANCE_SETUP_FLAGS flags)
 {
     PFLT_INSTANCE_SETUP_CALLBACK callback = instance->filter->registration.InstanceSetupCallback;
-    KzPlace before = kz_enter(KZ_IN_SETUP, instance->filter, instance, NULL, NULL);
+    KzPlace before = kz_enter(KZ_IN_SETUP, kz_worker(), instance->filter, instance, NULL, NULL);
     FLT_RELATED_OBJECTS objects = kz_objects(instance, NULL);
     unsigned depth = kz_let_driver("setup");
     NTSTATUS said = callback ? callback(&objects, flags, instance->volume->device.DeviceType, instance->volume->type) : STATUS_SUCCESS;
@@ -42,10 +42,10 @@ static bool set_up(PFLT_INSTANCE instance, FLT_INSTANCE_SETUP_FLAGS flags)
 
 static uint32_t finish(PFLT_INSTANCE instance);
 
-static PFLT_INSTANCE new_instance(PFLT_FILTER filter, PFLT_VOLUME volume, const char *name, const char *altitude)
+static PFLT_INSTANCE new_instance(uint16_t id, PFLT_FILTER filter, PFLT_VOLUME volume, const char *name, const char *altitude)
 {
     PFLT_INSTANCE made = kz_memory(sizeof *made);
-    *made = (struct _FLT_INSTANCE){.id = kz_me->told.instance, .filter = filter, .volume = volume};
+    *made = (struct _FLT_INSTANCE){.id = id, .filter = filter, .volume = volume};
     snprintf(made->name, sizeof made->name, "%s", name);
     snprintf(made->altitude, sizeof made->altitude, "%s", altitude);
     size_t size = (kz.instances_count + 1) * sizeof *kz.instances;
@@ -67,15 +67,16 @@ bool kz_is_instance(PFLT_INSTANCE instance)
 
 uint32_t kz_attach(PFLT_FILTER filter, PFLT_VOLUME volume, const char *name, const char *altitude, FLT_INSTANCE_SETUP_FLAGS flags, uint64_t *number)
 {
-    KazdrinEvent event = {.filter = filter->id, .volume = volume->id, .worker = kz_me->place.worker};
-    uint32_t status = kazdrin_attach(&kz.manager, &event, (const uint8_t *)name, strlen(name), (const uint8_t *)altitude, strlen(altitude), &kz_me->told, kz_me->room,
-                                     sizeof kz_me->room);
+    KazdrinEvent event = {.filter = filter->id, .volume = volume->id, .worker = kz_worker()};
+    KazdrinTold told = {0};
+    uint8_t none;
+    uint32_t status = kazdrin_attach(&kz.manager, &event, (const uint8_t *)name, strlen(name), (const uint8_t *)altitude, strlen(altitude), &told, &none, 0);
     if (status != KZS_OK)
         return status;
-    PFLT_INSTANCE instance = new_instance(filter, volume, name, altitude);
+    PFLT_INSTANCE instance = new_instance(told.instance, filter, volume, name, altitude);
     *number = instance->id;
     bool is_accepted = set_up(instance, flags);
-    status = kz_event((KazdrinEvent){.event = KZE_SETUP_DONE, .flag = is_accepted});
+    status = kz_event(kz_worker(), (KazdrinEvent){.event = KZE_SETUP_DONE, .flag = is_accepted}).status;
     kz_settle();
     if (status != KZS_OK)
         finish(instance);
@@ -100,7 +101,7 @@ void kz_attach_by_itself(PFLT_FILTER filter, PFLT_VOLUME volume, FLT_INSTANCE_SE
  * in any callback of the instance, and it is refused behind that. */
 bool kz_enter_query(PFLT_INSTANCE instance, uint8_t worker)
 {
-    if (instance->is_asked || kz_event((KazdrinEvent){.event = KZE_ASK_DETACH, .instance = instance->id, .worker = worker}) != KZS_OK)
+    if (instance->is_asked || kz_event(worker, (KazdrinEvent){.event = KZE_ASK_DETACH, .instance = instance->id}).status != KZS_OK)
         return false;
     return instance->is_asked = true;
 }
@@ -108,7 +109,7 @@ bool kz_enter_query(PFLT_INSTANCE instance, uint8_t worker)
 void kz_leave_query(PFLT_INSTANCE instance, uint8_t worker)
 {
     instance->is_asked = false;
-    kz_event((KazdrinEvent){.event = KZE_QUERY_RETURNED, .worker = worker, .flag = 0});
+    kz_event(worker, (KazdrinEvent){.event = KZE_QUERY_RETURNED, .flag = 0});
     kz_clean_up();
 }
 
@@ -123,11 +124,11 @@ static uint32_t ask(PFLT_INSTANCE instance)
     kz_wait(kz_is_not_asked, instance, KZ_NO_TEARDOWN_BESIDE "%u", instance->id);
     if (!instance->filter->registration.InstanceQueryTeardownCallback)
         return kz_phase(instance) == KZP_INSTANCE_ATTACHED ? KZS_DO_NOT_DETACH : KZS_NO_INSTANCE;
-    uint32_t status = kz_event((KazdrinEvent){.event = KZE_ASK_DETACH, .instance = instance->id});
+    uint32_t status = kz_event(kz_worker(), (KazdrinEvent){.event = KZE_ASK_DETACH, .instance = instance->id}).status;
     if (status != KZS_OK)
         return status;
     instance->is_asked = true;
-    KzPlace before = kz_enter(KZ_IN_QUERY, instance->filter, instance, NULL, NULL);
+    KzPlace before = kz_enter(KZ_IN_QUERY, kz_worker(), instance->filter, instance, NULL, NULL);
     FLT_RELATED_OBJECTS objects = kz_objects(instance, NULL);
     unsigned depth = kz_let_driver("query");
     NTSTATUS said = instance->filter->registration.InstanceQueryTeardownCallback(&objects, 0);
@@ -135,7 +136,7 @@ static uint32_t ask(PFLT_INSTANCE instance)
     kz_keep_rest(NULL);
     kz_leave(before);
     instance->is_asked = false;
-    status = kz_event((KazdrinEvent){.event = KZE_QUERY_RETURNED, .flag = NT_SUCCESS(said)});
+    status = kz_event(kz_worker(), (KazdrinEvent){.event = KZE_QUERY_RETURNED, .flag = NT_SUCCESS(said)}).status;
     kz.changes++;
     kz_settle();
     return status;
@@ -144,7 +145,7 @@ static uint32_t ask(PFLT_INSTANCE instance)
 /* ---- Teardown. */
 static void tell_teardown(PFLT_INSTANCE instance, KzCallback place, PFLT_INSTANCE_TEARDOWN_CALLBACK callback, FLT_INSTANCE_TEARDOWN_FLAGS reason)
 {
-    KzPlace before = kz_enter(place, instance->filter, instance, NULL, NULL);
+    KzPlace before = kz_enter(place, kz_worker(), instance->filter, instance, NULL, NULL);
     FLT_RELATED_OBJECTS objects = kz_objects(instance, NULL);
     if (callback) {
         unsigned depth = kz_let_driver(place == KZ_IN_START ? "teardown start" : "teardown complete");
@@ -158,10 +159,10 @@ static void tell_teardown(PFLT_INSTANCE instance, KzCallback place, PFLT_INSTANC
 /* Work items that are queued run before the callback returns in the manager, so that they may complete what the instance holds. */
 static void start(PFLT_INSTANCE instance, FLT_INSTANCE_TEARDOWN_FLAGS reason)
 {
-    if (kz_phase(instance) != KZP_INSTANCE_STOPPING || kz_event((KazdrinEvent){.event = KZE_START_TEARDOWN, .instance = instance->id}) != KZS_OK)
+    if (kz_phase(instance) != KZP_INSTANCE_STOPPING || kz_event(kz_worker(), (KazdrinEvent){.event = KZE_START_TEARDOWN, .instance = instance->id}).status != KZS_OK)
         return;
     tell_teardown(instance, KZ_IN_START, instance->filter->registration.InstanceTeardownStartCallback, reason);
-    kz_event((KazdrinEvent){.event = KZE_START_RETURNED});
+    kz_event(kz_worker(), (KazdrinEvent){.event = KZE_START_RETURNED});
     while (kz_drain_next(instance))
         ;
     kz_settle();
@@ -177,7 +178,7 @@ static uint32_t stop(PFLT_INSTANCE instance, FLT_INSTANCE_TEARDOWN_FLAGS reason)
             return status;
         kz_scheduler->touch(&instance->in_flight, 0, KZT_TAKES);
         tell_teardown(instance, KZ_IN_COMPLETE, instance->filter->registration.InstanceTeardownCompleteCallback, reason);
-        kz_event((KazdrinEvent){.event = KZE_COMPLETE_RETURNED});
+        kz_event(kz_worker(), (KazdrinEvent){.event = KZE_COMPLETE_RETURNED});
         kz_settle();
     }
     return KZS_OK;
@@ -221,10 +222,10 @@ uint32_t kz_detach(PFLT_INSTANCE instance)
     return status == KZS_OK ? kz_tear_down(instance, FLTFL_INSTANCE_TEARDOWN_MANUAL) : status;
 }
 
-/* ---- Dismount, in the order of fm_worker's dismount_by: the instances are stopped, the handles are dropped, and then the instances end. */
+/* ---- Dismount, in the order of fm_worker's dismount: the instances are stopped, the handles are dropped, and then the instances end. */
 static uint32_t start_dismount(PFLT_VOLUME volume)
 {
-    uint32_t status = kz_event((KazdrinEvent){.event = KZE_START_DISMOUNT, .volume = volume->id});
+    uint32_t status = kz_event(kz_worker(), (KazdrinEvent){.event = KZE_START_DISMOUNT, .volume = volume->id}).status;
     if (status != KZS_OK)
         return status;
     volume->is_dismounting = true;
@@ -233,8 +234,12 @@ static uint32_t start_dismount(PFLT_VOLUME volume)
 
 static void drop_handles(PFLT_VOLUME volume)
 {
-    while (kz_event((KazdrinEvent){.event = KZE_DROP_HANDLE, .volume = volume->id}) == KZS_OK && kz_me->told.has)
-        kz_drop_file(kz_me->told.handle);
+    for (;;) {
+        KzTold dropped = kz_event(kz_worker(), (KazdrinEvent){.event = KZE_DROP_HANDLE, .volume = volume->id});
+        if (dropped.status != KZS_OK || !dropped.told.has)
+            return;
+        kz_drop_file(dropped.told.handle);
+    }
 }
 
 /* Each instance on the volume goes a step: the status that stops one, or 0. */

@@ -65,8 +65,8 @@ static KzOp *new_op(uint64_t id, KazdrinEvent asked, KzFile *file, PFLT_VOLUME v
 /* Not before the last callback that looks at it has returned: a drain comes before the operation's turn. */
 static void free_op(KzOp *op)
 {
-    op->is_over = true;
-    kz_scheduler->touch(&op->is_over, 0, op->users ? KZT_GIVES : KZT_TAKES);
+    op->stage = KZ_OVER;
+    kz_scheduler->touch(&op->stage, 0, op->users ? KZT_GIVES : KZT_TAKES);
     if (op->users)
         return;
     for (KzOp **at = &kz.ops; *at; at = &(*at)->next)
@@ -119,7 +119,7 @@ static void complete(KzOp *op, KazdrinEvent *verdict)
 
 KazdrinEvent kz_verdict_of(KzOp *op, PFLT_INSTANCE instance, FLT_PREOP_CALLBACK_STATUS said, PVOID completion)
 {
-    KazdrinEvent verdict = {.mode = KZV_NO_CALLBACK, .operation = op->id, .worker = kz_me->place.worker};
+    KazdrinEvent verdict = {.mode = KZV_NO_CALLBACK, .operation = op->id, .worker = kz_worker()};
     switch (said) {
     case FLT_PREOP_SUCCESS_WITH_CALLBACK:
     case FLT_PREOP_SYNCHRONIZE:
@@ -150,17 +150,17 @@ static FLT_PREOP_CALLBACK_STATUS ask_pre(KzOp *op, PFLT_INSTANCE instance, PVOID
     if (!callback)
         return FLT_PREOP_SUCCESS_WITH_CALLBACK;
     FLT_RELATED_OBJECTS objects = kz_objects(instance, op->file);
-    op->is_in_pre = true;
-    op->is_early = false;
+    op->stage = KZ_IN_PREOPERATION;
     unsigned depth = kz_let_driver("preoperation");
     FLT_PREOP_CALLBACK_STATUS said = callback(op->data, &objects, completion);
     kz_driver_returned(depth, "preoperation returns");
-    op->is_in_pre = false;
-    if (op->is_early && said == FLT_PREOP_PENDING) {
+    bool is_completed = op->stage == KZ_COMPLETED_IN_PRE;
+    op->stage = KZ_GOES_ON;
+    if (is_completed && said == FLT_PREOP_PENDING) {
         said = op->early;
         *completion = op->early_context;
         kz_scheduler->touch(op, 0, KZT_TAKES);
-    } else if (op->is_early) {
+    } else if (is_completed) {
         kz_tell(KZM_COMPLETED_NOT_PENDED, "FltCompletePendedPreOperation", "called for an operation that the preoperation doesn't pend");
     }
     kz_take_pre(op, asks_for_post(said) || said == FLT_PREOP_PENDING, said == FLT_PREOP_COMPLETE || said == FLT_PREOP_PENDING);
@@ -198,7 +198,7 @@ static void pre(KzOp *op, PFLT_INSTANCE instance)
 {
     PVOID completion = NULL;
     enter_flight(op, instance);
-    KzPlace before = kz_enter(KZ_IN_PRE, instance->filter, instance, op, op->data);
+    KzPlace before = kz_enter(KZ_IN_PRE, kz_worker(), instance->filter, instance, op, op->data);
     kz_show_pre(op, instance);
     FLT_PREOP_CALLBACK_STATUS said = ask_pre(op, instance, &completion);
     KazdrinEvent verdict = kz_verdict_of(op, instance, said, completion);
@@ -206,7 +206,7 @@ static void pre(KzOp *op, PFLT_INSTANCE instance)
     kz_keep_rest(&verdict);
     kz_leave(before);
     if (kazdrin_pre_returned(&kz.manager, &verdict) == KZS_OK && said == FLT_PREOP_PENDING) {
-        op->held = KZ_HELD_PRE;
+        op->stage = KZ_HELD_BY_PRE;
         op->holder = instance;
     }
     if (!kz_owes(op, instance, &verdict))
@@ -217,32 +217,32 @@ static void pre(KzOp *op, PFLT_INSTANCE instance)
 /* ---- A postoperation, and a drain in its place. */
 static void post(KzOp *op, PFLT_INSTANCE instance, PVOID completion)
 {
-    KzPlace before = kz_enter(KZ_IN_POST, instance->filter, instance, op, op->data);
+    KzPlace before = kz_enter(KZ_IN_POST, kz_worker(), instance->filter, instance, op, op->data);
     kz_show_post(op, instance);
     if (op->event == KZE_CREATE && NT_SUCCESS(op->data->IoStatus.Status))
         kz_file_opened(op->file);
     FLT_RELATED_OBJECTS objects = kz_objects(instance, op->file);
     PFLT_POST_OPERATION_CALLBACK callback = kz_registered(instance->filter, kz_major(op->event))->PostOperation;
-    op->is_in_post = true;
-    op->is_early = false;
+    op->stage = KZ_IN_POSTOPERATION;
     unsigned depth = kz_let_driver("postoperation");
     FLT_POSTOP_CALLBACK_STATUS said = callback(op->data, &objects, completion, 0);
     kz_driver_returned(depth, "postoperation returns");
-    op->is_in_post = false;
+    bool is_completed = op->stage == KZ_COMPLETED_IN_POST;
+    op->stage = KZ_GOES_ON;
     kz_take_post(op);
     kz_keep_rest(NULL);
     bool is_more = said == FLT_POSTOP_MORE_PROCESSING_REQUIRED;
-    if (is_more && op->is_early)
+    if (is_more && is_completed)
         is_more = false, said = FLT_POSTOP_FINISHED_PROCESSING;
-    else if (op->is_early)
+    else if (is_completed)
         kz_tell(KZM_COMPLETED_TWICE, "FltCompletePendedPostOperation", "called for an operation that the postoperation doesn't hold");
     if (!is_more && said != FLT_POSTOP_FINISHED_PROCESSING)
         kz_tell(KZM_NO_VERDICT, "PFLT_POST_OPERATION_CALLBACK", "%d is no verdict: it counts as FLT_POSTOP_FINISHED_PROCESSING", (int)said);
     kz_leave(before);
-    op->status_shown = op->data->IoStatus;
-    KazdrinEvent verdict = {.mode = is_more ? KZV_MORE_PROCESSING : KZV_FINISHED, .worker = kz_me->place.worker};
+    op->shown.status = op->data->IoStatus;
+    KazdrinEvent verdict = {.mode = is_more ? KZV_MORE_PROCESSING : KZV_FINISHED, .worker = kz_worker()};
     if (kazdrin_post_returned(&kz.manager, &verdict) == KZS_OK && is_more) {
-        op->held = KZ_HELD_POST;
+        op->stage = KZ_HELD_BY_POST;
         op->holder = instance;
     } else {
         kz_leave_flight(op, instance);
@@ -258,7 +258,7 @@ static void drain(KzOp *op, PFLT_INSTANCE instance, PVOID completion)
                               .Thread = op->thread,
                               .Iopb = &iopb,
                               .RequestorMode = UserMode};
-    KzPlace before = kz_enter(KZ_IN_DRAIN, instance->filter, instance, op, &data);
+    KzPlace before = kz_enter(KZ_IN_DRAIN, kz_worker(), instance->filter, instance, op, &data);
     FLT_RELATED_OBJECTS objects = kz_objects(instance, op->file);
     PFLT_POST_OPERATION_CALLBACK callback = kz_registered(instance->filter, kz_major(op->event))->PostOperation;
     op->users++;
@@ -273,7 +273,7 @@ static void drain(KzOp *op, PFLT_INSTANCE instance, PVOID completion)
     kz_leave(before);
     kz_leave_flight(op, instance);
     op->users--;
-    if (op->is_over)
+    if (op->stage == KZ_OVER)
         free_op(op);
 }
 
@@ -281,13 +281,14 @@ static void drain(KzOp *op, PFLT_INSTANCE instance, PVOID completion)
 bool kz_drain_next(PFLT_INSTANCE instance)
 {
     kz_pause("drain");
-    if (kz_event((KazdrinEvent){.event = KZE_DRAIN_TAKE, .instance = instance->id}) != KZS_OK || !kz_me->told.action)
+    KzTold taken = kz_event(kz_worker(), (KazdrinEvent){.event = KZE_DRAIN_TAKE, .instance = instance->id});
+    if (taken.status != KZS_OK || !taken.told.action)
         return false;
-    KzOp *op = op_of(kz_me->told.operation);
-    PVOID completion = (PVOID)(uintptr_t)kz_me->told.number;
+    KzOp *op = op_of(taken.told.operation);
+    PVOID completion = (PVOID)(uintptr_t)taken.told.number;
     if (op)
         drain(op, instance, completion);
-    kz_event((KazdrinEvent){.event = KZE_DRAIN_DONE});
+    kz_event(kz_worker(), (KazdrinEvent){.event = KZE_DRAIN_DONE});
     kz_clean_up();
     return true;
 }
@@ -296,7 +297,7 @@ bool kz_drain_next(PFLT_INSTANCE instance)
 /* The device may fail, but for a cleanup or a close. */
 static void call_base(KzOp *op)
 {
-    KazdrinEvent event = {.worker = kz_me->place.worker, .status = KZS_DEVICE_FAULT};
+    KazdrinEvent event = {.worker = kz_worker(), .status = KZS_DEVICE_FAULT};
     bool is_failed = op->event != KZE_CLEANUP && op->event != KZE_CLOSE && kz_refuses("the device");
     if (is_failed && kazdrin_based(&kz.manager, &event, (const uint8_t *)"", 0) == KZS_OK)
         return;
@@ -308,7 +309,7 @@ static Turn turn(KzOp *op)
 {
     kz_scheduler->touch(op, 0, KZT_TAKES); /* behind whoever let it go on */
     KazdrinTold told = {0};
-    KazdrinEvent next = {.operation = op->id, .worker = kz_me->place.worker};
+    KazdrinEvent next = {.operation = op->id, .worker = kz_worker()};
     if (kazdrin_next(&kz.manager, &next, &told) != KZS_OK)
         return HELD;
     PFLT_INSTANCE instance = told.instance < kz.instances_count ? kz.instances[told.instance] : NULL;
@@ -325,7 +326,7 @@ static Turn turn(KzOp *op)
         return GOES;
     case KZA_DRAIN:
         drain(op, instance, completion);
-        kazdrin_post_returned(&kz.manager, &(KazdrinEvent){.mode = KZV_FINISHED, .worker = kz_me->place.worker});
+        kazdrin_post_returned(&kz.manager, &(KazdrinEvent){.mode = KZV_FINISHED, .worker = kz_worker()});
         kz_clean_up();
         return GOES;
     case KZA_MOVED:
@@ -347,9 +348,14 @@ static Turn carry(KzOp *op)
     return made;
 }
 
+bool kz_is_held(const KzOp *op)
+{
+    return op->stage == KZ_HELD_BY_PRE || op->stage == KZ_HELD_BY_POST;
+}
+
 static bool is_resumed(void *op)
 {
-    return ((KzOp *)op)->is_resumed;
+    return ((KzOp *)op)->stage == KZ_RESUMED;
 }
 
 /* Its own client carries it on, also behind a callback that holds it, if somebody else may let it go on meanwhile. */
@@ -357,8 +363,8 @@ static Turn carry_to_end(KzOp *op)
 {
     op->runner = kz_me;
     Turn made = carry(op);
-    while (made == HELD && kz_wait(is_resumed, op, "operation %llu, which a %soperation holds", (unsigned long long)op->id, op->held == KZ_HELD_POST ? "post" : "pre")) {
-        op->is_resumed = false;
+    while (made == HELD && kz_wait(is_resumed, op, "operation %llu, which a %soperation holds", (unsigned long long)op->id, op->stage == KZ_HELD_BY_POST ? "post" : "pre")) {
+        op->stage = KZ_GOES_ON;
         made = carry(op);
     }
     op->runner = NULL;
@@ -383,18 +389,30 @@ void kz_print_reply(KzReply reply, NTSTATUS other, const uint8_t *bytes, size_t 
     kz_say(length ? "\n" : "-\n");
 }
 
-/* The answer of a done operation, which is forgotten. Its bytes lie in kz_me->room, and its own status of the kit in `other`. */
-static KzReply collect(KzOp *op, NTSTATUS *other)
+/* What an operation was answered: a number that stands for the kit's own status, which is `other`, and bytes, which lie in the client's room. */
+typedef struct {
+    KzReply reply;
+    NTSTATUS other;
+    size_t length;
+} Answer;
+
+static Answer refused(uint32_t status)
+{
+    return (Answer){.reply.status = status};
+}
+
+/* Of a done operation, which is forgotten. */
+static Answer collect(KzOp *op)
 {
     kz_pause("collect");
     kz_clean_up(); /* a close is over, and with it the contexts of its handle: the caller is told behind that */
-    kz_event((KazdrinEvent){.event = KZE_COLLECT, .operation = op->id});
-    KzReply reply = {.status = kz_me->told.status, .information = kz_me->told.information, .operation = op->id};
-    *other = op->other;
-    if (op->is_served) {
-        reply.information = op->served;
-        kz_me->told.length = op->served_bytes ? op->served_length : 0;
-        memcpy(kz_me->room, op->served_bytes ? op->served_bytes : (const uint8_t *)"", kz_me->told.length);
+    KazdrinTold told = kz_event_into(kz_worker(), (KazdrinEvent){.event = KZE_COLLECT, .operation = op->id}, kz_me->room, sizeof kz_me->room).told;
+    KzReply reply = {.status = told.status, .information = told.information, .operation = op->id};
+    Answer answer = {.other = op->other, .length = told.length};
+    if (op->served.is_there) {
+        reply.information = op->served.number;
+        answer.length = op->served.bytes ? op->served.length : 0;
+        memcpy(kz_me->room, op->served.bytes ? op->served.bytes : (const uint8_t *)"", answer.length);
     }
     kz_scheduler->touch(op->file, 0, KZT_GIVES);
     if (op->event == KZE_CREATE && reply.status == KZS_OK) {
@@ -411,44 +429,47 @@ static KzReply collect(KzOp *op, NTSTATUS *other)
         kz_drop_file(op->file->handle);
     }
     free_op(op);
-    return reply;
+    answer.reply = reply;
+    return answer;
 }
 
-static KzReply run(KazdrinEvent asked, const void *bytes, size_t length, const char *path, NTSTATUS *other);
+static Answer run(KazdrinEvent asked, const void *bytes, size_t length, const char *path);
+
+static void put_answer(Answer answer)
+{
+    kz_print_reply(answer.reply, answer.other, kz_me->room, answer.length);
+}
 
 /* The close of a file whose handle was closed while operations on it went on; false if none is due. */
 static bool close_due(void)
 {
     KzFile *file = kz.files;
-    NTSTATUS other;
     while (file && !(file->is_close_due && file->users == 1))
         file = file->next;
     if (!file)
         return false;
     file->is_close_due = false;
-    run((KazdrinEvent){.event = KZE_CLOSE, .handle = file->handle}, "", 0, NULL, &other);
+    run((KazdrinEvent){.event = KZE_CLOSE, .handle = file->handle}, "", 0, NULL);
     return true;
 }
 
 static void carry_resumed(void)
 {
     KzOp *op = kz.resumed;
-    NTSTATUS other;
     kz.resumed = op->next_resumed;
     if (!kz.resumed)
         kz.resumed_end = &kz.resumed;
     Turn made;
     op->runner = kz_me;
     do {
-        op->is_resumed = false;
+        op->stage = KZ_GOES_ON;
         made = carry(op);
-    } while (made == HELD && op->is_resumed);
+    } while (made == HELD && is_resumed(op));
     op->runner = NULL;
     if (made != DONE)
         return;
     kz_say("operation %llu: ", (unsigned long long)op->id);
-    KzReply reply = collect(op, &other);
-    kz_print_reply(reply, other, kz_me->room, kz_me->told.length);
+    put_answer(collect(op));
 }
 
 /* What was let go on, what is due, and what waits for its turn, until nothing of it is left. */
@@ -462,54 +483,51 @@ void kz_settle(void)
 }
 
 /* Begins an operation and carries it on. Refused, it has no reply but the status. */
-static KzReply run(KazdrinEvent asked, const void *bytes, size_t length, const char *path, NTSTATUS *other)
+static Answer run(KazdrinEvent asked, const void *bytes, size_t length, const char *path)
 {
-    *other = STATUS_SUCCESS;
-    uint32_t status = kz_event_with(asked, bytes, length);
-    if (status != KZS_OK)
-        return (KzReply){.status = status};
-    uint64_t id = kz_me->told.operation;
+    KzTold begun = kz_event_with(kz_worker(), asked, bytes, length);
+    if (begun.status != KZS_OK)
+        return refused(begun.status);
+    uint64_t id = begun.told.operation;
     bool is_on_volume = asked.event == KZE_CREATE || asked.event == KZE_LIST;
     KzFile *file = is_on_volume ? kz_new_file(kz.volumes[asked.volume], asked.event == KZE_LIST ? "" : path, asked.event == KZE_LIST) : kz_file_of(asked.handle);
     KzOp *op = new_op(id, asked, file, file->volume);
     if (carry_to_end(op) == DONE)
-        return collect(op, other);
-    return (KzReply){.held = 1, .operation = id};
+        return collect(op);
+    return (Answer){.reply = {.held = 1, .operation = id}};
 }
 
 KzReply kz_perform(KazdrinEvent asked, const void *bytes, size_t length, const char *path)
 {
-    NTSTATUS other;
-    kz_me->told.length = 0;
-    KzReply reply = run(asked, bytes, length, path, &other);
-    kz_print_reply(reply, other, kz_me->room, kz_me->told.length);
+    Answer answer = run(asked, bytes, length, path);
+    put_answer(answer);
     kz_settle();
-    return reply;
+    return answer.reply;
 }
 
 /* A cleanup and then the close; the close alone if the cleanup was made before. */
 KzReply kz_close_file(uint64_t handle)
 {
-    NTSTATUS other;
-    kz_me->told.length = 0;
-    KzReply reply = run((KazdrinEvent){.event = KZE_CLEANUP, .handle = handle}, "", 0, NULL, &other);
+    Answer answer = run((KazdrinEvent){.event = KZE_CLEANUP, .handle = handle}, "", 0, NULL);
+    KzReply reply = answer.reply;
     KzFile *file = kz_has_others() && !reply.held && reply.status == KZS_OK ? kz_file_of(handle) : NULL;
     if (file && file->users > 1)
         file->is_close_due = true; /* as in the kit: whoever ends the last operation of a file object closes it */
     else if (!reply.held && (reply.status == KZS_OK || reply.status == KZS_WRONG_STEP))
-        reply = run((KazdrinEvent){.event = KZE_CLOSE, .handle = handle}, "", 0, NULL, &other);
-    kz_print_reply(reply, other, kz_me->room, 0);
+        answer = run((KazdrinEvent){.event = KZE_CLOSE, .handle = handle}, "", 0, NULL);
+    answer.length = 0;
+    put_answer(answer);
     kz_settle();
-    return reply;
+    return answer.reply;
 }
 
 void kz_tell_held(void)
 {
     for (KzOp *op = kz.ops; op; op = op->next) {
-        if (op->held == KZ_NOT_HELD_NOW)
+        if (!kz_is_held(op))
             continue;
-        bool is_pre = op->held == KZ_HELD_PRE;
-        KzPlace before = kz_enter(is_pre ? KZ_IN_PRE : KZ_IN_POST, op->holder->filter, op->holder, op, NULL);
+        bool is_pre = op->stage == KZ_HELD_BY_PRE;
+        KzPlace before = kz_enter(is_pre ? KZ_IN_PRE : KZ_IN_POST, kz_worker(), op->holder->filter, op->holder, op, NULL);
         kz_tell(KZM_NEVER_COMPLETED, is_pre ? "FltCompletePendedPreOperation" : "FltCompletePendedPostOperation", "never called for an operation that is held");
         kz_me->place = before;
     }

@@ -8,7 +8,6 @@ struct KzClient {
     const char *name;
     KzPlace place;
     uint64_t places; /* how many callbacks it was in */
-    KazdrinTold told;
     KazdrinEvent busy;     /* the event that was refused with 34; event 0 if none was */
     uint64_t busy_number;  /* how many were in its way */
     uint64_t process, thread; /* who asks */
@@ -26,7 +25,7 @@ struct KzClient {
     char waits[160];  /* what it waits for */
     char line[KZ_LINE];
     uint8_t bytes[KZ_BYTES];
-    uint8_t room[KZ_BYTES + 64];
+    uint8_t room[KZ_BYTES + 64]; /* for the bytes of an answer, or of what is lent: whoever asks for them names it */
 };
 
 /* The one that runs. */

@@ -36,11 +36,11 @@ void kz_be_strict(bool is)
 }
 
 /* ---- Where it happens. */
-KzPlace kz_enter(KzCallback callback, PFLT_FILTER filter, PFLT_INSTANCE instance, KzOp *op, PFLT_CALLBACK_DATA data)
+KzPlace kz_enter(KzCallback callback, uint8_t worker, PFLT_FILTER filter, PFLT_INSTANCE instance, KzOp *op, PFLT_CALLBACK_DATA data)
 {
     KzPlace before = kz_me->place;
     kz_note_callback(callback, filter);
-    kz_me->place = (KzPlace){callback, filter, instance, op, op ? op->id : 0, data, ++kz_me->places, before.depth + 1, before.worker};
+    kz_me->place = (KzPlace){callback, filter, instance, op, op ? op->id : 0, data, ++kz_me->places, before.depth + 1, worker};
     if (filter)
         kz_scheduler->touch(&filter->is_started, 0, KZT_TAKES);
     if (instance)

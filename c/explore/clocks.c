@@ -132,7 +132,7 @@ static void tell(const Access *before, bool was_write, int client, const void *f
     Runner *other = &ex_runners[client];
     if (from)
         snprintf(place, sizeof place, "@%lx", (unsigned long)(uintptr_t)from);
-    snprintf(text, sizeof text, "RACE: %s at %s (%s), and %s at @%lx (%s), and nothing orders them", now, place, kz_me->name,
+    snprintf(text, sizeof text, "RACE: %s at %s (" KZ_MARK "%s" KZ_MARK "), and %s at @%lx (" KZ_MARK "%s" KZ_MARK "), and nothing orders them", now, place, kz_me->name,
              words[before->is_atomic][was_write], (unsigned long)before->from, other->name);
     ex_found(RACE, text);
 }
@@ -172,7 +172,7 @@ static void look_at_freed(uintptr_t address, const void *from, bool is_write)
         char place[32] = "the end of its operation";
         if (shadow->freed[at].from)
             snprintf(place, sizeof place, "@%x", shadow->freed[at].from);
-        snprintf(text, sizeof text, "USE AFTER FREE: %s at @%lx (%s) of memory that %s gave back at %s", words[0][is_write], (unsigned long)(uintptr_t)from, kz_me->name,
+        snprintf(text, sizeof text, "USE AFTER FREE: %s at @%lx (" KZ_MARK "%s" KZ_MARK ") of memory that %s gave back at %s", words[0][is_write], (unsigned long)(uintptr_t)from, kz_me->name,
                  ex_runners[shadow->freed[at].client].name, place);
         ex_found(RACE, text);
         return;

@@ -159,13 +159,14 @@ static void point(const char *name, const void *from)
     me->state = RUNNING;
 }
 
-static bool wait(KzCan *can, void *what, const char *why)
+static bool wait(KzCan *can, void *what, KzWaits why, const char *text)
 {
     Runner *me = mine();
+    me->client.why = why;
     me->can = can;
     me->what = what;
     me->timed_out = false;
-    snprintf(me->client.waits, sizeof me->client.waits, "%s", why);
+    snprintf(me->client.waits, sizeof me->client.waits, "%s", text);
     me->state = WAITING;
     go_on(me);
     me->state = RUNNING;
@@ -185,14 +186,14 @@ void ex_note_spin(void)
         return;
     unsigned steps = ex->steps;
     me->spins = 0;
-    wait(has_moved, &steps, "memory that it looks at again and again");
+    wait(has_moved, &steps, KZ_WAITS_AS_THERE, "memory that it looks at again and again");
 }
 
-static unsigned choose_answer(unsigned count, const char *name)
+static unsigned choose_answer(unsigned count, KzChoice what, const char *name)
 {
     if (is_set_up() || !ex->is_running)
         return 0;
-    bool is_time = strcmp(name, "the time is over") == 0;
+    bool is_time = what == KZ_CHOICE_TIME;
     if (is_time ? ex->timeouts > 0 : ex->fails_used >= ex->fails && !ex->replay)
         return 0;
     unsigned taken = ex_decide(count, false, NULL, false);
@@ -215,12 +216,6 @@ static void nothing(void)
 const KzScheduler ex_scheduler = {point, wait, ex_touch, choose_answer, nothing, nothing, ex_say, true};
 
 /* ---- A client's life. */
-static void request(Runner *me, const char *line)
-{
-    me->hides_number = strncmp(line, "create ", 7) == 0;
-    kz_scripted_request(line, &me->handle);
-}
-
 static bool has_work(void *unused)
 {
     (void)unused;
@@ -247,7 +242,7 @@ static void live(void)
     if (me->is_worker)
         work();
     for (size_t at = 0; at < me->script->count; at++)
-        request(me, me->script->requests[at]);
+        kz_scripted_request(me->script->requests[at], &me->handle);
     me->state = ENDED;
     go_on(me);
 }

@@ -35,7 +35,6 @@ typedef struct {
     const char *name;
     const KzScript *script;
     uint64_t handle;              /* that of its last create, for $ */
-    bool hides_number;            /* its request is a create, whose handle is another in each order */
 } Runner;
 
 typedef struct {
@@ -165,7 +164,7 @@ const char *ex_schedule_text(size_t length);
 /* found.c */
 void ex_end_search(const char *full);
 void ex_found(KindOf of, const char *text);
-void ex_say(const char *text);
+void ex_say(const KzSaid *said);
 void ex_keep_found(void);
 void ex_report_kind(const Kind *kind);
 void ex_report(void);

@@ -33,22 +33,31 @@ static void append(const char *text)
     ex->output_length += length;
 }
 
-void ex_say(const char *text)
+/* Requests are the same in each order, and the counts come of what was said; a create's handle is another in each order of creates. */
+static void note_end(const KzSaid *said)
+{
+    if (said->kind == KZ_SAID_HANDLE && kz_me != &kz_first)
+        append(" info # bytes ");
+    else if (said->kind != KZ_SAID_REQUEST && said->kind != KZ_SAID_COUNTS)
+        append(said->text);
+}
+
+void ex_say(const KzSaid *said)
 {
     if (!ex->is_running) {
         if (!ex->is_quiet)
-            fputs(text, stdout);
+            kz_print(said);
         return;
     }
     if (ex->wants_ends)
-        append(kz_me != &kz_first && ex_runners[kz_me->number].hides_number && strncmp(text, " info ", 6) == 0 ? " info # bytes " : text);
+        note_end(said);
     if (ex->is_traced)
-        ex_trace_text(text);
-    if (strncmp(text, "TOLD KZ", 7) == 0)
-        ex_found(TOLD, text);
-    else if (strncmp(text, "LIMIT KZ", 8) == 0) {
-        ex->is_limited |= strncmp(text, "LIMIT KZ0211", 12) == 0 || strncmp(text, "LIMIT KZ0246", 12) == 0;
-        ex_found(LIMITED, text);
+        ex_trace_text(said->text);
+    if (said->kind == KZ_SAID_TOLD)
+        ex_found(TOLD, said->text);
+    else if (said->kind == KZ_SAID_LIMIT) {
+        ex->is_limited |= said->message == KZM_NOWHERE_TO_RESUME || said->message == KZM_LEFT_OUT;
+        ex_found(LIMITED, said->text);
     }
 }
 
@@ -71,17 +80,16 @@ static char *kept(const char *text)
     return memcpy(made, text, length);
 }
 
-/* The text without the numbers of operations, and of a race without who ran into it. */
-static void key_of(KindOf of, const char *text, char *key, size_t size)
+/* The text without what stands between marks: numbers of operations, and of a race who ran into it. */
+static void key_of(const char *text, char *key, size_t size)
 {
     size_t used = 0;
+    bool is_marked = false;
     for (; *text && used + 1 < size; text++) {
-        key[used++] = *text;
-        if (of == RACE && *text == '(')
-            text += strcspn(text, ")") - 1;
-        bool is_number = used >= 10 && (strncmp(key + used - 10, "operation ", 10) == 0 || strncmp(key + used - 2, " (", 2) == 0);
-        while (is_number && text[1] >= '0' && text[1] <= '9')
-            text++;
+        if (*text == KZ_MARK[0])
+            is_marked = !is_marked;
+        else if (!is_marked)
+            key[used++] = *text;
     }
     key[used] = 0;
 }
@@ -112,7 +120,7 @@ static Kind *kind_of(const Found *one, const char *key)
 static void keep(const Found *one)
 {
     char key[TEXT];
-    key_of(one->of, one->text, key, sizeof key);
+    key_of(one->text, key, sizeof key);
     Kind *kind = kind_of(one, key);
     if (!kind)
         return;
@@ -146,10 +154,11 @@ void ex_keep_found(void)
 }
 
 /* ---- The report. */
-static void put_indented(const char *text)
+static void put_indented(const char *marked)
 {
-    char line[TEXT + 8];
-    while (*text) {
+    char line[TEXT + 8], whole[TEXT];
+    kz_unmark(whole, sizeof whole, marked);
+    for (const char *text = whole; *text;) {
         size_t length = strcspn(text, "\n");
         snprintf(line, sizeof line, "    %.*s\n", (int)length, text);
         ex_put_sources(stdout, line);

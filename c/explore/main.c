@@ -30,7 +30,7 @@ static void tell_stuck(void)
     size_t used = strlen(text);
     for (int at = 1; at <= ex->runners_count; at++) {
         const Runner *one = &ex_runners[at];
-        ex->is_limited |= one->state == WAITING && strncmp(one->client.waits, KZ_NO_TEARDOWN_BESIDE, strlen(KZ_NO_TEARDOWN_BESIDE)) == 0;
+        ex->is_limited |= one->state == WAITING && one->client.why == KZ_WAITS_FOR_US;
         if (!one->is_worker && one->state != ENDED && used + 1 < sizeof text)
             used += (size_t)snprintf(text + used, sizeof text - used, "\n  %s waits for %s", one->name, one->client.waits);
     }
@@ -49,8 +49,7 @@ static void tell_end(void)
     char text[TEXT] = "END", *rest = NULL;
     size_t count = 0, used = strlen(text);
     for (char *line = strtok_r(ex->output, "\n", &rest); line && count < 512; line = strtok_r(NULL, "\n", &rest))
-        if (!strstr(line, ": > ") && !strstr(line, "contexts born "))
-            lines[count++] = line;
+        lines[count++] = line;
     qsort(lines, count, sizeof lines[0], compare_lines);
     for (size_t at = 0; at < count && used + 1 < sizeof text; at++)
         if (!at || strcmp(lines[at], lines[at - 1]) != 0)
@@ -284,8 +283,10 @@ static int play(const char *replay)
         ex_report();
     for (int at = 0; ex->is_traced && at < ex->kinds_count; at++) {
         if (ex->kinds[at].of != END && ex->kinds[at].of != LIMITED) {
+            char text[TEXT];
+            kz_unmark(text, sizeof text, ex->kinds[at].text);
             fputs("==== ", stdout);
-            ex_put_sources(stdout, ex->kinds[at].text);
+            ex_put_sources(stdout, text);
             putchar('\n');
         }
     }

@@ -3,11 +3,10 @@
 
 void ex_trace_text(const char *text)
 {
-    size_t length = strlen(text);
-    if (ex->trace_length + length + 1 > sizeof ex->trace)
+    if (ex->trace_length + strlen(text) + 1 > sizeof ex->trace)
         return;
-    memcpy(ex->trace + ex->trace_length, text, length + 1);
-    ex->trace_length += length;
+    kz_unmark(ex->trace + ex->trace_length, sizeof ex->trace - ex->trace_length, text);
+    ex->trace_length += strlen(ex->trace + ex->trace_length);
 }
 
 void ex_trace_step(const Runner *runner, bool is_preemption)

@@ -5,6 +5,7 @@
 #include "kazdrin.h"
 #include "kzflt.h"
 #include "run/messages.h"
+#include "run/said.h"
 #include "wire/status.h"
 
 #include <stdbool.h>
@@ -35,7 +36,7 @@ typedef struct KzOp KzOp;
 typedef struct KzClient KzClient;
 
 /* The callback that runs, with a number of its own. `worker` is that of the manager which is in it. */
-typedef struct {
+typedef struct KzPlace {
     KzCallback callback;
     PFLT_FILTER filter;
     PFLT_INSTANCE instance;
@@ -218,8 +219,8 @@ uint8_t kz_worker(void);
 uint8_t kz_helper(void);
 void kz_helped(uint8_t worker);
 void *kz_memory(size_t size);
-void kz_say(const char *format, ...) __attribute__((format(printf, 1, 2)));
-void kz_put(const char *text);
+void kz_say(KzKind kind, const char *format, ...) __attribute__((format(printf, 2, 3)));
+void kz_put(KzKind kind, const char *text);
 void kz_end(void);
 
 /* busy.c: what was in the way of the first event that was refused with 34 since it was forgotten. */
@@ -229,6 +230,7 @@ const char *kz_busy_text(char *room, size_t size);
 
 /* told.c: what is told, and where. */
 void kz_tell(KzMessage message, const char *call, const char *format, ...) __attribute__((format(printf, 3, 4)));
+void kz_tell_of(const void *object, KzMessage message, const char *call, const char *format, ...) __attribute__((format(printf, 4, 5)));
 void kz_tell_refused(const char *call, uint32_t status);
 KzPlace kz_enter(KzCallback callback, uint8_t worker, PFLT_FILTER filter, PFLT_INSTANCE instance, KzOp *op, PFLT_CALLBACK_DATA data);
 KzPlace kz_enter_again(const KzPlace *place);
@@ -247,10 +249,11 @@ void kz_format(KzPut put, void *sink, const void *format, bool is_wide, va_list 
 NTSTATUS kz_ntstatus(uint32_t number);
 uint32_t kz_number(NTSTATUS status, bool *is_exact);
 
-/* guard.c */
+/* memory.c */
 typedef enum { KZK_POOL, KZK_CONTEXT, KZK_NAME, KZK_BUFFER, KZK_DATA } KzMemory;
 typedef struct KzPiece {
     struct KzPiece *next, *before;
+    struct KzPiece *same; /* the next one at the same place of the table by address */
     size_t size;
     PFLT_FILTER filter;
     ULONG tag;
@@ -264,6 +267,7 @@ KzPiece *kz_piece_of(const void *memory);
 const char *kz_tag(ULONG tag, char *room);
 void kz_check_piece(KzPiece *piece);
 void kz_check_memory(PFLT_FILTER filter);
+void kz_check_all_memory(PFLT_FILTER filter);
 void kz_check_blocks(const KzOp *op);
 void kz_tell_pools(PFLT_FILTER filter);
 void kz_tell_gone(void);

@@ -31,11 +31,13 @@ int kz_run_path(const KzDriver *drivers, size_t count, const char *path);
  * 6 where nobody could go on any more. */
 int kz_run_load(const KzDriver *drivers, size_t count, const char *scenario, unsigned threads, double seconds, uint64_t seed);
 
-/* What a request was answered: status is its number; held says that a filter holds the operation of that number, which is answered later. */
+/* What a request was answered: status is its number; held says that a filter holds the operation of that number, which is answered later; is_handle that the information is the handle
+ * of a file that was opened. */
 typedef struct {
     uint32_t status;
     int held;
     uint64_t information, operation;
+    int is_handle;
 } KzReply;
 
 /* The same step by step, for tests: kz_open, any number of kz_request, and kz_close, whose answer is that of kz_run. kz_is_quiet leaves out all lines but

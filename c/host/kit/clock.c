@@ -372,7 +372,7 @@ static bool is_signalled(void *object)
 static NTSTATUS wait_for(PDISPATCHER_HEADER object, LONGLONG units)
 {
     kz_me->timeout = units > 0 ? (uint64_t)(units / MILLISECOND) + 1 : 0;
-    bool is_over = (kz_me->timeout && kz_scheduler->choose(2, "the time is over")) || !kz_wait(is_signalled, object, "KeWaitForSingleObject");
+    bool is_over = (kz_me->timeout && kz_scheduler->choose(2, KZ_CHOICE_TIME, "the time is over")) || !kz_wait(is_signalled, object, "KeWaitForSingleObject");
     kz_me->timeout = 0;
     if (is_over)
         return STATUS_TIMEOUT;

@@ -17,7 +17,8 @@ typedef struct Kept {
 } Kept;
 
 typedef struct Header {
-    struct Header *next;
+    struct Header *next, *before;
+    struct Header *same; /* the next one at the same place of the table by address */
     PVOID body;
     uint32_t slot, generation;
     uint8_t kind;
@@ -30,18 +31,66 @@ typedef struct Header {
 } Header;
 
 static Header *live;
+/* All that are live by their bodies' addresses, and those that the manager knows by their slots. */
+enum { PLACES = 1 << 12 };
+static Header *places[PLACES];
+static Header **slots;
+static size_t slots_room;
 static Header dead[REMEMBERED];
 static size_t dead_next;
 
 static const char *const kind_names[] = {"a volume", "an instance", "a stream", "a stream handle"};
 
 /* ---- Finding. */
+static Header **place_of(PVOID body)
+{
+    return &places[((uintptr_t)body * 0x9e3779b97f4a7c15ULL) >> 52];
+}
+
 static Header *find(PVOID body)
 {
-    for (Header *one = live; one; one = one->next)
-        if (one->body == body)
-            return one;
-    return NULL;
+    Header *one = *place_of(body);
+    while (one && one->body != body)
+        one = one->same;
+    return one;
+}
+
+static void enter_tables(Header *one)
+{
+    Header **place = place_of(one->body);
+    one->same = *place;
+    *place = one;
+    one->next = live;
+    if (live)
+        live->before = one;
+    live = one;
+}
+
+static void leave_tables(Header *one)
+{
+    Header **at = place_of(one->body);
+    while (*at != one)
+        at = &(*at)->same;
+    *at = one->same;
+    *(one->before ? &one->before->next : &live) = one->next;
+    if (one->next)
+        one->next->before = one->before;
+}
+
+static void enter_slot(Header *one)
+{
+    if (one->slot >= slots_room) {
+        size_t room = slots_room ? slots_room : 64;
+        while (room <= one->slot)
+            room *= 2;
+        Header **larger = kz_memory(room * sizeof *larger);
+        if (slots)
+            memcpy(larger, slots, slots_room * sizeof *larger);
+        free(slots);
+        slots = larger;
+        slots_room = room;
+    }
+    slots[one->slot] = one;
 }
 
 /* The context with that body. A body that was freed, or that is none, is told. */
@@ -61,10 +110,8 @@ static Header *context_of(PVOID body, const char *call)
 
 static Header *known(uint32_t slot, uint32_t generation)
 {
-    for (Header *one = live; one; one = one->next)
-        if (one->is_known && one->slot == slot && one->generation == generation)
-            return one;
-    return NULL;
+    Header *one = slot < slots_room ? slots[slot] : NULL;
+    return one && one->is_known && one->generation == generation ? one : NULL;
 }
 
 static PVOID body_of(uint32_t slot, uint32_t generation)
@@ -109,11 +156,7 @@ static void finish(Header *context, uint8_t worker)
         kz_driver_returned(depth, "context cleanup returns");
     }
     kz_leave(before);
-    for (Header **at = &live; *at; at = &(*at)->next)
-        if (*at == context) {
-            *at = context->next;
-            break;
-        }
+    leave_tables(context);
     if (context->how->ContextFreeCallback)
         context->how->ContextFreeCallback(context->body, context->type);
     else
@@ -139,6 +182,7 @@ void kz_clean_up(void)
     uint8_t worker = kz_helper();
     for (Header *context = take_due(worker); context; context = take_due(worker)) {
         context->is_known = false;
+        slots[context->slot] = NULL;
         if (!context->kept)
             finish(context, worker);
         kz_event(worker, (KazdrinEvent){.event = KZE_CLEANED});
@@ -163,6 +207,7 @@ static uint32_t make_known(Header *context)
         context->slot = made.told.slot;
         context->generation = made.told.generation;
         context->is_known = true;
+        enter_slot(context);
     }
     return made.status;
 }
@@ -182,17 +227,17 @@ NTSTATUS FltAllocateContext(PFLT_FILTER Filter, FLT_CONTEXT_TYPE ContextType, SI
         kz_tell(KZM_NO_SUCH_CONTEXTS, __func__, "contexts of files, transactions and sections aren't modelled: it answers STATUS_NOT_SUPPORTED");
         return STATUS_NOT_SUPPORTED;
     }
-    PVOID body = kz_refuses(__func__) ? NULL : new_body(how, ContextSize, PoolType);
+    PVOID body = kz_refuses(KZ_CHOICE_CONTEXT, __func__) ? NULL : new_body(how, ContextSize, PoolType);
     if (!body)
         return STATUS_INSUFFICIENT_RESOURCES;
     Header *made = kz_memory(sizeof *made);
-    *made = (Header){.next = live, .body = body, .kind = kz_context_kind(ContextType), .type = ContextType, .filter = Filter, .how = how};
-    live = made;
+    *made = (Header){.body = body, .kind = kz_context_kind(ContextType), .type = ContextType, .filter = Filter, .how = how};
+    enter_tables(made);
     uint32_t status = make_known(made);
     if (status == KZS_WRONG_STEP || status == KZS_HAND_FULL) {
         keep(made, &kz_me->place); /* in no callback of an instance, or where 16 are held: the manager gets to know it once it is set */
     } else if (status != KZS_OK) {
-        live = made->next;
+        leave_tables(made);
         if (how->ContextFreeCallback)
             how->ContextFreeCallback(body, ContextType);
         else
@@ -590,6 +635,10 @@ void kz_free_contexts(void)
             one->how->ContextFreeCallback(one->body, one->type);
         free(one);
     }
+    memset(places, 0, sizeof places);
+    free(slots);
+    slots = NULL;
+    slots_room = 0;
     memset(dead, 0, sizeof dead);
     dead_next = 0;
 }

@@ -206,10 +206,10 @@ static void put_out(void *sink, WCHAR letter)
 {
     Piece *piece = sink;
     if (piece->length + 1 == sizeof piece->text) {
-        kz_put(piece->text);
+        kz_put(KZ_SAID_BY_DRIVER, piece->text);
         piece->length = 0;
     }
-    piece->text[piece->length++] = (char)(letter < 127 ? letter : '?');
+    piece->text[piece->length++] = (char)(letter < 127 && letter != KZ_MARK[0] ? letter : '?');
     piece->text[piece->length] = 0;
 }
 
@@ -221,9 +221,10 @@ ULONG vDbgPrintExWithPrefix(PCSTR Prefix, ULONG ComponentId, ULONG Level, PCSTR 
     va_list arguments;
     va_copy(arguments, Arguments);
     if (!kz_is_quiet) {
-        kz_put(Prefix);
+        for (; *Prefix; Prefix++)
+            put_out(&piece, (UCHAR)*Prefix);
         kz_format(put_out, &piece, Format, false, &arguments);
-        kz_put(piece.text);
+        kz_put(KZ_SAID_BY_DRIVER, piece.text);
     }
     va_end(arguments);
     return (ULONG)STATUS_SUCCESS;

@@ -1,6 +1,8 @@
 /* Locks. What a client holds stands in a list, by the lock's address, with the callback that took it. */
 #include "host.h"
 
+#include <stdlib.h>
+
 typedef struct {
     const void *lock;
     KzClient *client;
@@ -11,8 +13,8 @@ typedef struct {
     uint64_t place; /* the callback's number: kz_me->place.number */
 } Held;
 
-static Held held[256];
-static size_t held_count;
+static Held *held;
+static size_t held_count, held_room;
 
 static Held *find(const void *lock)
 {
@@ -45,13 +47,27 @@ static bool is_shared(int how)
     return how == KZ_SHARED || how == KZ_SHARED_AGAIN;
 }
 
+static void add(Held one)
+{
+    if (held_count == held_room) {
+        held_room = held_room ? held_room * 2 : 64;
+        Held *larger = realloc(held, held_room * sizeof *held);
+        if (!larger) {
+            fprintf(stderr, "no memory\n");
+            exit(1);
+        }
+        held = larger;
+    }
+    held[held_count++] = one;
+}
+
 static void note(PVOID lock, int how, KIRQL irql, const char *call)
 {
     Held *one = find(lock);
     if (one)
         one->count++;
-    else if (held_count < sizeof held / sizeof held[0])
-        held[held_count++] = (Held){lock, kz_me, 1, is_shared(how), irql, call, kz_me->place.number};
+    else
+        add((Held){lock, kz_me, 1, is_shared(how), irql, call, kz_me->place.number});
     kz_scheduler->touch(lock, 0, KZT_TAKES);
 }
 
@@ -163,7 +179,9 @@ void kz_tell_locks(void)
 
 void kz_free_locks(void)
 {
-    held_count = 0;
+    free(held);
+    held = NULL;
+    held_count = held_room = 0;
     kz_me->raised = PASSIVE_LEVEL;
 }
 

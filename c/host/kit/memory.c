@@ -12,6 +12,15 @@ enum { ZONE = 32, ZONE_BYTE = 0xfd, GONE_BYTE = 0xdd };
 /* How much of what was given back is kept, to see whether it is written. */
 enum { KEPT = 64, KEPT_BYTES = 4096 };
 
+/* Up to so many pieces each one is looked at as a callback returns. Where there are more, the last few that the client took are, and all of them now and then. */
+enum { FEW = 256, LAST = 64, NOW_AND_THEN = 256 };
+
+/* All pieces by their address. */
+enum { PLACES = 1 << 14 };
+static KzPiece *places[PLACES];
+static size_t pieces_count;
+static unsigned returns; /* since all were looked at */
+
 /* Of each client the pieces that it took, the newest first, and those that it gave back: so their order is its own alone. Whoever has the manager has these too. */
 enum { LISTS = 16 };
 static KzPiece *pieces[LISTS];
@@ -42,6 +51,28 @@ static uint8_t *body_of(const KzPiece *piece)
     return (uint8_t *)piece + sizeof *piece + ZONE;
 }
 
+static KzPiece **place_of(const void *body)
+{
+    return &places[((uintptr_t)body * 0x9e3779b97f4a7c15ULL) >> 50];
+}
+
+static void enter_table(KzPiece *piece)
+{
+    KzPiece **place = place_of(body_of(piece));
+    piece->same = *place;
+    *place = piece;
+    pieces_count++;
+}
+
+static void leave_table(KzPiece *piece)
+{
+    KzPiece **at = place_of(body_of(piece));
+    while (*at != piece)
+        at = &(*at)->same;
+    *at = piece->same;
+    pieces_count--;
+}
+
 static void shut(const KzPiece *piece)
 {
     if (__asan_poison_memory_region) {
@@ -68,6 +99,7 @@ void *kz_take_memory(KzMemory kind, size_t size, int fill, ULONG tag)
     if (*first)
         (*first)->before = piece;
     *first = piece;
+    enter_table(piece);
     memset(body_of(piece) - ZONE, ZONE_BYTE, ZONE);
     memset(body_of(piece), fill, size);
     memset(body_of(piece) + size, ZONE_BYTE, ZONE);
@@ -77,18 +109,21 @@ void *kz_take_memory(KzMemory kind, size_t size, int fill, ULONG tag)
 
 KzPiece *kz_piece_of(const void *memory)
 {
-    for (KzPiece *piece = first_from(0); piece; piece = piece_behind(piece))
-        if (body_of(piece) == memory)
-            return piece;
-    return NULL;
+    KzPiece *piece = *place_of(memory);
+    while (piece && body_of(piece) != memory)
+        piece = piece->same;
+    return piece;
 }
 
 static bool is_filled(const uint8_t *bytes, size_t size, uint8_t byte)
 {
-    for (size_t at = 0; at < size; at++)
-        if (bytes[at] != byte)
-            return false;
-    return true;
+    return size == 0 || (bytes[0] == byte && memcmp(bytes, bytes + 1, size - 1) == 0);
+}
+
+static bool is_zone(const uint8_t *bytes)
+{
+    static const uint8_t zone[ZONE] = {[0 ... ZONE - 1] = ZONE_BYTE};
+    return memcmp(bytes, zone, ZONE) == 0;
 }
 
 const char *kz_tag(ULONG tag, char *room)
@@ -105,7 +140,7 @@ void kz_check_piece(KzPiece *piece)
 {
     if (__asan_poison_memory_region || piece->is_told)
         return;
-    bool is_before = !is_filled(body_of(piece) - ZONE, ZONE, ZONE_BYTE), is_behind = !is_filled(body_of(piece) + piece->size, ZONE, ZONE_BYTE);
+    bool is_before = !is_zone(body_of(piece) - ZONE), is_behind = !is_zone(body_of(piece) + piece->size);
     if (!is_before && !is_behind)
         return;
     piece->is_told = true;
@@ -122,12 +157,25 @@ void kz_check_piece(KzPiece *piece)
 
 static void look_at_last(PFLT_FILTER filter);
 
-/* Looks at the memory of a filter, as its callback returns. */
-void kz_check_memory(PFLT_FILTER filter)
+/* Looks at all memory of a filter. */
+void kz_check_all_memory(PFLT_FILTER filter)
 {
     for (KzPiece *piece = first_from(0); piece; piece = piece_behind(piece))
         if (piece->filter == filter)
             kz_check_piece(piece);
+}
+
+/* And as its callback returns. */
+void kz_check_memory(PFLT_FILTER filter)
+{
+    if (pieces_count <= FEW || ++returns % NOW_AND_THEN == 0) {
+        kz_check_all_memory(filter);
+    } else {
+        KzPiece *piece = pieces[my_list()];
+        for (unsigned at = 0; piece && at < LAST; at++, piece = piece->next)
+            if (piece->filter == filter)
+                kz_check_piece(piece);
+    }
     look_at_last(filter);
 }
 
@@ -186,6 +234,7 @@ void kz_give_back(void *memory)
     *(piece->before ? &piece->before->next : &pieces[piece->list]) = piece->next;
     if (piece->next)
         piece->next->before = piece->before;
+    leave_table(piece);
     open_all(piece);
     if (__asan_poison_memory_region || piece->size > KEPT_BYTES) {
         free(piece);
@@ -231,6 +280,9 @@ void kz_free_memory(void)
         free(piece);
     }
     memset(pieces, 0, sizeof pieces);
+    memset(places, 0, sizeof places);
+    pieces_count = 0;
+    returns = 0;
     for (size_t at = 0; at < (size_t)LISTS * KEPT; at++)
         free(gone[at / KEPT].pieces[at % KEPT]);
     memset(gone, 0, sizeof gone);

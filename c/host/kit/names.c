@@ -43,7 +43,7 @@ static void device_name(char *room, size_t size, PFLT_VOLUME volume)
 static NTSTATUS name_of(PFLT_VOLUME volume, const char *path, FLT_FILE_NAME_OPTIONS options, PFLT_FILE_NAME_INFORMATION *shown)
 {
     char text[320];
-    Named *made = kz_refuses("FltGetFileNameInformation") ? NULL : kz_take_memory(KZK_NAME, sizeof *made, 0, 0);
+    Named *made = kz_refuses(KZ_CHOICE_NAME, "FltGetFileNameInformation") ? NULL : kz_take_memory(KZK_NAME, sizeof *made, 0, 0);
     if (!made)
         return STATUS_INSUFFICIENT_RESOURCES;
     device_name(text, sizeof text, volume);

@@ -5,7 +5,7 @@
 PVOID ExAllocatePoolWithTag(POOL_TYPE PoolType, SIZE_T NumberOfBytes, ULONG Tag)
 {
     KZ_INSIDE();
-    if (kz_refuses(__func__))
+    if (kz_refuses(KZ_CHOICE_POOL, __func__))
         return NULL;
     (void)PoolType;
     return kz_take_memory(KZK_POOL, NumberOfBytes, 0xcd, Tag);
@@ -29,7 +29,7 @@ PVOID ExAllocatePoolUninitialized(POOL_TYPE PoolType, SIZE_T NumberOfBytes, ULON
 PVOID ExAllocatePoolZero(POOL_TYPE PoolType, SIZE_T NumberOfBytes, ULONG Tag)
 {
     KZ_INSIDE();
-    if (kz_refuses(__func__))
+    if (kz_refuses(KZ_CHOICE_POOL, __func__))
         return NULL;
     (void)PoolType;
     return kz_take_memory(KZK_POOL, NumberOfBytes, 0, Tag);
@@ -38,7 +38,7 @@ PVOID ExAllocatePoolZero(POOL_TYPE PoolType, SIZE_T NumberOfBytes, ULONG Tag)
 PVOID ExAllocatePool2(POOL_FLAGS Flags, SIZE_T NumberOfBytes, ULONG Tag)
 {
     KZ_INSIDE();
-    if (kz_refuses(__func__))
+    if (kz_refuses(KZ_CHOICE_POOL, __func__))
         return NULL;
     return kz_take_memory(KZK_POOL, NumberOfBytes, Flags & POOL_FLAG_UNINITIALIZED ? 0xcd : 0, Tag);
 }

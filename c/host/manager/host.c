@@ -96,7 +96,7 @@ void *kz_memory(size_t size)
     return memory;
 }
 
-void kz_say(const char *format, ...)
+void kz_say(KzKind kind, const char *format, ...)
 {
     char text[1024];
     if (kz_is_quiet)
@@ -105,13 +105,13 @@ void kz_say(const char *format, ...)
     va_start(arguments, format);
     vsnprintf(text, sizeof text, format, arguments);
     va_end(arguments);
-    kz_put(text);
+    kz_put(kind, text);
 }
 
 /* What is said goes where the scheduler puts it. */
-void kz_put(const char *text)
+void kz_put(KzKind kind, const char *text)
 {
-    kz_scheduler->put(text);
+    kz_scheduler->said(&(KzSaid){.kind = kind, .text = text});
 }
 
 KzCounts kz_counts(void)
@@ -168,6 +168,7 @@ void kz_end(void)
     kz_unload_all();
     kz_tell_held();
     for (size_t at = 0; at < kz.filters_count; at++) {
+        kz_check_all_memory(kz.filters[at]);
         kz_tell_names(kz.filters[at]);
         kz_tell_pools(kz.filters[at]);
     }
@@ -175,7 +176,7 @@ void kz_end(void)
     kz_tell_keys();
     kz_tell_gone();
     KzCounts counts = kz_counts();
-    kz_say("contexts born %llu, cleaned %llu, leaked references %llu, told %llu, limits %llu\n", (unsigned long long)counts.born,
+    kz_say(KZ_SAID_COUNTS, "contexts born %llu, cleaned %llu, leaked references %llu, told %llu, limits %llu\n", (unsigned long long)counts.born,
            (unsigned long long)counts.cleaned, (unsigned long long)counts.leaked, (unsigned long long)counts.told, (unsigned long long)counts.limits);
 }
 

@@ -94,7 +94,7 @@ void kz_attach_by_itself(PFLT_FILTER filter, PFLT_VOLUME volume, FLT_INSTANCE_SE
         if (*letter == '.' || *letter == ' ')
             *letter = '_';
     uint32_t status = kz_attach(filter, volume, name, filter->altitude, flags, &number);
-    kz_say("%s at %s on %s: status %u info %llu\n", filter->driver->name, filter->altitude, volume->name, status, (unsigned long long)(status ? 0 : number));
+    kz_say(KZ_SAID_REPLY, "%s at %s on %s: status %u info %llu\n", filter->driver->name, filter->altitude, volume->name, status, (unsigned long long)(status ? 0 : number));
 }
 
 /* ---- The question whether an instance may be detached. A filter without the callback doesn't agree; a work item, and whoever completes what an instance holds, is in it as
@@ -121,7 +121,7 @@ bool kz_is_not_asked(void *instance)
 /* Beside others it waits for a work item of the instance. In the kit it goes on, and the end of the teardown waits. */
 static uint32_t ask(PFLT_INSTANCE instance)
 {
-    kz_wait(kz_is_not_asked, instance, KZ_NO_TEARDOWN_BESIDE "%u", instance->id);
+    kz_wait_for_us(kz_is_not_asked, instance, "a work item of instance %u", instance->id);
     if (!instance->filter->registration.InstanceQueryTeardownCallback)
         return kz_phase(instance) == KZP_INSTANCE_ATTACHED ? KZS_DO_NOT_DETACH : KZS_NO_INSTANCE;
     uint32_t status = kz_event(kz_worker(), (KazdrinEvent){.event = KZE_ASK_DETACH, .instance = instance->id}).status;

@@ -298,7 +298,7 @@ bool kz_drain_next(PFLT_INSTANCE instance)
 static void call_base(KzOp *op)
 {
     KazdrinEvent event = {.worker = kz_worker(), .status = KZS_DEVICE_FAULT};
-    bool is_failed = op->event != KZE_CLEANUP && op->event != KZE_CLOSE && kz_refuses("the device");
+    bool is_failed = op->event != KZE_CLEANUP && op->event != KZE_CLOSE && kz_refuses(KZ_CHOICE_DEVICE, "the device");
     if (is_failed && kazdrin_based(&kz.manager, &event, (const uint8_t *)"", 0) == KZS_OK)
         return;
     if (!kz_call_base_folder(event.worker))
@@ -363,7 +363,7 @@ static Turn carry_to_end(KzOp *op)
 {
     op->runner = kz_me;
     Turn made = carry(op);
-    while (made == HELD && kz_wait(is_resumed, op, "operation %llu, which a %soperation holds", (unsigned long long)op->id, op->stage == KZ_HELD_BY_POST ? "post" : "pre")) {
+    while (made == HELD && kz_wait(is_resumed, op, KZ_OPERATION ", which a %soperation holds", (unsigned long long)op->id, op->stage == KZ_HELD_BY_POST ? "post" : "pre")) {
         op->stage = KZ_GOES_ON;
         made = carry(op);
     }
@@ -377,16 +377,16 @@ void kz_print_reply(KzReply reply, NTSTATUS other, const uint8_t *bytes, size_t 
     kz_pass_reply(reply, bytes, length);
     kz_note_reply(reply, bytes, length);
     if (reply.held) {
-        kz_say("held %llu\n", (unsigned long long)reply.operation);
+        kz_say(KZ_SAID_REPLY, "held %llu\n", (unsigned long long)reply.operation);
         return;
     }
-    kz_say("status %u", reply.status);
+    kz_say(KZ_SAID_REPLY, "status %u", reply.status);
     if (other)
-        kz_say(" (0x%08x)", (unsigned)other);
-    kz_say(" info %llu bytes ", (unsigned long long)reply.information);
+        kz_say(KZ_SAID_REPLY, " (0x%08x)", (unsigned)other);
+    kz_say(reply.is_handle ? KZ_SAID_HANDLE : KZ_SAID_REPLY, " info %llu bytes ", (unsigned long long)reply.information);
     for (size_t at = 0; at < length; at++)
-        kz_say("%02x", bytes[at]);
-    kz_say(length ? "\n" : "-\n");
+        kz_say(KZ_SAID_REPLY, "%02x", bytes[at]);
+    kz_say(KZ_SAID_REPLY, length ? "\n" : "-\n");
 }
 
 /* What an operation was answered: a number that stands for the kit's own status, which is `other`, and bytes, which lie in the client's room. */
@@ -418,6 +418,7 @@ static Answer collect(KzOp *op)
     if (op->event == KZE_CREATE && reply.status == KZS_OK) {
         kz_file_opened(op->file);
         op->file->handle = reply.information;
+        reply.is_handle = 1;
         op->file->has_handle = true;
         op->file->users++;
         kz_scheduler->touch(&op->file->handle, 0, KZT_GIVES);
@@ -468,7 +469,7 @@ static void carry_resumed(void)
     op->runner = NULL;
     if (made != DONE)
         return;
-    kz_say("operation %llu: ", (unsigned long long)op->id);
+    kz_say(KZ_SAID_REPLY, KZ_OPERATION ": ", (unsigned long long)op->id);
     put_answer(collect(op));
 }
 

@@ -47,7 +47,7 @@ static void name_operation(List *list, const KzOp *op)
 {
     if (!begins(list))
         return;
-    list->used += (size_t)snprintf(list->text + list->used, list->size - list->used, "operation %llu", (unsigned long long)op->id);
+    list->used += (size_t)snprintf(list->text + list->used, list->size - list->used, KZ_OPERATION, (unsigned long long)op->id);
     if (kz_is_held(op) && list->used < list->size)
         list->used += (size_t)snprintf(list->text + list->used, list->size - list->used, " that instance %u holds", op->holder->id);
 }

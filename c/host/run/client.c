@@ -67,22 +67,37 @@ void kz_pause(const char *name)
     kz_driver_returned(kz_let_driver(name), NULL);
 }
 
-bool kz_wait(KzCan *can, void *what, const char *why, ...)
+static bool wait_as(KzWaits why, KzCan *can, void *what, const char *format, va_list arguments)
 {
     char text[160];
     if (can(what) || !kz_has_others())
         return can(what);
+    vsnprintf(text, sizeof text, format, arguments);
+    return kz_scheduler->wait(can, what, why, text);
+}
+
+bool kz_wait(KzCan *can, void *what, const char *text, ...)
+{
     va_list arguments;
-    va_start(arguments, why);
-    vsnprintf(text, sizeof text, why, arguments);
+    va_start(arguments, text);
+    bool can_go_on = wait_as(KZ_WAITS_AS_THERE, can, what, text, arguments);
     va_end(arguments);
-    return kz_scheduler->wait(can, what, text);
+    return can_go_on;
+}
+
+bool kz_wait_for_us(KzCan *can, void *what, const char *text, ...)
+{
+    va_list arguments;
+    va_start(arguments, text);
+    bool can_go_on = wait_as(KZ_WAITS_FOR_US, can, what, text, arguments);
+    va_end(arguments);
+    return can_go_on;
 }
 
 /* Whether a call that may be refused is: then it answers as it does where there is no memory. */
-bool kz_refuses(const char *call)
+bool kz_refuses(KzChoice what, const char *call)
 {
-    return kz_scheduler->choose(2, call) == 1;
+    return kz_scheduler->choose(2, what, call) == 1;
 }
 
 /* Whether others run beside this client, which come to what it waits for. Beside the set-up, and at the end, none does. */
@@ -97,9 +112,9 @@ static void pass_point(const char *name, const void *from)
     (void)name, (void)from;
 }
 
-static bool wait_in_order(KzCan *can, void *what, const char *why)
+static bool wait_in_order(KzCan *can, void *what, KzWaits why, const char *text)
 {
-    (void)why;
+    (void)why, (void)text;
     return can(what);
 }
 
@@ -108,19 +123,32 @@ static void touch_nothing(const void *object, size_t size, KzTouch how)
     (void)object, (void)size, (void)how;
 }
 
-static unsigned choose_as_asked(unsigned count, const char *name)
+static unsigned choose_as_asked(unsigned count, KzChoice what, const char *name)
 {
-    (void)count;
-    return kz_fails_now(name);
+    (void)count, (void)name;
+    return kz_fails_now(what);
 }
 
 static void nothing(void)
 {
 }
 
-static void print(const char *text)
+void kz_unmark(char *room, size_t size, const char *text)
 {
-    fputs(text, stdout);
+    size_t used = 0;
+    for (; *text && used + 1 < size; text++)
+        if (*text != KZ_MARK[0])
+            room[used++] = *text;
+    room[used] = 0;
 }
 
-const KzScheduler kz_in_order = {pass_point, wait_in_order, touch_nothing, choose_as_asked, nothing, nothing, print, false};
+void kz_print(const KzSaid *said)
+{
+    for (const char *text = said->text; *text;) {
+        size_t length = strcspn(text, KZ_MARK);
+        fwrite(text, 1, length, stdout);
+        text += length + (text[length] == KZ_MARK[0]);
+    }
+}
+
+const KzScheduler kz_in_order = {pass_point, wait_in_order, touch_nothing, choose_as_asked, nothing, nothing, kz_print, false};

@@ -22,7 +22,8 @@ struct KzClient {
     } names[32]; /* that its creates gave, by `as` */
     size_t names_count;
     uint64_t timeout; /* of its wait, in milliseconds; 0 if it has none */
-    char waits[160];  /* what it waits for */
+    KzWaits why;      /* it waits, and for what */
+    char waits[160];
     char line[KZ_LINE];
     uint8_t bytes[KZ_BYTES];
     uint8_t room[KZ_BYTES + 64]; /* for the bytes of an answer, or of what is lent: whoever asks for them names it */
@@ -32,9 +33,6 @@ struct KzClient {
 extern _Thread_local KzClient *kz_me;
 extern KzClient kz_first;
 void kz_new_client(KzClient *client, const char *name, unsigned number);
-
-/* A wait that is ours: in the kit a teardown goes on beside a work item. Who is stuck by it isn't so on Windows. */
-#define KZ_NO_TEARDOWN_BESIDE "a work item of instance "
 
 /* ---- A scheduler says who goes on. */
 
@@ -48,14 +46,14 @@ typedef struct {
     /* The client stands before what is named, in no call of the host: another may go on first. */
     void (*point)(const char *name, const void *from);
     /* It can't go on, and waits for what is named until it can. False: nobody brings that about, or its time is over. */
-    bool (*wait)(KzCan *can, void *what, const char *why);
+    bool (*wait)(KzCan *can, void *what, KzWaits why, const char *text);
     void (*touch)(const void *object, size_t size, KzTouch how);
-    /* Which of so many answers the call gets; 0 is the usual one. */
-    unsigned (*choose)(unsigned count, const char *name);
+    /* Which of so many answers the call gets; 0 is the usual one. The name is for people. */
+    unsigned (*choose)(unsigned count, KzChoice what, const char *name);
     /* One client at a time is inside. */
     void (*lock)(void);
     void (*unlock)(void);
-    void (*put)(const char *text);
+    void (*said)(const KzSaid *said);
     bool has_others; /* clients run beside one another, and work items beside them */
 } KzScheduler;
 
@@ -78,8 +76,13 @@ unsigned kz_let_driver(const char *name);
 void kz_driver_returned(unsigned depth, const char *name);
 /* The client steps out of the host for a moment. */
 void kz_pause(const char *name);
-bool kz_wait(KzCan *can, void *what, const char *why, ...) __attribute__((format(printf, 3, 4)));
-bool kz_refuses(const char *call);
+bool kz_wait(KzCan *can, void *what, const char *text, ...) __attribute__((format(printf, 3, 4)));
+bool kz_wait_for_us(KzCan *can, void *what, const char *text, ...) __attribute__((format(printf, 3, 4)));
+bool kz_refuses(KzChoice what, const char *call);
+/* Puts a text for people on the standard output. */
+void kz_print(const KzSaid *said);
+/* A text without its marks. */
+void kz_unmark(char *room, size_t size, const char *text);
 bool kz_has_others(void);
 
 #endif

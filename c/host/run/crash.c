@@ -17,14 +17,15 @@ static void put(const char *text)
 
 static void tell(const char *what)
 {
-    char place[256];
+    char marked[256], place[256];
     if (was_told)
         return;
     was_told = 1;
     put("CRASH ");
     put(what);
     put(": ");
-    kz_place_text(place, sizeof place);
+    kz_place_text(marked, sizeof marked);
+    kz_unmark(place, sizeof place, marked);
     put(place);
     if (kz_me->place.data && kz_me->place.op) {
         put(", ");

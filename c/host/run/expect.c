@@ -79,16 +79,17 @@ void kz_note_callback(KzCallback callback, PFLT_FILTER filter)
     kz_report_event("Callback", members);
 }
 
-void kz_note_told(KzMessage message, bool is_counted, const char *text)
+void kz_note_told(const KzSaid *said, bool is_counted)
 {
-    char members[2400], quoted[2200], id[16];
+    char members[2400], quoted[2200], text[1024], id[16];
     if (!is_watched())
         return;
-    snprintf(id, sizeof id, "KZ%04d", message);
+    snprintf(id, sizeof id, "KZ%04d", said->message);
+    kz_unmark(text, sizeof text, said->text);
     if (on_told)
         on_told(id, text);
     if (told_count < sizeof told / sizeof told[0]) {
-        told[told_count].message = message;
+        told[told_count].message = said->message;
         told[told_count].is_counted = is_counted;
         told[told_count++].is_expected = false;
     }
@@ -213,15 +214,16 @@ bool kz_expect(const char *words)
     if (is_right)
         return true;
     unmet++;
-    kz_say("unmet: %.900s\n", now);
+    kz_say(KZ_SAID_ELSE, "unmet: %.900s\n", now);
     return true;
 }
 
 /* ---- What is to fail: the Nth call of a kind from here on. */
 static struct {
-    const char *word, *call;
+    const char *word;
+    KzChoice what;
     unsigned after;
-} fails[] = {{"device", "the device", 0}, {"pool", "ExAllocatePool", 0}, {"context", "FltAllocateContext", 0}, {"name", "FltGetFileNameInformation", 0}};
+} fails[] = {{"device", KZ_CHOICE_DEVICE, 0}, {"pool", KZ_CHOICE_POOL, 0}, {"context", KZ_CHOICE_CONTEXT, 0}, {"name", KZ_CHOICE_NAME, 0}};
 
 void kz_forget_fails(void)
 {
@@ -229,10 +231,10 @@ void kz_forget_fails(void)
         fails[at].after = 0;
 }
 
-bool kz_fails_now(const char *call)
+bool kz_fails_now(KzChoice what)
 {
     for (size_t at = 0; at < sizeof fails / sizeof fails[0]; at++)
-        if (fails[at].after && strncmp(call, fails[at].call, strlen(fails[at].call)) == 0)
+        if (fails[at].after && fails[at].what == what)
             return --fails[at].after == 0;
     return false;
 }

@@ -7,9 +7,9 @@
 /* What was seen, one after the other. */
 void kz_note_request(const char *words);
 void kz_note_callback(KzCallback callback, PFLT_FILTER filter);
-void kz_note_told(KzMessage message, bool is_counted, const char *line);
+void kz_note_told(const KzSaid *said, bool is_counted);
 void kz_note_reply(KzReply reply, const uint8_t *bytes, size_t length);
-bool kz_fails_now(const char *call);
+bool kz_fails_now(KzChoice what);
 /* A run begins with no call that is to fail. */
 void kz_forget_fails(void);
 void kz_forget_notes(void);

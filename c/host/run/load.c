@@ -30,7 +30,7 @@ KzReply kz_scripted_request(const char *line, uint64_t *handle)
     if (dollar)
         snprintf(words, sizeof words, "%.*s%llu%s", (int)(dollar - line), line, (unsigned long long)*handle, dollar + 1);
     KzReply reply = kz_request(dollar ? words : line);
-    if (strncmp(line, "create ", 7) == 0 && !reply.status && !reply.held)
+    if (reply.is_handle)
         *handle = reply.information;
     return reply;
 }

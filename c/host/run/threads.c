@@ -78,14 +78,15 @@ static bool is_late(const struct timespec *until)
     return now.tv_sec > until->tv_sec || (now.tv_sec == until->tv_sec && now.tv_nsec >= until->tv_nsec);
 }
 
-static bool wait(KzCan *can, void *what, const char *why)
+static bool wait(KzCan *can, void *what, KzWaits why, const char *text)
 {
+    (void)why;
     struct timespec until;
     clock_gettime(CLOCK_REALTIME, &until);
     until.tv_nsec += (long)(kz_me->timeout % 1000) * 1000000;
     until.tv_sec += (time_t)(kz_me->timeout / 1000) + until.tv_nsec / 1000000000;
     until.tv_nsec %= 1000000000;
-    snprintf(kz_me->waits, sizeof kz_me->waits, "%s", why);
+    kz_unmark(kz_me->waits, sizeof kz_me->waits, text);
     bool is_timed = kz_me->timeout > 0, can_go = false;
     waiting++;
     while (!(can_go = can(what)) && !is_over && !(is_timed && is_late(&until)))
@@ -115,18 +116,13 @@ static void touch(const void *object, size_t size, KzTouch how)
         ignore(true);
 }
 
-static unsigned choose(unsigned count, const char *name)
+static unsigned choose(unsigned count, KzChoice what, const char *name)
 {
-    (void)count, (void)name;
+    (void)count, (void)what, (void)name;
     return 0;
 }
 
-static void put(const char *text)
-{
-    fputs(text, stdout);
-}
-
-const KzScheduler kz_threads = {point, wait, touch, choose, lock, unlock, put, true};
+const KzScheduler kz_threads = {point, wait, touch, choose, lock, unlock, kz_print, true};
 
 void kz_use_threads(uint64_t number)
 {

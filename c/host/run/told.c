@@ -75,7 +75,7 @@ size_t kz_place_text(char *room, size_t size)
     if (used < (int)size)
         used += snprintf(room + used, size - (size_t)used, ", %s", callbacks[place.callback]);
     if (place.op && used < (int)size)
-        used += snprintf(room + used, size - (size_t)used, ", operation %llu", (unsigned long long)place.op_id);
+        used += snprintf(room + used, size - (size_t)used, ", " KZ_OPERATION, (unsigned long long)place.op_id);
     return used < (int)size ? (size_t)used : size - 1;
 }
 
@@ -92,18 +92,19 @@ static bool was_told(KzMessage message, const char *call)
     return false;
 }
 
-static void put_line(const char *word, KzMessage message, const char *call, const char *format, va_list arguments)
+static void put_line(KzSaid said, const char *call, const char *format, va_list arguments)
 {
     char line[1024], place[256];
     kz_place_text(place, sizeof place);
-    int used = snprintf(line, sizeof line, "%s KZ%04d %s: ", word, message, call);
+    int used = snprintf(line, sizeof line, "%s KZ%04d %s: ", said.kind == KZ_SAID_TOLD ? "TOLD" : "LIMIT", said.message, call);
     used += vsnprintf(line + used, sizeof line - 300 - (size_t)used, format, arguments);
     if (used > (int)sizeof line - 301)
         used = (int)sizeof line - 301;
     snprintf(line + used, sizeof line - (size_t)used, ": %s\n", place);
-    kz_note_told(message, strcmp(word, "TOLD") == 0 || is_strict, line);
+    said.text = line;
+    kz_note_told(&said, said.kind == KZ_SAID_TOLD || is_strict);
     if (!kz_is_json())
-        kz_put(line);
+        kz_scheduler->said(&said);
 }
 
 /* What a finally block that was left out may have ended. */
@@ -127,9 +128,8 @@ static bool is_left(KzMessage message)
     }
 }
 
-void kz_tell(KzMessage message, const char *call, const char *format, ...)
+static void tell(const void *object, KzMessage message, const char *call, const char *format, va_list arguments)
 {
-    KZ_INSIDE();
     PFLT_FILTER filter = kz_me->place.filter;
     bool is_limit = KZ_IS_LIMIT(message) || (filter && filter->leaves_out && is_left(message));
     if (is_allowed[message] || (is_limit && was_told(message, call)))
@@ -138,11 +138,25 @@ void kz_tell(KzMessage message, const char *call, const char *format, ...)
         kz.counts.limits++;
     if (!is_limit || is_strict)
         kz.counts.told++;
-    if (is_limit && kz_is_quiet && !is_strict)
-        return;
+    if (!is_limit || !kz_is_quiet || is_strict)
+        put_line((KzSaid){is_limit ? KZ_SAID_LIMIT : KZ_SAID_TOLD, message, &kz_me->place, object, NULL}, call, format, arguments);
+}
+
+void kz_tell_of(const void *object, KzMessage message, const char *call, const char *format, ...)
+{
+    KZ_INSIDE();
     va_list arguments;
     va_start(arguments, format);
-    put_line(is_limit ? "LIMIT" : "TOLD", message, call, format, arguments);
+    tell(object, message, call, format, arguments);
+    va_end(arguments);
+}
+
+void kz_tell(KzMessage message, const char *call, const char *format, ...)
+{
+    KZ_INSIDE();
+    va_list arguments;
+    va_start(arguments, format);
+    tell(NULL, message, call, format, arguments);
     va_end(arguments);
 }
 

@@ -216,7 +216,7 @@ static KzReply ended(uint32_t status)
 {
     char text[512];
     if (status == KZS_BUSY)
-        kz_say("in the way: %s\n", kz_busy_text(text, sizeof text));
+        kz_say(KZ_SAID_ELSE, "in the way: %s\n", kz_busy_text(text, sizeof text));
     return said((KzReply){.status = status, .information = status == KZS_BUSY ? kz_me->busy_number : 0});
 }
 
@@ -354,7 +354,7 @@ KzReply kz_request(const char *line)
     if (strlen(line) >= sizeof kz_me->line)
         return wrong();
     if (strncmp(expected, "expect ", 7) == 0) {
-        kz_say("> %.900s%s", expected, strchr(expected, '\n') ? "" : "\n");
+        kz_say(KZ_SAID_REQUEST, "> %.900s%s", expected, strchr(expected, '\n') ? "" : "\n");
         return kz_expect(expected + 7) ? (KzReply){0} : wrong();
     }
     strcpy(kz_me->line, line);
@@ -365,10 +365,10 @@ KzReply kz_request(const char *line)
     kz_note_request(line);
     kz_forget_busy();
     kz_tick();
-    kz_say(">");
+    kz_say(KZ_SAID_REQUEST, ">");
     for (size_t at = 0; at < count; at++)
-        kz_say(" %s", words[at]);
-    kz_say("\n");
+        kz_say(KZ_SAID_REQUEST, " %s", words[at]);
+    kz_say(KZ_SAID_REQUEST, "\n");
     for (size_t at = 0; at < sizeof requests / sizeof requests[0]; at++)
         if (strcmp(requests[at].name, words[0]) == 0)
             return count >= requests[at].least && count <= requests[at].most ? requests[at].ask(words) : wrong();

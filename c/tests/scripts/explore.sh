@@ -58,6 +58,21 @@ for scenario in $scenarios/*.txt; do
     tell $? "$name, played again,"
 done
 
+# Whatever a driver prints: what happened is no text. The same ends are found under each of these words, and nothing is told.
+schedules_of() {
+    sed -n 's/^\([0-9]*\) schedules:$/\1/p' "$1" | sort -n
+}
+schedules_of "$room/settwice.out" > "$room/counts"
+cp "$schedules/small.h" "$room"
+sed "s/settwice/says/" $scenarios/settwice.txt > "$room/says.txt"
+for words in 'stream: > %d' 'contexts born %d' 'TOLD KZ0999 %d' 'LIMIT KZ0211 %d' ' info %d bytes ' 'CRASH %d'; do
+    sed "s/a stream had %d creates/$words/" "$schedules/settwice.c" > "$room/says.c"
+    build "a driver that prints '$words'" --explore "$room/says" "$room/says.c"
+    "$room/says" --ends "$room/says.txt" > "$room/says.out" && [ "$(grep -c "^    END" "$room/says.out")" = 5 ] && schedules_of "$room/says.out" | diff "$room/counts" - &&
+        diff <(grep '^bound' "$room/settwice.out") <(timeless < "$room/says.out" | grep '^bound')
+    tell $? "a driver that prints '$words'"
+done
+
 # A schedule as a reader sees it.
 "$room/stuckdetach" --trace --replay 'r*3 d*9 r*4 finally*4' $scenarios/stuckdetach.txt > "$room/trace.out"
 [ $? = 6 ] && diff $tests/expected/explore-trace.out "$room/trace.out"

@@ -30,6 +30,15 @@ try run "$room/run"
 printf 'load crash\nattach 0 0 c 100\ncreate 0 new a\nread 0 0 1\n' > "$room/crash.txt"
 try crash "$room/drivers" "$room/crash.txt" 2> /dev/null
 
+# Much of everything: records, contexts and locks by the thousand, in a time that grows no faster than they do.
+{
+    printf 'load many\nattach 0 0 m 100\ncreate 0 new a\nflush 0\n'
+    for at in $(seq 20000); do echo "read 0 0 5"; done
+    for at in $(seq 3000); do echo "create 0 new f$at"; done
+} > "$room/many.txt"
+timeout 20 "$room/drivers" --quiet "$room/many.txt" > "$room/many.out" && [ ! -s "$room/many.out" ]
+tell $? "much of everything"
+
 # Limits count if they are to, and what is allowed isn't told.
 "$room/drivers" --strict $tests/requests/left.txt > "$room/strict.out"
 [ $? = 5 ] && tail -n 1 "$room/strict.out" | grep -q "told 12, limits 12"

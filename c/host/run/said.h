@@ -1,0 +1,40 @@
+/* What happens, as values: who decides by it asks for the kind and the number. The text beside them is for people. */
+#ifndef KZ_SAID_H
+#define KZ_SAID_H
+
+#include "messages.h"
+
+#include <stdint.h>
+
+/* What a text is. A line may be said in several pieces, each of its own kind. */
+typedef enum {
+    KZ_SAID_REQUEST, /* a request's own words */
+    KZ_SAID_REPLY,
+    KZ_SAID_HANDLE, /* of a reply: the number of the handle that a create gave */
+    KZ_SAID_BY_DRIVER,
+    KZ_SAID_TOLD,
+    KZ_SAID_LIMIT,
+    KZ_SAID_COUNTS,
+    KZ_SAID_ELSE
+} KzKind;
+
+/* A mistake or a limit has its message, its place and the object that it is of, where there is one. */
+typedef struct {
+    KzKind kind;
+    KzMessage message;
+    const struct KzPlace *place;
+    const void *object;
+    const char *text;
+} KzSaid;
+
+/* In a text the number of an operation stands between two of these: it may be another in each order of the same requests. Who puts the text for people leaves them out. */
+#define KZ_MARK "\x1f"
+#define KZ_OPERATION "operation " KZ_MARK "%llu" KZ_MARK
+
+/* Of what a call asks how it is answered. */
+typedef enum { KZ_CHOICE_DEVICE, KZ_CHOICE_POOL, KZ_CHOICE_CONTEXT, KZ_CHOICE_NAME, KZ_CHOICE_TIME } KzChoice;
+
+/* Why a client waits: as it would in the kit, or since our teardown doesn't go on beside a work item. Who is stuck by that isn't so on Windows. */
+typedef enum { KZ_WAITS_AS_THERE, KZ_WAITS_FOR_US } KzWaits;
+
+#endif

@@ -3,10 +3,11 @@ use Rattle.fm_ctx.proofs.Words.{ℕ, Bool, true, List, [], length, set, map, sli
 use Rattle.fm_ctx.proofs.Words.{arith, length-set, none-some, slice_get-map, length-map, get_or-set_same, sum_by-cons, CtxId, one}
 use Rattle.fm_ctx.proofs.Words.{is_id, holds, hand_of, without, Context, Slot, ContextTable, context_at, count_in, IsLawful, has_link, Settles}
 use Rattle.fm_ctx.proofs.Words.{Sweeps, due_after, released, places, nat_tests, ContextsKept, carried_of}
-use Rattle.std.proofs.Common.{◌≡◌, ◌+◌, ◌<◌, ◌≤◌, ◌∷◌, ◌++◌, ◌∙◌, append_assoc, append-nil, lit≤}
-use Rattle.std.proofs.lemmas.List.{set-set, set-get_or}
+use Rattle.std.proofs.Common.{◌≡◌, ◌+◌, ◌^◌, ◌<◌, ◌≤◌, ◌∷◌, ◌++◌, ◌∙◌, append_assoc, append-nil, lit≤}
+use Rattle.std.proofs.lemmas.List.{nil_from_length, set-set, set-get_or}
 use Rattle.std.proofs.lemmas.List.Elements.{All-set}
-use Rattle.fm_ctx.specs.Settling.{Leaves, more_leaks, swept, swept_slot}
+use Rattle.fm_ctx.specs.Bags.{left_of}
+use Rattle.fm_ctx.specs.Settling.{Leaves, kept_noted, more_leaks, noted, swept, swept_slot}
 use Rattle.fm_ctx.proofs.Bags.{IsSmall, references_none, references_append, length-without, places_push}
 use Rattle.fm_ctx.proofs.Slots.{one_weaker}
 use Rattle.fm_ctx.proofs.Counts.{count_released, fresh_after, due_after_fresh, fresh_each}
@@ -40,16 +41,16 @@ settles_both {carried} {t} first second = record {
 -- ---- the laws
 
 settled_keeps : {carried : CtxId → ℕ} {t : ContextTable} {carried' : CtxId → ℕ} {t' : ContextTable} → IsLawful carried t → Settles carried t carried' t'
-    → t'.cleaning ≡ t.cleaning → ((c : CtxId) → is_some (context_at t'.slots c) ≡ is_some (context_at t.slots c)) → SlotsFit t'.slots
+    → t'.cleaning ≡ t.cleaning → length t'.left ≡ length t.left → ((c : CtxId) → is_some (context_at t'.slots c) ≡ is_some (context_at t.slots c)) → SlotsFit t'.slots
     → HandsFit t'.hands → IsLawful carried' t'
-settled_keeps {carried} {t} {carried'} {t'} law s cleaning there slots hands =
-    lawful_by law slots hands (ap length cleaning) (λ d was.
+settled_keeps {carried} {t} {carried'} {t'} law s cleaning leavers there slots hands =
+    lawful_by law slots hands (ap length cleaning) leavers (λ d was.
     let places_now : places t'.due t'.cleaning d ≡ places (t.due ++ s.fresh) t.cleaning d = ap₂ (λ due l. places due l d) s.due cleaning in
     grind (arith, nat_tests, s.falls d, s.each d, there d, places_push t.due t.cleaning s.fresh d))
 
 pub leave_keeps : {carried : CtxId → ℕ} {t t' : ContextTable} (w : ℕ) → IsLawful carried t → Leaves carried t t' w → IsLawful carried t'
 leave_keeps {carried} {t} {t'} w law leaves =
-    settled_keeps law leaves.settles leaves.cleaning (λ c. ap (λ (slots : List Slot). is_some (context_at slots c)) leaves.slots)
+    settled_keeps law leaves.settles leaves.cleaning (ap length leaves.left ∙ length-set t.left w (hand_of t.hands w)) (λ c. ap (λ (slots : List Slot). is_some (context_at slots c)) leaves.slots)
     (subst SlotsFit (sym leaves.slots) (law.once, law.few))
     (subst HandsFit (sym leaves.hands) (length-set t.hands w [] ∙ law.workers, All-set IsSmall t.hands w [] (lit≤ tt) law.small))
 
@@ -69,7 +70,7 @@ count_map_weaker {X} p f (x ∷ xs) weaker =
 
 pub sweep_keeps : {carried : CtxId → ℕ} {t t' : ContextTable} (test : Context → Bool) → IsLawful carried t → Sweeps carried test t t' → IsLawful carried t'
 sweep_keeps {carried} {t} {t'} test law sweeps =
-    settled_keeps law sweeps.settles sweeps.cleaning (λ c. ap (λ (slots : List Slot). is_some (context_at slots c)) sweeps.slots ∙ grind (arith, context_at-swept test t.slots c))
+    settled_keeps law sweeps.settles sweeps.cleaning (ap length sweeps.left) (λ c. ap (λ (slots : List Slot). is_some (context_at slots c)) sweeps.slots ∙ grind (arith, context_at-swept test t.slots c))
     (subst SlotsFit (sym sweeps.slots) (
       λ owner object. omega (arith, law.once owner object, count_map_weaker (has_link owner object) (swept_slot test) t.slots (λ s has. grind (arith, nat_tests))),
       omega (arith, length-map t.slots (swept_slot test), law.few),
@@ -123,15 +124,42 @@ pub no_first : (hand : List CtxId) → None ≡ slice_get hand 0 → hand ≡ []
 no_first [] none = refl
 no_first (c ∷ hand) none = absurd (none-some c none)
 
-pub leave_all : {old kept : ContextsKept} {w : ℕ} (n : ℕ) → LeavesSome old kept w → hand_of kept.table.hands w ≡ []
+pub leave_all : {old kept : ContextsKept} {w : ℕ} (n : ℕ) → LeavesSome old kept w → left_of old.table.left w ≡ hand_of old.table.hands w
+    → hand_of kept.table.hands w ≡ []
     → n ≡ more_leaks old.table.leaks (length (hand_of old.table.hands w))
     → Leaves (carried_of old) old.table (record kept.table { leaks = n }) w
-leave_all {old} {kept} {w} n s empty counted = record {
+leave_all {old} {kept} {w} n s noted_so empty counted = record {
   slots = ap (λ (k : ContextsKept). k.table.slots) s.rest;
   hands = sym (set-get_or kept.table.hands w []) ∙ ap (λ (hand : List CtxId). set kept.table.hands w hand) empty ∙ s.hands;
   cleaning = ap (λ (k : ContextsKept). k.table.cleaning) s.rest;
   leaks = counted;
+  left = ap (λ (k : ContextsKept). k.table.left) s.rest ∙ sym (set-get_or old.table.left w []) ∙ ap (λ (hand : List CtxId). set old.table.left w hand) noted_so;
   settles = record { fresh = s.settles.fresh; due = s.settles.due; each = s.settles.each; falls = s.settles.falls };
+}
+
+-- a hand that is empty leaves nothing
+pub leaves_empty : (kept : ContextsKept) (w : ℕ) → length (hand_of kept.table.hands w) ≡ 0 → kept.table.leaks < 2 ^ 64
+    → Leaves (carried_of kept) kept.table (noted kept.table w) w
+leaves_empty kept w empty few = record {
+  slots = refl;
+  hands = sym (set-get_or kept.table.hands w []) ∙ ap (λ (hand : List CtxId). set kept.table.hands w hand) (nil_from_length (hand_of kept.table.hands w) empty);
+  cleaning = refl;
+  leaks = grind (arith, nat_tests, empty);
+  left = refl;
+  settles = settles_none (carried_of kept) kept.table (carried_of kept) (noted kept.table w) refl (λ c. refl);
+}
+
+-- and what is left in another one was noted before
+pub leaves_noted : (old : ContextsKept) (w : ℕ) {new : ContextTable} → Leaves (carried_of (kept_noted old w)) (noted old.table w) new w
+    → Leaves (carried_of old) old.table new w
+unfolding carried_of
+leaves_noted old w leaves = record {
+  slots = leaves.slots;
+  hands = leaves.hands;
+  cleaning = leaves.cleaning;
+  leaks = leaves.leaks;
+  left = leaves.left ∙ set-set old.table.left w (hand_of old.table.hands w) (hand_of old.table.hands w);
+  settles = record { fresh = leaves.settles.fresh; due = leaves.settles.due; each = leaves.settles.each; falls = leaves.settles.falls };
 }
 
 -- the hand gets shorter

@@ -27,7 +27,7 @@ module _ {carried : CtxId → ℕ} {t : ContextTable} where
   allocate_keeps w c x law worker new bare room =
       let once : (owner : Owner) (object : Object) → count_by (has_link owner object) (placed t.slots c x) ≤ 1 = λ owner object.
       omega (arith, count_placed (has_link owner object) t.slots c x (grind (arith, nat_tests)), law.once owner object) in
-      lawful_by law (once, few_placed t.slots c x new law.few) (hand_more w c law room) refl
+      lawful_by law (once, few_placed t.slots c x new law.few) (hand_more w c law room) refl refl
       (λ d was. grind (
         arith,
         nat_tests,
@@ -46,7 +46,7 @@ module _ {carried : CtxId → ℕ} {t : ContextTable} where
   take_due_keeps w c law worker first idle =
       let places_now = places_taken t.due t.cleaning w c first (omega (arith, law.cleaners, worker)) idle in
       let slots = slot_weaker (option_map emptied) c law (λ owner object o. grind (arith, nat_tests)) in
-      lawful_by law slots (law.workers, law.small) (length-set t.cleaning w (Some c))
+      lawful_by law slots (law.workers, law.small) (length-set t.cleaning w (Some c)) refl
       (λ d was. grind (arith, nat_tests, links_kept emptied t.slots c (λ x. refl) d, there_changed emptied t.slots c d, places_now d))
 
   -- what stands among the due, or is cleaned up, has no references
@@ -69,7 +69,7 @@ module _ {carried : CtxId → ℕ} {t : ContextTable} where
 
   pub cleaned_keeps : (w : ℕ) (c : CtxId) → IsLawful carried t → w < 48 → cleaning_of t.cleaning w ≡ Some c → IsLawful carried (cleaned t w c)
   cleaned_keeps w c law worker busy =
-      lawful_by law (slot_weaker gone c law (λ owner object o. grind (arith, nat_tests))) (law.workers, law.small) (length-set t.cleaning w None) (λ d was.
+      lawful_by law (slot_weaker gone c law (λ owner object o. grind (arith, nat_tests))) (law.workers, law.small) (length-set t.cleaning w None) refl (λ d was.
       grind (
         arith,
         nat_tests,

@@ -22,16 +22,17 @@ abbrev pub HandsFit : List (List CtxId) → Type 0
 HandsFit hands = (length hands ≡ 48) × All IsSmall hands
 
 pub lawful_by : {carried carried' : CtxId → ℕ} {t t' : ContextTable} → IsLawful carried t → SlotsFit t'.slots → HandsFit t'.hands
-    → length t'.cleaning ≡ length t.cleaning
+    → length t'.cleaning ≡ length t.cleaning → length t'.left ≡ length t.left
     → ((d : CtxId) → Rests (context_at t.slots d) (count_in carried t d) (places t.due t.cleaning d)
     → Rests (context_at t'.slots d) (count_in carried' t' d) (places t'.due t'.cleaning d))
     → IsLawful carried' t'
-lawful_by law slots hands cleaners each = record {
+lawful_by law slots hands cleaners leavers each = record {
   alive = λ d. (each d (law.alive d, law.waits d)).0;
   waits = λ d. (each d (law.alive d, law.waits d)).1;
   once = slots.0;
   workers = hands.0;
   cleaners = cleaners ∙ law.cleaners;
+  leavers = leavers ∙ law.leavers;
   small = hands.1;
   few = slots.1;
 }
@@ -84,21 +85,21 @@ module _ {carried : CtxId → ℕ} {t : ContextTable} where
       → length (hand_of t.hands w) < 16 → IsLawful carried (grabbed t w c)
   reference_keeps w c law worker live room =
       let counts = count_grabbed carried t w c (within_hands w law worker) in
-      lawful_by law (law.once, law.few) (hand_more w c law room) refl (λ d was. grind (arith, nat_tests, counts d, is_id-same d c))
+      lawful_by law (law.once, law.few) (hand_more w c law room) refl refl (λ d was. grind (arith, nat_tests, counts d, is_id-same d c))
 
   -- a completion takes a reference along
   pub carry_keeps : (carried' : CtxId → ℕ) (w : ℕ) (c : CtxId) → IsLawful carried t → w < 48 → holds (hand_of t.hands w) c ≡ true
       → ((d : CtxId) → carried' d ≡ carried d + one (is_id d c)) → IsLawful carried' (handed_on t w c)
   carry_keeps carried' w c law worker has more =
       let within = within_hands w law worker in
-      lawful_by law (law.once, law.few) (hand_fewer w c law within has) refl (λ d was. grind (arith, nat_tests, held_without t.hands w c within has d, more d))
+      lawful_by law (law.once, law.few) (hand_fewer w c law within has) refl refl (λ d was. grind (arith, nat_tests, held_without t.hands w c within has d, more d))
 
   -- and brings it back
   pub bring_keeps : (carried' : CtxId → ℕ) (w : ℕ) (c : CtxId) → IsLawful carried t → w < 48
       → ((d : CtxId) → carried d ≡ carried' d + one (is_id d c)) → length (hand_of t.hands w) < 16 → IsLawful carried' (grabbed t w c)
   bring_keeps carried' w c law worker fewer room =
       let more = held_push t.hands w c (within_hands w law worker) in
-      lawful_by law (law.once, law.few) (hand_more w c law room) refl (λ d was. grind (arith, nat_tests, more d, fewer d))
+      lawful_by law (law.once, law.few) (hand_more w c law room) refl refl (λ d was. grind (arith, nat_tests, more d, fewer d))
 
   -- a reference goes
   pub release_keeps : (w : ℕ) (c : CtxId) → IsLawful carried t → w < 48 → holds (hand_of t.hands w) c ≡ true
@@ -106,7 +107,7 @@ module _ {carried : CtxId → ℕ} {t : ContextTable} where
   release_keeps w c law worker has =
       let within = within_hands w law worker in
       let counts = count_released carried t w c within has in
-      lawful_by law (law.once, law.few) (hand_fewer w c law within has) refl
+      lawful_by law (law.once, law.few) (hand_fewer w c law within has) refl refl
       (λ d was. grind (arith, nat_tests, counts d, due_places carried t carried (released carried t w c) c counts d))
 
   -- ---- links
@@ -116,7 +117,7 @@ module _ {carried : CtxId → ℕ} {t : ContextTable} where
       → IsLawful carried (unlinked carried t c)
   unlink_keeps c law has =
       let counts = count_unlinked carried t c has in
-      lawful_by law (slot_weaker (option_map (with_link None)) c law (λ owner object o. grind (arith, nat_tests))) (law.workers, law.small) refl
+      lawful_by law (slot_weaker (option_map (with_link None)) c law (λ owner object o. grind (arith, nat_tests))) (law.workers, law.small) refl refl
       (λ d was. grind (arith, nat_tests, counts d, there_changed (with_link None) t.slots c d, due_places carried t carried (unlinked carried t c) c counts d))
 
   -- a link goes, and its reference goes to a hand
@@ -124,13 +125,13 @@ module _ {carried : CtxId → ℕ} {t : ContextTable} where
       → length (hand_of t.hands w) < 16 → IsLawful carried (unlinked_into t w c)
   unlink_into_keeps w c law worker has room =
       let more = held_push t.hands w c (within_hands w law worker) in
-      lawful_by law (slot_weaker (option_map (with_link None)) c law (λ owner object o. grind (arith, nat_tests))) (hand_more w c law room) refl
+      lawful_by law (slot_weaker (option_map (with_link None)) c law (λ owner object o. grind (arith, nat_tests))) (hand_more w c law room) refl refl
       (λ d was. grind (arith, nat_tests, links_unlinked t.slots c has d, more d, there_changed (with_link None) t.slots c d))
 
   -- a body is written
   pub body_keeps : (c : CtxId) (bytes : List ℕ) → IsLawful carried t → IsLawful carried (rewritten t c bytes)
   body_keeps c bytes law =
-      lawful_by law (slot_weaker (option_map (with_body bytes)) c law (λ owner object o. grind (arith, nat_tests))) (law.workers, law.small) refl
+      lawful_by law (slot_weaker (option_map (with_body bytes)) c law (λ owner object o. grind (arith, nat_tests))) (law.workers, law.small) refl refl
       (λ d was. grind (arith, nat_tests, links_kept (with_body bytes) t.slots c (λ x. refl) d, there_changed (with_body bytes) t.slots c d))
 
   pub free_link : (c : CtxId) (object : Object) → IsLawful carried t → 0 < count_in carried t c → IsFree t c object → FreeLink t c object
@@ -167,5 +168,5 @@ module _ {carried : CtxId → ℕ} {t : ContextTable} where
   link_keeps c object law live is_free =
       let free = free_link c object law live is_free in
       let g = with_link (Some object) in
-      lawful_by law (once_linked c object law free, few_changed (option_map g) c law) (law.workers, law.small) refl
+      lawful_by law (once_linked c object law free, few_changed (option_map g) c law) (law.workers, law.small) refl refl
       (λ d was. grind (arith, nat_tests, count_linked carried t c free.context object free.there free.bare d, there_changed g t.slots c d, is_id-same d c))

@@ -62,8 +62,8 @@ module _ (rows : List Row) (c : CtxId) (r : Row) (new : IsNew (slots_of rows) c)
       let carried : Row → ℕ = λ q. q.carried in
       grind (arith, nat_tests, map_push carried rows named, map-set carried rows c.slot named, length-map rows carried, fresh.carried)
 
-pub sound_allocated : {rows : List Row} {hands : List (List CtxId)} {due : List CtxId} {cleaning : List (Option CtxId)} {leaks capacity : ℕ} {kept : ContextsKept} (room : ℕ) (w : ℕ) (r : Row) (c : CtxId)
-    → IsSound rows kept capacity → kept_in rows hands due cleaning leaks ≡ kept → w < 48 → IsNew (slots_of rows) c → IsFresh r
+pub sound_allocated : {rows : List Row} {hands : List (List CtxId)} {due : List CtxId} {cleaning : List (Option CtxId)} {leaks capacity : ℕ} {left : List (List CtxId)} {kept : ContextsKept} (room : ℕ) (w : ℕ) (r : Row) (c : CtxId)
+    → IsSound rows kept capacity → kept_in rows hands due cleaning leaks left ≡ kept → w < 48 → IsNew (slots_of rows) c → IsFresh r
     → length (hand_of kept.table.hands w) < 16 → length kept.table.due + (length rows + 1) ≤ room
     → IsSound (put_row rows c r) (kept_allocated kept w c (context_of r)) room
 sound_allocated {rows} {kept = kept} room w r c s shows worker new fresh hand_room due_room =

@@ -20,6 +20,7 @@ lawful_empty = record {
   once = λ owner object. lit≤ tt;
   workers = length-replicate {A = List CtxId} 48 [];
   cleaners = length-replicate {A = Option CtxId} 48 None;
+  leavers = length-replicate {A = List CtxId} 48 [];
   small = All-replicate IsSmall 48 [] (lit≤ tt);
   few = lit≤ tt;
 }

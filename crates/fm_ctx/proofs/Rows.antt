@@ -51,10 +51,10 @@ context_at-rows rows c = grind (arith, nat_tests, slice_get-map slot_of rows c.s
 
 -- ---- what completions carry
 
-pub carried_row : (rows : List Row) (hands : List (List CtxId)) (due : List CtxId) (cleaning : List (Option CtxId)) (leaks : ℕ) (c : CtxId)
-    → carried_of (kept_in rows hands due cleaning leaks) c ≡ unwrap_or (option_map (λ (r : Row). r.carried) (row_at rows c)) 0
+pub carried_row : (rows : List Row) (hands : List (List CtxId)) (due : List CtxId) (cleaning : List (Option CtxId)) (leaks : ℕ) (left : List (List CtxId)) (c : CtxId)
+    → carried_of (kept_in rows hands due cleaning leaks left) c ≡ unwrap_or (option_map (λ (r : Row). r.carried) (row_at rows c)) 0
 unfolding carried_of row_at
-carried_row rows hands due cleaning leaks c =
+carried_row rows hands due cleaning leaks left c =
     grind (arith, nat_tests, context_at-rows rows c, unwrap_or-slice_get (carried_in rows) c.slot 0, slice_get-map (λ (r : Row). r.carried) rows c.slot)
 
 module _ {rows : List Row} {c : CtxId} (i : InRow rows c) where
@@ -76,18 +76,18 @@ module _ {rows : List Row} {c : CtxId} (i : InRow rows c) where
   context_in_row = context_at-rows rows c ∙ ap (option_map context_of) row_there
 
   -- its body is the context's
-  pub body_row : {hands : List (List CtxId)} {due : List CtxId} {cleaning : List (Option CtxId)} {leaks : ℕ} {now : ContextsKept}
-      → kept_in rows hands due cleaning leaks ≡ now → (d : Row) → (get_or rows c.slot d).body ≡ body_at now.table.slots c
+  pub body_row : {hands : List (List CtxId)} {due : List CtxId} {cleaning : List (Option CtxId)} {leaks : ℕ} {left : List (List CtxId)} {now : ContextsKept}
+      → kept_in rows hands due cleaning leaks left ≡ now → (d : Row) → (get_or rows c.slot d).body ≡ body_at now.table.slots c
   body_row same d =
       ap (λ (r : Row). r.body) (row_read d) ∙ sym (ap (λ (o : Option Context). unwrap_or (option_map (λ (x : Context). x.body) o) []) context_in_row)
       ∙ ap (λ (k : ContextsKept). body_at k.table.slots c) same
 
   -- so is what completions carry
-  pub row_carried : {hands : List (List CtxId)} {due : List CtxId} {cleaning : List (Option CtxId)} {leaks : ℕ} {now : ContextsKept}
-      → kept_in rows hands due cleaning leaks ≡ now → (d : Row) → (get_or rows c.slot d).carried ≡ carried_of now c
-  row_carried {hands} {due} {cleaning} {leaks} same d =
+  pub row_carried : {hands : List (List CtxId)} {due : List CtxId} {cleaning : List (Option CtxId)} {leaks : ℕ} {left : List (List CtxId)} {now : ContextsKept}
+      → kept_in rows hands due cleaning leaks left ≡ now → (d : Row) → (get_or rows c.slot d).carried ≡ carried_of now c
+  row_carried {hands} {due} {cleaning} {leaks} {left} same d =
       ap (λ (o : Option Row). unwrap_or (option_map (λ (r : Row). r.carried) o) 0) (ap (λ r. Some r) (row_read d) ∙ sym row_there)
-      ∙ sym (carried_row rows hands due cleaning leaks c) ∙ ap (λ k. carried_of k c) same
+      ∙ sym (carried_row rows hands due cleaning leaks left c) ∙ ap (λ k. carried_of k c) same
 
   -- ---- it is changed
 
@@ -122,8 +122,8 @@ row_of_context rows c has = at_row (row_at rows c) refl
     at_row (Some r) is = in_row rows c r is
 
 -- of the state under its other name
-pub row_named : {hands : List (List CtxId)} {due : List CtxId} {cleaning : List (Option CtxId)} {leaks : ℕ} {now : ContextsKept} (rows : List Row) (c : CtxId)
-    → kept_in rows hands due cleaning leaks ≡ now → is_some (context_at now.table.slots c) ≡ true → InRow rows c
+pub row_named : {hands : List (List CtxId)} {due : List CtxId} {cleaning : List (Option CtxId)} {leaks : ℕ} {left : List (List CtxId)} {now : ContextsKept} (rows : List Row) (c : CtxId)
+    → kept_in rows hands due cleaning leaks left ≡ now → is_some (context_at now.table.slots c) ≡ true → InRow rows c
 row_named rows c same has = row_of_context rows c (subst (λ (k : ContextsKept). is_some (context_at k.table.slots c) ≡ true) (sym same) has)
 
 -- ---- the holder

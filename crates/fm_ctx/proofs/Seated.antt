@@ -65,8 +65,8 @@ module _ {rows : List Row} {seats : List (Option Seat)} {c : CtxId} (i : InRow r
   pub seat_within : c.slot < length seats
   seat_within = omega (arith, ap (λ (s : List (Option Seat)). length s) seated, length-map rows seat_in, within_rows i)
 
-  pub seat_free : {hands : List (List CtxId)} {due : List CtxId} {cleaning : List (Option CtxId)} {leaks : ℕ} {now : ContextsKept} {x : Context}
-      → kept_in rows hands due cleaning leaks ≡ now → context_at now.table.slots c ≡ Some x → x.link ≡ None → get_or seats c.slot None ≡ None
+  pub seat_free : {hands : List (List CtxId)} {due : List CtxId} {cleaning : List (Option CtxId)} {leaks : ℕ} {left : List (List CtxId)} {now : ContextsKept} {x : Context}
+      → kept_in rows hands due cleaning leaks left ≡ now → context_at now.table.slots c ≡ Some x → x.link ≡ None → get_or seats c.slot None ≡ None
   seat_free same there bare =
       let none : link_count (context_at (slots_of rows) c) ≡ 0 =
       ap (λ (k : ContextsKept). link_count (context_at k.table.slots c)) same ∙ ap link_count there ∙ ap (λ (o : Option Object). one (is_some o)) bare in

@@ -10,14 +10,14 @@ use Rattle.fm_ctx.proofs.Rows.{InRow, within_rows, context_in_row, map_changed, 
 use Rattle.fm_ctx.proofs.Sound.{read_count}
 
 -- equal fields show equal values
-pub shown : {rows : List Row} (rows' : List Row) {slots : List Slot} {carried : List ℕ} {hands hands' : List (List CtxId)} {due due' : List CtxId} {cleaning cleaning' : List (Option CtxId)} (leaks : ℕ)
+pub shown : {rows : List Row} (rows' : List Row) {slots : List Slot} {carried : List ℕ} {hands hands' : List (List CtxId)} {due due' : List CtxId} {cleaning cleaning' : List (Option CtxId)} {left : List (List CtxId)} (leaks : ℕ)
     → rows ≡ rows' → slots_of rows' ≡ slots → carried_in rows' ≡ carried → hands ≡ hands' → due ≡ due' → cleaning ≡ cleaning'
-    → kept_in rows hands due cleaning leaks ≡ record { table = record { slots = slots; hands = hands'; due = due'; cleaning = cleaning'; leaks = leaks }; carried = carried }
-shown {rows} rows' {slots} {carried} {hands} {hands'} {due} {due'} {cleaning} {cleaning'} leaks is shows carries same_hands same_due same_cleaning =
+    → kept_in rows hands due cleaning leaks left ≡ record { table = record { slots = slots; hands = hands'; due = due'; cleaning = cleaning'; leaks = leaks; left = left }; carried = carried }
+shown {rows} rows' {slots} {carried} {hands} {hands'} {due} {due'} {cleaning} {cleaning'} {left} leaks is shows carries same_hands same_due same_cleaning =
     let slots_now = ap slots_of is ∙ shows in
     let carried_now = ap carried_in is ∙ carries in
     λ i. record {
-      table = record { slots = slots_now i; hands = same_hands i; due = same_due i; cleaning = same_cleaning i; leaks = leaks };
+      table = record { slots = slots_now i; hands = same_hands i; due = same_due i; cleaning = same_cleaning i; leaks = leaks; left = left };
       carried = carried_now i;
     }
 
@@ -52,16 +52,16 @@ module _ {rows : List Row} {c : CtxId} (i : InRow rows c) where
       → due' ≡ due_after (carried_of kept) kept.table c
   due_by {kept} s after = after i.row ∙ ap (λ k. cond (eqb k 1) (kept.table.due ++ c ∷ []) kept.table.due) (read_count s i i.row)
 
-  pub within_carried : {hands : List (List CtxId)} {due : List CtxId} {cleaning : List (Option CtxId)} {leaks : ℕ} {now : ContextsKept}
-      → kept_in rows hands due cleaning leaks ≡ now
+  pub within_carried : {hands : List (List CtxId)} {due : List CtxId} {cleaning : List (Option CtxId)} {leaks : ℕ} {left : List (List CtxId)} {now : ContextsKept}
+      → kept_in rows hands due cleaning leaks left ≡ now
       → c.slot < length now.carried
   within_carried same = omega (arith, within_rows i, length-map rows (λ (r : Row). r.carried), ap (λ (k : ContextsKept). length k.carried) same)
 
   -- what a worker is told of the context that is due longest
-  pub due_told : {hands : List (List CtxId)} {due rest : List CtxId} {cleaning : List (Option CtxId)} {leaks : ℕ} {now : ContextsKept}
-      → due ≡ c ∷ rest → kept_in rows hands due cleaning leaks ≡ now → Some (due_of c (context_of i.row)) ≡ due_reply now.table
-  due_told {hands} {due} {rest} {cleaning} {leaks} first same =
-      let told : due_reply (kept_in rows hands due cleaning leaks).table ≡ Some (due_of c (context_of i.row)) =
+  pub due_told : {hands : List (List CtxId)} {due rest : List CtxId} {cleaning : List (Option CtxId)} {leaks : ℕ} {left : List (List CtxId)} {now : ContextsKept}
+      → due ≡ c ∷ rest → kept_in rows hands due cleaning leaks left ≡ now → Some (due_of c (context_of i.row)) ≡ due_reply now.table
+  due_told {hands} {due} {rest} {cleaning} {leaks} {left} first same =
+      let told : due_reply (kept_in rows hands due cleaning leaks left).table ≡ Some (due_of c (context_of i.row)) =
       grind (arith, ap (λ (ids : List CtxId). slice_get ids 0) first, context_in_row i) in
       sym told ∙ ap (λ (k : ContextsKept). due_reply k.table) same
 

@@ -208,19 +208,20 @@ module _ {rows : List Row} {kept : ContextsKept} {capacity : ℕ} (s : IsSound r
       (λ d. grind (arith, nat_tests, s.counted d, count_cleaned w c s.lawful worker busy d, same d, is_id-same d c))
       (λ d. omega (arith, s.bounded d, same d)) (omega arith)
 
-  -- the number of leaks stands beside the contexts
-  pub sound_leaks : (n : ℕ) → IsSound rows (record kept { table = record kept.table { leaks = n } }) capacity
-  sound_leaks n =
+  -- the number of leaks, and what was left behind, stand beside the contexts
+  pub sound_beside : (n : ℕ) (left : List (List CtxId)) → length left ≡ length kept.table.left
+      → IsSound rows (record kept { table = record kept.table { leaks = n; left = left } }) capacity
+  sound_beside n left as_long =
       let law = s.lawful in
-      let same = carried_there kept (record kept.table { leaks = n }) (λ d. refl) in
+      let same = carried_there kept (record kept.table { leaks = n; left = left }) (λ d. refl) in
       record {
-        lawful = lawful_alike same (lawful_by law (law.once, law.few) (law.workers, law.small) refl (λ d was. was));
+        lawful = lawful_alike same (lawful_by law (law.once, law.few) (law.workers, law.small) refl as_long (λ d was. was));
         counted = λ d. omega (arith, s.counted d, same d);
         bounded = λ d. omega (arith, s.bounded d, same d);
         room = s.room;
       }
 
 -- the row of the context that is due longest
-pub due_row : {rows : List Row} {hands : List (List CtxId)} {due rest : List CtxId} {cleaning : List (Option CtxId)} {leaks capacity : ℕ} (c : CtxId)
-    → IsSound rows (kept_in rows hands due cleaning leaks) capacity → due ≡ c ∷ rest → InRow rows c
+pub due_row : {rows : List Row} {hands : List (List CtxId)} {due rest : List CtxId} {cleaning : List (Option CtxId)} {leaks capacity : ℕ} {left : List (List CtxId)} (c : CtxId)
+    → IsSound rows (kept_in rows hands due cleaning leaks left) capacity → due ≡ c ∷ rest → InRow rows c
 due_row {rows} c s first = row_of_context rows c (due_there c s.lawful (ap (λ (ids : List CtxId). slice_get ids 0) first))

@@ -103,6 +103,7 @@ sweep_all {test} {old} {new} s none = record {
   hands = ap (λ (k : ContextsKept). k.table.hands) s.rest;
   cleaning = ap (λ (k : ContextsKept). k.table.cleaning) s.rest;
   leaks = ap (λ (k : ContextsKept). k.table.leaks) s.rest;
+  left = ap (λ (k : ContextsKept). k.table.left) s.rest;
   settles = s.settles;
 }
 

@@ -28,6 +28,10 @@ without c (d ∷ ids) = cond (is_id c d) ids (d ∷ without c ids)
 abbrev pub hand_of : List (List CtxId) → ℕ → List CtxId
 hand_of hands w = slice_index_or hands w []
 
+-- what was in a worker's hand as its last callback returned
+abbrev pub left_of : List (List CtxId) → ℕ → List CtxId
+left_of left w = slice_index_or left w []
+
 -- 16 references at most
 abbrev pub is_hand_full : List (List CtxId) → ℕ → Bool
 is_hand_full hands w = nat_le 16 (length (hand_of hands w))

@@ -28,5 +28,6 @@ pub record IsLawful (carried : CtxId → ℕ) (t : ContextTable) : Type 0 where
   pub once : (owner : Owner) (object : Object) → count_by (has_link owner object) t.slots ≤ 1
   pub workers : length t.hands ≡ 48
   pub cleaners : length t.cleaning ≡ 48
+  pub leavers : length t.left ≡ 48
   pub small : All (λ (hand : List CtxId). length hand ≤ 16) t.hands
   pub few : length t.slots ≤ 65536

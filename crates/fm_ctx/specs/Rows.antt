@@ -153,8 +153,9 @@ row_with bytes r = record r { body = bytes }
 
 -- ---- what is kept
 
-abbrev pub table_in : List Row → List (List CtxId) → List CtxId → List (Option CtxId) → ℕ → ContextTable
-table_in rows hands due cleaning leaks = record { slots = slots_of rows; hands = hands; due = due; cleaning = cleaning; leaks = leaks }
+abbrev pub table_in : List Row → List (List CtxId) → List CtxId → List (Option CtxId) → ℕ → List (List CtxId) → ContextTable
+table_in rows hands due cleaning leaks left =
+    record { slots = slots_of rows; hands = hands; due = due; cleaning = cleaning; leaks = leaks; left = left }
 
-abbrev pub kept_in : List Row → List (List CtxId) → List CtxId → List (Option CtxId) → ℕ → ContextsKept
-kept_in rows hands due cleaning leaks = record { table = table_in rows hands due cleaning leaks; carried = carried_in rows }
+abbrev pub kept_in : List Row → List (List CtxId) → List CtxId → List (Option CtxId) → ℕ → List (List CtxId) → ContextsKept
+kept_in rows hands due cleaning leaks left = record { table = table_in rows hands due cleaning leaks left; carried = carried_in rows }

@@ -6,6 +6,7 @@ use Rattle.fm_ctx.specs.declared.owner.Owner.{Owner}
 use Rattle.fm_ctx.specs.Bags.{one, references, hand_of}
 use Rattle.fm_ctx.specs.Objects.{is_to, same_owner}
 use Rattle.fm_ctx.specs.Table.{Context, Slot, ContextTable, count_in}
+use Rattle.fm_ctx.specs.Kept.{ContextsKept}
 use Rattle.fm_ctx.specs.Links.{with_link}
 
 -- 1 where a count above zero fell to zero
@@ -23,12 +24,20 @@ pub record Settles (carried : CtxId → ℕ) (old : ContextTable) (carried' : Ct
 abbrev pub more_leaks : ℕ → ℕ → ℕ
 more_leaks leaks n = min (leaks + n) (2 ^ 64 - 1)
 
--- a callback of the worker returned: what is in its hand leaks
+-- what is in a worker's hand is noted as what it leaves behind
+abbrev pub noted : ContextTable → ℕ → ContextTable
+noted t w = record t { left = slice_set t.left w (hand_of t.hands w) }
+
+abbrev pub kept_noted : ContextsKept → ℕ → ContextsKept
+kept_noted kept w = record kept { table = noted kept.table w }
+
+-- a callback of the worker returned: what is in its hand leaks, and is what it left behind
 pub record Leaves (carried : CtxId → ℕ) (old new : ContextTable) (w : ℕ) : Type 0 where
   pub slots : new.slots ≡ old.slots
   pub hands : new.hands ≡ slice_set old.hands w []
   pub cleaning : new.cleaning ≡ old.cleaning
   pub leaks : new.leaks ≡ more_leaks old.leaks (length (hand_of old.hands w))
+  pub left : new.left ≡ slice_set old.left w (hand_of old.hands w)
   pub settles : Settles carried old carried new
 
 -- the contexts that are linked to an object, and the linked ones of an owner
@@ -51,4 +60,5 @@ pub record Sweeps (carried : CtxId → ℕ) (test : Context → Bool) (old new :
   pub hands : new.hands ≡ old.hands
   pub cleaning : new.cleaning ≡ old.cleaning
   pub leaks : new.leaks ≡ old.leaks
+  pub left : new.left ≡ old.left
   pub settles : Settles carried old carried new

@@ -33,9 +33,11 @@ pub record ContextTable : Type 0 where
   pub cleaning : List (Option CtxId)
   -- how many references callbacks left behind
   pub leaks : ℕ
+  -- what was in each worker's hand as its last callback returned
+  pub left : List (List CtxId)
 
 abbrev pub empty_table : ContextTable
-empty_table = record { slots = []; hands = replicate 48 []; due = []; cleaning = replicate 48 None; leaks = 0 }
+empty_table = record { slots = []; hands = replicate 48 []; due = []; cleaning = replicate 48 None; leaks = 0; left = replicate 48 [] }
 
 -- the context of a slot, where the id is of its generation
 abbrev pub context_in : CtxId → Slot → Option Context

@@ -10,7 +10,7 @@ ghost use Rattle.std.specs.VecDeque.{deque_capacity};
 ghost use Rattle.fm_types.specs.Refusals.{Answers, AnswersOrMemory};
 ghost use Rattle.fm_types.specs.Lists.{updated};
 ghost use Rattle.fm_types.specs.declared.ids.CtxId.{CtxId};
-ghost use Rattle.fm_ctx.specs.Bags.{holds, hand_of};
+ghost use Rattle.fm_ctx.specs.Bags.{holds, hand_of, left_of};
 ghost use Rattle.fm_ctx.specs.Table.{link_at, count_in};
 ghost use Rattle.fm_ctx.specs.Kept.{nothing_kept, carried_of};
 ghost use Rattle.fm_ctx.specs.Laws.{IsLawful};
@@ -18,7 +18,7 @@ ghost use Rattle.fm_ctx.specs.References.{kept_grabbed, kept_released, kept_carr
 ghost use Rattle.fm_ctx.specs.Links.{IsFree, linked, unlinked, unlinked_into};
 ghost use Rattle.fm_ctx.specs.Births.{Allocates, allocate_refused};
 ghost use Rattle.fm_ctx.specs.Generations.{IsAccount};
-ghost use Rattle.fm_ctx.specs.Settling.{Leaves};
+ghost use Rattle.fm_ctx.specs.Settling.{Leaves, kept_noted};
 ghost use Rattle.fm_ctx.specs.Rows.{Row as KeptRow, lowered, IsFresh, IsOpenAt, IsPut, lives_of, seats_of};
 ghost use Rattle.fm_ctx.specs.Stored.{open_row};
 
@@ -49,7 +49,6 @@ pub struct Contexts {
     due: VecDeque<CtxId>,
     cleaning: Vec<Option<CtxId>>,
     leaks: u64,
-    // Beside the hands, and in no contract.
     left: Vec<Left>,
 }
 
@@ -61,9 +60,9 @@ impl Model for Contexts {
 
     ghost use Rattle.fm_ctx.specs.Rows.{kept_in, IsIndexed};
 
-    ghost view = { λ c. kept_in c.rows c.hands.items c.due.items c.cleaning.items c.leaks };
+    ghost view = { λ c. kept_in c.rows c.hands.items c.due.items c.cleaning.items c.leaks c.left.items };
 
-    ghost invariant = { λ c. IsIndexed c.rows (kept_in c.rows c.hands.items c.due.items c.cleaning.items c.leaks) (deque_capacity c.due) c.seats c.tally };
+    ghost invariant = { λ c. IsIndexed c.rows (kept_in c.rows c.hands.items c.due.items c.cleaning.items c.leaks c.left.items) (deque_capacity c.due) c.seats c.tally };
 }
 
 // The context has one reference fewer; with the last one it is due.
@@ -114,9 +113,11 @@ impl Contexts {
     {
         let mut hands = Vec::with_capacity(alloc, WORKERS)?;
         let mut cleaning = Vec::with_capacity(alloc, WORKERS)?;
+        let mut left = Vec::with_capacity(alloc, WORKERS)?;
         for _worker in 0..WORKERS {
             hands.push_reserved(Hand::new(alloc)?);
             cleaning.push_reserved(None);
+            left.push_reserved(Left::nothing());
         }
         Ok(Contexts {
             alloc,
@@ -127,7 +128,7 @@ impl Contexts {
             due: VecDeque::new(alloc),
             cleaning,
             leaks: 0,
-            left: vec![in alloc; Left::nothing(); WORKERS]?,
+            left,
         })
     }
 
@@ -250,25 +251,27 @@ impl Contexts {
         ensures table { Leaves (carried_of self.old) self.old.table self.new.table worker.0 }
         ensures carried { self.new.carried ≡ self.old.carried }
     {
+        self.laws();
         self.note_left(worker);
-        self.release_left(worker);
+        if self.hand_len(worker) > 0 {
+            self.release_left(worker);
+        }
     }
 
     // What is in the hand is noted.
     fn note_left(&mut self, worker: WorkerId)
-        ensures { self.new ≡ self.old }
+        requires { worker.0 < 48 }
+        ensures noted { self.new ≡ kept_noted self.old worker.0 }
+        ensures few { self.old.table.leaks < 2 ^ 64 }
     {
-        if let Some(hand) = self.hands.get(worker.0 as usize)
-            && let Some(left) = self.left.get_mut(worker.0 as usize)
-        {
-            left.note(hand);
-        }
+        self.left[worker.0 as usize].note(self.hands[worker.0 as usize].ids());
     }
 
-    // What is in the hand is released, and counted as leaks.
+    // What is in the hand, and was noted, is released and counted as leaks.
     #[tactic(auto, using(crate::proofs::Bags::first_held))]
     fn release_left(&mut self, worker: WorkerId)
-        requires { worker.0 < 48 }
+        requires worker { worker.0 < 48 }
+        requires noted { left_of self.old.table.left worker.0 ≡ hand_of self.old.table.hands worker.0 }
         ensures table { Leaves (carried_of self.old) self.old.table self.new.table worker.0 }
         ensures carried { self.new.carried ≡ self.old.carried }
     {

@@ -71,6 +71,14 @@ impl Hand {
         self.ids.get(place).copied()
     }
 
+    /// The references, in their order.
+    pub fn ids(&self) -> &[CtxId]
+        ensures same { result.now ≡ self.now }
+        ensures few { length self.now ≤ 16 }
+    {
+        self.ids.as_slice()
+    }
+
     fn place_of(&self, id: CtxId) -> Option<usize>
         ensures { result ≡ position (is_id id) self.now }
     {

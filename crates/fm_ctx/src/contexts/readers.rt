@@ -2,7 +2,7 @@
 
 ghost use Rattle.std.specs.Prelude.{cond, not, ◌≡◌, ◌<◌, true, is_some, length, nat_lt, option_copied, option_map, slice_get, unwrap_or};
 ghost use Rattle.std.specs.List.{list_any};
-ghost use Rattle.fm_ctx.specs.Bags.{holds, hand_of, is_hand_full, cleaning_of, cleans};
+ghost use Rattle.fm_ctx.specs.Bags.{holds, hand_of, left_of, is_hand_full, cleaning_of, cleans};
 ghost use Rattle.fm_ctx.specs.Births.{is_out_of_slots};
 ghost use Rattle.fm_ctx.specs.Table.{context_at, count_in, link_at, owner_at, kind_at};
 ghost use Rattle.fm_ctx.specs.Rows.{Row as KeptRow, context_of, count_of_row};
@@ -64,7 +64,9 @@ impl Contexts {
     }
 
     /// The contexts that were left in the worker's hand as its last callback returned, in the order of the hand; none for a worker past the 48.
-    pub fn left(&self, worker: WorkerId) -> &[CtxId] {
+    pub fn left(&self, worker: WorkerId) -> &[CtxId]
+        ensures { result.now ≡ left_of self.now.table.left worker.0 }
+    {
         match self.left.get(worker.0 as usize) {
             Some(left) => left.ids(),
             None => &[],

@@ -34,7 +34,7 @@ fresh : (c : goal.After-put) → IsFresh (row_of c)
 fresh c = record { count = refl; carried = refl; link = refl; open_yet = refl }
 
 shows : (c : goal.After-put)
-    → kept_in c.place.new.rows c.put.new.hands.items c.reserve.new.self.items c.self.inside.cleaning.items c.self.inside.leaks
+    → kept_in c.place.new.rows c.put.new.hands.items c.reserve.new.self.items c.self.inside.cleaning.items c.self.inside.leaks c.self.inside.left.items
     ≡ kept_allocated c.args.self.now c.args.worker.0 c.in-Ok-place.id (context_of (row_of c))
 shows c =
     let rows = c.self.inside.rows in

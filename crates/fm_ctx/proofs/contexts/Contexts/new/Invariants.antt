@@ -7,4 +7,6 @@ invariant-loop-worker l = record {
   cleaning : l.cleaning.items ≡ replicate l._worker None;
   hands_room : 48 ≤ vec_capacity l.hands;
   cleaning_room : 48 ≤ vec_capacity l.cleaning;
+  left : l.left.items ≡ replicate l._worker [];
+  left_room : 48 ≤ vec_capacity l.left;
 }

@@ -24,7 +24,7 @@ returns-clause-after c =
     let id = c.in_ok-id.id in
     let inside = c.self.inside in
     let i = due_row id c.self.invariant.sound c.in_ok-id.ensures.items in
-    let kept = kept_in inside.rows inside.hands.items inside.due.items inside.cleaning.items inside.leaks in
+    let kept = kept_in inside.rows inside.hands.items inside.due.items inside.cleaning.items inside.leaks inside.left.items in
     let first : slice_get inside.due.items 0 ≡ Some id = ap (λ (due : List CtxId). slice_get due 0) c.in_ok-id.ensures.items in
     shown _ inside.leaks c.take_body-body.ensures.rest (slots_with i []) (carried_kept i (row_with []) refl)
     refl c.in_ok-id.ensures.rest refl

@@ -1,19 +1,33 @@
 //! Bytes, as words spell them: lower-case hexadecimal, and `-` for none.
 
-ghost use Rattle.std.specs.Prelude.{◌≡◌, ◌∷◌, ◌++◌, ◌<◌, ◌≤◌, ℕ, List, [], IfErr, IfOk, MatchOption, length, vec_capacity};
+ghost use Rattle.std.specs.Prelude.{◌≡◌, ◌∷◌, ◌++◌, ◌*◌, ◌<◌, ◌≤◌, ℕ, List, [], IfErr, IfOk, MatchOption, length, vec_capacity};
 ghost use Rattle.fm_text.specs.Hexadecimal.{IsNoHexadecimal, IsNoPairs, hex_digit, hex_of, hex_pair, hex_pairs};
 
 use std::alloc::{AllocError, Global};
+
+// The digits, each at its number.
+const DIGITS: [u8; 16] = *b"0123456789abcdef";
+
+// How many bytes are spelled before their digits are appended at once.
+const SPELLED: usize = 32;
 
 // The digit of a number below 16.
 fn hex_digit(nibble: u8) -> u8
     requires { nibble < 16 }
     ensures { result ≡ hex_digit nibble }
 {
-    if nibble < 10 {
-        b'0' + nibble
-    } else {
-        b'a' - 10 + nibble
+    DIGITS[nibble as usize]
+}
+
+// Spells bytes by place, two digits for each.
+fn spell(digits: &mut [u8], bytes: &[u8])
+    requires { length digits.old ≡ length bytes.now * 2 }
+    ensures { digits.new ≡ hex_pairs bytes.now }
+{
+    for place in 0..bytes.len() {
+        let byte = bytes[place];
+        digits[place * 2] = hex_digit(byte / 16);
+        digits[place * 2 + 1] = hex_digit(byte % 16);
     }
 }
 
@@ -24,9 +38,14 @@ fn write_pairs(text: &mut Vec<u8>, bytes: &[u8]) -> Result<(), AllocError>
     ensures room { vec_capacity text.old ≤ vec_capacity text.new }
 {
     text.try_reserve(bytes.len() * 2)?;
-    for byte in bytes {
-        text.push_reserved(hex_digit(*byte / 16));
-        text.push_reserved(hex_digit(*byte % 16));
+    let mut digits = [0; SPELLED * 2];
+    let mut rest = bytes;
+    while !rest.is_empty() {
+        let (chunk, behind) = rest.split_at(rest.len().min(SPELLED));
+        let spelled = &mut digits[..chunk.len() * 2];
+        spell(spelled, chunk);
+        text.extend_from_slice(spelled)?;
+        rest = behind;
     }
     Ok(())
 }

@@ -2,13 +2,14 @@
 use Rattle.std.proofs.Common.{◌≡◌, ◌<◌, ◌-◌, ◌^◌, ◌∙◌}
 use Rattle.fm_ctx.proofs.Words.{ℕ, true, List, get_or, Option, is_some, arith, CtxId, Row, Seat, holds, hand_of, set, updated, ContextsKept, carried_of}
 use Rattle.fm_ctx.proofs.Words.{count_in, link_at, IsSound, IsIndexed, seat_in, Tally, life_of, lives_of, sym, ap, subst}
-use Rattle.fm_ctx.proofs.Words.{slice_get, refl, IsOpenAt, Some, option_map, slice_get-map, cleaned_row}
+use Rattle.fm_ctx.proofs.Words.{slice_get, refl, IsOpenAt, Some, option_map, slice_get-map, cleaned_row, length, length-updated, count_by}
+use Rattle.fm_ctx.specs.DueLists.{is_at}
 use Rattle.fm_ctx.specs.Generations.{Life, IsAccount, ended}
 use Rattle.fm_ctx.proofs.Accounts.{some_living, account_end}
 use Rattle.fm_ctx.proofs.Seated.{set_constant}
 use Rattle.fm_ctx.proofs.Rows.{map_changed, map_kept}
 pub use Rattle.fm_ctx.proofs.Rows.{InRow, opens_at, within_rows, row_carried, row_named, row_read, body_row}
-pub use Rattle.fm_ctx.proofs.Sound.{sound_now, present, live_held, live_linked, row_count, row_fits, row_positive, due_fits, due_row, sound_as, dropped_row}
+pub use Rattle.fm_ctx.proofs.Sound.{sound_now, present, live_held, live_linked, row_count, row_fits, row_positive, due_absent, due_row, sound_as, dropped_row}
 pub use Rattle.fm_ctx.proofs.Sound.{sound_grabbed, sound_released, sound_carried, sound_brought, sound_linked, sound_unlinked, sound_unlinked_into}
 pub use Rattle.fm_ctx.proofs.Sound.{sound_rewritten, sound_taken, sound_cleaned}
 pub use Rattle.fm_ctx.proofs.Shown.{shown, slots_kept, slots_changed, slots_by, slots_with, carried_kept, carried_by, due_by, due_told}
@@ -17,8 +18,8 @@ pub use Rattle.fm_ctx.proofs.Seated.{seats_kept, seats_set, seat_within, seat_fr
 
 -- ---- the row
 
-module _ {rows : List Row} {kept now : ContextsKept} {capacity : ℕ} {seats : List (Option Seat)} {tally : Tally}
-    (indexed : IsIndexed rows kept capacity seats tally) (same : kept ≡ now) where
+module _ {rows : List Row} {kept now : ContextsKept} {slots : ℕ} {seats : List (Option Seat)} {tally : Tally}
+    (indexed : IsIndexed rows kept slots seats tally) (same : kept ≡ now) where
   -- of a context with references
   pub row_live : (c : CtxId) → 0 < count_in (carried_of now) now.table c → InRow rows c
   row_live c live = present (sound_now indexed same) c live
@@ -37,10 +38,19 @@ module _ {rows : List Row} {kept now : ContextsKept} {capacity : ℕ} {seats : L
   pub row_carrying : (c : CtxId) → 0 < carried_of now c → InRow rows c
   row_carrying c some = row_live c (omega (arith, some))
 
+  -- it isn't due
+  pub due_missing : (c : CtxId) → 0 < count_in (carried_of now) now.table c → count_by (is_at c.slot) kept.table.due ≡ 0
+  due_missing c live = ap (λ (k : ContextsKept). count_by (is_at c.slot) k.table.due) same ∙ due_absent (sound_now indexed same) c live
+
+-- and may be
+pub row_placed : {rows : List Row} {kept : ContextsKept} {slots : ℕ} {seats : List (Option Seat)} {tally : Tally} {c : CtxId}
+    → IsIndexed rows kept slots seats tally → InRow rows c → c.slot < slots
+row_placed indexed i = omega (arith, indexed.placed, within_rows i)
+
 -- ---- after it was changed
 
-module _ {rows : List Row} {kept : ContextsKept} {capacity : ℕ} {seats : List (Option Seat)} {tally : Tally} {c : CtxId}
-    (was : IsIndexed rows kept capacity seats tally) (i : InRow rows c) where
+module _ {rows : List Row} {kept : ContextsKept} {slots : ℕ} {seats : List (Option Seat)} {tally : Tally} {c : CtxId}
+    (was : IsIndexed rows kept slots seats tally) (i : InRow rows c) where
   -- the life of its slot
   there_now : slice_get (lives_of rows) c.slot ≡ Some (life_of i.row)
   there_now = slice_get-map life_of rows c.slot ∙ ap (λ (o : Option Row). option_map life_of o) i.there
@@ -51,31 +61,36 @@ module _ {rows : List Row} {kept : ContextsKept} {capacity : ℕ} {seats : List 
   account_kept : {rows' : List Row} (g : Row → Row) → rows' ≡ updated g rows c.slot → life_of (g i.row) ≡ life_of i.row → IsAccount (lives_of rows') tally
   account_kept g is same = subst (λ l. IsAccount l tally) (sym (ap lives_of is ∙ map_kept i life_of g same)) was.account
 
-module _ {rows rows' : List Row} {kept kept' now : ContextsKept} {capacity capacity' : ℕ} {seats : List (Option Seat)} {tally : Tally} {c : CtxId}
-    (was : IsIndexed rows kept capacity seats tally) (i : InRow rows c) where
+-- as many slots as before
+placed_kept : (rows : List Row) {rows' : List Row} {slots slots' : ℕ} (g : Row → Row) (k : ℕ) → slots ≡ length rows → rows' ≡ updated g rows k → slots' ≡ slots → slots' ≡ length rows'
+placed_kept rows g k placed is fits = fits ∙ placed ∙ sym (ap length is ∙ length-updated g rows k)
+
+module _ {rows rows' : List Row} {kept kept' now : ContextsKept} {slots slots' : ℕ} {seats : List (Option Seat)} {tally : Tally} {c : CtxId}
+    (was : IsIndexed rows kept slots seats tally) (i : InRow rows c) where
   -- its seat stays
-  pub indexed_kept : (g : Row → Row) → rows' ≡ updated g rows c.slot → kept' ≡ now → capacity' ≡ capacity → IsSound (updated g rows c.slot) now capacity
-      → life_of (g i.row) ≡ life_of i.row → seat_in (g i.row) ≡ seat_in i.row → IsIndexed rows' kept' capacity' seats tally
+  pub indexed_kept : (g : Row → Row) → rows' ≡ updated g rows c.slot → kept' ≡ now → slots' ≡ slots → IsSound (updated g rows c.slot) now
+      → life_of (g i.row) ≡ life_of i.row → seat_in (g i.row) ≡ seat_in i.row → IsIndexed rows' kept' slots' seats tally
   indexed_kept g is shows fits sound lives same =
-      record { sound = sound_as is shows fits sound; seated = seats_kept i was.seated g is same; account = account_kept was i g is lives }
+      record { sound = sound_as is shows sound; seated = seats_kept i was.seated g is same; placed = placed_kept rows g c.slot was.placed is fits; account = account_kept was i g is lives }
 
   -- its context is cleaned
-  pub indexed_ended : {tally' : Tally} → rows' ≡ updated cleaned_row rows c.slot → kept' ≡ now → capacity' ≡ capacity
-      → IsSound (updated cleaned_row rows c.slot) now capacity → seat_in (cleaned_row i.row) ≡ seat_in i.row → tally' ≡ ended tally
-      → IsIndexed rows' kept' capacity' seats tally'
+  pub indexed_ended : {tally' : Tally} → rows' ≡ updated cleaned_row rows c.slot → kept' ≡ now → slots' ≡ slots
+      → IsSound (updated cleaned_row rows c.slot) now → seat_in (cleaned_row i.row) ≡ seat_in i.row → tally' ≡ ended tally
+      → IsIndexed rows' kept' slots' seats tally'
   indexed_ended is shows fits sound same ends =
       let over : Life = record { generation = i.row.generation; is_cleaned = true } in
       let lives : lives_of rows' ≡ set (lives_of rows) c.slot over =
       ap lives_of is ∙ map_changed i life_of cleaned_row (λ l. over) refl ∙ sym (set_constant (lives_of rows) c.slot over) in
       record {
-        sound = sound_as is shows fits sound;
+        sound = sound_as is shows sound;
         seated = seats_kept i was.seated cleaned_row is same;
+        placed = placed_kept rows cleaned_row c.slot was.placed is fits;
         account = subst (λ (p : List Life × Tally). IsAccount p.0 p.1) (λ k. (sym lives k, sym ends k)) (account_end was.account c.slot (life_of i.row) (there_now was i) i.open_yet);
       }
 
   -- or it gets another one
-  pub indexed_set : {seats' : List (Option Seat)} (g : Row → Row) (o : Option Seat) → rows' ≡ updated g rows c.slot → kept' ≡ now → capacity' ≡ capacity
-      → IsSound (updated g rows c.slot) now capacity → seats' ≡ set seats c.slot o → life_of (g i.row) ≡ life_of i.row → seat_in (g i.row) ≡ o
-      → IsIndexed rows' kept' capacity' seats' tally
+  pub indexed_set : {seats' : List (Option Seat)} (g : Row → Row) (o : Option Seat) → rows' ≡ updated g rows c.slot → kept' ≡ now → slots' ≡ slots
+      → IsSound (updated g rows c.slot) now → seats' ≡ set seats c.slot o → life_of (g i.row) ≡ life_of i.row → seat_in (g i.row) ≡ o
+      → IsIndexed rows' kept' slots' seats' tally
   indexed_set g o is shows fits sound put lives new =
-      record { sound = sound_as is shows fits sound; seated = seats_set i was.seated g o is put new; account = account_kept was i g is lives }
+      record { sound = sound_as is shows sound; seated = seats_set i was.seated g o is put new; placed = placed_kept rows g c.slot was.placed is fits; account = account_kept was i g is lives }

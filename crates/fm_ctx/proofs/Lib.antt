@@ -3,6 +3,7 @@ pub mod Bags
 pub mod Objects
 pub mod Lasts
 pub mod Chains
+pub mod DueLists
 pub mod Finding
 pub mod Seated
 pub mod Slots

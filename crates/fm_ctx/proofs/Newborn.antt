@@ -3,8 +3,8 @@ use Rattle.fm_ctx.proofs.Words.{ℕ, Bool, true, false, cond, List, [], length, 
 use Rattle.fm_ctx.proofs.Words.{eq-eqb, length-map, cases_eq, inr, CtxId, slice_get-map, slice_get-push, slice_get-append_left, slice_get_past, slice_get_within, slice_get-some}
 use Rattle.fm_ctx.proofs.Words.{get_or_from_slice_get, Row, Seat, one, is_id, option_map, hand_of, Slot, ContextsKept, carried_of, IsNew, placed, kept_allocated, same_Some}
 use Rattle.fm_ctx.proofs.Words.{context_of, slot_of, slots_of, seat_in, seats_of, carried_in, row_at, stored, IsFresh, IsPut, put_row, life_of, lives_of}
-use Rattle.fm_ctx.proofs.Words.{is_referenced, IsSound, kept_in, nat_tests, map_push, count_by-le-length, carried_none, Tally}
-use Rattle.std.proofs.Common.{◌≡◌, ◌+◌, ◌<◌, ◌≤◌, ◌≢◌, ◌∷◌, ◌++◌, ◌∙◌, ◌⊎◌}
+use Rattle.fm_ctx.proofs.Words.{IsSound, kept_in, nat_tests, map_push, carried_none, Tally}
+use Rattle.std.proofs.Common.{◌≡◌, ◌+◌, ◌<◌, ◌≢◌, ◌∷◌, ◌++◌, ◌∙◌, ◌⊎◌}
 use Rattle.std.proofs.Math.Seq.{map-set_same}
 use Rattle.std.proofs.lemmas.List.{map-set}
 use Rattle.fm_types.proofs.Lists.{slice_get-set_same, slice_get-set_other}
@@ -62,24 +62,20 @@ module _ (rows : List Row) (c : CtxId) (r : Row) (new : IsNew (slots_of rows) c)
       let carried : Row → ℕ = λ q. q.carried in
       grind (arith, nat_tests, map_push carried rows named, map-set carried rows c.slot named, length-map rows carried, fresh.carried)
 
-pub sound_allocated : {rows : List Row} {hands : List (List CtxId)} {due : List CtxId} {cleaning : List (Option CtxId)} {leaks capacity : ℕ} {left : List (List CtxId)} {kept : ContextsKept} (room : ℕ) (w : ℕ) (r : Row) (c : CtxId)
-    → IsSound rows kept capacity → kept_in rows hands due cleaning leaks left ≡ kept → w < 48 → IsNew (slots_of rows) c → IsFresh r
-    → length (hand_of kept.table.hands w) < 16 → length kept.table.due + (length rows + 1) ≤ room
-    → IsSound (put_row rows c r) (kept_allocated kept w c (context_of r)) room
-sound_allocated {rows} {kept = kept} room w r c s shows worker new fresh hand_room due_room =
+pub sound_allocated : {rows : List Row} {hands : List (List CtxId)} {due : List CtxId} {cleaning : List (Option CtxId)} {leaks : ℕ} {left : List (List CtxId)} {kept : ContextsKept} (w : ℕ) (r : Row) (c : CtxId)
+    → IsSound rows kept → kept_in rows hands due cleaning leaks left ≡ kept → w < 48 → IsNew (slots_of rows) c → IsFresh r
+    → length (hand_of kept.table.hands w) < 16
+    → IsSound (put_row rows c r) (kept_allocated kept w c (context_of r))
+sound_allocated {rows} {kept = kept} w r c s shows worker new fresh hand_room =
     let as_long : length kept.table.slots ≡ length rows = ap (λ (k : ContextsKept). length k.table.slots) (sym shows) ∙ length-map rows slot_of in
     let matched : length kept.carried ≡ length rows = ap (λ (k : ContextsKept). length k.carried) (sym shows) ∙ length-map rows (λ (q : Row). q.carried) in
     let now = subst (λ (k : ContextsKept). IsNew k.table.slots c) shows new in
     let same = carried_allocated kept w c (context_of r) now (matched ∙ sym as_long) in
     let counts = count_allocated (carried_of kept) kept.table w c (context_of r) (within_hands w s.lawful worker) now fresh.link in
-    let named : Row = record r { generation = c.generation } in
     record {
       lawful = lawful_alike same (allocate_keeps w c (context_of r) s.lawful worker now fresh.link hand_room);
       counted = λ d. omega (arith, stored_put rows c r new fresh d, s.counted d, counts d, same d);
       bounded = λ d. omega (arith, s.bounded d, same d);
-      room =
-          let many : length (put_row rows c r) ≤ length rows + 1 = grind (arith, nat_tests, length-append rows (named ∷ []), length-set rows c.slot named) in
-          omega (arith, due_room, count_by-le-length is_referenced (put_row rows c r), many);
     }
 
 -- ---- what is kept beside the rows
@@ -140,6 +136,21 @@ module _ (rows rows' : List Row) (c : CtxId) (r : Row) (put : IsPut rows rows' r
             let lives = ap lives_of again.1 ∙ map-set life_of rows c.slot (fresh_row c r) ∙ ap (set (lives_of rows) c.slot) (fresh_life c r fresh) in
             let there = slice_get-map life_of rows c.slot ∙ ap (λ (o : Option Row). option_map life_of o) n.there in
             subst (λ l. IsAccount l (begun tally)) (sym lives) (account_again a c.slot (life_of n.row) there c.generation n.over n.young n.follows)
+      ]
+
+  -- a new slot is one more
+  pub long_first : c.slot ≡ length rows → length rows' ≡ length rows + 1
+  long_first past =
+      elim put_by [
+        | inl first ↦ ap length first.2 ∙ length-append rows (fresh_row c r ∷ [])
+        | inr again ↦ absurd (omega (arith, past, slice_get_within rows c.slot again.0.row again.0.there))
+      ]
+
+  pub long_again : (c.slot ≡ length rows → ⊥) → length rows' ≡ length rows
+  long_again below =
+      elim put_by [
+        | inl first ↦ absurd (below first.0)
+        | inr again ↦ ap length again.1 ∙ length-set rows c.slot (fresh_row c r)
       ]
 
   -- a new slot has no seat

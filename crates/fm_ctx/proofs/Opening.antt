@@ -25,11 +25,10 @@ lawful_empty = record {
   few = lit≤ tt;
 }
 
-pub sound_empty : (capacity : ℕ) → IsSound [] nothing_kept capacity
+pub sound_empty : IsSound [] nothing_kept
 unfolding row_at context_at carried_of
-sound_empty capacity = record {
+sound_empty = record {
   lawful = lawful_empty;
   counted = λ c. sym (none_counted c);
   bounded = λ c. lit≤ tt;
-  room = omega arith;
 }

@@ -2,9 +2,9 @@
 use Rattle.fm_ctx.proofs.Words.{ℕ, zero, suc, Bool, true, false, cond, ltb, List, [], length, map, get_or, slice_get, count_by, Option, Some}
 use Rattle.fm_ctx.proofs.Words.{None, is_some, is_none, option_map, refl, sym, ap, ap₂, subst, arith, unwrap_or, position, position_or_len}
 use Rattle.fm_ctx.proofs.Words.{length-map, sum_by-cons, true≢false, same_Some, slice_get-map, slice_get_within}
-use Rattle.fm_ctx.proofs.Words.{get_or_from_slice_get, CtxId, updated, updated-same, updated-other, count_by-updated, Row, one, is_id}
+use Rattle.fm_ctx.proofs.Words.{get_or_from_slice_get, CtxId, updated, updated-same, updated-other, Row, one, is_id}
 use Rattle.fm_ctx.proofs.Words.{Context, Slot, context_at, carried_of, Object, Owner, links, has_link, id_at, holder, body_at, context_of, IsOpenAt}
-use Rattle.fm_ctx.proofs.Words.{slot_of, slots_of, carried_in, row_in, row_at, count_of_row, stored, is_referenced, kept_in, nat_tests}
+use Rattle.fm_ctx.proofs.Words.{slot_of, slots_of, carried_in, row_in, row_at, count_of_row, stored, kept_in, nat_tests}
 use Rattle.fm_ctx.proofs.Words.{unwrap_or-slice_get, ContextsKept, born, life_of, lives_of}
 use Rattle.std.proofs.Common.{◌≡◌, ◌+◌, ◌<◌, ◌∷◌, ◌∙◌, not, sum_by}
 use Rattle.fm_ctx.proofs.Words.{slice_get-some}
@@ -98,9 +98,6 @@ module _ {rows : List Row} {c : CtxId} (i : InRow rows c) where
       grind (arith, nat_tests, i.named, same, i.there, updated-same g rows c.slot i.row i.there, updated-other g rows c.slot d.slot, is_id-same d c)
 
   -- how many have references
-  pub referenced_changed : (g : Row → Row)
-      → count_by is_referenced (updated g rows c.slot) + one (is_referenced i.row) ≡ count_by is_referenced rows + one (is_referenced (g i.row))
-  referenced_changed g = count_by-updated is_referenced g rows c.slot i.row i.there
 
   -- what a map of the rows shows
   pub map_changed : {Y : Type 0} (v : Row → Y) (g : Row → Row) (f : Y → Y) → v (g i.row) ≡ f (v i.row)

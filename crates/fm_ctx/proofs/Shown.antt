@@ -47,7 +47,7 @@ module _ {rows : List Row} {c : CtxId} (i : InRow rows c) where
   slots_with bytes = slots_by (row_with bytes) (with_body bytes) refl refl
 
   -- the due list after one reference went
-  pub due_by : {kept : ContextsKept} {capacity : ℕ} {due' : List CtxId} → IsSound rows kept capacity
+  pub due_by : {kept : ContextsKept} {due' : List CtxId} → IsSound rows kept
       → ((d : Row) → due' ≡ cond (eqb (get_or rows c.slot d).count 1) (kept.table.due ++ c ∷ []) kept.table.due)
       → due' ≡ due_after (carried_of kept) kept.table c
   due_by {kept} s after = after i.row ∙ ap (λ k. cond (eqb k 1) (kept.table.due ++ c ∷ []) kept.table.due) (read_count s i i.row)

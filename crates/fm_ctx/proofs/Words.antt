@@ -14,7 +14,7 @@ unfoldable pub use Rattle.fm_ctx.specs.Links.{holder}
 pub use Rattle.fm_ctx.specs.Objects.{same_object, same_owner}
 pub use Rattle.fm_ctx.specs.References.{due_after, grabbed, handed_on, released}
 pub use Rattle.fm_ctx.specs.Rows.{IsFresh, IsPut, life_of, lives_of, put_row}
-pub use Rattle.fm_ctx.specs.Rows.{IsIndexed, IsSound, brought_back, carried_away, carried_in, cleaned_row, context_of, count_of_row, is_referenced}
+pub use Rattle.fm_ctx.specs.Rows.{IsIndexed, IsSound, brought_back, carried_away, carried_in, cleaned_row, context_of, count_of_row}
 pub use Rattle.fm_ctx.specs.Rows.{kept_in, linked_row, lowered, raised, row_in, row_with, seat_in, seats_of, slot_of, slots_of, stored, unlinked_row}
 unfoldable pub use Rattle.fm_ctx.specs.Rows.{row_at}
 pub use Rattle.fm_ctx.specs.Seats.{IsAbove, IsChained, chain_of, end_of, is_on, is_seat, stands}

@@ -9,6 +9,7 @@ pub mod Links
 pub mod Births
 pub mod Generations
 pub mod Cleanup
+pub mod DueLists
 pub mod Settling
 pub mod Sweep
 pub mod Bodies

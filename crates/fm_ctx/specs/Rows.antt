@@ -1,5 +1,5 @@
 -- How contexts are kept: a row for each slot, with the reference count of its context.
-use Rattle.std.specs.Prelude.{◌≡◌, ℕ, ◌+◌, ◌-◌, ◌^◌, ◌≤◌, ◌==◌, Bool, true, false, cond, nat_lt, List, [], ◌∷◌, ◌++◌, length, map, count_by, Option, Some, None, option_and_then, slice_get, slice_set}
+use Rattle.std.specs.Prelude.{◌≡◌, ℕ, ◌+◌, ◌-◌, ◌^◌, ◌≤◌, ◌==◌, Bool, true, false, cond, List, [], ◌∷◌, ◌++◌, length, map, Option, Some, None, option_and_then, slice_get, slice_set}
 use Rattle.fm_types.specs.declared.ids.CtxId.{CtxId}
 use Rattle.fm_types.specs.declared.ids.VolumeId.{VolumeId}
 use Rattle.fm_types.specs.declared.context_kind.ContextKind.{ContextKind}
@@ -74,15 +74,11 @@ count_of_row (Some r) = r.count
 abbrev pub stored : List Row → CtxId → ℕ
 stored rows c = count_of_row (row_at rows c)
 
-abbrev pub is_referenced : Row → Bool
-is_referenced r = nat_lt 0 r.count
-
--- the rows stand for the contexts, and there is room for each that may become due
-pub record IsSound (rows : List Row) (kept : ContextsKept) (capacity : ℕ) : Type 0 where
+-- the rows stand for the contexts
+pub record IsSound (rows : List Row) (kept : ContextsKept) : Type 0 where
   pub lawful : IsLawful (carried_of kept) kept.table
   pub counted : (c : CtxId) → stored rows c ≡ count_in (carried_of kept) kept.table c
   pub bounded : (c : CtxId) → carried_of kept c ≤ 2 ^ 32
-  pub room : length kept.table.due + count_by is_referenced rows ≤ capacity
 
 -- the seat of a row's context, where it is linked
 abbrev pub seat_in : Row → Option Seat
@@ -98,10 +94,11 @@ life_of r = record { generation = r.generation; is_cleaned = r.is_cleaned }
 abbrev pub lives_of : List Row → List Life
 lives_of rows = map life_of rows
 
--- and each linked context is found by its seat, and all contexts are counted
-pub record IsIndexed (rows : List Row) (kept : ContextsKept) (capacity : ℕ) (seats : List (Option Seat)) (tally : Tally) : Type 0 where
-  pub sound : IsSound rows kept capacity
+-- and each linked context is found by its seat, each slot has a place among the due, and all contexts are counted
+pub record IsIndexed (rows : List Row) (kept : ContextsKept) (slots : ℕ) (seats : List (Option Seat)) (tally : Tally) : Type 0 where
+  pub sound : IsSound rows kept
   pub seated : seats ≡ seats_of rows
+  pub placed : slots ≡ length rows
   pub account : IsAccount (lives_of rows) tally
 
 -- ---- a new row

@@ -5,8 +5,7 @@ mod cleanup;
 mod links;
 mod readers;
 
-ghost use Rattle.std.specs.Prelude.{◌≡◌, ◌+◌, ◌<◌, ◌≤◌, ◌^◌, ◌==◌, ◌++◌, ◌∷◌, [], if◌then◌else◌, IfOk, OnErr, false, true, None, is_some, length, slice_get, slice_index_or};
-ghost use Rattle.std.specs.VecDeque.{deque_capacity};
+ghost use Rattle.std.specs.Prelude.{◌≡◌, ◌+◌, ◌<◌, ◌≤◌, ◌^◌, ◌==◌, ◌++◌, ◌∷◌, [], if◌then◌else◌, IfOk, OnErr, false, true, None, count_by, is_some, length, slice_get, slice_index_or};
 ghost use Rattle.fm_types.specs.Refusals.{Answers, AnswersOrMemory};
 ghost use Rattle.fm_types.specs.Lists.{updated};
 ghost use Rattle.fm_types.specs.declared.ids.CtxId.{CtxId};
@@ -16,12 +15,14 @@ ghost use Rattle.fm_ctx.specs.Kept.{nothing_kept, carried_of};
 ghost use Rattle.fm_ctx.specs.Laws.{IsLawful};
 ghost use Rattle.fm_ctx.specs.References.{kept_grabbed, kept_released, kept_carried, kept_brought, reference_refusal, release_refusal};
 ghost use Rattle.fm_ctx.specs.Links.{IsFree, linked, unlinked, unlinked_into};
+ghost use Rattle.fm_ctx.specs.DueLists.{is_at};
 ghost use Rattle.fm_ctx.specs.Births.{Allocates, allocate_refused};
 ghost use Rattle.fm_ctx.specs.Generations.{IsAccount};
 ghost use Rattle.fm_ctx.specs.Settling.{Leaves, kept_noted};
 ghost use Rattle.fm_ctx.specs.Rows.{Row as KeptRow, lowered, IsFresh, IsOpenAt, IsPut, lives_of, seats_of};
 ghost use Rattle.fm_ctx.specs.Stored.{open_row};
 
+use crate::due_list::DueList;
 use crate::entry::Entry;
 use crate::hand::{self, Hand};
 use crate::left::Left;
@@ -34,7 +35,6 @@ use crate::tally::Tally;
 use fm_types::limits::{BODY, WORKERS};
 use fm_types::{Bytes, ContextKind, CtxId, Status, VolumeId, WorkerId};
 use std::alloc::{AllocError, Global};
-use std::collections::VecDeque;
 use std::marker::Model;
 
 /// The contexts by their ids, what each worker holds, and which contexts wait to be cleaned up.
@@ -46,36 +46,36 @@ pub struct Contexts {
     tally: Tally,
     seats: Seats,
     hands: Vec<Hand>,
-    due: VecDeque<CtxId>,
+    due: DueList,
     cleaning: Vec<Option<CtxId>>,
     leaks: u64,
     left: Vec<Left>,
 }
 
 impl Model for Contexts {
-    ghost use Rattle.std.specs.VecDeque.{deque_capacity};
     ghost use Rattle.fm_ctx.specs.Kept.{ContextsKept};
 
     ghost Value = { ContextsKept };
 
     ghost use Rattle.fm_ctx.specs.Rows.{kept_in, IsIndexed};
 
-    ghost view = { λ c. kept_in c.rows c.hands.items c.due.items c.cleaning.items c.leaks c.left.items };
+    ghost view = { λ c. kept_in c.rows c.hands.items c.due.ids c.cleaning.items c.leaks c.left.items };
 
-    ghost invariant = { λ c. IsIndexed c.rows (kept_in c.rows c.hands.items c.due.items c.cleaning.items c.leaks c.left.items) (deque_capacity c.due) c.seats c.tally };
+    ghost invariant = { λ c. IsIndexed c.rows (kept_in c.rows c.hands.items c.due.ids c.cleaning.items c.leaks c.left.items) c.due.slots c.seats c.tally };
 }
 
 // The context has one reference fewer; with the last one it is due.
-fn drop_reference(rows: &mut Rows, due: &mut VecDeque<CtxId>, id: CtxId)
+fn drop_reference(rows: &mut Rows, due: &mut DueList, id: CtxId)
     requires there { IsOpenAt rows.old id.slot }
     requires some { (d : KeptRow) → 0 < (slice_index_or rows.old id.slot d).count }
-    requires room { (d : KeptRow) → (slice_index_or rows.old id.slot d).count ≡ 1 → length due.old.items < deque_capacity due.old }
+    requires within { id.slot < due.old.slots }
+    requires absent { count_by (is_at id.slot) due.old.ids ≡ 0 }
     ensures rows { rows.new ≡ updated lowered rows.old id.slot }
-    ensures due { (d : KeptRow) → due.new.items ≡ (if (slice_index_or rows.old id.slot d).count == 1 then due.old.items ++ id ∷ [] else due.old.items) }
-    ensures capacity { deque_capacity due.new ≡ deque_capacity due.old }
+    ensures due { (d : KeptRow) → due.new.ids ≡ (if (slice_index_or rows.old id.slot d).count == 1 then due.old.ids ++ id ∷ [] else due.old.ids) }
+    ensures slots { due.new.slots ≡ due.old.slots }
 {
     if rows.lower(id.slot as usize) {
-        due.push_back_reserved(id);
+        due.push(id);
     }
 }
 
@@ -85,22 +85,26 @@ fn place(
     rows: &mut Rows,
     tally: &mut Tally,
     seats: &mut Seats,
+    due: &mut DueList,
     entry: Entry,
 ) -> Result<CtxId, AllocError>
     requires few { length rows.old ≤ 65536 }
     requires account { IsAccount (lives_of rows.old) tally.old }
     requires seated { seats.old ≡ seats_of rows.old }
+    requires placed { due.old.slots ≡ length rows.old }
     requires fresh { IsFresh (open_row 0 entry) }
     requires opens { entry.is_retired ≡ false }
     ensures ok { IfOk result (IsPut rows.old rows.new (open_row 0 entry)) }
     ensures err { OnErr result (rows.new ≡ rows.old) }
     ensures account { IsAccount (lives_of rows.new) tally.new }
     ensures seated { seats.new ≡ seats_of rows.new }
+    ensures placed { due.new ≡ record due.old { slots = length rows.new } }
 {
     let slots = rows.len();
     let id = rows.put(entry)?;
     if id.slot as usize == slots {
         seats.add();
+        due.add();
     }
     tally.begin();
     Ok(id)
@@ -125,7 +129,7 @@ impl Contexts {
             tally: Tally { born: 0, living: 0 },
             seats: Seats::new(alloc)?,
             hands,
-            due: VecDeque::new(alloc),
+            due: DueList::new(alloc)?,
             cleaning,
             leaks: 0,
             left,
@@ -144,7 +148,7 @@ impl Contexts {
 // References.
 impl Contexts {
     /// Allocates a context (`FltAllocateContext`): it isn't linked, and its one reference is in the
-    /// worker's hand. Makes the room that its cleanup will need. Refused, with nothing changed, in this
+    /// worker's hand. Refused, with nothing changed, in this
     /// order: `TooMany` (29) where the body has more than 4,096 bytes, or where there are 65,536 slots
     /// and none is free, `HandFull` (26), `NoMemory` (1). A slot is free again once its context is
     /// cleaned, unless it had its last generation.
@@ -166,9 +170,6 @@ impl Contexts {
         if self.is_hand_full(worker) {
             return Err(Status::HandFull);
         }
-        let Ok(()) = self.due.reserve(self.rows.len() + 1) else {
-            return Err(Status::NoMemory);
-        };
         let entry = Entry {
             kind,
             owner,
@@ -179,7 +180,13 @@ impl Contexts {
             carried: 0,
             is_retired: false,
         };
-        let Ok(id) = place(&mut self.rows, &mut self.tally, &mut self.seats, entry) else {
+        let Ok(id) = place(
+            &mut self.rows,
+            &mut self.tally,
+            &mut self.seats,
+            &mut self.due,
+            entry,
+        ) else {
             return Err(Status::NoMemory);
         };
         hand::put(&mut self.hands, worker, id);

@@ -8,6 +8,7 @@
 mod contexts;
 mod count;
 mod due;
+mod due_list;
 mod entry;
 mod generations;
 mod hand;

@@ -17,7 +17,7 @@ impl Contexts {
         ensures reply { result ≡ due_reply self.old.table }
         ensures after { self.new ≡ record self.old { table = after_take_due self.old.table worker.0 } }
     {
-        let id = self.due.pop_front()?;
+        let id = self.due.pop()?;
         let slot = id.slot as usize;
         let body = self.rows.take_body(slot, Vec::new(self.alloc));
         self.cleaning[worker.0 as usize] = Some(id);

@@ -77,7 +77,7 @@ impl Contexts {
     pub fn has_due(&self) -> bool
         ensures { result ≡ nat_lt 0 (length self.now.table.due) }
     {
-        self.due.len() > 0
+        self.due.has_some()
     }
 
     pub(super) fn is_hand_full(&self, worker: WorkerId) -> bool

@@ -9,5 +9,6 @@ invariant_of-self c =
     record {
       sound = sound_beside c.self.invariant.sound c.self.inside.leaks (slice_set left c.args.worker.0 c.note.new.self) (length-set left c.args.worker.0 c.note.new.self);
       seated = c.self.invariant.seated;
+      placed = c.self.invariant.placed;
       account = c.self.invariant.account;
     }

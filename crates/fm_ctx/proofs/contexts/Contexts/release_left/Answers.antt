@@ -24,6 +24,7 @@ pub invariant_of-self : goal.invariant_of-self
 invariant_of-self c = record {
   sound = sound_beside c.self.invariant.sound c.saturating_add-self-inside.result c.self.inside.left.items refl;
   seated = c.self.invariant.seated;
+  placed = c.self.invariant.placed;
   account = c.self.invariant.account;
 }
 

@@ -121,6 +121,7 @@ fn found_below(stack: &Stack, files: &Files, flow: &Flow, operation: &OperationR
     match stack.next_below(
         operation.volume(),
         operation.last_visited(),
+        operation.entries_before_last(),
         operation.born(),
         operation.operation(),
     ) {

@@ -24,6 +24,7 @@ fn next_down(stack: &Stack, operation: &OperationRecord) -> Option<InstanceId>
     let instance = stack.next_below(
         operation.volume(),
         operation.last_visited(),
+        operation.entries_before_last(),
         operation.born(),
         kind,
     )?;

@@ -1,6 +1,6 @@
 //! One operation.
 
-ghost use Rattle.std.specs.Prelude.{◌≡◌, ℕ, ◌<◌, ◌≤◌, true, false, length, IsTrue, IfOk, Ok, Err, Some, None, option_map, position, slice_get, if◌then◌else◌};
+ghost use Rattle.std.specs.Prelude.{◌≡◌, ℕ, ◌-◌, ◌<◌, ◌≤◌, true, false, length, IsTrue, IfOk, Ok, Err, Some, None, option_map, position, slice_get, if◌then◌else◌};
 ghost use Rattle.std.specs.List.{list_any};
 ghost use Rattle.fm_data.specs.Params.{is_within_limits, are_on, fit, call_fits};
 ghost use Rattle.fm_data.specs.Data.{data_fits};
@@ -189,6 +189,14 @@ impl OperationRecord {
         ensures { option_map (λ i. i.0) result ≡ last_visited self.now.entries }
     {
         self.last
+    }
+
+    /// How many entries it had before the last one; 0 where it has none. On its way down that is where the instance visited last sits in the order of its
+    /// volume, if no instance above that one was left out.
+    pub fn entries_before_last(&self) -> usize
+        ensures { result ≡ length self.now.entries - 1 }
+    {
+        self.entries.len().saturating_sub(1)
     }
 
     /// The instance that had a postoperation of it last.

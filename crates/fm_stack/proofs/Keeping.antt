@@ -5,8 +5,8 @@ use Rattle.fm_stack.proofs.Words.{all_at, all_pairs_from_slice_get, cases_eq, co
 use Rattle.fm_stack.proofs.Words.{slice_get-kept, slice_get-push, slice_get-push_cases, updated-other, updated-same, updated_cases}
 use Rattle.fm_stack.proofs.Words.{seat_passes, ne_eqb, lt-leb, le-leb}
 use Rattle.fm_stack.proofs.Places.{insert_cases, insert_keeps, inserted_there, all_pairs_insert, remove_cases, remove_keeps, place_found}
-use Rattle.fm_stack.proofs.Orders.{lower_behind, under_divides}
-use Rattle.fm_stack.proofs.Heights.{lower_or_above, not_below_itself}
+use Rattle.fm_stack.proofs.Orders.{lower_behind, sits_once, under_divides}
+use Rattle.fm_stack.proofs.Heights.{lower_or_above}
 use Rattle.std.proofs.Common.{◌≡◌, ◌≢◌, ◌∙◌, ◌<◌, ◌≤◌, ◌&&◌, ℕ, suc, Bool, true, false, not, cond, List, [], ◌∷◌, ◌++◌, length, AllPairs}
 use Rattle.std.proofs.Common.{slice_get, position, unwrap_or, Option, Some, None, count_by, refl, sym, ap, subst, arith, inl, inr}
 use Rattle.std.specs.List.{insert, remove}
@@ -195,21 +195,6 @@ order_grows filters rows v seats new seat order last live registered apart =
 
 -- ---- one fewer ----
 
--- nobody sits in two places
-one_seat : {filters : List Filter} {rows : List Instance} {v : VolumeId} {seats : List Seat} → IsOrder filters rows v seats
-    → (p q : ℕ) (a b : Seat) → slice_get seats p ≡ Some a → slice_get seats q ≡ Some b → p ≢ q → a.instance.0 ≢ b.instance.0
-one_seat {rows = rows} order p q a b first second apart = λ same.
-    let front = order.seated p a first in
-    let back : slice_get rows b.instance.0 ≡ Some front.row = subst (λ n. slice_get rows n ≡ Some front.row) same front.there in
-    let level = not_below_itself front.row.altitude in
-    elim (cases_order p q) [
-      | inl is ↦ absurd (apart is)
-      | inr (inl below) ↦
-          let wrong : true ≡ false = sym (lower_behind order p q a b front.row front.row below first second front.there back) ∙ level in absurd (cc)
-      | inr (inr above) ↦
-          let wrong : true ≡ false = sym (lower_behind order q p b a front.row front.row above second first back front.there) ∙ level in absurd (cc)
-    ]
-
 -- the instance that sat there isn't live any more
 pub order_shrinks : (filters : List Filter) (rows : List Instance) (v : VolumeId) (seats : List Seat) (change : Instance → Instance) (at place : ℕ)
     (row : Instance) (seat : Seat) → IsOrder filters rows v seats → slice_get rows at ≡ Some row → is_live_on v row ≡ true → is_live_on v (change row) ≡ false
@@ -227,7 +212,7 @@ order_shrinks filters rows v seats change at place row seat order there live gon
       seated = λ p x found.
           let old = remove_cases seats place p x found in
           let its = order.seated old.0 x old.1 in
-          let other : x.instance.0 ≢ at = λ is. one_seat order old.0 place x seat old.1 sits old.2 (is ∙ sym own) in
+          let other : x.instance.0 ≢ at = λ is. old.2 (sits_once order old.0 place x seat old.1 sits (is ∙ sym own)) in
           record { row = its.row; there = updated-other change rows at x.instance.0 other ∙ its.there; live = its.live; registered = its.registered };
       whole = λ k after found lives. elim (updated_cases change rows at k after found) [
         | inl old ↦

@@ -2,7 +2,7 @@
 use Rattle.fm_stack.proofs.Words.{all_from_slice_get, and_parts, cases_Bool, pair_at, VolumeId, InstanceId, Operation, Instance, StackWorld}
 use Rattle.fm_stack.proofs.Words.{is_live_on, is_lower}
 use Rattle.fm_stack.proofs.Words.{Filter, Seat, IsOrder, IsAbove, IsSeated, is_seat_of, is_under, passes, seat_passes, place_under}
-use Rattle.fm_stack.proofs.Words.{place_behind, place_behind_at}
+use Rattle.fm_stack.proofs.Words.{SitsOnce, place_behind, place_behind_at}
 use Rattle.fm_stack.proofs.Words.{place_behind_row, is_visited, is_called_for, is_to_visit, is_registered, is_attached, is_below_cursor, is_lower_option}
 use Rattle.fm_stack.proofs.Words.{instance_of, has_pre_in, has_post_in, is_candidate, IsNextInstance, has_operation, option_map, lt-leb, le-leb, leb-true}
 use Rattle.fm_stack.proofs.Places.{found, not_found, none_passes, place_found, no_place, slice_get-drop, some_passes}
@@ -11,6 +11,7 @@ use Rattle.fm_stack.proofs.Visits.{visited_is_live}
 use Rattle.std.proofs.Common.{◌≡◌, ◌∙◌, ◌+◌, ◌-◌, ◌<◌, ◌≤◌, ◌==◌, ◌&&◌, ◌||◌, ℕ, Bool, true, false, nat_le, nat_lt, List, length, drop}
 use Rattle.std.proofs.Common.{slice_get, find, position, unwrap_or, Option, Some, None, refl, sym, ap, subst, arith, inl, inr}
 use Rattle.std.proofs.lemmas.Bool.{cases_order, eqb-true}
+use Rattle.std.proofs.Common.{eq-eqb}
 use Rattle.std.proofs.lemmas.Option.{same_Some, none-some, slice_get_read, slice_get_within}
 use Rattle.std.proofs.lemmas.List.Folds.{Any-from_list_any, list_any_none}
 use Rattle.std.specs.List.{list_any}
@@ -33,7 +34,30 @@ lower_behind {rows = rows} {seats = seats} order p q a b x y below first second 
     let at_front = subst (λ o. is_lower_option (altitude (slice_get rows b.instance.0)) (altitude o) ≡ true) front falls in
     subst (λ o. is_lower_option (altitude o) (altitude (Some x)) ≡ true) back at_front
 
+-- nobody sits in two places
+pub sits_once : {filters : List Filter} {rows : List Instance} {v : VolumeId} {seats : List Seat} → IsOrder filters rows v seats → SitsOnce seats
+sits_once {rows = rows} order p q a b first second same =
+    let front = order.seated p a first in
+    let back : slice_get rows b.instance.0 ≡ Some front.row = subst (λ n. slice_get rows n ≡ Some front.row) same front.there in
+    let level = not_below_itself front.row.altitude in
+    elim (cases_order p q) [
+      | inl is ↦ is
+      | inr (inl below) ↦
+          let wrong : true ≡ false = sym (lower_behind order p q a b front.row front.row below first second front.there back) ∙ level in absurd (cc)
+      | inr (inr above) ↦
+          let wrong : true ≡ false = sym (lower_behind order q p b a front.row front.row above second first back front.there) ∙ level in absurd (cc)
+    ]
+
 -- ---- places ----
+
+-- who sits at a place is found there
+pub found_there : (seats : List Seat) → SitsOnce seats → (i : InstanceId) (place : ℕ) (seat : Seat) → slice_get seats place ≡ Some seat
+    → seat.instance.0 ≡ i.0 → (found : Option ℕ) → position (is_seat_of i) seats ≡ found → found ≡ Some place
+found_there seats once i place seat there is None none =
+    let wrong : true ≡ false = sym (eq-eqb seat.instance.0 i.0 is) ∙ no_place (is_seat_of i) seats none place seat there in absurd (cc)
+found_there seats once i place seat there is (Some k) some =
+    let first = place_found (is_seat_of i) seats k some in
+    ap Some (once k place first.0 seat first.1 there (eqb-true first.0.instance.0 i.0 first.2 ∙ sym is))
 
 row_passes : (rows : List Instance) (test : Instance → Bool) (seat : Seat) (row : Instance) (b : Bool) → slice_get rows seat.instance.0 ≡ Some row
     → seat_passes rows test seat ≡ b → test row ≡ b

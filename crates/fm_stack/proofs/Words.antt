@@ -9,7 +9,7 @@ pub use Rattle.fm_stack.specs.Instances.{clashes, is_attached, is_completing, is
 pub use Rattle.fm_stack.specs.Instances.{same_altitude, same_name}
 pub use Rattle.fm_stack.specs.Instances.{is_lower_option, passes, registration_in}
 pub use Rattle.fm_stack.specs.Next.{IsNextInstance, has_post_in, has_pre_in, is_below_cursor, is_candidate, is_registered, is_to_visit}
-pub use Rattle.fm_stack.specs.Orders.{HasSeat, IsAbove, IsKept, IsOrder, IsSeated, altitude_in, is_called_for, is_in_time, is_seat_of}
+pub use Rattle.fm_stack.specs.Orders.{HasSeat, IsAbove, SitsOnce, IsKept, IsOrder, IsSeated, altitude_in, is_called_for, is_in_time, is_seat_of}
 pub use Rattle.fm_stack.specs.Orders.{is_under, is_visited, place_behind, place_behind_at, place_behind_row, place_under}
 pub use Rattle.fm_stack.specs.Orders.{instance_of, seat_passes, seats_at}
 pub use Rattle.fm_stack.specs.StackWorld.{StackWorld}

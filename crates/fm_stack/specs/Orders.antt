@@ -71,6 +71,10 @@ pub record IsSeated (filters : List Filter) (rows : List Instance) (v : VolumeId
 abbrev pub HasSeat : List Seat → ℕ → Type 0
 HasSeat seats k = (p : ℕ) × (seat : Seat) × (slice_get seats p ≡ Some seat) × (seat.instance.0 ≡ k)
 
+-- nobody sits in two places
+abbrev pub SitsOnce : List Seat → Type 0
+SitsOnce seats = (p q : ℕ) (a b : Seat) → slice_get seats p ≡ Some a → slice_get seats q ≡ Some b → a.instance.0 ≡ b.instance.0 → p ≡ q
+
 abbrev pub altitude_in : List Instance → Seat → Option (List ℕ)
 altitude_in rows seat = option_map (λ (row : Instance). row.altitude) (slice_get rows seat.instance.0)
 

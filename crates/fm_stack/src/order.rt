@@ -3,7 +3,7 @@
 ghost use Rattle.std.specs.Prelude.{◌≡◌, ◌<◌, ◌≤◌, [], length, IfOk, position, unwrap_or, find, option_copied};
 ghost use Rattle.std.specs.List.{insert, remove, list_any};
 ghost use Rattle.fm_stack.specs.Events.{has_name_on, has_altitude_on};
-ghost use Rattle.fm_stack.specs.Orders.{is_seat_of, is_called_for, seat_passes, is_under, is_in_time, is_visited, place_under, place_behind, seats_at, instance_of};
+ghost use Rattle.fm_stack.specs.Orders.{SitsOnce, is_seat_of, is_called_for, seat_passes, is_under, is_in_time, is_visited, place_under, place_behind, seats_at, instance_of};
 
 use crate::instance::{Instance, Phase};
 use fm_altitude::Altitude;
@@ -161,6 +161,19 @@ pub fn place_of(seats: &[Seat], instance: InstanceId) -> Option<usize>
     seats.iter().position(|seat| seat.instance.0 == instance.0)
 }
 
+// The same, looked for first at a place that the caller guesses.
+fn place_by(seats: &[Seat], instance: InstanceId, guess: usize) -> Option<usize>
+    requires { SitsOnce seats.now }
+    ensures { result ≡ position (is_seat_of instance) seats.now }
+{
+    if let Some(seat) = seats.get(guess) {
+        if seat.instance.0 == instance.0 {
+            return Some(guess);
+        }
+    }
+    place_of(seats, instance)
+}
+
 fn first_under(rows: &[Instance], seats: &[Seat], altitude: &Altitude) -> Option<usize>
     ensures { result ≡ position (seat_passes rows.now (is_under altitude.now)) seats.now }
 {
@@ -179,15 +192,21 @@ pub fn place_under(rows: &[Instance], seats: &[Seat], altitude: &Altitude) -> us
 }
 
 /// The place behind an instance: behind its seat, or, where it has none any more, of the highest that
-/// stands lower.
-pub fn place_behind(rows: &[Instance], seats: &[Seat], last: Option<InstanceId>) -> usize
+/// stands lower. Its seat is looked for first at the place `guess`, which may be any number.
+pub fn place_behind(
+    rows: &[Instance],
+    seats: &[Seat],
+    last: Option<InstanceId>,
+    guess: usize,
+) -> usize
+    requires { SitsOnce seats.now }
     ensures place { result ≡ place_behind rows.now seats.now last }
     ensures within { result ≤ length seats.now }
 {
     let Some(last) = last else {
         return 0;
     };
-    if let Some(place) = place_of(seats, last) {
+    if let Some(place) = place_by(seats, last, guess) {
         return place + 1;
     }
     let Some(row) = rows.get(last.0 as usize) else {

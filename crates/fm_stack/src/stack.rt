@@ -458,18 +458,20 @@ impl Stack {
     /// The next instance that an operation visits: of the attached instances on the volume that were
     /// born before it (below `born`), whose filter registered a callback before or after the operation,
     /// and that stand lower than the one visited last (`cursor`; none: all), the highest. None where
-    /// there is none.
+    /// there is none. `guess` is how many of the volume's instances stand above the one visited last:
+    /// a right one saves a search, and a wrong one changes nothing of the answer.
     pub fn next_below(
         &self,
         volume: VolumeId,
         cursor: Option<InstanceId>,
+        guess: usize,
         born: u64,
         operation: Operation,
     ) -> Option<InstanceId>
         ensures { IsNextInstance self.now volume (option_map (λ (i : InstanceId). i.0) cursor) born operation result }
     {
         let seats = self.seats(volume);
-        let place = order::place_behind(&self.instances, seats, cursor);
+        let place = order::place_behind(&self.instances, seats, cursor, guess);
         order::next_visited(&self.instances, &seats[place..], born, operation)
     }
 }

@@ -1,8 +1,11 @@
 use Rattle.fm_stack.proofs.Words.{StackWorld}
 use Rattle.std.proofs.Common.{◌≡◌, ap}
 use Rattle.std.proofs.lemmas.List.{take_rest}
-use Rattle.fm_stack.proofs.Orders.{next_is}
+use Rattle.fm_stack.proofs.Orders.{next_is, sits_once}
 use Rattle.fm_stack.proofs.stack.Stack.next_below.Goals as goal
+
+pub place_behind-place-requires : goal.place_behind-place-requires
+place_behind-place-requires c = sits_once c.seats-seats.ensures
 
 pub returns : goal.returns
 returns c =

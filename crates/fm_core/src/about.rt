@@ -1,7 +1,8 @@
 //! What a callback may know of what it is called for.
 
-ghost use Rattle.std.specs.Prelude.{◌≡◌, IfErr, IfOk, option_and_then};
+ghost use Rattle.std.specs.Prelude.{◌≡◌, true, is_some, IfErr, IfOk, option_and_then};
 ghost use Rattle.fm_world.specs.About.{Tells, about_of, about_on, about_operation};
+ghost use Rattle.fm_world.specs.declared.about.AboutOperation.{AboutOperation};
 ghost use Rattle.fm_world.specs.Owners.{operation_in, row_at};
 
 use crate::caller::{instance_in, operation_in};
@@ -13,6 +14,7 @@ use fm_world::{About, AboutOperation, Place};
 fn shared(path: &Option<SharedPath>) -> Result<Option<SharedPath>, Status>
     ensures told { IfOk result (λ told. told ≡ path.now) }
     ensures memory { IfErr result (λ why. why ≡ Status.NoMemory) }
+    ensures path { IfErr result (λ why. is_some path.now ≡ true) }
 {
     let Some(path) = path else {
         return Ok(None);
@@ -26,6 +28,7 @@ impl State {
     fn about_operation(&self, place: Place) -> Result<Option<AboutOperation>, Status>
         ensures told { IfOk result (λ told. told ≡ about_operation self.now.flow (operation_in place)) }
         ensures memory { IfErr result (λ why. why ≡ Status.NoMemory) }
+        ensures path { IfErr result (λ why. is_some (option_and_then (λ (o : AboutOperation). o.path) (about_operation self.now.flow (operation_in place))) ≡ true) }
     {
         let Some(number) = operation_in(place) else {
             return Ok(None);
@@ -43,7 +46,7 @@ impl State {
     }
 
     /// What the callback that the worker is in may know of what it is called for (`FLT_RELATED_OBJECTS`). It takes no memory, and changes nothing. Refused
-    /// with 30 where the worker is in no callback of an instance, and 1 where no more owners of the operation's path can be counted.
+    /// with 30 where the worker is in no callback of an instance, and with 1 only where the operation has a path of which no more owners can be counted.
     #[tactic(auto, unfolding(fm_world::specs::About::Tells))]
     pub fn about(&self, worker: WorkerId) -> Result<About, Status>
         ensures { Tells self.now worker result }

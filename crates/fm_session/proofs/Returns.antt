@@ -13,6 +13,9 @@ given_back : (all : List Lent) (k : WorkerId) (what : Lent) → lent_to all k �
 given_back all k what was =
     set-set all k.0 lent.Nothing what ∙ ap (λ (own : Lent). lend all k own) (sym was) ∙ set-get_or all k.0 lent.Nothing
 
+pub nothing_again : (all : List Lent) (k : WorkerId) → lent_to all k ≡ lent.Nothing → lend all k lent.Nothing ≡ all
+nothing_again all k was = ap (λ (own : Lent). lend all k own) (sym was) ∙ set-get_or all k.0 lent.Nothing
+
 is_pre : (what : Lent) (given : Data) → pre_in what ≡ Some given → what ≡ lent.Pre given
 is_pre (lent.Pre own) given same = cc
 is_pre what given same = absurd (cc)

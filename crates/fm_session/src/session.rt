@@ -1,6 +1,6 @@
 //! The state, and what its workers were lent.
 
-ghost use Rattle.std.specs.Prelude.{◌≡◌, IfErr, IfNone, IfOk, IfSome, option_copied, replicate, slice_get};
+ghost use Rattle.std.specs.Prelude.{◌≡◌, true, IfErr, IfNone, IfOk, IfSome, option_copied, replicate, slice_get};
 ghost use Rattle.fm_world.specs.World.{empty_world};
 ghost use Rattle.fm_world.specs.Events.{Attaches, BaseReturns, Collects, SetsUp};
 ghost use Rattle.fm_world.specs.Steps.{Steps};
@@ -213,7 +213,7 @@ impl Session {
         ensures { LentPassesDown self.old worker operation instance (numbered number) self.new }
     {
         self.state.pass_down(worker, operation, instance, number);
-        self.lend(worker, Lent::Nothing);
+        self.lend_nothing(worker);
     }
 
     /// The operation passes the instance that is owed its next postoperation: `next` and `post_returned` in one, whose callback finishes (`State::pass_up`).
@@ -226,7 +226,7 @@ impl Session {
             return None;
         }
         let instance = self.state.pass_up(worker, operation)?;
-        self.lend(worker, Lent::Nothing);
+        self.lend_nothing(worker);
         Some(instance)
     }
 
@@ -290,6 +290,26 @@ impl Session {
                 self.lend(worker, Lent::Base(call));
                 Err(status)
             }
+        }
+    }
+
+    // Whether the worker is lent nothing.
+    fn has_nothing(&self, worker: WorkerId) -> bool
+        ensures { result ≡ true → lent_to self.now.lent worker ≡ lent.Nothing }
+    {
+        match self.lent.get(usize::from(worker.0)) {
+            Some(lent) => matches!(lent, Lent::Nothing),
+            None => false,
+        }
+    }
+
+    // The worker is lent nothing any more. Mostly it is lent nothing already.
+    #[tactic(auto, using(crate::proofs::Returns::nothing_again))]
+    fn lend_nothing(&mut self, worker: WorkerId)
+        ensures { self.new ≡ record self.old { lent = lend self.old.lent worker lent.Nothing } }
+    {
+        if !self.has_nothing(worker) {
+            self.lend(worker, Lent::Nothing);
         }
     }
 

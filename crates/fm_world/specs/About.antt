@@ -1,5 +1,5 @@
 -- What a callback may know of what it is called for: its instance, that one's filter and volume, and the operation.
-use Rattle.std.specs.Prelude.{◌≡◌, Option, Some, None, option_map, option_and_then, slice_get, Result, Ok, Err}
+use Rattle.std.specs.Prelude.{◌≡◌, Bool, true, is_some, Option, Some, None, option_map, option_and_then, slice_get, Result, Ok, Err}
 use Rattle.fm_types.specs.declared.status.Status.TheVariants as status
 use Rattle.fm_stack.specs.declared.volume.Volume.{Volume}
 use Rattle.fm_world.specs.Words.{FlowRecord, FlowTable, Instance, InstanceId, OpId, Status, WorkerId, operation_at}
@@ -37,12 +37,16 @@ abbrev pub about_of : World → WorkerId → Option About
 about_of w k =
     option_and_then (about_at w (about_operation w.flow (option_and_then operation_in (worker_at w.workers k)))) (place_in (worker_at w.workers k))
 
--- in no such callback that is refused; else it is told, or no more owners of the path can be counted
+-- whether a path is among what is told, which gets one more owner then
+abbrev pub tells_path : About → Bool
+tells_path about = is_some (option_and_then (λ (o : AboutOperation). o.path) about.operation)
+
+-- in no such callback that is refused; else it is told, or it has a path of which no more owners can be counted
 abbrev pub TellsOf : Option About → Result About Status → Type 0
 TellsOf None (Ok about) = ⊥
 TellsOf None (Err why) = why ≡ status.WrongStep
 TellsOf (Some told) (Ok about) = about ≡ told
-TellsOf (Some told) (Err why) = why ≡ status.NoMemory
+TellsOf (Some told) (Err why) = (why ≡ status.NoMemory) × (tells_path told ≡ true)
 
 unfoldable pub Tells : World → WorkerId → Result About Status → Type 0
 Tells w k result = TellsOf (about_of w k) result

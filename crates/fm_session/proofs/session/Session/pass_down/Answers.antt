@@ -7,4 +7,4 @@ use Rattle.fm_session.proofs.session.Session.pass_down.Goals as goal
 pub returns : goal.returns
 returns c =
     let within = subst (λ (w : Lending). c.args.worker.0 < length w.lent) (sym c.self.view_is) c.requires.0 in
-    passes_down _ _ _ _ c.args.worker c.args.operation c.args.instance (numbered c.args.number) c.self.view_is c.lend.ensures within c.pass_down.ensures.event
+    passes_down _ _ _ _ c.args.worker c.args.operation c.args.instance (numbered c.args.number) c.self.view_is c.lend_nothing.ensures within c.pass_down.ensures.event

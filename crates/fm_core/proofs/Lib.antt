@@ -2,7 +2,7 @@ mod Words
 pub mod Changes
 pub mod Counted
 pub mod Operated
-pub mod Passed
+pub mod Passes
 pub mod Resumed
 pub mod Torn
 pub mod Drained

@@ -32,7 +32,7 @@ slots_alike p q [] h = refl
 slots_alike p q (s ∷ slots) h = grind (arith, All-head (Agrees p q) s slots h, slots_alike p q slots (All-tail (Agrees p q) s slots h))
 
 pub sweeps_as : (by : CtxId → ℕ) (p q : Context → Bool) (old new : ContextTable) → All (Agrees p q) old.slots → Sweeps by p old new → Sweeps by q old new
-sweeps_as by p q old new h s = record { slots = s.slots ∙ slots_alike p q old.slots h; hands = s.hands; cleaning = s.cleaning; leaks = s.leaks; settles = s.settles }
+sweeps_as by p q old new h s = record { slots = s.slots ∙ slots_alike p q old.slots h; hands = s.hands; cleaning = s.cleaning; leaks = s.leaks; left = s.left; settles = s.settles }
 
 pub sweeping_as : (p q : Context → Bool) (old new : ContextsKept) → ((x : Context) → p x ≡ q x) → Sweeping p old new → Sweeping q old new
 sweeping_as p q old new h s = record { sweeps = sweeps_as (carried_of old) p q old.table new.table (everywhere p q old.table.slots h) s.sweeps; carried = s.carried }
@@ -48,6 +48,7 @@ sweeps_none by p t h = record {
   hands = refl;
   cleaning = refl;
   leaks = refl;
+  left = refl;
   settles = settles_none by t by t refl (λ c. refl);
 }
 
@@ -83,6 +84,7 @@ sweeping_both p q a b c first second =
         hands = second.sweeps.hands ∙ first.sweeps.hands;
         cleaning = second.sweeps.cleaning ∙ first.sweeps.cleaning;
         leaks = second.sweeps.leaks ∙ first.sweeps.leaks;
+        left = second.sweeps.left ∙ first.sweeps.left;
         settles = settles_both first.sweeps.settles (settles_alike same same second.sweeps.settles);
       };
       carried = second.carried ∙ first.carried;

@@ -1,10 +1,11 @@
 -- Callbacks that answer where they are called: `next`, and the return of the callback that it calls, in one.
-use Rattle.std.specs.Prelude.{◌≡◌, ℕ, true, false, Some, None, Ok, slice_get}
+use Rattle.std.specs.Prelude.{◌≡◌, ℕ, List, Option, true, false, Some, None, Ok, slice_get, slice_index_or}
 use Rattle.fm_types.specs.declared.ids.InstanceId.{InstanceId}
 use Rattle.fm_types.specs.declared.ids.OpId.{OpId}
 use Rattle.fm_types.specs.declared.ids.WorkerId.{WorkerId}
 use Rattle.fm_data.specs.Data.{Data}
 use Rattle.fm_data.specs.declared.verdict.Completion.{Completion}
+use Rattle.fm_data.specs.declared.verdict.PreVerdict.{PreVerdict}
 use Rattle.fm_data.specs.declared.verdict.PreVerdict.TheVariants.{WithCallback}
 use Rattle.fm_data.specs.declared.verdict.PostVerdict.TheVariants.{Finished}
 use Rattle.fm_flow.specs.declared.action.Below.TheVariants as below
@@ -19,6 +20,10 @@ use Rattle.fm_stack.specs.StackWorld.{StackWorld}
 use Rattle.fm_world.specs.Events.{LiesBelow, Nexts, PostReturns, PreReturns, has_post, is_stopping_ask}
 use Rattle.fm_world.specs.Workers.{is_idle, worker_at}
 use Rattle.fm_world.specs.World.{World}
+use Rattle.fm_core.specs.declared.passing.Coming.{Coming}
+use Rattle.fm_core.specs.declared.passing.Coming.TheVariants as coming
+use Rattle.fm_core.specs.declared.passing.Passed.{Passed}
+use Rattle.fm_core.specs.declared.passing.Passed.TheVariants as passed
 
 -- what a filter hands on that hands on a number alone
 abbrev pub numbered : ℕ → Completion
@@ -35,6 +40,16 @@ PassesDown old k o i completion new =
 abbrev pub PassesUp : World → WorkerId → OpId → InstanceId → World → Type 0
 PassesUp old k o i new =
     (lent : Data) × (completion : Completion) × (mid : World) × Nexts old k o (Ok (action.Post i lent completion)) mid × PostReturns mid k Finished (Some lent) (Ok tt) new
+
+-- what the preoperation of an instance answers at once, by the instances' numbers: it asks for its postoperation until something else is said
+abbrev pub answered_by : List PreVerdict → InstanceId → PreVerdict
+answered_by verdicts i = slice_index_or verdicts i.0 (WithCallback (numbered 0))
+
+-- an operation passes an instance, or nothing changes
+abbrev pub Passes : World → WorkerId → OpId → List PreVerdict → Option Passed → World → Type 0
+Passes old k o verdicts (Some (passed.Down i)) new = (n : ℕ) × (answered_by verdicts i ≡ WithCallback (numbered n)) × PassesDown old k o i (numbered n) new
+Passes old k o verdicts (Some (passed.Up i)) new = PassesUp old k o i new
+Passes old k o verdicts None new = new ≡ old
 
 -- ---- when there is such a callback
 
@@ -64,3 +79,8 @@ pub record ComesUp (w : World) (k : WorkerId) (o : OpId) (ask : Ask) : Type 0 wh
   pub operation : FlowRecord
   pub there : operation_at o w.flow ≡ Some operation
   pub next : OwesPlain w.stack operation k ask
+
+-- what the operation passes next
+abbrev pub IsComing : World → WorkerId → OpId → List PreVerdict → Coming → Type 0
+IsComing w k o verdicts (coming.Down i n) = ComesDown w k o i × (answered_by verdicts i ≡ WithCallback (numbered n))
+IsComing w k o verdicts (coming.Up ask) = ComesUp w k o ask

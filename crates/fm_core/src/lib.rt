@@ -30,6 +30,7 @@ mod teardowns;
 mod unloads;
 mod workers;
 
+pub use crate::passing::Passed;
 pub use crate::runs::run;
 pub use crate::state::State;
 pub use fm_ctx::{Count, Due, Object, Owner, SetMode};

@@ -1,5 +1,6 @@
 //! What can be read of a State without changing it.
 
+ghost use Rattle.fm_ctx.specs.Bags.{left_of};
 ghost use Rattle.std.specs.Prelude.{◌≡◌, length, nat_lt, slice_get, slice_index_or, option_map, option_and_then, option_copied};
 ghost use Rattle.std.specs.List.{list_any};
 ghost use Rattle.fm_ctx.specs.Bags.{hand_of};
@@ -202,8 +203,10 @@ impl State {
     }
 
     /// The contexts that were left in the worker's hand as its last callback returned, which the State released and counted as leaks, in the order of
-    /// the hand; none for a worker past the 48. It is no part of what contracts see.
-    pub fn left(&self, worker: WorkerId) -> &[CtxId] {
+    /// the hand; none for a worker past the 48.
+    pub fn left(&self, worker: WorkerId) -> &[CtxId]
+        ensures { result.now ≡ left_of self.now.contexts.left worker.0 }
+    {
         self.contexts.left(worker)
     }
 

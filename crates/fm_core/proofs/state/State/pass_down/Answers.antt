@@ -1,6 +1,6 @@
 use Rattle.fm_core.proofs.Words.{ComesDown, the_view, idle_there, Place, inl, refl, subst, sym, true, Below, World}
 use Rattle.fm_core.proofs.Operated.{next_requires, within_at}
-use Rattle.fm_core.proofs.Passed.{passed_down_hand, passed_down_state, passes_down}
+use Rattle.fm_core.proofs.Passes.{passed_down_hand, passed_down_state, passes_down}
 use Rattle.fm_core.proofs.state.State.pass_down.Goals.{After-laws}
 use Rattle.fm_core.proofs.state.State.pass_down.Goals as goal
 

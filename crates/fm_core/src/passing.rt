@@ -101,13 +101,7 @@ impl State {
 
     // The operation passes an instance on its way down: `next`, whose preoperation callback returns at once, asking for its postoperation with that number
     // and no context.
-    fn pass_down(
-        &mut self,
-        worker: WorkerId,
-        operation: OpId,
-        instance: InstanceId,
-        number: u64,
-    )
+    fn pass_down(&mut self, worker: WorkerId, operation: OpId, instance: InstanceId, number: u64)
         requires { ComesDown self.old worker operation instance }
         ensures event { PassesDown self.old worker operation instance (numbered number) self.new }
         ensures hand { OnlyHandOf worker.0 self.old self.new }

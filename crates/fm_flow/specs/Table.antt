@@ -8,7 +8,8 @@ use Rattle.fm_types.specs.declared.ids.StreamId.{StreamId}
 use Rattle.fm_types.specs.declared.ids.HandleId.{HandleId}
 use Rattle.fm_types.specs.declared.ids.CtxId.{CtxId}
 use Rattle.fm_types.specs.declared.status.Status.{Status}
-use Rattle.fm_types.specs.declared.status.Status.TheVariants.{Success, WrongStep}
+use Rattle.fm_types.specs.declared.status.Status.TheVariants.{Success, TooMany, WrongStep}
+use Rattle.fm_types.specs.Refusals.{AnswersOrMemory, first_of}
 use Rattle.fm_data.specs.declared.params.Params.{Params}
 use Rattle.fm_data.specs.declared.answer.Answer.{Answer}
 use Rattle.fm_data.specs.Params.{operation_of}
@@ -78,6 +79,12 @@ begun_record number volume stream handle born path params = record {
 
 abbrev pub begun : VolumeId → Option StreamId → Option HandleId → ℕ → Option (List ℕ) → Params → FlowTable → FlowTable
 begun volume stream handle born path params t = record { operations = t.operations ++ begun_record t.next volume stream handle born path params ∷ []; next = t.next + 1 }
+
+-- an operation begins, with the next number: refused with 29 where the table is full, and with 1 where memory is refused
+abbrev pub BeginsRecord : VolumeId → Option StreamId → Option HandleId → ℕ → Option (List ℕ) → Params → FlowTable → Result OpId Status → FlowTable → Type 0
+BeginsRecord volume stream handle born path params old result new =
+    AnswersOrMemory (first_of ((is_full old, TooMany) ∷ [])) result old new
+    (λ o. (o.0 ≡ old.next) × (new ≡ begun volume stream handle born path params old))
 
 -- ---- collect
 

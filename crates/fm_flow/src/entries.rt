@@ -64,6 +64,7 @@ pub(crate) fn depth_of(entries: &[Entry], owed: &OwedStack, instance: InstanceId
 }
 
 /// One more entry, which answers what is owed next.
+#[inline(always)]
 pub(crate) fn answer(entries: &mut Vec<Entry>, owed: &mut OwedStack, entry: Entry)
     requires { length entries.old.items < vec_capacity entries.old }
     ensures items { entries.new.items ≡ entries.old.items ++ entry ∷ [] }

@@ -2,7 +2,6 @@
 
 ghost use Rattle.std.specs.Prelude.{◌≡◌, ◌+◌, ◌<◌, ◌≤◌, ◌^◌, ◌&&◌, ◌∷◌, [], ℕ, true, length, Option, Some, None, Ok, Err, IsTrue, IfOk, option_copied, is_some, position, count_by, find, if◌then◌else◌};
 ghost use Rattle.std.specs.List.{list_any};
-ghost use Rattle.fm_types.specs.Refusals.{AnswersOrMemory, first_of};
 ghost use Rattle.fm_data.specs.Params.{is_within_limits, are_on};
 ghost use Rattle.fm_flow.specs.Verdict.{is_counted};
 ghost use Rattle.fm_flow.specs.Steps.{next_of, may_take, passed_up, with_visit, data_reply, pre_after, base_reply, base_after, post_after, pre_settled, post_settled, drain_returned_of};
@@ -12,7 +11,7 @@ ghost use Rattle.fm_flow.specs.Tallied.{IsAscending, entered, left_pre, left_pos
 ghost use Rattle.fm_flow.specs.Drains.{owes, DrainTaken, RunsEarly, drain_done_of};
 ghost use Rattle.fm_flow.specs.Flights.{flies};
 ghost use Rattle.fm_flow.specs.OnVolumes.{is_left_on, left_on};
-ghost use Rattle.fm_flow.specs.Table.{in_flight, IsFlow, MayLieBelowOf, OwesNext, StandsAt, empty_table, is_number, operation_at, changed, told, is_full, is_collectable, begun, collect_reply, collected_of, is_spent};
+ghost use Rattle.fm_flow.specs.Table.{in_flight, IsFlow, MayLieBelowOf, OwesNext, StandsAt, empty_table, is_number, operation_at, changed, told, is_full, is_collectable, BeginsRecord, collect_reply, collected_of, is_spent};
 
 use crate::action::{Below, FlowAction};
 use crate::boxed_record::BoxedRecord;
@@ -52,6 +51,7 @@ impl Model for Flow {
 }
 
 // By halves: the numbers ascend.
+#[inline(never)]
 fn search(operations: &[BoxedRecord], number: OpId) -> Option<usize>
     requires { IsAscending operations.now }
     ensures { result ≡ position (is_number number) operations.now }
@@ -340,6 +340,7 @@ impl Flow {
     /// `pre_returned` make of it where the instance's preoperation changes nothing of its data and asks for
     /// its postoperation with that completion. The operation has to be on its way down, and the instance has
     /// to lie below it. All other operations stay. It takes no memory.
+    #[inline(always)]
     pub fn pass_down(
         &mut self,
         number: OpId,
@@ -362,6 +363,7 @@ impl Flow {
     /// `post_returned` make of it where that postoperation changes nothing of the answer and finishes. The
     /// operation has to owe it next, and the worker has to be one that may make it. All other operations
     /// stay. It takes no memory.
+    #[inline(always)]
     pub fn pass_up(&mut self, number: OpId, worker: WorkerId, ask: Ask)
         requires owes { OwesNext ask (operation_at number self.old) }
         requires may { may_take worker ask ≡ true }
@@ -390,7 +392,7 @@ impl Flow {
     ) -> Result<OpId, Status>
         requires limits { IsTrue (is_within_limits params) }
         requires file { are_on path params ≡ true }
-        ensures { AnswersOrMemory (first_of ((is_full self.old, Status.TooMany) ∷ [])) result self.old self.new (λ o. (o.0 ≡ self.old.next) × (self.new ≡ begun volume stream handle born path params self.old)) }
+        ensures { BeginsRecord volume stream handle born path params self.old result self.new }
     {
         if self.is_full() {
             return Err(Status::TooMany);

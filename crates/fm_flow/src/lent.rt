@@ -44,10 +44,10 @@ pub(crate) fn unwind(kept: &mut Vec<Params>, place: usize) -> Option<Params>
     ensures rest { kept.new.items ≡ take place kept.old.items }
     ensures capacity { vec_capacity kept.new ≡ vec_capacity kept.old }
 {
-    kept.truncate(place + 1);
     if kept.len() <= place {
         return None;
     }
+    kept.truncate(place + 1);
     kept.pop()
 }
 

@@ -353,6 +353,7 @@ impl OperationRecord {
     }
 
     /// It passes an instance on its way down, which asks at once for its postoperation.
+    #[inline(always)]
     pub(crate) fn pass_down(
         &mut self,
         worker: WorkerId,
@@ -440,6 +441,7 @@ impl OperationRecord {
     }
 
     /// It passes an instance on its way up: the postoperation that is owed next is made, and is over.
+    #[inline(always)]
     pub(crate) fn pass_up(&mut self, worker: WorkerId, ask: Ask)
         requires stage { self.old.stage ≡ Stage.Ascending }
         requires next { slice_get (owed self.old.entries) 0 ≡ Some ask }
@@ -450,6 +452,7 @@ impl OperationRecord {
         self.note_post(worker, ask);
     }
 
+    #[inline(always)]
     fn note_post(&mut self, worker: WorkerId, ask: Ask)
         requires stage { self.old.stage ≡ Stage.Ascending }
         requires next { slice_get (owed self.old.entries) 0 ≡ Some ask }
@@ -465,6 +468,7 @@ impl OperationRecord {
     }
 
     // what callbacks from that place on changed is put back
+    #[inline(always)]
     fn unwind(&mut self, place: u8)
         requires { self.old.stage ≡ Stage.Ascending }
         ensures { self.new ≡ unwound place self.old }

@@ -304,6 +304,7 @@ impl Session {
     }
 
     // The worker is lent nothing any more. Mostly it is lent nothing already.
+    #[inline(always)]
     #[tactic(auto, using(crate::proofs::Returns::nothing_again))]
     fn lend_nothing(&mut self, worker: WorkerId)
         ensures { self.new ≡ record self.old { lent = lend self.old.lent worker lent.Nothing } }
@@ -314,6 +315,7 @@ impl Session {
     }
 
     // Keeps what the worker is lent.
+    #[inline(never)]
     fn lend(&mut self, worker: WorkerId, lent: Lent)
         ensures { self.new ≡ record self.old { lent = lend self.old.lent worker lent } }
     {

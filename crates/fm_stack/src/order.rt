@@ -155,6 +155,7 @@ pub fn has_altitude_on(
 }
 
 /// The place where that instance sits.
+#[inline(never)]
 pub fn place_of(seats: &[Seat], instance: InstanceId) -> Option<usize>
     ensures { result ≡ position (is_seat_of instance) seats.now }
 {
@@ -162,6 +163,7 @@ pub fn place_of(seats: &[Seat], instance: InstanceId) -> Option<usize>
 }
 
 // The same, looked for first at a place that the caller guesses.
+#[inline(always)]
 fn place_by(seats: &[Seat], instance: InstanceId, guess: usize) -> Option<usize>
     requires { SitsOnce seats.now }
     ensures { result ≡ position (is_seat_of instance) seats.now }
@@ -174,6 +176,7 @@ fn place_by(seats: &[Seat], instance: InstanceId, guess: usize) -> Option<usize>
     place_of(seats, instance)
 }
 
+#[inline(never)]
 fn first_under(rows: &[Instance], seats: &[Seat], altitude: &Altitude) -> Option<usize>
     ensures { result ≡ position (seat_passes rows.now (is_under altitude.now)) seats.now }
 {
@@ -193,6 +196,7 @@ pub fn place_under(rows: &[Instance], seats: &[Seat], altitude: &Altitude) -> us
 
 /// The place behind an instance: behind its seat, or, where it has none any more, of the highest that
 /// stands lower. Its seat is looked for first at the place `guess`, which may be any number.
+#[inline(always)]
 pub fn place_behind(
     rows: &[Instance],
     seats: &[Seat],

@@ -253,6 +253,7 @@ impl Contexts {
 
     /// A callback of the worker returns: the references that are left in its hand are released, and
     /// counted as leaks; `left` tells them until its next callback has returned. It takes no memory.
+    #[inline(always)]
     pub fn leave(&mut self, worker: WorkerId)
         requires { worker.0 < 48 }
         ensures table { Leaves (carried_of self.old) self.old.table self.new.table worker.0 }
@@ -275,6 +276,7 @@ impl Contexts {
     }
 
     // What is in the hand, and was noted, is released and counted as leaks.
+    #[inline(never)]
     #[tactic(auto, using(crate::proofs::Bags::first_held))]
     fn release_left(&mut self, worker: WorkerId)
         requires worker { worker.0 < 48 }

@@ -1,9 +1,10 @@
 -- What a call of C makes of a session, and what C is told.
-use Rattle.std.specs.Prelude.{◌≡◌, ◌==◌, ℕ, List, [], Option, Some, None, Result, Ok, Err, cond, length, unwrap_or}
+use Rattle.std.specs.Prelude.{◌≡◌, ◌==◌, ℕ, Bool, List, [], Option, Some, None, Result, Ok, Err, cond, length, nat_lt, unwrap_or}
 use Rattle.fm_types.specs.declared.status.Status.{Status}
 use Rattle.fm_world.specs.declared.step.Step.{Step}
 use Rattle.fm_world.specs.declared.step.StepReply.{StepReply}
 use Rattle.fm_world.specs.Steps.{Steps}
+use Rattle.fm_world.specs.World.{World}
 use Rattle.kazdrin_c.specs.declared.event.KazdrinEvent.{KazdrinEvent}
 use Rattle.kazdrin_c.specs.declared.told.KazdrinTold.{KazdrinTold}
 use Rattle.kazdrin_c.specs.declared.face.Face.{Face}
@@ -19,12 +20,16 @@ use Rattle.kazdrin_c.specs.declared.data.KazdrinData.{KazdrinData}
 use Rattle.kazdrin_c.specs.Data.{lent_bytes, lent_told, params_named}
 use Rattle.kazdrin_c.specs.Named.{attach_named, flag_in, operation_in, status_at, step_named, worker_in}
 use Rattle.kazdrin_c.specs.Refusals.{Unnamed, Unread, UnreadParams, UnreadTexts}
-use Rattle.kazdrin_c.specs.Told.{told_of, bytes_in, copied, reply_outcome, given_told, outcome_of}
+use Rattle.kazdrin_c.specs.Told.{told_of, bytes_in, copied, due_code, reply_outcome, given_told, outcome_of}
 
--- an answer in C's structures
-pub record AnswerTold (answer : StepReply) (room : List ℕ) (result : ℕ) (told : KazdrinTold) (after : List ℕ) : Type 0 where
+-- whether some context waits for its cleanup
+abbrev pub has_due : World → Bool
+has_due w = nat_lt 0 (length w.contexts.due)
+
+-- an answer in C's structures, of an event that led to that world
+pub record AnswerTold (answer : StepReply) (w : World) (room : List ℕ) (result : ℕ) (told : KazdrinTold) (after : List ℕ) : Type 0 where
   pub outcome : result ≡ reply_outcome answer
-  pub filled : told ≡ record (told_of answer) { length = length (bytes_in answer) }
+  pub filled : told ≡ record (told_of answer) { length = length (bytes_in answer); due = due_code (has_due w) }
   pub bytes : after ≡ copied (bytes_in answer) room
 
 -- what workers were lent and the file systems stay
@@ -35,7 +40,7 @@ pub record KeepsLent (old new : Face) : Type 0 where
 -- the event happens, and C is told its answer
 abbrev pub Makes : Step → Face → List ℕ → ℕ → Face → KazdrinTold → List ℕ → Type 0
 Makes s old room result new told after =
-    (answer : StepReply) × Steps old.session.world s answer new.session.world × AnswerTold answer room result told after × KeepsLent old new
+    (answer : StepReply) × Steps old.session.world s answer new.session.world × AnswerTold answer new.session.world room result told after × KeepsLent old new
 
 -- a refusal for that reason, and nothing changes
 abbrev pub RefusedFor : (Status → Type 0) → Face → ℕ → Face → Type 0

@@ -50,7 +50,3 @@ phase_named w e mode =
 -- kazdrin_phase: nothing changes but what is told
 abbrev pub PhaseTold : KazdrinEvent → Face → ℕ → Face → KazdrinTold → Type 0
 PhaseTold e old result new told = (result ≡ 0) × (new ≡ old) × (told ≡ phase_told (phase_named old.session.world e e.mode))
-
--- kazdrin_left: a context, or none; which one no contract says
-abbrev pub LeftTold : Face → ℕ → Face → KazdrinTold → Type 0
-LeftTold old result new told = (result ≡ 0) × (new ≡ old) × ((left : Option CtxId) × (told ≡ old_told left))

@@ -1,5 +1,5 @@
 -- What C is told of an answer.
-use Rattle.std.specs.Prelude.{ℕ, ◌++◌, List, [], Option, Some, None, Result, Ok, Err, length, min, take, drop}
+use Rattle.std.specs.Prelude.{ℕ, ◌++◌, Bool, cond, List, [], Option, Some, None, Result, Ok, Err, length, min, take, drop}
 use Rattle.fm_types.specs.declared.ids.CtxId.{CtxId}
 use Rattle.fm_types.specs.declared.context_kind.ContextKind.{ContextKind}
 use Rattle.fm_types.specs.declared.context_kind.ContextKind.TheVariants as kind
@@ -29,6 +29,7 @@ nothing_told = record {
   action = 0;
   status = 0;
   has = 0;
+  due = 0;
 }
 
 abbrev pub code_of : ContextKind → ℕ
@@ -46,6 +47,10 @@ old_told None = nothing_told
 
 abbrev pub completion_told : Completion → KazdrinTold
 completion_told completion = record (old_told completion.context) { number = completion.number }
+
+-- whether some context waits for its cleanup
+abbrev pub due_code : Bool → ℕ
+due_code b = cond b 1 0
 
 -- 0, or the number of the status
 abbrev pub outcome_of : {T : Type 0} → Result T Status → ℕ

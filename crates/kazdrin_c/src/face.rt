@@ -2,12 +2,10 @@
 
 ghost use Rattle.std.specs.Prelude.{◌≡◌, IfErr, IfOk, slice_get};
 ghost use Rattle.kazdrin_c.specs.Calls.{AnswerPut, AttachTold, BaseTold, BasedTold, ChangeTold, LentTold, Makes, NextTold, PostTold, PreTold, PutsAnswer, ReturnsAnswer, StepTold};
-ghost use Rattle.kazdrin_c.specs.Counts.{counts_of, held_told};
+ghost use Rattle.kazdrin_c.specs.Counts.{counts_of, held_told, left_told};
 ghost use Rattle.kazdrin_c.specs.Opened.{IsFresh};
 ghost use Rattle.kazdrin_c.specs.Phases.{phase_named, phase_told};
 ghost use Rattle.kazdrin_c.specs.Told.{old_told};
-ghost use Rattle.std.specs.Prelude.{Option};
-ghost use Rattle.fm_types.specs.declared.ids.CtxId.{CtxId};
 ghost use Rattle.kazdrin_c.specs.Named.{post_named, verdict_named};
 
 use crate::counts::KazdrinCounts;
@@ -50,7 +48,7 @@ impl Face {
         ensures { Makes step self.old room.old result self.new told.new room.new }
     {
         let reply = self.session.step(step);
-        tell(&reply, told, room);
+        tell(&reply, self.session.state().has_due(), told, room);
         outcome_of(&reply)
     }
 
@@ -247,7 +245,7 @@ impl Face {
 
     /// The context at that place among those that the worker's last callback left in its hand, if there were so many.
     pub fn left(&self, event: &KazdrinEvent) -> KazdrinTold
-        ensures { (left : Option CtxId) × (result ≡ old_told left) }
+        ensures { result ≡ left_told self.now.session.world event.now.worker event.now.len }
     {
         let left = self.session.state().left(WorkerId(event.worker));
         old_told(left.get(event.len as usize).copied())

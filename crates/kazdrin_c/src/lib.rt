@@ -2,10 +2,10 @@
 #![tactic(auto)]
 
 ghost use Rattle.std.specs.Prelude.{◌≡◌, ◌≢◌, IfSome, slice_get};
-ghost use Rattle.kazdrin_c.specs.Opened.{HasFresh, IsFresh, Opened};
+ghost use Rattle.kazdrin_c.specs.Opened.{CallsOn, HasFresh, IsFresh, Opened};
 ghost use Rattle.kazdrin_c.specs.Calls.{AnswerPut, AttachTold, BaseTold, BasedTold, ChangeTold, LentTold, NextTold, PostTold, PreTold, StepTold};
-ghost use Rattle.kazdrin_c.specs.Counts.{CountsTold, HeldTold};
-ghost use Rattle.kazdrin_c.specs.Phases.{LeftTold, PhaseTold};
+ghost use Rattle.kazdrin_c.specs.Counts.{CountsTold, HeldTold, LeftTold};
+ghost use Rattle.kazdrin_c.specs.Phases.{PhaseTold};
 ghost use Rattle.kazdrin_c.specs.Named.{post_named, verdict_named};
 
 mod counts;
@@ -79,9 +79,7 @@ pub extern "C" fn kazdrin_step(
     told: &mut KazdrinTold,
     room: &mut [u8],
 ) -> u32
-    ensures open { kazdrin.old.is_open ≡ 1 → Opened kazdrin.old.kept.face kazdrin.new.kept.face (λ old new. StepTold event.now bytes.now old told.old room.old result new told.new room.new) }
-    ensures stays { kazdrin.old.is_open ≡ 1 → kazdrin.new.is_open ≡ 1 }
-    ensures closed { kazdrin.old.is_open ≢ 1 → (result ≡ 35) × (kazdrin.new ≡ kazdrin.old) }
+    ensures { CallsOn kazdrin.old result kazdrin.new (λ old new. StepTold event.now bytes.now old told.old room.old result new told.new room.new) }
 {
     let Some(mut face) = kazdrin.take(alloc) else {
         return CLOSED;
@@ -102,9 +100,7 @@ pub extern "C" fn kazdrin_attach(
     told: &mut KazdrinTold,
     room: &mut [u8],
 ) -> u32
-    ensures open { kazdrin.old.is_open ≡ 1 → Opened kazdrin.old.kept.face kazdrin.new.kept.face (λ old new. AttachTold event.now name.now altitude.now old told.old room.old result new told.new room.new) }
-    ensures stays { kazdrin.old.is_open ≡ 1 → kazdrin.new.is_open ≡ 1 }
-    ensures closed { kazdrin.old.is_open ≢ 1 → (result ≡ 35) × (kazdrin.new ≡ kazdrin.old) }
+    ensures { CallsOn kazdrin.old result kazdrin.new (λ old new. AttachTold event.now name.now altitude.now old told.old room.old result new told.new room.new) }
 {
     let Some(mut face) = kazdrin.take(alloc) else {
         return CLOSED;
@@ -122,9 +118,7 @@ pub extern "C" fn kazdrin_next(
     event: &KazdrinEvent,
     told: &mut KazdrinTold,
 ) -> u32
-    ensures open { kazdrin.old.is_open ≡ 1 → Opened kazdrin.old.kept.face kazdrin.new.kept.face (λ old new. NextTold event.now old told.old result new told.new) }
-    ensures stays { kazdrin.old.is_open ≡ 1 → kazdrin.new.is_open ≡ 1 }
-    ensures closed { kazdrin.old.is_open ≢ 1 → (result ≡ 35) × (kazdrin.new ≡ kazdrin.old) }
+    ensures { CallsOn kazdrin.old result kazdrin.new (λ old new. NextTold event.now old told.old result new told.new) }
 {
     let Some(mut face) = kazdrin.take(alloc) else {
         return CLOSED;
@@ -141,9 +135,7 @@ pub extern "C" fn kazdrin_pre_returned(
     kazdrin: &mut Kazdrin,
     event: &KazdrinEvent,
 ) -> u32
-    ensures open { kazdrin.old.is_open ≡ 1 → Opened kazdrin.old.kept.face kazdrin.new.kept.face (λ old new. PreTold event.now old result new (verdict_named event.now)) }
-    ensures stays { kazdrin.old.is_open ≡ 1 → kazdrin.new.is_open ≡ 1 }
-    ensures closed { kazdrin.old.is_open ≢ 1 → (result ≡ 35) × (kazdrin.new ≡ kazdrin.old) }
+    ensures { CallsOn kazdrin.old result kazdrin.new (λ old new. PreTold event.now old result new (verdict_named event.now)) }
 {
     let Some(mut face) = kazdrin.take(alloc) else {
         return CLOSED;
@@ -160,9 +152,7 @@ pub extern "C" fn kazdrin_post_returned(
     kazdrin: &mut Kazdrin,
     event: &KazdrinEvent,
 ) -> u32
-    ensures open { kazdrin.old.is_open ≡ 1 → Opened kazdrin.old.kept.face kazdrin.new.kept.face (λ old new. PostTold event.now old result new (post_named event.now.mode)) }
-    ensures stays { kazdrin.old.is_open ≡ 1 → kazdrin.new.is_open ≡ 1 }
-    ensures closed { kazdrin.old.is_open ≢ 1 → (result ≡ 35) × (kazdrin.new ≡ kazdrin.old) }
+    ensures { CallsOn kazdrin.old result kazdrin.new (λ old new. PostTold event.now old result new (post_named event.now.mode)) }
 {
     let Some(mut face) = kazdrin.take(alloc) else {
         return CLOSED;
@@ -175,9 +165,7 @@ pub extern "C" fn kazdrin_post_returned(
 /// The file system in memory of the operation's volume carries out the call that the worker was lent, and the call returns.
 #[unsafe(no_mangle)]
 pub extern "C" fn kazdrin_base(alloc: Global, kazdrin: &mut Kazdrin, event: &KazdrinEvent) -> u32
-    ensures open { kazdrin.old.is_open ≡ 1 → Opened kazdrin.old.kept.face kazdrin.new.kept.face (λ old new. BaseTold event.now old result new) }
-    ensures stays { kazdrin.old.is_open ≡ 1 → kazdrin.new.is_open ≡ 1 }
-    ensures closed { kazdrin.old.is_open ≢ 1 → (result ≡ 35) × (kazdrin.new ≡ kazdrin.old) }
+    ensures { CallsOn kazdrin.old result kazdrin.new (λ old new. BaseTold event.now old result new) }
 {
     let Some(mut face) = kazdrin.take(alloc) else {
         return CLOSED;
@@ -196,9 +184,7 @@ pub extern "C" fn kazdrin_based(
     event: &KazdrinEvent,
     bytes: &[u8],
 ) -> u32
-    ensures open { kazdrin.old.is_open ≡ 1 → Opened kazdrin.old.kept.face kazdrin.new.kept.face (λ old new. BasedTold event.now bytes.now old result new) }
-    ensures stays { kazdrin.old.is_open ≡ 1 → kazdrin.new.is_open ≡ 1 }
-    ensures closed { kazdrin.old.is_open ≢ 1 → (result ≡ 35) × (kazdrin.new ≡ kazdrin.old) }
+    ensures { CallsOn kazdrin.old result kazdrin.new (λ old new. BasedTold event.now bytes.now old result new) }
 {
     let Some(mut face) = kazdrin.take(alloc) else {
         return CLOSED;
@@ -218,9 +204,7 @@ pub extern "C" fn kazdrin_lent(
     told: &mut KazdrinData,
     room: &mut [u8],
 ) -> u32
-    ensures open { kazdrin.old.is_open ≡ 1 → Opened kazdrin.old.kept.face kazdrin.new.kept.face (λ old new. LentTold event.now old told.old room.old result new told.new room.new (slice_get old.session.lent event.now.worker)) }
-    ensures stays { kazdrin.old.is_open ≡ 1 → kazdrin.new.is_open ≡ 1 }
-    ensures closed { kazdrin.old.is_open ≢ 1 → (result ≡ 35) × (kazdrin.new ≡ kazdrin.old) }
+    ensures { CallsOn kazdrin.old result kazdrin.new (λ old new. LentTold event.now old told.old room.old result new told.new room.new (slice_get old.session.lent event.now.worker)) }
 {
     let Some(face) = kazdrin.take(alloc) else {
         return CLOSED;
@@ -239,9 +223,7 @@ pub extern "C" fn kazdrin_change(
     event: &KazdrinEvent,
     bytes: &[u8],
 ) -> u32
-    ensures open { kazdrin.old.is_open ≡ 1 → Opened kazdrin.old.kept.face kazdrin.new.kept.face (λ old new. ChangeTold event.now bytes.now old result new) }
-    ensures stays { kazdrin.old.is_open ≡ 1 → kazdrin.new.is_open ≡ 1 }
-    ensures closed { kazdrin.old.is_open ≢ 1 → (result ≡ 35) × (kazdrin.new ≡ kazdrin.old) }
+    ensures { CallsOn kazdrin.old result kazdrin.new (λ old new. ChangeTold event.now bytes.now old result new) }
 {
     let Some(mut face) = kazdrin.take(alloc) else {
         return CLOSED;
@@ -259,9 +241,7 @@ pub extern "C" fn kazdrin_answer(
     event: &KazdrinEvent,
     bytes: &[u8],
 ) -> u32
-    ensures open { kazdrin.old.is_open ≡ 1 → Opened kazdrin.old.kept.face kazdrin.new.kept.face (λ old new. AnswerPut event.now bytes.now old result new) }
-    ensures stays { kazdrin.old.is_open ≡ 1 → kazdrin.new.is_open ≡ 1 }
-    ensures closed { kazdrin.old.is_open ≢ 1 → (result ≡ 35) × (kazdrin.new ≡ kazdrin.old) }
+    ensures { CallsOn kazdrin.old result kazdrin.new (λ old new. AnswerPut event.now bytes.now old result new) }
 {
     let Some(mut face) = kazdrin.take(alloc) else {
         return CLOSED;
@@ -279,9 +259,7 @@ pub extern "C" fn kazdrin_counts(
     event: &KazdrinEvent,
     counts: &mut KazdrinCounts,
 ) -> u32
-    ensures open { kazdrin.old.is_open ≡ 1 → Opened kazdrin.old.kept.face kazdrin.new.kept.face (λ old new. CountsTold event.now old result new counts.new) }
-    ensures stays { kazdrin.old.is_open ≡ 1 → kazdrin.new.is_open ≡ 1 }
-    ensures closed { kazdrin.old.is_open ≢ 1 → (result ≡ 35) × (kazdrin.new ≡ kazdrin.old) }
+    ensures { CallsOn kazdrin.old result kazdrin.new (λ old new. CountsTold event.now old result new counts.new) }
 {
     let Some(face) = kazdrin.take(alloc) else {
         return CLOSED;
@@ -299,9 +277,7 @@ pub extern "C" fn kazdrin_held_at(
     event: &KazdrinEvent,
     told: &mut KazdrinTold,
 ) -> u32
-    ensures open { kazdrin.old.is_open ≡ 1 → Opened kazdrin.old.kept.face kazdrin.new.kept.face (λ old new. HeldTold event.now old result new told.new) }
-    ensures stays { kazdrin.old.is_open ≡ 1 → kazdrin.new.is_open ≡ 1 }
-    ensures closed { kazdrin.old.is_open ≢ 1 → (result ≡ 35) × (kazdrin.new ≡ kazdrin.old) }
+    ensures { CallsOn kazdrin.old result kazdrin.new (λ old new. HeldTold event.now old result new told.new) }
 {
     let Some(face) = kazdrin.take(alloc) else {
         return CLOSED;
@@ -319,9 +295,7 @@ pub extern "C" fn kazdrin_phase(
     event: &KazdrinEvent,
     told: &mut KazdrinTold,
 ) -> u32
-    ensures open { kazdrin.old.is_open ≡ 1 → Opened kazdrin.old.kept.face kazdrin.new.kept.face (λ old new. PhaseTold event.now old result new told.new) }
-    ensures stays { kazdrin.old.is_open ≡ 1 → kazdrin.new.is_open ≡ 1 }
-    ensures closed { kazdrin.old.is_open ≢ 1 → (result ≡ 35) × (kazdrin.new ≡ kazdrin.old) }
+    ensures { CallsOn kazdrin.old result kazdrin.new (λ old new. PhaseTold event.now old result new told.new) }
 {
     let Some(face) = kazdrin.take(alloc) else {
         return CLOSED;
@@ -339,9 +313,7 @@ pub extern "C" fn kazdrin_left(
     event: &KazdrinEvent,
     told: &mut KazdrinTold,
 ) -> u32
-    ensures open { kazdrin.old.is_open ≡ 1 → Opened kazdrin.old.kept.face kazdrin.new.kept.face (λ old new. LeftTold old result new told.new) }
-    ensures stays { kazdrin.old.is_open ≡ 1 → kazdrin.new.is_open ≡ 1 }
-    ensures closed { kazdrin.old.is_open ≢ 1 → (result ≡ 35) × (kazdrin.new ≡ kazdrin.old) }
+    ensures { CallsOn kazdrin.old result kazdrin.new (λ old new. LeftTold event.now old result new told.new) }
 {
     let Some(face) = kazdrin.take(alloc) else {
         return CLOSED;

@@ -1,7 +1,7 @@
 //! What C is told of an event: one structure for all answers.
 
 ghost use Rattle.std.specs.Prelude.{◌≡◌, ◌++◌, length, min, take, drop};
-ghost use Rattle.kazdrin_c.specs.Told.{bytes_in, code_of, completion_told, context_told, copied, given_told, nothing_told, old_told, outcome_of, refusal_told, reply_outcome, told_of};
+ghost use Rattle.kazdrin_c.specs.Told.{bytes_in, code_of, completion_told, context_told, copied, due_code, given_told, nothing_told, old_told, outcome_of, refusal_told, reply_outcome, told_of};
 
 use fm_core::{SetAnswer, StepReply};
 use fm_data::Completion;
@@ -9,7 +9,8 @@ use fm_session::Given;
 use fm_types::{ContextKind, CtxId, Status};
 
 /// What an event answered. `has` says whether a context, an operation or a handle that may be absent is there; `length` is how many bytes there are, of which
-/// as many are copied as there is room for.
+/// as many are copied as there is room for. `due` is 1 after an event of `kazdrin_step` or `kazdrin_attach` if some context waits for its cleanup then, so that
+/// nobody has to ask for one in vain; other calls tell 0.
 #[repr(C)]
 #[derive(Clone, Copy, Drop)]
 pub struct KazdrinTold {
@@ -27,6 +28,7 @@ pub struct KazdrinTold {
     pub action: u8,
     pub status: u8,
     pub has: u8,
+    pub due: u8,
 }
 
 /// Nothing is told.
@@ -48,6 +50,7 @@ pub fn nothing_told() -> KazdrinTold
         action: 0,
         status: 0,
         has: 0,
+        due: 0,
     }
 }
 
@@ -217,15 +220,16 @@ pub fn put_bytes(room: &mut [u8], bytes: &[u8])
     room[..count].copy_from_slice(&bytes[..count]);
 }
 
-/// Tells C what an event answered.
-pub fn tell(reply: &StepReply, told: &mut KazdrinTold, room: &mut [u8])
-    ensures told { told.new ≡ record (told_of reply.now) { length = length (bytes_in reply.now) } }
+/// Tells C what an event answered, and whether some context waits for its cleanup.
+pub fn tell(reply: &StepReply, has_due: bool, told: &mut KazdrinTold, room: &mut [u8])
+    ensures told { told.new ≡ record (told_of reply.now) { length = length (bytes_in reply.now); due = due_code has_due } }
     ensures bytes { room.new ≡ copied (bytes_in reply.now) room.old }
 {
     let bytes = bytes_of(reply);
     put_bytes(room, bytes);
     *told = KazdrinTold {
         length: bytes.len() as u64,
+        due: u8::from(has_due),
         ..told_of(reply)
     };
 }

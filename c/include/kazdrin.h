@@ -24,12 +24,13 @@ typedef struct {
 } KazdrinEvent;
 
 /* What an event answered. `has` says whether a context, an operation or a handle that may be absent is there; `length` is how many bytes there are, of which
- * as many are copied as there is room for. Of an event without an answer that was refused with 34, `number` says how many are in the way. */
+ * as many are copied as there is room for. Of an event without an answer that was refused with 34, `number` says how many are in the way. `due` is
+ * 1 after an event of kazdrin_step or kazdrin_attach if some context waits for its cleanup then, so that nobody asks for one in vain; other calls tell 0. */
 typedef struct {
     uint32_t slot, generation;
     uint64_t operation, handle, number, information, length;
     uint16_t instance;
-    uint8_t filter, volume, kind, action, status, has;
+    uint8_t filter, volume, kind, action, status, has, due;
 } KazdrinTold;
 
 /* What a worker was lent, in `lent`: nothing, the data of a preoperation, a call of the base, the data of a postoperation, a drain. Of data and of a call:

@@ -1,6 +1,5 @@
 -- How far the life of an instance, a filter or a volume has come, as C is told it, and what C is told of a callback's leaks.
 use Rattle.std.specs.Prelude.{◌≡◌, ◌==◌, ℕ, Option, Some, None, cond, option_map, slice_get}
-use Rattle.fm_types.specs.declared.ids.CtxId.{CtxId}
 use Rattle.fm_stack.specs.declared.filter.Filter.{Filter}
 use Rattle.fm_stack.specs.declared.filter.FilterPhase.{FilterPhase}
 use Rattle.fm_stack.specs.declared.filter.FilterPhase.TheVariants as filter
@@ -14,7 +13,7 @@ use Rattle.fm_world.specs.World.{World}
 use Rattle.kazdrin_c.specs.declared.event.KazdrinEvent.{KazdrinEvent}
 use Rattle.kazdrin_c.specs.declared.face.Face.{Face}
 use Rattle.kazdrin_c.specs.declared.told.KazdrinTold.{KazdrinTold}
-use Rattle.kazdrin_c.specs.Told.{nothing_told, old_told}
+use Rattle.kazdrin_c.specs.Told.{nothing_told}
 
 abbrev pub instance_code : Phase → ℕ
 instance_code instance.Setup = 0

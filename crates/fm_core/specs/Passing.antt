@@ -47,7 +47,7 @@ answered_by verdicts i = slice_index_or verdicts i.0 (WithCallback (numbered 0))
 
 -- an operation passes an instance, or nothing changes
 abbrev pub Passes : World → WorkerId → OpId → List PreVerdict → Option Passed → World → Type 0
-Passes old k o verdicts (Some (passed.Down i)) new = (n : ℕ) × (answered_by verdicts i ≡ WithCallback (numbered n)) × PassesDown old k o i (numbered n) new
+Passes old k o verdicts (Some (passed.Down i n)) new = (answered_by verdicts i ≡ WithCallback (numbered n)) × PassesDown old k o i (numbered n) new
 Passes old k o verdicts (Some (passed.Up i)) new = PassesUp old k o i new
 Passes old k o verdicts None new = new ≡ old
 

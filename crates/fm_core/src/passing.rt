@@ -16,8 +16,8 @@ use fm_types::{InstanceId, OpId, WorkerId};
 /// An instance that an operation passed: on its way down, or on its way up.
 #[derive(Clone, Copy, Debug, PartialEq, Eq)]
 pub enum Passed {
-    /// Its preoperation was called, and asked at once for its postoperation.
-    Down(InstanceId),
+    /// Its preoperation was called, and asked at once for its postoperation, handing on that number.
+    Down(InstanceId, u64),
     /// Its postoperation was called, and finished at once.
     Up(InstanceId),
 }
@@ -143,7 +143,7 @@ impl State {
         match self.coming(worker, operation, verdicts)? {
             Coming::Down(instance, number) => {
                 self.pass_down(worker, operation, instance, number);
-                Some(Passed::Down(instance))
+                Some(Passed::Down(instance, number))
             }
             Coming::Up(ask) => {
                 self.pass_up(worker, operation, ask);

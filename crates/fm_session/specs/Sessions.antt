@@ -18,7 +18,9 @@ use Rattle.fm_data.specs.declared.verdict.PostVerdict.TheVariants.{Finished}
 use Rattle.fm_data.specs.declared.verdict.Completion.{Completion}
 use Rattle.fm_flow.specs.declared.action.FlowAction.{FlowAction}
 use Rattle.fm_flow.specs.declared.action.FlowAction.TheVariants as action
-use Rattle.fm_core.specs.Passing.{ComesDown}
+use Rattle.fm_core.specs.Passing.{answered_by, numbered}
+use Rattle.fm_core.specs.declared.passing.Passed.{Passed}
+use Rattle.fm_core.specs.declared.passing.Passed.TheVariants as passed
 use Rattle.fm_world.specs.World.{World}
 use Rattle.fm_world.specs.Events.{Nexts, PreReturns, BaseReturns, PostReturns}
 use Rattle.fm_session.specs.declared.lent.Lent.{Lent}
@@ -152,10 +154,6 @@ LentBaseAnswered old k answer result new = AnswersBase old k answer result new (
 
 -- ---- callbacks that answer where they are called
 
--- the worker has room for what it is lent, and the operation comes to that instance
-abbrev pub MayPassDown : Lending → WorkerId → OpId → InstanceId → Type 0
-MayPassDown w k o i = (k.0 < length w.lent) × ComesDown w.world k o i
-
 -- the operation passes an instance on its way down, and on its way up: the step is taken, and what was lent is given back
 abbrev pub LentPassesDown : Lending → WorkerId → OpId → InstanceId → Completion → Lending → Type 0
 LentPassesDown old k o i completion new =
@@ -164,6 +162,12 @@ LentPassesDown old k o i completion new =
 abbrev pub LentPassesUp : Lending → WorkerId → OpId → InstanceId → Lending → Type 0
 LentPassesUp old k o i new =
     (completion : Completion) × (mid : Lending) × LendsNext old k o (Ok (given.Post i completion)) mid × LentPostReturns mid k Finished (Ok tt) new
+
+-- it passes one, down or up, or nothing changes
+abbrev pub LentPasses : Lending → WorkerId → OpId → List PreVerdict → Option Passed → Lending → Type 0
+LentPasses old k o verdicts (Some (passed.Down i n)) new = (answered_by verdicts i ≡ WithCallback (numbered n)) × LentPassesDown old k o i (numbered n) new
+LentPasses old k o verdicts (Some (passed.Up i)) new = LentPassesUp old k o i new
+LentPasses old k o verdicts None new = new ≡ old
 
 -- ---- a callback changes what it was lent
 

@@ -4,14 +4,13 @@ ghost use Rattle.std.specs.Prelude.{◌≡◌, true, IfErr, IfNone, IfOk, IfSome
 ghost use Rattle.fm_world.specs.World.{empty_world};
 ghost use Rattle.fm_world.specs.Events.{Attaches, BaseReturns, Collects, SetsUp};
 ghost use Rattle.fm_world.specs.Steps.{Steps};
-ghost use Rattle.fm_core.specs.Passing.{numbered};
-ghost use Rattle.fm_session.specs.Sessions.{MayPassDown, LentPassesDown, LentPassesUp, LendsNext, LentPreReturns, LentPostReturns, LentBaseReturns, LentBaseAnswered, LentChanges, LentAnswers, lent_to, lend, lent_by, given_by, pre_in, post_in, base_in, post_lent, lent_back};
+ghost use Rattle.fm_session.specs.Sessions.{LentPasses, LendsNext, LentPreReturns, LentPostReturns, LentBaseReturns, LentBaseAnswered, LentChanges, LentAnswers, lent_to, lend, lent_by, given_by, pre_in, post_in, base_in, post_lent, lent_back};
 ghost use Rattle.fm_session.specs.declared.lent.Lent.{Lent};
 ghost use Rattle.fm_session.specs.declared.lent.Lent.TheVariants as lent;
 
 use crate::lent::{Given, Lent};
 use fm_altitude::Altitude;
-use fm_core::{Refused, State, Step, StepReply};
+use fm_core::{Passed, Refused, State, Step, StepReply};
 use fm_data::{Answer, BaseCall, CallbackData, Params, PostVerdict, PreVerdict};
 use fm_device::Device;
 use fm_flow::FlowAction;
@@ -189,45 +188,22 @@ impl Session {
         }
     }
 
-    /// The instance that the operation comes to on its way down, whose preoperation may answer where it is called (`State::comes_down`). Where it says none
-    /// nothing is known, and `next` tells what is to be done.
-    pub fn comes_down(&self, worker: WorkerId, operation: OpId) -> Option<InstanceId>
-        ensures { IfSome result (λ i. MayPassDown self.now worker operation i) }
-    {
-        if usize::from(worker.0) >= self.lent.len() {
-            return None;
-        }
-        self.state.comes_down(worker, operation)
-    }
-
-    /// The operation passes the instance that `comes_down` told, on its way down: `next` and `pre_returned` in one, whose callback asks for its postoperation
-    /// with that number (`State::pass_down`).
-    pub fn pass_down(
+    /// The operation passes one instance, down or up: `next` and the return of the callback that it calls in one, where that callback answers where it is
+    /// called (`State::pass`). None, and nothing changed, where that can't be: `next` tells what is to be done then.
+    pub fn pass(
         &mut self,
         worker: WorkerId,
         operation: OpId,
-        instance: InstanceId,
-        number: u64,
-    )
-        requires { MayPassDown self.old worker operation instance }
-        ensures { LentPassesDown self.old worker operation instance (numbered number) self.new }
-    {
-        self.state.pass_down(worker, operation, instance, number);
-        self.lend_nothing(worker);
-    }
-
-    /// The operation passes the instance that is owed its next postoperation: `next` and `post_returned` in one, whose callback finishes (`State::pass_up`).
-    /// None, and nothing changed, where that can't be: `next` tells what is to be done then.
-    pub fn pass_up(&mut self, worker: WorkerId, operation: OpId) -> Option<InstanceId>
-        ensures some { IfSome result (λ i. LentPassesUp self.old worker operation i self.new) }
-        ensures none { IfNone result (self.new ≡ self.old) }
+        verdicts: &[PreVerdict],
+    ) -> Option<Passed>
+        ensures { LentPasses self.old worker operation verdicts.now result self.new }
     {
         if usize::from(worker.0) >= self.lent.len() {
             return None;
         }
-        let instance = self.state.pass_up(worker, operation)?;
+        let passed = self.state.pass(worker, operation, verdicts)?;
         self.lend_nothing(worker);
-        Some(instance)
+        Some(passed)
     }
 
     /// The device carries out the call that the worker was lent, and the worker's call returns (`State::base_returned`): the status that the device

@@ -84,7 +84,8 @@ impl<F: Drop, L: Ledger> Manager<F, L> {
         }
     }
 
-    /// The same, but no longer than that time: who waits can look meanwhile whether anybody still wants the answer.
+    /// The same, but no longer than that time: who waits can look meanwhile whether anybody still wants the answer. With no time it asks once, and waits for
+    /// nothing but the lock.
     pub fn wait_turn_for<R: Wait + Clock>(
         &self,
         rt: &R,
@@ -94,6 +95,9 @@ impl<F: Drop, L: Ledger> Manager<F, L> {
     ) -> Result<Waited, Status>
         ensures { IfErr result (λ status. status ≡ Status.WrongStep) }
     {
+        if time.is_zero() {
+            return self.collect_within(rt, hand.worker(), operation, time);
+        }
         self.waiting.enter(operation);
         let waited = self.collect_within(rt, hand.worker(), operation, time);
         self.waiting.leave();

@@ -2,6 +2,7 @@
 
 ghost use Rattle.std.specs.Prelude.{◌<◌};
 
+use fm_look::Looks;
 use fm_types::{OpId, WorkerId};
 use std::array;
 use std::sync::Condvar;
@@ -13,12 +14,6 @@ const PLACES: usize = 32;
 /// How many loads a pause between two looks for the lock takes: some microseconds. Whoever has the lock makes several events meanwhile, while what they
 /// touch is in its processor's cache.
 const PAUSE: usize = 3_000;
-
-/// How many loads a client looks for its answer before it sleeps: some ten microseconds.
-const LOOK: usize = 8_000;
-
-/// How many clients sleep at once after one that looked in vain.
-const SKIPS: u64 = 15;
 
 /// A condition that clients wait by.
 #[derive(Drop)]
@@ -36,9 +31,9 @@ impl Place {
         }
     }
 
-    // Whether an operation is told done within a short while.
-    fn is_told_soon(&self, operation: OpId) -> bool {
-        'looks: for _ in 0..LOOK {
+    // Whether an operation is told done before so many loads were made.
+    fn is_told_within(&self, loads: usize, operation: OpId) -> bool {
+        'looks: for _ in 0..loads {
             if self.told.load(Ordering::SeqCst) == operation.0 {
                 return true;
             }
@@ -53,8 +48,8 @@ pub(crate) struct Waiting {
     places: [Place; PLACES],
     // How many clients wait.
     clients: AtomicU64,
-    // How many clients more sleep at once.
-    skips: AtomicU64,
+    // How long the next clients look.
+    looks: Looks,
     // Which workers take jobs, a bit for each.
     workers: AtomicU64,
 }
@@ -75,7 +70,7 @@ impl Waiting {
         Waiting {
             places: array::from_fn(|_| Place::new()),
             clients: AtomicU64::new(0),
-            skips: AtomicU64::new(0),
+            looks: Looks::new(),
             workers: AtomicU64::new(0),
         }
     }
@@ -98,17 +93,20 @@ impl Waiting {
         self.place(operation).changed.notify_all();
     }
 
-    /// A client begins to wait for an operation. One that waits alone first looks a short while: its answer may come before it could fall asleep. Where
-    /// others wait too, or a look was in vain not long ago, the processors have better to do.
+    /// A client begins to wait for an operation. One that waits alone first looks a while: its answer may come before it could fall asleep. Where others
+    /// wait too, or looks were in vain, the processors have better to do.
     pub(crate) fn enter(&self, operation: OpId) {
-        if self.clients.fetch_add(1, Ordering::SeqCst) != 0 {
-            return;
+        if self.clients.fetch_add(1, Ordering::SeqCst) == 0 {
+            self.look(operation);
         }
-        let skips = self.skips.load(Ordering::SeqCst);
-        if skips > 0 {
-            self.skips.store(skips - 1, Ordering::SeqCst);
-        } else if !self.place(operation).is_told_soon(operation) {
-            self.skips.store(SKIPS, Ordering::SeqCst);
+    }
+
+    // Looks for the end of an operation, as long as looks last now.
+    fn look(&self, operation: OpId) {
+        let loads = self.looks.begin();
+        if loads != 0 {
+            self.looks
+                .end(self.place(operation).is_told_within(loads, operation));
         }
     }
 

@@ -1,13 +1,8 @@
 //! Whom a put wakes: one thread that sleeps until a job is put, or nobody if one looks for it already.
 
+use fm_look::Looks;
 use std::sync::Wait;
 use std::sync::atomic::{AtomicU64, Ordering};
-
-// How often a thread looks before it sleeps: some ten microseconds, about what it costs to wake it.
-const LOOKS: u64 = 10_000;
-
-// How many looks are left out after one that was in vain. On a machine whose processors are all busy hardly any look finds a job.
-const LEFT_OUT: u64 = 15;
 
 /// What the threads that take jobs wait by. It only says who is to wake: what is queued, the channel alone knows.
 #[derive(Drop)]
@@ -18,8 +13,8 @@ pub struct Bell {
     puts: AtomicU64,
     // 1 while a thread looks: one at a time.
     looking: AtomicU64,
-    // How many of the next looks are left out. The thread that looks alone changes it.
-    left_out: AtomicU64,
+    // How long the next looks last. The thread that looks alone changes it.
+    looks: Looks,
     // Threads that sleep, and those that are about to.
     sleepers: AtomicU64,
 }
@@ -31,7 +26,7 @@ impl Bell {
             queued: AtomicU64::new(0),
             puts: AtomicU64::new(0),
             looking: AtomicU64::new(0),
-            left_out: AtomicU64::new(0),
+            looks: Looks::new(),
             sleepers: AtomicU64::new(0),
         }
     }
@@ -68,7 +63,7 @@ impl Bell {
     pub fn look(&self) {
         if self.is_empty() && self.looking.swap(1, Ordering::SeqCst) == 0 {
             let puts = self.puts.load(Ordering::SeqCst);
-            if self.is_empty() && self.may_look() {
+            if self.is_empty() {
                 self.watch(puts);
             }
             self.looking.store(0, Ordering::SeqCst);
@@ -79,23 +74,22 @@ impl Bell {
         self.queued.load(Ordering::SeqCst) == 0
     }
 
-    // Whether this look isn't left out.
-    fn may_look(&self) -> bool {
-        let left_out = self.left_out.load(Ordering::SeqCst);
-        if left_out != 0 {
-            self.left_out.store(left_out - 1, Ordering::SeqCst);
+    // Looks until there are more puts than those, as long as looks last now.
+    fn watch(&self, puts: u64) {
+        let loads = self.looks.begin();
+        if loads != 0 {
+            self.looks.end(self.is_put_within(loads, puts));
         }
-        left_out == 0
     }
 
-    // Looks until there are more puts than those. The loop reads memory, since a loop with nothing to read is no pause.
-    fn watch(&self, puts: u64) {
-        'looks: for _ in 0..LOOKS {
+    // Whether there are more puts than those before so many loads were made. The loop reads memory, since a loop with nothing to read is no pause.
+    fn is_put_within(&self, loads: usize, puts: u64) -> bool {
+        'looks: for _ in 0..loads {
             if self.puts.load(Ordering::SeqCst) != puts {
-                return;
+                return true;
             }
         }
-        self.left_out.store(LEFT_OUT, Ordering::SeqCst);
+        false
     }
 
     /// Counts a thread that is about to sleep. It tries once more to take a job, and then sleeps, if it got none, as long as no job is put

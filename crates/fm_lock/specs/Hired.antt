@@ -19,6 +19,18 @@ abbrev pub is_retired : HandView → LockedView → Bool
 is_retired h r =
     is_idle (worker_at r.world.workers h.worker) && ((h.held == hand_len h.worker.0 r.world) && slice_index_or r.hired h.worker.0 false)
 
+-- the hand of a worker whose hand was in goes out, and holds nothing
+pub record Hires (hand : HandView) (old new : LockedView) : Type 0 where
+  pub empty : hand.held ≡ 0
+  pub was_in : slice_index_or old.hired hand.worker.0 true ≡ false
+  pub out : new ≡ record old { hired = slice_set old.hired hand.worker.0 true }
+
+-- a hand that may come back is in again, and held nothing
+pub record Retires (hand : HandView) (old new : LockedView) : Type 0 where
+  pub may : is_retired hand old ≡ true
+  pub empty : hand.held ≡ 0
+  pub back : new ≡ record old { hired = slice_set old.hired hand.worker.0 false }
+
 -- the place of the filter of that name
 abbrev pub place_called : {F : Type 0} → List ℕ → List (List ℕ × F) → Option ℕ
 place_called {F} name filters = position (λ (row : List ℕ × F). same_name row.0 name) filters

@@ -1,5 +1,6 @@
 pub mod Views
 pub mod Hired
 pub mod Events
+pub mod Lending
 pub mod Replies
 pub mod Turns

@@ -1,10 +1,10 @@
 //! Hands go out and come back, and a manager ends.
 
-ghost use Rattle.std.specs.Prelude.{◌≡◌, All, true, false, IfOk, IfErr, slice_index_or, slice_set};
+ghost use Rattle.std.specs.Prelude.{◌≡◌, All, true, false, IfOk, IfErr};
 ghost use Rattle.fm_ctx.specs.Counting.{born, cleaned_count};
 ghost use Rattle.fm_world.specs.Ending.{busy_of, IsOver};
 ghost use Rattle.fm_world.specs.Hands.{worker_pairs};
-ghost use Rattle.fm_lock.specs.Hired.{AreHired, is_retired, are_hired};
+ghost use Rattle.fm_lock.specs.Hired.{AreHired, Hires, Retires, is_retired, are_hired};
 ghost use Rattle.fm_lock.specs.Views.{held_by};
 
 use crate::audit::audit;
@@ -34,7 +34,7 @@ fn report_of(state: State) -> Report
 impl<L: Ledger> Locked<L> {
     /// Gives out the hand of a worker whose hand is in. It holds nothing. Refused with 29, nothing changed, if all 48 are out.
     pub fn hire(&mut self) -> Result<Hand<L>, Status>
-        ensures ok { IfOk result (λ hand. (hand.held ≡ 0) × (slice_index_or self.old.hired hand.worker.0 true ≡ false) × (self.new ≡ record self.old { hired = slice_set self.old.hired hand.worker.0 true })) }
+        ensures ok { IfOk result (λ hand. Hires hand self.old self.new) }
         ensures err { IfErr result (λ status. (status ≡ Status.TooMany) × All (λ is_out. is_out ≡ true) self.old.hired × (self.new ≡ self.old)) }
     {
         let Some(place) = self.hired.iter().position(|is_out| !*is_out) else {
@@ -52,7 +52,7 @@ impl<L: Ledger> Locked<L> {
     /// is taken holds nothing.
     #[tactic(auto, using(crate::proofs::Idling::idle_holds_none, crate::proofs::Outs::one_fewer))]
     pub fn retire(&mut self, hand: Hand<L>) -> Result<(), (Hand<L>, Status)>
-        ensures ok { IfOk result (λ done. (is_retired hand self.old ≡ true) × (hand.held ≡ 0) × (self.new ≡ record self.old { hired = slice_set self.old.hired hand.worker.0 false })) }
+        ensures ok { IfOk result (λ done. Retires hand self.old self.new) }
         ensures err { IfErr result (λ refused. (refused.1 ≡ Status.WrongStep) × (refused.0 ≡ hand) × (self.new ≡ self.old)) }
         ensures why { IfErr result (λ refused. is_retired hand self.old ≡ false) }
     {

@@ -1,12 +1,11 @@
 //! The events that lend data out, hand it back or are lent some: by the hand of their worker, with what a refusal hands back.
 
-ghost use Rattle.std.specs.Prelude.{◌≡◌, Err, IfErr};
+ghost use Rattle.std.specs.Prelude.{◌≡◌, IfErr};
 ghost use Rattle.fm_core.specs.Returned.{status_of};
-ghost use Rattle.fm_world.specs.ContextEvents.{WritesBody};
-ghost use Rattle.fm_world.specs.Events.{BaseReturns, Nexts, PostReturns, PreReturns};
 ghost use Rattle.fm_world.specs.Hands.{given_by_next};
 ghost use Rattle.fm_world.specs.StepHands.{More, Nothing};
-ghost use Rattle.fm_lock.specs.Events.{EventOr, Holding};
+ghost use Rattle.fm_lock.specs.Events.{Holding};
+ghost use Rattle.fm_lock.specs.Lending.{BaseReturnsBy, NextsBy, PostReturnsBy, PreReturnsBy, WritesBodyBy};
 
 use crate::hand::Hand;
 use crate::locked::Locked;
@@ -20,7 +19,7 @@ impl<L: Ledger> Locked<L> {
     /// What the hand's worker has to do next for an operation, as the State's `next`. Refused with 30 before the event, nothing changed, if the hand's number
     /// isn't the State's.
     pub fn next(&mut self, hand: &mut Hand<L>, operation: OpId) -> Result<FlowAction, Status>
-        ensures event { EventOr (Err Status.WrongStep) (λ worker before r after. Nexts before worker operation r after) self.old hand.old result self.new hand.new }
+        ensures event { NextsBy operation self.old hand.old result self.new hand.new }
         ensures held { Holding (More result given_by_next) hand.old hand.new }
     {
         let worker = hand.worker();
@@ -40,7 +39,7 @@ impl<L: Ledger> Locked<L> {
         verdict: PreVerdict,
         lent: CallbackData,
     ) -> Result<(), Refused<CallbackData>>
-        ensures event { EventOr (Err (record { status = Status.WrongStep; handed_back = lent })) (λ worker before r after. PreReturns before worker verdict lent (status_of r) after) self.old hand.old result self.new hand.new }
+        ensures event { PreReturnsBy verdict lent self.old hand.old result self.new hand.new }
         ensures held { Holding (Nothing (status_of result)) hand.old hand.new }
         ensures back { IfErr result (λ refused. refused.handed_back ≡ lent) }
     {
@@ -65,7 +64,7 @@ impl<L: Ledger> Locked<L> {
         call: BaseCall,
         given: Answer,
     ) -> Result<(), Refused<(BaseCall, Answer)>>
-        ensures event { EventOr (Err (record { status = Status.WrongStep; handed_back = (call, given) })) (λ worker before r after. BaseReturns before worker call given (status_of r) after) self.old hand.old result self.new hand.new }
+        ensures event { BaseReturnsBy call given self.old hand.old result self.new hand.new }
         ensures held { hand.new ≡ hand.old }
         ensures back { IfErr result (λ refused. refused.handed_back ≡ (call, given)) }
     {
@@ -89,7 +88,7 @@ impl<L: Ledger> Locked<L> {
         verdict: PostVerdict,
         lent: Option<CallbackData>,
     ) -> Result<(), Refused<Option<CallbackData>>>
-        ensures event { EventOr (Err (record { status = Status.WrongStep; handed_back = lent })) (λ worker before r after. PostReturns before worker verdict lent (status_of r) after) self.old hand.old result self.new hand.new }
+        ensures event { PostReturnsBy verdict lent self.old hand.old result self.new hand.new }
         ensures held { Holding (Nothing (status_of result)) hand.old hand.new }
         ensures back { IfErr result (λ refused. refused.handed_back ≡ lent) }
     {
@@ -114,7 +113,7 @@ impl<L: Ledger> Locked<L> {
         context: CtxId,
         bytes: &[u8],
     ) -> Result<(), Status>
-        ensures event { EventOr (Err Status.WrongStep) (λ worker before r after. WritesBody before worker context bytes.now r after) self.old hand.old result self.new hand.new }
+        ensures event { WritesBodyBy context bytes.now self.old hand.old result self.new hand.new }
         ensures held { hand.new ≡ hand.old }
     {
         let worker = hand.worker();

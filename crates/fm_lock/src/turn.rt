@@ -1,10 +1,11 @@
 //! An operation's next turn, with all that a worker has to know for it: one event, and what can be read at the same moment.
 
-ghost use Rattle.std.specs.Prelude.{◌≡◌, Err, None, MatchResult, length, nat_lt};
-ghost use Rattle.fm_world.specs.Events.{Nexts, sync_worker};
+ghost use Rattle.std.specs.Prelude.{◌≡◌, None, MatchResult, length, nat_lt};
+ghost use Rattle.fm_world.specs.Events.{sync_worker};
 ghost use Rattle.fm_world.specs.Hands.{given_by_next};
 ghost use Rattle.fm_world.specs.StepHands.{More};
-ghost use Rattle.fm_lock.specs.Events.{EventOr, Holding};
+ghost use Rattle.fm_lock.specs.Events.{Holding};
+ghost use Rattle.fm_lock.specs.Lending.{NextsBy};
 ghost use Rattle.fm_lock.specs.Turns.{called_by, place_called_by, place_of_instance};
 
 use crate::hand::Hand;
@@ -74,7 +75,7 @@ impl<L: Ledger> Locked<L> {
     /// What the hand's worker has to do next for an operation, as `next`; and at the same moment the place of the filter whose callback that is, whether
     /// a context is due, and where the operation is refused, whose turn it is.
     pub fn turn(&mut self, hand: &mut Hand<L>, operation: OpId) -> Turn<usize>
-        ensures event { EventOr (Err Status.WrongStep) (λ worker before r after. Nexts before worker operation r after) self.old hand.old result.action self.new hand.new }
+        ensures event { NextsBy operation self.old hand.old result.action self.new hand.new }
         ensures held { Holding (More result.action given_by_next) hand.old hand.new }
         ensures filter { result.filter ≡ place_called_by self.new result.action }
         ensures bound { MatchResult result.action (λ _. result.bound_to ≡ None) (λ _. result.bound_to ≡ sync_worker self.new.world operation) }

@@ -7,6 +7,7 @@ ghost use Rattle.fm_worker.specs.Between.{IsFree};
 ghost use Rattle.fm_worker.specs.Jobs.{HandsOn, IsKept, LeavesNone, is_for_another};
 
 use crate::gate::Gate;
+use crate::op_queue::OpQueue;
 use crate::own::Own;
 use crate::shared::Shared;
 use crate::worker::Worker;
@@ -70,17 +71,42 @@ impl<'a, F: Callbacks, L: Ledger, R: Wait, G: Gate> Shared<'a, F, L, R, G> {
             own.waiting.aside.put(operation);
         }
     }
+
+    /// Notes an operation that goes no further here. It may become this thread's turn alone, and while the thread takes no jobs nothing would tell it so. Those
+    /// that are over make room where 256 are noted.
+    pub(crate) fn note<D: Device>(&self, own: &mut Own<'a, F, L, R, D>, operation: OpId)
+        ensures port { own.new.port ≡ own.old.port }
+        ensures pass { own.new.pass ≡ own.old.pass }
+        ensures aside { own.new.waiting.aside ≡ own.old.waiting.aside }
+    {
+        if own.waiting.bound.is_full() {
+            self.forget_over(&mut own.waiting.bound);
+        }
+        own.waiting.bound.put(operation);
+    }
+
+    // Takes those that are over out of a list of operations.
+    fn forget_over(&self, noted: &mut OpQueue) {
+        'noted: for _ in 0..noted.len() {
+            let Some(operation) = noted.take() else {
+                break 'noted;
+            };
+            if self.manager.is_done(self.rt, operation) == Some(false) {
+                noted.put(operation);
+            }
+        }
+    }
 }
 
 impl<'a, F: Callbacks, L: Ledger, R: Wait, G: Gate, D: Device> Worker<'a, F, L, R, G, D> {
     /// What a worker does until it takes a Stop: it takes jobs and carries their operations on, as far as they go. What callbacks resume becomes a job for any
     /// worker, or is carried on here if the queue is full; contexts that are due are cleaned up after each job. An operation that only another worker may
-    /// carry on becomes a job again, or, if the queue is full, waits until it has room. From the first time on operations that are its turn alone come to
-    /// it as jobs.
+    /// carry on becomes a job again, or, if the queue is full, waits until it has room. From the first time on to the Stop operations that are its turn alone come
+    /// to it as jobs. At its Stop it carries on what is its turn alone by then, and puts what it had set aside, as far as the queue has room. What becomes its
+    /// turn alone later goes on once it works again, or as a client's does.
     pub fn work(&mut self) {
         let rt = self.shared.rt;
         self.shared.manager.takes_jobs(&self.own.port.hand);
-        self.own.waiting.takes_jobs = true;
         self.carry_bound();
         'jobs: for _ in rt.forever() {
             self.requeue();
@@ -90,6 +116,8 @@ impl<'a, F: Callbacks, L: Ledger, R: Wait, G: Gate, D: Device> Worker<'a, F, L, 
                 None => thread::yield_now(),
             }
         }
+        self.shared.manager.leaves_jobs(&self.own.port.hand);
+        self.put_aside();
     }
 
     // The job in front. It waits for one where none is queued, unless something is set aside here, of which nobody else knows: then there may be none.
@@ -191,7 +219,7 @@ impl<'a, F: Callbacks, L: Ledger, R: Wait, G: Gate, D: Device> Worker<'a, F, L, 
         {
             self.carry_here(operation);
         } else if shared.manager.is_done(shared.rt, operation) == Some(false) {
-            self.own.waiting.note(operation);
+            shared.note(&mut self.own, operation);
         }
     }
 
@@ -215,7 +243,8 @@ impl<'a, F: Callbacks, L: Ledger, R: Wait, G: Gate, D: Device> Worker<'a, F, L, 
         }
     }
 
-    /// Has one worker end, once it comes to that job: while the queue is full this waits for room.
+    /// Has one worker end, once it comes to that job: while the queue is full this waits for room. An operation that is tied to that worker (a postoperation that
+    /// was asked for as synchronized) has to be over by then, or its thread has to work again or to do what clients do: no other thread can carry it on.
     pub fn stop_worker(&mut self) {
         let rt = self.shared.rt;
         'tries: for _ in rt.forever() {

@@ -1,12 +1,15 @@
 //! What belongs to one thread alone.
 
-ghost use Rattle.std.specs.Prelude.{◌≡◌};
+ghost use Rattle.std.specs.Prelude.{◌≡◌, MatchBool};
+ghost use Rattle.fm_worker.specs.OpQueues.{put_in};
+ghost use Rattle.fm_worker.specs.Ports.{lacks_room};
 
 use crate::op_queue::OpQueue;
 use crate::port::HandPort;
 use fm_device::Device;
 use fm_lock::{Hand, Manager};
 use fm_queue::JobPass;
+use fm_types::OpId;
 use std::sync::Wait;
 use std::sync::ledger::Ledger;
 
@@ -24,9 +27,7 @@ pub(crate) struct Own<'a, F: Drop, L: Ledger, R: Wait, D: Device> {
 pub(crate) struct Waiting {
     // Jobs that were set aside while the queue was full.
     pub(crate) aside: OpQueue,
-    // Whether the thread takes jobs.
-    pub(crate) takes_jobs: bool,
-    // Operations that went no further here and may become this thread's turn alone. One that takes jobs has none: such come to it as jobs.
+    // Operations that went no further here and may become this thread's turn alone.
     pub(crate) bound: OpQueue,
 }
 
@@ -59,11 +60,20 @@ impl<'a, F: Drop, L: Ledger, R: Wait, D: Device> Own<'a, F, L, R, D> {
             },
             pass,
             devices,
-            waiting: Waiting {
-                aside,
-                takes_jobs: false,
-                bound,
-            },
+            waiting: Waiting { aside, bound },
+        }
+    }
+
+    /// Has an operation go on that a drain let go: it waits with those that callbacks resumed, or where no place is left it is set aside.
+    pub(crate) fn let_go(&mut self, operation: OpId)
+        ensures pass { self.new.pass ≡ self.old.pass }
+        ensures hand { self.new.port.hand ≡ self.old.port.hand }
+        ensures waits { MatchBool (lacks_room operation self.old.port.resumed) (self.new.port.resumed ≡ self.old.port.resumed × self.new.waiting.aside ≡ put_in operation self.old.waiting.aside) (self.new.port.resumed ≡ put_in operation self.old.port.resumed × self.new.waiting.aside ≡ self.old.waiting.aside) }
+    {
+        if self.port.lacks_room(operation) {
+            self.waiting.aside.put(operation);
+        } else {
+            self.port.resumed.put(operation);
         }
     }
 

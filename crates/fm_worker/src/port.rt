@@ -26,7 +26,7 @@ pub struct HandPort<'a, F: Drop, L: Ledger, R: Wait> {
 
 impl<'a, F: Drop, L: Ledger, R: Wait> HandPort<'a, F, L, R> {
     // Whether there is no place for an operation that isn't there yet.
-    fn lacks_room(&self, operation: OpId) -> bool
+    pub(crate) fn lacks_room(&self, operation: OpId) -> bool
         ensures { result ≡ lacks_room operation self.now.resumed }
     {
         self.resumed.is_full() && !self.resumed.has(operation)

@@ -95,17 +95,19 @@ impl<'a, F: Callbacks, L: Ledger, R: Wait, G: Gate, D: Device> Worker<'a, F, L, 
         }
     }
 
-    // Has it let go of what the first operation owes it; false if none does.
+    // Has it let go of what the first operation owes it; false if none does. That operation then goes on as any that was resumed: it may have been the turn of
+    // one thread alone, which nobody else would have carried on.
     fn drain_first(&mut self, instance: InstanceId) -> bool
         ensures same { self.new.own.pass ≡ self.old.own.pass }
     {
         let shared = &self.shared;
         let hand = &mut self.own.port.hand;
         match shared.manager.drain_take(shared.rt, hand, instance) {
-            Ok(Some((_operation, completion))) => {
+            Ok(Some((operation, completion))) => {
                 let action = FlowAction::Drain(instance, completion);
                 shared.gate.before(hand.worker(), &action);
                 shared.drain_early(&mut self.own, instance, completion);
+                self.own.let_go(operation);
                 true
             }
             Ok(None) | Err(_) => false,

@@ -6,7 +6,7 @@ ghost use Rattle.fm_world.specs.Hands.{given_by_next};
 ghost use Rattle.fm_worker.specs.Between.{IsFree};
 
 use crate::gate::Gate;
-use crate::own::{Own, Waiting};
+use crate::own::Own;
 use crate::shared::Shared;
 use crate::worker::Worker;
 use fm_data::BaseCall;
@@ -24,15 +24,6 @@ fn is_callback(action: &FlowAction) -> bool {
         action,
         FlowAction::Pre(..) | FlowAction::Post(..) | FlowAction::Drain(..)
     )
-}
-
-impl Waiting {
-    // Notes an operation that goes no further here. It may become this thread's turn alone, and no job would tell a client so.
-    pub(crate) fn note(&mut self, operation: OpId) {
-        if !self.takes_jobs {
-            self.bound.put(operation);
-        }
-    }
 }
 
 impl<'a, F: Callbacks, L: Ledger, R: Wait, G: Gate> Shared<'a, F, L, R, G> {
@@ -58,7 +49,7 @@ impl<'a, F: Callbacks, L: Ledger, R: Wait, G: Gate> Shared<'a, F, L, R, G> {
             FlowAction::Drain(_, completion) => self.drain(own, filter, completion),
             FlowAction::Moved => {}
             FlowAction::Held => {
-                own.waiting.note(operation);
+                self.note(own, operation);
                 return false;
             }
             FlowAction::Done => return false,
@@ -114,7 +105,7 @@ impl<'a, F: Callbacks, L: Ledger, R: Wait, G: Gate, D: Device> Worker<'a, F, L, 
             Err(Status::WrongStep) => {
                 let takes_jobs = shared.is_taking_jobs(bound_to);
                 shared.put_back(&mut self.own, operation, bound_to, takes_jobs);
-                self.own.waiting.note(operation);
+                shared.note(&mut self.own, operation);
                 false
             }
             Err(_) => false,

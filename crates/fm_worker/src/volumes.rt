@@ -34,15 +34,17 @@ impl<'a, F: Callbacks, L: Ledger, R: Wait, G: Gate, D: Device> Worker<'a, F, L, 
     {
         rundown.close(seat, volume)?;
         match rundown.look(seat, volume)? {
-            Look::Drained => self.dismount_drained(volume),
+            Look::Drained => self.dismount_drained(seat, volume),
             Look::Open | Look::Closing => Err(Status::Busy(0)),
         }
     }
 
-    // The dismount of a volume that nobody enters any more, from where it is.
-    fn dismount_drained(&mut self, volume: VolumeId) -> Result<(), Status>
+    // The dismount of a volume that nobody enters any more, as that seat has seen, from where it is.
+    fn dismount_drained(&mut self, seat: &GateSeat, volume: VolumeId) -> Result<(), Status>
+        requires drained { (volume_of volume.0 (view_of seat.now)).is_drained ≡ true }
         ensures settled { LeavesNone self.old.own.port.resumed self.new.own.port.resumed }
     {
+        let _ = seat;
         if !self.is_dismounting(volume) {
             self.shared.manager.start_dismount(self.shared.rt, volume)?;
         }

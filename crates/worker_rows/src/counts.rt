@@ -1,18 +1,17 @@
-//! What workers' callbacks count and change.
+//! What workers' callbacks count.
 
 ghost use Rattle.std.specs.Prelude.{◌≡◌};
 
 use crate::fixture::{
-    Folder, LOOKS, MemoryWorker, Numbers, VOLUME, Workers, attach, begin, carried, collect, create,
-    end, folder, hands_of, make_workers, mounted, on_file, read, shift, write,
+    LOOKS, MemoryWorker, Numbers, Workers, attach, begin, collect, create, end, folder, hands_of,
+    make_workers, mounted, on_file, read,
 };
-use fm_base::Base;
-use fm_data::{Answer, FileRequest};
+use fm_data::FileRequest;
 use fm_lock::Manager;
 use fm_queue::JobQueue;
 use fm_samples::{Meter, Sample};
 use fm_types::limits::PARTS;
-use fm_types::{Bytes, FilterId, Name, OpId, RelPath, Status};
+use fm_types::{FilterId, Name, OpId, Status};
 use fm_worker::OpenGate;
 use std::alloc::Global;
 use std::marker::Brand;
@@ -127,89 +126,4 @@ fn meter_total(rt: HostRuntime) {
     assert!(rt;
         matches!(seen, Ok((100, Numbers { born, cleaned, leaks: 0 })) if born == cleaned && born > 0)
     );
-}
-
-/// What a client is told of a create, a write of three bytes and a read of them, and what the file holds below the worker then.
-#[derive(Drop)]
-struct Shifted {
-    made: Answer,
-    written: Answer,
-    got: Answer,
-    below: Bytes,
-}
-
-// What the file holds below a worker that has ended.
-fn held<L: Ledger, R: Wait>(worker: OpenWorker<'_, L, R>) -> Result<Bytes, Status> {
-    let (_, mut below) = worker.into_parts();
-    match below.of(VOLUME) {
-        Some(base) => base.read(&RelPath::read(b"x")?, 0, 9),
-        None => Err(Status::NoVolume),
-    }
-}
-
-// The three operations, each by a job of its own.
-fn shift_bytes<L: Ledger, R: Wait + Clock>(
-    rt: &R,
-    alloc: Global,
-    manager: &Manager<Sample, L>,
-    workers: Workers<'_, Sample, L, R, OpenGate, Folder>,
-) -> Result<Shifted, Status> {
-    let Workers {
-        mut client,
-        first: mut worker,
-        second: _,
-    } = workers;
-    attach(&mut client, b"shift", b"100")?;
-    let made = carried(rt, manager, &mut client, &mut worker, create(alloc, b"x")?)?;
-    let written = carried(
-        rt,
-        manager,
-        &mut client,
-        &mut worker,
-        write(alloc, b"ab\xff")?,
-    )?;
-    let got = carried(rt, manager, &mut client, &mut worker, read(0, 5))?;
-    Ok(Shifted {
-        made,
-        written,
-        got,
-        below: held(worker)?,
-    })
-}
-
-fn shift_day<L: Ledger, R: Wait + Clock>(
-    rt: &R,
-    alloc: Global,
-    blank: Blank,
-) -> Result<Shifted, Status>
-    requires name { blank.name ≡ L.name }
-    requires parts { blank.parts ≡ L.parts }
-    requires all { blank.parts ≡ 49 }
-{
-    let manager = mounted::<Sample, L, R>(rt, alloc, shift(alloc)?, blank)?;
-    let (queue, mut passes) = JobQueue::new(alloc, 272, 3)?;
-    let gate = OpenGate;
-    let below = folder(alloc)?;
-    let workers = make_workers(rt, alloc, &manager, &queue, &gate, &mut passes, below)?;
-    shift_bytes(rt, alloc, &manager, workers)
-}
-
-// Whether an answer is Success with that number and those bytes.
-fn is(answer: &Answer, information: u64, bytes: &[u8]) -> bool {
-    answer.status == Status::Success
-        && answer.information == information
-        && answer.bytes.as_slice() == bytes
-}
-
-#[test]
-fn shift_by_a_worker(rt: HostRuntime) {
-    let seen = shift_day::<Brand, _>(&rt, rt.alloc(), Blank::new(PARTS));
-    let Ok(seen) = seen else {
-        assert!(rt; false);
-        return;
-    };
-    assert!(rt; is(&seen.made, 0, b""));
-    assert!(rt; is(&seen.written, 3, b""));
-    assert!(rt; is(&seen.got, 3, b"ab\xff"));
-    assert!(rt; seen.below.as_slice() == b"bc\x00".as_slice());
 }

@@ -1,4 +1,4 @@
-//! Filters of two kinds: one asks for its own worker, the other one holds reads.
+//! Filters of three kinds: one asks for its postoperation, one for that by its own worker, the third one holds reads.
 
 ghost use Rattle.std.specs.Prelude.{◌≡◌};
 
@@ -10,6 +10,8 @@ use fm_types::{ContextKind, ContextMask, OpMask, Registration};
 /// A filter of reads.
 #[derive(Clone, Copy)]
 pub enum Ties {
+    /// Asks for the postoperation of each read, by any worker.
+    Asks,
     /// Asks for the postoperation of each read, by the worker that makes its preoperation.
     Own,
     /// Holds each read until a flush.
@@ -51,6 +53,10 @@ impl Agreeable for Ties {
 
     fn pre<P: Port>(&self, lent: &mut CallbackData, port: &mut P) -> PreVerdict {
         match (self, lent.params()) {
+            (Ties::Asks, Params::Read { .. }) => PreVerdict::WithCallback(Completion {
+                number: 5,
+                context: None,
+            }),
             (Ties::Own, Params::Read { .. }) => PreVerdict::Synchronize(Completion {
                 number: 7,
                 context: None,

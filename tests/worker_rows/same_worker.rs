@@ -49,11 +49,12 @@ impl Gate for Watch {
     }
 }
 
-/// Both filters of reads: one that asks for its own worker, and one that holds.
+/// The filters of reads: one that asks for its own worker, one that holds, and one that asks for any worker.
 pub fn filters(alloc: Global) -> Result<Vec<(Name, Ties)>, Status> {
     let mut filters = Vec::new(alloc);
     filters.push((Name::read(b"own")?, Ties::Own))?;
     filters.push((Name::read(b"holds")?, Ties::Holds))?;
+    filters.push((Name::read(b"asks")?, Ties::Asks))?;
     Ok(filters)
 }
 

@@ -1,0 +1,33 @@
+//! Tests of workers of which a proof says nothing more: rows of many steps, lists that other drivers play too, schedules by seed and by path, rounds of random work.
+#![tactic(auto)]
+
+#[cfg(test)]
+mod drained_turn;
+#[cfg(test)]
+mod fixture;
+#[cfg(test)]
+mod full_queue;
+#[cfg(test)]
+mod held_beside;
+#[cfg(test)]
+mod in_flight;
+#[cfg(test)]
+mod order_tests;
+#[cfg(test)]
+mod put_aside;
+#[cfg(test)]
+mod same_worker;
+#[cfg(test)]
+mod schedules;
+#[cfg(test)]
+mod shifted;
+#[cfg(test)]
+mod stress;
+#[cfg(test)]
+mod teardown_race;
+#[cfg(test)]
+mod teardown_schedules;
+#[cfg(test)]
+mod ties;
+#[cfg(test)]
+mod unlocked;

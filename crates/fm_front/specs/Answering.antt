@@ -1,12 +1,12 @@
 -- What a connection is answered, whatever other connections do.
-use Rattle.std.specs.Prelude.{◌≡◌, ◌⊎◌, ◌==◌, ◌++◌, ◌∷◌, [], ℕ, Bool, true, false, filter, not, List}
+use Rattle.std.specs.Prelude.{◌≡◌, ◌≢◌, ◌⊎◌, ◌==◌, ◌++◌, ◌∷◌, [], ℕ, Bool, true, false, filter, not, List, MatchBool}
 use Rattle.std.specs.List.{list_any}
 use Rattle.fm_types.specs.declared.ids.HandleId.{HandleId}
-use Rattle.fm_data.specs.declared.answer.Answer.{Answer}
 use Rattle.fm_data.specs.declared.request.Request.{Request}
 use Rattle.fm_data.specs.declared.request.Request.TheVariants as request
 use Rattle.fm_types.specs.declared.status.Status.{Status}
 use Rattle.fm_types.specs.declared.status.Status.TheVariants.{NoHandle, Success}
+use Rattle.fm_data.specs.declared.request.FileRequest.{FileRequest}
 use Rattle.fm_data.specs.declared.request.FileRequest.TheVariants as file
 use Rattle.fm_server.specs.Replies.{status_reply}
 use Rattle.fm_data.specs.declared.request.Reply.{Reply}
@@ -26,32 +26,33 @@ abbrev pub IsDone : Reply → Type 0
 IsDone (reply.Done status information bytes) = Unit {0}
 IsDone _ = ⊥
 
--- a create that succeeds gives its connection the handle that its answer names, and nothing else does
-pub record OpensHandle (answer : Answer) (old new : List HandleId) : Type 0 where
-  pub opened : answer.status ≡ Success → new ≡ old ++ record { 0 = answer.information } ∷ []
-  pub refused : (answer.status ≡ Success → ⊥) → new ≡ old
+-- a create that succeeds gives its connection the handle that its answer names, and one that doesn't leaves it those that it had
+pub record OpensHandle (status : Status) (information : ℕ) (old new : List HandleId) : Type 0 where
+  pub opened : status ≡ Success → new ≡ old ++ record { 0 = information } ∷ []
+  pub refused : status ≢ Success → new ≡ old
 
 -- a close takes that handle from its connection, and leaves it all others
 abbrev pub ClosesHandle : HandleId → List HandleId → List HandleId → Type 0
 ClosesHandle handle old new = new ≡ filter (λ (own : HandleId). not (own.0 == handle.0)) old
 
--- an operation that asks for a new handle
-abbrev pub IsCreate : Request → Type 0
-IsCreate (request.Create volume path mode) = Unit {0}
-IsCreate _ = ⊥
+-- a close that succeeds takes its own handle away; one that doesn't takes that or none
+pub record EndsHandle (handle : HandleId) (status : Status) (old new : List HandleId) : Type 0 where
+  pub closed : status ≡ Success → ClosesHandle handle old new
+  pub refused : status ≢ Success → (new ≡ old) ⊎ ClosesHandle handle old new
 
--- a success gave the handle of that number, and no other
-abbrev pub Gives : Status → ℕ → List HandleId → List HandleId → Type 0
-Gives status information old new = (status ≡ Success) × (new ≡ old ++ record { 0 = information } ∷ [])
+abbrev pub is_close : FileRequest → Bool
+is_close file.Close = true
+is_close _ = false
 
--- the request is a close, which took its own handle away
-abbrev pub Takes : Request → List HandleId → List HandleId → Type 0
-Takes asked old new = (handle : HandleId) × (asked ≡ request.OnHandle handle file.Close) × ClosesHandle handle old new
+-- what an operation on a handle that was answered so made of its connection's handles: only a close changes them
+abbrev pub HandlesOn : HandleId → FileRequest → Status → List HandleId → List HandleId → Type 0
+HandlesOn handle what status old new = MatchBool (is_close what) (EndsHandle handle status old new) (new ≡ old)
 
--- what an operation that was answered so made of a connection's handles: nothing; or it is a create, whose answer is a success and names the one that it gave;
--- or it is a close, which took its own away
+-- the same of any operation: a create that succeeds gives a handle, a close that succeeds takes it, and all else leaves them as they were
 abbrev pub HandlesAfter : Request → Status → ℕ → List HandleId → List HandleId → Type 0
-HandlesAfter asked status information old new = (new ≡ old) ⊎ ((IsCreate asked × Gives status information old new) ⊎ Takes asked old new)
+HandlesAfter (request.Create volume path mode) status information old new = OpensHandle status information old new
+HandlesAfter (request.OnHandle handle what) status information old new = HandlesOn handle what status old new
+HandlesAfter (request.List volume) status information old new = new ≡ old
 
 -- the same of a reply
 abbrev pub HandlesBy : Request → Reply → List HandleId → List HandleId → Type 0

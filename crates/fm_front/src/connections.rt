@@ -109,7 +109,8 @@ impl<R: Wait + Clock> Connections<'_, R> {
         }
     }
 
-    // A connection, from its first frame to the close of its handles.
+    // A connection, from its first frame to the close of its handles. Its stream ends behind them: a client that sees the end finds them closed, and its place
+    // free.
     fn serve_connection<F: Callbacks, L: Ledger, D: Device>(
         &self,
         stream: Arc<UnixStream>,
@@ -119,9 +120,9 @@ impl<R: Wait + Clock> Connections<'_, R> {
             connection.begin(Line::along(own));
             self.serve_frames(&stream, connection);
         }
-        drop(stream);
         connection.end();
         self.leave();
+        drop(stream);
     }
 
     /// A thread's life: one connection after the other, until no more come in.

@@ -40,6 +40,17 @@ where
     Ok(all)
 }
 
+// Holds so many descriptors at once.
+fn hold<R: Net>(rt: &R, alloc: Global, count: usize) -> io::Result<Vec<UnixStream>> {
+    let (first, second) = UnixStream::pair(rt)?;
+    let mut held = Vec::with_capacity(alloc, count)?;
+    for _ in 0..count {
+        held.push(first.try_clone()?)?;
+    }
+    drop(second);
+    Ok(held)
+}
+
 // A socket at that path, and a second descriptor of it. An empty path is refused: it would be a name that no folder has.
 fn listen<R: Files + Net>(rt: &R, path: &str) -> io::Result<(UnixListener, UnixStream)> {
     if path.is_empty() {
@@ -50,8 +61,22 @@ fn listen<R: Files + Net>(rt: &R, path: &str) -> io::Result<(UnixListener, UnixS
     Ok((listener, UnixStream::from(OwnedFd::from(again))))
 }
 
+// The same once more descriptors were had than connections and the files of workers need: they are held until the socket is there.
+fn listen_with_room<R: Files + Net>(
+    rt: &R,
+    alloc: Global,
+    path: &str,
+    count: usize,
+) -> io::Result<(UnixListener, UnixStream)> {
+    let held = hold(rt, alloc, count)?;
+    let made = listen(rt, path);
+    drop(held);
+    made
+}
+
 /// Looks at the folder that a server is asked to serve, and then makes its socket, whose path must not be there yet. Each thread gets a base of its own over the
-/// folder. `Memory` if a growth was refused, `Outside` if the folder isn't there or the socket can't be made.
+/// folder. `Memory` if a growth was refused, `Outside` if the folder isn't there, the socket can't be made, or the host has too few descriptors for 32 connections
+/// and a file of each worker.
 pub fn prepare<R>(rt: &R, alloc: Global, asked: &Front<'_>) -> Result<Endpoint<Folder<R>>, Fault>
 where
     R: Files + Net + AllocGlobal + Clone + Drop,
@@ -59,7 +84,7 @@ where
     let count = usize::from(asked.workers);
     let workers = bases(rt, alloc, asked.folder, count).map_err(fault_of)?;
     let connections = bases(rt, alloc, asked.folder, CONNECTIONS).map_err(fault_of)?;
-    match listen(rt, asked.socket) {
+    match listen_with_room(rt, alloc, asked.socket, CONNECTIONS.saturating_add(count)) {
         Ok((listener, bell)) => Ok(Endpoint {
             workers,
             connections,

@@ -1,8 +1,9 @@
 //! What answers a connection: the manager that all connections share, by this connection's hand.
 
-ghost use Rattle.std.specs.Prelude.{◌≡◌, ◌⊎◌, IfErr, IfOk};
-ghost use Rattle.fm_front.specs.Answering.{ClosesHandle, Gives, HandlesAfter, OpensHandle, has_handle, is_foreign};
+ghost use Rattle.std.specs.Prelude.{◌≡◌, ◌≢◌, IfErr, IfOk};
+ghost use Rattle.fm_front.specs.Answering.{ClosesHandle, HandlesAfter, HandlesOn, OpensHandle, has_handle, is_close, is_foreign};
 ghost use Rattle.fm_rundown.specs.Seats.{IsSeatOf};
+ghost use Rattle.fm_types.specs.declared.status.Status.TheVariants.{Success};
 ghost use Rattle.fm_data.specs.declared.request.Reply.TheVariants as reply;
 
 use crate::gate_seat::ServerWorker;
@@ -65,6 +66,35 @@ pub(crate) fn is_foreign(handles: &[HandleId], request: &Request) -> bool
     match request {
         Request::OnHandle { handle, request: _ } => !has(handles, *handle),
         Request::Create { .. } | Request::List { .. } => false,
+    }
+}
+
+// Whether it is a close that is asked of a handle.
+fn is_close(request: &FileRequest) -> bool
+    ensures { result ≡ is_close request.now }
+{
+    matches!(request, FileRequest::Close)
+}
+
+// Whether an operation may let go of others, or gives up a handle.
+fn gives_way(request: &Request) -> bool {
+    matches!(
+        request,
+        Request::OnHandle {
+            request: FileRequest::Flush | FileRequest::Cleanup | FileRequest::Close,
+            ..
+        }
+    )
+}
+
+// What a refusal is told as, which is no success.
+fn refusal(status: Status) -> Status
+    ensures { result ≢ Success }
+{
+    if status == Status::Success {
+        Status::WrongStep
+    } else {
+        status
     }
 }
 
@@ -142,8 +172,7 @@ impl<F: Callbacks, L: Ledger, R: Wait + Clock, D: Device> ManagerExec<'_, F, L, 
 
     // A create. Room for its handle is taken before it begins: without it the create is refused with 1, and nothing began.
     fn create(&mut self, request: Request) -> Result<Answer, Unanswered>
-        ensures opens { IfOk result (λ answer. OpensHandle answer self.old.handles.items self.new.handles.items) }
-        ensures named { IfOk result (λ answer. (self.new.handles.items ≡ self.old.handles.items) ⊎ Gives answer.status answer.information self.old.handles.items self.new.handles.items) }
+        ensures opens { IfOk result (λ answer. OpensHandle answer.status answer.information self.old.handles.items self.new.handles.items) }
         ensures refused { IfErr result (λ _. self.new.handles.items ≡ self.old.handles.items) }
     {
         let Ok(()) = self.handles.reserve(1) else {
@@ -172,32 +201,83 @@ impl<F: Callbacks, L: Ledger, R: Wait + Clock, D: Device> ManagerExec<'_, F, L, 
         Ok(answer)
     }
 
+    // An operation on a handle.
+    fn on_handle(&mut self, handle: HandleId, request: FileRequest) -> Result<Answer, Unanswered>
+        ensures handles { IfOk result (λ answer. HandlesOn handle request answer.status self.old.handles.items self.new.handles.items) }
+        ensures refused { IfErr result (λ _. self.new.handles.items ≡ self.old.handles.items) }
+    {
+        if is_close(&request) {
+            return self.close(handle);
+        }
+        let request = Request::OnHandle { handle, request };
+        ask(&mut self.worker, &self.line, request)
+    }
+
     fn run(&mut self, request: Request) -> Result<Answer, Unanswered>
         ensures handles { IfOk result (λ answer. HandlesAfter request answer.status answer.information self.old.handles.items self.new.handles.items) }
         ensures refused { IfErr result (λ _. self.new.handles.items ≡ self.old.handles.items) }
     {
         match request {
             Request::Create { .. } => self.create(request),
-            Request::OnHandle {
-                handle,
-                request: FileRequest::Close,
-            } => self.close(handle),
-            other => ask(&mut self.worker, &self.line, other),
+            Request::OnHandle { handle, request } => self.on_handle(handle, request),
+            Request::List { .. } => ask(&mut self.worker, &self.line, request),
         }
     }
 
-    // The answer of an operation. One that is left has none yet: it is noted, and 34 says so to nobody.
+    // Whether an operation may begin: not too many are left of clients that are gone, or it is one that may let them go. Those that are done give their places
+    // back first.
+    fn has_room(&mut self, request: &Request) -> bool
+        ensures { self.new.handles ≡ self.old.handles }
+    {
+        if gives_way(request) || !self.leftovers.are_most() {
+            return true;
+        }
+        self.collect_orphans();
+        !self.leftovers.are_most()
+    }
+
+    // Why an operation has no answer: as it was refused; or it is left, and has none yet: it is noted, and 34 says so to nobody. Where it was refused as too many
+    // are there, those whose clients are gone give their places back.
+    fn why(&mut self, unanswered: Unanswered) -> Status
+        ensures refused { result ≢ Success }
+        ensures handles { self.new.handles ≡ self.old.handles }
+    {
+        match unanswered {
+            Unanswered::Refused(status) => {
+                if status == Status::TooMany {
+                    self.collect_orphans();
+                }
+                refusal(status)
+            }
+            Unanswered::Left(orphan) => {
+                self.leftovers.note(self.worker.rt(), orphan);
+                Status::Busy(1)
+            }
+        }
+    }
+
+    // The answer of an operation, or why it has none.
     fn answer_of(&mut self, request: Request) -> Result<Answer, Status>
         ensures handles { IfOk result (λ answer. HandlesAfter request answer.status answer.information self.old.handles.items self.new.handles.items) }
-        ensures refused { IfErr result (λ _. self.new.handles.items ≡ self.old.handles.items) }
+        ensures refused { IfErr result (λ status. (status ≢ Success) × self.new.handles.items ≡ self.old.handles.items) }
     {
+        if !self.has_room(&request) {
+            return Err(Status::TooMany);
+        }
         match self.run(request) {
             Ok(answer) => Ok(answer),
-            Err(Unanswered::Refused(status)) => Err(status),
-            Err(Unanswered::Left(orphan)) => {
-                self.leftovers.note(self.worker.rt(), orphan);
-                Err(Status::Busy(1))
-            }
+            Err(unanswered) => Err(self.why(unanswered)),
+        }
+    }
+
+    // What a teardown came to. What it let go of gives its place back.
+    fn torn_down(&mut self, done: Result<(), Status>) -> Result<u64, Status>
+        ensures { self.new.handles ≡ self.old.handles }
+    {
+        self.collect_orphans();
+        match done {
+            Ok(()) => Ok(0),
+            Err(status) => Err(status),
         }
     }
 
@@ -213,8 +293,14 @@ impl<F: Callbacks, L: Ledger, R: Wait + Clock, D: Device> ManagerExec<'_, F, L, 
                 name,
                 altitude,
             } => Ok(u64::from(self.worker.attach(filter, volume, name, altitude)?.0)),
-            Control::Detach { instance } => self.worker.detach(instance).map(|()| 0),
-            Control::Unload { filter } => self.worker.unload(filter).map(|()| 0),
+            Control::Detach { instance } => {
+                let done = self.worker.detach(instance);
+                self.torn_down(done)
+            }
+            Control::Unload { filter } => {
+                let done = self.worker.unload(filter);
+                self.torn_down(done)
+            }
             Control::Dismount { volume: _ } => Err(Status::BadRequest),
             Control::Stop => Ok(0),
         }

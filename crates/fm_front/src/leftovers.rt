@@ -1,6 +1,7 @@
 //! What connections that have ended left behind.
 
 use crate::gate_seat::ServerWorker;
+use crate::limits::ABANDONED;
 use crate::line::Line;
 use crate::waiting::{Orphan, Unanswered, close};
 use fm_device::Device;
@@ -8,6 +9,7 @@ use fm_filter::Callbacks;
 use fm_types::limits::{HANDLES, OPERATIONS};
 use fm_types::{HandleId, Status};
 use std::alloc::Global;
+use std::sync::atomic::{AtomicUsize, Ordering};
 use std::sync::ledger::Ledger;
 use std::sync::{Mutex, Wait};
 use std::time::{Clock, Duration};
@@ -17,6 +19,8 @@ use std::time::{Clock, Duration};
 pub(crate) struct Leftovers {
     handles: Mutex<Vec<HandleId>>,
     orphans: Mutex<Vec<Orphan>>,
+    // How many such operations weren't collected, those among them that a thread looks at.
+    abandoned: AtomicUsize,
 }
 
 // Whether a handle is still there after its close was refused so, with 30 as its cleanup is under way: the close may be made again.
@@ -35,17 +39,28 @@ impl Leftovers {
         Ok(Leftovers {
             handles: Mutex::new(handles),
             orphans: Mutex::new(orphans),
+            abandoned: AtomicUsize::new(0),
         })
     }
 
     /// Notes an operation whose client is gone.
     pub(crate) fn note<R: Wait>(&self, rt: &R, orphan: Orphan) {
+        self.abandoned.fetch_add(1, Ordering::SeqCst);
+        self.put(rt, orphan);
+    }
+
+    fn put<R: Wait>(&self, rt: &R, orphan: Orphan) {
         let _ = self.orphans.lock(rt).push(orphan);
     }
 
     // Whether operations are there whose clients are gone.
-    fn has_orphans<R: Wait>(&self, rt: &R) -> bool {
-        !self.orphans.lock(rt).is_empty()
+    fn has_orphans(&self) -> bool {
+        self.abandoned.load(Ordering::SeqCst) != 0
+    }
+
+    /// Whether so many of the operations are those of clients that are gone that no others are to begin but what may let them go.
+    pub(crate) fn are_most(&self) -> bool {
+        self.abandoned.load(Ordering::SeqCst) >= ABANDONED
     }
 
     /// Closes a handle that nobody has any more, and notes what is left of it.
@@ -115,7 +130,7 @@ impl Leftovers {
         Some(orphans.remove(0))
     }
 
-    // Takes the answer of an operation whose client is gone, if it is done; else it is noted again. A handle that it opened is closed.
+    // Takes the answer of an operation whose client is gone, if it is done; else it is put back. A handle that it opened is closed.
     fn collect<F: Callbacks, L: Ledger, R: Wait + Clock, D: Device>(
         &self,
         worker: &mut ServerWorker<'_, F, L, R, D>,
@@ -124,12 +139,15 @@ impl Leftovers {
         let rt = worker.rt();
         match worker.wait_for(orphan.operation, Duration::from_millis(0)) {
             Ok(Some(answer)) => {
+                self.abandoned.fetch_sub(1, Ordering::SeqCst);
                 if orphan.is_create && answer.status == Status::Success {
                     self.close(worker, HandleId(answer.information));
                 }
             }
-            Ok(None) => self.note(rt, orphan),
-            Err(_) => {}
+            Ok(None) => self.put(rt, orphan),
+            Err(_) => {
+                self.abandoned.fetch_sub(1, Ordering::SeqCst);
+            }
         }
     }
 
@@ -153,7 +171,7 @@ impl Leftovers {
         worker: &mut ServerWorker<'_, F, L, R, D>,
     ) -> bool {
         self.collect_orphans(worker);
-        if self.has_orphans(worker.rt()) {
+        if self.has_orphans() {
             return false;
         }
         self.close_left(worker)

@@ -12,6 +12,7 @@ mod exec;
 mod faults;
 mod gate_seat;
 mod leftovers;
+mod limits;
 mod line;
 mod program;
 mod request;

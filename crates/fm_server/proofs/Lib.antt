@@ -2,3 +2,4 @@ pub mod Known
 pub mod Frames
 pub mod Pieces
 pub mod Turns
+mod Entering

@@ -1,11 +1,7 @@
 //! An operation that is answered under a pass of its volume, so that a dismount can wait until no request of it is under way.
 
-ghost use Rattle.std.specs.Prelude.{◌≡◌, ◌⊎◌, true, false, nat_lt};
-ghost use Rattle.fm_types.specs.declared.status.Status.{Status};
-ghost use Rattle.fm_types.specs.declared.status.Status.TheVariants.{NoVolume};
-ghost use Rattle.fm_rundown.specs.Seats.{IsSeatOf, view_of, volumes_of};
-ghost use Rattle.fm_server.specs.Guards.{Guards, KeepsPasses};
-ghost use Rattle.fm_server.specs.Replies.{status_reply};
+ghost use Rattle.fm_rundown.specs.Seats.{IsSeatOf, view_of};
+ghost use Rattle.fm_server.specs.Guards.{Guarded, KeepsPasses};
 
 use crate::exec::Exec;
 use crate::replies::status_reply;
@@ -19,6 +15,7 @@ use std::alloc::Global;
 /// refuses it, that refusal is the reply and the exec isn't asked: 7 (`NoVolume`)
 /// if the gate has no such volume, 33 (`Dismounting`) if it was found closing, as it is ever after the seat has seen that, 29 (`TooMany`) if the
 /// seat holds all its passes of the volume. The seat's passes are as before. The seat is one of this gate's.
+#[tactic(auto, using(crate::proofs::Entering::enter_refused))]
 pub fn guarded<E: Exec>(
     alloc: Global,
     gate: &RundownGate,
@@ -30,9 +27,7 @@ pub fn guarded<E: Exec>(
     requires own { IsSeatOf gate.now seat.old }
     ensures own { IsSeatOf gate.now seat.new }
     ensures passes { KeepsPasses (view_of seat.old) (view_of seat.new) }
-    ensures says { ((status : Status) × (result ≡ status_reply status) × (exec.new ≡ exec.old)) ⊎ E.operates exec.old request result exec.new }
-    ensures guards { nat_lt volume.0 (volumes_of gate.now) ≡ true → Guards E.operates volume.0 (view_of seat.old) exec.old request result (view_of seat.new) exec.new }
-    ensures none { nat_lt volume.0 (volumes_of gate.now) ≡ false → (result ≡ status_reply NoVolume) × (exec.new ≡ exec.old) }
+    ensures guarded { Guarded E.operates gate.now volume.0 (view_of seat.old) exec.old request result (view_of seat.new) exec.new }
 {
     match gate.enter(seat, volume) {
         Ok(()) => {

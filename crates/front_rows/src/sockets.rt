@@ -222,6 +222,18 @@ fn a_held_read_waits_for_a_flush(rt: HostRuntime) {
     assert!(rt; goes_well(&rt, &rt, "waits", Talk::Waits) == Some(true));
 }
 
+#[test]
+fn a_flush_lets_abandoned_reads_go(rt: HostRuntime) {
+    let talk = Talk::Abandoned(&["flush", "0"]);
+    assert!(rt; goes_well(&rt, &rt, "flushed", talk) == Some(true));
+}
+
+#[test]
+fn a_detach_lets_abandoned_reads_go(rt: HostRuntime) {
+    let talk = Talk::Abandoned(&["detach", "0"]);
+    assert!(rt; goes_well(&rt, &rt, "detached", talk) == Some(true));
+}
+
 // What a server prints that can't serve, and its exit status.
 fn refuses<R>(
     host: &R,

@@ -77,6 +77,22 @@ pub const HOLDS: [Step; 5] = [
     (0, &["setdelete", "0"], 0, 0, b""),
 ];
 
+/// A filter that holds reads, and a file that its client keeps open.
+pub const KEEPS: [Step; 4] = [
+    (0, &["load", "hold"], 0, 0, b""),
+    (0, &["attach", "0", "0", "h", "100"], 0, 0, b""),
+    (0, &["create", "0", "new", "x"], 0, 0, b""),
+    (0, &["list", "0"], 0, 2, b"x\n"),
+];
+
+/// What that client is refused while most operations are those of clients that are gone.
+pub const FULL: [Step; 4] = [
+    (0, &["create", "0", "new", "y"], 29, 0, b""),
+    (0, &["list", "0"], 29, 0, b""),
+    (0, &["read", "0", "0", "1"], 29, 0, b""),
+    (0, &["querysize", "0"], 29, 0, b""),
+];
+
 /// A dismount that begins beside an operation whose client is gone: it can't end before the operation, but the volume is closed.
 pub const BEGINS: [Step; 4] = [
     (0, &["dismount", "0"], 34, 1, b""),

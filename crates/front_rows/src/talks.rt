@@ -1,5 +1,6 @@
 //! What clients do with a server until it ends.
 
+use crate::abandoned::abandoned;
 use crate::lines::{DONE, Line, ask, ask_all, comes, wait_for_server};
 use crate::peer::{exchange, follow, is_done, send, take};
 use crate::steps::{BEGINS, CLOSES, ENDS, HOLDS, OWN, REFUSED, SHARES, WRITES};
@@ -42,6 +43,8 @@ pub enum Talk {
     Begun,
     /// A read waits for another connection's flush.
     Waits,
+    /// Clients leave reads behind until there is no room for more, and these words let them go.
+    Abandoned(&'static [&'static str]),
 }
 
 // So many connections.
@@ -235,7 +238,7 @@ where
         Talk::Dismounted => dismounted(rt, alloc, at),
         Talk::Removed => removed(rt, alloc, at),
         Talk::Begun => begun(rt, alloc, at),
-        Talk::Crowd | Talk::Cut | Talk::Vanished | Talk::Waits => None,
+        Talk::Crowd | Talk::Cut | Talk::Vanished | Talk::Waits | Talk::Abandoned(_) => None,
     }
 }
 
@@ -250,6 +253,7 @@ where
         Talk::Cut => cut(rt, alloc, at),
         Talk::Vanished => vanished(rt, alloc, at),
         Talk::Waits => waits(rt, alloc, at),
+        Talk::Abandoned(way_out) => abandoned(rt, alloc, at, way_out),
         other => {
             let is_well = talk_to_end(rt, alloc, at, other) == Some(true);
             if !is_well {

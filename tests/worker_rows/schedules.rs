@@ -235,7 +235,7 @@ fn search_on<R: Threads + Wait + Clock + Sync>(
     if run.counted != 2 {
         found.losing = found.losing.saturating_add(1);
     }
-    next_path(alloc, run.schedule.choices.as_slice())
+    next_path(alloc, &run.schedule)
 }
 
 // All orders of two reads.

@@ -1,6 +1,7 @@
 //! Choices, and what a run was by them.
 
-ghost use Rattle.std.specs.Prelude.{◌≡◌, ◌==◌, ◌&&◌, not};
+ghost use Rattle.std.specs.Prelude.{◌≡◌};
+ghost use Rattle.fm_schedule.specs.Schedules.{is_repeatable};
 
 use fm_flow::FlowAction;
 use fm_types::{InstanceId, WorkerId};
@@ -61,7 +62,7 @@ pub struct Schedule {
 impl Schedule {
     /// Whether choices alone made the order, all of which are in the list.
     pub fn is_repeatable(&self) -> bool
-        ensures { result ≡ (self.now.passed_over == 0 && self.now.lost == 0 && not self.now.has_strayed) }
+        ensures { result ≡ is_repeatable self.now }
     {
         self.passed_over == 0 && self.lost == 0 && !self.has_strayed
     }

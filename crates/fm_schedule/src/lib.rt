@@ -6,6 +6,7 @@ mod board;
 mod choice;
 mod chooser;
 mod gate;
+pub mod laws;
 mod search;
 
 pub use crate::choice::{Choice, Next, Schedule};

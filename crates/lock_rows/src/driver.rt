@@ -15,6 +15,7 @@ use fm_script::{
 use fm_session::{Given, Lent};
 use fm_types::limits::TURNS;
 use fm_types::{FilterId, InstanceId, Name, OpId, Status, VolumeId, WorkerId};
+use fm_world::Refused;
 use std::alloc::{AllocError, Global};
 use std::mem;
 use std::sync::Wait;
@@ -48,6 +49,29 @@ fn known(state: &State, operation: OpId) -> Option<Status> {
         Some(Entry::Base(status, _)) => Some(*status),
         _ => None,
     }
+}
+
+// Makes one event, by its worker's hand: what filters do with contexts by the manager's own call for it, and any other as it is.
+fn call<L: Ledger, R: Wait>(
+    rt: &R,
+    manager: &Manager<Declared, L>,
+    hand: &mut Hand<L>,
+    step: Step,
+) -> Result<StepReply, Refused<Step>> {
+    let reply = match step {
+        Step::Delete {
+            kind,
+            wants_old,
+            ..
+        } => StepReply::Old(manager.delete(rt, hand, kind, wants_old)),
+        Step::Reference { context, .. } => StepReply::Done(manager.reference(rt, hand, context)),
+        Step::ReadBody { context, .. } => StepReply::Body(manager.read_body(rt, hand, context)),
+        Step::WriteBody { context, bytes, .. } => {
+            StepReply::Done(manager.write_body(rt, hand, context, bytes.as_slice()))
+        }
+        other => return manager.step(rt, hand, other),
+    };
+    Ok(reply)
 }
 
 impl<L: Ledger> Driver<L> {
@@ -118,9 +142,7 @@ impl<L: Ledger> Driver<L> {
         let Some(hand) = self.hands.get_mut(usize::from(worker.0)) else {
             return Err(Status::WrongStep);
         };
-        self.manager
-            .step(rt, hand, step)
-            .map_err(|refused| refused.status)
+        call(rt, &self.manager, hand, step).map_err(|refused| refused.status)
     }
 
     // Makes one event, notes the context that it allocates, and prints what it answers.

@@ -12,7 +12,11 @@ mod held_beside;
 #[cfg(test)]
 mod in_flight;
 #[cfg(test)]
+mod one_place;
+#[cfg(test)]
 mod order_tests;
+#[cfg(test)]
+mod own_turn;
 #[cfg(test)]
 mod put_aside;
 #[cfg(test)]

@@ -195,22 +195,45 @@ fn order_of<R: Threads + Wait + Clock + Sync>(
     Ok(once.schedule.choices)
 }
 
-// How many of the seeds have another order than the first one.
-fn others<R: Threads + Wait + Clock + Sync>(rt: &R, alloc: Global) -> Result<u64, Status> {
-    let first = order_of(rt, alloc, 0)?;
-    let mut others = 0_u64;
-    for seed in 1..SEEDS {
-        if order_of(rt, alloc, seed)?.as_slice() != first.as_slice() {
-            others = others.saturating_add(1);
+// How many orders the seeds make.
+fn orders<R: Threads + Wait + Clock + Sync>(rt: &R, alloc: Global) -> Result<usize, Status> {
+    let mut seen: Vec<Vec<Choice>> = Vec::new(alloc);
+    for seed in 0..SEEDS {
+        let order = order_of(rt, alloc, seed)?;
+        if !seen
+            .iter()
+            .any(|known| known.as_slice() == order.as_slice())
+        {
+            seen.push(order)?;
         }
     }
-    Ok(others)
+    Ok(seen.len())
 }
 
 #[test]
 fn seeds_repeat_their_orders(rt: HostRuntime) {
-    let seen = others(&rt, rt.alloc());
-    assert!(rt; matches!(seen, Ok(others) if others > 0));
+    let seen = orders(&rt, rt.alloc());
+    assert!(rt; matches!(seen, Ok(orders) if orders >= 8));
+}
+
+// A run by a path whose first option isn't there: whether it says so, and what comes next by it.
+fn strays<R: Threads + Wait + Clock + Sync>(
+    rt: &R,
+    alloc: Global,
+) -> Result<(bool, Option<Status>), Status> {
+    let mut path = Vec::new(alloc);
+    path.push(7)?;
+    let run = one_run(rt, alloc, Chooser::Path(path), 2)?;
+    Ok((
+        run.schedule.is_repeatable(),
+        next_path(alloc, &run.schedule).err(),
+    ))
+}
+
+#[test]
+fn a_path_that_strays(rt: HostRuntime) {
+    let seen = strays(&rt, rt.alloc());
+    assert!(rt; matches!(seen, Ok((false, Some(Status::BadRequest)))));
 }
 
 /// What a search found: how many orders there are, and how many of them lose a read.

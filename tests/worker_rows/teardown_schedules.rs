@@ -11,7 +11,7 @@ use fm_data::FileRequest;
 use fm_lock::{Hand, Manager};
 use fm_queue::JobQueue;
 use fm_samples::Sample;
-use fm_schedule::{Chooser, Schedule, ScheduleGate};
+use fm_schedule::{Chooser, Next, Schedule, ScheduleGate};
 use fm_types::limits::PARTS;
 use fm_types::{InstanceId, OpId, Status, WorkerId};
 use std::alloc::Global;
@@ -220,28 +220,44 @@ fn one_run<R: Threads + Wait + Clock + Sync>(
     run_at::<Brand, R>(rt, alloc, Blank::new(PARTS), seed, beside, patience)
 }
 
-// Whether a detach under a seed ends well, and a second run repeats its order.
+// How many drains met at the gate in a run.
+fn drains(run: &Run) -> usize {
+    run.schedule
+        .choices
+        .iter()
+        .filter(|choice| matches!(choice.next, Next::Drain(_)))
+        .count()
+}
+
+// How many drains a detach under a seed has. Refused with 30 if it doesn't end well, or a second run has another order.
 fn repeats<R: Threads + Wait + Clock + Sync>(
     rt: &R,
     alloc: Global,
     seed: u64,
-) -> Result<bool, Status> {
+) -> Result<usize, Status> {
     let once = one_run(rt, alloc, seed, Beside::Detach, LONG)?;
     let again = one_run(rt, alloc, seed, Beside::Detach, LONG)?;
-    Ok(
-        once.is_clean()
-            && again.is_clean()
-            && once.schedule.is_repeatable()
-            && again.schedule.is_repeatable()
-            && once.schedule.choices.as_slice() == again.schedule.choices.as_slice(),
-    )
+    let is_well = once.is_clean()
+        && again.is_clean()
+        && once.schedule.is_repeatable()
+        && again.schedule.is_repeatable()
+        && once.schedule.choices.as_slice() == again.schedule.choices.as_slice();
+    if is_well {
+        Ok(drains(&once))
+    } else {
+        Err(Status::WrongStep)
+    }
 }
 
 #[test]
 fn detach_under_seeds(rt: HostRuntime) {
+    let mut all = 0;
     for seed in 0..SEEDS {
-        assert!(rt; matches!(repeats(&rt, rt.alloc(), seed), Ok(true)));
+        let drains = repeats(&rt, rt.alloc(), seed);
+        assert!(rt; drains.is_ok());
+        all += drains.unwrap_or(0);
     }
+    assert!(rt; all > 0);
 }
 
 // The client has its turn while it waits for the workers. They go on all the same, and it gets its answer.

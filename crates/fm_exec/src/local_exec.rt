@@ -2,7 +2,8 @@
 
 ghost use Rattle.std.specs.Prelude.{◌≡◌};
 ghost use Rattle.fm_exec.specs.Locals.{Answers, AnswersControl, Loads};
-ghost use Rattle.fm_local.specs.Offered.{ForgetsReport, HandsOutFirst};
+ghost use Rattle.fm_local.specs.Actions.{GivesFinished};
+ghost use Rattle.fm_local.specs.Offered.{ForgetsReport, HandsOutFirst, SameAround};
 
 use crate::said::{filter_reply, instance_reply, number_reply, status_reply, unit_reply};
 use fm_base::Base;
@@ -52,6 +53,8 @@ impl<F: Minifilter, B: Base> LocalExec<F, B> {
     /// The reply of an operation that was held and has ended, as the manager's `finished`.
     pub fn finished(&mut self) -> Option<(OpId, Reply)>
         ensures first { HandsOutFirst self.old.manager result self.new.manager }
+        ensures any { GivesFinished self.old.manager result self.new.manager }
+        ensures kept { SameAround self.old.manager self.new.manager }
         ensures same { self.new.alloc ≡ self.old.alloc }
     {
         self.manager.finished()

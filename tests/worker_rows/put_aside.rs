@@ -3,9 +3,7 @@
 ghost use Rattle.std.specs.Prelude.{◌≡◌, All, IfSome};
 ghost use Rattle.fm_queue.specs.Passes.{IsPassOf};
 
-use crate::fixture::{
-    Folder, MemoryWorker, Workers, collect, folder, make_workers, mounted, work_off,
-};
+use crate::fixture::{Folder, Workers, collect, folder, make_workers, mounted, work_off};
 use crate::same_worker::{Tied, Watch, filters, hold_and_resume};
 use crate::ties::Ties;
 use fm_data::{Answer, BaseCall, Params};
@@ -14,6 +12,7 @@ use fm_lock::Manager;
 use fm_queue::{Job, JobPass, JobQueue};
 use fm_types::limits::PARTS;
 use fm_types::{OpId, Status, WorkerId};
+use fm_worker::Worker;
 use std::alloc::Global;
 use std::marker::Brand;
 use std::sync::Wait;
@@ -52,12 +51,10 @@ fn take_pass(queue: &JobQueue, passes: &mut Vec<JobPass>) -> Option<JobPass>
     passes.pop()
 }
 
-/// That of a client or of a worker.
-type Own<'a, L, R> = MemoryWorker<'a, Ties, L, R, Watch>;
-
-/// What the read is answered, and whose postoperation it was.
+/// What is queued behind the Stop once the second worker is left, what the read is answered, and whose postoperation it was.
 #[derive(Clone, Copy)]
 struct Seen {
+    is_queued: bool,
     status: Status,
     last: u64,
 }
@@ -78,54 +75,50 @@ fn set_aside<L: Ledger, R: Wait, D: Device>(
     }
 }
 
-// The first worker takes the Stop that is queued, and then what comes after it.
-fn finish<L: Ledger, R: Wait + Clock>(
+// What was set aside is put in the queue by the second worker, or it is dropped there. Whether it comes behind the Stop that is queued.
+fn leave<L: Ledger, R: Wait + Clock, D: Device>(
     rt: &R,
-    manager: &Manager<Ties, L>,
-    client: &mut Own<'_, L, R>,
-    first: &mut Own<'_, L, R>,
-    reading: OpId,
-) -> Result<Status, Status> {
-    first.work();
-    work_off(client, first);
-    Ok(collect(rt, manager, reading)?.status)
-}
-
-// What was set aside is put in the queue by the second worker; or it is dropped there, and the client puts a job for it again.
-fn put_later<L: Ledger, R: Wait + Clock, D: Device>(
-    rt: &R,
-    manager: &Manager<Ties, L>,
-    workers: Tied<'_, L, R, D>,
+    queue: &JobQueue,
+    pass: &mut JobPass,
+    second: Worker<'_, Ties, L, R, Watch, D>,
     reading: OpId,
     is_dropped: bool,
-) -> Result<Status, Status> {
-    let Workers {
-        mut client,
-        mut first,
-        mut second,
-    } = workers;
+) -> bool {
+    let mut second = second;
     if is_dropped {
         let _ = second.into_parts();
-        client.submit(reading);
     } else {
         second.put_aside();
     }
-    finish(rt, manager, &mut client, &mut first, reading)
+    let stop = queue.try_take(rt, pass);
+    let next = queue.try_take(rt, pass);
+    stop == Some(Job::Stop) && next == Some(Job::Run(reading))
 }
 
-// Both, one after the other.
+// Both, one after the other; then the first worker carries the read on.
 fn set_aside_and_finish<L: Ledger, R: Wait + Clock, D: Device>(
     rt: &R,
     alloc: Global,
     manager: &Manager<Ties, L>,
+    queue: &JobQueue,
+    pass: &mut JobPass,
     workers: Tied<'_, L, R, D>,
     gate: &Watch,
     is_dropped: bool,
 ) -> Result<Seen, Status> {
     let mut workers = workers;
     let reading = set_aside(rt, alloc, manager, &mut workers)?;
-    let status = put_later(rt, manager, workers, reading, is_dropped)?;
+    let Workers {
+        mut client,
+        mut first,
+        second,
+    } = workers;
+    let is_queued = leave(rt, queue, pass, second, reading, is_dropped);
+    client.submit(reading);
+    work_off(&mut client, &mut first);
+    let status = collect(rt, manager, reading)?.status;
     Ok(Seen {
+        is_queued,
         status,
         last: gate.last(),
     })
@@ -143,10 +136,11 @@ fn aside_day<L: Ledger, R: Wait + Clock>(
     requires all { blank.parts ≡ 49 }
 {
     let manager = mounted::<Ties, L, R>(rt, alloc, filters(alloc)?, blank)?;
-    let (queue, mut passes) = JobQueue::new(alloc, 2, 4)?;
+    let (queue, mut passes) = JobQueue::new(alloc, 2, 5)?;
     let gate = Watch::new();
     let jobs = &queue;
-    let Some(pass) = take_pass(jobs, &mut passes) else {
+    let (Some(pass), Some(mut looks)) = (take_pass(jobs, &mut passes), take_pass(jobs, &mut passes))
+    else {
         return Err(Status::TooMany);
     };
     let below = Filling {
@@ -156,7 +150,9 @@ fn aside_day<L: Ledger, R: Wait + Clock>(
         below: folder(alloc)?,
     };
     let workers = make_workers(rt, alloc, &manager, jobs, &gate, &mut passes, below)?;
-    set_aside_and_finish(rt, alloc, &manager, workers, &gate, is_dropped)
+    set_aside_and_finish(
+        rt, alloc, &manager, jobs, &mut looks, workers, &gate, is_dropped,
+    )
 }
 
 #[test]
@@ -167,9 +163,10 @@ fn set_aside_and_put_later(rt: HostRuntime) {
             matches!(
                 seen,
                 Ok(Seen {
+                    is_queued,
                     status: Status::FileNotFound,
                     last: 1
-                })
+                }) if is_queued != is_dropped
             )
         );
     }

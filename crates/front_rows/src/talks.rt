@@ -7,8 +7,8 @@ use crate::steps::{BEGINS, CLOSES, ENDS, HOLDS, OWN, REFUSED, SHARES, WRITES};
 use fm_words::Front;
 use std::alloc::{AllocError, Global};
 use std::fs;
-use std::io::Write;
-use std::net::{Net, TcpListener, TcpStream};
+use std::io::{Read, Write};
+use std::net::{Net, Shutdown, TcpListener, TcpStream};
 use std::os::unix::net::UnixStream;
 use std::rt::Files;
 use std::time::{Clock, Duration};
@@ -25,7 +25,7 @@ pub enum Talk {
     Lines(&'static [Line]),
     /// Fills the server with connections.
     Crowd,
-    /// Leaves in the middle of a frame.
+    /// Leaves in the middle of a frame, and then behind one.
     Cut,
     /// Two connections ask for all that there is.
     Pair,
@@ -88,8 +88,24 @@ where
     drop(stream);
     Some(
         listed.as_slice() == b"status 0 info 2 bytes 780a\n".as_slice()
-            && comes(rt, alloc, at, &["list", "0"], (0, DONE)),
+            && comes(rt, alloc, at, &["list", "0"], (0, DONE))
+            && is_closed_at_its_end(rt, alloc, at)?,
     )
+}
+
+// A client that sends no more sees the end of its connection once its handles are closed: the file that was to go with one is gone then.
+fn is_closed_at_its_end<R>(rt: &R, alloc: Global, at: &Front) -> Option<bool>
+where
+    R: Net<Listener = TcpListener, Stream = TcpStream>,
+{
+    let stream = UnixStream::connect(rt, at.socket).ok()?;
+    exchange(alloc, &stream, &["create", "0", "always", "y"])?;
+    exchange(alloc, &stream, &["setdelete", "1"])?;
+    stream.shutdown(Shutdown::Write).ok()?;
+    let mut reader = &stream;
+    let end = reader.read(&mut [0]).ok()?;
+    let (status, listed) = ask(rt, alloc, at, &["list", "0"]);
+    Some(end == 0 && status == 0 && listed.as_slice() == DONE.as_bytes())
 }
 
 fn path_of(alloc: Global, at: &Front, name: &str) -> Result<String, AllocError> {

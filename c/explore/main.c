@@ -173,7 +173,7 @@ static void draw_runs(uint64_t seed, uint64_t runs)
 static int usage(const char *name)
 {
     fprintf(stderr,
-            "usage: %s [--bound N [--reduce] | --states] [--memory MB] [--fails N] [--fail-each] [--ends | --learn FILE | --expect-ends FILE] [--shard K/N] [--seed N [--runs N] [--pct N]] [--replay SCHEDULE [--trace]] [--allow KZ0000] [--quiet] SCENARIO\n",
+            "usage: %s [--bound N [--reduce] | --states] [--memory MB] [--fails N] [--fail-each] [--ends | --learn FILE | --expect-ends FILE] [--shard K/N] [--seed N [--runs N] [--pct N]] [--replay SCHEDULE [--trace]] [--dispatch none|data|all] [--allow KZ0000] [--quiet] SCENARIO\n",
             name);
     return 2;
 }
@@ -211,6 +211,8 @@ static bool read_pair(const char *word, const char *value, Asked *asked)
         return read_shard(value);
     else if (strcmp(word, "--pct") == 0)
         return sscanf(value, "%u", &ex->pct) == 1 && ex->pct >= 1 && ex->pct <= DEPTH;
+    else if (strcmp(word, "--dispatch") == 0)
+        return kz_dispatch_as(value);
     else if (strcmp(word, "--memory") == 0)
         ex->memory = strtoull(value, &end, 10) << 20;
     else
@@ -253,7 +255,7 @@ static bool set_up(void)
     if (kz_open(kz_drivers, kz_drivers_count) != 0)
         return false;
     for (size_t at = 0; at < ex->scenario.setup_count; at++)
-        if (kz_request(ex->scenario.setup[at]).status == 32) {
+        if (kz_request(ex->scenario.setup[at]).status == KZS_BAD_REQUEST) {
             fprintf(stderr, "the set-up has a line that is no request: %s\n", ex->scenario.setup[at]);
             return false;
         }

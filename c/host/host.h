@@ -46,6 +46,8 @@ typedef struct KzPlace {
     uint64_t number;
     unsigned depth;
     uint8_t worker;
+    KIRQL irql, raised;  /* at which it was called, and to which it raised that since */
+    uint64_t locks_from; /* the callback whose locks, and those of callbacks after it, count for the IRQL */
 } KzPlace;
 
 struct _FLT_FILTER {
@@ -151,6 +153,19 @@ typedef struct {
     size_t length;
 } KzServed;
 
+/* An instance whose teardown waits for an operation, and whether its preoperation has the postoperation in its own thread. */
+typedef struct {
+    PFLT_INSTANCE instance;
+    bool is_synchronized;
+} KzOwed;
+
+/* What a postoperation put off to where the IRQL is low enough; no callback if it didn't. */
+typedef struct {
+    PFLT_POST_OPERATION_CALLBACK callback;
+    PVOID completion;
+    FLT_POST_OPERATION_FLAGS flags;
+} KzSafe;
+
 struct KzOp {
     KzOp *next;
     uint64_t id;
@@ -173,8 +188,11 @@ struct KzOp {
     PVOID caller; /* the buffer of the caller */
     ULONG caller_room;
     KzStage stage;
-    PFLT_INSTANCE holder, owed[KZ_OWED]; /* those whose teardown waits for it, as far as there is room */
+    PFLT_INSTANCE holder;
+    KzOwed owed[KZ_OWED]; /* as far as there is room */
     unsigned owed_count;
+    bool comes_from_device; /* its answer does, and nothing that waits was in between: it may come up at DISPATCH_LEVEL */
+    KzSafe safe;
     unsigned maker;
     KzClient *runner; /* who carries it on, also while it is held */
     unsigned users;   /* callbacks that look at it beside its runner */
@@ -233,6 +251,8 @@ void kz_tell(KzMessage message, const char *call, const char *format, ...) __att
 void kz_tell_of(const void *object, KzMessage message, const char *call, const char *format, ...) __attribute__((format(printf, 4, 5)));
 void kz_tell_refused(const char *call, uint32_t status);
 KzPlace kz_enter(KzCallback callback, uint8_t worker, PFLT_FILTER filter, PFLT_INSTANCE instance, KzOp *op, PFLT_CALLBACK_DATA data);
+/* The callback that was entered is called at that IRQL, whatever locks the client holds. */
+void kz_call_at(KIRQL irql);
 KzPlace kz_enter_again(const KzPlace *place);
 void kz_leave(KzPlace before);
 size_t kz_place_text(char *room, size_t size);
@@ -257,6 +277,7 @@ typedef struct KzPiece {
     size_t size;
     PFLT_FILTER filter;
     ULONG tag;
+    bool is_paged;
     KzMemory kind;
     unsigned list;
     bool is_told;
@@ -273,7 +294,12 @@ void kz_tell_pools(PFLT_FILTER filter);
 void kz_tell_gone(void);
 void kz_free_memory(void);
 
+/* irql.c: whether the call may be made here. */
+void kz_check_irql(const char *call);
+void kz_may_be_called(const char *call, KIRQL most);
+
 /* lock.c */
+KIRQL kz_irql(void);
 bool kz_is_taken(const void *lock);
 void kz_tell_locks(void);
 void kz_free_locks(void);

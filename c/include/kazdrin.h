@@ -98,6 +98,20 @@ enum {
     KZE_FINISH_VOLUME = 46      /* volume */
 };
 
+/* Operations in `pre` and `post` of KZE_REGISTER. */
+enum {
+    KZ_MASK_CREATE = 1,
+    KZ_MASK_READ = 2,
+    KZ_MASK_WRITE = 4,
+    KZ_MASK_QUERY_SIZE = 8,
+    KZ_MASK_SET_SIZE = 16,
+    KZ_MASK_FLUSH = 32,
+    KZ_MASK_LIST = 64,
+    KZ_MASK_SET_DELETE = 128,
+    KZ_MASK_CLEANUP = 256,
+    KZ_MASK_CLOSE = 512
+};
+
 /* A preoperation's verdict, in `mode`. The first two ask for the postoperation, with `number`, and with the context in slot and generation if `flag` isn't 0.
  * Complete has a status by its number. */
 enum { KZV_WITH_CALLBACK, KZV_SYNCHRONIZE, KZV_NO_CALLBACK, KZV_COMPLETE, KZV_PENDING };

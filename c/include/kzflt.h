@@ -70,6 +70,12 @@ KzCounts kz_counts(void);
 bool kz_allow(const char *id);
 void kz_be_strict(bool is);
 
+/* Which postoperations run at DISPATCH_LEVEL, as the kit may have them: none, those of reads and writes, or of all I/O but creates, cleanups and closes. */
+enum { KZ_DISPATCH_NONE, KZ_DISPATCH_DATA, KZ_DISPATCH_ALL };
+void kz_dispatch(int which);
+/* The same by a word: none, data, all; false if it is another. */
+bool kz_dispatch_as(const char *word);
+
 KZ_END
 
 #endif

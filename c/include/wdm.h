@@ -659,6 +659,7 @@ KZ_ASSERT(sizeof(FAST_MUTEX) == 0x38 && sizeof(ERESOURCE) == 0x68 && sizeof(KLOC
 enum { KZ_ALONE, KZ_SHARED, KZ_AGAIN, KZ_SHARED_AGAIN };
 VOID KzTake(PVOID Lock, int How, KIRQL Irql, PCSTR Call);
 VOID KzLetGo(PVOID Lock, PCSTR Call);
+VOID KzLetGoTo(PVOID Lock, KIRQL Irql, PCSTR Call);
 BOOLEAN KzTryTake(PVOID Lock, int How, KIRQL Irql, PCSTR Call);
 VOID KzForgetLock(PVOID Lock, PCSTR Call);
 BOOLEAN KzIsHeldAlone(const VOID *Lock);
@@ -728,19 +729,19 @@ BOOLEAN KeAreApcsDisabled(VOID);
 #define KeInitializeSpinLock(lock) ((void)(*(lock) = 0))
 #define KeAcquireSpinLock(lock, irql) (*(irql) = KeGetCurrentIrql(), KzTake((lock), KZ_ALONE, DISPATCH_LEVEL, "KeAcquireSpinLock"))
 #define KeAcquireSpinLockRaiseToDpc(lock) KzTakeSpinLock((lock), "KeAcquireSpinLockRaiseToDpc")
-#define KeReleaseSpinLock(lock, irql) ((void)(irql), KzLetGo((lock), "KeReleaseSpinLock"))
+#define KeReleaseSpinLock(lock, irql) KzLetGoTo((lock), (irql), "KeReleaseSpinLock")
 #define KeAcquireSpinLockAtDpcLevel(lock) KzTake((lock), KZ_ALONE, DISPATCH_LEVEL, "KeAcquireSpinLockAtDpcLevel")
 #define KeReleaseSpinLockFromDpcLevel(lock) KzLetGo((lock), "KeReleaseSpinLockFromDpcLevel")
 #define KeTryToAcquireSpinLockAtDpcLevel(lock) KzTryTake((lock), KZ_ALONE, DISPATCH_LEVEL, "KeTryToAcquireSpinLockAtDpcLevel")
 #define KeAcquireInStackQueuedSpinLock(lock, handle) \
     ((handle)->LockQueue[1] = (PVOID)(lock), (handle)->OldIrql = KeGetCurrentIrql(), KzTake((lock), KZ_ALONE, DISPATCH_LEVEL, "KeAcquireInStackQueuedSpinLock"))
-#define KeReleaseInStackQueuedSpinLock(handle) KzLetGo((handle)->LockQueue[1], "KeReleaseInStackQueuedSpinLock")
+#define KeReleaseInStackQueuedSpinLock(handle) KzLetGoTo((handle)->LockQueue[1], (handle)->OldIrql, "KeReleaseInStackQueuedSpinLock")
 #define KeAcquireInStackQueuedSpinLockAtDpcLevel KeAcquireInStackQueuedSpinLock
 #define KeReleaseInStackQueuedSpinLockFromDpcLevel KeReleaseInStackQueuedSpinLock
 #define ExAcquireSpinLockExclusive(lock) KzTakeSpinLock((lock), "ExAcquireSpinLockExclusive")
-#define ExReleaseSpinLockExclusive(lock, irql) ((void)(irql), KzLetGo((lock), "ExReleaseSpinLockExclusive"))
+#define ExReleaseSpinLockExclusive(lock, irql) KzLetGoTo((lock), (irql), "ExReleaseSpinLockExclusive")
 #define ExAcquireSpinLockShared(lock) KzTakeSpinLockShared((lock), "ExAcquireSpinLockShared")
-#define ExReleaseSpinLockShared(lock, irql) ((void)(irql), KzLetGo((lock), "ExReleaseSpinLockShared"))
+#define ExReleaseSpinLockShared(lock, irql) KzLetGoTo((lock), (irql), "ExReleaseSpinLockShared")
 KIRQL KzTakeSpinLock(PVOID Lock, PCSTR Call);
 KIRQL KzTakeSpinLockShared(PVOID Lock, PCSTR Call);
 KIRQL KeGetCurrentIrql(VOID);

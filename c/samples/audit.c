@@ -18,7 +18,7 @@ typedef struct _AUDIT_RECORD {
 typedef struct _AUDIT_DATA {
     PFLT_FILTER Filter;
     LIST_ENTRY Records;
-    FAST_MUTEX Lock;
+    KSPIN_LOCK Lock;
     LONG LastNumber;
     LONG Dropped;
 } AUDIT_DATA;
@@ -80,6 +80,7 @@ static FLT_POSTOP_CALLBACK_STATUS AuditPostOperation(_Inout_ PFLT_CALLBACK_DATA 
                                                      _In_opt_ PVOID CompletionContext, _In_ FLT_POST_OPERATION_FLAGS Flags)
 {
     PAUDIT_RECORD record = CompletionContext;
+    KIRQL irql;
 
     UNREFERENCED_PARAMETER(FltObjects);
 
@@ -89,9 +90,9 @@ static FLT_POSTOP_CALLBACK_STATUS AuditPostOperation(_Inout_ PFLT_CALLBACK_DATA 
     }
     record->Status = Data->IoStatus.Status;
     record->Information = Data->IoStatus.Information;
-    ExAcquireFastMutex(&AuditData.Lock);
+    KeAcquireSpinLock(&AuditData.Lock, &irql);
     InsertTailList(&AuditData.Records, &record->Links);
-    ExReleaseFastMutex(&AuditData.Lock);
+    KeReleaseSpinLock(&AuditData.Lock, irql);
     return FLT_POSTOP_FINISHED_PROCESSING;
 }
 
@@ -138,7 +139,7 @@ NTSTATUS DriverEntry(_In_ PDRIVER_OBJECT DriverObject, _In_ PUNICODE_STRING Regi
     UNREFERENCED_PARAMETER(RegistryPath);
 
     InitializeListHead(&AuditData.Records);
-    ExInitializeFastMutex(&AuditData.Lock);
+    KeInitializeSpinLock(&AuditData.Lock);
     AuditData.LastNumber = 0;
     status = FltRegisterFilter(DriverObject, &FilterRegistration, &AuditData.Filter);
     if (NT_SUCCESS(status)) {

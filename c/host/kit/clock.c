@@ -134,12 +134,11 @@ bool kz_run_dpc(void)
     PFLT_FILTER filter = dpc->DpcData == dpc ? NULL : dpc->DpcData;
     KeRemoveQueueDpc(dpc);
     KzPlace before = kz_enter(KZ_IN_TIMER, kz_worker(), filter, NULL, NULL, NULL);
-    KIRQL irql = KfRaiseIrql(DISPATCH_LEVEL);
+    kz_call_at(DISPATCH_LEVEL);
     kz_scheduler->touch(dpc, 0, KZT_TAKES);
     unsigned depth = kz_let_driver("timer");
     dpc->DeferredRoutine(dpc, dpc->DeferredContext, dpc->SystemArgument1, dpc->SystemArgument2);
     kz_driver_returned(depth, "timer returns");
-    KeLowerIrql(irql);
     kz_leave(before);
     return true;
 }

@@ -148,6 +148,7 @@ static void drop(Header *context)
 static void finish(Header *context, uint8_t worker)
 {
     KzPlace before = kz_enter(KZ_IN_CLEANUP, worker, context->filter, NULL, NULL, NULL);
+    kz_call_at(PASSIVE_LEVEL); /* as in the kit: it is put off where the IRQL is too high for it */
     context->is_in_cleanup = true;
     kz_scheduler->touch(context, 0, KZT_TAKES);
     if (context->how->ContextCleanupCallback) {

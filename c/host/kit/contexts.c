@@ -63,6 +63,7 @@ const FLT_CONTEXT_REGISTRATION *kz_registered_context(PFLT_FILTER filter, FLT_CO
 /* ---- All of them at once. */
 VOID FltGetContexts(PCFLT_RELATED_OBJECTS FltObjects, FLT_CONTEXT_TYPE DesiredContexts, PFLT_RELATED_CONTEXTS Contexts)
 {
+    KZ_INSIDE();
     memset(Contexts, 0, sizeof *Contexts);
     if (DesiredContexts & FLT_VOLUME_CONTEXT && FltObjects->Volume)
         FltGetVolumeContext(FltObjects->Filter, FltObjects->Volume, &Contexts->VolumeContext);
@@ -85,6 +86,7 @@ VOID FltReleaseContexts(PFLT_RELATED_CONTEXTS Contexts)
 
 NTSTATUS FltGetContextsEx(PCFLT_RELATED_OBJECTS FltObjects, FLT_CONTEXT_TYPE DesiredContexts, SIZE_T ContextsSize, PFLT_RELATED_CONTEXTS_EX Contexts)
 {
+    KZ_INSIDE();
     if (ContextsSize < sizeof(FLT_RELATED_CONTEXTS))
         return STATUS_INVALID_PARAMETER;
     memset(Contexts, 0, ContextsSize);
@@ -100,12 +102,14 @@ VOID FltReleaseContextsEx(SIZE_T ContextsSize, PFLT_RELATED_CONTEXTS_EX Contexts
 
 BOOLEAN FltSupportsFileContexts(PFILE_OBJECT FileObject)
 {
+    KZ_INSIDE();
     (void)FileObject;
     return FALSE;
 }
 
 BOOLEAN FltSupportsFileContextsEx(PFILE_OBJECT FileObject, PFLT_INSTANCE Instance)
 {
+    KZ_INSIDE();
     (void)FileObject, (void)Instance;
     return FALSE;
 }
@@ -119,5 +123,6 @@ BOOLEAN FltSupportsStreamContexts(PFILE_OBJECT FileObject)
 
 BOOLEAN FltSupportsStreamHandleContexts(PFILE_OBJECT FileObject)
 {
+    KZ_INSIDE();
     return FltSupportsStreamContexts(FileObject);
 }

@@ -8,7 +8,7 @@ typedef struct {
     KzClient *client;
     unsigned count;
     bool is_shared;
-    KIRQL irql;
+    KIRQL irql, before; /* to which it raises, and at which it was taken */
     const char *call;
     uint64_t place; /* the callback's number: kz_me->place.number */
 } Held;
@@ -67,7 +67,7 @@ static void note(PVOID lock, int how, KIRQL irql, const char *call)
     if (one)
         one->count++;
     else
-        add((Held){lock, kz_me, 1, is_shared(how), irql, call, kz_me->place.number});
+        add((Held){lock, kz_me, 1, is_shared(how), irql, kz_irql(), call, kz_me->place.number});
     kz_scheduler->touch(lock, 0, KZT_TAKES);
 }
 
@@ -171,9 +171,9 @@ void kz_tell_locks(void)
         held[at].count = 1;
         let_go(&held[at], (PVOID)(uintptr_t)held[at].lock, held[at].call);
     }
-    if (kz_me->place.callback != KZ_IN_NOTHING && kz_me->raised > PASSIVE_LEVEL && kz_me->place.depth == 1) {
+    if (kz_me->place.callback != KZ_IN_NOTHING && kz_me->place.raised > kz_me->place.irql) {
         kz_tell(KZM_LOCK_AT_RETURN, "KeLowerIrql", "the IRQL is still raised as the callback returns");
-        kz_me->raised = PASSIVE_LEVEL;
+        kz_me->place.raised = kz_me->place.irql;
     }
 }
 
@@ -182,34 +182,52 @@ void kz_free_locks(void)
     free(held);
     held = NULL;
     held_count = held_room = 0;
-    kz_me->raised = PASSIVE_LEVEL;
 }
 
 /* ---- IRQL: that of the locks that are held, or to which it was raised. */
-KIRQL KeGetCurrentIrql(VOID)
+KIRQL kz_irql(void)
 {
-    KZ_INSIDE();
-    KIRQL highest = kz_me->raised;
+    KIRQL highest = kz_me->place.raised;
     for (size_t at = 0; at < held_count; at++)
-        if (held[at].client == kz_me && held[at].irql > highest)
+        if (held[at].client == kz_me && held[at].place >= kz_me->place.locks_from && held[at].irql > highest)
             highest = held[at].irql;
     return highest;
 }
 
+KIRQL KeGetCurrentIrql(VOID)
+{
+    KZ_INSIDE();
+    return kz_irql();
+}
+
 KIRQL KfRaiseIrql(KIRQL NewIrql)
 {
-    KIRQL before = KeGetCurrentIrql();
+    KZ_INSIDE();
+    KIRQL before = kz_irql();
     if (NewIrql < before)
         kz_tell(KZM_IRQL, "KeRaiseIrql", "to %u, below the current %u", NewIrql, before);
-    kz_me->raised = NewIrql;
+    kz_me->place.raised = NewIrql;
     return before;
 }
 
 VOID KeLowerIrql(KIRQL NewIrql)
 {
-    if (NewIrql > kz_me->raised)
-        kz_tell(KZM_IRQL, "KeLowerIrql", "to %u, above the current %u", NewIrql, kz_me->raised);
-    kz_me->raised = NewIrql;
+    KZ_INSIDE();
+    if (NewIrql > kz_me->place.raised)
+        kz_tell(KZM_IRQL, "KeLowerIrql", "to %u, above the current %u", NewIrql, kz_me->place.raised);
+    else if (NewIrql < kz_me->place.irql)
+        kz_tell(KZM_IRQL, "KeLowerIrql", "to %u, below the %u at which the callback was called", NewIrql, kz_me->place.irql);
+    kz_me->place.raised = NewIrql < kz_me->place.irql ? kz_me->place.irql : NewIrql;
+}
+
+/* Lets go of a spin lock, and back to the IRQL that the driver says. */
+VOID KzLetGoTo(PVOID Lock, KIRQL Irql, PCSTR Call)
+{
+    KZ_CALL_OF(Call);
+    Held *one = find(Lock);
+    if (one && one->before != Irql)
+        kz_tell(KZM_IRQL, Call, "to IRQL %u, where the lock was taken at %u", Irql, one->before);
+    let_go(one, Lock, Call);
 }
 
 void KzPagedCode(PCSTR Function)
@@ -222,6 +240,7 @@ void KzPagedCode(PCSTR Function)
 /* ---- Resources: an owner may take one again. */
 BOOLEAN ExAcquireResourceExclusiveLite(PERESOURCE Resource, BOOLEAN Wait)
 {
+    KZ_INSIDE();
     if (!Wait)
         return KzTryTake(Resource, KZ_AGAIN, PASSIVE_LEVEL, __func__);
     KzTake(Resource, KZ_AGAIN, PASSIVE_LEVEL, __func__);
@@ -230,6 +249,7 @@ BOOLEAN ExAcquireResourceExclusiveLite(PERESOURCE Resource, BOOLEAN Wait)
 
 BOOLEAN ExAcquireResourceSharedLite(PERESOURCE Resource, BOOLEAN Wait)
 {
+    KZ_INSIDE();
     if (!Wait)
         return KzTryTake(Resource, KZ_SHARED_AGAIN, PASSIVE_LEVEL, __func__);
     KzTake(Resource, KZ_SHARED_AGAIN, PASSIVE_LEVEL, __func__);

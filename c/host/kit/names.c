@@ -88,6 +88,7 @@ NTSTATUS FltGetFileNameInformationUnsafe(PFILE_OBJECT FileObject, PFLT_INSTANCE 
 NTSTATUS FltGetDestinationFileNameInformation(PFLT_INSTANCE Instance, PFILE_OBJECT FileObject, HANDLE RootDirectory, PWSTR FileName, ULONG FileNameLength,
                                               FLT_FILE_NAME_OPTIONS NameOptions, PFLT_FILE_NAME_INFORMATION *RetFileNameInformation)
 {
+    KZ_INSIDE();
     (void)Instance, (void)FileObject, (void)RootDirectory, (void)FileName, (void)FileNameLength, (void)NameOptions;
     *RetFileNameInformation = NULL;
     return STATUS_INVALID_PARAMETER;
@@ -97,6 +98,7 @@ NTSTATUS FltGetDestinationFileNameInformation(PFLT_INSTANCE Instance, PFILE_OBJE
 NTSTATUS FltGetTunneledName(PFLT_CALLBACK_DATA CallbackData, PFLT_FILE_NAME_INFORMATION FileNameInformation,
                             PFLT_FILE_NAME_INFORMATION *RetTunneledFileNameInformation)
 {
+    KZ_INSIDE();
     (void)CallbackData, (void)FileNameInformation;
     *RetTunneledFileNameInformation = NULL;
     return STATUS_SUCCESS;
@@ -132,6 +134,7 @@ VOID FltReleaseFileNameInformation(PFLT_FILE_NAME_INFORMATION FileNameInformatio
 
 NTSTATUS FltPurgeFileNameInformationCache(PFLT_INSTANCE Instance, PFILE_OBJECT FileObject)
 {
+    KZ_INSIDE();
     (void)Instance, (void)FileObject;
     return STATUS_SUCCESS;
 }
@@ -167,6 +170,7 @@ static size_t final_start(PCUNICODE_STRING name)
 
 NTSTATUS FltParseFileName(PCUNICODE_STRING FileName, PUNICODE_STRING Extension, PUNICODE_STRING Stream, PUNICODE_STRING FinalComponent)
 {
+    KZ_INSIDE();
     size_t start = final_start(FileName), end = FileName->Length / sizeof(WCHAR), colon = first(FileName, start, end, ':');
     size_t dot = last(FileName, start, colon, '.');
     if (Extension)
@@ -180,6 +184,7 @@ NTSTATUS FltParseFileName(PCUNICODE_STRING FileName, PUNICODE_STRING Extension, 
 
 NTSTATUS FltParseFileNameInformation(PFLT_FILE_NAME_INFORMATION FileNameInformation)
 {
+    KZ_INSIDE();
     PFLT_FILE_NAME_INFORMATION info = FileNameInformation;
     FltParseFileName(&info->Name, &info->Extension, &info->Stream, &info->FinalComponent);
     size_t volume = info->Volume.Length / sizeof(WCHAR), start = final_start(&info->Name);
@@ -206,6 +211,7 @@ static NTSTATUS put_name(const char *text, PUNICODE_STRING to, PULONG needed)
 
 NTSTATUS FltGetVolumeName(PFLT_VOLUME Volume, PUNICODE_STRING VolumeName, PULONG BufferSizeNeeded)
 {
+    KZ_INSIDE();
     char text[64];
     device_name(text, sizeof text, Volume);
     return put_name(text, VolumeName, BufferSizeNeeded);
@@ -213,6 +219,7 @@ NTSTATUS FltGetVolumeName(PFLT_VOLUME Volume, PUNICODE_STRING VolumeName, PULONG
 
 NTSTATUS FltGetVolumeGuidName(PFLT_VOLUME Volume, PUNICODE_STRING VolumeGuidName, PULONG BufferSizeNeeded)
 {
+    KZ_INSIDE();
     char text[80];
     snprintf(text, sizeof text, "/?" "?/Volume{00000000-0000-0000-0000-%012x}", Volume->id + 1u);
     return put_name(text, VolumeGuidName, BufferSizeNeeded);

@@ -286,6 +286,7 @@ void kz_free_objects(void)
 /* ---- The system's version, and chance, which is the same in each run. */
 NTSTATUS RtlGetVersion(PRTL_OSVERSIONINFOW VersionInformation)
 {
+    KZ_INSIDE();
     VersionInformation->dwMajorVersion = 10;
     VersionInformation->dwMinorVersion = 0;
     VersionInformation->dwBuildNumber = 19045;
@@ -325,6 +326,7 @@ ULONG RtlRandomEx(PULONG Seed)
 
 NTSTATUS ExUuidCreate(GUID *Uuid)
 {
+    KZ_INSIDE();
     static ULONG count;
     *Uuid = (GUID){++count, 0x4b41, 0x4a44, {0x80, 0, 0, 0, 0, 0, 0, 0}};
     return STATUS_SUCCESS;
@@ -333,6 +335,7 @@ NTSTATUS ExUuidCreate(GUID *Uuid)
 /* ---- Security, as far as a create shows it. */
 VOID SeCaptureSubjectContext(PSECURITY_SUBJECT_CONTEXT SubjectContext)
 {
+    KZ_INSIDE();
     memset(SubjectContext, 0, sizeof *SubjectContext);
 }
 
@@ -356,18 +359,21 @@ BOOLEAN FsRtlIsPagingFile(PFILE_OBJECT FileObject)
 
 BOOLEAN MmCanFileBeTruncated(PSECTION_OBJECT_POINTERS SectionPointer, PLARGE_INTEGER NewFileSize)
 {
+    KZ_INSIDE();
     (void)SectionPointer, (void)NewFileSize;
     return TRUE;
 }
 
 BOOLEAN MmFlushImageSection(PSECTION_OBJECT_POINTERS SectionObjectPointer, ULONG FlushType)
 {
+    KZ_INSIDE();
     (void)SectionObjectPointer, (void)FlushType;
     return TRUE;
 }
 
 VOID CcFlushCache(PSECTION_OBJECT_POINTERS SectionObjectPointer, PLARGE_INTEGER FileOffset, ULONG Length, PIO_STATUS_BLOCK IoStatus)
 {
+    KZ_INSIDE();
     (void)SectionObjectPointer, (void)FileOffset, (void)Length;
     if (IoStatus)
         *IoStatus = (IO_STATUS_BLOCK){.Status = STATUS_SUCCESS};
@@ -375,6 +381,7 @@ VOID CcFlushCache(PSECTION_OBJECT_POINTERS SectionObjectPointer, PLARGE_INTEGER 
 
 BOOLEAN CcPurgeCacheSection(PSECTION_OBJECT_POINTERS SectionObjectPointer, PLARGE_INTEGER FileOffset, ULONG Length, BOOLEAN UninitializeCacheMaps)
 {
+    KZ_INSIDE();
     (void)SectionObjectPointer, (void)FileOffset, (void)Length, (void)UninitializeCacheMaps;
     return TRUE;
 }

@@ -110,12 +110,28 @@ VOID FltRetainSwappedBufferMdlAddress(PFLT_CALLBACK_DATA CallbackData)
         op->mdls->mdl = NULL;
 }
 
-/* The IRQL is low enough: it is done at once. */
+/* Whether the callback must wait until its postoperation has returned. */
+static bool puts_off(const char *call, PFLT_CALLBACK_DATA data, KzSafe safe)
+{
+    KZ_INSIDE();
+    if (safe.flags & FLTFL_POST_OPERATION_DRAINING) {
+        kz_tell(KZM_HELD_DRAIN, call, "in a drain, where it mustn't be called");
+        return false;
+    }
+    KzOp *op = kz_irql() > APC_LEVEL ? kz_op_with(data) : NULL;
+    if (op)
+        op->safe = safe;
+    return op != NULL;
+}
+
 BOOLEAN FltDoCompletionProcessingWhenSafe(PFLT_CALLBACK_DATA Data, PCFLT_RELATED_OBJECTS FltObjects, PVOID CompletionContext, FLT_POST_OPERATION_FLAGS Flags,
                                           PFLT_POST_OPERATION_CALLBACK SafePostCallback, PFLT_POSTOP_CALLBACK_STATUS RetPostOperationStatus)
 {
+    if (puts_off(__func__, Data, (KzSafe){SafePostCallback, CompletionContext, Flags})) {
+        *RetPostOperationStatus = FLT_POSTOP_MORE_PROCESSING_REQUIRED;
+        return TRUE;
+    }
     if (Flags & FLTFL_POST_OPERATION_DRAINING) {
-        kz_tell(KZM_HELD_DRAIN, __func__, "in a drain, where it mustn't be called");
         *RetPostOperationStatus = FLT_POSTOP_FINISHED_PROCESSING;
         return FALSE;
     }

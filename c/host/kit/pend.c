@@ -4,6 +4,7 @@
 static void resume(KzOp *op)
 {
     op->stage = KZ_RESUMED;
+    op->comes_from_device = false;
     kz.changes++;
     kz_scheduler->touch(op, 0, KZT_GIVES);
     kz_renew_data(op);

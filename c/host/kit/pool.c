@@ -1,14 +1,21 @@
 /* Pools, lookaside lists and memory descriptions. */
 #include "host.h"
 
-/* ---- Pools. As in the kit, they aren't zeroed. */
+/* ---- Pools. As in the kit, they aren't zeroed. Paged memory isn't for DISPATCH_LEVEL. */
+static PVOID take_pool(const char *call, bool is_paged, SIZE_T size, int fill, ULONG tag)
+{
+    if (is_paged)
+        kz_may_be_called(call, APC_LEVEL);
+    PVOID made = kz_refuses(KZ_CHOICE_POOL, call) ? NULL : kz_take_memory(KZK_POOL, size, fill, tag);
+    if (made)
+        kz_piece_of(made)->is_paged = is_paged;
+    return made;
+}
+
 PVOID ExAllocatePoolWithTag(POOL_TYPE PoolType, SIZE_T NumberOfBytes, ULONG Tag)
 {
     KZ_INSIDE();
-    if (kz_refuses(KZ_CHOICE_POOL, __func__))
-        return NULL;
-    (void)PoolType;
-    return kz_take_memory(KZK_POOL, NumberOfBytes, 0xcd, Tag);
+    return take_pool(__func__, PoolType & PagedPool, NumberOfBytes, 0xcd, Tag);
 }
 
 PVOID ExAllocatePool(POOL_TYPE PoolType, SIZE_T NumberOfBytes)
@@ -29,18 +36,13 @@ PVOID ExAllocatePoolUninitialized(POOL_TYPE PoolType, SIZE_T NumberOfBytes, ULON
 PVOID ExAllocatePoolZero(POOL_TYPE PoolType, SIZE_T NumberOfBytes, ULONG Tag)
 {
     KZ_INSIDE();
-    if (kz_refuses(KZ_CHOICE_POOL, __func__))
-        return NULL;
-    (void)PoolType;
-    return kz_take_memory(KZK_POOL, NumberOfBytes, 0, Tag);
+    return take_pool(__func__, PoolType & PagedPool, NumberOfBytes, 0, Tag);
 }
 
 PVOID ExAllocatePool2(POOL_FLAGS Flags, SIZE_T NumberOfBytes, ULONG Tag)
 {
     KZ_INSIDE();
-    if (kz_refuses(KZ_CHOICE_POOL, __func__))
-        return NULL;
-    return kz_take_memory(KZK_POOL, NumberOfBytes, Flags & POOL_FLAG_UNINITIALIZED ? 0xcd : 0, Tag);
+    return take_pool(__func__, Flags & POOL_FLAG_PAGED, NumberOfBytes, Flags & POOL_FLAG_UNINITIALIZED ? 0xcd : 0, Tag);
 }
 
 /* Whether that is memory of a pool. */
@@ -56,7 +58,10 @@ static KzPiece *pool_of(PVOID memory, const char *call)
 static void free_pool(PVOID memory, const char *call)
 {
     KZ_INSIDE();
-    if (pool_of(memory, call))
+    KzPiece *piece = pool_of(memory, call);
+    if (piece && piece->is_paged)
+        kz_may_be_called(call, APC_LEVEL);
+    if (piece)
         kz_give_back(memory);
 }
 
@@ -67,6 +72,8 @@ VOID ExFreePoolWithTag(PVOID P, ULONG Tag)
     char own[8], given[8];
     if (!piece)
         return;
+    if (piece->is_paged)
+        kz_may_be_called(__func__, APC_LEVEL);
     if (Tag && (Tag & ~PROTECTED_POOL) != (piece->tag & ~PROTECTED_POOL))
         kz_tell(KZM_WRONG_TAG, __func__, "a pool's memory with the tag '%s', which was taken with '%s'", kz_tag(Tag, given), kz_tag(piece->tag, own));
     kz_give_back(P);
@@ -185,6 +192,7 @@ BOOLEAN MmIsAddressValid(PVOID VirtualAddress)
 
 PVOID MmGetSystemRoutineAddress(PUNICODE_STRING SystemRoutineName)
 {
+    KZ_INSIDE();
     (void)SystemRoutineName; /* as in an older kernel: a driver that asks copes with none */
     return NULL;
 }

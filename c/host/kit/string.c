@@ -55,16 +55,19 @@ static LONG compare(const WCHAR *a, USHORT length1, const WCHAR *b, USHORT lengt
 
 LONG RtlCompareUnicodeString(PCUNICODE_STRING String1, PCUNICODE_STRING String2, BOOLEAN CaseInSensitive)
 {
+    KZ_INSIDE();
     return compare(String1->Buffer, String1->Length / sizeof(WCHAR), String2->Buffer, String2->Length / sizeof(WCHAR), CaseInSensitive);
 }
 
 BOOLEAN RtlEqualUnicodeString(PCUNICODE_STRING String1, PCUNICODE_STRING String2, BOOLEAN CaseInSensitive)
 {
+    KZ_INSIDE();
     return String1->Length == String2->Length && RtlCompareUnicodeString(String1, String2, CaseInSensitive) == 0;
 }
 
 BOOLEAN RtlPrefixUnicodeString(PCUNICODE_STRING String1, PCUNICODE_STRING String2, BOOLEAN CaseInSensitive)
 {
+    KZ_INSIDE();
     USHORT length = String1->Length / sizeof(WCHAR);
     return String1->Length <= String2->Length && compare(String1->Buffer, length, String2->Buffer, length, CaseInSensitive) == 0;
 }
@@ -142,16 +145,19 @@ static NTSTATUS turned(PUNICODE_STRING to, PCUNICODE_STRING from, BOOLEAN is_new
 
 NTSTATUS RtlUpcaseUnicodeString(PUNICODE_STRING DestinationString, PCUNICODE_STRING SourceString, BOOLEAN AllocateDestinationString)
 {
+    KZ_INSIDE();
     return turned(DestinationString, SourceString, AllocateDestinationString, KzTowupper);
 }
 
 NTSTATUS RtlDowncaseUnicodeString(PUNICODE_STRING DestinationString, PCUNICODE_STRING SourceString, BOOLEAN AllocateDestinationString)
 {
+    KZ_INSIDE();
     return turned(DestinationString, SourceString, AllocateDestinationString, KzTowlower);
 }
 
 NTSTATUS RtlAnsiStringToUnicodeString(PUNICODE_STRING DestinationString, PCANSI_STRING SourceString, BOOLEAN AllocateDestinationString)
 {
+    KZ_INSIDE();
     NTSTATUS status = make_room(DestinationString, SourceString->Length * sizeof(WCHAR), AllocateDestinationString);
     if (status != STATUS_SUCCESS)
         return status;
@@ -168,6 +174,7 @@ static CHAR narrow(WCHAR letter)
 
 NTSTATUS RtlUnicodeStringToAnsiString(PANSI_STRING DestinationString, PCUNICODE_STRING SourceString, BOOLEAN AllocateDestinationString)
 {
+    KZ_INSIDE();
     USHORT length = SourceString->Length / sizeof(WCHAR);
     if (AllocateDestinationString) {
         DestinationString->Buffer = ExAllocatePoolWithTag(PagedPool, length + 1u, TEXT_TAG);
@@ -208,6 +215,7 @@ NTSTATUS RtlMultiByteToUnicodeN(PWCH UnicodeString, ULONG MaxBytes, PULONG Bytes
 
 VOID RtlFreeUnicodeString(PUNICODE_STRING UnicodeString)
 {
+    KZ_INSIDE();
     if (UnicodeString->Buffer)
         ExFreePool(UnicodeString->Buffer);
     *UnicodeString = (UNICODE_STRING){0};
@@ -215,6 +223,7 @@ VOID RtlFreeUnicodeString(PUNICODE_STRING UnicodeString)
 
 VOID RtlFreeAnsiString(PANSI_STRING AnsiString)
 {
+    KZ_INSIDE();
     if (AnsiString->Buffer)
         ExFreePool(AnsiString->Buffer);
     *AnsiString = (ANSI_STRING){0};
@@ -241,6 +250,7 @@ NTSTATUS RtlValidateUnicodeString(ULONG Flags, PCUNICODE_STRING String)
 
 NTSTATUS RtlHashUnicodeString(PCUNICODE_STRING String, BOOLEAN CaseInSensitive, ULONG HashAlgorithm, PULONG HashValue)
 {
+    KZ_INSIDE();
     if (HashAlgorithm > HASH_STRING_ALGORITHM_X65599)
         return STATUS_INVALID_PARAMETER;
     ULONG hash = 0;
@@ -253,6 +263,7 @@ NTSTATUS RtlHashUnicodeString(PCUNICODE_STRING String, BOOLEAN CaseInSensitive, 
 /* ---- Numbers. */
 NTSTATUS RtlUnicodeStringToInteger(PCUNICODE_STRING String, ULONG Base, PULONG Value)
 {
+    KZ_INSIDE();
     WCHAR room[72];
     size_t length = String->Length / sizeof(WCHAR);
     if (Base && Base != 2 && Base != 8 && Base != 10 && Base != 16)
@@ -268,6 +279,7 @@ NTSTATUS RtlUnicodeStringToInteger(PCUNICODE_STRING String, ULONG Base, PULONG V
 
 NTSTATUS RtlInt64ToUnicodeString(ULONGLONG Value, ULONG Base, PUNICODE_STRING String)
 {
+    KZ_INSIDE();
     WCHAR made[68];
     size_t at = RTL_NUMBER_OF(made);
     Base = Base ? Base : 10;
@@ -283,11 +295,13 @@ NTSTATUS RtlInt64ToUnicodeString(ULONGLONG Value, ULONG Base, PUNICODE_STRING St
 
 NTSTATUS RtlIntegerToUnicodeString(ULONG Value, ULONG Base, PUNICODE_STRING String)
 {
+    KZ_INSIDE();
     return RtlInt64ToUnicodeString(Value, Base, String);
 }
 
 NTSTATUS RtlStringFromGUID(REFGUID Guid, PUNICODE_STRING GuidString)
 {
+    KZ_INSIDE();
     NTSTATUS status = make_room(GuidString, 38 * sizeof(WCHAR), TRUE);
     if (status == STATUS_SUCCESS)
         KzSnwprintf(GuidString->Buffer, 39, L"{%08X-%04X-%04X-%02X%02X-%02X%02X%02X%02X%02X%02X}", Guid->Data1, Guid->Data2, Guid->Data3, Guid->Data4[0],
@@ -297,6 +311,7 @@ NTSTATUS RtlStringFromGUID(REFGUID Guid, PUNICODE_STRING GuidString)
 
 NTSTATUS RtlGUIDFromString(PCUNICODE_STRING GuidString, GUID *Guid)
 {
+    KZ_INSIDE();
     unsigned bytes[11];
     char text[40] = {0};
     for (USHORT at = 0; at < GuidString->Length / sizeof(WCHAR) && at < 38; at++)
@@ -371,12 +386,14 @@ static bool matches(const WCHAR *expression, size_t left, const WCHAR *name, siz
 
 BOOLEAN FsRtlIsNameInExpression(PUNICODE_STRING Expression, PUNICODE_STRING Name, BOOLEAN IgnoreCase, PWCH UpcaseTable)
 {
+    KZ_INSIDE();
     (void)UpcaseTable;
     return matches(Expression->Buffer, Expression->Length / sizeof(WCHAR), Name->Buffer, Name->Length / sizeof(WCHAR), IgnoreCase);
 }
 
 BOOLEAN FsRtlDoesNameContainWildCards(PUNICODE_STRING Name)
 {
+    KZ_INSIDE();
     for (USHORT at = 0; at < Name->Length / sizeof(WCHAR); at++)
         if (Name->Buffer[at] && KzWcschr(L"*?<>\"", Name->Buffer[at]))
             return TRUE;

@@ -15,6 +15,7 @@ static UCHAR descriptor;
 
 NTSTATUS FltBuildDefaultSecurityDescriptor(PSECURITY_DESCRIPTOR *SecurityDescriptor, ACCESS_MASK DesiredAccess)
 {
+    KZ_INSIDE();
     (void)DesiredAccess;
     *SecurityDescriptor = &descriptor;
     return STATUS_SUCCESS;
@@ -61,6 +62,7 @@ VOID FltCloseClientPort(PFLT_FILTER Filter, PFLT_PORT *ClientPort)
 NTSTATUS FltSendMessage(PFLT_FILTER Filter, PFLT_PORT *ClientPort, PVOID SenderBuffer, ULONG SenderBufferLength, PVOID ReplyBuffer, PULONG ReplyLength,
                         PLARGE_INTEGER Timeout)
 {
+    KZ_INSIDE();
     (void)Filter, (void)ClientPort, (void)SenderBuffer, (void)SenderBufferLength, (void)ReplyBuffer, (void)ReplyLength, (void)Timeout;
     return STATUS_PORT_DISCONNECTED; /* as in the kit, where nobody is connected */
 }
@@ -113,6 +115,7 @@ NTSTATUS FltCreateFile(PFLT_FILTER Filter, PFLT_INSTANCE Instance, PHANDLE FileH
                        PIO_STATUS_BLOCK IoStatusBlock, PLARGE_INTEGER AllocationSize, ULONG FileAttributes, ULONG ShareAccess, ULONG CreateDisposition,
                        ULONG CreateOptions, PVOID EaBuffer, ULONG EaLength, ULONG Flags)
 {
+    KZ_INSIDE();
     *FileHandle = NULL;
     return none(KZM_OWN_IO, __func__);
 }
@@ -121,6 +124,7 @@ NTSTATUS FltCreateFileEx(PFLT_FILTER Filter, PFLT_INSTANCE Instance, PHANDLE Fil
                          POBJECT_ATTRIBUTES ObjectAttributes, PIO_STATUS_BLOCK IoStatusBlock, PLARGE_INTEGER AllocationSize, ULONG FileAttributes,
                          ULONG ShareAccess, ULONG CreateDisposition, ULONG CreateOptions, PVOID EaBuffer, ULONG EaLength, ULONG Flags)
 {
+    KZ_INSIDE();
     *FileHandle = NULL;
     if (FileObject)
         *FileObject = NULL;
@@ -132,6 +136,7 @@ NTSTATUS FltCreateFileEx2(PFLT_FILTER Filter, PFLT_INSTANCE Instance, PHANDLE Fi
                           ULONG ShareAccess, ULONG CreateDisposition, ULONG CreateOptions, PVOID EaBuffer, ULONG EaLength, ULONG Flags,
                           PIO_DRIVER_CREATE_CONTEXT DriverContext)
 {
+    KZ_INSIDE();
     *FileHandle = NULL;
     if (FileObject)
         *FileObject = NULL;
@@ -140,6 +145,7 @@ NTSTATUS FltCreateFileEx2(PFLT_FILTER Filter, PFLT_INSTANCE Instance, PHANDLE Fi
 
 NTSTATUS FltOpenVolume(PFLT_INSTANCE Instance, PHANDLE VolumeHandle, PFILE_OBJECT *VolumeFileObject)
 {
+    KZ_INSIDE();
     *VolumeHandle = NULL;
     if (VolumeFileObject)
         *VolumeFileObject = NULL;
@@ -148,6 +154,7 @@ NTSTATUS FltOpenVolume(PFLT_INSTANCE Instance, PHANDLE VolumeHandle, PFILE_OBJEC
 
 NTSTATUS FltClose(HANDLE FileHandle)
 {
+    KZ_INSIDE();
     return ZwClose(FileHandle);
 }
 
@@ -188,6 +195,7 @@ NONE(KZM_REPARSE, IoReplaceFileObjectName, PFILE_OBJECT FileObject, PWSTR NewFil
 
 NTSTATUS FltAllocateCallbackData(PFLT_INSTANCE Instance, PFILE_OBJECT FileObject, PFLT_CALLBACK_DATA *RetNewCallbackData)
 {
+    KZ_INSIDE();
     *RetNewCallbackData = NULL;
     return none(KZM_OWN_IO, __func__);
 }
@@ -202,6 +210,7 @@ NTSTATUS ZwCreateFile(PHANDLE FileHandle, ACCESS_MASK DesiredAccess, POBJECT_ATT
                       PLARGE_INTEGER AllocationSize, ULONG FileAttributes, ULONG ShareAccess, ULONG CreateDisposition, ULONG CreateOptions, PVOID EaBuffer,
                       ULONG EaLength)
 {
+    KZ_INSIDE();
     *FileHandle = NULL;
     return none(KZM_OWN_IO, __func__);
 }
@@ -235,6 +244,7 @@ NTSTATUS FltClearCancelCompletion(PFLT_CALLBACK_DATA CallbackData)
 NTSTATUS FltSetFileContext(PFLT_INSTANCE Instance, PFILE_OBJECT FileObject, FLT_SET_CONTEXT_OPERATION Operation, PFLT_CONTEXT NewContext,
                            PFLT_CONTEXT *OldContext)
 {
+    KZ_INSIDE();
     if (OldContext)
         *OldContext = NULL;
     return none(KZM_NO_SUCH_CONTEXTS, __func__);
@@ -242,12 +252,14 @@ NTSTATUS FltSetFileContext(PFLT_INSTANCE Instance, PFILE_OBJECT FileObject, FLT_
 
 NTSTATUS FltGetFileContext(PFLT_INSTANCE Instance, PFILE_OBJECT FileObject, PFLT_CONTEXT *Context)
 {
+    KZ_INSIDE();
     *Context = NULL;
     return none(KZM_NO_SUCH_CONTEXTS, __func__);
 }
 
 NTSTATUS FltDeleteFileContext(PFLT_INSTANCE Instance, PFILE_OBJECT FileObject, PFLT_CONTEXT *OldContext)
 {
+    KZ_INSIDE();
     if (OldContext)
         *OldContext = NULL;
     return none(KZM_NO_SUCH_CONTEXTS, __func__);
@@ -276,6 +288,7 @@ NTSTATUS FltDeleteTransactionContext(PFLT_INSTANCE Instance, PKTRANSACTION Trans
 
 NTSTATUS FltGetSectionContext(PFLT_INSTANCE Instance, PFILE_OBJECT FileObject, PFLT_CONTEXT *Context)
 {
+    KZ_INSIDE();
     *Context = NULL;
     return none(KZM_SECTION, __func__);
 }
@@ -305,6 +318,7 @@ FLT_PREOP_CALLBACK_STATUS FltOplockFsctrl(POPLOCK Oplock, PFLT_CALLBACK_DATA Cal
 
 FLT_PREOP_CALLBACK_STATUS FltCheckOplock(POPLOCK Oplock, PFLT_CALLBACK_DATA CallbackData, PVOID Context, PVOID WaitCompletionRoutine, PVOID PrePostCallback)
 {
+    KZ_INSIDE();
     nothing(KZM_OPLOCK, __func__);
     return FLT_PREOP_SUCCESS_WITH_CALLBACK;
 }
@@ -352,6 +366,7 @@ NTSTATUS FltFindExtraCreateParameter(PFLT_FILTER Filter, PVOID EcpList, const GU
 NTSTATUS PsCreateSystemThread(PHANDLE ThreadHandle, ULONG DesiredAccess, POBJECT_ATTRIBUTES ObjectAttributes, HANDLE ProcessHandle, CLIENT_ID *ClientId,
                               PKSTART_ROUTINE StartRoutine, PVOID StartContext)
 {
+    KZ_INSIDE();
     *ThreadHandle = NULL;
     return none(KZM_THREAD, __func__);
 }
@@ -360,6 +375,7 @@ NONE(KZM_THREAD, PsTerminateSystemThread, NTSTATUS ExitStatus)
 
 NTSTATUS PsSetCreateProcessNotifyRoutine(PCREATE_PROCESS_NOTIFY_ROUTINE NotifyRoutine, BOOLEAN Remove)
 {
+    KZ_INSIDE();
     if (!Remove)
         kz_tell(KZM_NOTIFY, __func__, "no process begins or ends: the routine is never called");
     return STATUS_SUCCESS;
@@ -367,6 +383,7 @@ NTSTATUS PsSetCreateProcessNotifyRoutine(PCREATE_PROCESS_NOTIFY_ROUTINE NotifyRo
 
 NTSTATUS PsSetCreateProcessNotifyRoutineEx(PCREATE_PROCESS_NOTIFY_ROUTINE_EX NotifyRoutine, BOOLEAN Remove)
 {
+    KZ_INSIDE();
     if (!Remove)
         kz_tell(KZM_NOTIFY, __func__, "no process begins or ends: the routine is never called");
     return STATUS_SUCCESS;
@@ -375,12 +392,14 @@ NTSTATUS PsSetCreateProcessNotifyRoutineEx(PCREATE_PROCESS_NOTIFY_ROUTINE_EX Not
 NTSTATUS ObOpenObjectByPointer(PVOID Object, ULONG HandleAttributes, PVOID PassedAccessState, ACCESS_MASK DesiredAccess, POBJECT_TYPE ObjectType,
                                KPROCESSOR_MODE AccessMode, PHANDLE Handle)
 {
+    KZ_INSIDE();
     *Handle = NULL;
     return none(KZM_SECURITY, __func__);
 }
 
 NTSTATUS SeLocateProcessImageName(PEPROCESS Process, PUNICODE_STRING *ImageFileName)
 {
+    KZ_INSIDE();
     *ImageFileName = NULL;
     return none(KZM_SECURITY, __func__);
 }
@@ -404,16 +423,19 @@ NEVER(PsSetLoadImageNotifyRoutine, PLOAD_IMAGE_NOTIFY_ROUTINE NotifyRoutine)
 
 NTSTATUS PsRemoveCreateThreadNotifyRoutine(PCREATE_THREAD_NOTIFY_ROUTINE NotifyRoutine)
 {
+    KZ_INSIDE();
     return STATUS_SUCCESS;
 }
 
 NTSTATUS PsRemoveLoadImageNotifyRoutine(PLOAD_IMAGE_NOTIFY_ROUTINE NotifyRoutine)
 {
+    KZ_INSIDE();
     return STATUS_SUCCESS;
 }
 
 NTSTATUS SeQueryInformationToken(PACCESS_TOKEN Token, ULONG TokenInformationClass, PVOID *TokenInformation)
 {
+    KZ_INSIDE();
     *TokenInformation = NULL;
     return none(KZM_SECURITY, __func__);
 }
@@ -438,6 +460,7 @@ PVOID FltGetRoutineAddress(PCSTR FltMgrRoutineName)
 NTSTATUS IoCreateDevice(PDRIVER_OBJECT DriverObject, ULONG DeviceExtensionSize, PUNICODE_STRING DeviceName, DEVICE_TYPE DeviceType, ULONG DeviceCharacteristics,
                         BOOLEAN Exclusive, PDEVICE_OBJECT *DeviceObject)
 {
+    KZ_INSIDE();
     kz_tell(KZM_DEVICE, __func__, "the device is made, and nobody ever opens it");
     PDEVICE_OBJECT made = ExAllocatePoolZero(NonPagedPool, sizeof *made + DeviceExtensionSize, 'iveD');
     *DeviceObject = made;
@@ -457,16 +480,19 @@ NTSTATUS IoCreateDevice(PDRIVER_OBJECT DriverObject, ULONG DeviceExtensionSize, 
 
 VOID IoDeleteDevice(PDEVICE_OBJECT DeviceObject)
 {
+    KZ_INSIDE();
     ExFreePoolWithTag(DeviceObject, 'iveD');
 }
 
 NTSTATUS IoCreateSymbolicLink(PUNICODE_STRING SymbolicLinkName, PUNICODE_STRING DeviceName)
 {
+    KZ_INSIDE();
     return STATUS_SUCCESS;
 }
 
 NTSTATUS IoDeleteSymbolicLink(PUNICODE_STRING SymbolicLinkName)
 {
+    KZ_INSIDE();
     return STATUS_SUCCESS;
 }
 
@@ -478,6 +504,7 @@ BOOLEAN IoIs32bitProcess(PIRP Irp)
 /* The manager's own requests, made by a driver. */
 NTSTATUS FltAttachVolume(PFLT_FILTER Filter, PFLT_VOLUME Volume, PCUNICODE_STRING InstanceName, PFLT_INSTANCE *RetInstance)
 {
+    KZ_INSIDE();
     if (RetInstance)
         *RetInstance = NULL;
     return none(KZM_ATTACH, __func__);
@@ -485,6 +512,7 @@ NTSTATUS FltAttachVolume(PFLT_FILTER Filter, PFLT_VOLUME Volume, PCUNICODE_STRIN
 
 NTSTATUS FltAttachVolumeAtAltitude(PFLT_FILTER Filter, PFLT_VOLUME Volume, PCUNICODE_STRING Altitude, PCUNICODE_STRING InstanceName, PFLT_INSTANCE *RetInstance)
 {
+    KZ_INSIDE();
     if (RetInstance)
         *RetInstance = NULL;
     return none(KZM_ATTACH, __func__);

@@ -342,6 +342,7 @@ static int compare_altitudes(const char *a, const char *b)
 
 LONG FltCompareInstanceAltitudes(PFLT_INSTANCE Instance1, PFLT_INSTANCE Instance2)
 {
+    KZ_INSIDE();
     return compare_altitudes(Instance1->altitude, Instance2->altitude);
 }
 

@@ -160,6 +160,7 @@ static void run(PFLT_GENERIC_WORKITEM item)
     uint64_t process = kz_me->process, thread = kz_me->thread;
     uint8_t worker = kz_helper();
     KzPlace before = kz_enter(KZ_IN_WORK, worker, item->filter, instance, NULL, NULL);
+    kz_call_at(PASSIVE_LEVEL);
     bool is_inside = instance && kz_enter_query(instance, worker);
     kz_me->process = 4;
     kz_me->thread = 8;

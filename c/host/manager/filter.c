@@ -34,23 +34,23 @@ static uint16_t mask_of(UCHAR major)
 {
     switch (major) {
     case IRP_MJ_CREATE:
-        return 1;
+        return KZ_MASK_CREATE;
     case IRP_MJ_READ:
-        return 2;
+        return KZ_MASK_READ;
     case IRP_MJ_WRITE:
-        return 4;
+        return KZ_MASK_WRITE;
     case IRP_MJ_QUERY_INFORMATION:
-        return 8;
+        return KZ_MASK_QUERY_SIZE;
     case IRP_MJ_SET_INFORMATION:
-        return 16 + 128;
+        return KZ_MASK_SET_SIZE | KZ_MASK_SET_DELETE;
     case IRP_MJ_FLUSH_BUFFERS:
-        return 32;
+        return KZ_MASK_FLUSH;
     case IRP_MJ_DIRECTORY_CONTROL:
-        return 64;
+        return KZ_MASK_LIST;
     case IRP_MJ_CLEANUP:
-        return 256;
+        return KZ_MASK_CLEANUP;
     case IRP_MJ_CLOSE:
-        return 512;
+        return KZ_MASK_CLOSE;
     default:
         return 0;
     }

@@ -179,19 +179,27 @@ static void enter_flight(KzOp *op, PFLT_INSTANCE instance)
 {
     instance->in_flight++;
     if (op->owed_count < KZ_OWED)
-        op->owed[op->owed_count++] = instance;
+        op->owed[op->owed_count++] = (KzOwed){instance, false};
 }
 
 void kz_leave_flight(KzOp *op, PFLT_INSTANCE instance)
 {
     instance->in_flight--;
     for (unsigned at = 0; at < op->owed_count; at++)
-        if (op->owed[at] == instance) {
+        if (op->owed[at].instance == instance) {
             op->owed[at] = op->owed[--op->owed_count];
             break;
         }
     kz.changes++;
     kz_scheduler->touch(&instance->in_flight, 0, KZT_GIVES);
+}
+
+static KzOwed *owed_to(KzOp *op, PFLT_INSTANCE instance)
+{
+    for (unsigned at = 0; at < op->owed_count; at++)
+        if (op->owed[at].instance == instance)
+            return &op->owed[at];
+    return NULL;
 }
 
 static void pre(KzOp *op, PFLT_INSTANCE instance)
@@ -202,6 +210,8 @@ static void pre(KzOp *op, PFLT_INSTANCE instance)
     kz_show_pre(op, instance);
     FLT_PREOP_CALLBACK_STATUS said = ask_pre(op, instance, &completion);
     KazdrinEvent verdict = kz_verdict_of(op, instance, said, completion);
+    if (verdict.mode == KZV_SYNCHRONIZE && owed_to(op, instance))
+        owed_to(op, instance)->is_synchronized = true;
     kz_scheduler->touch(&op->users, 0, KZT_GIVES); /* what it sends along may be drained by another client */
     kz_keep_rest(&verdict);
     kz_leave(before);
@@ -215,9 +225,62 @@ static void pre(KzOp *op, PFLT_INSTANCE instance)
 }
 
 /* ---- A postoperation, and a drain in its place. */
+static int at_dispatch = KZ_DISPATCH_DATA;
+
+void kz_dispatch(int which)
+{
+    at_dispatch = which;
+}
+
+bool kz_dispatch_as(const char *word)
+{
+    static const char *const words[] = {"none", "data", "all"};
+    for (int at = 0; at < 3; at++)
+        if (strcmp(words[at], word) == 0) {
+            kz_dispatch(at);
+            return true;
+        }
+    return false;
+}
+
+/* What a device answers may come up at DISPATCH_LEVEL, as far as nobody had it wait, and up to an instance that synchronizes. The kit has creates, cleanups and closes at PASSIVE_LEVEL. */
+static KIRQL irql_of(KzOp *op, PFLT_INSTANCE instance)
+{
+    const KzOwed *owed = owed_to(op, instance);
+    bool is_data = op->event == KZE_READ || op->event == KZE_WRITE, is_fixed = op->event == KZE_CREATE || op->event == KZE_CLEANUP || op->event == KZE_CLOSE;
+    if (owed && owed->is_synchronized)
+        op->comes_from_device = false;
+    if (!op->comes_from_device || is_fixed || at_dispatch == KZ_DISPATCH_NONE)
+        return PASSIVE_LEVEL;
+    return is_data || at_dispatch == KZ_DISPATCH_ALL ? DISPATCH_LEVEL : PASSIVE_LEVEL;
+}
+
+/* The callback that a postoperation put off runs in the system's process, as soon as that has returned: what it returns is the postoperation's verdict. */
+static FLT_POSTOP_CALLBACK_STATUS call_when_safe(KzOp *op, const FLT_RELATED_OBJECTS *objects, FLT_POSTOP_CALLBACK_STATUS said)
+{
+    KzSafe safe = op->safe;
+    uint64_t process = kz_me->process, thread = kz_me->thread;
+    op->safe = (KzSafe){0};
+    if (said != FLT_POSTOP_MORE_PROCESSING_REQUIRED)
+        kz_tell(KZM_COMPLETED_TWICE, "FltDoCompletionProcessingWhenSafe", "put a callback off, and the postoperation doesn't return FLT_POSTOP_MORE_PROCESSING_REQUIRED: both complete the operation");
+    kz_tell_locks();
+    kz_call_at(PASSIVE_LEVEL);
+    op->comes_from_device = false;
+    op->stage = KZ_IN_POSTOPERATION;
+    kz_me->process = 4;
+    kz_me->thread = 8;
+    unsigned depth = kz_let_driver("postoperation when safe");
+    said = safe.callback(op->data, objects, safe.completion, safe.flags);
+    kz_driver_returned(depth, "postoperation when safe returns");
+    kz_me->process = process;
+    kz_me->thread = thread;
+    return said;
+}
+
 static void post(KzOp *op, PFLT_INSTANCE instance, PVOID completion)
 {
     KzPlace before = kz_enter(KZ_IN_POST, kz_worker(), instance->filter, instance, op, op->data);
+    kz_call_at(irql_of(op, instance));
     kz_show_post(op, instance);
     if (op->event == KZE_CREATE && NT_SUCCESS(op->data->IoStatus.Status))
         kz_file_opened(op->file);
@@ -227,6 +290,8 @@ static void post(KzOp *op, PFLT_INSTANCE instance, PVOID completion)
     unsigned depth = kz_let_driver("postoperation");
     FLT_POSTOP_CALLBACK_STATUS said = callback(op->data, &objects, completion, 0);
     kz_driver_returned(depth, "postoperation returns");
+    if (op->safe.callback)
+        said = call_when_safe(op, &objects, said);
     bool is_completed = op->stage == KZ_COMPLETED_IN_POST;
     op->stage = KZ_GOES_ON;
     kz_take_post(op);
@@ -301,6 +366,7 @@ static void call_base(KzOp *op)
     bool is_failed = op->event != KZE_CLEANUP && op->event != KZE_CLOSE && kz_refuses(KZ_CHOICE_DEVICE, "the device");
     if (is_failed && kazdrin_based(&kz.manager, &event, (const uint8_t *)"", 0) == KZS_OK)
         return;
+    op->comes_from_device = true;
     if (!kz_call_base_folder(event.worker))
         kazdrin_base(&kz.manager, &event);
 }

@@ -38,7 +38,7 @@ static bool begins(List *list)
 static bool is_owed(const KzOp *op, PFLT_INSTANCE instance)
 {
     for (unsigned at = 0; at < op->owed_count; at++)
-        if (op->owed[at] == instance)
+        if (op->owed[at].instance == instance)
             return true;
     return false;
 }

@@ -14,7 +14,6 @@ void kz_new_client(KzClient *client, const char *name, unsigned number)
     client->process = 100;
     client->thread = 104 + 4 * number;
     client->top_level = NULL;
-    client->raised = PASSIVE_LEVEL;
     client->inside = 0;
     client->number = number;
     client->timeout = 0;
@@ -25,18 +24,22 @@ void kz_new_client(KzClient *client, const char *name, unsigned number)
     client->waits[0] = 0;
 }
 
-unsigned kz_go_inside(void)
+/* A driver's own call is looked at: whether it may be made at that IRQL. */
+unsigned kz_go_inside(const char *name)
 {
-    if (kz_me->inside == 0)
-        kz_scheduler->lock();
-    return kz_me->inside++;
+    if (kz_me->inside > 0)
+        return kz_me->inside++;
+    kz_scheduler->lock();
+    kz_me->inside = 1;
+    kz_check_irql(name);
+    return 0;
 }
 
 unsigned kz_begin_call(const char *name, const void *from)
 {
     if (kz_me->inside == 0)
         kz_scheduler->point(name, from);
-    return kz_go_inside();
+    return kz_go_inside(name);
 }
 
 void kz_end_call(unsigned *depth)

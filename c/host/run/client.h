@@ -12,7 +12,6 @@ struct KzClient {
     uint64_t busy_number;  /* how many were in its way */
     uint64_t process, thread; /* who asks */
     PIRP top_level;
-    KIRQL raised;
     int region;      /* stands for its critical region */
     unsigned inside; /* how many calls of the host it is in; 0 in a driver's code */
     unsigned number;
@@ -65,11 +64,11 @@ extern const KzScheduler *kz_scheduler;
 
 /* ---- Calls of the host. The outermost one has a point before it, or none where no other client can tell. */
 unsigned kz_begin_call(const char *name, const void *from);
-unsigned kz_go_inside(void);
+unsigned kz_go_inside(const char *name);
 void kz_end_call(unsigned *depth);
 #define KZ_CALL_OF(name) __attribute__((cleanup(kz_end_call), unused)) unsigned kz_depth = kz_begin_call((name), __builtin_return_address(0))
 #define KZ_CALL() KZ_CALL_OF(__func__)
-#define KZ_INSIDE() __attribute__((cleanup(kz_end_call), unused)) unsigned kz_depth = kz_go_inside()
+#define KZ_INSIDE() __attribute__((cleanup(kz_end_call), unused)) unsigned kz_depth = kz_go_inside(__func__)
 
 /* A driver's code begins, and has returned: nobody is inside meanwhile. */
 unsigned kz_let_driver(const char *name);

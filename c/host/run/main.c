@@ -19,7 +19,7 @@ typedef struct {
 
 static int usage(const char *name)
 {
-    fprintf(stderr, "usage: %s [--allow KZ0000].. [--strict] [--quiet] [--json] [--junit FILE] [--folder FOLDER] [REQUESTS.. | --load SCENARIO [--threads N] [--seconds S] [--seed N]]\n", name);
+    fprintf(stderr, "usage: %s [--allow KZ0000].. [--strict] [--quiet] [--json] [--junit FILE] [--folder FOLDER] [--dispatch none|data|all] [REQUESTS.. | --load SCENARIO [--threads N] [--seconds S] [--seed N]]\n", name);
     return 2;
 }
 
@@ -39,6 +39,8 @@ static bool read_pair(const char *word, const char *value, Asked *asked)
         asked->junit = value;
     else if (strcmp(word, "--folder") == 0)
         asked->folder = value;
+    else if (strcmp(word, "--dispatch") == 0)
+        return kz_dispatch_as(value);
     else
         return strcmp(word, "--allow") == 0 && kz_allow(value);
     return !*end;

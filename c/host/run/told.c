@@ -40,12 +40,18 @@ KzPlace kz_enter(KzCallback callback, uint8_t worker, PFLT_FILTER filter, PFLT_I
 {
     KzPlace before = kz_me->place;
     kz_note_callback(callback, filter);
-    kz_me->place = (KzPlace){callback, filter, instance, op, op ? op->id : 0, data, ++kz_me->places, before.depth + 1, worker};
+    kz_me->place = (KzPlace){callback, filter, instance, op, op ? op->id : 0, data, ++kz_me->places, before.depth + 1, worker, before.irql, before.raised, before.locks_from};
     if (filter)
         kz_scheduler->touch(&filter->is_started, 0, KZT_TAKES);
     if (instance)
         kz_scheduler->touch(&instance->id, 0, KZT_TAKES);
     return before;
+}
+
+void kz_call_at(KIRQL irql)
+{
+    kz_me->place.irql = kz_me->place.raised = irql;
+    kz_me->place.locks_from = kz_me->place.number;
 }
 
 /* Back to where something began that is told only now. Its operation may be gone: its number is there. */

@@ -2,6 +2,7 @@
 # c/tests/scripts/check.sh [PART ..] (make -C c check PART='..') : the tests of the C half, all or those of some parts:
 #
 #   host      the host: stored requests through drivers, expectations, reports, CMake, random requests
+#   legal     right drivers, of which nothing is told: in order, under every schedule, by threads
 #   explore   schedules
 #   threads   drivers under real threads
 #   order     the lists that all managers are held to
@@ -23,7 +24,7 @@ if [ -z "${KAZDRIN_LIB:-}" ]; then
     [ -f "$KAZDRIN_LIB" ] || KAZDRIN_LIB=$("$here/../../archive.sh" --unproved) || exit 1
     export KAZDRIN_LIB
 fi
-[ $# -gt 0 ] || set -- host explore threads order mount serve
+[ $# -gt 0 ] || set -- host legal explore threads order mount serve
 passed=0
 failed=0
 report=$(mktemp)

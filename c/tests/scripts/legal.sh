@@ -1,0 +1,26 @@
+#!/usr/bin/env bash
+# Right drivers: nothing is told of those in c/tests/legal, in order, under every schedule of a scenario with at most one preemption, and by threads. Requests and a scenario of a driver's own
+# stand beside it (NAME.txt, NAME.scenario); else it gets those of all samples.
+set -u
+. "$(dirname "$0")/tally.sh" legal
+for driver in $tests/legal/*.c; do
+    name=$(basename "$driver" .c)
+    requests=$tests/legal/$name.txt
+    scenario=$tests/legal/$name.scenario
+    [ -f "$requests" ] || requests=$tests/legal/any.requests
+    [ -f "$scenario" ] || scenario=$tests/scenarios/four-clients.txt
+    sed "s/DRIVER/$name/" "$requests" > "$room/requests"
+    sed "s/DRIVER/$name/" "$scenario" > "$room/scenario"
+    sed "s/DRIVER/$name/" $tests/scenarios/load.txt > "$room/load"
+    [ ! -f "$tests/legal/$name.scenario" ] || cp "$room/scenario" "$room/load"
+    build "$name" "$room/$name" "$driver"
+    "$room/$name" "$room/requests" > "$room/out" || { cat "$room/out"; false; }
+    tell $? "$name in order"
+    look "$name" "$room/$name" "$room/requests"
+    "$room/$name" --load "$room/load" --threads 4 --seconds 1 > "$room/out" 2>&1 || { cat "$room/out"; false; }
+    tell $? "$name by threads"
+    build "$name" --explore "$room/$name.explore" "$driver"
+    "$room/$name.explore" --bound 1 "$room/scenario" > "$room/out" || { cat "$room/out"; false; }
+    tell $? "$name under every schedule"
+done
+finish

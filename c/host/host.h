@@ -309,6 +309,7 @@ void kz_tick(void);
 void kz_pass(uint64_t milliseconds);
 bool kz_run_dpc(void);
 bool kz_has_dpc(void);
+bool kz_has_timer(void);
 void kz_forget_timers(PFLT_FILTER filter);
 void kz_free_clock(void);
 
@@ -394,6 +395,7 @@ void kz_pass_reply(KzReply reply, const uint8_t *bytes, size_t length);
 
 bool kz_drain_next(PFLT_INSTANCE instance);
 bool kz_is_held(const KzOp *op);
+bool kz_is_anybody_left(void);
 FLT_RELATED_OBJECTS kz_objects(PFLT_INSTANCE instance, KzFile *file);
 KzOp *kz_op_with(PFLT_CALLBACK_DATA data);
 void kz_tell_held(void);

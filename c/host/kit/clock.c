@@ -126,6 +126,11 @@ bool kz_has_dpc(void)
     return dpcs_count > 0;
 }
 
+bool kz_has_timer(void)
+{
+    return timers_count > 0;
+}
+
 bool kz_run_dpc(void)
 {
     if (!dpcs_count)

@@ -453,15 +453,25 @@ VOID ExReleaseRundownProtection(PEX_RUNDOWN_REF RunRef)
         RunRef->Count -= 2;
 }
 
+static bool is_run_down(void *reference)
+{
+    return ((PEX_RUNDOWN_REF)reference)->Count <= 1;
+}
+
 VOID ExWaitForRundownProtectionRelease(PEX_RUNDOWN_REF RunRef)
 {
     KZ_CALL();
-    in_order_of(RunRef);
+    unsigned long long inside = RunRef->Count / 2;
     RunRef->Count |= 1;
-    while (RunRef->Count > 1 && kz_work())
+    in_order_of(RunRef);
+    while (RunRef->Count > 1 && !kz_has_others() && (kz_run_dpc() || kz_work()))
         ;
-    if (RunRef->Count > 1)
+    kz_wait(is_run_down, RunRef, "ExWaitForRundownProtectionRelease, while %llu are inside", inside);
+    in_order_of(RunRef);
+    if (RunRef->Count > 1 && kz_is_anybody_left())
         kz_tell(KZM_NOBODY_SETS, __func__, "%llu are inside, and nobody else runs here: it doesn't wait", (unsigned long long)(RunRef->Count / 2));
+    else if (RunRef->Count > 1)
+        kz_tell(KZM_WAITS_FOR_EVER, __func__, "%llu are inside, and nobody is left who would let go: it would wait for ever", (unsigned long long)(RunRef->Count / 2));
 }
 
 VOID ExRundownCompleted(PEX_RUNDOWN_REF RunRef)

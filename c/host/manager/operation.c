@@ -419,6 +419,18 @@ bool kz_is_held(const KzOp *op)
     return op->stage == KZ_HELD_BY_PRE || op->stage == KZ_HELD_BY_POST;
 }
 
+/* Whether anything but the callback that runs could come to an end: an operation, an open file, a timer. */
+bool kz_is_anybody_left(void)
+{
+    for (const KzOp *op = kz.ops; op; op = op->next)
+        if (op != kz_me->place.op)
+            return true;
+    for (const KzFile *file = kz.files; file; file = file->next)
+        if (file->has_handle)
+            return true;
+    return kz_has_timer();
+}
+
 static bool is_resumed(void *op)
 {
     return ((KzOp *)op)->stage == KZ_RESUMED;

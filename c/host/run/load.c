@@ -18,7 +18,8 @@ typedef struct {
     bool has_ended; /* under the host's mutex */
 } Thread;
 
-static Thread threads[THREADS + 1]; /* by the client's number, from 1 on */
+static Thread threads[THREADS + 1]; /* by the client's number, from 1 on: those of the load, one for work items, and one for the scenario's last requests */
+static bool is_finally_there, is_finally_over;
 static KzScenario scenario;
 static bool is_time; /* that no round begins any more */
 
@@ -83,11 +84,11 @@ static void *work_on(void *given)
     return NULL;
 }
 
-static void start(unsigned number, const KzScript *script, void *(*life)(void *))
+static void start(unsigned number, const char *name, const KzScript *script, void *(*life)(void *))
 {
     Thread *one = &threads[number];
     *one = (Thread){.script = script};
-    snprintf(one->name, sizeof one->name, script ? "%s-%u" : "%s", script ? script->name : "work", number);
+    snprintf(one->name, sizeof one->name, script ? "%s-%u" : "%s", script ? script->name : name, number);
     kz_new_client(&one->client, one->name, number);
     pthread_create(&one->thread, NULL, life, one);
 }
@@ -109,12 +110,27 @@ static bool have_ended(unsigned count)
     return true;
 }
 
-static void play_finally(void)
+static void *live_finally(void *given)
 {
-    uint64_t handle = 0;
+    Thread *me = given;
+    kz_me = &me->client;
     for (size_t at = 0; at < scenario.clients_count; at++)
         for (size_t line = 0; scenario.clients[at].is_finally && line < scenario.clients[at].count; line++)
-            kz_scripted_request(scenario.clients[at].requests[line], &handle);
+            kz_scripted_request(scenario.clients[at].requests[line], &me->handle);
+    __atomic_store_n(&is_finally_over, true, __ATOMIC_RELEASE);
+    return NULL;
+}
+
+/* By a client of its own, which waits as others do. Once it is through it may be needed again. */
+static void play_finally(unsigned number)
+{
+    if (is_finally_there && !__atomic_load_n(&is_finally_over, __ATOMIC_ACQUIRE))
+        return;
+    if (is_finally_there)
+        pthread_join(threads[number].thread, NULL);
+    is_finally_there = true;
+    is_finally_over = false;
+    start(number, "finally", NULL, live_finally);
 }
 
 static void tell_stuck(unsigned count)
@@ -139,7 +155,7 @@ static bool watch(unsigned count, double seconds)
         moved = moves == last ? moved : now();
         last = moves;
         if (now() - moved > 0.5 && is_time)
-            play_finally();
+            play_finally(count + 2);
         if (now() - moved > STILL)
             return false;
     }
@@ -171,7 +187,7 @@ int kz_run_load(const KzDriver *drivers, size_t drivers_count, const char *path,
     int status = kz_read_scenario(path, &scenario);
     if (status || !script_of(1))
         return status ? status : 2;
-    count = count < 1 ? 1 : count > THREADS - 1 ? THREADS - 1 : count;
+    count = count < 1 ? 1 : count > THREADS - 2 ? THREADS - 2 : count;
     kz_is_quiet = 1;
     if (kz_open(drivers, drivers_count) != 0)
         return 1;
@@ -179,16 +195,17 @@ int kz_run_load(const KzDriver *drivers, size_t drivers_count, const char *path,
         kz_request(scenario.setup[at]);
     kz_use_threads(seed);
     for (unsigned number = 1; number <= count; number++)
-        start(number, script_of(number), live);
-    start(count + 1, NULL, work_on);
+        start(number, NULL, script_of(number), live);
+    start(count + 1, "work", NULL, work_on);
     if (!watch(count, seconds)) {
         tell_stuck(count);
         fflush(stdout);
         _exit(6);
     }
     kz_end_waits();
-    for (unsigned number = 1; number <= count + 1; number++)
+    for (unsigned number = 1; number <= count + 1 + is_finally_there; number++)
         pthread_join(threads[number].thread, NULL);
+    is_finally_there = false;
     report(count, seconds);
     kz_scheduler = &kz_in_order;
     kz_is_quiet = 0;

@@ -1,14 +1,16 @@
 -- The turns of a `go`, one after the other.
 use Rattle.std.proofs.Common.{◌≡◌, List, [], ◌∷◌, ◌++◌, Result, Ok, Option, Some, None, refl, sym, subst}
-use Rattle.std.specs.Prelude.{IfNone, IfSome}
 use Rattle.fm_script.specs.Words.{InstanceId, Completion, OpId, WorkerId, Status, Answer, PreVerdict, Given, Task}
 use Rattle.fm_data.specs.declared.verdict.PreVerdict.TheVariants.{WithCallback}
 use Rattle.fm_session.specs.declared.lent.Given.TheVariants as given
 use Rattle.fm_data.specs.declared.verdict.PostVerdict.TheVariants.{Finished}
+use Rattle.fm_core.specs.Passing.{numbered}
+use Rattle.fm_core.specs.declared.passing.Passed.{Passed}
+use Rattle.fm_core.specs.declared.passing.Passed.TheVariants as passed
 use Rattle.fm_world.specs.Events.{Collects}
 use Rattle.fm_world.specs.declared.step.Step.TheVariants as step
 use Rattle.fm_world.specs.declared.step.StepReply.TheVariants as reply
-use Rattle.fm_session.specs.Sessions.{Lending, LendsNext, LentBaseReturns, LentPassesDown, LentPassesUp, LentPostReturns, LentPreReturns}
+use Rattle.fm_session.specs.Sessions.{Lending, LendsNext, LentBaseReturns, LentPasses, LentPassesDown, LentPassesUp, LentPostReturns, LentPreReturns}
 use Rattle.fm_script.specs.Devices.{Calls}
 use Rattle.fm_script.specs.Runs.{Acts, BySession, Goes, IsTurn, KeepsLists, Turns}
 use Rattle.fm_script.specs.declared.interpreter.Interpreter.{Interpreter}
@@ -56,7 +58,7 @@ goes_collect k o r old new event lent rest =
 
 -- ---- two at once
 
-pub goes_down : (k : WorkerId) (o : OpId) (i : InstanceId) (completion : Completion) (old new : Interpreter)
+goes_down : (k : WorkerId) (o : OpId) (i : InstanceId) (completion : Completion) (old new : Interpreter)
     → LentPassesDown old.session k o i completion new.session → BySession old new → Goes k o old new
 goes_down k o i completion old new (mid, nexts, returns) rest =
     let between : Interpreter = record old { session = mid } in
@@ -69,7 +71,8 @@ goes_up k o i old new (completion, mid, nexts, returns) rest =
     goes_then k o old between new (goes_next k o (Ok (given.Post i completion)) old between nexts (refl, record { plans = refl; contexts = refl }))
     (goes_post k o (Ok tt) between new returns (rest.0, record { plans = rest.1.plans; contexts = rest.1.contexts }))
 
-pub goes_up_or : (k : WorkerId) (o : OpId) (m : Option InstanceId) (old : Interpreter) (s : Lending) → IfSome m (λ i. LentPassesUp old.session k o i s) → IfNone m (s ≡ old.session)
+pub goes_pass : (k : WorkerId) (o : OpId) (plans : List PreVerdict) (m : Option Passed) (old : Interpreter) (s : Lending) → LentPasses old.session k o plans m s
     → Goes k o old (record old { session = s })
-goes_up_or k o None old s some none = subst (λ (x : Lending). Goes k o old (record old { session = x })) (sym none) (goes_none k o old)
-goes_up_or k o (Some i) old s some none = goes_up k o i old (record old { session = s }) some (refl, record { plans = refl; contexts = refl })
+goes_pass k o plans None old s same = subst (λ (x : Lending). Goes k o old (record old { session = x })) (sym same) (goes_none k o old)
+goes_pass k o plans (Some (passed.Down i n)) old s (answer, event) = goes_down k o i (numbered n) old (record old { session = s }) event (refl, record { plans = refl; contexts = refl })
+goes_pass k o plans (Some (passed.Up i)) old s event = goes_up k o i old (record old { session = s }) event (refl, record { plans = refl; contexts = refl })

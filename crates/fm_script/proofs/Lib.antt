@@ -1,5 +1,6 @@
 pub mod Lengths
 pub mod Kept
+pub mod Passed
 pub mod Going
 pub mod Running
 pub mod Rows

@@ -11,6 +11,7 @@ pub mod Ids
 pub mod Tasks
 pub mod Sayings
 pub mod Printing
+pub mod Passed
 pub mod Reading
 pub mod Runs
 pub mod Lines

@@ -1,12 +1,19 @@
 //! Where a script prints: lines are held back until there are enough of them, or until it is flushed.
 
-ghost use Rattle.std.specs.Prelude.{◌≡◌, ◌<◌, [], IfErr, length, vec_capacity};
-ghost use Rattle.fm_script.specs.Printing.{Changes, HandsOver, Says, printed};
+ghost use Rattle.std.specs.Prelude.{◌≡◌, ◌<◌, ◌++◌, [], IfErr, IfOk, OnErr, length, vec_capacity};
+ghost use Rattle.fm_core.specs.Passing.{numbered};
+ghost use Rattle.fm_data.specs.declared.verdict.PreVerdict.TheVariants as PreVerdict;
+ghost use Rattle.fm_script.specs.Printing.{Changes, HandsOver, Holds, Says, printed};
+ghost use Rattle.fm_script.specs.Passed.{down_text, up_text};
 ghost use Rattle.fm_script.specs.Sayings.{text_with};
+ghost use Rattle.fm_script.specs.declared.said.Said.TheVariants as SaidOf;
+ghost use Rattle.fm_script.specs.declared.said.Word.TheVariants as WordOf;
 
+use crate::passed_lines::PassedLines;
 use crate::said::Said;
 use crate::script_end::ScriptEnd;
-use std::alloc::Global;
+use fm_types::InstanceId;
+use std::alloc::{AllocError, Global};
 use std::io::Write;
 use std::mem;
 
@@ -18,6 +25,7 @@ const HELD: usize = 8192;
 pub struct Output<W: Write + Drop> {
     text: Vec<u8>,
     writer: W,
+    passed: PassedLines,
 }
 
 impl<W: Write + Drop> Output<W> {
@@ -28,6 +36,7 @@ impl<W: Write + Drop> Output<W> {
         Output {
             text: Vec::new(alloc),
             writer,
+            passed: PassedLines::new(alloc),
         }
     }
 
@@ -39,6 +48,52 @@ impl<W: Write + Drop> Output<W> {
         ensures full { IfErr result (λ end. end ≡ ScriptEnd.NoMemory → vec_capacity self.old.text < length (text_with self.old.text.items line.now)) }
     {
         line.print(&mut self.text).map_err(|_| ScriptEnd::NoMemory)?;
+        self.hand_on()
+    }
+
+    /// Prints the line for a preoperation that asks for its postoperation, as `say` does.
+    pub fn say_down(&mut self, instance: InstanceId, number: u64) -> Result<(), ScriptEnd>
+        ensures { Says (SaidOf.Answered instance.0 (PreVerdict.WithCallback (numbered number))) result (printed W.contents self.old) (printed W.contents self.new) }
+    {
+        if let Ok(()) = self.append_down(instance) {
+            return self.hand_on();
+        }
+        self.say(&Said::asks(instance, number))
+    }
+
+    /// Prints the line for a postoperation, as `say` does.
+    pub fn say_up(&mut self, instance: InstanceId) -> Result<(), ScriptEnd>
+        ensures { Says (SaidOf.Id WordOf.Post 105 instance.0) result (printed W.contents self.old) (printed W.contents self.new) }
+    {
+        if let Ok(()) = self.append_up(instance) {
+            return self.hand_on();
+        }
+        self.say(&Said::returns(instance))
+    }
+
+    // Appends the line for a preoperation that asks for its postoperation. The error says that memory was refused, and nothing is appended.
+    fn append_down(&mut self, instance: InstanceId) -> Result<(), AllocError>
+        ensures ok { IfOk result (λ _. printed W.contents self.new ≡ record (printed W.contents self.old) { held = self.old.text.items ++ down_text instance.0 }) }
+        ensures err { OnErr result (printed W.contents self.new ≡ printed W.contents self.old) }
+    {
+        self.passed.make(instance)?;
+        self.passed.down(instance).append(&mut self.text)
+    }
+
+    // The same for a postoperation.
+    fn append_up(&mut self, instance: InstanceId) -> Result<(), AllocError>
+        ensures ok { IfOk result (λ _. printed W.contents self.new ≡ record (printed W.contents self.old) { held = self.old.text.items ++ up_text instance.0 }) }
+        ensures err { OnErr result (printed W.contents self.new ≡ printed W.contents self.old) }
+    {
+        self.passed.make(instance)?;
+        self.passed.up(instance).append(&mut self.text)
+    }
+
+    // All that is held back goes to the writer once that is 8,192 bytes or more.
+    fn hand_on(&mut self) -> Result<(), ScriptEnd>
+        ensures holds { Holds self.old.text.items result (printed W.contents self.old) (printed W.contents self.new) }
+        ensures fault { IfErr result (λ end. end ≡ ScriptEnd.WriteFault) }
+    {
         if self.text.len() >= HELD {
             self.write()?;
         }

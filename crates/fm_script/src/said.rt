@@ -1,6 +1,7 @@
 //! The lines that a script prints: which one for which answer, and the bytes of each.
 
 ghost use Rattle.std.specs.Prelude.{◌≡◌, ◌≤◌, ◌<◌, ◌++◌, ◌∷◌, [], IfErr, IfOk, decimal, length, vec_capacity};
+ghost use Rattle.fm_core.specs.Passing.{numbered};
 ghost use Rattle.fm_script.specs.Sayings.{phase_word, refused_text, reply_text, said_context, said_count, said_done, said_drained, said_dropped, said_due, said_given, said_held, said_new, said_of, said_old, said_phase, said_set, text_with, verdict_text, word_text};
 ghost use Rattle.fm_script.specs.declared.said.Said.TheVariants as SaidOf;
 ghost use Rattle.fm_script.specs.declared.said.Word.TheVariants as WordOf;
@@ -310,6 +311,24 @@ impl Word {
 }
 
 impl Said {
+    /// The line for a preoperation that asks for its postoperation, and hands on a number alone.
+    pub fn asks(instance: InstanceId, number: u64) -> Said
+        ensures { result ≡ SaidOf.Answered instance.0 (PreVerdict.WithCallback (numbered number)) }
+    {
+        let completion = Completion {
+            number,
+            context: None,
+        };
+        Said::Answered(u64::from(instance.0), PreVerdict::WithCallback(completion))
+    }
+
+    /// The line for a postoperation that returns.
+    pub fn returns(instance: InstanceId) -> Said
+        ensures { result ≡ SaidOf.Id WordOf.Post 105 instance.0 }
+    {
+        Said::Id(Word::Post, b'i', u64::from(instance.0))
+    }
+
     /// Appends the line, with its line feed. It fails if there is no memory for it, and never if there is room for it already; then the text may end with a
     /// beginning of the line.
     pub fn print(&self, text: &mut Vec<u8>) -> Result<(), AllocError>

@@ -1,20 +1,20 @@
 //! The turns of the command `go`: a worker takes one step of an operation, and answers it.
 
-ghost use Rattle.std.specs.Prelude.{◌≡◌, IfSome};
-ghost use Rattle.fm_core.specs.Passing.{numbered};
 ghost use Rattle.fm_script.specs.Runs.{Goes};
 
 use super::Interpreter;
 use crate::said::{Said, Word, said_given};
 use crate::script_end::ScriptEnd;
 use crate::sink::Sink;
-use fm_data::{Completion, PostVerdict, PreVerdict};
+use fm_core::Passed;
+use fm_data::{PostVerdict, PreVerdict};
 use fm_session::Given;
 use fm_types::limits::TURNS;
 use fm_types::{InstanceId, OpId, Status, WorkerId};
 
 impl Interpreter {
     /// A worker takes the operation's steps, and answers each, until the operation is held or done. It tells each step.
+    #[inline(never)]
     #[tactic(auto, using(crate::proofs::Going::goes_then, crate::proofs::Going::goes_none))]
     pub fn go<S: Sink>(
         &mut self,
@@ -44,15 +44,17 @@ impl Interpreter {
     ) -> Result<bool, ScriptEnd>
         ensures { Goes worker operation self.old self.new }
     {
-        if let Some((instance, verdict)) = self.pass_down(worker, operation) {
-            return say_answered(sink, instance, verdict, Ok(()));
+        match self.pass(worker, operation) {
+            Some(Passed::Down(instance, number)) => sink.tell_down(instance, number)?,
+            Some(Passed::Up(instance)) => sink.tell_up(instance)?,
+            None => return self.step(worker, operation, sink),
         }
-        self.climb(worker, operation, sink)
+        Ok(true)
     }
 
-    // The same of one that passes no instance on its way down: it passes one on its way up, or takes its next step.
-    #[tactic(auto, using(crate::proofs::Going::goes_then))]
-    fn climb<S: Sink>(
+    // The same of one that passes no instance in one event.
+    #[inline(never)]
+    fn step<S: Sink>(
         &mut self,
         worker: WorkerId,
         operation: OpId,
@@ -60,29 +62,15 @@ impl Interpreter {
     ) -> Result<bool, ScriptEnd>
         ensures { Goes worker operation self.old self.new }
     {
-        if let Some(instance) = self.pass_up(worker, operation) {
-            return say_back(sink, Word::Post, instance, Ok(()));
-        }
         let given = self.next(worker, operation);
         self.answer(worker, operation, given, sink)
     }
 
-    // The operation passes an instance on its way down, in one event, where it is planned to go on and come back.
-    fn pass_down(&mut self, worker: WorkerId, operation: OpId) -> Option<(InstanceId, PreVerdict)>
+    // The operation passes an instance in one event, down or up, where it is planned to go on and come back.
+    fn pass(&mut self, worker: WorkerId, operation: OpId) -> Option<Passed>
         ensures { Goes worker operation self.old self.new }
     {
-        let instance = self.session.comes_down(worker, operation)?;
-        let verdict = self.planned(instance);
-        let number = number_alone(verdict)?;
-        self.session.pass_down(worker, operation, instance, number);
-        Some((instance, verdict))
-    }
-
-    // And on its way up.
-    fn pass_up(&mut self, worker: WorkerId, operation: OpId) -> Option<InstanceId>
-        ensures { Goes worker operation self.old self.new }
-    {
-        self.session.pass_up(worker, operation)
+        self.session.pass(worker, operation, self.plans.as_slice())
     }
 
     // Each line is made where it is told, and nowhere else: what any arm here makes has its room cleared at every turn.
@@ -161,21 +149,6 @@ impl Interpreter {
             Ok(answer) => ends(sink, Said::Replied(answer)),
             Err(status) => refuses(sink, status),
         }
-    }
-}
-
-// The number that an instance which is planned to go on and come back hands on, with no context.
-fn number_alone(verdict: PreVerdict) -> Option<u64>
-    ensures { IfSome result (λ n. verdict ≡ PreVerdict.WithCallback (numbered n)) }
-{
-    match verdict {
-        PreVerdict::WithCallback(
-            Completion {
-                number,
-                context: None,
-            },
-        ) => Some(number),
-        _ => None,
     }
 }
 

@@ -14,6 +14,8 @@
 /* A listing's buffer, and the most that a driver is given at once. */
 #define KZ_LIST_BYTES 16384
 #define KZ_OWED 16
+/* Those of clients, and 32 helpers behind them. */
+#define KZ_WORKERS 48
 #define KZ_LARGEST ((size_t)1 << 30)
 
 typedef enum {
@@ -78,6 +80,9 @@ struct _FLT_INSTANCE {
     PFLT_FILTER filter;
     PFLT_VOLUME volume;
     bool is_asked;          /* a worker is in its query callback */
+    bool is_in_start;       /* and one in its teardown start: */
+    uint8_t start_worker;
+    unsigned running;       /* callbacks and work items of it that run */
     unsigned in_flight;     /* operations that owe it a postoperation or a drain, or that it holds or looks at */
     KzClient *torn_down_by; /* who takes it through its teardown */
     char name[40], altitude[68];
@@ -145,9 +150,10 @@ typedef struct {
     size_t asked_length, answered_length;
 } KzShown;
 
-/* What a completion left beside its status, until the manager has it: a number, and whether bytes lie in the buffer. */
+/* What a completion left that the manager hasn't yet: a number, bytes where there are some, and a status where that was changed behind the manager's back. */
 typedef struct {
-    bool is_there;
+    bool is_there, has_status;
+    uint8_t status;
     uint64_t number;
     const uint8_t *bytes;
     size_t length;
@@ -326,6 +332,7 @@ void kz_free_registry(void);
 /* work.c */
 bool kz_work(void);
 bool kz_has_work(void);
+bool kz_has_work_of(PFLT_FILTER filter);
 void kz_tell_work(PFLT_FILTER filter);
 void kz_free_work(void);
 
@@ -350,6 +357,7 @@ void kz_show_pre(KzOp *op, PFLT_INSTANCE instance);
 void kz_show_post(KzOp *op, PFLT_INSTANCE instance);
 void kz_take_pre(KzOp *op, bool has_post, bool is_completed);
 void kz_take_post(KzOp *op);
+void kz_take_held(KzOp *op);
 void kz_serve(KzOp *op);
 bool kz_is_touched(KzOp *op);
 void kz_forget_swap(KzOp *op, PFLT_INSTANCE instance);
@@ -419,6 +427,7 @@ uint32_t kz_detach(PFLT_INSTANCE instance);
 uint32_t kz_tear_down(PFLT_INSTANCE instance, FLT_INSTANCE_TEARDOWN_FLAGS reason);
 uint32_t kz_dismount(PFLT_VOLUME volume);
 bool kz_is_instance(PFLT_INSTANCE instance);
+bool kz_holds_any(PFLT_INSTANCE instance);
 bool kz_is_not_asked(void *instance);
 bool kz_enter_query(PFLT_INSTANCE instance, uint8_t worker);
 void kz_leave_query(PFLT_INSTANCE instance, uint8_t worker);

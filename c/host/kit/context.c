@@ -264,6 +264,29 @@ VOID FltReferenceContext(PFLT_CONTEXT Context)
         keep(context, &kz_me->place);
 }
 
+/* A reference that a callback which runs handed on, to a work item say: whoever got it gives it back. Until the callback returns the manager has it in that callback's hand. */
+static bool holds(uint8_t worker, const Header *context)
+{
+    KazdrinCounts counts = {0};
+    if (kazdrin_counts(&kz.manager, &(KazdrinEvent){.worker = worker}, &counts) != KZS_OK)
+        return false;
+    for (uint32_t place = 0; place < counts.held; place++) {
+        KazdrinTold told = {0};
+        kazdrin_held_at(&kz.manager, &(KazdrinEvent){.len = place, .worker = worker}, &told);
+        if (told.has && told.slot == context->slot && told.generation == context->generation)
+            return true;
+    }
+    return false;
+}
+
+static bool released_elsewhere(const Header *context)
+{
+    for (uint8_t worker = 0; context->is_known && worker < KZ_WORKERS; worker++)
+        if (worker != kz_worker() && holds(worker, context))
+            return kz_event(worker, (KazdrinEvent){.event = KZE_RELEASE, .slot = context->slot, .generation = context->generation}).status == KZS_OK;
+    return false;
+}
+
 VOID FltReleaseContext(PFLT_CONTEXT Context)
 {
     KZ_CALL();
@@ -276,6 +299,10 @@ VOID FltReleaseContext(PFLT_CONTEXT Context)
     }
     kz_scheduler->touch(context, 0, KZT_GIVES);
     if (context->is_known && kz_event(kz_worker(), (KazdrinEvent){.event = KZE_RELEASE, .slot = context->slot, .generation = context->generation}).status == KZS_OK) {
+        kz_clean_up();
+        return;
+    }
+    if (!context->kept && released_elsewhere(context)) {
         kz_clean_up();
         return;
     }
@@ -327,6 +354,14 @@ static PFLT_INSTANCE instance_on(PFLT_FILTER filter, PFLT_VOLUME volume)
     return NULL;
 }
 
+static bool is_held_elsewhere(const Header *context)
+{
+    uint8_t worker = 0;
+    while (worker < KZ_WORKERS && !(worker != kz_worker() && holds(worker, context)))
+        worker++;
+    return worker < KZ_WORKERS;
+}
+
 static NTSTATUS set(const char *call, uint8_t kind, FLT_SET_CONTEXT_OPERATION how, PFLT_CONTEXT body, PFLT_CONTEXT *old)
 {
     Header *context = context_of(body, call);
@@ -356,6 +391,10 @@ static NTSTATUS set(const char *call, uint8_t kind, FLT_SET_CONTEXT_OPERATION ho
         *old = taken_body(answer.told.slot, answer.told.generation);
     if (status == KZS_NOT_HELD && context->kept)
         return STATUS_FLT_CONTEXT_ALREADY_LINKED; /* the manager holds it by a link alone */
+    if (status == KZS_NOT_HELD && is_held_elsewhere(context)) {
+        kz_tell(KZM_KEPT_SET, call, "a context that another callback which runs holds can't be set here: it answers STATUS_NOT_SUPPORTED");
+        return STATUS_NOT_SUPPORTED;
+    }
     if (status == KZS_NOT_HELD)
         kz_tell(KZM_NOT_REFERENCED, call, "%s context to which no reference is held", kind_names[kind]);
     kz_tell_refused(call, status);

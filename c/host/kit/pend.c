@@ -27,6 +27,12 @@ static bool resume_from(const char *call, KzOp *op, KazdrinEvent event)
             return status == KZS_OK;
         }
     }
+    if (op->holder->is_in_start) {
+        event.flag = 0;
+        uint32_t status = kz_event(op->holder->start_worker, event).status;
+        if (status == KZS_OK)
+            return true;
+    }
     kz_wait(kz_is_not_asked, op->holder, "the query callback of instance %u", op->holder->id);
     uint8_t worker = kz_helper();
     bool is_in = kz_enter_query(op->holder, worker);
@@ -85,15 +91,15 @@ VOID FltCompletePendedPostOperation(PFLT_CALLBACK_DATA CallbackData)
     KzOp *op = kz_op_with(CallbackData);
     if (op && op->stage == KZ_IN_POSTOPERATION) {
         op->stage = KZ_COMPLETED_IN_POST; /* the callback is about to hold it */
+        kz_scheduler->touch(op, 0, KZT_GIVES);
         return;
     }
     if (!op || op->stage != KZ_HELD_BY_POST) {
         kz_tell(KZM_COMPLETED_TWICE, __func__, "no operation that a postoperation holds (completed twice?)");
         return;
     }
-    if (op->data->IoStatus.Status != op->shown.status.Status || op->data->IoStatus.Information != op->shown.status.Information)
-        kz_tell(KZM_CHANGED_WHILE_HELD, __func__, "an answer that was changed while the operation was held doesn't count");
     PFLT_INSTANCE holder = op->holder;
+    kz_take_held(op);
     if (resume_from(__func__, op, (KazdrinEvent){.event = KZE_RESUME_POST, .operation = op->id})) {
         resume(op);
         kz_leave_flight(op, holder);

@@ -19,6 +19,7 @@ struct _FLT_GENERIC_WORKITEM {
 };
 
 static PFLT_GENERIC_WORKITEM first, *last = &first;
+static unsigned items_running;
 
 static PVOID allocate(ULONG tag)
 {
@@ -165,9 +166,12 @@ static void run(PFLT_GENERIC_WORKITEM item)
     kz_me->process = 4;
     kz_me->thread = 8;
     item->is_queued = false;
+    items_running++;
     unsigned depth = kz_let_driver("work item");
     call(item);
     kz_driver_returned(depth, "work item returns");
+    items_running--;
+    kz.changes++;
     kz_keep_rest(NULL);
     kz_me->process = process;
     kz_me->thread = thread;
@@ -184,6 +188,15 @@ static PFLT_GENERIC_WORKITEM *next(void)
     while (*at && (*at)->kind <= DEFERRED && kz_is_instance((*at)->object) && ((PFLT_INSTANCE)(*at)->object)->is_asked)
         at = &(*at)->next;
     return at;
+}
+
+/* Whether one is queued, or runs. */
+bool kz_has_work_of(PFLT_FILTER filter)
+{
+    for (PFLT_GENERIC_WORKITEM one = first; one; one = one->next)
+        if (one->filter == filter)
+            return true;
+    return items_running > 0;
 }
 
 bool kz_has_work(void)
@@ -223,4 +236,5 @@ void kz_free_work(void)
             free(one);
     }
     last = &first;
+    items_running = 0;
 }

@@ -238,7 +238,8 @@ static void put_served(KzOp *op)
     if (!op->served.is_there)
         return;
     op->served.is_there = false;
-    KazdrinEvent put = {.worker = kz_worker(), .status = op->lent.status, .number = op->lent.number, .offset = op->served.number, .flag = op->served.bytes != NULL};
+    uint8_t status = op->served.has_status ? op->served.status : op->lent.status;
+    KazdrinEvent put = {.worker = kz_worker(), .status = status, .number = op->lent.number, .offset = op->served.number, .flag = op->served.bytes != NULL};
     if (kazdrin_answer(&kz.manager, &put, op->served.bytes ? op->served.bytes : (const uint8_t *)"", op->served.length) != KZS_OK)
         kz_tell(KZM_LONG_ANSWER, "FLT_PREOP_COMPLETE", "an answer past a limit: it doesn't count");
     kazdrin_lent(&kz.manager, &(KazdrinEvent){.flag = 1, .worker = kz_worker()}, &op->lent, kz_me->room, sizeof kz_me->room);
@@ -554,7 +555,8 @@ static uint32_t status_of(KzOp *op, NTSTATUS status)
     return number;
 }
 
-void kz_take_post(KzOp *op)
+/* Whether a callback left another answer than it was shown: then that is `now`. Its bytes lie in the driver's buffer. */
+static bool changes_answer(KzOp *op, KzServed *now)
 {
     uint64_t information, said = op->data->IoStatus.Information;
     size_t length;
@@ -568,17 +570,36 @@ void kz_take_post(KzOp *op)
     if (kz_is_touched(op) && op->data->Flags & FLTFL_CALLBACK_DATA_DIRTY)
         kz_tell(KZM_DIRTY_POST, "FltSetCallbackDataDirty", "parameters that a postoperation changes don't count");
     if (is_same(op, information, bytes, length))
-        return;
+        return false;
     if (op->data->IoStatus.Status == STATUS_PENDING) {
         kz_tell(KZM_COMPLETED_PENDING, "FLT_CALLBACK_DATA", "IoStatus.Status is STATUS_PENDING: it doesn't count");
-        return;
+        return false;
     }
     if (op->event == KZE_CREATE || op->event == KZE_CLEANUP || op->event == KZE_CLOSE) {
         kz_tell(KZM_CREATE_ANSWER, "FLT_CALLBACK_DATA", "IoStatus of a create, a cleanup or a close, changed in a postoperation: it doesn't count");
-        return;
+        return false;
     }
     uint32_t status = op->data->IoStatus.Status == op->shown.status.Status ? op->lent.status : status_of(op, op->data->IoStatus.Status);
-    KazdrinEvent put = {.worker = kz_worker(), .status = (uint8_t)status, .number = op->lent.number, .offset = information, .flag = bytes != NULL};
-    if (kazdrin_answer(&kz.manager, &put, bytes ? bytes : (const uint8_t *)"", length) != KZS_OK)
+    *now = (KzServed){true, true, (uint8_t)status, information, bytes, length};
+    return true;
+}
+
+void kz_take_post(KzOp *op)
+{
+    KzServed now;
+    if (!changes_answer(op, &now))
+        return;
+    KazdrinEvent put = {.worker = kz_worker(), .status = now.status, .number = op->lent.number, .offset = now.number, .flag = now.bytes != NULL};
+    if (kazdrin_answer(&kz.manager, &put, now.bytes ? now.bytes : (const uint8_t *)"", now.length) != KZS_OK)
         kz_tell(KZM_LONG_ANSWER, "FLT_CALLBACK_DATA", "an answer past a limit of the manager: it doesn't count");
+}
+
+/* A postoperation that is held completes it: the manager learns of what it changed where it next lends the answer, and else the client does. */
+void kz_take_held(KzOp *op)
+{
+    KzServed now;
+    if (!changes_answer(op, &now))
+        return;
+    now.bytes = now.bytes ? copied(op, now.bytes, now.length) : NULL;
+    op->served = now;
 }

@@ -156,12 +156,31 @@ static void tell_teardown(PFLT_INSTANCE instance, KzCallback place, PFLT_INSTANC
     kz_leave(before);
 }
 
-/* Work items that are queued run before the callback returns in the manager, so that they may complete what the instance holds. */
+/* Whether nobody is about to complete what the instance holds: no callback of it runs, and no work item of its filter is left. */
+static bool is_quiet(void *given)
+{
+    PFLT_INSTANCE instance = given;
+    return !instance->running && (!kz_holds_any(instance) || !kz_has_work_of(instance->filter));
+}
+
+/* The callback of the teardown's start returns in the manager only once it is quiet there: until then what the instance holds is completed as from that callback, by whoever
+ * comes to it. */
+static void let_complete(PFLT_INSTANCE instance)
+{
+    instance->is_in_start = true;
+    instance->start_worker = kz_worker();
+    while (!kz_has_others() && !is_quiet(instance) && kz_work())
+        ;
+    kz_wait_for_us(is_quiet, instance, "callbacks and work items of instance %u", instance->id);
+    instance->is_in_start = false;
+}
+
 static void start(PFLT_INSTANCE instance, FLT_INSTANCE_TEARDOWN_FLAGS reason)
 {
     if (kz_phase(instance) != KZP_INSTANCE_STOPPING || kz_event(kz_worker(), (KazdrinEvent){.event = KZE_START_TEARDOWN, .instance = instance->id}).status != KZS_OK)
         return;
     tell_teardown(instance, KZ_IN_START, instance->filter->registration.InstanceTeardownStartCallback, reason);
+    let_complete(instance);
     kz_event(kz_worker(), (KazdrinEvent){.event = KZE_START_RETURNED});
     while (kz_drain_next(instance))
         ;

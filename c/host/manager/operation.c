@@ -207,6 +207,7 @@ static void pre(KzOp *op, PFLT_INSTANCE instance)
     PVOID completion = NULL;
     enter_flight(op, instance);
     KzPlace before = kz_enter(KZ_IN_PRE, kz_worker(), instance->filter, instance, op, op->data);
+    instance->running++;
     kz_show_pre(op, instance);
     FLT_PREOP_CALLBACK_STATUS said = ask_pre(op, instance, &completion);
     KazdrinEvent verdict = kz_verdict_of(op, instance, said, completion);
@@ -215,6 +216,8 @@ static void pre(KzOp *op, PFLT_INSTANCE instance)
     kz_scheduler->touch(&op->users, 0, KZT_GIVES); /* what it sends along may be drained by another client */
     kz_keep_rest(&verdict);
     kz_leave(before);
+    instance->running--;
+    kz.changes++;
     if (kazdrin_pre_returned(&kz.manager, &verdict) == KZS_OK && said == FLT_PREOP_PENDING) {
         op->stage = KZ_HELD_BY_PRE;
         op->holder = instance;
@@ -281,6 +284,7 @@ static void post(KzOp *op, PFLT_INSTANCE instance, PVOID completion)
 {
     KzPlace before = kz_enter(KZ_IN_POST, kz_worker(), instance->filter, instance, op, op->data);
     kz_call_at(irql_of(op, instance));
+    instance->running++;
     kz_show_post(op, instance);
     if (op->event == KZE_CREATE && NT_SUCCESS(op->data->IoStatus.Status))
         kz_file_opened(op->file);
@@ -294,6 +298,8 @@ static void post(KzOp *op, PFLT_INSTANCE instance, PVOID completion)
         said = call_when_safe(op, &objects, said);
     bool is_completed = op->stage == KZ_COMPLETED_IN_POST;
     op->stage = KZ_GOES_ON;
+    if (is_completed)
+        kz_scheduler->touch(op, 0, KZT_TAKES); /* behind whoever completed it */
     kz_take_post(op);
     kz_keep_rest(NULL);
     bool is_more = said == FLT_POSTOP_MORE_PROCESSING_REQUIRED;
@@ -306,6 +312,8 @@ static void post(KzOp *op, PFLT_INSTANCE instance, PVOID completion)
     kz_leave(before);
     op->shown.status = op->data->IoStatus;
     KazdrinEvent verdict = {.mode = is_more ? KZV_MORE_PROCESSING : KZV_FINISHED, .worker = kz_worker()};
+    instance->running--;
+    kz.changes++;
     if (kazdrin_post_returned(&kz.manager, &verdict) == KZS_OK && is_more) {
         op->stage = KZ_HELD_BY_POST;
         op->holder = instance;
@@ -419,6 +427,14 @@ bool kz_is_held(const KzOp *op)
     return op->stage == KZ_HELD_BY_PRE || op->stage == KZ_HELD_BY_POST;
 }
 
+bool kz_holds_any(PFLT_INSTANCE instance)
+{
+    for (const KzOp *op = kz.ops; op; op = op->next)
+        if (kz_is_held(op) && op->holder == instance)
+            return true;
+    return false;
+}
+
 /* Whether anything but the callback that runs could come to an end: an operation, an open file, a timer. */
 bool kz_is_anybody_left(void)
 {
@@ -489,6 +505,7 @@ static Answer collect(KzOp *op)
     Answer answer = {.other = op->other, .length = told.length};
     if (op->served.is_there) {
         reply.information = op->served.number;
+        reply.status = op->served.has_status ? op->served.status : reply.status;
         answer.length = op->served.bytes ? op->served.length : 0;
         memcpy(kz_me->room, op->served.bytes ? op->served.bytes : (const uint8_t *)"", answer.length);
     }

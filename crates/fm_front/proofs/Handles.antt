@@ -1,12 +1,11 @@
 -- What a refusal makes of a connection's handles: nothing, whatever was asked.
-use Rattle.std.proofs.Common.{◌≡◌, ◌≢◌, ◌⊎◌, ℕ, Bool, true, false, List, inl}
+use Rattle.std.proofs.Common.{◌≡◌, ◌≢◌, ℕ, Bool, true, false, List, MatchBool, inl}
 use Rattle.fm_data.specs.declared.request.Request.{Request}
 use Rattle.fm_data.specs.declared.request.Request.TheVariants as request
 use Rattle.fm_types.specs.declared.ids.HandleId.{HandleId}
 use Rattle.fm_types.specs.declared.status.Status.{Status}
 use Rattle.fm_types.specs.declared.status.Status.TheVariants.{Success}
 use Rattle.fm_front.specs.Answering.{EndsHandle, HandlesAfter, is_close}
-use Rattle.std.proofs.Common.{MatchBool}
 
 on_handle : (closes : Bool) (handle : HandleId) (status : Status) (old new : List HandleId) → status ≢ Success → new ≡ old → MatchBool closes (EndsHandle handle status old new) (new ≡ old)
 on_handle true handle status old new refused same = record { closed = λ is. absurd (refused is); refused = λ _. inl same }

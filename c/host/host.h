@@ -62,7 +62,6 @@ struct _FLT_FILTER {
     char altitude[68]; /* where it is attached by itself; empty if it isn't */
     DRIVER_OBJECT object;
     UNICODE_STRING registry_path;
-    WCHAR names[2][128];
 };
 
 struct _FLT_VOLUME {
@@ -280,17 +279,22 @@ typedef enum { KZK_POOL, KZK_CONTEXT, KZK_NAME, KZK_BUFFER, KZK_DATA } KzMemory;
 typedef struct KzPiece {
     struct KzPiece *next, *before;
     struct KzPiece *same; /* the next one at the same place of the table by address */
+    void *start;          /* what was allocated */
     size_t size;
     PFLT_FILTER filter;
     ULONG tag;
     bool is_paged;
     KzMemory kind;
     unsigned list;
-    bool is_told;
+    bool is_told, is_read_told;
 } __attribute__((aligned(16))) KzPiece;
 void *kz_take_memory(KzMemory kind, size_t size, int fill, ULONG tag);
 void kz_give_back(void *memory);
 KzPiece *kz_piece_of(const void *memory);
+/* How many of so many bytes of a driver's memory there are, and 0 where it was freed: that is told. What isn't known is taken as it is. */
+size_t kz_there(const void *memory, size_t size, const char *what);
+/* A text that begins there is read up to its null: that there is none is told. */
+void kz_check_text(const void *text, const char *call);
 const char *kz_tag(ULONG tag, char *room);
 void kz_check_piece(KzPiece *piece);
 void kz_check_memory(PFLT_FILTER filter);
@@ -370,7 +374,8 @@ FLT_CALLBACK_DATA *kz_new_data(PETHREAD thread, PFLT_IO_PARAMETER_BLOCK iopb);
 void kz_renew_data(KzOp *op);
 
 /* names.c */
-void kz_wide(PUNICODE_STRING to, WCHAR *room, const char *text);
+/* A text of ASCII as the kit gives it: memory of exactly its length, with nothing behind it, or with a null; `/` is the kit's `\`. */
+bool kz_give_name(PUNICODE_STRING to, const char *text, bool is_ended);
 size_t kz_narrow(char *room, size_t size, PCUNICODE_STRING text);
 void kz_tell_names(PFLT_FILTER filter);
 void kz_free_names(void);

@@ -8,6 +8,8 @@
 extern void __asan_poison_memory_region(const volatile void *start, size_t size) __attribute__((weak));
 extern void __asan_unpoison_memory_region(const volatile void *start, size_t size) __attribute__((weak));
 
+/* What may hold a structure that the processor's caches are counted by lies at their boundary, as in the kit. */
+enum { LINE = 64 };
 enum { ZONE = 32, ZONE_BYTE = 0xfd, GONE_BYTE = 0xdd };
 /* How much of what was given back is kept, to see whether it is written. */
 enum { KEPT = 64, KEPT_BYTES = 4096 };
@@ -91,11 +93,13 @@ void *kz_take_memory(KzMemory kind, size_t size, int fill, ULONG tag)
 {
     if (size > KZ_LARGEST)
         return NULL;
-    KzPiece *piece = malloc(sizeof *piece + ZONE + size + ZONE);
-    if (!piece)
+    void *start = malloc(sizeof(KzPiece) + ZONE + size + ZONE + sizeof(WCHAR) + LINE);
+    if (!start)
         return NULL;
+    uintptr_t boundary = size < LINE ? 16 : LINE, body = ((uintptr_t)start + sizeof(KzPiece) + ZONE + boundary - 1) & ~(boundary - 1);
+    KzPiece *piece = (KzPiece *)(body - ZONE - sizeof *piece);
     KzPiece **first = &pieces[my_list()];
-    *piece = (KzPiece){.next = *first, .size = size, .kind = kind, .filter = kz_me->place.filter, .tag = tag, .list = my_list()};
+    *piece = (KzPiece){.next = *first, .start = start, .size = size, .kind = kind, .filter = kz_me->place.filter, .tag = tag, .list = my_list()};
     if (*first)
         (*first)->before = piece;
     *first = piece;
@@ -103,6 +107,7 @@ void *kz_take_memory(KzMemory kind, size_t size, int fill, ULONG tag)
     memset(body_of(piece) - ZONE, ZONE_BYTE, ZONE);
     memset(body_of(piece), fill, size);
     memset(body_of(piece) + size, ZONE_BYTE, ZONE);
+    memset(body_of(piece) + size + ZONE, 0, sizeof(WCHAR)); /* who reads a text past its end comes to one here */
     shut(piece);
     return body_of(piece);
 }
@@ -151,6 +156,8 @@ void kz_check_piece(KzPiece *piece)
         kz_tell(KZM_PAST_POOL, "ExAllocatePoolWithTag", "memory %s the %llu bytes of a pool was written, tag '%s'", where, size, kz_tag(piece->tag, tag));
     else if (piece->kind == KZK_CONTEXT)
         kz_tell(KZM_PAST_CONTEXT, "FltAllocateContext", "memory %s the %llu bytes of a context was written", where, size);
+    else if (piece->kind == KZK_NAME)
+        kz_tell(KZM_PAST_BUFFER, "UNICODE_STRING", "memory %s the %llu bytes of a name was written", where, size);
     else
         kz_tell(KZM_PAST_BUFFER, "FLT_CALLBACK_DATA", "memory %s a buffer of %llu bytes was written", where, size);
 }
@@ -179,9 +186,50 @@ void kz_check_memory(PFLT_FILTER filter)
     look_at_last(filter);
 }
 
-/* And at the buffers of its operation. */
+static bool was_freed(const void *memory)
+{
+    for (size_t at = 0; at < (size_t)LISTS * KEPT; at++) {
+        const KzPiece *piece = gone[at / KEPT].pieces[at % KEPT];
+        if (piece && body_of(piece) == memory)
+            return true;
+    }
+    return false;
+}
+
+size_t kz_there(const void *memory, size_t size, const char *what)
+{
+    const KzPiece *piece = kz_piece_of(memory);
+    if (!piece && was_freed(memory)) {
+        kz_tell(KZM_NO_SWAP_BUFFER, what, "the %llu bytes that the driver put there were freed before they were used", (unsigned long long)size);
+        return 0;
+    }
+    if (!piece || size <= piece->size)
+        return size;
+    kz_tell(KZM_NO_SWAP_BUFFER, what, "the driver put %llu bytes there, and says that there are %llu", (unsigned long long)piece->size, (unsigned long long)size);
+    return piece->size;
+}
+
+void kz_check_text(const void *text, const char *call)
+{
+    KZ_INSIDE();
+    KzPiece *piece = kz_piece_of(text);
+    const WCHAR *letters = text;
+    size_t count = piece ? piece->size / sizeof(WCHAR) : 1;
+    for (size_t at = 0; piece && at < count; at++)
+        if (!letters[at])
+            return;
+    if (!piece || piece->kind != KZK_NAME || piece->is_read_told)
+        return;
+    piece->is_read_told = true;
+    kz_tell(KZM_NOT_TERMINATED, call, "a name of %llu bytes, which no null ends: it is read past its end", (unsigned long long)piece->size);
+}
+
+/* And at the buffers of its operation, and the name of its file. */
 void kz_check_blocks(const KzOp *op)
 {
+    KzPiece *name = kz_piece_of(op->file->object.FileName.Buffer);
+    if (name)
+        kz_check_piece(name);
     for (const KzBlock *block = op->blocks; block; block = block->next)
         kz_check_piece((KzPiece *)((uint8_t *)block->bytes - ZONE - sizeof(KzPiece)));
 }
@@ -221,7 +269,7 @@ static void forget(KzPiece **place)
     KzPlace before = kz_enter(KZ_IN_NOTHING, kz_worker(), piece->filter, NULL, NULL, NULL);
     look_at(piece);
     kz_me->place = before;
-    free(piece);
+    free(piece->start);
 }
 
 void kz_give_back(void *memory)
@@ -237,7 +285,7 @@ void kz_give_back(void *memory)
     leave_table(piece);
     open_all(piece);
     if (__asan_poison_memory_region || piece->size > KEPT_BYTES) {
-        free(piece);
+        free(piece->start);
         return;
     }
     memset(body_of(piece), GONE_BYTE, piece->size);
@@ -277,13 +325,13 @@ void kz_free_memory(void)
     for (KzPiece *piece = first_from(0), *behind; piece; piece = behind) {
         behind = piece_behind(piece);
         open_all(piece);
-        free(piece);
+        free(piece->start);
     }
     memset(pieces, 0, sizeof pieces);
     memset(places, 0, sizeof places);
     pieces_count = 0;
     returns = 0;
     for (size_t at = 0; at < (size_t)LISTS * KEPT; at++)
-        free(gone[at / KEPT].pieces[at % KEPT]);
+        free(gone[at / KEPT].pieces[at % KEPT] ? gone[at / KEPT].pieces[at % KEPT]->start : NULL);
     memset(gone, 0, sizeof gone);
 }

@@ -10,19 +10,25 @@ typedef struct Named {
     struct Named *next;
     KzPlace place;
     unsigned references;
-    WCHAR name[320], volume[64];
+    PVOID texts[2]; /* the driver may change what it is shown */
 } Named;
 
 static Named *all;
 
-/* A text of ASCII in a room that is large enough; `/` is the kit's `\`. */
-void kz_wide(PUNICODE_STRING to, WCHAR *room, const char *text)
+static void put_wide(WCHAR *room, const char *text)
 {
-    USHORT length = 0;
-    for (; text[length]; length++)
-        room[length] = (WCHAR)(text[length] == '/' ? '\\' : text[length]);
-    room[length] = 0;
-    *to = (UNICODE_STRING){(USHORT)(length * sizeof(WCHAR)), (USHORT)((length + 1) * sizeof(WCHAR)), room};
+    for (; *text; text++)
+        *room++ = (WCHAR)(*text == '/' ? '\\' : *text);
+}
+
+bool kz_give_name(PUNICODE_STRING to, const char *text, bool is_ended)
+{
+    USHORT size = (USHORT)(strlen(text) * sizeof(WCHAR)), whole = (USHORT)(size + is_ended * sizeof(WCHAR));
+    WCHAR *room = kz_take_memory(KZK_NAME, whole, 0, 0);
+    *to = (UNICODE_STRING){size, whole, room};
+    if (room)
+        put_wide(room, text);
+    return room != NULL;
 }
 
 /* The other way round; how many letters there are. */
@@ -40,6 +46,13 @@ static void device_name(char *room, size_t size, PFLT_VOLUME volume)
     snprintf(room, size, "/Device/%s", volume->name);
 }
 
+static void free_named(Named *one)
+{
+    kz_give_back(one->texts[0]);
+    kz_give_back(one->texts[1]);
+    kz_give_back(one);
+}
+
 static NTSTATUS name_of(PFLT_VOLUME volume, const char *path, FLT_FILE_NAME_OPTIONS options, PFLT_FILE_NAME_INFORMATION *shown)
 {
     char text[320];
@@ -47,9 +60,15 @@ static NTSTATUS name_of(PFLT_VOLUME volume, const char *path, FLT_FILE_NAME_OPTI
     if (!made)
         return STATUS_INSUFFICIENT_RESOURCES;
     device_name(text, sizeof text, volume);
-    kz_wide(&made->shown.Volume, made->volume, text);
+    bool is_there = kz_give_name(&made->shown.Volume, text, false);
     snprintf(text + strlen(text), sizeof text - strlen(text), "/%s", path);
-    kz_wide(&made->shown.Name, made->name, text);
+    is_there &= kz_give_name(&made->shown.Name, text, false);
+    made->texts[0] = made->shown.Volume.Buffer;
+    made->texts[1] = made->shown.Name.Buffer;
+    if (!is_there) {
+        free_named(made);
+        return STATUS_INSUFFICIENT_RESOURCES;
+    }
     made->shown.Size = sizeof made->shown;
     made->shown.Format = options & FLT_VALID_FILE_NAME_FORMATS;
     made->references = 1;
@@ -129,7 +148,7 @@ VOID FltReleaseFileNameInformation(PFLT_FILE_NAME_INFORMATION FileNameInformatio
         return;
     Named *gone = *at;
     *at = gone->next;
-    kz_give_back(gone);
+    free_named(gone);
 }
 
 NTSTATUS FltPurgeFileNameInformationCache(PFLT_INSTANCE Instance, PFILE_OBJECT FileObject)
@@ -199,8 +218,9 @@ NTSTATUS FltParseFileNameInformation(PFLT_FILE_NAME_INFORMATION FileNameInformat
 static NTSTATUS put_name(const char *text, PUNICODE_STRING to, PULONG needed)
 {
     WCHAR room[128];
-    UNICODE_STRING name;
-    kz_wide(&name, room, text);
+    USHORT size = (USHORT)(strlen(text) * sizeof(WCHAR));
+    UNICODE_STRING name = {size, size, room};
+    put_wide(room, text);
     if (needed)
         *needed = name.Length;
     if (!to || to->MaximumLength < name.Length)
@@ -262,6 +282,6 @@ void kz_free_names(void)
     while (all) {
         Named *one = all;
         all = one->next;
-        kz_give_back(one);
+        free_named(one);
     }
 }

@@ -5,6 +5,7 @@
 
 VOID RtlInitUnicodeString(PUNICODE_STRING DestinationString, PCWSTR SourceString)
 {
+    kz_check_text(SourceString, __func__);
     USHORT length = SourceString ? (USHORT)(KzWcslen(SourceString) * sizeof(WCHAR)) : 0;
     *DestinationString = (UNICODE_STRING){length, SourceString ? (USHORT)(length + sizeof(WCHAR)) : 0, (PWSTR)SourceString};
 }

@@ -31,6 +31,7 @@ size_t KzWcsnlen(const WCHAR *text, size_t most)
 
 size_t KzWcslen(const WCHAR *text)
 {
+    kz_check_text(text, "wcslen");
     return KzWcsnlen(text, SIZE_MAX);
 }
 
@@ -46,6 +47,7 @@ static int compare(const WCHAR *a, const WCHAR *b, size_t most, bool is_exact)
 
 int KzWcscmp(const WCHAR *a, const WCHAR *b)
 {
+    kz_check_text(a, "wcscmp");
     return compare(a, b, SIZE_MAX, true);
 }
 
@@ -56,6 +58,7 @@ int KzWcsncmp(const WCHAR *a, const WCHAR *b, size_t most)
 
 int KzWcsicmp(const WCHAR *a, const WCHAR *b)
 {
+    kz_check_text(a, "_wcsicmp");
     return compare(a, b, SIZE_MAX, false);
 }
 
@@ -66,6 +69,7 @@ int KzWcsnicmp(const WCHAR *a, const WCHAR *b, size_t most)
 
 WCHAR *KzWcscpy(WCHAR *to, const WCHAR *from)
 {
+    kz_check_text(from, "wcscpy");
     memmove(to, from, (KzWcslen(from) + 1) * sizeof(WCHAR));
     return to;
 }
@@ -80,6 +84,7 @@ WCHAR *KzWcsncpy(WCHAR *to, const WCHAR *from, size_t most)
 
 WCHAR *KzWcscat(WCHAR *to, const WCHAR *from)
 {
+    kz_check_text(from, "wcscat");
     KzWcscpy(to + KzWcslen(to), from);
     return to;
 }
@@ -94,6 +99,7 @@ WCHAR *KzWcsncat(WCHAR *to, const WCHAR *from, size_t most)
 
 WCHAR *KzWcschr(const WCHAR *text, WCHAR letter)
 {
+    kz_check_text(text, "wcschr");
     for (;; text++) {
         if (*text == letter)
             return (WCHAR *)text;
@@ -104,6 +110,7 @@ WCHAR *KzWcschr(const WCHAR *text, WCHAR letter)
 
 WCHAR *KzWcsrchr(const WCHAR *text, WCHAR letter)
 {
+    kz_check_text(text, "wcsrchr");
     for (size_t at = KzWcslen(text) + 1; at-- > 0;)
         if (text[at] == letter)
             return (WCHAR *)text + at;
@@ -112,6 +119,7 @@ WCHAR *KzWcsrchr(const WCHAR *text, WCHAR letter)
 
 WCHAR *KzWcsstr(const WCHAR *text, const WCHAR *part)
 {
+    kz_check_text(text, "wcsstr");
     size_t length = KzWcslen(part);
     for (;; text++) {
         if (KzWcsncmp(text, part, length) == 0)
@@ -139,6 +147,7 @@ size_t KzWcscspn(const WCHAR *text, const WCHAR *letters)
 
 WCHAR *KzWcspbrk(const WCHAR *text, const WCHAR *letters)
 {
+    kz_check_text(text, "wcspbrk");
     size_t length = KzWcscspn(text, letters);
     return text[length] ? (WCHAR *)text + length : NULL;
 }
@@ -239,6 +248,7 @@ long KzWcstol(const WCHAR *text, WCHAR **end, int base)
 
 unsigned long KzWcstoul(const WCHAR *text, WCHAR **end, int base)
 {
+    kz_check_text(text, "wcstoul");
     bool is_negative;
     unsigned long number = number_in(text, end, base, &is_negative);
     return is_negative ? 0 - number : number;

@@ -310,7 +310,7 @@ static bool changed(KzOp *op, KazdrinEvent *event, const uint8_t **bytes, size_t
         return true;
     case KZE_WRITE:
         *bytes = written(op);
-        *length = now->Write.Length;
+        *length = kz_there(*bytes, now->Write.Length, "WriteBuffer");
         event->offset = (uint64_t)now->Write.ByteOffset.QuadPart;
         return true;
     case KZE_SET_SIZE:
@@ -443,7 +443,7 @@ static void show_answer(KzOp *op)
 {
     KzVisit *visited = op->visits;
     uint8_t *below = visited ? visited->swapped ? visited->swapped : visited->received : NULL;
-    size_t room = visited ? visited->swapped ? visited->swapped_room : visited->room : 0;
+    size_t room = visited ? visited->swapped ? kz_there(visited->swapped, visited->swapped_room, "swapped buffer") : visited->room : 0;
     op->data->IoStatus.Information = op->lent.information;
     switch (op->event) {
     case KZE_CREATE:

@@ -21,13 +21,16 @@ KzFile *kz_file_with(PFILE_OBJECT object)
 
 KzFile *kz_new_file(PFLT_VOLUME volume, const char *path, bool is_directory)
 {
-    KzFile *file = kz_memory(sizeof *file + sizeof(WCHAR) * 260);
+    KzFile *file = kz_memory(sizeof *file);
     char text[260] = "/";
     file->volume = volume;
     file->is_directory = is_directory;
     strncpy(file->path, path, sizeof file->path - 1);
     memcpy(text + 1, file->path, sizeof file->path);
-    kz_wide(&file->object.FileName, (WCHAR *)(file + 1), text);
+    if (!kz_give_name(&file->object.FileName, text, false)) {
+        fprintf(stderr, "no memory\n");
+        exit(1);
+    }
     file->object.Type = 5;
     file->object.Size = sizeof(FILE_OBJECT);
     file->object.DeviceObject = &volume->disk;
@@ -63,6 +66,7 @@ void kz_let_go_file(KzFile *file)
             *at = file->next;
             break;
         }
+    kz_give_back(file->object.FileName.Buffer);
     free(file);
 }
 

@@ -353,9 +353,12 @@ static void name_driver(PFLT_FILTER filter)
 {
     char text[120];
     snprintf(text, sizeof text, "/Driver/%.60s", filter->driver->name);
-    kz_wide(&filter->object.DriverName, filter->names[0], text);
+    bool is_there = kz_give_name(&filter->object.DriverName, text, true);
     snprintf(text, sizeof text, "/REGISTRY/MACHINE/SYSTEM/ControlSet001/Services/%.60s", filter->driver->name);
-    kz_wide(&filter->registry_path, filter->names[1], text);
+    if (!kz_give_name(&filter->registry_path, text, true) || !is_there) {
+        fprintf(stderr, "no memory\n");
+        exit(1);
+    }
     filter->object.Type = 4;
     filter->object.Size = sizeof(DRIVER_OBJECT);
 }
@@ -415,6 +418,8 @@ uint32_t kz_load(const char *name, const char *altitude, uint64_t *number, NTSTA
     kz_settle();
     if (!filter->is_registered) {
         kz_tell_pools(filter);
+        kz_give_back(filter->object.DriverName.Buffer);
+        kz_give_back(filter->registry_path.Buffer);
         free(filter);
         return status;
     }

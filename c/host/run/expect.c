@@ -3,7 +3,7 @@
 
 #include <stdlib.h>
 
-static unsigned line, unmet;
+static unsigned line, request_line, unmet;
 static char command[256], callbacks[2048];
 static KzReply reply;
 static uint8_t bytes[KZ_BYTES];
@@ -25,6 +25,11 @@ unsigned kz_line(void)
     return line;
 }
 
+unsigned kz_request_line(void)
+{
+    return request_line;
+}
+
 unsigned kz_unmet(void)
 {
     return unmet;
@@ -37,7 +42,7 @@ const char *kz_command(void)
 
 void kz_forget_notes(void)
 {
-    line = unmet = 0;
+    line = request_line = unmet = 0;
     told_count = 0;
     command[0] = callbacks[0] = 0;
 }
@@ -54,6 +59,7 @@ void kz_note_request(const char *words)
         return;
     snprintf(command, sizeof command, "%.255s", words);
     command[strcspn(command, "\r\n")] = 0;
+    request_line = line;
     callbacks[0] = 0;
     reply = (KzReply){0};
     told_count = length = 0;

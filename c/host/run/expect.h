@@ -20,6 +20,8 @@ bool kz_expect(const char *words);
 bool kz_fail(char **words);
 unsigned kz_unmet(void);
 unsigned kz_line(void);
+/* That of the last request. */
+unsigned kz_request_line(void);
 const char *kz_command(void);
 const char *kz_callback_word(KzCallback callback);
 

@@ -35,6 +35,7 @@ typedef enum {
     KZM_WRITE_IN_PLACE = 130,
     KZM_NOT_OWN_DATA = 131,
     KZM_PAST_BUFFER = 132,
+    KZM_NO_SWAP_BUFFER = 133,
     /* Memory. */
     KZM_POOL_LEAK = 141,
     KZM_NO_POOL = 142,
@@ -42,6 +43,7 @@ typedef enum {
     KZM_PAST_POOL = 144,
     KZM_WRITTEN_FREED = 145,
     KZM_NO_LOOKASIDE = 146,
+    KZM_NOT_TERMINATED = 147,
     /* Names, objects, handles. */
     KZM_NAME_LEAK = 151,
     KZM_NO_NAME = 152,

@@ -101,6 +101,34 @@ static void name_handle(const char *word, uint64_t handle)
 static const KzReply bad = {.status = KZS_BAD_REQUEST};
 static bool is_wrong; /* the last line isn't understood */
 
+/* Of a file's run: what would have all that comes behind it pass for nothing. */
+static struct {
+    unsigned requests;  /* how many there were */
+    bool is_refused;    /* the last one was a load, an attach or a mount, which was refused */
+    unsigned line;      /* where one was that no expectation stands behind; 0 if there is none */
+    char words[200];
+} seen;
+
+static bool is_of_file(void)
+{
+    return kz_line() > 0;
+}
+
+static void note_refused(uint32_t status)
+{
+    seen.is_refused = status != KZS_OK;
+}
+
+/* No expectation stands behind the last request. */
+static void note_unexpected(void)
+{
+    if (seen.is_refused && !seen.line) {
+        seen.line = kz_request_line();
+        snprintf(seen.words, sizeof seen.words, "%s", kz_command());
+    }
+    seen.is_refused = false;
+}
+
 static KzReply said(KzReply reply)
 {
     kz_print_reply(reply, STATUS_SUCCESS, NULL, 0);
@@ -124,6 +152,7 @@ static KzReply ask_load(char **words)
     NTSTATUS other;
     uint32_t status = kz_load(words[1], words[2] ? words[2] : "", &number, &other);
     KzReply reply = {.status = status, .information = status == KZS_OK ? number : 0};
+    note_refused(status);
     kz_print_reply(reply, other, NULL, 0);
     return reply;
 }
@@ -145,6 +174,7 @@ static KzReply ask_mount(char **words)
     if (!set_volume(&tried, words + 2))
         return wrong();
     uint32_t status = kz_mount(words[1], &number);
+    note_refused(status);
     if (status != KZS_OK)
         return outcome(status, 0);
     set_volume(kz.volumes[number], words + 2);
@@ -203,11 +233,13 @@ static KzReply ask_attach(char **words)
     if (words[5] && (strcmp(words[4], "as") != 0 || !is_name(words[5])))
         return wrong();
     const char *altitude = words[5] ? words[3] : words[4], *name = words[5] ? words[5] : words[3];
+    note_refused(KZS_NO_FILTER); /* until it is attached */
     if (filter >= kz.filters_count)
         return outcome(KZS_NO_FILTER, 0);
     if (volume >= kz.volumes_count)
         return outcome(KZS_NO_VOLUME, 0);
     uint32_t status = kz_attach(kz.filters[filter], kz.volumes[volume], name, altitude, FLTFL_INSTANCE_SETUP_MANUAL_ATTACHMENT, &number);
+    note_refused(status);
     return outcome(status, number);
 }
 
@@ -355,6 +387,7 @@ KzReply kz_request(const char *line)
         return wrong();
     if (strncmp(expected, "expect ", 7) == 0) {
         kz_say(KZ_SAID_REQUEST, "> %.900s%s", expected, strchr(expected, '\n') ? "" : "\n");
+        seen.is_refused = false;
         return kz_expect(expected + 7) ? (KzReply){0} : wrong();
     }
     strcpy(kz_me->line, line);
@@ -362,6 +395,9 @@ KzReply kz_request(const char *line)
     if (count == 0 || words[0][0] == '#')
         return (KzReply){0};
     KZ_CALL_OF("a request");
+    if (is_of_file())
+        note_unexpected();
+    seen.requests++;
     kz_note_request(line);
     kz_forget_busy();
     kz_tick();
@@ -396,20 +432,34 @@ static void request_or_bad(const char *line, FILE *file)
     said(bad);
 }
 
+/* A run that tried nothing, or not what was meant, is no success. */
+static int judged(int status, const char *name)
+{
+    if (status != 0)
+        return status;
+    if (!seen.requests)
+        fprintf(stderr, "%s: there is no request in it\n", name);
+    else if (seen.line)
+        fprintf(stderr, "%s:%u: `%s` was refused, and no `expect` behind it says so\n", name, seen.line, seen.words);
+    return !seen.requests || seen.line ? 1 : 0;
+}
+
 static int run_file(const KzDriver *drivers, size_t count, FILE *file, const char *name)
 {
     static char line[KZ_LINE];
     if (kz_open(drivers, count) != 0)
         return 1;
     is_wrong = false;
+    memset(&seen, 0, sizeof seen);
     while (!is_wrong && fgets(line, sizeof line, file)) {
         kz_next_line();
         request_or_bad(line, file);
     }
     if (is_wrong)
         fprintf(stderr, "%s:%u: not understood\n", name, kz_line());
+    note_unexpected();
     int status = kz_close();
-    status = ferror(file) ? 3 : is_wrong ? 2 : status;
+    status = ferror(file) ? 3 : is_wrong ? 2 : judged(status, name);
     kz_report_end(name, status);
     return status;
 }
@@ -422,10 +472,18 @@ int kz_run_file(const KzDriver *drivers, size_t count, FILE *file)
 int kz_run_path(const KzDriver *drivers, size_t count, const char *path)
 {
     FILE *file = fopen(path, "r");
-    if (!file) {
-        fprintf(stderr, "%s: can't be read\n", path);
+    int first = file ? fgetc(file) : EOF;
+    bool is_folder = file && first == EOF && ferror(file);
+    if (!file || is_folder) {
+        fprintf(stderr, "%s: %s\n", path, is_folder ? "is a folder, and no file of requests" : "can't be read");
+        if (file)
+            fclose(file);
         return 3;
     }
+    if (first != EOF)
+        ungetc(first, file);
+    else
+        clearerr(file);
     int status = run_file(drivers, count, file, path);
     fclose(file);
     return status;

@@ -64,6 +64,27 @@ printf 'load ctx\nlaod ctx\nunload 0\n' > "$room/wrong.txt"
 "$room/drivers" "$room/wrong.txt" > "$room/wrong.out" 2> "$room/wrong.err"
 [ $? = 2 ] && grep -q "wrong.txt:2: not understood" "$room/wrong.err"
 tell $? "a line that isn't understood"
+# A run that tried nothing, or not what was meant, is no success, and says so.
+says() {
+    "$room/drivers" "$3" > "$room/green.out" 2> "$room/green.err"
+    [ $? = "$1" ] && grep -q "$2" "$room/green.err"
+}
+printf 'load none\ncreate 0 new a\n' > "$room/green.txt"
+says 1 'green.txt:1: `load none` was refused' "$room/green.txt"
+tell $? "a load that is refused"
+printf 'load ctx\nattach 0 0 one\nattach 0 0 two 1x\n' > "$room/green.txt"
+sed -i '2d' "$room/green.txt"
+says 1 'green.txt:2: `attach 0 0 two 1x` was refused' "$room/green.txt"
+tell $? "an attach that is refused"
+printf 'load none\n# it is none\n\nexpect status 6\n' > "$room/green.txt"
+says 0 '' "$room/green.txt" || [ ! -s "$room/green.err" ]
+tell $? "a load that is to be refused"
+printf '# no request\n\n' > "$room/green.txt"
+says 1 'there is no request in it' "$room/green.txt"
+tell $? "a file with no request"
+says 3 'is a folder' "$room"
+tell $? "a folder as a file of requests"
+
 if command -v python3 > /dev/null; then
     python3 $tests/scripts/reports.py "$room"
     tell $? "JSON and JUnit, as they are read,"

@@ -181,13 +181,15 @@ static Header *take_due(uint8_t worker)
 void kz_clean_up(void)
 {
     uint8_t worker = kz_helper();
-    for (Header *context = take_due(worker); context; context = take_due(worker)) {
+    Header *context = take_due(worker);
+    while (context) {
         context->is_known = false;
         slots[context->slot] = NULL;
         if (!context->kept)
             finish(context, worker);
-        kz_event(worker, (KazdrinEvent){.event = KZE_CLEANED});
+        KzTold cleaned = kz_event(worker, (KazdrinEvent){.event = KZE_CLEANED});
         kz.changes++;
+        context = cleaned.told.due ? take_due(worker) : NULL;
     }
     kz_helped(worker);
 }
@@ -264,6 +266,15 @@ VOID FltReferenceContext(PFLT_CONTEXT Context)
         keep(context, &kz_me->place);
 }
 
+/* The worker gives back a reference that it holds: false if it holds none. The manager says whether something is due then. */
+static bool release(uint8_t worker, const Header *context)
+{
+    KzTold released = kz_event(worker, (KazdrinEvent){.event = KZE_RELEASE, .slot = context->slot, .generation = context->generation});
+    if (released.status == KZS_OK && released.told.due)
+        kz_clean_up();
+    return released.status == KZS_OK;
+}
+
 /* A reference that a callback which runs handed on, to a work item say: whoever got it gives it back. Until the callback returns the manager has it in that callback's hand. */
 static bool holds(uint8_t worker, const Header *context)
 {
@@ -283,7 +294,7 @@ static bool released_elsewhere(const Header *context)
 {
     for (uint8_t worker = 0; context->is_known && worker < KZ_WORKERS; worker++)
         if (worker != kz_worker() && holds(worker, context))
-            return kz_event(worker, (KazdrinEvent){.event = KZE_RELEASE, .slot = context->slot, .generation = context->generation}).status == KZS_OK;
+            return release(worker, context);
     return false;
 }
 
@@ -298,14 +309,10 @@ VOID FltReleaseContext(PFLT_CONTEXT Context)
         return;
     }
     kz_scheduler->touch(context, 0, KZT_GIVES);
-    if (context->is_known && kz_event(kz_worker(), (KazdrinEvent){.event = KZE_RELEASE, .slot = context->slot, .generation = context->generation}).status == KZS_OK) {
-        kz_clean_up();
+    if (context->is_known && release(kz_worker(), context))
         return;
-    }
-    if (!context->kept && released_elsewhere(context)) {
-        kz_clean_up();
+    if (!context->kept && released_elsewhere(context))
         return;
-    }
     if (!context->kept) {
         kz_tell(KZM_RELEASED_TWICE, __func__, "%s context to which no reference is held (released twice?)", kind_names[context->kind]);
         return;

@@ -1,4 +1,4 @@
-//! A job that can't be put back, since the queue is full: it is set aside, and put later, or dropped at the worker's end.
+//! A job that can't be put back, since the queue is full: it is set aside, and put once there is room, at the worker's Stop at the latest.
 
 ghost use Rattle.std.specs.Prelude.{◌≡◌, All, IfSome};
 ghost use Rattle.fm_queue.specs.Passes.{IsPassOf};
@@ -12,7 +12,6 @@ use fm_lock::Manager;
 use fm_queue::{Job, JobPass, JobQueue};
 use fm_types::limits::PARTS;
 use fm_types::{OpId, Status, WorkerId};
-use fm_worker::Worker;
 use std::alloc::Global;
 use std::marker::Brand;
 use std::sync::Wait;
@@ -75,21 +74,8 @@ fn set_aside<L: Ledger, R: Wait, D: Device>(
     }
 }
 
-// What was set aside is put in the queue by the second worker, or it is dropped there. Whether it comes behind the Stop that is queued.
-fn leave<L: Ledger, R: Wait + Clock, D: Device>(
-    rt: &R,
-    queue: &JobQueue,
-    pass: &mut JobPass,
-    second: Worker<'_, Ties, L, R, Watch, D>,
-    reading: OpId,
-    is_dropped: bool,
-) -> bool {
-    let mut second = second;
-    if is_dropped {
-        let _ = second.into_parts();
-    } else {
-        second.put_aside();
-    }
+// Whether the read's job comes behind the Stop that filled the queue: the second worker had it put at its own Stop.
+fn is_put<R: Wait>(rt: &R, queue: &JobQueue, pass: &mut JobPass, reading: OpId) -> bool {
     let stop = queue.try_take(rt, pass);
     let next = queue.try_take(rt, pass);
     stop == Some(Job::Stop) && next == Some(Job::Run(reading))
@@ -104,16 +90,15 @@ fn set_aside_and_finish<L: Ledger, R: Wait + Clock, D: Device>(
     pass: &mut JobPass,
     workers: Tied<'_, L, R, D>,
     gate: &Watch,
-    is_dropped: bool,
 ) -> Result<Seen, Status> {
     let mut workers = workers;
     let reading = set_aside(rt, alloc, manager, &mut workers)?;
     let Workers {
         mut client,
         mut first,
-        second,
+        second: _,
     } = workers;
-    let is_queued = leave(rt, queue, pass, second, reading, is_dropped);
+    let is_queued = is_put(rt, queue, pass, reading);
     client.submit(reading);
     work_off(&mut client, &mut first);
     let status = collect(rt, manager, reading)?.status;
@@ -129,7 +114,6 @@ fn aside_day<L: Ledger, R: Wait + Clock>(
     rt: &R,
     alloc: Global,
     blank: Blank,
-    is_dropped: bool,
 ) -> Result<Seen, Status>
     requires name { blank.name ≡ L.name }
     requires parts { blank.parts ≡ L.parts }
@@ -150,24 +134,20 @@ fn aside_day<L: Ledger, R: Wait + Clock>(
         below: folder(alloc)?,
     };
     let workers = make_workers(rt, alloc, &manager, jobs, &gate, &mut passes, below)?;
-    set_aside_and_finish(
-        rt, alloc, &manager, jobs, &mut looks, workers, &gate, is_dropped,
-    )
+    set_aside_and_finish(rt, alloc, &manager, jobs, &mut looks, workers, &gate)
 }
 
 #[test]
 fn set_aside_and_put_later(rt: HostRuntime) {
-    for is_dropped in [false, true] {
-        let seen = aside_day::<Brand, _>(&rt, rt.alloc(), Blank::new(PARTS), is_dropped);
-        assert!(rt;
-            matches!(
-                seen,
-                Ok(Seen {
-                    is_queued,
-                    status: Status::FileNotFound,
-                    last: 1
-                }) if is_queued != is_dropped
-            )
-        );
-    }
+    let seen = aside_day::<Brand, _>(&rt, rt.alloc(), Blank::new(PARTS));
+    assert!(rt;
+        matches!(
+            seen,
+            Ok(Seen {
+                is_queued: true,
+                status: Status::FileNotFound,
+                last: 1
+            })
+        )
+    );
 }

@@ -284,6 +284,7 @@ typedef struct KzPiece {
     PFLT_FILTER filter;
     ULONG tag;
     bool is_paged;
+    const void *lookaside; /* the list that it is of; NULL if it is of none */
     KzMemory kind;
     unsigned list;
     bool is_told, is_read_told;
@@ -303,6 +304,13 @@ void kz_check_blocks(const KzOp *op);
 void kz_tell_pools(PFLT_FILTER filter);
 void kz_tell_gone(void);
 void kz_free_memory(void);
+
+/* made.c: structures of the kit in a driver's own memory. */
+void kz_made(const void *at, const char *kind, const char *call, const char *deletes);
+bool kz_unmade(const void *at);
+void kz_check_made(const void *memory, size_t size);
+void kz_tell_made(PFLT_FILTER filter);
+void kz_free_made(void);
 
 /* irql.c: whether the call may be made here. */
 void kz_check_irql(const char *call);
@@ -325,6 +333,7 @@ void kz_free_clock(void);
 
 /* object.c */
 void kz_take_object(PVOID object, bool is_flt, const char *call);
+bool kz_is_referenced(const void *object);
 void kz_tell_objects(void);
 void kz_free_objects(void);
 
@@ -432,6 +441,8 @@ uint32_t kz_detach(PFLT_INSTANCE instance);
 uint32_t kz_tear_down(PFLT_INSTANCE instance, FLT_INSTANCE_TEARDOWN_FLAGS reason);
 uint32_t kz_dismount(PFLT_VOLUME volume);
 bool kz_is_instance(PFLT_INSTANCE instance);
+/* Whether it may be used: one that was detached and that nobody references is told. */
+bool kz_may_use(const char *call, PFLT_INSTANCE instance);
 bool kz_holds_any(PFLT_INSTANCE instance);
 bool kz_is_not_asked(void *instance);
 bool kz_enter_query(PFLT_INSTANCE instance, uint8_t worker);

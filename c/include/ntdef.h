@@ -435,24 +435,46 @@ static inline BOOLEAN IsListEmpty(const LIST_ENTRY *head)
     return head->Flink == head;
 }
 
+KZ_BEGIN
+VOID KzBrokenList(PLIST_ENTRY Entry, PCSTR Call);
+KZ_END
+
 static inline BOOLEAN RemoveEntryList(PLIST_ENTRY entry)
 {
-    entry->Blink->Flink = entry->Flink;
-    entry->Flink->Blink = entry->Blink;
-    return entry->Flink == entry->Blink;
+    PLIST_ENTRY next = entry->Flink, before = entry->Blink;
+    if (next->Blink != entry || before->Flink != entry) {
+        KzBrokenList(entry, "RemoveEntryList");
+        return FALSE;
+    }
+    before->Flink = next;
+    next->Blink = before;
+    return next == before;
 }
 
 static inline void InsertTailList(PLIST_ENTRY head, PLIST_ENTRY entry)
 {
+    PLIST_ENTRY before = head->Blink;
+    if (before->Flink != head) {
+        KzBrokenList(head, "InsertTailList");
+        return;
+    }
     entry->Flink = head;
-    entry->Blink = head->Blink;
-    head->Blink->Flink = entry;
+    entry->Blink = before;
+    before->Flink = entry;
     head->Blink = entry;
 }
 
 static inline void InsertHeadList(PLIST_ENTRY head, PLIST_ENTRY entry)
 {
-    InsertTailList(head->Flink, entry);
+    PLIST_ENTRY next = head->Flink;
+    if (next->Blink != head) {
+        KzBrokenList(head, "InsertHeadList");
+        return;
+    }
+    entry->Flink = next;
+    entry->Blink = head;
+    next->Blink = entry;
+    head->Flink = entry;
 }
 
 static inline PLIST_ENTRY RemoveHeadList(PLIST_ENTRY head)

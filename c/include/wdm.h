@@ -680,20 +680,9 @@ static inline VOID ExInitializeFastMutex(PFAST_MUTEX FastMutex)
 #define KeTryToAcquireGuardedMutex(lock) KzTryTake((lock), KZ_ALONE, PASSIVE_LEVEL, "KeTryToAcquireGuardedMutex")
 #define KeReleaseGuardedMutex(lock) KzLetGo((lock), "KeReleaseGuardedMutex")
 
-static inline NTSTATUS ExInitializeResourceLite(PERESOURCE Resource)
-{
-    memset(Resource, 0, sizeof *Resource);
-    return STATUS_SUCCESS;
-}
-static inline NTSTATUS ExReinitializeResourceLite(PERESOURCE Resource)
-{
-    return ExInitializeResourceLite(Resource);
-}
-static inline NTSTATUS ExDeleteResourceLite(PERESOURCE Resource)
-{
-    KzForgetLock(Resource, "ExDeleteResourceLite");
-    return STATUS_SUCCESS;
-}
+NTSTATUS ExInitializeResourceLite(PERESOURCE Resource);
+NTSTATUS ExReinitializeResourceLite(PERESOURCE Resource);
+NTSTATUS ExDeleteResourceLite(PERESOURCE Resource);
 BOOLEAN ExAcquireResourceExclusiveLite(PERESOURCE Resource, BOOLEAN Wait);
 BOOLEAN ExAcquireResourceSharedLite(PERESOURCE Resource, BOOLEAN Wait);
 BOOLEAN ExAcquireSharedStarveExclusive(PERESOURCE Resource, BOOLEAN Wait);

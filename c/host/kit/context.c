@@ -345,6 +345,8 @@ static bool is_object(PFLT_INSTANCE instance, PFLT_VOLUME volume, PFILE_OBJECT f
 /* Tells that it is none of the callback's own objects. */
 static NTSTATUS refuse(const char *call, PFLT_INSTANCE instance, PFLT_VOLUME volume, PFILE_OBJECT file)
 {
+    if (!kz_may_use(call, instance))
+        return STATUS_INVALID_PARAMETER;
     if (!is_object(instance, volume, file)) {
         kz_tell(KZM_NO_FILTER_OBJECT, call, "no object of the filter manager");
         return STATUS_INVALID_PARAMETER;

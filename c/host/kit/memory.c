@@ -278,6 +278,7 @@ void kz_give_back(void *memory)
     if (!piece)
         return;
     kz_check_piece(piece);
+    kz_check_made(memory, piece->size);
     kz_scheduler->touch(body_of(piece), piece->size, KZT_HAS_TAKEN_BACK);
     *(piece->before ? &piece->before->next : &pieces[piece->list]) = piece->next;
     if (piece->next)

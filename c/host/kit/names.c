@@ -97,8 +97,9 @@ NTSTATUS FltGetFileNameInformationUnsafe(PFILE_OBJECT FileObject, PFLT_INSTANCE 
                                          PFLT_FILE_NAME_INFORMATION *FileNameInformation)
 {
     KZ_INSIDE();
-    (void)Instance;
     *FileNameInformation = NULL;
+    if (!kz_may_use(__func__, Instance))
+        return STATUS_INVALID_PARAMETER;
     KzFile *file = kz_file_with(FileObject);
     return file ? name_of(file->volume, file->path, NameOptions, FileNameInformation) : STATUS_INVALID_PARAMETER;
 }

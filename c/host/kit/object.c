@@ -240,6 +240,8 @@ NTSTATUS PsLookupThreadByThreadId(HANDLE ThreadId, PETHREAD *Thread)
 NTSTATUS FltObjectReference(PVOID FltObject)
 {
     KZ_INSIDE();
+    if (!kz_may_use(__func__, FltObject))
+        return STATUS_FLT_DELETING_OBJECT;
     take(FltObject, true, __func__);
     return STATUS_SUCCESS;
 }
@@ -253,6 +255,14 @@ VOID FltObjectDereference(PVOID FltObject)
 void kz_take_object(PVOID object, bool is_flt, const char *call)
 {
     take(object, is_flt, call);
+}
+
+bool kz_is_referenced(const void *object)
+{
+    const Taken *one = taken;
+    while (one && one->object != object)
+        one = one->next;
+    return one != NULL;
 }
 
 void kz_tell_objects(void)

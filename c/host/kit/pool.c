@@ -95,6 +95,8 @@ VOID ExFreePool2(PVOID P, ULONG Tag, PVOID ExtendedParameters, ULONG ExtendedPar
 
 VOID KzInitializeLookaside(GENERAL_LOOKASIDE *List, PALLOCATE_FUNCTION Allocate, PFREE_FUNCTION Free, POOL_TYPE Type, SIZE_T Size, ULONG Tag)
 {
+    KZ_INSIDE();
+    kz_made(List, "a lookaside list", "ExInitializeNPagedLookasideList", "ExDeleteNPagedLookasideList");
     *List = (GENERAL_LOOKASIDE){.Size = (ULONG)Size, .Tag = Tag, .Type = Type, .Allocate = Allocate, .Free = Free, .Initialized = MADE};
 }
 
@@ -105,12 +107,33 @@ static bool is_made(const GENERAL_LOOKASIDE *list, const char *call)
     return list->Initialized == MADE;
 }
 
+static void note_lookaside(PVOID memory, const GENERAL_LOOKASIDE *list)
+{
+    KZ_INSIDE();
+    KzPiece *piece = memory ? kz_piece_of(memory) : NULL;
+    if (piece)
+        piece->lookaside = list;
+}
+
+/* An entry goes back to the list that it is of. */
+static void check_lookaside(PVOID memory, const GENERAL_LOOKASIDE *list, const char *call)
+{
+    KZ_INSIDE();
+    KzPiece *piece = kz_piece_of(memory);
+    if (piece && piece->lookaside != list)
+        kz_tell_of(memory, KZM_NO_LOOKASIDE, call, "%llu bytes that aren't this list's: its entries have %u", (unsigned long long)piece->size, list->Size);
+}
+
 PVOID KzAllocateFromLookaside(GENERAL_LOOKASIDE *List, PCSTR Call)
 {
     if (!is_made(List, Call))
         return NULL;
     __atomic_add_fetch(&List->TotalAllocates, 1, __ATOMIC_RELAXED);
-    return List->Allocate ? List->Allocate(List->Type, List->Size, List->Tag) : ExAllocatePoolWithTag(List->Type, List->Size, List->Tag);
+    if (List->Allocate)
+        return List->Allocate(List->Type, List->Size, List->Tag);
+    PVOID memory = ExAllocatePoolWithTag(List->Type, List->Size, List->Tag);
+    note_lookaside(memory, List);
+    return memory;
 }
 
 VOID KzFreeToLookaside(GENERAL_LOOKASIDE *List, PVOID Entry, PCSTR Call)
@@ -118,16 +141,22 @@ VOID KzFreeToLookaside(GENERAL_LOOKASIDE *List, PVOID Entry, PCSTR Call)
     if (!is_made(List, Call))
         return;
     __atomic_add_fetch(&List->TotalFrees, 1, __ATOMIC_RELAXED);
-    if (List->Free)
+    if (List->Free) {
         List->Free(Entry);
-    else
-        free_pool(Entry, Call);
+        return;
+    }
+    if (!List->Allocate)
+        check_lookaside(Entry, List, Call);
+    free_pool(Entry, Call);
 }
 
 VOID KzDeleteLookaside(GENERAL_LOOKASIDE *List)
 {
-    if (is_made(List, "ExDeleteNPagedLookasideList"))
-        List->Initialized = 0;
+    KZ_INSIDE();
+    if (!is_made(List, "ExDeleteNPagedLookasideList"))
+        return;
+    List->Initialized = 0;
+    kz_unmade(List);
 }
 
 /* ---- Memory descriptions: the pages are always there. */

@@ -214,6 +214,8 @@ NTSTATUS FltGetVolumeFromDeviceObject(PFLT_FILTER Filter, PDEVICE_OBJECT DeviceO
 NTSTATUS FltGetVolumeFromInstance(PFLT_INSTANCE Instance, PFLT_VOLUME *RetVolume)
 {
     KZ_INSIDE();
+    if (!kz_may_use(__func__, Instance))
+        return STATUS_FLT_DELETING_OBJECT;
     return give_volume(Instance->volume, RetVolume, __func__);
 }
 
@@ -260,6 +262,8 @@ NTSTATUS FltEnumerateVolumes(PFLT_FILTER Filter, PFLT_VOLUME *VolumeList, ULONG 
 NTSTATUS FltGetFilterFromInstance(PFLT_INSTANCE Instance, PFLT_FILTER *RetFilter)
 {
     KZ_INSIDE();
+    if (!kz_may_use(__func__, Instance))
+        return STATUS_FLT_DELETING_OBJECT;
     *RetFilter = Instance->filter;
     kz_take_object(Instance->filter, true, __func__);
     return STATUS_SUCCESS;
@@ -383,6 +387,8 @@ static PFLT_INSTANCE next_to(PFLT_INSTANCE from, int side)
 NTSTATUS FltGetUpperInstance(PFLT_INSTANCE CurrentInstance, PFLT_INSTANCE *UpperInstance)
 {
     KZ_INSIDE();
+    if (!kz_may_use(__func__, CurrentInstance))
+        return STATUS_FLT_DELETING_OBJECT;
     NTSTATUS status = give_instance(next_to(CurrentInstance, 1), UpperInstance, __func__);
     return NT_SUCCESS(status) ? status : STATUS_NO_MORE_ENTRIES;
 }
@@ -390,6 +396,8 @@ NTSTATUS FltGetUpperInstance(PFLT_INSTANCE CurrentInstance, PFLT_INSTANCE *Upper
 NTSTATUS FltGetLowerInstance(PFLT_INSTANCE CurrentInstance, PFLT_INSTANCE *LowerInstance)
 {
     KZ_INSIDE();
+    if (!kz_may_use(__func__, CurrentInstance))
+        return STATUS_FLT_DELETING_OBJECT;
     NTSTATUS status = give_instance(next_to(CurrentInstance, -1), LowerInstance, __func__);
     return NT_SUCCESS(status) ? status : STATUS_NO_MORE_ENTRIES;
 }

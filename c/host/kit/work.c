@@ -77,6 +77,8 @@ NTSTATUS FltQueueGenericWorkItem(PFLT_GENERIC_WORKITEM FltWorkItem, PVOID FltObj
         kz_tell(KZM_NO_FILTER_OBJECT, __func__, "neither a filter nor an instance");
         return STATUS_INVALID_PARAMETER;
     }
+    if (kz_is_instance(FltObject) && !kz_may_use(__func__, FltObject))
+        return STATUS_FLT_DELETING_OBJECT;
     if (kz_is_instance(FltObject) && kz_phase(FltObject) > KZP_INSTANCE_STOPPING)
         return STATUS_FLT_DELETING_OBJECT;
     return queue(FltWorkItem, GENERIC, FltObject, (PVOID)WorkerRoutine, Context, __func__);

@@ -302,6 +302,7 @@ static void tell_left(PFLT_FILTER filter)
     kz_tell_work(filter);
     kz_forget_timers(filter);
     kz_tell_ports(filter);
+    kz_tell_made(filter);
 }
 
 static uint32_t ask(PFLT_FILTER filter)

@@ -148,6 +148,7 @@ static void free_all(void)
     kz_free_locks();
     kz_free_clock();
     kz_free_objects();
+    kz_free_made();
     kz_free_registry();
     kz_free_ports();
     kz_free_told();

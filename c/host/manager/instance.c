@@ -65,6 +65,15 @@ bool kz_is_instance(PFLT_INSTANCE instance)
     return false;
 }
 
+bool kz_may_use(const char *call, PFLT_INSTANCE instance)
+{
+    bool is_own = kz_me->place.instance == instance; /* a work item has a reference of its own */
+    if (!instance || is_own || !kz_is_instance(instance) || kz_phase(instance) != KZP_INSTANCE_DETACHED || kz_is_referenced(instance))
+        return true;
+    kz_tell_of(instance, KZM_NO_FILTER_OBJECT, call, "instance %u, which was detached (FltObjectReference keeps one)", instance->id);
+    return false;
+}
+
 uint32_t kz_attach(PFLT_FILTER filter, PFLT_VOLUME volume, const char *name, const char *altitude, FLT_INSTANCE_SETUP_FLAGS flags, uint64_t *number)
 {
     KazdrinEvent event = {.filter = filter->id, .volume = volume->id, .worker = kz_worker()};

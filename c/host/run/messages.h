@@ -44,6 +44,8 @@ typedef enum {
     KZM_WRITTEN_FREED = 145,
     KZM_NO_LOOKASIDE = 146,
     KZM_NOT_TERMINATED = 147,
+    KZM_BROKEN_LIST = 148,
+    KZM_STILL_MADE = 149,
     /* Names, objects, handles. */
     KZM_NAME_LEAK = 151,
     KZM_NO_NAME = 152,

@@ -1,4 +1,4 @@
-/* What can be told, by numbers that stay: KZ0101 and on are mistakes on Windows too (TOLD), KZ0201 and on are where Kazdrin differs (LIMIT). docs/C.md has a line for each,
+/* What can be told, by numbers that stay: KZ0101 and on are mistakes on Windows too (TOLD), KZ0201 and on are where Kazdrin differs (LIMIT). docs/TOLD.md has a line for each,
  * with what the kit does. A number that was given is never used for anything else. */
 #ifndef KZ_MESSAGES_H
 #define KZ_MESSAGES_H

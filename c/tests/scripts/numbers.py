@@ -1,12 +1,12 @@
 """The numbers and sentences of what is told stand in three places, which this compares: c/host/run/messages.h, the page of what is told, and the messages of trials with their page.
 
-A number of messages.h has a row in docs/C.md, and no row is there without one. A number of crates/fm_trial/src/told.rt is one of messages.h, and has a row in docs/AUTHORS.md. The statuses
+A number of messages.h has a row in docs/TOLD.md, and no row is there without one. A number of crates/fm_trial/src/told.rt is one of messages.h, and has a row in docs/AUTHORS.md. The statuses
 of c/wire/status.h are those of crates/fm_types/src/status.rt, by number and name, and the events of c/include/kazdrin.h have the numbers 1 to 46 in the order in which they stand.
 """
 import re
 import sys
 
-TOLD = "docs/C.md"
+TOLD = "docs/TOLD.md"
 
 
 def read(path):

@@ -79,7 +79,27 @@
 #define EXTERN_C KZ_EXTERN_C
 #define EXTERN_C_START KZ_BEGIN
 #define EXTERN_C_END KZ_END
-#define __declspec(x)
+/* What changes a layout or a linkage means what it means there; the others stand for nothing. */
+#define __declspec(x) KZ_DECLSPEC_##x
+#define KZ_DECLSPEC_align(n) __attribute__((aligned(n)))
+#define KZ_DECLSPEC_noinline __attribute__((noinline))
+#define KZ_DECLSPEC_noreturn __attribute__((noreturn))
+#define KZ_DECLSPEC_selectany __attribute__((weak))
+#define KZ_DECLSPEC_restrict
+#define KZ_DECLSPEC_noalias
+#define KZ_DECLSPEC_nothrow
+#define KZ_DECLSPEC_novtable
+#define KZ_DECLSPEC_safebuffers
+#define KZ_DECLSPEC_deprecated
+#define KZ_DECLSPEC_dllimport
+#define KZ_DECLSPEC_dllexport
+#define KZ_DECLSPEC_naked
+#define KZ_DECLSPEC_thread
+#define KZ_DECLSPEC_allocate(name)
+#define KZ_DECLSPEC_code_seg(name)
+#define KZ_DECLSPEC_property(...)
+#define KZ_DECLSPEC_uuid(name)
+#define KZ_DECLSPEC_guard(name)
 #define __cdecl
 #define __stdcall
 #define __fastcall
@@ -97,6 +117,7 @@
 #define __int16 short
 #define __int8 char
 #define __FUNCTION__W L""
+#define __pragma(...)
 #define __assume(x) ((void)0)
 #define __noop(...) ((void)0)
 #define __debugbreak() KzBreak()

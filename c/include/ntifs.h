@@ -97,6 +97,9 @@ typedef enum _FSINFOCLASS {
     FileFsDriverPathInformation = 9,
     FileFsVolumeFlagsInformation = 10,
     FileFsSectorSizeInformation = 11,
+    FileFsDataCopyInformation = 12,
+    FileFsMetadataSizeInformation = 13,
+    FileFsFullSizeInformationEx = 14,
     FileFsMaximumInformation
 } FS_INFORMATION_CLASS, *PFS_INFORMATION_CLASS;
 
@@ -473,6 +476,23 @@ typedef struct _SECURITY_QUALITY_OF_SERVICE {
     BOOLEAN ContextTrackingMode;
     BOOLEAN EffectiveOnly;
 } SECURITY_QUALITY_OF_SERVICE, *PSECURITY_QUALITY_OF_SERVICE;
+#pragma pack(push, 4)
+typedef struct _LUID_AND_ATTRIBUTES {
+    LUID Luid;
+    ULONG Attributes;
+} LUID_AND_ATTRIBUTES, *PLUID_AND_ATTRIBUTES;
+#pragma pack(pop)
+typedef struct _PRIVILEGE_SET {
+    ULONG PrivilegeCount;
+    ULONG Control;
+    LUID_AND_ATTRIBUTES Privilege[ANYSIZE_ARRAY];
+} PRIVILEGE_SET, *PPRIVILEGE_SET;
+#define INITIAL_PRIVILEGE_COUNT 3
+typedef struct _INITIAL_PRIVILEGE_SET {
+    ULONG PrivilegeCount;
+    ULONG Control;
+    LUID_AND_ATTRIBUTES Privilege[INITIAL_PRIVILEGE_COUNT];
+} INITIAL_PRIVILEGE_SET, *PINITIAL_PRIVILEGE_SET;
 typedef struct _ACCESS_STATE {
     LUID OperationID;
     BOOLEAN SecurityEvaluated;
@@ -486,11 +506,15 @@ typedef struct _ACCESS_STATE {
     SECURITY_SUBJECT_CONTEXT SubjectSecurityContext;
     PSECURITY_DESCRIPTOR SecurityDescriptor;
     PVOID AuxData;
-    PVOID Privileges[6];
+    union {
+        INITIAL_PRIVILEGE_SET InitialPrivilegeSet;
+        PRIVILEGE_SET PrivilegeSet;
+    } Privileges;
     BOOLEAN AuditPrivileges;
     UNICODE_STRING ObjectName;
     UNICODE_STRING ObjectTypeName;
 } ACCESS_STATE, *PACCESS_STATE;
+KZ_ASSERT(sizeof(ACCESS_STATE) == 160 && offsetof(ACCESS_STATE, AuditPrivileges) == 124 && offsetof(ACCESS_STATE, ObjectTypeName) == 144, "layout");
 typedef struct _IO_SECURITY_CONTEXT {
     PSECURITY_QUALITY_OF_SERVICE SecurityQos;
     PACCESS_STATE AccessState;

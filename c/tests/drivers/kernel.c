@@ -1,6 +1,20 @@
 /* What the kernel has for every driver: locks, events, timers, lists, lookaside lists, tables, time, who asks, the registry. */
 #include <fltKernel.h>
 
+/* What the kit's compiler knows means what it means there. */
+typedef struct __declspec(align(64)) _CACHE_LINE {
+    ULONG Number;
+} CACHE_LINE;
+C_ASSERT(sizeof(CACHE_LINE) == 64);
+C_ASSERT(FIELD_OFFSET(ACCESS_STATE, ObjectName) == 128);
+C_ASSERT(MaximumWorkQueue == 7 && DPFLTR_FLTMGR_ID == 47);
+__pragma(warning(disable : 4100))
+__declspec(noinline) static PVOID SystemBufferOf(PIRP Irp)
+{
+    return Irp->AssociatedIrp.SystemBuffer;
+}
+static PVOID (*const gSystemBufferOf)(PIRP) __attribute__((unused)) = SystemBufferOf;
+
 #define SHOW(e) DbgPrint("%s = %d\n", #e, (int)(e))
 
 typedef struct _ITEM {

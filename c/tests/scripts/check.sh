@@ -6,6 +6,7 @@
 #   explore   schedules
 #   threads   drivers under real threads
 #   order     the lists that all managers are held to
+#   headers   constants and enumerators beside those of mingw-w64, where its headers are there
 #   mount     the mount above fltd
 #   serve     the server of drivers: the same frames as fltd, and the mount above it
 #
@@ -24,7 +25,7 @@ if [ -z "${KAZDRIN_LIB:-}" ]; then
     [ -f "$KAZDRIN_LIB" ] || KAZDRIN_LIB=$("$here/../../archive.sh" --unproved) || exit 1
     export KAZDRIN_LIB
 fi
-[ $# -gt 0 ] || set -- host legal explore threads order mount serve
+[ $# -gt 0 ] || set -- host legal explore threads order headers mount serve
 passed=0
 failed=0
 report=$(mktemp)

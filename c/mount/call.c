@@ -30,6 +30,26 @@ int call_take(Call *call, Want want)
     return pool_take(&call->mount->pool, want, is_unwanted, call, &call->line);
 }
 
+int call_wait(Call *call, const char *path, Matter matter)
+{
+    Pool *pool = &call->mount->pool;
+    Gates *gates = &call->mount->gates;
+    call->gate = gate_of(path);
+    call->matter = matter;
+    while (gate_is_barred(gates, call->gate, matter, pool_is_scarce(pool))) {
+        gate_wait(gates);
+        if (is_unwanted(call))
+            return EINTR;
+    }
+    return 0;
+}
+
+int call_take_name(Call *call, Want want, const char *path)
+{
+    int error = call_wait(call, path, NAMES);
+    return error != 0 ? error : call_take(call, want);
+}
+
 int call_enter(Call *call, const char *path, Passage passage)
 {
     call->inside = gate_enter(&call->mount->gates, gate_of(path), passage, is_unwanted, call);
@@ -139,6 +159,7 @@ static void *settle(void *abandoned)
     Pool *pool = &call->mount->pool;
     Reply reply;
     call->is_abandoned = false;
+    pool_replace(pool, call->line);
     if (receive(call, &reply) != 0) {
         call->has_handle = false;
         pool_lost(pool, call->line);
@@ -147,25 +168,36 @@ static void *settle(void *abandoned)
         call->handle = reply.information;
     }
     call_end(call);
+    gate_abandon(&call->mount->gates, call->gate, call->matter, false);
     free(call);
-    pool_settle(pool, false);
+    pool_settle(pool);
     return NULL;
+}
+
+/* Nothing would be lost by its end but the reply, and no other line is to be had for it. */
+static bool is_to_hang_up(const Call *call)
+{
+    Pool *pool = &call->mount->pool;
+    return pool_is_scarce(pool) && !pool_is_home(pool, call->line) && call->inside.passage != ALONE;
 }
 
 static bool begin_settling(const Call *call)
 {
     pthread_t thread;
-    Call *copy = malloc(sizeof *copy);
+    Mount *mount = call->mount;
+    Call *copy = is_to_hang_up(call) ? NULL : malloc(sizeof *copy);
     if (!copy)
         return false;
     *copy = *call;
     copy->request = NULL;
-    pool_settle(&call->mount->pool, true);
+    pool_abandon(&mount->pool, call->line);
+    gate_abandon(&mount->gates, call->gate, call->matter, true);
     if (pthread_create(&thread, NULL, settle, copy) == 0) {
         pthread_detach(thread);
         return true;
     }
-    pool_settle(&call->mount->pool, false);
+    gate_abandon(&mount->gates, call->gate, call->matter, false);
+    pool_settle(&mount->pool);
     free(copy);
     return false;
 }

@@ -15,6 +15,8 @@ typedef struct {
     uint64_t handle;
     bool is_abandoned; /* the reply is still to come */
     uint8_t code;      /* of the last request */
+    unsigned gate;     /* of the name that it is about */
+    Matter matter;
 } Call;
 
 Call call_of(fuse_req_t request);
@@ -23,6 +25,10 @@ Call call_on(Mount *mount, Line *line);
 
 /* Each answers 0 or an errno. */
 int call_take(Call *call, Want want);
+/* Says what the call is about, and waits without a line as long as it would wait behind others of that name. */
+int call_wait(Call *call, const char *path, Matter matter);
+/* Takes a line for the name, once nobody is to be waited for. */
+int call_take_name(Call *call, Want want, const char *path);
 /* Goes in at the gate of the path. A line must have been taken. */
 int call_enter(Call *call, const char *path, Passage passage);
 /* The reply, whatever its status. */

@@ -58,7 +58,7 @@ void data_read(fuse_req_t request, fuse_ino_t number, size_t size, off_t offset,
         fuse_reply_buf(request, NULL, 0);
         return;
     }
-    int error = file_reach(&call, file_of(info), false, &handle);
+    int error = file_reach(&call, file_of(info), BYTES, &handle);
     if (error == 0)
         error = ask_read(&call, handle, size, (uint64_t)offset, &reply);
     if (error == 0) {
@@ -93,7 +93,7 @@ void data_write(fuse_req_t request, fuse_ino_t number, const char *bytes, size_t
     bool is_append = (info->flags & O_APPEND) && !info->writepage;
     (void)number;
     size = size > LONGEST_TRANSFER ? LONGEST_TRANSFER : size;
-    int error = file_reach(&call, file, false, &handle);
+    int error = file_reach(&call, file, BYTES, &handle);
     if (error == 0)
         error = ask_write(&call, handle, bytes, size, (uint64_t)offset, is_append, &written);
     file_done(&call, file);
@@ -112,7 +112,7 @@ void data_sync(fuse_req_t request, fuse_ino_t number, int is_data_alone, struct 
     uint64_t handle;
     (void)number;
     (void)is_data_alone;
-    int error = file_reach(&call, file_of(info), true, &handle);
+    int error = file_reach(&call, file_of(info), FLUSHES, &handle);
     if (error == 0)
         error = call_do(&call, request_handle(FRAME_FLUSH, handle), &reply);
     file_done(&call, file_of(info));

@@ -81,13 +81,24 @@ static int open_again(Call *call, const char *path, uint64_t *handle)
 
 static int take(Call *call, const File *file, bool is_home_alone, bool may_be_reserved)
 {
-    return call_take(call, (Want){file->home, file->generation, is_home_alone, may_be_reserved});
+    return call_take(call, (Want){file->home, file->generation, is_home_alone, may_be_reserved, true});
 }
 
-int file_reach(Call *call, File *file, bool may_be_reserved, uint64_t *handle)
+/* It has no name any more, or a create of that would wait behind abandoned ones. A flush may let those go. */
+static bool is_at_home_alone(Call *call, const Look *look)
+{
+    Mount *mount = call->mount;
+    if (look->is_deleted || call->matter == FLUSHES)
+        return look->is_deleted;
+    return pool_is_scarce(&mount->pool) && gate_has_abandoned(&mount->gates, call->gate, NAMES);
+}
+
+int file_reach(Call *call, File *file, Matter matter, uint64_t *handle)
 {
     Look look = nodes_look(&call->mount->nodes, file->node);
-    int error = take(call, file, look.is_deleted, may_be_reserved);
+    int error = call_wait(call, look.path, matter);
+    if (error == 0)
+        error = take(call, file, is_at_home_alone(call, &look), matter != BYTES);
     if (error == 0 && call->line != file->home)
         error = open_again(call, look.path, handle);
     else

@@ -21,8 +21,8 @@ File *file_open(Call *call, Node *node);
 /* Any open file of the node, or NULL; `file_leave` gives it back. */
 File *file_lend(Mount *mount, Node *node);
 void file_leave(File *file);
-/* A line and a handle for one operation on the file: 0 or an errno. */
-int file_reach(Call *call, File *file, bool may_be_reserved, uint64_t *handle);
+/* A line and a handle for one operation on the file: 0 or an errno. Bytes are read and written on homes alone, all else on any line. */
+int file_reach(Call *call, File *file, Matter matter, uint64_t *handle);
 /* Ends such an operation. */
 void file_done(Call *call, File *file);
 /* Frees what wasn't closed at the mount's end. */

@@ -66,6 +66,38 @@ void gate_leave(Gates *gates, Inside *inside)
     inside->passage = AT_NO_GATE;
 }
 
+void gate_abandon(Gates *gates, unsigned number, Matter matter, bool is_one_more)
+{
+    pthread_mutex_lock(&gates->mutex);
+    gates->gates[number].abandoned[matter] += is_one_more ? 1 : -1u;
+    pthread_cond_broadcast(&gates->left);
+    pthread_mutex_unlock(&gates->mutex);
+}
+
+bool gate_has_abandoned(Gates *gates, unsigned number, Matter matter)
+{
+    pthread_mutex_lock(&gates->mutex);
+    bool is_so = gates->gates[number].abandoned[matter] > 0;
+    pthread_mutex_unlock(&gates->mutex);
+    return is_so;
+}
+
+bool gate_is_barred(Gates *gates, unsigned number, Matter matter, bool is_scarce)
+{
+    const Gate *gate = &gates->gates[number];
+    pthread_mutex_lock(&gates->mutex);
+    bool is_barred = (matter == NAMES && !is_open(gate, BESIDE_CREATES)) || (is_scarce && gate->abandoned[matter] > 0);
+    pthread_mutex_unlock(&gates->mutex);
+    return is_barred;
+}
+
+void gate_wait(Gates *gates)
+{
+    pthread_mutex_lock(&gates->mutex);
+    condition_wait(&gates->left, &gates->mutex, TICK_MILLISECONDS);
+    pthread_mutex_unlock(&gates->mutex);
+}
+
 void gates_close(Gates *gates)
 {
     pthread_cond_destroy(&gates->left);

@@ -7,11 +7,15 @@
 
 #define GATES 1024
 
+/* What a request is about: a name, a file's bytes, its flush, or its size. */
+typedef enum { NAMES, BYTES, FLUSHES, SIZES, MATTERS } Matter;
+
 /* One gate, of all names that fall together. */
 typedef struct {
     unsigned creates; /* inside */
     unsigned waiting; /* closes that wait: creates that come now wait behind them */
     bool is_closing;
+    unsigned abandoned[MATTERS]; /* requests that nobody waits for any more, and that the server still holds */
 } Gate;
 
 /* All threads share them, under the mutex. */
@@ -34,6 +38,14 @@ unsigned gate_of(const char *path);
 /* AT_NO_GATE where nobody wants it any more */
 Inside gate_enter(Gates *gates, unsigned number, Passage passage, IsUnwanted is_unwanted, void *whom);
 void gate_leave(Gates *gates, Inside *inside);
+/* One more such request was abandoned, or one less is there. */
+void gate_abandon(Gates *gates, unsigned number, Matter matter, bool is_one_more);
+/* Whether such a request is there. */
+bool gate_has_abandoned(Gates *gates, unsigned number, Matter matter);
+/* Whether a request would wait: for a name behind a close, and where connections are scarce behind abandoned ones of its matter. */
+bool gate_is_barred(Gates *gates, unsigned number, Matter matter, bool is_scarce);
+/* Waits for a tick, or until somebody leaves. */
+void gate_wait(Gates *gates);
 void gates_close(Gates *gates);
 
 #endif

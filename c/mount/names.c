@@ -15,7 +15,7 @@ int path_of(Mount *mount, fuse_ino_t folder, const char *name, char path[LONGEST
 
 int open_path(Call *call, const char *path, bool is_home)
 {
-    int error = call_take(call, (Want){.may_be_reserved = !is_home});
+    int error = call_take_name(call, (Want){.may_be_reserved = !is_home}, path);
     return error != 0 ? error : call_open(call, path, CREATE_EXISTING);
 }
 
@@ -81,7 +81,7 @@ static int size_by(Call *call, uint64_t handle, const uint64_t *wanted, uint64_t
 static int size_by_file(Call *call, File *file, const uint64_t *wanted, uint64_t *size)
 {
     uint64_t handle;
-    int error = file_reach(call, file, true, &handle);
+    int error = file_reach(call, file, SIZES, &handle);
     if (error == 0)
         error = size_by(call, handle, wanted, size);
     file_done(call, file);
@@ -208,7 +208,7 @@ int delete_path(Call *call, const char *path, const char *moved_to)
 
 static int unlink_path(Call *call, const char *path)
 {
-    int error = call_take(call, (Want){.may_be_reserved = true});
+    int error = call_take_name(call, (Want){.may_be_reserved = true}, path);
     if (error == 0)
         error = call_enter(call, path, ALONE);
     return error != 0 ? error : delete_path(call, path, NULL);

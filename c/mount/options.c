@@ -5,8 +5,6 @@
 #include <stdlib.h>
 #include <string.h>
 
-/* At most so many, for the server has 32, and `fltc` needs one. */
-#define MOST_CONNECTIONS 31
 #define FEWEST_CONNECTIONS 4
 
 #define OPTION(text, field, value) {text, offsetof(Options, field), value}
@@ -54,8 +52,8 @@ static int take_word(void *data, const char *word, int key, struct fuse_args *re
 
 static bool is_in_range(const Options *options)
 {
-    if (options->connections < FEWEST_CONNECTIONS || options->connections > MOST_CONNECTIONS)
-        fprintf(stderr, "fltmount: connections is %d to %d\n", FEWEST_CONNECTIONS, MOST_CONNECTIONS);
+    if (options->connections < FEWEST_CONNECTIONS || options->connections > MOST_LINES)
+        fprintf(stderr, "fltmount: connections is %d to %d\n", FEWEST_CONNECTIONS, MOST_LINES);
     else if (options->volume > 255)
         fputs("fltmount: volume is 0 to 255\n", stderr);
     else if (options->mode > 0777)

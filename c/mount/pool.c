@@ -7,6 +7,8 @@
 
 /* So long an operation waits for the home of its file before it opens the file once more elsewhere. */
 #define PATIENCE_MILLISECONDS 50
+/* Free homes that looks and creates leave; one where there are few. */
+#define KEPT 2
 
 static void lock(Pool *pool)
 {
@@ -25,9 +27,9 @@ static bool is_gone(const Line *line)
 
 static void lay_out(Pool *pool, unsigned reserved)
 {
-    for (unsigned at = 0; at < pool->count; at++) {
+    for (unsigned at = 0; at < MOST_LINES; at++) {
         pool->lines[at].connection.socket = -1;
-        pool->lines[at].is_reserved = at >= pool->count - reserved;
+        pool->lines[at].is_reserved = at >= pool->count - reserved && at < pool->count;
     }
 }
 
@@ -49,7 +51,8 @@ static int greet_all(Pool *pool)
 
 int pool_open(Pool *pool, const char *path, unsigned count, unsigned reserved)
 {
-    *pool = (Pool){.lines = calloc(count, sizeof(Line)), .count = count, .path = path, .server = {.pid = -1, .process = -1}};
+    *pool = (Pool){.lines = calloc(MOST_LINES, sizeof(Line)), .count = count, .path = path, .server = {.pid = -1, .process = -1}};
+    pool->kept = count - reserved > KEPT + 1 ? KEPT : 1;
     if (!pool->lines)
         return ENOMEM;
     pthread_mutex_init(&pool->mutex, NULL);
@@ -69,18 +72,29 @@ static bool is_free(const Line *line)
     return !line->is_busy && !is_gone(line);
 }
 
-/* Of two free lines for a file or a look: look-ups take the last, files the one with the fewest. */
-static bool is_better(const Line *line, const Line *than, bool is_look)
+/* Of two free lines: one that is no home, where that may be, and else the one with the fewest files. */
+static bool is_better(const Line *line, const Line *than)
 {
-    return !than || is_look || line->files < than->files;
+    if (!than || line->is_reserved != than->is_reserved)
+        return !than || line->is_reserved;
+    return line->files < than->files;
 }
 
-static Line *find_free(Pool *pool, bool is_look)
+static unsigned count_free_homes(const Pool *pool)
+{
+    unsigned count = 0;
+    for (unsigned at = 0; at < MOST_LINES; at++)
+        count += is_free(&pool->lines[at]) && !pool->lines[at].is_reserved;
+    return count;
+}
+
+static Line *find_free(Pool *pool, const Want *want)
 {
     Line *best = NULL;
-    for (unsigned at = 0; at < pool->count; at++) {
+    bool may_be_home = want->may_be_last || count_free_homes(pool) > pool->kept;
+    for (unsigned at = 0; at < MOST_LINES; at++) {
         Line *line = &pool->lines[at];
-        if (is_free(line) && (is_look || !line->is_reserved) && is_better(line, best, is_look))
+        if (is_free(line) && (line->is_reserved ? want->may_be_reserved : may_be_home) && is_better(line, best))
             best = line;
     }
     return best;
@@ -88,7 +102,7 @@ static Line *find_free(Pool *pool, bool is_look)
 
 static bool is_all_gone(const Pool *pool)
 {
-    for (unsigned at = 0; at < pool->count; at++)
+    for (unsigned at = 0; at < MOST_LINES; at++)
         if (!is_gone(&pool->lines[at]))
             return false;
     return true;
@@ -102,8 +116,8 @@ static int try_one(Pool *pool, const Want *want, bool is_patient, Line **line)
         return EIO;
     if (want->home && !want->home->is_busy)
         *line = want->home;
-    else if (!want->home || (!is_patient && !want->is_home_alone))
-        *line = find_free(pool, want->may_be_reserved);
+    else if (!want->home || ((!is_patient || want->home->is_abandoned) && !want->is_home_alone))
+        *line = find_free(pool, want);
     if (*line) {
         (*line)->is_busy = true;
         return 0;
@@ -127,6 +141,30 @@ int pool_take(Pool *pool, Want want, IsUnwanted is_unwanted, void *whom, Line **
     return error;
 }
 
+static void hang_up(Line *line)
+{
+    connection_close(&line->connection);
+    line->generation++;
+    line->files = 0;
+}
+
+/* Lines that aren't abandoned. */
+static unsigned count_live(const Pool *pool)
+{
+    unsigned count = 0;
+    for (unsigned at = 0; at < MOST_LINES; at++)
+        count += !is_gone(&pool->lines[at]) && !pool->lines[at].is_abandoned;
+    return count;
+}
+
+/* A line that is one too many ends once no file lives on it. */
+static void retire(Pool *pool, Line *line)
+{
+    line->is_abandoned = false;
+    if (line->files == 0 && !line->is_reserved && count_live(pool) > pool->count)
+        hang_up(line);
+}
+
 static Errand *next_errand(Line *line)
 {
     Errand *errand = line->errands;
@@ -144,6 +182,7 @@ void pool_give(Pool *pool, Line *line)
         lock(pool);
     }
     line->is_busy = false;
+    retire(pool, line);
     pthread_cond_broadcast(&pool->freed);
     unlock(pool);
 }
@@ -160,17 +199,10 @@ void pool_send(Pool *pool, Line *line, Errand *errand)
         pool_give(pool, line);
 }
 
-static void hang_up(Line *line)
-{
-    connection_close(&line->connection);
-    line->generation++;
-    line->files = 0;
-}
-
 /* The others are looked at, so that whoever comes next needn't wait for an answer that can't come. */
 static void look_at_others(Pool *pool)
 {
-    for (unsigned at = 0; at < pool->count; at++)
+    for (unsigned at = 0; at < MOST_LINES; at++)
         if (is_free(&pool->lines[at]) && !connection_is_alive(&pool->lines[at].connection))
             hang_up(&pool->lines[at]);
     pthread_cond_broadcast(&pool->freed);
@@ -215,17 +247,70 @@ unsigned pool_generation(Pool *pool, Line *line)
     return generation;
 }
 
-void pool_settle(Pool *pool, bool is_begin)
+bool pool_is_scarce(Pool *pool)
 {
     lock(pool);
-    pool->settling += is_begin ? 1 : -1u;
+    bool is_so = count_live(pool) < pool->count;
+    unlock(pool);
+    return is_so;
+}
+
+bool pool_is_home(Pool *pool, const Line *line)
+{
+    lock(pool);
+    bool is_so = line->files > 0;
+    unlock(pool);
+    return is_so;
+}
+
+void pool_abandon(Pool *pool, Line *line)
+{
+    lock(pool);
+    line->is_abandoned = true;
+    pool->settling++;
+    unlock(pool);
+}
+
+/* A place that nobody has, which is the caller's from then on. */
+static Line *find_place(Pool *pool)
+{
+    Line *place = NULL;
+    for (unsigned at = 0; at < MOST_LINES && !place; at++)
+        if (is_gone(&pool->lines[at]) && !pool->lines[at].is_busy)
+            place = &pool->lines[at];
+    if (place)
+        place->is_busy = true;
+    return place;
+}
+
+void pool_replace(Pool *pool, Line *line)
+{
+    lock(pool);
+    Line *place = pool->is_ending ? NULL : find_place(pool);
+    unlock(pool);
+    if (!place)
+        return;
+    dial_anew(pool, place);
+    lock(pool);
+    if (!is_gone(place)) {
+        place->is_reserved = line->is_reserved;
+        line->is_reserved = false;
+    }
+    unlock(pool);
+    pool_give(pool, place);
+}
+
+void pool_settle(Pool *pool)
+{
+    lock(pool);
+    pool->settling--;
     pthread_cond_broadcast(&pool->freed);
     unlock(pool);
 }
 
 static void shut_down(Pool *pool)
 {
-    for (unsigned at = 0; at < pool->count; at++)
+    for (unsigned at = 0; at < MOST_LINES; at++)
         if (!is_gone(&pool->lines[at]))
             shutdown(pool->lines[at].connection.socket, SHUT_RDWR);
 }
@@ -238,7 +323,7 @@ void pool_close(Pool *pool)
     while (pool->settling > 0)
         pthread_cond_wait(&pool->freed, &pool->mutex);
     unlock(pool);
-    for (unsigned at = 0; at < pool->count; at++)
+    for (unsigned at = 0; at < MOST_LINES; at++)
         connection_close(&pool->lines[at].connection);
     server_forget(&pool->server);
     pthread_cond_destroy(&pool->freed);

@@ -1,4 +1,4 @@
-"""Creates and closes that a driver holds: programs can be killed meanwhile, and nothing stays behind. The server has the driver `late` (c/serve/tests).
+"""Creates and closes that a driver holds: programs can be killed meanwhile, hold nobody, and leave nothing behind. The server has the driver `late` (c/tests/serve/drivers).
 
 The kernel has no other look into a folder while a create or a deletion in it is under way: only files that are open go on."""
 import os
@@ -7,11 +7,12 @@ import subprocess
 import sys
 import time
 
-from ground import Ground, put, until
+from ground import Ground, put, until, whole
 
 SOON = 3
-# Each program that is killed while its create is held keeps a connection of the mount's sixteen, of which some are for looks alone.
-KILLS = (signal.SIGKILL, signal.SIGINT, signal.SIGTERM) * 3
+# Each name has more programs that are killed while its create is held than the mount has connections, and both together more than the server has.
+KILLS = (signal.SIGKILL, signal.SIGINT, signal.SIGTERM) * 6
+OTHERS = 20
 
 
 def program(words):
@@ -47,12 +48,48 @@ def creates(tally, ground, file):
     free(tally, ground, "it goes on", lambda: maker.poll() is not None)
     tally.note("and ends well", ended(maker), (True, 0))
     for signal_number in KILLS:
-        maker = program(f"print(flush=True); os.open({path!r}, os.O_CREAT | os.O_RDWR)")
-        maker.stdout.readline()
-        time.sleep(0.2)
-        maker.send_signal(signal_number)
-        tally.note(f"one is ended by {signal_number}", ended(maker)[0], True)
-    tally.note("a list beside those that are left", sorted(os.listdir(ground.mount)), ["late", "x"])
+        kill(tally, path, signal_number)
+    beside(tally, ground, file, "one name")
+    for number in range(OTHERS):
+        kill(tally, f"{path}{number}", signal.SIGKILL)
+    beside(tally, ground, file, "many names")
+    tally.note("a list beside those that are left", sorted(os.listdir(ground.mount)), ["late", "x", "y"])
+
+
+def kill(tally, path, signal_number):
+    """A program is ended by a signal while its create is held."""
+    maker = program(f"print(flush=True); os.open({path!r}, os.O_CREAT | os.O_RDWR)")
+    maker.stdout.readline()
+    time.sleep(0.2)
+    maker.send_signal(signal_number)
+    tally.note(f"one is ended by {signal_number}", ended(maker)[0], True)
+
+
+def soon(tally, what, function, *words):
+    """A call by a program of its own comes back soon, and well."""
+    child = os.fork()
+    if child == 0:
+        try:
+            function(*words)
+            os._exit(0)
+        finally:
+            os._exit(1)
+    done = []
+    is_over = until(lambda: done.append(os.waitpid(child, os.WNOHANG)) or done[-1][0] != 0, SOON)
+    if not is_over:
+        os.kill(child, signal.SIGKILL)
+        os.waitpid(child, 0)
+    tally.note(what, (is_over, done[-1][1]), (True, 0))
+
+
+def beside(tally, ground, file, when):
+    """All others go on."""
+    soon(tally, f"a read of what is open beside {when}", os.pread, file, 9, 0)
+    soon(tally, f"a look beside {when}", os.stat, ground.at("x"))
+    soon(tally, f"a read of what is opened beside {when}", whole, ground.at("x"))
+    soon(tally, f"a new file beside {when}", put, ground.at("y"), b"new")
+    soon(tally, f"a list beside {when}", os.listdir, ground.mount)
+    tally.call(f"what the new file has beside {when}", b"new", whole, ground.below("y"))
 
 
 def deletion(tally, ground, file):

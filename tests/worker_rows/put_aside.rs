@@ -3,20 +3,22 @@
 ghost use Rattle.std.specs.Prelude.{◌≡◌, All, IfSome};
 ghost use Rattle.fm_queue.specs.Passes.{IsPassOf};
 
-use crate::fixture::{Folder, Workers, collect, folder, make_workers, mounted, work_off};
-use crate::same_worker::{Tied, Watch, filters, hold_and_resume};
+use crate::fixture::{
+    Folder, Workers, attach, begin, create, folder, make_workers, mounted, on_file, read, work_off,
+};
+use crate::same_worker::{Tied, Watch, filters};
 use crate::ties::Ties;
-use fm_data::{Answer, BaseCall, Params};
+use fm_data::{Answer, BaseCall, Completion, FileRequest, Params, PostVerdict, PreVerdict};
 use fm_device::Device;
-use fm_lock::Manager;
+use fm_flow::FlowAction;
+use fm_lock::{Hand, Manager};
 use fm_queue::{Job, JobPass, JobQueue};
 use fm_types::limits::PARTS;
-use fm_types::{OpId, Status, WorkerId};
+use fm_types::{OpId, Status};
 use std::alloc::Global;
 use std::marker::Brand;
 use std::sync::Wait;
 use std::sync::ledger::{Blank, Ledger};
-use std::time::Clock;
 
 /// A file system that has the queue filled by a Stop while it reads, as another thread may at that moment.
 #[derive(Drop)]
@@ -50,27 +52,62 @@ fn take_pass(queue: &JobQueue, passes: &mut Vec<JobPass>) -> Option<JobPass>
     passes.pop()
 }
 
-/// What is queued behind the Stop once the second worker is left, what the read is answered, and whose postoperation it was.
-#[derive(Clone, Copy)]
-struct Seen {
-    is_queued: bool,
-    status: Status,
-    last: u64,
+// One callback of the read by that hand, of a preoperation that answers so.
+fn answer_pre<L: Ledger, R: Wait>(
+    rt: &R,
+    manager: &Manager<Ties, L>,
+    hand: &mut Hand<L>,
+    reading: OpId,
+    verdict: PreVerdict,
+) -> Result<(), Status> {
+    let FlowAction::Pre(_, lent) = manager.next(rt, hand, reading)? else {
+        return Err(Status::WrongStep);
+    };
+    match manager.pre_returned(rt, hand, verdict, lent) {
+        Ok(()) => Ok(()),
+        Err(refused) => Err(refused.status),
+    }
 }
 
-// The second worker carries the read to its base, can't put it back, and takes the Stop before the one that fills the queue. Refused with 30 if the read
-// doesn't wait for the first worker then.
-fn set_aside<L: Ledger, R: Wait, D: Device>(
+// A read that is tied to that hand, whose worker takes jobs, and is held below. A flush by the second worker lets it go.
+fn tie<L: Ledger, R: Wait, D: Device>(
     rt: &R,
     alloc: Global,
     manager: &Manager<Ties, L>,
     workers: &mut Tied<'_, L, R, D>,
+    hand: &mut Hand<L>,
 ) -> Result<OpId, Status> {
-    let reading = hold_and_resume(rt, alloc, manager, workers)?;
-    work_off(&mut workers.client, &mut workers.second);
-    match manager.sync_worker(rt, reading) {
-        Some(WorkerId(0)) => Ok(reading),
-        _ => Err(Status::WrongStep),
+    let client = &mut workers.client;
+    attach(client, b"own", b"200")?;
+    attach(client, b"holds", b"100")?;
+    begin(rt, manager, client, create(alloc, b"x")?)?;
+    work_off(client, &mut workers.second);
+    manager.takes_jobs(hand);
+    let reading = manager.begin(rt, read(0, 0))?;
+    let tied = PreVerdict::Synchronize(Completion {
+        number: 7,
+        context: None,
+    });
+    answer_pre(rt, manager, hand, reading, tied)?;
+    answer_pre(rt, manager, hand, reading, PreVerdict::Pending)?;
+    begin(rt, manager, client, on_file(FileRequest::Flush))?;
+    work_off(client, &mut workers.second);
+    Ok(reading)
+}
+
+// The postoperation of the read, by that hand.
+fn answer_post<L: Ledger, R: Wait>(
+    rt: &R,
+    manager: &Manager<Ties, L>,
+    hand: &mut Hand<L>,
+    reading: OpId,
+) -> Result<(), Status> {
+    let FlowAction::Post(_, lent, _) = manager.next(rt, hand, reading)? else {
+        return Err(Status::WrongStep);
+    };
+    match manager.post_returned(rt, hand, PostVerdict::Finished, Some(lent)) {
+        Ok(()) => Ok(()),
+        Err(refused) => Err(refused.status),
     }
 }
 
@@ -81,40 +118,27 @@ fn is_put<R: Wait>(rt: &R, queue: &JobQueue, pass: &mut JobPass, reading: OpId) 
     stop == Some(Job::Stop) && next == Some(Job::Run(reading))
 }
 
-// Both, one after the other; then the first worker carries the read on.
-fn set_aside_and_finish<L: Ledger, R: Wait + Clock, D: Device>(
+// The second worker carries the read to its base, can't put it back, and takes the Stop before the one that fills the queue. Whether the read's job is queued then;
+// its postoperation is that of the hand which it is tied to.
+fn set_aside<L: Ledger, R: Wait, D: Device>(
     rt: &R,
     alloc: Global,
     manager: &Manager<Ties, L>,
     queue: &JobQueue,
     pass: &mut JobPass,
     workers: Tied<'_, L, R, D>,
-    gate: &Watch,
-) -> Result<Seen, Status> {
+) -> Result<bool, Status> {
     let mut workers = workers;
-    let reading = set_aside(rt, alloc, manager, &mut workers)?;
-    let Workers {
-        mut client,
-        mut first,
-        second: _,
-    } = workers;
+    let mut hand = manager.hire(rt)?;
+    let reading = tie(rt, alloc, manager, &mut workers, &mut hand)?;
+    work_off(&mut workers.client, &mut workers.second);
     let is_queued = is_put(rt, queue, pass, reading);
-    client.submit(reading);
-    work_off(&mut client, &mut first);
-    let status = collect(rt, manager, reading)?.status;
-    Ok(Seen {
-        is_queued,
-        status,
-        last: gate.last(),
-    })
+    answer_post(rt, manager, &mut hand, reading)?;
+    Ok(is_queued)
 }
 
 // With room for two jobs: a job and a Stop.
-fn aside_day<L: Ledger, R: Wait + Clock>(
-    rt: &R,
-    alloc: Global,
-    blank: Blank,
-) -> Result<Seen, Status>
+fn aside_day<L: Ledger, R: Wait>(rt: &R, alloc: Global, blank: Blank) -> Result<bool, Status>
     requires name { blank.name ≡ L.name }
     requires parts { blank.parts ≡ L.parts }
     requires all { blank.parts ≡ 49 }
@@ -134,20 +158,11 @@ fn aside_day<L: Ledger, R: Wait + Clock>(
         below: folder(alloc)?,
     };
     let workers = make_workers(rt, alloc, &manager, jobs, &gate, &mut passes, below)?;
-    set_aside_and_finish(rt, alloc, &manager, jobs, &mut looks, workers, &gate)
+    set_aside(rt, alloc, &manager, jobs, &mut looks, workers)
 }
 
 #[test]
 fn set_aside_and_put_later(rt: HostRuntime) {
     let seen = aside_day::<Brand, _>(&rt, rt.alloc(), Blank::new(PARTS));
-    assert!(rt;
-        matches!(
-            seen,
-            Ok(Seen {
-                is_queued: true,
-                status: Status::FileNotFound,
-                last: 1
-            })
-        )
-    );
+    assert!(rt; matches!(seen, Ok(true)));
 }

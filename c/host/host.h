@@ -282,6 +282,7 @@ typedef struct KzPiece {
     void *start;          /* what was allocated */
     size_t size;
     PFLT_FILTER filter;
+    KzPlace place; /* where it was taken */
     ULONG tag;
     bool is_paged;
     const void *lookaside; /* the list that it is of; NULL if it is of none */

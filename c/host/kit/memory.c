@@ -99,7 +99,7 @@ void *kz_take_memory(KzMemory kind, size_t size, int fill, ULONG tag)
     uintptr_t boundary = size < LINE ? 16 : LINE, body = ((uintptr_t)start + sizeof(KzPiece) + ZONE + boundary - 1) & ~(boundary - 1);
     KzPiece *piece = (KzPiece *)(body - ZONE - sizeof *piece);
     KzPiece **first = &pieces[my_list()];
-    *piece = (KzPiece){.next = *first, .start = start, .size = size, .kind = kind, .filter = kz_me->place.filter, .tag = tag, .list = my_list()};
+    *piece = (KzPiece){.next = *first, .start = start, .size = size, .kind = kind, .filter = kz_me->place.filter, .place = kz_me->place, .tag = tag, .list = my_list()};
     if (*first)
         (*first)->before = piece;
     *first = piece;
@@ -310,15 +310,37 @@ void kz_tell_gone(void)
             forget_list(list);
 }
 
-/* Memory of a pool that a filter took and never freed. */
+/* What of the kit lies in a pool, by the tag that the host gives it: the call that frees it; NULL for a driver's own memory. */
+static const char *freeing_of(ULONG tag)
+{
+    switch (tag) {
+    case 'ldM ':
+        return "IoFreeMdl";
+    case 'wgMF':
+        return "FltFreeGenericWorkItem";
+    case 'wdMF':
+        return "FltFreeDeferredIoWorkItem";
+    case 'wiO ':
+        return "IoFreeWorkItem";
+    default:
+        return NULL;
+    }
+}
+
+/* Memory of a pool that a filter took and never freed, each with the callback that took it. */
 void kz_tell_pools(PFLT_FILTER filter)
 {
-    KzPlace before = kz_enter(KZ_IN_NOTHING, kz_worker(), filter, NULL, NULL, NULL);
     char tag[8];
-    for (KzPiece *piece = first_from(0); piece; piece = piece_behind(piece))
-        if (piece->kind == KZK_POOL && piece->filter == filter)
-            kz_tell(KZM_POOL_LEAK, "ExFreePoolWithTag", "never called for %llu bytes of a pool, tag '%s'", (unsigned long long)piece->size, kz_tag(piece->tag, tag));
-    kz_me->place = before;
+    for (KzPiece *piece = first_from(0); piece; piece = piece_behind(piece)) {
+        if (piece->kind != KZK_POOL || piece->filter != filter)
+            continue;
+        KzPlace before = kz_enter_again(&piece->place);
+        if (freeing_of(piece->tag))
+            kz_tell_of(body_of(piece), KZM_POOL_LEAK, freeing_of(piece->tag), "never called for what was allocated here");
+        else
+            kz_tell_of(body_of(piece), KZM_POOL_LEAK, "ExFreePoolWithTag", "never called for %llu bytes of a pool, tag '%s'", (unsigned long long)piece->size, kz_tag(piece->tag, tag));
+        kz_me->place = before;
+    }
 }
 
 void kz_free_memory(void)

@@ -217,6 +217,7 @@ NTSTATUS ObReferenceObjectByHandle(HANDLE Handle, ACCESS_MASK DesiredAccess, POB
 {
     KZ_INSIDE();
     (void)Handle, (void)DesiredAccess, (void)ObjectType, (void)AccessMode, (void)HandleInformation;
+    kz_tell(KZM_OWN_IO, __func__, "no object stands behind a handle here: it answers STATUS_INVALID_HANDLE");
     *Object = NULL;
     return STATUS_INVALID_HANDLE;
 }

@@ -1,7 +1,5 @@
-/* The protocol has a size alone. Owner and mode are those of the mount, times those that it saw. */
+/* The protocol has a size alone. The owner is that of the mount; times and modes are those that it saw, or its own. */
 #include "attributes.h"
-
-#include "path.h"
 
 #include <unistd.h>
 
@@ -23,11 +21,18 @@ static mode_t folder_mode(mode_t mode)
     return S_IFDIR | mode | (mode & 0444) >> 2;
 }
 
+static mode_t mode_of(const Mount *mount, const Look *look)
+{
+    if (look->is_folder)
+        return folder_mode(mount->options.mode);
+    return S_IFREG | (look->has_mode ? look->mode : mount->options.mode);
+}
+
 struct stat attributes_of(const Mount *mount, const Look *look, uint64_t size)
 {
     struct stat attributes = {
-        .st_ino = look->path[0] ? hash_of(look->path) : FUSE_ROOT_ID,
-        .st_mode = look->is_folder ? folder_mode(mount->options.mode) : S_IFREG | mount->options.mode,
+        .st_ino = look->path[0] ? look->number : FUSE_ROOT_ID,
+        .st_mode = mode_of(mount, look),
         .st_nlink = look->is_deleted ? 0 : look->is_folder ? 2 : 1,
         .st_uid = getuid(),
         .st_gid = getgid(),

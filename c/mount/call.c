@@ -1,6 +1,7 @@
 /* Asking, and what is left of it. */
 #include "call.h"
 
+#include "below.h"
 #include "error.h"
 
 #include <errno.h>
@@ -83,24 +84,34 @@ int call_ask(Call *call, Request request, Reply *reply)
     return error;
 }
 
+/* No status says that the disk is full: where the device failed, the folder is asked. */
+static int errno_of_reply(const Call *call, const Request *request, uint8_t status)
+{
+    uint8_t code = request->code;
+    bool has_need = code == FRAME_CREATE || code == FRAME_WRITE || code == FRAME_SET_SIZE || code == FRAME_FLUSH;
+    bool is_full = status == KZS_DEVICE_FAULT && has_need && below_is_full(call->mount, request->length);
+    return is_full ? ENOSPC : errno_of(status);
+}
+
 int call_do(Call *call, Request request, Reply *reply)
 {
     int error = call_ask(call, request, reply);
-    return error != 0 ? error : errno_of(reply->status);
+    return error != 0 ? error : errno_of_reply(call, &request, reply->status);
 }
 
 int call_open(Call *call, const char *path, uint8_t mode)
 {
     Reply reply;
+    Request request = request_create((uint8_t)call->mount->options.volume, mode, path);
     int error = call_enter(call, path, BESIDE_CREATES);
     if (error == 0 && nodes_is_hidden(&call->mount->nodes, path))
         error = ENOENT;
     if (error == 0)
-        error = call_ask(call, request_create((uint8_t)call->mount->options.volume, mode, path), &reply);
+        error = call_ask(call, request, &reply);
     if (error != 0)
         return error;
     if (reply.status != KZS_OK)
-        return mode == CREATE_EXISTING ? errno_of_look(reply.status) : errno_of(reply.status);
+        return mode == CREATE_EXISTING ? errno_of_look(reply.status) : errno_of_reply(call, &request, reply.status);
     call->has_handle = true;
     call->handle = reply.information;
     return 0;

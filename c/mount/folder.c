@@ -24,7 +24,8 @@ static Listing *listing_of(const struct fuse_file_info *info)
 
 static int add(fuse_req_t request, Listing *listing, const char *name, const char *path, bool is_folder)
 {
-    struct stat attributes = {.st_ino = path[0] ? hash_of(path) : FUSE_ROOT_ID, .st_mode = is_folder ? S_IFDIR : S_IFREG};
+    Mount *mount = fuse_req_userdata(request);
+    struct stat attributes = {.st_ino = path[0] ? nodes_number(&mount->nodes, path) : FUSE_ROOT_ID, .st_mode = is_folder ? S_IFDIR : S_IFREG};
     size_t needed = fuse_add_direntry(request, NULL, 0, name, NULL, 0);
     if (listing->length + needed > listing->size) {
         size_t size = listing->size * 2 + needed + 4096;

@@ -1,4 +1,5 @@
 /* fltmount: dials the server, mounts, and answers the kernel until it is unmounted. Exit status: 0, or 1 where the mount broke, 2 for wrong words, 3 where the server or the mount point isn't to be had. */
+#include "below.h"
 #include "data.h"
 #include "files.h"
 #include "folder.h"
@@ -7,6 +8,7 @@
 #include "refused.h"
 #include "rename.h"
 
+#include <errno.h>
 #include <stdio.h>
 #include <stdlib.h>
 #include <string.h>
@@ -46,12 +48,13 @@ static const struct fuse_lowlevel_ops operations = {
     .opendir = folder_open,
     .readdir = folder_read,
     .releasedir = folder_release,
+    .fsyncdir = below_sync,
     .mknod = refuse_make_node,
     .mkdir = refuse_make_folder,
     .rmdir = refuse_remove_folder,
     .symlink = refuse_symbolic_link,
     .link = refuse_link,
-    .statfs = tell_size,
+    .statfs = below_tell_size,
 };
 
 static int answer_kernel(struct fuse_session *session, bool has_clones)
@@ -80,13 +83,25 @@ static int serve(Mount *mount, const struct fuse_cmdline_opts *line)
     return status;
 }
 
+static int cannot_reach(const char *what, int error)
+{
+    fprintf(stderr, "fltmount: %s: %s\n", what, strerror(error));
+    return OUT_OF_REACH;
+}
+
+/* What libfuse is told beside the words. */
+static bool add_words(struct fuse_args *words, const Options *options)
+{
+    if (options->is_for_others && fuse_opt_add_arg(words, "-oallow_other,default_permissions") != 0)
+        return false;
+    return fuse_opt_add_arg(words, "-omax_read=32768,subtype=kazdrin") == 0;
+}
+
 static int serve_with_pool(Mount *mount, struct fuse_args *words, const struct fuse_cmdline_opts *line)
 {
     int error = pool_open(&mount->pool, mount->options.socket, mount->options.connections, RESERVED);
-    if (error != 0) {
-        fprintf(stderr, "fltmount: %s: %s\n", mount->options.socket, strerror(error));
-        return OUT_OF_REACH;
-    }
+    if (error != 0)
+        return cannot_reach(mount->options.socket, error);
     nodes_open(&mount->nodes);
     gates_open(&mount->gates);
     mount->session = fuse_session_new(words, &operations, sizeof operations, mount);
@@ -113,8 +128,11 @@ static int mount_with(Mount *mount, struct fuse_args *words)
     int status = WRONG_WORDS;
     if (!line.mountpoint)
         options_usage(stderr);
-    else if (fuse_opt_add_arg(words, "-omax_read=32768,subtype=kazdrin") == 0)
+    else if (!below_open(mount))
+        status = cannot_reach(mount->options.below, errno);
+    else if (add_words(words, &mount->options))
         status = serve_with_pool(mount, words, &line);
+    below_close(mount);
     free(line.mountpoint);
     return status;
 }
@@ -125,11 +143,12 @@ int main(int count, char **texts)
         options_usage(stdout);
         return ENDED;
     }
-    static Mount mount;
+    static Mount mount = {.below = -1};
     struct fuse_args words = FUSE_ARGS_INIT(count, texts);
     int status = mount_with(&mount, &words);
     fuse_opt_free_args(&words);
     free(mount.options.socket);
     free(mount.options.folders);
+    free(mount.options.below);
     return status;
 }

@@ -13,9 +13,10 @@
 typedef struct {
     char *socket;
     unsigned connections, volume, mode;
-    int is_cached, has_copyrename, has_memtimes;
+    bool is_mode_given;
+    int is_cached, has_copyrename, has_memtimes, has_memmodes, is_for_others;
     double attr; /* seconds that names and attributes are kept by the kernel */
-    char *folders;
+    char *folders, *below;
 } Options;
 
 /* Only the pool, the nodes and the gates change once it is mounted; each has its own mutex. */
@@ -24,8 +25,8 @@ typedef struct {
     Pool pool;
     Nodes nodes;
     Gates gates;
+    int below; /* the descriptor of the server's folder, or -1 */
     struct fuse_session *session;
 } Mount;
-
 
 #endif

@@ -137,13 +137,21 @@ void name_get_attributes(fuse_req_t request, fuse_ino_t number, struct fuse_file
 
 #define GIVEN_TIMES (FUSE_SET_ATTR_ATIME | FUSE_SET_ATTR_MTIME)
 
+/* A mode that it has already is none that was given. */
+static void keep_mode(Mount *mount, Node *node, const Look *look, mode_t mode)
+{
+    if (mode != (attributes_of(mount, look, 0).st_mode & 0777))
+        nodes_set_mode(&mount->nodes, node, mode);
+}
+
 /* What the protocol has no word for is refused, unless it is so already. The kernel says `now` beside the time. */
 static int refusal(Mount *mount, const Look *look, const struct stat *wanted, int which)
 {
     struct stat is = attributes_of(mount, look, 0);
     bool is_read_given = (which & FUSE_SET_ATTR_ATIME) && !(which & FUSE_SET_ATTR_ATIME_NOW);
     bool is_changed_given = (which & FUSE_SET_ATTR_MTIME) && !(which & FUSE_SET_ATTR_MTIME_NOW);
-    if ((which & FUSE_SET_ATTR_MODE) && (wanted->st_mode & 07777) != (is.st_mode & 07777))
+    bool may_have_mode = !look->is_folder && (look->has_mode || mount->options.has_memmodes) && (wanted->st_mode & 07000) == 0;
+    if ((which & FUSE_SET_ATTR_MODE) && (wanted->st_mode & 07777) != (is.st_mode & 07777) && !may_have_mode)
         return EPERM;
     if ((which & FUSE_SET_ATTR_UID) && wanted->st_uid != is.st_uid)
         return EPERM;
@@ -176,6 +184,8 @@ void name_set_attributes(fuse_req_t request, fuse_ino_t number, struct stat *wan
         fuse_reply_err(request, error);
         return;
     }
+    if ((which & FUSE_SET_ATTR_MODE) && !look.is_folder)
+        keep_mode(mount, node_at(number), &look, wanted->st_mode & 0777);
     if (which & GIVEN_TIMES)
         keep_times(mount, node_at(number), wanted, which);
     answer(request, number, info, which & FUSE_SET_ATTR_SIZE ? &size : NULL);

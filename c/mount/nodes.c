@@ -1,4 +1,4 @@
-/* The table of nodes. A node is there while the kernel knows it, while it is held, or while its times are kept. */
+/* The table of nodes. A node is there while the kernel knows it, while it is held, or while its times or its mode are kept. */
 #include "nodes.h"
 
 #include "path.h"
@@ -7,6 +7,9 @@
 #include <stdio.h>
 #include <stdlib.h>
 #include <string.h>
+
+/* Numbers of a name that came back lie so far apart: odd, and no small one. */
+#define SPREAD 11400714819323198485u
 
 static void lock(Nodes *nodes)
 {
@@ -48,9 +51,14 @@ static void unlink_node(Nodes *nodes, Node *node)
     *at = node->next;
 }
 
+static bool is_kept(const Node *node)
+{
+    return (node->has_times || node->has_mode) && !node->is_deleted;
+}
+
 static void reap(Nodes *nodes, Node *node)
 {
-    if (node->lookups > 0 || node->holds > 0 || (node->has_times && !node->is_deleted))
+    if (node->lookups > 0 || node->holds > 0 || is_kept(node))
         return;
     unlink_node(nodes, node);
     nodes->hidden -= node->is_deleted ? 1 : 0;
@@ -58,10 +66,22 @@ static void reap(Nodes *nodes, Node *node)
     free(node);
 }
 
+static void count_deletion(Nodes *nodes, const char *path)
+{
+    nodes->deletions[hash_of(path) % CHAINS]++;
+}
+
+static uint64_t number_of(const Nodes *nodes, const char *path)
+{
+    uint64_t hash = hash_of(path);
+    return hash + nodes->deletions[hash % CHAINS] * SPREAD;
+}
+
 static void mark_deleted(Nodes *nodes, Node *node)
 {
     node->is_deleted = true;
     nodes->hidden++;
+    count_deletion(nodes, node->path);
     reap(nodes, node);
 }
 
@@ -74,7 +94,7 @@ static Node *add(Nodes *nodes, const char *path, bool is_folder)
         free(copy);
         return NULL;
     }
-    *node = (Node){.next = *chain, .path = copy, .is_folder = is_folder, .changed = nodes->begun, .read = nodes->begun};
+    *node = (Node){.next = *chain, .path = copy, .is_folder = is_folder, .changed = nodes->begun, .read = nodes->begun, .number = number_of(nodes, path)};
     *chain = node;
     return node;
 }
@@ -106,8 +126,11 @@ Look nodes_look(Nodes *nodes, Node *node)
     memcpy(look.path, node->path, strlen(node->path) + 1);
     look.is_folder = node->is_folder;
     look.is_deleted = node->is_deleted;
+    look.has_mode = node->has_mode;
     look.changed = node->changed;
     look.read = node->read;
+    look.mode = node->mode;
+    look.number = node->number;
     unlock(nodes);
     return look;
 }
@@ -208,6 +231,7 @@ void nodes_rename(Nodes *nodes, const char *path, const char *to)
     Node *node = find(nodes, path, false), *replaced = find(nodes, to, false);
     if (replaced)
         mark_deleted(nodes, replaced);
+    count_deletion(nodes, path);
     if (node && copy)
         move(nodes, node, copy);
     else if (node)
@@ -221,8 +245,8 @@ void nodes_missed(Nodes *nodes, const char *path)
 {
     lock(nodes);
     Node *node = find(nodes, path, false);
-    if (node && node->has_times) {
-        node->has_times = false;
+    if (node && is_kept(node)) {
+        node->has_times = node->has_mode = false;
         node->changed = node->read = nodes->begun;
         reap(nodes, node);
     }
@@ -245,6 +269,31 @@ void nodes_set_times(Nodes *nodes, Node *node, const struct timespec *read, cons
     if (changed)
         node->changed = *changed;
     unlock(nodes);
+}
+
+void nodes_made(Nodes *nodes, Node *node, mode_t mode)
+{
+    lock(nodes);
+    node->mode = node->has_mode ? node->mode : mode;
+    node->has_mode = true;
+    unlock(nodes);
+}
+
+void nodes_set_mode(Nodes *nodes, Node *node, mode_t mode)
+{
+    lock(nodes);
+    node->mode = mode;
+    node->has_mode = true;
+    unlock(nodes);
+}
+
+uint64_t nodes_number(Nodes *nodes, const char *path)
+{
+    lock(nodes);
+    Node *node = find(nodes, path, false);
+    uint64_t number = node ? node->number : number_of(nodes, path);
+    unlock(nodes);
+    return number;
 }
 
 void nodes_hold(Nodes *nodes, Node *node)

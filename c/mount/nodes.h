@@ -16,9 +16,11 @@ typedef struct Node {
     uint64_t lookups; /* the kernel's */
     unsigned holds;   /* open files, and calls that look at it */
     bool is_folder, is_deleted;
-    bool has_times; /* as long as the mount: it isn't forgotten with the last look-up */
+    bool has_times, has_mode; /* as long as the mount: it isn't forgotten with the last look-up */
     struct timespec changed, read;
-    File *files; /* the open ones */
+    mode_t mode;
+    uint64_t number; /* that programs see */
+    File *files;     /* the open ones */
 } Node;
 
 #define CHAINS 4096
@@ -28,6 +30,7 @@ typedef struct {
     pthread_mutex_t mutex;
     pthread_cond_t gone; /* a deleted file was closed for the last time */
     Node *chains[CHAINS];
+    uint64_t deletions[CHAINS]; /* how many names of the chain went: a name that comes back has another number */
     unsigned hidden; /* nodes of deleted files */
     struct timespec begun;
 } Nodes;
@@ -35,8 +38,10 @@ typedef struct {
 /* A node as it was at one moment. */
 typedef struct {
     char path[LONGEST_PATH + 1];
-    bool is_folder, is_deleted;
+    bool is_folder, is_deleted, has_mode;
     struct timespec changed, read;
+    mode_t mode;
+    uint64_t number;
 } Look;
 
 void nodes_open(Nodes *nodes);
@@ -57,10 +62,15 @@ bool nodes_delete(Nodes *nodes, const char *path);
 bool nodes_is_open(Nodes *nodes, const char *path);
 /* What had the one name has the other from now on; for want of memory it counts as deleted. */
 void nodes_rename(Nodes *nodes, const char *path, const char *to);
-/* The name isn't there any more: the times that were kept of it go. */
+/* The name isn't there any more: the times and the mode that were kept of it go. */
 void nodes_missed(Nodes *nodes, const char *path);
 void nodes_changed(Nodes *nodes, Node *node);
 void nodes_set_times(Nodes *nodes, Node *node, const struct timespec *read, const struct timespec *changed);
+/* The file was made with that mode; one that was kept before stays. */
+void nodes_made(Nodes *nodes, Node *node, mode_t mode);
+void nodes_set_mode(Nodes *nodes, Node *node, mode_t mode);
+/* The number that programs see of a name. */
+uint64_t nodes_number(Nodes *nodes, const char *path);
 void nodes_hold(Nodes *nodes, Node *node);
 void nodes_let_go(Nodes *nodes, Node *node);
 void nodes_close(Nodes *nodes);

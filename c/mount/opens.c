@@ -84,13 +84,19 @@ static int find(Call *call, const char *path, struct fuse_file_info *info, Node 
     return error;
 }
 
+/* The mode that is kept of what was made. A given mode= bounds it, and lets run what may be read. */
+static mode_t mode_made(const Options *options, mode_t mode)
+{
+    mode_t kept = options->is_mode_given ? mode & options->mode : mode & 0777;
+    return kept | (options->mode & 0111 & (kept & 0444) >> 2);
+}
+
 void data_create(fuse_req_t request, fuse_ino_t folder, const char *name, mode_t mode, struct fuse_file_info *info)
 {
     Call call = call_of(request);
     char path[LONGEST_PATH + 1];
     Node *node = NULL;
     uint64_t size = 0;
-    (void)mode;
     int error = path_of(call.mount, folder, name, path);
     if (error == 0 && path_is_in(call.mount->options.folders, path))
         error = EISDIR;
@@ -103,6 +109,7 @@ void data_create(fuse_req_t request, fuse_ino_t folder, const char *name, mode_t
         fuse_reply_err(request, error);
         return;
     }
+    nodes_made(&call.mount->nodes, node, mode_made(&call.mount->options, mode));
     if (size == 0)
         nodes_changed(&call.mount->nodes, node);
     Look look = nodes_look(&call.mount->nodes, node);

@@ -1,11 +1,14 @@
 #include "options.h"
 
+#include <limits.h>
 #include <stddef.h>
 #include <stdio.h>
 #include <stdlib.h>
 #include <string.h>
 
 #define FEWEST_CONNECTIONS 4
+/* No mode is given. */
+#define NO_MODE UINT_MAX
 
 #define OPTION(text, field, value) {text, offsetof(Options, field), value}
 
@@ -18,6 +21,9 @@ static const struct fuse_opt known[] = {
     OPTION("cached", is_cached, 1),
     OPTION("copyrename", has_copyrename, 1),
     OPTION("memtimes", has_memtimes, 1),
+    OPTION("memmodes", has_memmodes, 1),
+    OPTION("below=%s", below, 0),
+    OPTION("allow_other", is_for_others, 1),
     FUSE_OPT_END,
 };
 
@@ -32,10 +38,13 @@ void options_usage(FILE *to)
           "  folders=A:B:B/C  these names are folders\n"
           "  copyrename       a rename copies the file, and deletes the old name\n"
           "  memtimes         given times are kept until the unmount\n"
-          "  mode=0755        the mode of files (0644)\n"
+          "  memmodes         given modes are, also of files that were there before\n"
+          "  mode=0755        the mode of files (0644); given, it bounds the modes of new ones\n"
+          "  below=FOLDER     the server's folder: it is asked for its room, and synced\n"
           "  connections=N    so many connections with the server, 4 to 31 (16)\n"
           "  volume=V         the volume (0)\n"
-          "  allow_other, ro and others as for any FUSE mount\n",
+          "  allow_other      others may use it as the modes say (default_permissions)\n"
+          "  ro and others    as for any FUSE mount\n",
           to);
 }
 
@@ -67,9 +76,12 @@ static bool is_in_range(const Options *options)
 
 bool options_read(struct fuse_args *words, Options *options)
 {
-    *options = (Options){.connections = 16, .mode = 0644};
+    *options = (Options){.connections = 16, .mode = NO_MODE};
     if (fuse_opt_parse(words, options, known, take_word) != 0)
         return false;
+    options->is_mode_given = options->mode != NO_MODE;
+    if (!options->is_mode_given)
+        options->mode = 0644;
     if (!options->socket) {
         options_usage(stderr);
         return false;

@@ -1,4 +1,4 @@
-/* What the protocol has no word for, and what can be said of the whole folder. */
+/* What the protocol has no word for. */
 #ifndef KZ_MOUNT_REFUSED_H
 #define KZ_MOUNT_REFUSED_H
 
@@ -9,6 +9,5 @@ void refuse_make_folder(fuse_req_t request, fuse_ino_t folder, const char *name,
 void refuse_remove_folder(fuse_req_t request, fuse_ino_t folder, const char *name);
 void refuse_symbolic_link(fuse_req_t request, const char *target, fuse_ino_t folder, const char *name);
 void refuse_link(fuse_req_t request, fuse_ino_t number, fuse_ino_t folder, const char *name);
-void tell_size(fuse_req_t request, fuse_ino_t number);
 
 #endif

@@ -58,7 +58,7 @@ def until(condition, seconds=10):
 
 
 class Ground:
-    """A server over an empty folder, with a mount at `mount`. After `patience` seconds both are killed, so that nothing waits for ever."""
+    """A server over an empty folder, with a mount at `mount`. `{host}` in an option is that folder. After `patience` seconds both are killed, so that nothing waits for ever."""
 
     def __init__(self, tally, tools, *options, patience=600, place=None, server=None):
         self.tally = tally
@@ -91,7 +91,7 @@ class Ground:
 
     def start_mount(self):
         """A mount, which is there once this is done."""
-        options = ["-o", ",".join(self.options)] if self.options else []
+        options = ["-o", ",".join(self.options).format(host=self.host)] if self.options else []
         self.mount_errors = open(os.path.join(self.room, "mount.err"), "w+")
         self.mounted = subprocess.Popen(self.tools.mount + [self.socket, self.mount, "-f"] + options, stdout=self.mount_errors, stderr=subprocess.STDOUT)
         if not until(lambda: self.is_mounted() or self.mounted.poll() is not None, 30) or self.mounted.poll() is not None:

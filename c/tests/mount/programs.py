@@ -103,13 +103,13 @@ def copies(tally, ground, room):
 
 def run(tally, tools):
     """These, above three filters; with pages that the kernel keeps also what maps files."""
-    for options, modes in (((), MODES), (("cached",), MODES + ["wal"])):
+    for options, modes in (((), MODES), (("below={host}", "cached"), MODES + ["wal"])):
         with Ground(tally, tools, *options, patience=600) as ground:
             ground.attach(shift=100, meter=200, carry=150)
             sqlite(tally, ground, modes)
             for name in os.listdir(ground.mount):
                 os.unlink(ground.at(name))
             fio(tally, ground, ground.room)
-    with Ground(tally, tools, "copyrename", "memtimes", patience=600) as ground:
+    with Ground(tally, tools, "below={host}", "copyrename", "memtimes", patience=600) as ground:
         ground.attach(shift=100, meter=200, carry=150)
         copies(tally, ground, ground.room)

@@ -64,6 +64,8 @@ static int receive(Call *call, Reply *reply)
     while (error == EAGAIN) {
         if (is_unwanted(call) && ++ticks > GRACE)
             return EINTR;
+        if (!call->request && ++ticks == GRACE)
+            pool_bypass(&call->mount->pool, call->line);
         error = connection_receive(&call->line->connection, reply);
     }
     return error;

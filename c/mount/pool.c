@@ -173,7 +173,8 @@ static Errand *next_errand(Line *line)
     return errand;
 }
 
-void pool_give(Pool *pool, Line *line)
+/* Those that come meanwhile too; then the line is free. */
+static void run_errands(Pool *pool, Line *line)
 {
     lock(pool);
     for (Errand *errand = next_errand(line); errand; errand = next_errand(line)) {
@@ -187,6 +188,50 @@ void pool_give(Pool *pool, Line *line)
     unlock(pool);
 }
 
+/* A line and its pool, for a thread. */
+typedef struct {
+    Pool *pool;
+    Line *line;
+} Errands;
+
+static void *run_in_thread(void *given)
+{
+    Errands errands = *(Errands *)given;
+    free(given);
+    run_errands(errands.pool, errands.line);
+    pool_settle(errands.pool);
+    return NULL;
+}
+
+/* The server may hold them: so whoever gives the line back doesn't wait for them. False: no thread is to be had. */
+static bool begin_errands(Pool *pool, Line *line)
+{
+    pthread_t thread;
+    Errands *errands = malloc(sizeof *errands);
+    if (!errands)
+        return false;
+    *errands = (Errands){pool, line};
+    lock(pool);
+    pool->settling++;
+    unlock(pool);
+    if (pthread_create(&thread, NULL, run_in_thread, errands) == 0) {
+        pthread_detach(thread);
+        return true;
+    }
+    pool_settle(pool);
+    free(errands);
+    return false;
+}
+
+void pool_give(Pool *pool, Line *line)
+{
+    lock(pool);
+    bool has_errands = line->errands != NULL;
+    unlock(pool);
+    if (!has_errands || !begin_errands(pool, line))
+        run_errands(pool, line);
+}
+
 void pool_send(Pool *pool, Line *line, Errand *errand)
 {
     lock(pool);
@@ -196,7 +241,7 @@ void pool_send(Pool *pool, Line *line, Errand *errand)
     line->is_busy = true;
     unlock(pool);
     if (is_mine)
-        pool_give(pool, line);
+        run_errands(pool, line);
 }
 
 /* The others are looked at, so that whoever comes next needn't wait for an answer that can't come. */
@@ -298,6 +343,16 @@ void pool_replace(Pool *pool, Line *line)
     }
     unlock(pool);
     pool_give(pool, place);
+}
+
+void pool_bypass(Pool *pool, Line *line)
+{
+    lock(pool);
+    bool is_first = !line->is_abandoned;
+    line->is_abandoned = true;
+    unlock(pool);
+    if (is_first)
+        pool_replace(pool, line);
 }
 
 void pool_settle(Pool *pool)

@@ -11,7 +11,7 @@ typedef struct Line Line;
 /* At most so many, for the server has 32, and `fltc` needs one. */
 #define MOST_LINES 31
 
-/* What is done on a line once it is free, by whoever gives it back. */
+/* What is done on a line once it is free: by whoever sends it, or by a thread of its own. */
 typedef struct Errand {
     struct Errand *next;
     void (*run)(struct Errand *errand, Line *line);
@@ -34,7 +34,7 @@ typedef struct {
     Line *lines;
     unsigned count;    /* lines that there are to be, beside the abandoned ones */
     unsigned kept;     /* so many free homes are left by whoever asks for a name, for whoever reads */
-    unsigned settling; /* threads that wait for replies which nobody wants any more */
+    unsigned settling; /* threads that wait for replies which nobody wants any more, or do errands */
     bool is_ending;
     const char *path;
     Server server; /* as it was at the start */
@@ -66,6 +66,8 @@ bool pool_is_home(Pool *pool, const Line *line);
 void pool_abandon(Pool *pool, Line *line);
 /* Dials a further line in its place, where there is one. */
 void pool_replace(Pool *pool, Line *line);
+/* The line's request lasts, and no program waits for it: the same by whoever has it. */
+void pool_bypass(Pool *pool, Line *line);
 /* The thread that settles has ended. */
 void pool_settle(Pool *pool);
 /* Ends all connections, waits for the threads that settle, and frees all. */

@@ -107,8 +107,24 @@ def deletion(tally, ground, file):
     free(tally, ground, "it is gone", lambda: not os.path.exists(ground.below("late")))
 
 
+def closes(tally, tools):
+    """More closes are held than there are homes."""
+    with Ground(tally, tools, patience=200) as ground:
+        put(ground.at("x"), b"hello")
+        file = os.open(ground.at("x"), os.O_RDWR)
+        files = [os.open(ground.at(f"late{number}"), os.O_CREAT | os.O_RDWR) for number in range(OTHERS)]
+        instance = ground.attach(late=100)["late"]
+        for each in files:
+            os.close(each)
+        time.sleep(1)
+        beside(tally, ground, file, "held closes")
+        os.close(file)
+        tally.note("a detach lets them go", until(lambda: ground.ask("detach", instance)[0] == 0), True)
+
+
 def run(tally, tools):
-    """Creates, and then deletions."""
+    """Closes, then creates, and then deletions."""
+    closes(tally, tools)
     with Ground(tally, tools, patience=600) as ground:
         put(ground.at("x"), b"hello")
         ground.attach(late=100)

@@ -1,6 +1,6 @@
 #!/usr/bin/env bash
 # c/tests/scripts/mount.sh [PART ..] : the mount's tests, all parts or those of c/tests/mount/PART.py. fltmount, with the address and undefined sanitizers, is tested above a server: calls
-# one by one, random operations beside a model, deletions beside looks, held readers, ends of instances, volumes and servers, sqlite, fio and others.
+# one by one, modes and the folder below, random operations beside a model, deletions beside looks, held readers, ends of instances, volumes and servers, sqlite, fio and others.
 # FLTD is the server (else crates/fltd/out/fltd, or one without proofs), COUNT how many random operations there are (900). Where nothing can be mounted it says so and tries nothing.
 set -u
 . "$(dirname "$0")/tally.sh" mount

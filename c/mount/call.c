@@ -31,13 +31,13 @@ int call_take(Call *call, Want want)
     return pool_take(&call->mount->pool, want, is_unwanted, call, &call->line);
 }
 
-int call_wait(Call *call, const char *path, Matter matter)
+int call_wait(Call *call, const char *path, Matter matter, Passage passage)
 {
     Pool *pool = &call->mount->pool;
     Gates *gates = &call->mount->gates;
     call->gate = gate_of(path);
     call->matter = matter;
-    while (gate_is_barred(gates, call->gate, matter, pool_is_scarce(pool))) {
+    while (gate_is_barred(gates, call->gate, matter, passage, pool_is_scarce(pool))) {
         gate_wait(gates);
         if (is_unwanted(call))
             return EINTR;
@@ -45,9 +45,9 @@ int call_wait(Call *call, const char *path, Matter matter)
     return 0;
 }
 
-int call_take_name(Call *call, Want want, const char *path)
+int call_take_name(Call *call, Want want, const char *path, Passage passage)
 {
-    int error = call_wait(call, path, NAMES);
+    int error = call_wait(call, path, NAMES, passage);
     return error != 0 ? error : call_take(call, want);
 }
 

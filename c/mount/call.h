@@ -26,9 +26,9 @@ Call call_on(Mount *mount, Line *line);
 /* Each answers 0 or an errno. */
 int call_take(Call *call, Want want);
 /* Says what the call is about, and waits without a line as long as it would wait behind others of that name. */
-int call_wait(Call *call, const char *path, Matter matter);
+int call_wait(Call *call, const char *path, Matter matter, Passage passage);
 /* Takes a line for the name, once nobody is to be waited for. */
-int call_take_name(Call *call, Want want, const char *path);
+int call_take_name(Call *call, Want want, const char *path, Passage passage);
 /* Goes in at the gate of the path. A line must have been taken. */
 int call_enter(Call *call, const char *path, Passage passage);
 /* The reply, whatever its status. */

@@ -96,7 +96,7 @@ static bool is_at_home_alone(Call *call, const Look *look)
 int file_reach(Call *call, File *file, Matter matter, uint64_t *handle)
 {
     Look look = nodes_look(&call->mount->nodes, file->node);
-    int error = call_wait(call, look.path, matter);
+    int error = call_wait(call, look.path, matter, BESIDE_CREATES);
     if (error == 0)
         error = take(call, file, is_at_home_alone(call, &look), matter != BYTES);
     if (error == 0 && call->line != file->home)

@@ -85,7 +85,7 @@ static int add_names(fuse_req_t request, Mount *mount, Listing *listing, char *n
 static int ask_list(Call *call, char **names)
 {
     Reply reply;
-    int error = call_take_name(call, (Want){.may_be_reserved = true, .may_be_last = true}, "");
+    int error = call_take_name(call, (Want){.may_be_reserved = true, .may_be_last = true}, "", BESIDE_CREATES);
     if (error == 0)
         error = call_ask(call, request_list((uint8_t)call->mount->options.volume), &reply);
     if (error == 0)

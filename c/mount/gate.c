@@ -82,11 +82,11 @@ bool gate_has_abandoned(Gates *gates, unsigned number, Matter matter)
     return is_so;
 }
 
-bool gate_is_barred(Gates *gates, unsigned number, Matter matter, bool is_scarce)
+bool gate_is_barred(Gates *gates, unsigned number, Matter matter, Passage passage, bool is_scarce)
 {
     const Gate *gate = &gates->gates[number];
     pthread_mutex_lock(&gates->mutex);
-    bool is_barred = (matter == NAMES && !is_open(gate, BESIDE_CREATES)) || (is_scarce && gate->abandoned[matter] > 0);
+    bool is_barred = (matter == NAMES && !is_open(gate, BESIDE_CREATES)) || ((is_scarce || passage == ALONE) && gate->abandoned[matter] > 0);
     pthread_mutex_unlock(&gates->mutex);
     return is_barred;
 }

@@ -42,8 +42,8 @@ void gate_leave(Gates *gates, Inside *inside);
 void gate_abandon(Gates *gates, unsigned number, Matter matter, bool is_one_more);
 /* Whether such a request is there. */
 bool gate_has_abandoned(Gates *gates, unsigned number, Matter matter);
-/* Whether a request would wait: for a name behind a close, and where connections are scarce behind abandoned ones of its matter. */
-bool gate_is_barred(Gates *gates, unsigned number, Matter matter, bool is_scarce);
+/* Whether a request would wait: for a name behind a close, and behind abandoned ones of its matter where it goes alone or connections are scarce. */
+bool gate_is_barred(Gates *gates, unsigned number, Matter matter, Passage passage, bool is_scarce);
 /* Waits for a tick, or until somebody leaves. */
 void gate_wait(Gates *gates);
 void gates_close(Gates *gates);

@@ -15,7 +15,7 @@ int path_of(Mount *mount, fuse_ino_t folder, const char *name, char path[LONGEST
 
 int open_path(Call *call, const char *path, bool is_home)
 {
-    int error = call_take_name(call, (Want){.may_be_reserved = !is_home}, path);
+    int error = call_take_name(call, (Want){.may_be_reserved = !is_home}, path, BESIDE_CREATES);
     return error != 0 ? error : call_open(call, path, CREATE_EXISTING);
 }
 
@@ -218,7 +218,7 @@ int delete_path(Call *call, const char *path, const char *moved_to)
 
 static int unlink_path(Call *call, const char *path)
 {
-    int error = call_take_name(call, (Want){.may_be_reserved = true}, path);
+    int error = call_take_name(call, (Want){.may_be_reserved = true}, path, ALONE);
     if (error == 0)
         error = call_enter(call, path, ALONE);
     return error != 0 ? error : delete_path(call, path, NULL);

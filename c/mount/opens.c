@@ -59,7 +59,7 @@ static int create(Call *call, const char *path, struct fuse_file_info *info, uin
 {
     if (nodes_wait_hidden(&call->mount->nodes, path, PATIENCE_MILLISECONDS))
         return EBUSY;
-    int error = call_take_name(call, (Want){0}, path);
+    int error = call_take_name(call, (Want){0}, path, BESIDE_CREATES);
     if (error == 0)
         error = call_open(call, path, info->flags & O_EXCL ? CREATE_NEW : CREATE_ALWAYS);
     if (error == ENOENT && nodes_is_hidden(&call->mount->nodes, path))

@@ -4,9 +4,13 @@
 #include <errno.h>
 #include <stdlib.h>
 #include <sys/socket.h>
+#include <unistd.h>
 
 /* So long an operation waits for the home of its file before it opens the file once more elsewhere. */
 #define PATIENCE_MILLISECONDS 50
+/* So often, and so many milliseconds apart, a server is dialed that has no place. */
+#define TRIALS 3
+#define PAUSE_MILLISECONDS 100
 /* Free homes that looks and creates leave; one where there are few. */
 #define KEPT 2
 
@@ -253,11 +257,25 @@ static void look_at_others(Pool *pool)
     pthread_cond_broadcast(&pool->freed);
 }
 
+/* A server may need a moment to see that a place is free again. */
+static bool dial(Pool *pool, Connection *fresh)
+{
+    int error = ECONNREFUSED;
+    for (unsigned trial = 0; trial < TRIALS && error == ECONNREFUSED; trial++) {
+        if (trial > 0)
+            usleep(PAUSE_MILLISECONDS * 1000);
+        if (connection_dial(fresh, pool->path, &pool->server) != 0)
+            return false;
+        error = connection_greet(fresh);
+    }
+    return error == 0;
+}
+
 /* No lock is held while the server is dialed. */
 static void dial_anew(Pool *pool, Line *line)
 {
     Connection fresh = {.number = line->connection.number};
-    if (connection_dial(&fresh, pool->path, &pool->server) != 0 || connection_greet(&fresh) != 0)
+    if (!dial(pool, &fresh))
         return;
     lock(pool);
     line->connection.socket = fresh.socket;

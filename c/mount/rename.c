@@ -103,6 +103,14 @@ static int rename_path(Call *call, const char *path, const char *to, bool is_new
     return error;
 }
 
+/* Until nobody is there whom the rename would wait for: so long it can be interrupted. */
+static int wait_before(fuse_req_t request, const char *path, const char *to)
+{
+    Call call = call_of(request);
+    int error = call_wait(&call, path, NAMES, ALONE);
+    return error != 0 ? error : call_wait(&call, to, NAMES, ALONE);
+}
+
 void name_rename(fuse_req_t request, fuse_ino_t folder, const char *name, fuse_ino_t to_folder, const char *to, unsigned flags)
 {
     Call call = call_on(fuse_req_userdata(request), NULL);
@@ -117,6 +125,8 @@ void name_rename(fuse_req_t request, fuse_ino_t folder, const char *name, fuse_i
         error = EINVAL;
     if (error == 0 && (is_open(&call.mount->nodes, path) || is_open(&call.mount->nodes, to_path)))
         error = EXDEV;
+    if (error == 0)
+        error = wait_before(request, path, to_path);
     if (error == 0 && strcmp(path, to_path) != 0)
         error = rename_path(&call, path, to_path, is_new);
     call_end(&call);

@@ -1,10 +1,14 @@
+#define _GNU_SOURCE
 #include "below.h"
 
 #include "attributes.h"
 
 #include <errno.h>
 #include <fcntl.h>
+#include <linux/openat2.h>
+#include <stdio.h>
 #include <sys/statvfs.h>
+#include <sys/syscall.h>
 #include <unistd.h>
 
 bool below_open(Mount *mount)
@@ -67,4 +71,45 @@ void below_sync(fuse_req_t request, fuse_ino_t number, int is_data_alone, struct
     Look look = look_at(mount, number);
     int error = mount->below == -1 ? EINVAL : sync_path(mount->below, look.path[0] ? look.path : ".");
     fuse_reply_err(request, error);
+}
+
+/* A file that is ours alone, and what it is; -1 where there is none. It isn't opened to be read, and no link is followed. */
+static int find_own(int below, const char *path, struct stat *is)
+{
+    struct open_how how = {.flags = O_PATH | O_NOFOLLOW | O_CLOEXEC, .resolve = RESOLVE_BENEATH | RESOLVE_NO_SYMLINKS};
+    int file = below == -1 ? -1 : (int)syscall(SYS_openat2, below, path, &how, sizeof how);
+    if (file == -1)
+        return -1;
+    if (fstat(file, is) == 0 && S_ISREG(is->st_mode) && is->st_nlink == 1 && is->st_uid == geteuid())
+        return file;
+    close(file);
+    return -1;
+}
+
+/* Where it can't be set, the file keeps its mode. */
+static void set_mode(int file, mode_t mode)
+{
+    char name[sizeof "/proc/self/fd/" + 3 * sizeof file];
+    snprintf(name, sizeof name, "/proc/self/fd/%d", file);
+    chmod(name, S_IRUSR | S_IWUSR | (mode & 0777));
+    close(file);
+}
+
+void below_set_mode(const Mount *mount, const char *path, mode_t mode, bool is_new)
+{
+    struct stat is;
+    int file = find_own(mount->below, path, &is);
+    if (file != -1)
+        set_mode(file, is_new ? mode & is.st_mode : mode);
+}
+
+void below_copy_mode(const Mount *mount, const char *path, const char *to)
+{
+    struct stat is, copy;
+    int file = find_own(mount->below, path, &is);
+    int copied = file == -1 ? -1 : find_own(mount->below, to, &copy);
+    if (file != -1)
+        close(file);
+    if (copied != -1)
+        set_mode(copied, is.st_mode);
 }

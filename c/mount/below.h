@@ -1,4 +1,4 @@
-/* The server's folder itself, where -o below=FOLDER names it: it is asked for its room, and synced. No file in it is touched. */
+/* The server's folder itself, where -o below=FOLDER names it: it is asked for its room, and synced, and its files get modes. Nothing else of a file is touched. */
 #ifndef KZ_MOUNT_BELOW_H
 #define KZ_MOUNT_BELOW_H
 
@@ -13,5 +13,9 @@ bool below_is_full(const Mount *mount, uint64_t bytes);
 void below_tell_size(fuse_req_t request, fuse_ino_t number);
 /* Syncs a folder: EINVAL where none is named, since no frame does it. */
 void below_sync(fuse_req_t request, fuse_ino_t number, int is_data_alone, struct fuse_file_info *info);
+/* The file below gets the mode as well, where it is ours. Its owner may read and write it always, for a server opens it at each call. A new one gets no more than it has. */
+void below_set_mode(const Mount *mount, const char *path, mode_t mode, bool is_new);
+/* The same of a copy: it gets the mode that the other has below. */
+void below_copy_mode(const Mount *mount, const char *path, const char *to);
 
 #endif

@@ -1,6 +1,7 @@
 #include "names.h"
 
 #include "attributes.h"
+#include "below.h"
 #include "files.h"
 #include "path.h"
 #include "error.h"
@@ -140,8 +141,11 @@ void name_get_attributes(fuse_req_t request, fuse_ino_t number, struct fuse_file
 /* A mode that it has already is none that was given. */
 static void keep_mode(Mount *mount, Node *node, const Look *look, mode_t mode)
 {
-    if (mode != (attributes_of(mount, look, 0).st_mode & 0777))
-        nodes_set_mode(&mount->nodes, node, mode);
+    if (mode == (attributes_of(mount, look, 0).st_mode & 0777))
+        return;
+    nodes_set_mode(&mount->nodes, node, mode);
+    if (!look->is_deleted)
+        below_set_mode(mount, look->path, mode, false);
 }
 
 /* What the protocol has no word for is refused, unless it is so already. The kernel says `now` beside the time. */

@@ -271,12 +271,14 @@ void nodes_set_times(Nodes *nodes, Node *node, const struct timespec *read, cons
     unlock(nodes);
 }
 
-void nodes_made(Nodes *nodes, Node *node, mode_t mode)
+bool nodes_made(Nodes *nodes, Node *node, mode_t mode)
 {
     lock(nodes);
-    node->mode = node->has_mode ? node->mode : mode;
+    bool is_first = !node->has_mode;
+    node->mode = is_first ? mode : node->mode;
     node->has_mode = true;
     unlock(nodes);
+    return is_first;
 }
 
 void nodes_set_mode(Nodes *nodes, Node *node, mode_t mode)

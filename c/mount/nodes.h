@@ -66,8 +66,8 @@ void nodes_rename(Nodes *nodes, const char *path, const char *to);
 void nodes_missed(Nodes *nodes, const char *path);
 void nodes_changed(Nodes *nodes, Node *node);
 void nodes_set_times(Nodes *nodes, Node *node, const struct timespec *read, const struct timespec *changed);
-/* The file was made with that mode; one that was kept before stays. */
-void nodes_made(Nodes *nodes, Node *node, mode_t mode);
+/* The file was made with that mode: whether it is kept, for one that was kept before stays. */
+bool nodes_made(Nodes *nodes, Node *node, mode_t mode);
 void nodes_set_mode(Nodes *nodes, Node *node, mode_t mode);
 /* The number that programs see of a name. */
 uint64_t nodes_number(Nodes *nodes, const char *path);

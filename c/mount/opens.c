@@ -1,5 +1,6 @@
 /* Files are opened, and made. */
 #include "attributes.h"
+#include "below.h"
 #include "data.h"
 #include "files.h"
 #include "names.h"
@@ -109,7 +110,9 @@ void data_create(fuse_req_t request, fuse_ino_t folder, const char *name, mode_t
         fuse_reply_err(request, error);
         return;
     }
-    nodes_made(&call.mount->nodes, node, mode_made(&call.mount->options, mode));
+    mode = mode_made(&call.mount->options, mode);
+    if (nodes_made(&call.mount->nodes, node, mode))
+        below_set_mode(call.mount, path, mode, true);
     if (size == 0)
         nodes_changed(&call.mount->nodes, node);
     Look look = nodes_look(&call.mount->nodes, node);

@@ -2,6 +2,7 @@
  * Nobody interrupts it, for then too little would have been copied. */
 #include "rename.h"
 
+#include "below.h"
 #include "names.h"
 #include "path.h"
 #include "error.h"
@@ -72,6 +73,7 @@ static int copy(Call *call, const char *path, const char *to, bool is_new)
     if (error != 0)
         return error;
     uint64_t copied = reply.information;
+    below_copy_mode(call->mount, path, to);
     error = copy_bytes(call, call->handle, copied);
     bool is_lost = !call->has_handle;
     call->has_handle = false;

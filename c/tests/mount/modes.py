@@ -26,7 +26,6 @@ def kept(tally, tools):
     """A create's mode is kept, and a later one of that file. Of other files it is that of the mount."""
     with Ground(tally, tools, "copyrename") as ground:
         at, call = ground.at, tally.call
-        os.umask(0o022)
         for mode, flags in ((0o600, EXCL), (0o600, 0), (0o644, EXCL), (0o755, EXCL), (0o400, EXCL), (0o000, EXCL)):
             call(f"a file of mode {mode:o}", None, make, at("m"), mode, flags)
             call(f"has {mode:o}", mode, mode_of, at("m"))
@@ -47,6 +46,26 @@ def kept(tally, tools):
         call("deleted behind the mount", "ENOENT", os.stat, at("r"))
         put(ground.below("r"), b"new")
         call("a new one has the mount's", 0o644, mode_of, at("r"))
+
+
+def below(tally, tools):
+    """With the folder below its files have the modes too, and can be read and written by their owner."""
+    with Ground(tally, tools, "below={host}", "copyrename") as ground:
+        at, call = ground.at, tally.call
+        for mode, wanted in ((0o600, 0o600), (0o640, 0o640), (0o644, 0o644), (0o400, 0o600), (0o666, 0o644)):
+            make(at("m"), mode)
+            call(f"below, {mode:o}", wanted, mode_of, ground.below("m"))
+            os.unlink(at("m"))
+        make(at("k"), 0o600)
+        call("below, another mode", None, os.chmod, at("k"), 0o444)
+        call("is had, and may be written", 0o644, mode_of, ground.below("k"))
+        call("below, a mode again", None, os.chmod, at("k"), 0o600)
+        call("below, renamed", None, os.rename, at("k"), at("r"))
+        call("it has the mode", 0o600, mode_of, ground.below("r"))
+        put(ground.below("other"), b"other")
+        os.symlink("other", ground.below("link"))
+        call("a file behind a link", None, make, at("link"), 0o600, 0)
+        call("keeps its mode", 0o644, mode_of, ground.below("other"))
 
 
 def masked(path, umask):
@@ -180,5 +199,6 @@ def full(tally, tools):
 
 def run(tally, tools):
     """All of these."""
-    for part in (kept, bounded, others, numbers, syncs, full):
+    os.umask(0o022)
+    for part in (kept, below, bounded, others, numbers, syncs, full):
         part(tally, tools)

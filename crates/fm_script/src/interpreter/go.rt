@@ -32,11 +32,11 @@ impl Interpreter {
         sink.tell(Said::Refused(Status::WrongStep))
     }
 
-    // A worker takes the operation's next step, and answers it: a preoperation callback as it is planned, a base call by the devices, a
-    // postoperation callback and a drain by finishing them, and a done operation by collecting its reply. It tells what happened, and
-    // says whether the operation goes on.
+    /// One turn of a `go`: the worker takes the operation's next step, and answers it, a preoperation callback as it is planned, a base call by the devices,
+    /// a postoperation callback and a drain by finishing them, and a done operation by collecting its reply. It tells what happened, and says whether the
+    /// operation goes on. Of a `go` that is made turn by turn the state can be read between them.
     #[tactic(auto, using(crate::proofs::Going::goes_then))]
-    fn turn<S: Sink>(
+    pub fn turn<S: Sink>(
         &mut self,
         worker: WorkerId,
         operation: OpId,

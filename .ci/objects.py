@@ -1,8 +1,9 @@
 #!/usr/bin/env python3
 """Checks the JSON of scripts against the tables of docs/JSON.md, and each run's objects against what the run printed.
 
-    .ci/objects.py --program FLTVIEW [--trial PROGRAM] [SCRIPT ..]     of these scripts; else of all stored ones
+    .ci/objects.py --program FLTVIEW [--trial PROGRAM] [--random COUNT [SEED]] [SCRIPT ..]     of these scripts; else of all stored ones
 
+With --random it checks so many random scripts too (.ci/scripts.py), from that seed on or from 1.
 With --trial it checks a trial too, of the program trial_rows: its stored scenario, and one of what that one lacks. The lines that the trial prints say the same.
 It ends with status 1 if an object isn't as the tables say, if an event of a table never came, or if the page has other objects.
 """
@@ -12,6 +13,8 @@ import re
 import subprocess
 import sys
 import tempfile
+
+import scripts as maker
 
 # A script that isn't as it expects, with bytes that are no text: none is stored, since stored scripts are tests that pass.
 OWN = b"load f\n#! expect ok f0\nload f\n#! expect ok f1\n# \\ and \xff\n\xff\\\n"
@@ -214,9 +217,35 @@ def words_behind(words, name):
     return str(pathlib.Path(words[at + 1]).resolve()), words[:at] + words[at + 2 :]
 
 
+def random_of(words):
+    """How many random scripts are asked for, the first seed, and the words without these."""
+    if "--random" not in words:
+        return 0, 1, words
+    at = words.index("--random")
+    numbers = []
+    for word in words[at + 1 : at + 3]:
+        if not word.isdigit():
+            break
+        numbers.append(int(word))
+    if not numbers:
+        sys.exit(__doc__)
+    return numbers[0], (numbers + [1])[1], words[:at] + words[at + 1 + len(numbers) :]
+
+
+def random_scripts(program, room, count, seed):
+    """So many random scripts, each in a file under its seed."""
+    made = []
+    for number in range(seed, seed + count):
+        path = pathlib.Path(room) / f"random{number}.flt"
+        path.write_bytes(maker.script(program, number))
+        made.append(path)
+    return made
+
+
 def main():
     program, words = words_behind(sys.argv[1:], "--program")
     trial, words = words_behind(words, "--trial")
+    count, seed, words = random_of(words)
     if program is None:
         sys.exit(__doc__)
     room = tempfile.TemporaryDirectory()
@@ -224,6 +253,7 @@ def main():
     own.write_bytes(OWN)
     own_trial.write_bytes(OWN_TRIAL)
     scripts = [pathlib.Path(word) for word in words] or [*sorted(DATA.rglob("*.flt")), own]
+    scripts += random_scripts(program, room.name, count, seed)
     kinds, events, trial_events = schema()
     runs = [check(script, program, kinds, events, lambda told, script=script: script_faults(told, events, script)) for script in scripts]
     if trial:

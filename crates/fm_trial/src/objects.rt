@@ -2,12 +2,12 @@
 
 use crate::asked::Asked;
 use crate::report::Manager;
-use fm_core::{Place, PreState};
-use fm_data::{PostVerdict, PreVerdict, Reply};
+use fm_core::Place;
+use fm_data::{PostVerdict, Reply};
 use fm_filter::Minifilter;
 use fm_local::{Callback, PostAnswer, PreAnswer, Traced, Visit};
 use fm_types::{FilterId, InstanceId, OpId, Status};
-use fm_view::{Detail, Event, Teller, Visit as At};
+use fm_view::{Detail, Event, Teller, Visit as At, counted_for};
 use fm_wire::Control;
 use std::alloc::AllocError;
 
@@ -128,24 +128,12 @@ fn say_pre(
         context: None,
     };
     let detail = Detail {
-        counted: counted_of(answer),
+        counted: answer
+            .counted
+            .and_then(|stands| counted_for(answer.given, stands)),
         ..Detail::default()
     };
     teller.say_event(text, &pre, &detail)
-}
-
-// The verdict that counts, where it is another one than was given.
-fn counted_of(answer: &PreAnswer) -> Option<PreVerdict> {
-    match (answer.given, answer.counted?) {
-        (
-            PreVerdict::WithCallback(_) | PreVerdict::Synchronize(_) | PreVerdict::Complete(_),
-            PreState::Passed,
-        ) => Some(PreVerdict::NoCallback),
-        (PreVerdict::Complete(status), PreState::Completed(other)) if status != other => {
-            Some(PreVerdict::Complete(other))
-        }
-        _ => None,
-    }
 }
 
 // Appends that a postoperation returned, and which status it left in place of another.

@@ -2,7 +2,7 @@
 
 use fm_core::{Count, Phase, Place};
 use fm_data::PreVerdict;
-use fm_types::{ContextKind, Status};
+use fm_types::{ContextKind, InstanceId, OpId, Status};
 
 /// A worker's visit of an instance for an operation.
 #[derive(Clone, Copy, Debug)]
@@ -277,6 +277,22 @@ impl Event {
             | Event::Resumed { visit, .. }
             | Event::PostResumed(visit) => Some(visit.worker),
             _ => None,
+        }
+    }
+
+    /// The callback that returned with it, in a turn of a worker that was in none; Idle where none did.
+    pub fn callback(&self) -> Place {
+        match self {
+            Event::Pre { visit, .. } => {
+                Place::Pre(OpId(visit.operation), InstanceId(visit.instance))
+            }
+            Event::Post(visit) | Event::PostHeld(visit) => {
+                Place::Post(OpId(visit.operation), InstanceId(visit.instance))
+            }
+            Event::Drained(visit) => {
+                Place::Drain(OpId(visit.operation), InstanceId(visit.instance))
+            }
+            _ => Place::Idle,
         }
     }
 

@@ -1,8 +1,8 @@
 //! What an answer says that happened, by what its command asked for and what was so before.
 
 use crate::event::{Deed, Event, Visit, instance_in, operation_in};
-use crate::verdict::held_at;
-use fm_core::{Count, Entry, Phase, Place, State, Step};
+use crate::verdict::{held_at, stands_at};
+use fm_core::{Count, Entry, Phase, Place, PreState, State, Step};
 use fm_data::{PostVerdict, PreVerdict};
 use fm_script::{ContextList, Said, Task, Word};
 use fm_types::{CtxId, InstanceId, OpId, Status, WorkerId};
@@ -82,11 +82,14 @@ impl Asked<'_> {
             },
             Task::Next { worker, operation } => self.next(*worker, *operation, said),
             Task::Go { worker, operation } => self.go(*worker, *operation, said),
-            Task::Pre { worker, verdict } => Event::Pre {
-                visit: visit_at(*worker, self.place),
-                verdict: *verdict,
-                context: self.sent(*verdict),
-            },
+            Task::Pre { worker, verdict } => {
+                let visit = visit_at(*worker, self.place);
+                Event::Pre {
+                    visit,
+                    verdict: *verdict,
+                    context: self.sent(visit),
+                }
+            }
             Task::Base { .. } => self.based(operation_in(self.place).unwrap_or(0)),
             Task::Post { worker, verdict } => self.post(*worker, *verdict),
             Task::Plan { instance, verdict } => Event::Planned {
@@ -213,10 +216,13 @@ impl Asked<'_> {
         }
     }
 
-    // The context that a verdict sends along, by its number.
-    fn sent(&self, verdict: PreVerdict) -> Option<u64> {
-        match verdict {
-            PreVerdict::WithCallback(completion) => Some(self.number(completion.context?)),
+    // The context that a preoperation sent along, by its number: it counts only where the postoperation does, and the context was in the hand.
+    fn sent(&self, visit: Visit) -> Option<u64> {
+        let stands = stands_at(self.state, OpId(visit.operation), visit.instance)?;
+        match stands {
+            PreState::Asked(completion) | PreState::Synchronized(completion) => {
+                Some(self.number(completion.context?))
+            }
             _ => None,
         }
     }

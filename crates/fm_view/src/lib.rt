@@ -35,6 +35,6 @@ pub use crate::page::{PAGE_BEGIN, PAGE_END};
 pub use crate::subject::Subject;
 pub use crate::tally::Tally;
 pub use crate::teller::{Teller, Telling};
-pub use crate::verdict::{exit_status, held_at};
+pub use crate::verdict::{counted_for, exit_status, held_at};
 pub use crate::view::{Manner, Shown, show_script};
 pub use fm_script::ScriptEnd;

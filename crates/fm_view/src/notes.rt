@@ -1,14 +1,13 @@
 //! What the lines of a script named so far, and since when: what the manager's state doesn't tell.
 
-use crate::event::{Deed, Event, Moment, Visit, instance_in};
+use crate::event::{Deed, Event, instance_in};
 use fm_altitude::Altitude;
 use fm_core::{FilterPhase, Phase, Place, State, Step, VolumePhase};
 use fm_data::{FileRequest, Request};
 use fm_script::Task;
 use fm_types::limits::SCRIPT_WORKERS;
 use fm_types::{
-    ContextKind, CreateMode, FilterId, InstanceId, Name, OpId, SharedPath, Status, VolumeId,
-    WorkerId,
+    ContextKind, CreateMode, FilterId, InstanceId, Name, SharedPath, Status, VolumeId, WorkerId,
 };
 use std::alloc::{AllocError, Global};
 
@@ -131,14 +130,6 @@ pub struct LeakNote {
     pub line: u32,
 }
 
-/// A context that an operation carries for an instance.
-#[derive(Clone, Copy)]
-pub struct Carried {
-    pub operation: u64,
-    pub instance: u16,
-    pub context: u64,
-}
-
 /// How far the life of an instance came on a line.
 #[derive(Clone, Copy)]
 pub struct Change {
@@ -158,7 +149,6 @@ pub struct Notes {
     pub operations: Vec<OperationNote>,
     pub contexts: Vec<ContextNote>,
     pub leaks: Vec<LeakNote>,
-    pub carried: Vec<Carried>,
     pub changes: Vec<Change>,
     /// The handles that are open, as far as replies told.
     pub handles: Vec<u64>,
@@ -181,7 +171,6 @@ impl Notes {
             operations: Vec::new(alloc),
             contexts: Vec::new(alloc),
             leaks: Vec::new(alloc),
-            carried: Vec::new(alloc),
             changes: Vec::new(alloc),
             handles: Vec::new(alloc),
             opened: Vec::new(alloc),
@@ -216,7 +205,6 @@ impl Notes {
                 status: Status::Success,
                 information,
             } => self.reply(*operation, *information)?,
-            Event::Pre { visit, context, .. } => self.carry(*visit, *context)?,
             Event::Dropped { handle, .. } => self.close(*handle),
             _ => self.name(line, task, event)?,
         }
@@ -416,18 +404,6 @@ impl Notes {
         self.handles.retain(|other| *other != handle);
     }
 
-    // A preoperation sent perhaps a context along.
-    fn carry(&mut self, visit: Visit, context: Option<u64>) -> Result<(), AllocError> {
-        if let Some(context) = context {
-            self.carried.push(Carried {
-                operation: visit.operation,
-                instance: visit.instance,
-                context,
-            })?;
-        }
-        Ok(())
-    }
-
     /// A reference was left behind by the callback that returned there.
     pub fn leak(&mut self, context: u64, place: Place, line: u32) -> Result<(), AllocError> {
         self.leaks.push(LeakNote {
@@ -435,31 +411,6 @@ impl Notes {
             place,
             line,
         })?;
-        Ok(())
-    }
-
-    /// In a `go` the postoperations and drains left behind what they were sent.
-    pub fn leak_carried(&mut self, moments: &[Moment], line: u32) -> Result<(), AllocError> {
-        for moment in moments {
-            if let (true, Event::Post(visit) | Event::Drained(visit)) = (
-                moment.line == line,
-                moment.event,
-            ) {
-                self.leak_of(line, visit)?;
-            }
-        }
-        Ok(())
-    }
-
-    fn leak_of(&mut self, line: u32, visit: Visit) -> Result<(), AllocError> {
-        for at in 0..self.carried.len() {
-            if let Some(carried) = self.carried.get(at).copied() {
-                if visit.operation == carried.operation && visit.instance == carried.instance {
-                    let place = Place::Post(OpId(visit.operation), InstanceId(visit.instance));
-                    self.leak(carried.context, place, line)?;
-                }
-            }
-        }
         Ok(())
     }
 

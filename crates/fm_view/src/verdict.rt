@@ -3,10 +3,12 @@
 ghost use Rattle.std.specs.Prelude.{◌≡◌};
 ghost use Rattle.fm_view.specs.Ends.{status_of};
 
+use crate::event::Event;
 use crate::expect::Expectations;
 use crate::named::{Counted, Named, PlaceName, Stated};
 use crate::notes::{LeakNote, Notes};
 use fm_core::{Entry, Hold, Phase, Place, PostState, PreState, State};
+use fm_data::PreVerdict;
 use fm_script::ScriptEnd;
 use fm_types::{InstanceId, OpId, Status, WorkerId};
 use std::alloc::AllocError;
@@ -38,6 +40,41 @@ pub fn held_at(state: &State, operation: OpId) -> Option<(InstanceId, Hold)> {
         }
     }
     None
+}
+
+/// The verdict that counts in place of the one that a preoperation gave, where another one does: none where it asked for a postoperation that its filter
+/// doesn't have, or completed a cleanup or a close; and for a create that it completed with Success the completion with AccessDenied.
+pub fn counted_for(given: PreVerdict, stands: PreState) -> Option<PreVerdict> {
+    match (given, stands) {
+        (
+            PreVerdict::WithCallback(_) | PreVerdict::Synchronize(_) | PreVerdict::Complete(_),
+            PreState::Passed,
+        ) => Some(PreVerdict::NoCallback),
+        (PreVerdict::Complete(status), PreState::Completed(other)) if status != other => {
+            Some(PreVerdict::Complete(other))
+        }
+        _ => None,
+    }
+}
+
+/// How the preoperation of an instance stands that saw an operation, if it did.
+pub fn stands_at(state: &State, operation: OpId, instance: u16) -> Option<PreState> {
+    for entry in state.trace(operation)? {
+        match entry {
+            Entry::Pre(pre) if pre.instance.0 == instance => return Some(pre.state),
+            _ => {}
+        }
+    }
+    None
+}
+
+/// The verdict that counts in place of the one that a preoperation gave that has just returned.
+pub fn counted_at(state: &State, event: &Event) -> Option<PreVerdict> {
+    let Event::Pre { visit, verdict, .. } = event else {
+        return None;
+    };
+    let stands = stands_at(state, OpId(visit.operation), visit.instance)?;
+    counted_for(*verdict, stands)
 }
 
 /// How many operations filters hold.

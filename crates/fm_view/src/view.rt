@@ -18,13 +18,15 @@ use crate::picture::draw;
 use crate::reason::{Refusal, say_refusal};
 use crate::subject::{Subject, worker_of};
 use crate::tally::Tally;
-use crate::verdict::{exit_status, held, say_end, say_expectations, say_fault, say_leak};
-use crate::words::say;
-use fm_core::{Place, Step};
+use crate::verdict::{
+    counted_at, exit_status, held, say_end, say_expectations, say_fault, say_leak,
+};
+use crate::words::say_detail;
+use fm_core::{Place, State, Step};
 use fm_data::{FileRequest, Request};
 use fm_script::{Interpreter, Listener, Said, ScriptEnd, Task, is_silent, read_lines};
-use fm_types::limits::LINE;
-use fm_types::{Status, WorkerId};
+use fm_types::limits::{LINE, TURNS};
+use fm_types::{OpId, Status, WorkerId};
 use std::alloc::{AllocError, Global};
 use std::io::{Read, Write};
 
@@ -71,22 +73,23 @@ impl Shown {
     }
 }
 
-// Where the worker of a line is before it, what it holds, how many references were left behind so far, and how many devices were called.
-#[derive(Drop)]
-struct Before {
-    place: Place,
-    contexts: Vec<u64>,
-    leaks: u64,
-    calls: u64,
-}
-
-// A line as it was read.
+// A line as it was read, or a turn of a `go`: where its worker is before it, how many references were left behind so far, and how many devices were called.
 #[derive(Clone, Copy)]
 struct Line<'a> {
     text: &'a [u8],
     task: Option<&'a Task>,
+    worker: Option<WorkerId>,
     place: Place,
+    leaks: u64,
     calls: u64,
+}
+
+// What is shown of a line, and what a script prints for it, so far.
+#[derive(Drop)]
+struct Answered {
+    text: String,
+    printed: Vec<u8>,
+    is_first: bool,
 }
 
 // A run that is shown.
@@ -146,16 +149,61 @@ impl<W: Write + Drop> View<W> {
     }
 
     // Runs a line that isn't silent, and shows what it answered.
-    fn run(&mut self, line: &[u8]) -> Result<(), ScriptEnd> {
-        let task = self.read(line)?;
-        let before = self.before(&task).map_err(|_| ScriptEnd::NoMemory)?;
-        let told = self.interpreter.run(self.alloc, line)?;
-        let text = self
-            .show_all(line, &task, &before, told.as_slice())
+    fn run(&mut self, text: &[u8]) -> Result<(), ScriptEnd> {
+        let task = self.read(text)?;
+        let (changes, leaks) = (self.notes.changes.len(), self.notes.leaks.len());
+        let mut answered = Answered {
+            text: String::new(self.alloc),
+            printed: Vec::new(self.alloc),
+            is_first: true,
+        };
+        match &task {
+            Ok(Task::Go { worker, operation }) => {
+                self.go(text, &task, (*worker, *operation), &mut answered)?
+            }
+            _ => self.perform(text, &task, &mut answered)?,
+        }
+        let Answered { mut text, printed, .. } = answered;
+        self.show_rest(&mut text, changes, leaks)
             .map_err(|_| ScriptEnd::NoMemory)?;
-        let printed = printed(self.alloc, told.as_slice()).map_err(|_| ScriptEnd::NoMemory)?;
         self.note_answers(&task, printed);
         self.write(text.as_str())
+    }
+
+    // Runs a line that is done at once.
+    fn perform(
+        &mut self,
+        text: &[u8],
+        task: &Result<Task, Status>,
+        answered: &mut Answered,
+    ) -> Result<(), ScriptEnd> {
+        let line = self.before(text, task);
+        let told = self.interpreter.run(self.alloc, text)?;
+        self.show_all(&line, told.as_slice(), answered)
+            .map_err(|_| ScriptEnd::NoMemory)
+    }
+
+    // Runs a `go` turn by turn, since the state tells only of the last callback what it left behind.
+    fn go(
+        &mut self,
+        text: &[u8],
+        task: &Result<Task, Status>,
+        (worker, operation): (WorkerId, OpId),
+        answered: &mut Answered,
+    ) -> Result<(), ScriptEnd> {
+        for _ in 0..TURNS {
+            let line = self.before(text, task);
+            let mut told = Vec::new(self.alloc);
+            let goes_on = self.interpreter.turn(worker, operation, &mut told)?;
+            self.show_all(&line, told.as_slice(), answered)
+                .map_err(|_| ScriptEnd::NoMemory)?;
+            if !goes_on {
+                return Ok(());
+            }
+        }
+        let line = self.before(text, task);
+        self.show_all(&line, &[Said::Refused(Status::WrongStep)], answered)
+            .map_err(|_| ScriptEnd::NoMemory)
     }
 
     // Notes what a line printed, for what the script expects of it.
@@ -248,36 +296,34 @@ impl<W: Write + Drop> View<W> {
         write!(text, "{begin}{:>4}  {}{end}\n", self.line, Ascii(line))
     }
 
-    // Shows what a line answered, and notes it.
+    // Shows what a line or a turn answered, and notes it.
     fn show_all(
         &mut self,
-        line: &[u8],
-        task: &Result<Task, Status>,
-        before: &Before,
+        line: &Line<'_>,
         told: &[Said],
-    ) -> Result<String, AllocError> {
-        let mut text = String::new(self.alloc);
-        let (changes, leaks) = (self.notes.changes.len(), self.notes.leaks.len());
-        let line = Line {
-            text: line,
-            task: match task {
-                Ok(task) => Some(task),
-                Err(_) => None,
-            },
-            place: before.place,
-            calls: before.calls,
-        };
-        let mut is_first = true;
+        answered: &mut Answered,
+    ) -> Result<(), AllocError> {
+        let lines = printed(self.alloc, told)?;
+        answered.printed.extend_from_slice(lines.as_slice())?;
         for said in told {
-            self.show(&mut text, &line, said, is_first)?;
-            is_first = false;
+            self.show(&mut answered.text, line, said, answered.is_first)?;
+            answered.is_first = false;
         }
-        self.note_leaks(task, before)?;
+        self.note_leaks(line)
+    }
+
+    // Appends what only the end of a line tells: how far lives came, and what was left behind.
+    fn show_rest(
+        &self,
+        text: &mut String,
+        changes: usize,
+        leaks: usize,
+    ) -> Result<(), AllocError> {
         if self.is_json() {
-            self.show_changes(&mut text, changes)?;
-            self.show_leaks(&mut text, leaks)?;
+            self.show_changes(text, changes)?;
+            self.show_leaks(text, leaks)?;
         }
-        Ok(text)
+        Ok(())
     }
 
     // Appends how far lives came on this line.
@@ -298,62 +344,43 @@ impl<W: Write + Drop> View<W> {
         Ok(())
     }
 
-    // How things are before a line.
-    fn before(&self, task: &Result<Task, Status>) -> Result<Before, AllocError> {
-        let interpreter = &self.interpreter;
-        let state = interpreter.state();
-        let mut before = Before {
-            place: Place::Idle,
-            contexts: Vec::new(self.alloc),
-            leaks: state.leaks(),
-            calls: interpreter.calls(),
+    // How things are before a line, or before a turn of it.
+    fn before<'a>(&self, text: &'a [u8], task: &'a Result<Task, Status>) -> Line<'a> {
+        let state = self.interpreter.state();
+        let (task, worker) = match task {
+            Ok(task) => (Some(task), worker_of(task)),
+            Err(_) => (None, None),
         };
-        if let Some(worker) = worker_in(task) {
-            before.place = state.place(worker).unwrap_or(Place::Idle);
-            for place in 0..state.hand_len(worker) {
-                if let Some(context) = state.held_at(worker, place) {
-                    if let Some(number) = interpreter.contexts().number_of(context) {
-                        before.contexts.push(number as u64)?;
-                    }
-                }
-            }
+        Line {
+            text,
+            task,
+            worker,
+            place: place_of(state, worker),
+            leaks: state.leaks(),
+            calls: self.interpreter.calls(),
         }
-        Ok(before)
     }
 
-    // Notes the references that callbacks left behind on a line: what was in the hand but wasn't sent along, or what a `go` brought back.
-    fn note_leaks(
-        &mut self,
-        task: &Result<Task, Status>,
-        before: &Before,
-    ) -> Result<(), AllocError> {
-        let leaks = self.interpreter.state().leaks();
-        let mut left = leaks.saturating_sub(before.leaks);
-        let mut sent = self.sent();
-        for context in &before.contexts {
-            if sent == Some(*context) {
-                sent = None;
-            } else if left > 0 {
-                left -= 1;
-                self.notes.leak(*context, before.place, self.line)?;
+    // Notes the references that the callback left behind that returned on a line, or in a turn of it.
+    fn note_leaks(&mut self, line: &Line<'_>) -> Result<(), AllocError> {
+        let state = self.interpreter.state();
+        let (Some(worker), true) = (line.worker, state.leaks() != line.leaks) else {
+            return Ok(());
+        };
+        let place = self.returned_from(line);
+        for context in state.left(worker) {
+            if let Some(number) = self.interpreter.contexts().number_of(*context) {
+                self.notes.leak(number as u64, place, self.line)?;
             }
-        }
-        if left > 0 && matches!(task, Ok(Task::Go { .. })) {
-            self.notes.leak_carried(&self.moments, self.line)?;
         }
         Ok(())
     }
 
-    // The context that the preoperation of this line sent along.
-    fn sent(&self) -> Option<u64> {
-        match self.moments.last() {
-            Some(
-                Moment {
-                    event: Event::Pre { context, .. },
-                    ..
-                },
-            ) => *context,
-            _ => None,
+    // The callback that returned on a line: the one that its worker was in, or the one that a turn came to.
+    fn returned_from(&self, line: &Line<'_>) -> Place {
+        match (line.place, self.moments.last()) {
+            (Place::Idle, Some(moment)) => moment.event.callback(),
+            (place, _) => place,
         }
     }
 
@@ -413,8 +440,13 @@ impl<W: Write + Drop> View<W> {
         if !self.is_json() && !self.is_said() && self.shown.manner != Manner::Picture {
             return Ok(());
         }
-        let bytes = bytes_of(line.task, said);
-        let words = self.words(line, &event, bytes.unwrap_or(b""))?;
+        let detail = Detail {
+            bytes: bytes_of(line.task, said),
+            counted: counted_at(self.interpreter.state(), &event),
+            subject: Subject::of(line.task, line.place),
+            ..Detail::default()
+        };
+        let words = self.words(line, &event, &detail)?;
         if self.shown.manner == Manner::Picture {
             return self.title(line, words.as_str());
         }
@@ -427,11 +459,7 @@ impl<W: Write + Drop> View<W> {
             command: line.text,
             words: words.as_str(),
             reason: reason.as_str(),
-            detail: Detail {
-                bytes,
-                subject: Subject::of(line.task, line.place),
-                ..Detail::default()
-            },
+            detail,
         };
         say_json(self.alloc, text, &self.notes, &event, &told)
     }
@@ -444,14 +472,19 @@ impl<W: Write + Drop> View<W> {
     }
 
     // What happened, in words.
-    fn words(&self, line: &Line<'_>, event: &Event, bytes: &[u8]) -> Result<String, AllocError> {
+    fn words(
+        &self,
+        line: &Line<'_>,
+        event: &Event,
+        detail: &Detail<'_>,
+    ) -> Result<String, AllocError> {
         let mut words = String::new(self.alloc);
         match event {
             Event::Refused { status, .. } => {
                 let reason = self.reason(line, event)?;
                 write!(words, "REFUSED {}: {}", Stated(*status), reason.as_str())?;
             }
-            _ => say(&mut words, &self.notes, event, bytes)?,
+            _ => say_detail(&mut words, &self.notes, event, detail)?,
         }
         Ok(words)
     }
@@ -605,11 +638,11 @@ impl<W: Write + Drop> View<W> {
     }
 }
 
-// The worker of a line.
-fn worker_in(task: &Result<Task, Status>) -> Option<WorkerId> {
-    match task {
-        Ok(task) => worker_of(task),
-        Err(_) => None,
+// Where the worker of a line is, if it has one.
+fn place_of(state: &State, worker: Option<WorkerId>) -> Place {
+    match worker {
+        Some(worker) => state.place(worker).unwrap_or(Place::Idle),
+        None => Place::Idle,
     }
 }
 

@@ -17,7 +17,7 @@ import tempfile
 import scripts as maker
 
 # A script that isn't as it expects, with bytes that are no text: none is stored, since stored scripts are tests that pass.
-OWN = b"load f\n#! expect ok f0\nload f\n#! expect ok f1\n# \\ and \xff\n\xff\\\n"
+OWN = b"load f\n#! expect status x\n#! expect ok f0\nload f\n#! expect ok f1\n# \\ and \xff\n\xff\\\n"
 
 # A scenario of what the stored one lacks: refusals, an end of filters, and at last a line that says nothing.
 OWN_TRIAL = """load mistakes
@@ -141,11 +141,12 @@ def script_faults(all_told, events, script):
         faults.append("a leak without kind or owner")
     printed = script.with_suffix(".out")
     if printed.exists():
-        told = sum(events[name][2] for name in names)
+        told = sum(events[told["event"]][2] and not told["command"].startswith("#! expect") for told in all_told)
         if told != len(printed.read_bytes().split(b"\n")) - 1:
             faults.append(f"{told} objects of printed lines, and another number of lines")
     comments = [line for line in script.read_bytes().split(b"\n") if line.startswith(b"#") and len(line) <= 4096]
-    if names.count("Comment") + names.count("Met") + names.count("Unmet") != len(comments):
+    refused = sum(told["event"] == "Refused" and told["command"].startswith("#! expect") for told in all_told)
+    if names.count("Comment") + names.count("Met") + names.count("Unmet") + refused != len(comments):
         faults.append("another number of comments")
     return faults
 

@@ -1,6 +1,6 @@
 //! Runs each script, NAME.flt in the folder that it is run in or in its folder `rows`: read whole, read in pieces of any length, and without its last
-//! line's end. Says which don't print what NAME.out has, and of which folder each does. Those that have a NAME.txt and a NAME.svg beside them are shown in
-//! words and as a picture too, and these are compared.
+//! line's end. Says which don't print what NAME.out has, and of which folder each does, and which aren't as their own lines expect. Those that have a NAME.txt
+//! beside them are shown in words too, those that have a NAME.svg as a picture, and these are compared.
 #![tactic(auto)]
 
 mod by_manager;
@@ -23,6 +23,14 @@ const SHOWN: [&str; 5] = [
     "detach",
     "refusals",
     "rows/early_drain",
+];
+
+// Those that are shown in words alone.
+const SAID: [&str; 4] = [
+    "rows/leak_of_a_verdict",
+    "rows/not_sent_along",
+    "rows/leak_of_a_drain",
+    "rows/unmet",
 ];
 
 // A reader that gives a script in pieces of at most that many bytes, and is interrupted before each.
@@ -157,6 +165,32 @@ fn run_all(rt: &HostRuntime, folder: &str) -> io::Result<bool> {
     Ok(is_well)
 }
 
+// Checks each script of a folder as a test, and tells those that aren't as their lines expect. Whether there are no such.
+fn check_all(rt: &HostRuntime, folder: &str) -> io::Result<bool> {
+    let alloc = rt.alloc();
+    let mut is_well = true;
+    for name in &names(rt, folder)? {
+        let input = fs::read(rt, format!(in alloc; "{name}.flt")?)?;
+        let mut bytes = Vec::new(alloc);
+        let status = show_script(
+            alloc,
+            Shown::new(Manner::Check),
+            input.as_slice(),
+            &mut bytes,
+        );
+        if status != 0 {
+            is_well = false;
+            println!(rt; "{name} isn't as its lines expect: status {status}")?;
+        }
+    }
+    Ok(is_well)
+}
+
+// Whether the empty script prints nothing, and ends well.
+fn is_nothing(alloc: Global) -> bool {
+    run(alloc, b"", b"", 1) == Outcome::Same
+}
+
 // Shows a script, and tells whether that is what its file of that ending has.
 fn is_shown(rt: &HostRuntime, name: &str, manner: Manner, ending: &str) -> io::Result<bool> {
     let alloc = rt.alloc();
@@ -167,16 +201,24 @@ fn is_shown(rt: &HostRuntime, name: &str, manner: Manner, ending: &str) -> io::R
     Ok(bytes.as_slice() == wanted.as_slice())
 }
 
+// Tells whether a script is shown so as it should be.
+fn show(rt: &HostRuntime, name: &str, manner: Manner, ending: &str) -> io::Result<()> {
+    let verb = if is_shown(rt, name, manner, ending)? {
+        "is"
+    } else {
+        "isn't"
+    };
+    println!(rt; "{name} {verb} shown as {name}.{ending} has it")
+}
+
 // Tells of each script that is shown whether that is as it should be.
 fn show_all(rt: &HostRuntime) -> io::Result<()> {
     for name in SHOWN {
-        for (manner, ending) in [(Manner::Words, "txt"), (Manner::Picture, "svg")] {
-            if is_shown(rt, name, manner, ending)? {
-                println!(rt; "{name} is shown as {name}.{ending} has it")?;
-            } else {
-                println!(rt; "{name} isn't shown as {name}.{ending} has it")?;
-            }
-        }
+        show(rt, name, Manner::Words, "txt")?;
+        show(rt, name, Manner::Picture, "svg")?;
+    }
+    for name in SAID {
+        show(rt, name, Manner::Words, "txt")?;
     }
     Ok(())
 }
@@ -189,6 +231,12 @@ fn main(rt: HostRuntime) -> io::Result<()> {
         if run_by_manager(&rt, &rt, folder)? {
             println!(rt; "{folder}: and so it does by a manager's hands")?;
         }
+        if check_all(&rt, folder)? {
+            println!(rt; "{folder}: each script is as its lines expect")?;
+        }
+    }
+    if is_nothing(rt.alloc()) {
+        println!(rt; "the empty script prints nothing")?;
     }
     show_all(&rt)
 }

@@ -1,11 +1,13 @@
 //! Runs a script of the filter manager from standard input as `fltscript` does, and shows what happened: in words, as JSON, as a page for a browser, as a
 //! picture, or only what wasn't as the script expects. It ends with status 0, with 5 where a callback left a reference behind, a filter holds an operation, or a line gave back or resumed
 //! what it didn't have, with 6 where something wasn't as the script expects, with 1 where there is no memory, with 3 where a read or a write fails, and with 2
-//! where a word of the command line is none.
+//! where a line expects what can't be read, or a word of the command line is none.
+//!
+//! With files it runs each of them as a test, and tells in the words of TAP whether it is as its lines expect: it ends with 0 where all are, and else with 1.
 #![tactic(auto)]
 
-use clap::{Arg, ArgAction, Command, value_parser};
-use fm_view::{Manner, Shown, show_script};
+use clap::{Arg, ArgAction, ArgMatches, Command, value_parser};
+use fm_view::{Manner, Shown, Strictness, check_scripts, show_script};
 use std::alloc::{AllocError, Global};
 use std::process::ExitCode;
 
@@ -38,6 +40,12 @@ fn command<'a>(alloc: Global) -> Result<Command<'a>, AllocError> {
     let page = "Writes a page for a browser";
     let check = "Writes only what wasn't as the script expects";
     let strict = "A refusal that no line expects counts too";
+    let skip = "With files: a script of which no line expects anything doesn't fail";
+    let files = Arg::new(alloc, "FILE")
+        .help("With --check: runs each as a test, and writes TAP")
+        .num_args(0..)
+        .action(ArgAction::Append)
+        .requires_arg("check")?;
     Command::new(alloc, "fltview")
         .about(ABOUT)
         .arg(flag(alloc, "picture", "Draws the run as an SVG"))?
@@ -54,6 +62,8 @@ fn command<'a>(alloc: Global) -> Result<Command<'a>, AllocError> {
                 .conflicts_with("page")?,
         )?
         .arg(flag(alloc, "strict", strict))?
+        .arg(flag(alloc, "skip", skip))?
+        .arg(files)?
         .arg(flag(alloc, "colour", "Words have colours"))?
         .arg(line_number(
             alloc,
@@ -61,6 +71,20 @@ fn command<'a>(alloc: Global) -> Result<Command<'a>, AllocError> {
             "The first line that is told in words; all are run",
         ))?
         .arg(line_number(alloc, "to", "The last line that is told in words"))
+}
+
+// Runs scripts as tests.
+fn check<'a>(
+    rt: &HostRuntime,
+    matches: &ArgMatches<'a>,
+    files: &[&'a str],
+) -> anyhow::Result<ExitCode> {
+    let strictness = Strictness {
+        is_strict: matches.get_flag("strict"),
+        skips: matches.get_flag("skip"),
+    };
+    let is_well = check_scripts(rt, strictness, files, &mut rt.stdout())?;
+    Ok(ExitCode::from(u8::from(!is_well)))
 }
 
 fn main(rt: HostRuntime) -> anyhow::Result<ExitCode> {
@@ -73,6 +97,9 @@ fn main(rt: HostRuntime) -> anyhow::Result<ExitCode> {
             return Ok(ExitCode::from(error.exit_code() as u8));
         }
     };
+    if let Some(files) = matches.get_strs("FILE") {
+        return check(&rt, &matches, files);
+    }
     let manner = if matches.get_flag("picture") {
         Manner::Picture
     } else if matches.get_flag("json") {

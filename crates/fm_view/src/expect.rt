@@ -1,38 +1,125 @@
 //! What a script expects of its own lines, so that it is a test: `#! expect TEXT` after a line says that it printed TEXT, and `#! expect status N`, anywhere,
 //! with which status the run ends.
 
+ghost use Rattle.std.specs.Prelude.{◌≡◌};
+ghost use Rattle.fm_view.specs.Ends.{status_met};
+
 use fm_text::read_number;
 use std::alloc::Global;
 
 /// What an expectation begins with.
-const MARK: &[u8] = b"#! expect ";
+const MARK: &[u8] = b"#! expect";
+
+/// The same as a text.
+pub const MARK_TEXT: &str = "#! expect";
 
 /// What one on the status begins with.
-const STATUS: &[u8] = b"status ";
+const STATUS: &[u8] = b"status";
+
+/// The greatest status with which a program can end.
+const MOST: u64 = 255;
+
+/// What a line expects.
+#[derive(Clone, Copy)]
+pub enum Expected<'a> {
+    /// That the line before printed that.
+    Text(&'a [u8]),
+    /// That the run ends with that status.
+    Status(u8),
+    /// It can't be read: why.
+    Wrong(&'static str),
+}
+
+/// Whether an expectation is met.
+#[derive(Clone, Copy, PartialEq, Eq)]
+pub enum Outcome {
+    /// It is. That on the status is seen at the end.
+    Met,
+    /// It isn't.
+    Unmet,
+    /// The line is none that can be: why.
+    Wrong(&'static str),
+}
+
+/// What the last line came to, as far as an expectation may speak of it.
+#[derive(Clone, Copy)]
+pub struct LineNote {
+    /// Whether it was refused.
+    pub is_refused: bool,
+    /// Whether it couldn't be read.
+    pub is_unread: bool,
+    /// Whether it gave back what wasn't held, or resumed what no filter held.
+    pub is_misuse: bool,
+}
+
+/// Nothing that an expectation has to speak of.
+const PLAIN: LineNote = LineNote {
+    is_refused: false,
+    is_unread: false,
+    is_misuse: false,
+};
 
 /// The last line's answers, and how many expectations weren't met so far.
 #[derive(Drop)]
 pub struct Expectations {
     printed: Vec<u8>,
     from: usize,
-    is_refused: bool,
-    is_misuse: bool,
-    status: Option<u64>,
+    last: LineNote,
+    status: Option<u8>,
+    /// How many lines expect something.
+    pub count: u64,
+    /// How many of them can't be read, or expect a second status.
+    pub wrong: u64,
     /// How many expectations weren't met.
     pub unmet: u64,
     /// How many lines were refused that no expectation speaks of.
     pub surprises: u64,
+    /// How many of those couldn't be read.
+    pub unread: u64,
     /// How many of those gave back what wasn't held, or resumed what no filter held.
     pub misuses: u64,
 }
 
 /// What a line expects, if it is an expectation.
-pub fn expected_in(line: &[u8]) -> Option<&[u8]> {
-    if line.starts_with(MARK) {
-        line.get(MARK.len()..)
-    } else {
-        None
+pub fn expected_in(line: &[u8]) -> Option<Expected<'_>> {
+    match line.strip_prefix(MARK)? {
+        [] => Some(Expected::Wrong("nothing stands behind it")),
+        [b' ', text @ ..] => Some(read(text)),
+        _ => None,
     }
+}
+
+/// The text behind the mark of an expectation, and the space behind that.
+pub fn behind_mark(line: &[u8]) -> &[u8] {
+    match line.strip_prefix(MARK) {
+        Some([_, text @ ..]) => text,
+        _ => b"",
+    }
+}
+
+// The words behind the mark.
+fn read(text: &[u8]) -> Expected<'_> {
+    if text.is_empty() {
+        return Expected::Wrong("nothing stands behind it");
+    }
+    match text.strip_prefix(STATUS) {
+        Some([]) => Expected::Wrong("a status is a number from 0 to 255"),
+        Some([b' ', number @ ..]) => read_status(number),
+        _ => Expected::Text(text),
+    }
+}
+
+// The number of a status.
+fn read_status(number: &[u8]) -> Expected<'_> {
+    match read_number(number) {
+        Some(status) if status <= MOST => Expected::Status(status as u8),
+        _ => Expected::Wrong("a status is a number from 0 to 255"),
+    }
+}
+
+// One more.
+fn count_up(count: u64, is_one: bool) -> u64 {
+    count.saturating_add(u64::from(is_one))
 }
 
 impl Expectations {
@@ -41,50 +128,65 @@ impl Expectations {
         Expectations {
             printed: Vec::new(alloc),
             from: 0,
-            is_refused: false,
-            is_misuse: false,
+            last: PLAIN,
             status: None,
+            count: 0,
+            wrong: 0,
             unmet: 0,
             surprises: 0,
+            unread: 0,
             misuses: 0,
         }
     }
 
-    /// A line printed that, and was refused, or was a misuse. What was expected of the line before is settled.
-    pub fn take(&mut self, printed: Vec<u8>, is_refused: bool, is_misuse: bool) {
+    /// A line printed that, and came to that. What was expected of the line before is settled.
+    pub fn take(&mut self, printed: Vec<u8>, note: LineNote) {
         self.settle();
         self.printed = printed;
         self.from = 0;
-        self.is_refused = is_refused;
-        self.is_misuse = is_misuse;
+        self.last = note;
+    }
+
+    /// What the last line came to that nothing spoke of so far.
+    pub fn last(&self) -> LineNote {
+        self.last
     }
 
     /// Nothing more is expected of the last line: a refusal that nothing spoke of is a surprise.
     pub fn settle(&mut self) {
-        if self.is_refused {
-            self.surprises = self.surprises.saturating_add(1);
-        }
-        if self.is_misuse {
-            self.misuses = self.misuses.saturating_add(1);
-        }
-        self.is_refused = false;
-        self.is_misuse = false;
+        self.surprises = count_up(self.surprises, self.last.is_refused);
+        self.unread = count_up(self.unread, self.last.is_unread);
+        self.misuses = count_up(self.misuses, self.last.is_misuse);
+        self.last = PLAIN;
     }
 
-    /// Whether an expectation is met: the last line printed it, behind what earlier expectations of the line found. That on the status is met at the end.
-    pub fn meet(&mut self, expected: &[u8]) -> bool {
-        if expected.starts_with(STATUS) {
-            self.status = match expected.get(STATUS.len()..) {
-                Some(word) => read_number(word),
-                None => None,
-            };
-            return self.status.is_some();
+    /// Whether an expectation is met: the last line printed it, behind what earlier expectations of the line found. One status alone can be expected.
+    pub fn meet(&mut self, expected: Expected<'_>) -> Outcome {
+        self.count = count_up(self.count, true);
+        let outcome = match expected {
+            Expected::Text(text) => self.meet_text(text),
+            Expected::Status(status) => self.expect_status(status),
+            Expected::Wrong(why) => Outcome::Wrong(why),
+        };
+        self.unmet = count_up(self.unmet, outcome == Outcome::Unmet);
+        self.wrong = count_up(self.wrong, matches!(outcome, Outcome::Wrong(_)));
+        outcome
+    }
+
+    fn meet_text(&mut self, text: &[u8]) -> Outcome {
+        if self.find(text) {
+            Outcome::Met
+        } else {
+            Outcome::Unmet
         }
-        let is_met = self.find(expected);
-        if !is_met {
-            self.unmet = self.unmet.saturating_add(1);
+    }
+
+    fn expect_status(&mut self, status: u8) -> Outcome {
+        if self.status.is_some() {
+            return Outcome::Wrong("a line before it says with which status the run ends");
         }
-        is_met
+        self.status = Some(status);
+        Outcome::Met
     }
 
     fn find(&mut self, expected: &[u8]) -> bool {
@@ -95,8 +197,7 @@ impl Expectations {
             if begins >= self.from && answer == expected {
                 self.from = behind;
                 if answer.starts_with(b"no ") {
-                    self.is_refused = false;
-                    self.is_misuse = false;
+                    self.last = PLAIN;
                 }
                 return true;
             }
@@ -109,10 +210,13 @@ impl Expectations {
         self.printed.as_slice()
     }
 
-    /// The exit status, where the run would end with that one: 0 where it was expected, 6 where another one was.
-    pub fn status(&self, status: u8) -> u8 {
+    /// The exit status, where the run would end with that one: 0 where it was expected, 6 where another one was. 2, of a line that can't be read, stays.
+    pub fn status(&self, status: u8) -> u8
+        ensures { result ≡ status_met self.now.status status }
+    {
         match self.status {
-            Some(expected) if expected == u64::from(status) => 0,
+            Some(_) if status == 2 => 2,
+            Some(expected) if expected == status => 0,
             Some(_) => 6,
             None => status,
         }

@@ -3,6 +3,7 @@
 #![tactic(auto)]
 
 mod answer;
+mod check;
 mod colour;
 mod escape;
 mod event;
@@ -28,6 +29,7 @@ mod view;
 mod ways;
 mod words;
 
+pub use crate::check::{Strictness, check_scripts};
 pub use crate::event::{Event, Visit};
 pub use crate::inert::Inert;
 pub use crate::json::Detail;

@@ -12,13 +12,22 @@ use fm_data::PreVerdict;
 use fm_script::ScriptEnd;
 use fm_types::{InstanceId, OpId, Status, WorkerId};
 use std::alloc::AllocError;
+use std::fmt;
 
-/// The exit status of a script that was shown: that of its end. Of one that ended well it is 6 if an expectation wasn't met, and else 5 if it left a reference
-/// behind, or an operation that a filter holds, or if a line gave back or resumed what it didn't have.
-pub fn exit_status(end: ScriptEnd, unmet: u64, leaks: u64, held: u64, misuses: u64) -> u8
-    ensures { result ≡ status_of end unmet leaks held misuses }
+/// The exit status of a script that was shown: that of its end. Of one that ended well it is 2 if a line expects what can't be read, else 6 if an expectation
+/// wasn't met, and else 5 if it left a reference behind, or an operation that a filter holds, or if a line gave back or resumed what it didn't have.
+pub fn exit_status(
+    end: ScriptEnd,
+    wrong: u64,
+    unmet: u64,
+    leaks: u64,
+    held: u64,
+    misuses: u64,
+) -> u8
+    ensures { result ≡ status_of end wrong unmet leaks held misuses }
 {
     match end {
+        ScriptEnd::Ended if wrong > 0 => 2,
         ScriptEnd::Ended if unmet > 0 => 6,
         ScriptEnd::Ended if leaks > 0 || held > 0 || misuses > 0 => 5,
         other => other.status(),
@@ -104,11 +113,7 @@ pub fn say_end(
         state.cleaned_count(),
         Counted(state.leaks(), "reference"),
     )?;
-    for leak in &notes.leaks {
-        write!(text, "  ")?;
-        say_leak(text, notes, leak)?;
-        text.push('\n')?;
-    }
+    say_leaks(text, notes)?;
     say_operations(text, notes, state)?;
     say_workers(text, notes, state)?;
     say_handles(text, notes, state)?;
@@ -135,6 +140,26 @@ fn say_refusals(text: &mut String, notes: &Notes) -> Result<(), AllocError> {
         }
     }
     text.push('\n')
+}
+
+/// Appends which references were left behind, and by which callbacks.
+pub fn say_leaks(text: &mut String, notes: &Notes) -> Result<(), AllocError> {
+    for leak in &notes.leaks {
+        write!(text, "  ")?;
+        say_leak(text, notes, leak)?;
+        text.push('\n')?;
+    }
+    Ok(())
+}
+
+/// Appends which operations filters hold.
+pub fn say_held(text: &mut String, notes: &Notes, state: &State) -> Result<(), AllocError> {
+    for number in 0..state.operations_begun() {
+        if held_at(state, OpId(number)).is_some() {
+            say_operation(text, notes, state, number)?;
+        }
+    }
+    Ok(())
 }
 
 /// Appends that a reference was left behind, and by which callback.
@@ -228,12 +253,20 @@ fn say_instances(text: &mut String, notes: &Notes) -> Result<(), AllocError> {
     }
 }
 
-/// Appends which expectations weren't met, and in a strict run which refusals nothing expects.
+/// Appends how many lines aren't as a script should be: which expect what can't be read, or gave back what they didn't have, which expectations weren't met, and
+/// in a strict run which refusals nothing expects.
 pub fn say_expectations(
     text: &mut String,
     expectations: &Expectations,
     is_strict: bool,
 ) -> Result<(), AllocError> {
+    if expectations.wrong > 0 {
+        write!(
+            text,
+            "  {} what can't be read\n",
+            Lines(expectations.wrong, "expects", "expect")
+        )?;
+    }
     if expectations.misuses > 0 {
         write!(
             text,
@@ -256,6 +289,20 @@ pub fn say_expectations(
         )?;
     }
     Ok(())
+}
+
+// So many lines, with their verb.
+#[derive(Clone, Copy)]
+struct Lines(u64, &'static str, &'static str);
+
+impl fmt::Display for Lines {
+    fn fmt<W: fmt::Write>(&self, f: &mut fmt::Formatter<W>) -> fmt::Result {
+        let Lines(count, one, more) = self;
+        match count {
+            1 => write!(f, "1 line {one}"),
+            _ => write!(f, "{count} lines {more}"),
+        }
+    }
 }
 
 /// Why an end wasn't a good one.

@@ -3,7 +3,7 @@
 use crate::answer::printed;
 use crate::colour::{Colour, colour_of};
 use crate::event::{Event, Moment};
-use crate::expect::{Expectations, expected_in};
+use crate::expect::{Expectations, Expected, LineNote, Outcome, behind_mark, expected_in};
 use crate::happened::{Asked, refusal_in};
 use crate::inert::Inert;
 use crate::json::{
@@ -19,7 +19,8 @@ use crate::reason::{Refusal, say_refusal};
 use crate::subject::{Subject, worker_of};
 use crate::tally::Tally;
 use crate::verdict::{
-    counted_at, exit_status, held, say_end, say_expectations, say_fault, say_leak,
+    counted_at, exit_status, held, say_end, say_expectations, say_fault, say_held, say_leak,
+    say_leaks,
 };
 use crate::words::say_detail;
 use fm_core::{Place, State, Step};
@@ -29,6 +30,7 @@ use fm_types::limits::{LINE, TURNS};
 use fm_types::{OpId, Status, WorkerId};
 use std::alloc::{AllocError, Global};
 use std::io::{Read, Write};
+use std::mem;
 
 /// How wide the commands are, before what happened.
 const COMMAND: usize = 27;
@@ -104,6 +106,8 @@ struct View<W: Write + Drop> {
     last: u32,
     shown: Shown,
     expectations: Expectations,
+    /// In a check, what is told of the last line where no line expects it.
+    surprise: String,
     writer: W,
 }
 
@@ -120,6 +124,7 @@ impl<W: Write + Drop> View<W> {
             last: 0,
             shown,
             expectations: Expectations::new(alloc),
+            surprise: String::new(alloc),
             writer,
         })
     }
@@ -150,6 +155,7 @@ impl<W: Write + Drop> View<W> {
 
     // Runs a line that isn't silent, and shows what it answered.
     fn run(&mut self, text: &[u8]) -> Result<(), ScriptEnd> {
+        self.settle()?;
         let task = self.read(text)?;
         let (changes, leaks) = (self.notes.changes.len(), self.notes.leaks.len());
         let mut answered = Answered {
@@ -163,7 +169,11 @@ impl<W: Write + Drop> View<W> {
             }
             _ => self.perform(text, &task, &mut answered)?,
         }
-        let Answered { mut text, printed, .. } = answered;
+        let Answered {
+            mut text,
+            printed,
+            ..
+        } = answered;
         self.show_rest(&mut text, changes, leaks)
             .map_err(|_| ScriptEnd::NoMemory)?;
         self.note_answers(&task, printed);
@@ -225,16 +235,66 @@ impl<W: Write + Drop> View<W> {
                     Some(Status::NotPended),
                 )
         );
-        self.expectations.take(printed, status.is_some(), is_misuse);
+        let note = LineNote {
+            is_refused: status.is_some(),
+            is_unread: is_unread(task),
+            is_misuse,
+        };
+        self.expectations.take(printed, note);
     }
 
-    // A line says what the line before printed. It is told if that isn't so.
-    fn expect(&mut self, line: &[u8], expected: &[u8]) -> Result<(), ScriptEnd> {
-        let is_met = self.expectations.meet(expected);
-        let text = self
-            .expectation(line, expected, is_met)
-            .map_err(|_| ScriptEnd::NoMemory)?;
+    // Nothing more is expected of the last line. A check tells what counts of it.
+    fn settle(&mut self) -> Result<(), ScriptEnd> {
+        let note = self.expectations.last();
+        let is_told = note.is_unread || note.is_misuse || (note.is_refused && self.shown.is_strict);
+        self.expectations.settle();
+        let mut surprise = String::new(self.alloc);
+        mem::swap(&mut surprise, &mut self.surprise);
+        if is_told && self.shown.manner == Manner::Check {
+            return self.write(surprise.as_str());
+        }
+        Ok(())
+    }
+
+    // A line says what the line before printed, or how the run ends. It is told if that isn't so.
+    fn expect(&mut self, line: &[u8], expected: Expected<'_>) -> Result<(), ScriptEnd> {
+        let text = match self.expectations.meet(expected) {
+            Outcome::Wrong(why) => self.wrong_line(line, why),
+            outcome => self.expectation(line, behind_mark(line), outcome == Outcome::Met),
+        };
+        let text = text.map_err(|_| ScriptEnd::NoMemory)?;
         self.write(text.as_str())
+    }
+
+    // A line that expects what can't be read, as it is shown: it is refused.
+    fn wrong_line(&mut self, line: &[u8], why: &str) -> Result<String, AllocError> {
+        let refused = Event::Refused {
+            status: Status::BadRequest,
+            context: None,
+        };
+        self.notes.refuse(Status::BadRequest);
+        let words = format!(in self.alloc; "REFUSED {}: {why}", Stated(Status::BadRequest))?;
+        let mut text = String::new(self.alloc);
+        let told = Told {
+            line: self.line,
+            command: line,
+            words: words.as_str(),
+            reason: why,
+            detail: Detail::default(),
+        };
+        match self.shown.manner {
+            Manner::Json | Manner::Page => {
+                say_json(self.alloc, &mut text, &self.notes, &refused, &told)?;
+            }
+            Manner::Check => {
+                write!(text, "line {}, {}: {why}\n", self.line, Ascii(line))?;
+            }
+            _ if self.is_said() => {
+                self.show_words(&mut text, line, &refused, words.as_str(), true)?;
+            }
+            _ => {}
+        }
+        Ok(text)
     }
 
     // An expectation as it is shown.
@@ -313,12 +373,7 @@ impl<W: Write + Drop> View<W> {
     }
 
     // Appends what only the end of a line tells: how far lives came, and what was left behind.
-    fn show_rest(
-        &self,
-        text: &mut String,
-        changes: usize,
-        leaks: usize,
-    ) -> Result<(), AllocError> {
+    fn show_rest(&self, text: &mut String, changes: usize, leaks: usize) -> Result<(), AllocError> {
         if self.is_json() {
             self.show_changes(text, changes)?;
             self.show_leaks(text, leaks)?;
@@ -437,7 +492,9 @@ impl<W: Write + Drop> View<W> {
             return Ok(());
         };
         self.note(line, &event)?;
-        if !self.is_json() && !self.is_said() && self.shown.manner != Manner::Picture {
+        let is_surprise = self.shown.manner == Manner::Check && is_refusal(&event);
+        let is_drawn = self.shown.manner == Manner::Picture;
+        if !self.is_json() && !self.is_said() && !is_drawn && !is_surprise {
             return Ok(());
         }
         let detail = Detail {
@@ -447,7 +504,10 @@ impl<W: Write + Drop> View<W> {
             ..Detail::default()
         };
         let words = self.words(line, &event, &detail)?;
-        if self.shown.manner == Manner::Picture {
+        if is_surprise {
+            return self.note_surprise(line, words.as_str());
+        }
+        if is_drawn {
             return self.title(line, words.as_str());
         }
         if self.is_said() {
@@ -462,6 +522,17 @@ impl<W: Write + Drop> View<W> {
             detail,
         };
         say_json(self.alloc, text, &self.notes, &event, &told)
+    }
+
+    // Keeps what a check tells of a line that was refused, if no line expects it.
+    fn note_surprise(&mut self, line: &Line<'_>, words: &str) -> Result<(), AllocError> {
+        self.surprise.clear();
+        let number = self.line;
+        write!(
+            self.surprise,
+            "line {number}, {}: {words}\n",
+            Ascii(line.text)
+        )
     }
 
     // Keeps what is told of an event in a picture.
@@ -531,9 +602,12 @@ impl<W: Write + Drop> View<W> {
         write!(text, "{begin}{words}{end}\n")
     }
 
-    // Ends a run that ended so: writes the verdict or the picture. It gives the exit status.
-    fn finish(mut self, end: ScriptEnd) -> u8 {
-        self.expectations.settle();
+    // Ends a run that ended so: writes the verdict or the picture. It gives the exit status, and how many lines expect something.
+    fn finish(mut self, end: ScriptEnd) -> (u8, u64) {
+        let end = match (self.settle(), end) {
+            (Err(fault), ScriptEnd::Ended) => fault,
+            _ => end,
+        };
         let end = match self.last_text(end) {
             Ok(text) => match self.end(text.as_str()) {
                 Ok(()) => end,
@@ -541,7 +615,7 @@ impl<W: Write + Drop> View<W> {
             },
             Err(_) => ScriptEnd::NoMemory,
         };
-        self.tally(end).status
+        (self.tally(end).status, self.expectations.count)
     }
 
     // Writes the last text, and hands all out.
@@ -558,7 +632,8 @@ impl<W: Write + Drop> View<W> {
         let state = self.interpreter.state();
         let (leaks, held) = (state.leaks(), held(state));
         let (unmet, misuses) = (self.unmet(), self.expectations.misuses);
-        let status = exit_status(end, unmet, leaks, held, misuses);
+        let wrong = self.expectations.wrong;
+        let status = exit_status(end, wrong, unmet, leaks, held, misuses);
         Tally {
             end,
             status: self.expectations.status(status),
@@ -574,15 +649,20 @@ impl<W: Write + Drop> View<W> {
         }
     }
 
-    // How much wasn't as the script expects.
+    // How much wasn't as the script expects. In a check a line that can't be read is among it, and in a strict run each refusal.
     fn unmet(&self) -> u64 {
-        if self.shown.is_strict {
-            self.expectations
-                .unmet
-                .saturating_add(self.expectations.surprises)
-        } else {
-            self.expectations.unmet
-        }
+        let more = match self.shown {
+            Shown {
+                is_strict: true,
+                ..
+            } => self.expectations.surprises,
+            Shown {
+                manner: Manner::Check,
+                ..
+            } => self.expectations.unread,
+            _ => 0,
+        };
+        self.expectations.unmet.saturating_add(more)
     }
 
     // What is written at the end.
@@ -594,12 +674,7 @@ impl<W: Write + Drop> View<W> {
                 self.say_verdict(&mut text, end)?;
                 Ok(text)
             }
-            Manner::Check => {
-                let mut text = String::new(self.alloc);
-                say_expectations(&mut text, &self.expectations, self.shown.is_strict)?;
-                say_fault(&mut text, end)?;
-                Ok(text)
-            }
+            Manner::Check => self.say_causes(end),
             Manner::Json | Manner::Page => {
                 let mut words = String::new(self.alloc);
                 self.say_verdict(&mut words, end)?;
@@ -609,6 +684,16 @@ impl<W: Write + Drop> View<W> {
             }
             Manner::Picture => draw(self.alloc, &self.notes, &self.moments, &self.titles),
         }
+    }
+
+    // What a check tells at the end, beside its status: what was left behind, what is held, and what isn't as expected.
+    fn say_causes(&self, end: ScriptEnd) -> Result<String, AllocError> {
+        let mut text = String::new(self.alloc);
+        say_leaks(&mut text, &self.notes)?;
+        say_held(&mut text, &self.notes, self.interpreter.state())?;
+        say_expectations(&mut text, &self.expectations, self.shown.is_strict)?;
+        say_fault(&mut text, end)?;
+        Ok(text)
     }
 
     // What is left at the end, in words.
@@ -670,23 +755,46 @@ fn bytes_of<'a>(task: Option<&'a Task>, said: &'a Said) -> Option<&'a [u8]> {
     }
 }
 
+// Whether a line can't be read: its words aren't those of a command. One that names what was never given can.
+fn is_unread(task: &Result<Task, Status>) -> bool {
+    matches!(
+        task,
+        Err(Status::BadRequest | Status::BadName | Status::BadAltitude | Status::BadPath)
+    )
+}
+
+// Whether a line was refused.
+fn is_refusal(event: &Event) -> bool {
+    matches!(event, Event::Refused { .. })
+}
+
 // What stands before an answer in a list of them.
 fn between(is_first: bool) -> &'static str {
     if is_first { "; it answered " } else { ", " }
 }
 
 /// Runs the script that a reader gives, and writes what happened to a writer. It gives the exit status: that of the script's end. Of one that ended well it is
-/// 6 if something wasn't as the script expects, and else 5 if it left a reference behind or an operation that a filter holds, or if a line gave back or resumed
-/// what it didn't have; where the script expects a status, it is 0 if that one came, and 6 if not.
+/// 2 if a line expects what can't be read, else 6 if something wasn't as the script expects, and else 5 if it left a reference behind or an operation that a
+/// filter holds, or if a line gave back or resumed what it didn't have; where the script expects a status, it is 0 if that one came, and 6 if not.
 pub fn show_script<R: Read + Drop, W: Write + Drop>(
     alloc: Global,
     shown: Shown,
     reader: R,
     writer: W,
 ) -> u8 {
+    run_shown(alloc, shown, reader, writer).0
+}
+
+/// The same, which gives beside the exit status how many lines expect something.
+pub(crate) fn run_shown<R: Read + Drop, W: Write + Drop>(
+    alloc: Global,
+    shown: Shown,
+    reader: R,
+    writer: W,
+) -> (u8, u64) {
     let view = match View::new(alloc, shown, writer) {
         Ok(view) => view,
-        Err(end) => return end.status(),
+        Err(end) => return (end.status(), 0),
     };
     let mut view = view;
     if let Err(end) = view.begin() {

@@ -51,7 +51,7 @@ STEPS = {"Pre": "pre", "Base": "base", "Post": "post", "PostHeld": "post", "Drai
 
 TOP = pathlib.Path(__file__).resolve().parent.parent
 DATA = TOP / "crates" / "examples" / "data"
-TRIAL = TOP / "crates" / "trial_rows" / "stdin"
+TRIAL = TOP / "crates" / "trial_rows" / "data" / "mistakes.txt"
 MOST = 2**64 - 1
 
 

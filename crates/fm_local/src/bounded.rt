@@ -10,6 +10,7 @@ use std::collections::VecDeque;
 #[derive(Drop)]
 pub struct Bounded<T> {
     items: VecDeque<T>,
+    dropped: u64,
 }
 
 impl<T: Copy> Bounded<T> {
@@ -19,7 +20,7 @@ impl<T: Copy> Bounded<T> {
         ensures room { IfOk result (λ queue. limit ≤ deque_capacity queue.items) }
     {
         let items = VecDeque::with_capacity(alloc, limit)?;
-        Ok(Bounded { items })
+        Ok(Bounded { items, dropped: 0 })
     }
 
     /// How many items wait.
@@ -34,6 +35,13 @@ impl<T: Copy> Bounded<T> {
         ensures { IsTrue result ↔ (self.now.items.items ≡ []) }
     {
         self.items.is_empty()
+    }
+
+    /// How many items went since the queue was made or cleared, because there was no room for the next one.
+    pub fn dropped(&self) -> u64
+        ensures { result ≡ self.now.dropped }
+    {
+        self.dropped
     }
 
     /// Whether there is no room for one more.
@@ -58,6 +66,7 @@ impl<T: Copy> Bounded<T> {
     {
         if self.is_full() {
             let _ = self.items.pop_front();
+            self.dropped = self.dropped.saturating_add(1);
         }
         let _ = self.items.push_back(item);
     }
@@ -75,5 +84,6 @@ impl<T: Copy> Bounded<T> {
         ensures { self.new.items.items ≡ [] }
     {
         self.items.clear();
+        self.dropped = 0;
     }
 }

@@ -14,12 +14,12 @@ ghost use Rattle.fm_local.specs.Private.{CompletesPlainly, Does, EndsComplete, E
 ghost use Rattle.fm_local.specs.Waits.{StaysWaiting};
 
 use crate::bounded::Bounded;
-use crate::leak::{Callback, Leak};
+use crate::leak::Leak;
 use crate::local_port::Work;
 use crate::parts::{Parts, WORKER};
 use crate::trace::{PostAnswer, PreAnswer, Traced, Visit};
 use fm_base::Base;
-use fm_core::{Entry, PreState, State};
+use fm_core::{Entry, Place, PreState, State};
 use fm_data::{CallbackData, Completion, PostVerdict, PreVerdict};
 use fm_filter::{
     Filters, Minifilter, ask_post, ask_pre, ask_query, ask_setup, let_go, tell_complete, tell_start,
@@ -46,14 +46,6 @@ enum News {
     Drain(Completion),
 }
 
-/// Which callback returns: what a leak says of it.
-#[derive(Clone, Copy)]
-struct Returning {
-    callback: Callback,
-    instance: InstanceId,
-    operation: Option<OpId>,
-}
-
 // The verdict that counts of the preoperation that was called last for an operation.
 fn counted(state: &State, operation: OpId) -> Option<PreState> {
     match state.trace(operation)?.last()? {
@@ -73,7 +65,7 @@ impl<F: Minifilter, B: Base> Parts<F, B> {
         let accepts = ask(&self.filters, &mut self.work, instance, Consent::Setup);
         let before = self.work.state.leaks();
         let ended = self.work.state.setup_done(WORKER, accepts);
-        self.note_left(before, Returning::of(Callback::Setup, instance));
+        self.note_left(before, Place::Setup(instance));
         ended
     }
 
@@ -94,23 +86,23 @@ impl<F: Minifilter, B: Base> Parts<F, B> {
         let verdict = goes_down(&self.filters, &mut self.work, instance, &mut lent);
         lent.laws();
         self.work.state.laws();
-        let returning = Returning::for_operation(Callback::Pre, instance, operation);
+        let callback = Place::Pre(operation, instance);
         let answer = PreAnswer {
             given: verdict,
             counted: None,
             found,
             left: lent.status(),
         };
-        self.end_pre(answer, lent, returning)
+        self.end_pre(answer, lent, callback)
     }
 
     // Notes what a preoperation answered, and which verdict counts, once it has returned.
-    fn note_pre(&mut self, mut answer: PreAnswer, returning: Returning)
+    fn note_pre(&mut self, mut answer: PreAnswer, callback: Place)
         ensures { self.new ≡ record self.old { trace = self.new.trace } }
     {
-        if let Some(operation) = returning.operation {
+        if let Place::Pre(operation, instance) = callback {
             answer.counted = counted(&self.work.state, operation);
-            self.note(operation, Visit::Pre(returning.instance, answer));
+            self.note(operation, Visit::Pre(instance, answer));
         }
     }
 
@@ -119,7 +111,7 @@ impl<F: Minifilter, B: Base> Parts<F, B> {
         &mut self,
         answer: PreAnswer,
         back: CallbackData,
-        returning: Returning,
+        callback: Place,
     ) -> Result<(), Status>
         ensures event { PreReturns answer.given back self.old result self.new }
         ensures kept { EndsTraced self.old self.new }
@@ -128,8 +120,8 @@ impl<F: Minifilter, B: Base> Parts<F, B> {
         self.work.state.laws();
         let before = self.work.state.leaks();
         let ended = self.work.state.pre_returned(WORKER, answer.given, back);
-        self.note_left(before, returning);
-        self.note_pre(answer, returning);
+        self.note_left(before, callback);
+        self.note_pre(answer, callback);
         match ended {
             Ok(()) => Ok(()),
             Err(refused) => Err(refused.status),
@@ -166,8 +158,8 @@ impl<F: Minifilter, B: Base> Parts<F, B> {
             left: lent.status(),
         };
         self.note(operation, Visit::Post(instance, answer));
-        let returning = Returning::for_operation(Callback::Post, instance, operation);
-        self.end_post(verdict, Some(lent), returning)
+        let callback = Place::Post(operation, instance);
+        self.end_post(verdict, Some(lent), callback)
     }
 
     // The end of a postoperation, or of a drain in its place.
@@ -175,7 +167,7 @@ impl<F: Minifilter, B: Base> Parts<F, B> {
         &mut self,
         verdict: PostVerdict,
         back: Option<CallbackData>,
-        returning: Returning,
+        callback: Place,
     ) -> Result<(), Status>
         ensures event { PostReturns verdict back self.old result self.new }
         ensures kept { EndsWithLeaks self.old self.new }
@@ -184,7 +176,7 @@ impl<F: Minifilter, B: Base> Parts<F, B> {
         self.work.state.laws();
         let before = self.work.state.leaks();
         let ended = self.work.state.post_returned(WORKER, verdict, back);
-        self.note_left(before, returning);
+        self.note_left(before, callback);
         match ended {
             Ok(()) => Ok(()),
             Err(refused) => Err(refused.status),
@@ -206,8 +198,8 @@ impl<F: Minifilter, B: Base> Parts<F, B> {
     {
         self.drain(operation, instance, completion);
         self.work.state.laws();
-        let returning = Returning::for_operation(Callback::Drain, instance, operation);
-        self.end_post(PostVerdict::Finished, None, returning)
+        let callback = Place::Drain(operation, instance);
+        self.end_post(PostVerdict::Finished, None, callback)
     }
 
     /// The same before the operation has come to its postoperation.
@@ -225,8 +217,8 @@ impl<F: Minifilter, B: Base> Parts<F, B> {
         self.drain(operation, instance, completion);
         let before = self.work.state.leaks();
         let ended = self.work.state.drain_done(WORKER);
-        let returning = Returning::for_operation(Callback::Drain, instance, operation);
-        self.note_left(before, returning);
+        let callback = Place::EarlyDrain(operation, instance);
+        self.note_left(before, callback);
         ended
     }
 
@@ -257,7 +249,7 @@ impl<F: Minifilter, B: Base> Parts<F, B> {
         let allows = ask(&self.filters, &mut self.work, instance, Consent::Query);
         let before = self.work.state.leaks();
         let ended = self.work.state.query_returned(WORKER, allows);
-        self.note_left(before, Returning::of(Callback::Query, instance));
+        self.note_left(before, Place::Query(instance));
         ended
     }
 
@@ -273,7 +265,7 @@ impl<F: Minifilter, B: Base> Parts<F, B> {
         let before = self.work.state.leaks();
         // The worker is in the callback, so that its end isn't refused.
         let _ = self.work.state.start_returned(WORKER);
-        self.note_left(before, Returning::of(Callback::Start, instance));
+        self.note_left(before, Place::Start(instance));
     }
 
     /// Calls the callback that says that an instance's teardown is complete, which the worker has entered.
@@ -288,7 +280,7 @@ impl<F: Minifilter, B: Base> Parts<F, B> {
         let before = self.work.state.leaks();
         // The worker is in the callback, so that its end isn't refused.
         let _ = self.work.state.complete_returned(WORKER);
-        self.note_left(before, Returning::of(Callback::Complete, instance));
+        self.note_left(before, Place::Complete(instance));
     }
 
     /// Calls the unload callback of a filter. Refused as the end of that callback is.
@@ -304,11 +296,11 @@ impl<F: Minifilter, B: Base> Parts<F, B> {
     }
 
     // Notes which references a callback that returned left behind, where there are more than before.
-    fn note_left(&mut self, before: u64, returning: Returning)
+    fn note_left(&mut self, before: u64, callback: Place)
         ensures { self.new ≡ record self.old { leaks = self.new.leaks } }
     {
         if self.work.state.leaks() > before {
-            note_leaks(&self.work.state, &mut self.leaks, returning);
+            note_leaks(&self.work.state, &mut self.leaks, callback);
         }
     }
 
@@ -389,32 +381,12 @@ fn tell<F: Minifilter>(filters: &Filters<F>, work: &mut Work, instance: Instance
 }
 
 // Notes what the callback that returned last left in its hand.
-fn note_leaks(state: &State, leaks: &mut Bounded<Leak>, returning: Returning) {
+fn note_leaks(state: &State, leaks: &mut Bounded<Leak>, callback: Place) {
     for context in state.left(WORKER) {
         leaks.put(Leak {
             context: *context,
             kind: state.kind_of(*context),
-            instance: returning.instance,
-            callback: returning.callback,
-            operation: returning.operation,
+            place: callback,
         });
-    }
-}
-
-impl Returning {
-    fn of(callback: Callback, instance: InstanceId) -> Returning {
-        Returning {
-            callback,
-            instance,
-            operation: None,
-        }
-    }
-
-    fn for_operation(callback: Callback, instance: InstanceId, operation: OpId) -> Returning {
-        Returning {
-            callback,
-            instance,
-            operation: Some(operation),
-        }
     }
 }

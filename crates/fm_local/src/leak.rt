@@ -1,26 +1,8 @@
 //! What a callback left in its worker's hand.
 
+use fm_core::Place;
 use fm_types::{ContextKind, CtxId, InstanceId, OpId};
 use std::fmt;
-
-/// The callbacks that may hold references to contexts.
-#[derive(Clone, Copy, Debug, PartialEq, Eq)]
-pub enum Callback {
-    /// `PFLT_INSTANCE_SETUP_CALLBACK`.
-    Setup,
-    /// `PFLT_PRE_OPERATION_CALLBACK`.
-    Pre,
-    /// `PFLT_POST_OPERATION_CALLBACK`.
-    Post,
-    /// The same with `FLTFL_POST_OPERATION_DRAINING`.
-    Drain,
-    /// `PFLT_INSTANCE_QUERY_TEARDOWN_CALLBACK`.
-    Query,
-    /// `PFLT_INSTANCE_TEARDOWN_CALLBACK`, at its start.
-    Start,
-    /// `PFLT_INSTANCE_TEARDOWN_CALLBACK`, at its end.
-    Complete,
-}
 
 /// A reference that a callback took and neither released nor sent along: the manager released it when the callback returned.
 #[derive(Clone, Copy, Debug, PartialEq, Eq)]
@@ -29,26 +11,8 @@ pub struct Leak {
     pub context: CtxId,
     /// Its kind; None where it was gone before the report was made.
     pub kind: Option<ContextKind>,
-    /// The instance whose callback it was.
-    pub instance: InstanceId,
-    /// Which callback it was.
-    pub callback: Callback,
-    /// The operation that it was called for, if it was called for one.
-    pub operation: Option<OpId>,
-}
-
-impl fmt::Display for Callback {
-    fn fmt<W: fmt::Write>(&self, f: &mut fmt::Formatter<W>) -> fmt::Result {
-        f.write_str(match self {
-            Callback::Setup => "setup",
-            Callback::Pre => "pre",
-            Callback::Post => "post",
-            Callback::Drain => "drain",
-            Callback::Query => "query",
-            Callback::Start => "start",
-            Callback::Complete => "complete",
-        })
-    }
+    /// Inside which callback it was left.
+    pub place: Place,
 }
 
 fn kind_word(kind: Option<ContextKind>) -> &'static str {
@@ -61,6 +25,41 @@ fn kind_word(kind: Option<ContextKind>) -> &'static str {
     }
 }
 
+// A callback of an instance that is for no operation.
+fn write_of<W: fmt::Write>(
+    f: &mut fmt::Formatter<W>,
+    instance: InstanceId,
+    callback: &str,
+) -> fmt::Result {
+    write!(f, " i{} {callback}", instance.0)
+}
+
+// One that is for an operation.
+fn write_for<W: fmt::Write>(
+    f: &mut fmt::Formatter<W>,
+    instance: InstanceId,
+    callback: &str,
+    operation: OpId,
+) -> fmt::Result {
+    write!(f, " i{} {callback} o{}", instance.0, operation.0)
+}
+
+// The instance, its callback in a word, and its operation, if it has one.
+fn write_place<W: fmt::Write>(f: &mut fmt::Formatter<W>, place: Place) -> fmt::Result {
+    match place {
+        Place::Setup(instance) => write_of(f, instance, "setup"),
+        Place::Pre(operation, instance) => write_for(f, instance, "pre", operation),
+        Place::Post(operation, instance) => write_for(f, instance, "post", operation),
+        Place::Drain(operation, instance) | Place::EarlyDrain(operation, instance) => {
+            write_for(f, instance, "drain", operation)
+        }
+        Place::Query(instance) => write_of(f, instance, "query"),
+        Place::Start(instance) => write_of(f, instance, "start"),
+        Place::Complete(instance) => write_of(f, instance, "complete"),
+        Place::Idle | Place::Base(_) | Place::Cleanup(_) | Place::Unload(_) => Ok(()),
+    }
+}
+
 /// The context with its kind, whose callback it was, and the operation if there was one: `leak c0 stream i1 pre o3`. A context is named by its slot, and
 /// behind a point stands how many contexts lay there before, if any did: `c0.1`.
 impl fmt::Display for Leak {
@@ -69,16 +68,7 @@ impl fmt::Display for Leak {
         if self.context.generation > 0 {
             write!(f, ".{}", self.context.generation)?;
         }
-        write!(
-            f,
-            " {} i{} {}",
-            kind_word(self.kind),
-            self.instance.0,
-            self.callback
-        )?;
-        match self.operation {
-            Some(operation) => write!(f, " o{}", operation.0),
-            None => Ok(()),
-        }
+        write!(f, " {}", kind_word(self.kind))?;
+        write_place(f, self.place)
     }
 }

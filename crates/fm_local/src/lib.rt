@@ -14,7 +14,7 @@ mod requests;
 mod teardowns;
 mod trace;
 
-pub use crate::leak::{Callback, Leak};
+pub use crate::leak::Leak;
 pub use crate::manager::LocalManager;
 pub use crate::refusal::{PortCall, Refusal};
 pub use crate::trace::{PostAnswer, PreAnswer, Traced, Visit};

@@ -119,6 +119,18 @@ impl<F: Minifilter, B: Base> LocalManager<F, B> {
         self.parts.work.refusals.get(place)
     }
 
+    /// How many steps, leaks and refused calls can't be read any more, since there was no room for them; 0 again once the report is forgotten.
+    pub fn dropped(&self) -> u64 {
+        let parts = &self.parts;
+        let refusals = parts.work.refusals.dropped();
+        let leaks = parts.leaks.dropped();
+        parts
+            .trace
+            .dropped()
+            .saturating_add(leaks)
+            .saturating_add(refusals)
+    }
+
     /// Forgets the steps, the leaks and the refused calls that could be read. Nothing else changes.
     pub fn forget_report(&mut self)
         ensures { ForgetsReport self.old self.new }

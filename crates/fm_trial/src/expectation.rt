@@ -52,18 +52,9 @@ impl Expectation {
         Ok(read_plain(words))
     }
 
-    /// Whether it expects a mistake, which then doesn't count any more.
-    pub(crate) fn is_mistake(&self) -> bool {
-        match self {
-            Expectation::Told(told) => !told.is_limit(),
-            _ => false,
-        }
-    }
-
-    /// Whether a reply is as expected, with what was told before it.
-    pub(crate) fn is_met(&self, reply: &Reply, told: &[Told]) -> bool {
+    /// Whether a reply is as expected. What was told with it isn't its own.
+    pub(crate) fn is_met(&self, reply: &Reply) -> bool {
         match (self, reply) {
-            (Expectation::Told(wanted), _) => told.iter().any(|one| *one == *wanted),
             (Expectation::Status(number), Reply::Done { status, .. }) => {
                 u64::from(status.number()) == *number
             }

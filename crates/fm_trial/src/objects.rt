@@ -2,28 +2,13 @@
 
 use crate::asked::Asked;
 use crate::report::Manager;
-use fm_core::Place;
 use fm_data::{PostVerdict, Reply};
 use fm_filter::Minifilter;
-use fm_local::{Callback, PostAnswer, PreAnswer, Traced, Visit};
+use fm_local::{PostAnswer, PreAnswer, Traced, Visit};
 use fm_types::{FilterId, InstanceId, OpId, Status};
 use fm_view::{Detail, Event, Teller, Visit as At, counted_for};
 use fm_wire::Control;
 use std::alloc::AllocError;
-
-/// Inside which callback something was.
-pub(crate) fn place_of(callback: Callback, instance: InstanceId, operation: Option<OpId>) -> Place {
-    match (callback, operation) {
-        (Callback::Pre, Some(operation)) => Place::Pre(operation, instance),
-        (Callback::Post, Some(operation)) => Place::Post(operation, instance),
-        (Callback::Drain, Some(operation)) => Place::Drain(operation, instance),
-        (Callback::Setup, _) => Place::Setup(instance),
-        (Callback::Query, _) => Place::Query(instance),
-        (Callback::Start, _) => Place::Start(instance),
-        (Callback::Complete, _) => Place::Complete(instance),
-        (Callback::Pre | Callback::Post | Callback::Drain, None) => Place::Idle,
-    }
-}
 
 // Where in the trace the reply of the request was handed out. None where the request didn't begin, isn't over, or was refused amid its way, as a close behind its
 // cleanup.

@@ -144,6 +144,7 @@ fn unread_objects(alloc: Global, file: &str, words: &str) -> Result<String, Allo
         misuses: 0,
         unmet: 0,
         told: Some(0),
+        dropped: Some(0),
     };
     teller.say_end(&mut text, &tally, words)?;
     Ok(text)
@@ -176,7 +177,7 @@ where
 ///
 /// Each request is printed behind `> `, then the steps of its operations, the mistakes that callbacks made, with the numbers of the host for drivers in C, and its
 /// reply. With the word `--json` the objects of docs/JSON.md are printed instead, one a line, and with `--page` the page of `fltview` that has them. The exit
-/// status: 0; 5 if a mistake was told that no line expects; 1 if an expectation isn't met; 2 if a line is no request and no expectation, or a file can't be read.
+/// status: 0; 5 if a mistake was told that no line expects, or steps weren't kept of which one could have been told; 1 if an expectation isn't met; 2 if a line is no request and no expectation, or a file can't be read.
 /// It is 2 too, with a sentence on standard error and nothing else, for another word that begins with `--`, for both words, and for a page of several files. It
 /// fails if memory is refused, if the filters can't be made, or if a write fails.
 pub fn trial<R, I, F, E, W>(rt: &R, input: I, make: E, out: &mut W) -> io::Result<u8>

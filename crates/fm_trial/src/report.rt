@@ -5,9 +5,9 @@ use fm_base::MemoryBase;
 use fm_core::{Hold, Phase, Place};
 use fm_data::Reply;
 use fm_filter::Minifilter;
-use fm_local::{Callback, Leak, LocalManager, Refusal, Visit};
+use fm_local::{Leak, LocalManager, Refusal, Visit};
 use fm_types::{InstanceId, OpId, Status};
-use fm_view::held_at;
+use fm_view::{callback_of, held_at, instance_in, operation_in};
 use std::alloc::AllocError;
 use std::fmt::Write;
 
@@ -117,50 +117,29 @@ fn write_instance<F: Minifilter>(
     write!(text, "instance {}", instance.0)
 }
 
-// The kit's word for a callback.
-fn callback_word(callback: Callback) -> &'static str {
-    match callback {
-        Callback::Setup => "setup",
-        Callback::Pre => "preoperation",
-        Callback::Post => "postoperation",
-        Callback::Drain => "drain",
-        Callback::Query => "query",
-        Callback::Start => "teardown's start",
-        Callback::Complete => "teardown's end",
-    }
-}
-
-// Which callback it was, of which instance, and for which operation.
-fn callback_of(place: Place) -> Option<(Callback, InstanceId, Option<OpId>)> {
-    match place {
-        Place::Setup(instance) => Some((Callback::Setup, instance, None)),
-        Place::Pre(operation, instance) => Some((Callback::Pre, instance, Some(operation))),
-        Place::Post(operation, instance) => Some((Callback::Post, instance, Some(operation))),
-        Place::Drain(operation, instance) | Place::EarlyDrain(operation, instance) => {
-            Some((Callback::Drain, instance, Some(operation)))
-        }
-        Place::Query(instance) => Some((Callback::Query, instance, None)),
-        Place::Start(instance) => Some((Callback::Start, instance, None)),
-        Place::Complete(instance) => Some((Callback::Complete, instance, None)),
-        Place::Idle | Place::Base(_) | Place::Cleanup(_) | Place::Unload(_) => None,
-    }
-}
-
-// Appends who did what is told.
-fn write_callback<F: Minifilter>(
+// Appends who did what is told: whose instance, which callback, and for which operation. Nothing where no callback of an instance is named.
+fn write_place<F: Minifilter>(
     text: &mut String,
     manager: &Manager<F>,
-    callback: Callback,
-    instance: InstanceId,
-    operation: Option<OpId>,
+    place: Place,
 ) -> Result<(), AllocError> {
-    text.push_str(": ")?;
-    write_instance(text, manager, instance)?;
-    write!(text, ", {}", callback_word(callback))?;
-    if let Some(operation) = operation {
-        write!(text, ", operation {}", operation.0)?;
+    if let Some(instance) = instance_in(place) {
+        text.push_str(": ")?;
+        write_instance(text, manager, InstanceId(instance))?;
+        write!(text, ", {}", callback_word(place))?;
+        if let Some(operation) = operation_in(place) {
+            write!(text, ", operation {operation}")?;
+        }
     }
     text.push_str("\n")
+}
+
+// The word for a callback in lines: a drain is one, whenever it comes.
+fn callback_word(place: Place) -> &'static str {
+    match place {
+        Place::EarlyDrain(..) => "drain",
+        other => callback_of(other),
+    }
 }
 
 /// Appends that a callback left a reference behind.
@@ -170,7 +149,7 @@ pub(crate) fn write_leak<F: Minifilter>(
     leak: &Leak,
 ) -> Result<(), AllocError> {
     write!(text, "{} ({leak})", Told::Leak)?;
-    write_callback(text, manager, leak.callback, leak.instance, leak.operation)
+    write_place(text, manager, leak.place)
 }
 
 // The status that the next step of an operation found, behind that place.
@@ -190,59 +169,40 @@ fn next_status<F: Minifilter>(
     None
 }
 
-/// What is told of the step at a place: which callback of which instance it was, and what. None where nothing is.
-pub(crate) fn told_at<F: Minifilter>(
-    manager: &Manager<F>,
-    place: usize,
-) -> Option<(Told, Callback, InstanceId, OpId)> {
+/// What is told of the step at a place, and of which callback. None where nothing is.
+pub(crate) fn told_at<F: Minifilter>(manager: &Manager<F>, place: usize) -> Option<(Told, Place)> {
     let step = manager.trace(place)?;
     match step.visit {
         Visit::Pre(instance, answer) => {
             let told = Told::of_pre(&answer)?;
-            Some((told, Callback::Pre, instance, step.operation))
+            Some((told, Place::Pre(step.operation, instance)))
         }
         Visit::Post(instance, answer) => {
             let next = next_status(manager, step.operation, place.saturating_add(1))?;
             let told = Told::of_post(&answer, next)?;
-            Some((told, Callback::Post, instance, step.operation))
+            Some((told, Place::Post(step.operation, instance)))
         }
         Visit::Base(_) | Visit::Drain(_) | Visit::Replied(_) => None,
     }
 }
 
-/// Appends what is told of a step.
+/// Appends what is told of a callback.
 pub(crate) fn write_told<F: Minifilter>(
     text: &mut String,
     manager: &Manager<F>,
     told: Told,
-    callback: Callback,
-    instance: InstanceId,
-    operation: OpId,
+    place: Place,
 ) -> Result<(), AllocError> {
     write!(text, "{told}")?;
-    write_callback(text, manager, callback, instance, Some(operation))
+    write_place(text, manager, place)
 }
 
-/// Appends that an operation is held to the end, and by whom. It gives the callback that holds it.
-pub(crate) fn write_held<F: Minifilter>(
-    text: &mut String,
-    manager: &Manager<F>,
-    operation: OpId,
-) -> Result<Place, AllocError> {
-    let told = Told::HeldToTheEnd;
+/// The callback that holds an operation.
+pub(crate) fn holder_of<F: Minifilter>(manager: &Manager<F>, operation: OpId) -> Place {
     match held_at(manager.state(), operation) {
-        Some((instance, Hold::Pre)) => {
-            write_told(text, manager, told, Callback::Pre, instance, operation)?;
-            Ok(Place::Pre(operation, instance))
-        }
-        Some((instance, Hold::Post)) => {
-            write_told(text, manager, told, Callback::Post, instance, operation)?;
-            Ok(Place::Post(operation, instance))
-        }
-        None => {
-            writeln!(text, "{told}: operation {}", operation.0)?;
-            Ok(Place::Idle)
-        }
+        Some((instance, Hold::Pre)) => Place::Pre(operation, instance),
+        Some((instance, Hold::Post)) => Place::Post(operation, instance),
+        None => Place::Idle,
     }
 }
 
@@ -260,10 +220,5 @@ pub(crate) fn write_refusal<F: Minifilter>(
         refusal.status.number(),
         refusal.status.name()
     )?;
-    match callback_of(refusal.place) {
-        Some((callback, instance, operation)) => {
-            write_callback(text, manager, callback, instance, operation)
-        }
-        None => text.push_str("\n"),
-    }
+    write_place(text, manager, refusal.place)
 }

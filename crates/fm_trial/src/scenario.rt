@@ -3,10 +3,8 @@
 use crate::asked::Asked;
 use crate::expectation::{Expectation, expected_words};
 use crate::line::Line;
-use crate::objects::place_of;
 use crate::report::{
-    Manager, told_at, write_attached, write_held, write_leak, write_refusal, write_reply,
-    write_told,
+    Manager, holder_of, told_at, write_attached, write_leak, write_refusal, write_reply, write_told,
 };
 use crate::told::Told;
 use crate::voice::Voice;
@@ -36,6 +34,23 @@ struct Count {
     told: u64,
     /// How often something was given back or let go on that wasn't held.
     misuses: u64,
+    /// How many steps, leaks and refused calls the manager didn't keep, so that nothing is told of them.
+    dropped: u64,
+}
+
+/// Nothing came to anything.
+const NOTHING: Count = Count {
+    failed: 0,
+    told: 0,
+    misuses: 0,
+    dropped: 0,
+};
+
+// What was told of the last request, and whether a line expects it.
+#[derive(Clone, Copy)]
+struct Telling {
+    told: Told,
+    is_expected: bool,
 }
 
 impl Count {
@@ -45,6 +60,7 @@ impl Count {
             Count {
                 failed: 0,
                 told: 0,
+                dropped: 0,
                 ..
             } => 0,
             Count { failed: 0, .. } => 5,
@@ -60,7 +76,7 @@ pub(crate) struct Scenario<F> {
     exec: LocalExec<F, MemoryBase>,
     voice: Voice,
     last: Option<Reply>,
-    told: Vec<Told>,
+    told: Vec<Telling>,
     /// How many instances were told.
     instances: usize,
     /// The operations that filters hold.
@@ -88,11 +104,7 @@ impl<F: Minifilter> Scenario<F> {
             instances: 0,
             held: Vec::new(alloc),
             lines: 0,
-            count: Count {
-                failed: 0,
-                told: 0,
-                misuses: 0,
-            },
+            count: NOTHING,
         })
     }
 
@@ -159,12 +171,19 @@ impl<F: Minifilter> Scenario<F> {
         self.tell_steps(text)?;
         self.tell_leaks(text)?;
         self.tell_refusals(text)?;
-        self.exec.forget_report();
+        self.forget_report();
         if let Voice::Lines = self.voice {
             self.tell_instances(text)?;
             write_reply(text, reply)?;
         }
         Ok(())
+    }
+
+    // Forgets what was told of, and counts what couldn't be.
+    fn forget_report(&mut self) {
+        let dropped = self.exec.manager().dropped();
+        self.count.dropped = self.count.dropped.saturating_add(dropped);
+        self.exec.forget_report();
     }
 
     // Appends the instances that were attached since the last request.
@@ -189,7 +208,10 @@ impl<F: Minifilter> Scenario<F> {
         text: &mut String,
     ) -> Result<(), Status> {
         self.voice.tell(text, told, words, about)?;
-        self.told.push(told)?;
+        self.told.push(Telling {
+            told,
+            is_expected: false,
+        })?;
         if !told.is_limit() {
             self.count.told = self.count.told.saturating_add(1);
         }
@@ -203,13 +225,12 @@ impl<F: Minifilter> Scenario<F> {
     fn tell_steps(&mut self, text: &mut String) -> Result<(), Status> {
         for place in 0..self.exec.manager().traced() {
             let manager = self.exec.manager();
-            let Some((told, callback, instance, operation)) = told_at(manager, place) else {
+            let Some((told, callback)) = told_at(manager, place) else {
                 continue;
             };
             let mut words = String::new(self.alloc);
-            write_told(&mut words, manager, told, callback, instance, operation)?;
-            let place = place_of(callback, instance, Some(operation));
-            self.tell(told, words.as_str(), (place, None), text)?;
+            write_told(&mut words, manager, told, callback)?;
+            self.tell(told, words.as_str(), (callback, None), text)?;
         }
         Ok(())
     }
@@ -222,11 +243,10 @@ impl<F: Minifilter> Scenario<F> {
             };
             let mut words = String::new(self.alloc);
             write_leak(&mut words, manager, &leak)?;
-            let place = place_of(leak.callback, leak.instance, leak.operation);
             if let Voice::Objects(teller) = &mut self.voice {
-                teller.say_leaked(text, leak.context, leak.kind, place)?;
+                teller.say_leaked(text, leak.context, leak.kind, leak.place)?;
             }
-            let about = (place, Some(leak.context));
+            let about = (leak.place, Some(leak.context));
             self.tell(Told::Leak, words.as_str(), about, text)?;
         }
         Ok(())
@@ -258,9 +278,32 @@ impl<F: Minifilter> Scenario<F> {
             self.held.retain(|other| *other != operation);
         }
         if let Voice::Objects(_) = self.voice {
-            self.exec.forget_report();
+            self.forget_report();
         }
         Ok(())
+    }
+
+    // Looks whether that was told of the last request, and no line before this one expects it: it is expected then, and doesn't count as a mistake any more.
+    fn expect_told(&mut self, wanted: Told) -> bool {
+        for telling in self.told.iter_mut() {
+            if telling.told == wanted && !telling.is_expected {
+                telling.is_expected = true;
+                if !wanted.is_limit() {
+                    self.count.told = self.count.told.saturating_sub(1);
+                }
+                return true;
+            }
+        }
+        false
+    }
+
+    // Whether the last request came to what is expected.
+    fn is_met(&mut self, expected: &Expectation) -> bool {
+        match (expected, &self.last) {
+            (Expectation::Told(wanted), Some(_)) => self.expect_told(*wanted),
+            (_, Some(reply)) => expected.is_met(reply),
+            (_, None) => false,
+        }
     }
 
     // Looks whether the last request came to what is expected.
@@ -271,14 +314,9 @@ impl<F: Minifilter> Scenario<F> {
         expected: &Expectation,
         text: &mut String,
     ) -> Result<(), Status> {
-        let is_met = match &self.last {
-            Some(reply) => expected.is_met(reply, self.told.as_slice()),
-            None => false,
-        };
+        let is_met = self.is_met(expected);
         if !is_met {
             self.count.failed = self.count.failed.saturating_add(1);
-        } else if expected.is_mistake() {
-            self.count.told = self.count.told.saturating_sub(1);
         }
         let words = expected_words(self.alloc, line)?;
         let answered = self.answered()?;
@@ -294,14 +332,14 @@ impl<F: Minifilter> Scenario<F> {
         if let Some(reply) = &self.last {
             write_reply(&mut text, reply)?;
         }
-        for told in &self.told {
-            writeln!(text, "told {}", told.id())?;
+        for telling in &self.told {
+            writeln!(text, "told {}", telling.told.id())?;
         }
         Ok(text)
     }
 
-    /// The end: what is still held, open or alive is said, and what became of contexts. The exit status: 0; 5 if a mistake was told that no line expects; 1 if an
-    /// expectation wasn't met. Refused with 1, if memory is refused.
+    /// The end: what is still held, open or alive is said, and what became of contexts. The exit status: 0; 5 if a mistake was told that no line expects, or if
+    /// something wasn't kept of which it could have been told; 1 if an expectation wasn't met. Refused with 1, if memory is refused.
     pub(crate) fn end(&mut self, text: &mut String) -> Result<u8, Status> {
         self.tell_held(text)?;
         let mut words = String::new(self.alloc);
@@ -336,7 +374,9 @@ impl<F: Minifilter> Scenario<F> {
         self.voice.take_line(self.lines, "")?;
         for operation in &self.held {
             let mut words = String::new(self.alloc);
-            let place = write_held(&mut words, self.exec.manager(), *operation)?;
+            let manager = self.exec.manager();
+            let place = holder_of(manager, *operation);
+            write_told(&mut words, manager, told, place)?;
             self.voice.tell(text, told, words.as_str(), (place, None))?;
         }
         Ok(())
@@ -353,6 +393,13 @@ impl<F: Minifilter> Scenario<F> {
             writeln!(
                 text,
                 "alive: {alive} contexts, since what they are set on is still there"
+            )?;
+        }
+        if self.count.dropped > 0 {
+            writeln!(
+                text,
+                "{} steps, leaks or refused calls weren't kept, so mistakes may be missing",
+                self.count.dropped
             )?;
         }
         writeln!(
@@ -382,6 +429,7 @@ impl<F: Minifilter> Scenario<F> {
             misuses: self.count.misuses,
             unmet: self.count.failed,
             told: Some(self.count.told),
+            dropped: Some(self.count.dropped),
         }
     }
 }

@@ -396,6 +396,9 @@ pub fn say_end_json(
     if let Some(told) = tally.told {
         object.number("told", told)?;
     }
+    if let Some(dropped) = tally.dropped {
+        object.number("dropped", dropped)?;
+    }
     object.finish(text)
 }
 

@@ -30,9 +30,9 @@ mod ways;
 mod words;
 
 pub use crate::check::{Strictness, check_scripts};
-pub use crate::event::{Event, Visit};
+pub use crate::event::{Event, Visit, instance_in, operation_in};
 pub use crate::inert::Inert;
-pub use crate::json::Detail;
+pub use crate::json::{Detail, callback_of};
 pub use crate::page::{PAGE_BEGIN, PAGE_END};
 pub use crate::subject::Subject;
 pub use crate::tally::Tally;

@@ -26,6 +26,8 @@ pub struct Tally {
     pub unmet: u64,
     /// How many mistakes were told that no line expects, in a trial.
     pub told: Option<u64>,
+    /// How many steps, leaks and refused calls weren't kept, in a trial.
+    pub dropped: Option<u64>,
 }
 
 impl Tally {

@@ -646,6 +646,7 @@ impl<W: Write + Drop> View<W> {
             misuses,
             unmet,
             told: None,
+            dropped: None,
         }
     }
 

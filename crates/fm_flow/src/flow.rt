@@ -19,6 +19,7 @@ use crate::entry::{Ask, PostState, PreState};
 use crate::flights::Flights;
 use crate::hold::Hold;
 use crate::operation_record::{OperationRecord, post_state};
+use crate::room::Room;
 use crate::stage::Stage;
 use fm_data::{Answer, BaseCall, CallbackData, Completion, Params, PostVerdict};
 use fm_types::limits::{INSTANCES, OPERATIONS};
@@ -36,6 +37,8 @@ pub struct Flow {
     creates: usize,
     // and how many are in flight at each instance
     flights: Flights,
+    // of an operation that is over, for the next one
+    room: Option<Room>,
     next: u64,
 }
 
@@ -248,6 +251,7 @@ impl Flow {
             under_way: 0,
             creates: 0,
             flights,
+            room: None,
             next: 0,
         })
     }
@@ -398,8 +402,12 @@ impl Flow {
             return Err(Status::TooMany);
         }
         let number = OpId(self.next);
+        let room = match self.room.take() {
+            Some(room) => room,
+            None => Room::new(self.alloc)?,
+        };
         let record = OperationRecord::begin(
-            self.alloc, number, volume, stream, handle, born, path, params,
+            self.alloc, room, number, volume, stream, handle, born, path, params,
         )?;
         let is_creating = record.is_creating();
         let record = BoxedRecord::new(self.alloc, record)?;
@@ -606,6 +614,8 @@ impl Flow {
             let operation = self.operations[place].as_mut();
             return Ok(operation.hand_out());
         }
-        Ok(self.operations.remove(place).into_record().into_answer())
+        let (answer, room) = self.operations.remove(place).into_record().into_answer();
+        self.room = Some(room);
+        Ok(answer)
     }
 }

@@ -15,6 +15,7 @@ pub mod laws;
 mod lent;
 mod operation_record;
 mod owed_stack;
+mod room;
 mod stage;
 mod verdict;
 

@@ -21,10 +21,11 @@ use crate::answered::{bare_answer, base_counted, handle_given};
 use crate::entry::{Ask, DrainVisit, Entry, PostState, PostVisit, PreState, PreVisit};
 use crate::hold::Hold;
 use crate::owed_stack::OwedStack;
+use crate::room::Room;
 use crate::stage::Stage;
 use crate::{entries, lent};
 use fm_data::{Answer, BaseCall, CallbackData, Completion, Params, PostVerdict};
-use fm_types::limits::{ENTRIES, LIVE, TRANSFER};
+use fm_types::limits::TRANSFER;
 use fm_types::{
     Bytes, HandleId, InstanceId, OpId, Operation, SharedPath, Status, StreamId, VolumeId, WorkerId,
 };
@@ -83,6 +84,7 @@ impl OperationRecord {
     /// An operation that begins, with the room for all that will happen to it.
     pub(crate) fn begin(
         alloc: Global,
+        room: Room,
         number: OpId,
         volume: VolumeId,
         stream: Option<StreamId>,
@@ -98,8 +100,7 @@ impl OperationRecord {
         let operation = params.operation();
         let lent_path = shared(&path)?;
         let data = CallbackData::new(alloc, params)?;
-        let entries = Vec::with_capacity(alloc, ENTRIES)?;
-        let kept = Vec::with_capacity(alloc, LIVE)?;
+        let (entries, kept) = room.into_lists();
         Ok(OperationRecord {
             alloc,
             number,
@@ -706,12 +707,17 @@ impl OperationRecord {
         mem::replace(&mut self.answer, rest)
     }
 
-    /// The answer of a record that goes.
-    pub(crate) fn into_answer(self) -> Answer
-        ensures { result ≡ self.answer }
+    /// The answer of a record that goes, and the room that it had.
+    pub(crate) fn into_answer(self) -> (Answer, Room)
+        ensures { result.0 ≡ self.answer }
     {
-        let OperationRecord { answer, .. } = self;
-        answer
+        let OperationRecord {
+            answer,
+            entries,
+            kept,
+            ..
+        } = self;
+        (answer, Room::of(entries, kept))
     }
 }
 

@@ -371,6 +371,7 @@ fn yes_or_no(word: &[u8]) -> Result<bool, Status>
 }
 
 /// `create V PATH MODE`. It fails if there is no memory for the path.
+#[inline(never)]
 pub fn read_create(
     alloc: Global,
     state: &State,

@@ -23,6 +23,7 @@ pub struct Seat {
 
 impl Seat {
     /// Whether the instance is called before or after such an operation.
+    #[inline(always)]
     pub fn is_called_for(&self, operation: Operation) -> bool
         ensures { result ≡ is_called_for operation self.now }
     {
@@ -57,6 +58,7 @@ impl Seat {
     }
 
     // Attached before that many were.
+    #[inline(always)]
     fn is_in_time(&self, rows: &[Instance], born: u64) -> bool
         ensures { result ≡ seat_passes rows.now (is_in_time born) self.now }
     {
@@ -64,6 +66,13 @@ impl Seat {
             return false;
         };
         matches!(row.phase, Phase::Attached) && row.birth < born
+    }
+
+    #[inline(always)]
+    fn is_visited(&self, rows: &[Instance], born: u64, operation: Operation) -> bool
+        ensures { result ≡ is_visited rows.now born operation self.now }
+    {
+        self.is_called_for(operation) && self.is_in_time(rows, born)
     }
 }
 
@@ -227,11 +236,14 @@ fn first_visited<'a>(
 ) -> Option<&'a Seat>
     ensures { option_copied result ≡ find (is_visited rows.now born operation) seats.now }
 {
-    seats.iter().find(|seat| seat.is_called_for(operation) && seat.is_in_time(rows, born))
+    seats
+        .iter()
+        .find(|seat| seat.is_visited(rows, born, operation))
 }
 
-/// The first that an operation visits: attached before that many were, and called for it.
-pub fn next_visited(
+// Where the highest of them isn't visited.
+#[inline(never)]
+fn later_visited(
     rows: &[Instance],
     seats: &[Seat],
     born: u64,
@@ -241,4 +253,25 @@ pub fn next_visited(
 {
     let seat = first_visited(rows, seats, born, operation)?;
     Some(seat.instance)
+}
+
+/// The first that an operation visits: attached before that many were, and called for it. Mostly it is the first of them all.
+#[inline(always)]
+pub fn next_visited(
+    rows: &[Instance],
+    seats: &[Seat],
+    born: u64,
+    operation: Operation,
+) -> Option<InstanceId>
+    ensures { result ≡ instance_of (find (is_visited rows.now born operation) seats.now) }
+{
+    match seats {
+        [] => None,
+        [first, rest @ ..] => {
+            if first.is_visited(rows, born, operation) {
+                return Some(first.instance);
+            }
+            later_visited(rows, rest, born, operation)
+        }
+    }
 }

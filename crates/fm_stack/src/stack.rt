@@ -460,6 +460,7 @@ impl Stack {
     /// and that stand lower than the one visited last (`cursor`; none: all), the highest. None where
     /// there is none. `guess` is how many of the volume's instances stand above the one visited last:
     /// a right one saves a search, and a wrong one changes nothing of the answer.
+    #[inline(always)]
     pub fn next_below(
         &self,
         volume: VolumeId,

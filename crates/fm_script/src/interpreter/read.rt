@@ -58,6 +58,7 @@ impl Interpreter {
     }
 
     // The same of a command that takes bytes, which its last word spells.
+    #[inline(never)]
     fn read_bytes(
         &self,
         alloc: Global,

@@ -62,5 +62,5 @@ returns c =
     let ready = sym c.is_collectable.ensures ∙ c.if-not-is_collectable.false in
     let asked = through c.self.inside.operations.items c.in-Some.place c.as_ref-2.ensures c.index-2.ensures in
     let rests = sym c.has_running_drain.ensures ∙ c.if-has_running_drain.false in
-    let answer = c.into_answer.ensures ∙ ap (λ (r : FlowRecord). r.answer) c.into_record.ensures in
+    let answer = c.into_answer-answer.ensures ∙ ap (λ (r : FlowRecord). r.answer) c.into_record.ensures in
     record { reply = collect_told there ready c.remove.ensures.value answer; after = collect_removed there ready asked rests c.remove.ensures.items }

@@ -138,7 +138,7 @@ fn spelled(keywords: &[Keyword], word: &[u8]) -> Option<Keyword>
     keywords
         .iter()
         .copied()
-        .find(|keyword| keyword.spelling() == word)
+        .find(|keyword| keyword.is_spelled(word))
 }
 
 impl Keyword {
@@ -213,6 +213,14 @@ impl Keyword {
             [] => None,
             [first, ..] => spelled(beginning_with(*first), word),
         }
+    }
+
+    // Whether a word spells it. Most words that don't differ in their lengths, so these are compared first.
+    fn is_spelled(self, word: &[u8]) -> bool
+        ensures { result ≡ bytes_eq (spelling self) word.now }
+    {
+        let spelling = self.spelling();
+        spelling.len() == word.len() && spelling == word
     }
 
     /// How a line spells it.

@@ -331,7 +331,22 @@ impl Said {
 
     /// Appends the line, with its line feed. It fails if there is no memory for it, and never if there is room for it already; then the text may end with a
     /// beginning of the line.
+    #[inline(never)]
+    #[tactic(auto, using(crate::proofs::Lengths::fed_at_once))]
     pub fn print(&self, text: &mut Vec<u8>) -> Result<(), AllocError>
+        ensures appends { IfOk result (λ _. text.new.items ≡ text_with text.old.items self.now) }
+        ensures full { IfErr result (λ _. vec_capacity text.old < length (text_with text.old.items self.now)) }
+        ensures room { vec_capacity text.old ≤ vec_capacity text.new }
+    {
+        match self {
+            // most lines, at once
+            Said::Plain(Word::Ok) => text.extend_from_slice(b"ok\n"),
+            _ => self.print_any(text),
+        }
+    }
+
+    #[inline(never)]
+    fn print_any(&self, text: &mut Vec<u8>) -> Result<(), AllocError>
         ensures appends { IfOk result (λ _. text.new.items ≡ text_with text.old.items self.now) }
         ensures full { IfErr result (λ _. vec_capacity text.old < length (text_with text.old.items self.now)) }
         ensures room { vec_capacity text.old ≤ vec_capacity text.new }

@@ -125,6 +125,13 @@ done
 # libFuzzer plays all sessions in one process: the drivers' variables are in sections by which they are put back before each.
 [ "$kind" != libfuzzer ] || changes+=(--rename-section .data=kz_data,alloc,load,data,contents --rename-section .bss=kz_bss,alloc)
 
+# What is told names the line of a driver that makes a call: calls of two lines aren't made one, and a call at a function's end leaves its frame there.
+if is_clang; then
+    driver="$driver -fno-optimize-sibling-calls -mllvm -simplifycfg-sink-common=false -mllvm -enable-tail-merge=false"
+else
+    driver="$driver -fno-optimize-sibling-calls -fno-crossjumping -fno-tree-tail-merge"
+fi
+
 # ---- Drivers: each a name and its files. All but its entry is its own, so that two drivers may use one name.
 room=$(mktemp -d)
 trap 'rm -rf "$room"' EXIT

@@ -38,7 +38,7 @@ static void note_end(const KzSaid *said)
 {
     if (said->kind == KZ_SAID_HANDLE && kz_me != &kz_first)
         append(" info # bytes ");
-    else if (said->kind != KZ_SAID_REQUEST && said->kind != KZ_SAID_COUNTS)
+    else if (said->kind != KZ_SAID_REQUEST && said->kind != KZ_SAID_COUNTS && said->kind != KZ_SAID_AGAIN)
         append(said->text);
 }
 

@@ -50,6 +50,12 @@ typedef struct KzPlace {
     uint8_t worker;
     KIRQL irql, raised;  /* at which it was called, and to which it raised that since */
     uint64_t locks_from; /* the callback whose locks, and those of callbacks after it, count for the IRQL */
+    /* The call of the kit that it makes, and where; none while its own code runs. Its function, and what was asked for. */
+    const char *call;
+    const void *from, *function;
+    const char *request, *path; /* of the client that began the operation, or that asks; NULL if there is none */
+    unsigned line;              /* of the request in its file; 0 if it has none */
+    uint8_t event;              /* of the operation */
 } KzPlace;
 
 struct _FLT_FILTER {
@@ -194,6 +200,7 @@ struct KzOp {
     ULONG caller_room;
     KzStage stage;
     PFLT_INSTANCE holder;
+    const void *holder_function; /* whose return holds it */
     KzOwed owed[KZ_OWED]; /* as far as there is room */
     unsigned owed_count;
     bool comes_from_device; /* its answer does, and nothing that waits was in between: it may come up at DISPATCH_LEVEL */
@@ -201,6 +208,8 @@ struct KzOp {
     unsigned maker;
     KzClient *runner; /* who carries it on, also while it is held */
     unsigned users;   /* callbacks that look at it beside its runner */
+    const char *request, *path; /* as in KzPlace */
+    unsigned line;
     /* With what it was completed in its preoperation. */
     FLT_PREOP_CALLBACK_STATUS early;
     PVOID early_context;
@@ -256,12 +265,28 @@ void kz_tell(KzMessage message, const char *call, const char *format, ...) __att
 void kz_tell_of(const void *object, KzMessage message, const char *call, const char *format, ...) __attribute__((format(printf, 4, 5)));
 void kz_tell_refused(const char *call, uint32_t status);
 KzPlace kz_enter(KzCallback callback, uint8_t worker, PFLT_FILTER filter, PFLT_INSTANCE instance, KzOp *op, PFLT_CALLBACK_DATA data);
+/* The driver's function is called for it: its code runs until it has returned, or makes a call. */
+#define kz_let_driver(name, function) kz_let_function(name, (const void *)(uintptr_t)(function))
+unsigned kz_let_function(const char *name, const void *function);
 /* The callback that was entered is called at that IRQL, whatever locks the client holds. */
 void kz_call_at(KIRQL irql);
 KzPlace kz_enter_again(const KzPlace *place);
 void kz_leave(KzPlace before);
 size_t kz_place_text(char *room, size_t size);
+void kz_tell_again(void);
 void kz_free_told(void);
+
+/* source.c */
+/* The line of the driver's source in which the code stands before that address of the program, as file.c:12; false if it isn't known. Of a function's own address it is where it begins. */
+bool kz_find_source(uintptr_t address, char *room, size_t size);
+/* The address as it is in the program's file. */
+uintptr_t kz_in_file(const void *address);
+/* A text for people: without its marks, and with lines of sources for their addresses. */
+void kz_readable(char *room, size_t size, const char *text);
+
+/* kept.c: a text that stays until the end of the run; NULL if there are too many. */
+const char *kz_kept_text(const char *text);
+void kz_free_kept_texts(void);
 
 /* crash.c */
 void kz_watch_crashes(void);
@@ -296,7 +321,8 @@ KzPiece *kz_piece_of(const void *memory);
 /* How many of so many bytes of a driver's memory there are, and 0 where it was freed: that is told. What isn't known is taken as it is. */
 size_t kz_there(const void *memory, size_t size, const char *what);
 /* A text that begins there is read up to its null: that there is none is told. */
-void kz_check_text(const void *text, const char *call);
+void kz_check_text_from(const void *text, const char *call, const void *from);
+#define kz_check_text(text, call) kz_check_text_from(text, call, __builtin_return_address(0))
 const char *kz_tag(ULONG tag, char *room);
 void kz_check_piece(KzPiece *piece);
 void kz_check_memory(PFLT_FILTER filter);

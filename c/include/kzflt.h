@@ -69,6 +69,8 @@ KzCounts kz_counts(void);
 /* A message that isn't told, by its number, as "KZ0107"; false if there is none. It holds for all runs from then on. Strict: what differs from Windows (LIMIT) counts as told. */
 bool kz_allow(const char *id);
 void kz_be_strict(bool is);
+/* Writes what a message says, what Windows does there, and how it is mended, to the standard output; of `all` the rows of docs/TOLD.md. False if there is none of that number. */
+bool kz_explain(const char *id);
 
 /* Which postoperations run at DISPATCH_LEVEL, as the kit may have them: none, those of reads and writes, or of all I/O but creates, cleanups and closes. */
 enum { KZ_DISPATCH_NONE, KZ_DISPATCH_DATA, KZ_DISPATCH_ALL };

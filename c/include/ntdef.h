@@ -103,7 +103,7 @@
 #define __cdecl
 #define __stdcall
 #define __fastcall
-#define __forceinline static inline
+#define __forceinline static inline __attribute__((always_inline))
 #ifndef __cplusplus
 #define __inline inline
 #endif
@@ -117,7 +117,9 @@
 #define __int16 short
 #define __int8 char
 #define __FUNCTION__W L""
-#define __pragma(...)
+#ifndef __clang__
+#define __pragma(...) /* clang has it */
+#endif
 #define __assume(x) ((void)0)
 #define __noop(...) ((void)0)
 #define __debugbreak() KzBreak()
@@ -143,8 +145,8 @@
 #define POINTER_ALIGNMENT DECLSPEC_ALIGN(8)
 #define UNALIGNED
 #define RESTRICTED_POINTER
-#define FORCEINLINE static inline
-#define CFORCEINLINE static inline
+#define FORCEINLINE __forceinline /* also without optimization: what is told names the line that calls it */
+#define CFORCEINLINE __forceinline
 #define INLINE static inline
 #define CONST const
 #define IN
@@ -446,12 +448,12 @@ KZ_BEGIN
 #include <ntstatus.h>
 
 /* ---- Lists. */
-static inline void InitializeListHead(PLIST_ENTRY head)
+FORCEINLINE void InitializeListHead(PLIST_ENTRY head)
 {
     head->Flink = head->Blink = head;
 }
 
-static inline BOOLEAN IsListEmpty(const LIST_ENTRY *head)
+FORCEINLINE BOOLEAN IsListEmpty(const LIST_ENTRY *head)
 {
     return head->Flink == head;
 }
@@ -460,7 +462,7 @@ KZ_BEGIN
 VOID KzBrokenList(PLIST_ENTRY Entry, PCSTR Call);
 KZ_END
 
-static inline BOOLEAN RemoveEntryList(PLIST_ENTRY entry)
+FORCEINLINE BOOLEAN RemoveEntryList(PLIST_ENTRY entry)
 {
     PLIST_ENTRY next = entry->Flink, before = entry->Blink;
     if (next->Blink != entry || before->Flink != entry) {
@@ -472,7 +474,7 @@ static inline BOOLEAN RemoveEntryList(PLIST_ENTRY entry)
     return next == before;
 }
 
-static inline void InsertTailList(PLIST_ENTRY head, PLIST_ENTRY entry)
+FORCEINLINE void InsertTailList(PLIST_ENTRY head, PLIST_ENTRY entry)
 {
     PLIST_ENTRY before = head->Blink;
     if (before->Flink != head) {
@@ -485,7 +487,7 @@ static inline void InsertTailList(PLIST_ENTRY head, PLIST_ENTRY entry)
     head->Blink = entry;
 }
 
-static inline void InsertHeadList(PLIST_ENTRY head, PLIST_ENTRY entry)
+FORCEINLINE void InsertHeadList(PLIST_ENTRY head, PLIST_ENTRY entry)
 {
     PLIST_ENTRY next = head->Flink;
     if (next->Blink != head) {
@@ -498,21 +500,21 @@ static inline void InsertHeadList(PLIST_ENTRY head, PLIST_ENTRY entry)
     head->Flink = entry;
 }
 
-static inline PLIST_ENTRY RemoveHeadList(PLIST_ENTRY head)
+FORCEINLINE PLIST_ENTRY RemoveHeadList(PLIST_ENTRY head)
 {
     PLIST_ENTRY entry = head->Flink;
     RemoveEntryList(entry);
     return entry;
 }
 
-static inline PLIST_ENTRY RemoveTailList(PLIST_ENTRY head)
+FORCEINLINE PLIST_ENTRY RemoveTailList(PLIST_ENTRY head)
 {
     PLIST_ENTRY entry = head->Blink;
     RemoveEntryList(entry);
     return entry;
 }
 
-static inline void AppendTailList(PLIST_ENTRY head, PLIST_ENTRY list)
+FORCEINLINE void AppendTailList(PLIST_ENTRY head, PLIST_ENTRY list)
 {
     PLIST_ENTRY end = head->Blink;
     head->Blink->Flink = list;
@@ -521,13 +523,13 @@ static inline void AppendTailList(PLIST_ENTRY head, PLIST_ENTRY list)
     list->Blink = end;
 }
 
-static inline void PushEntryList(PSINGLE_LIST_ENTRY head, PSINGLE_LIST_ENTRY entry)
+FORCEINLINE void PushEntryList(PSINGLE_LIST_ENTRY head, PSINGLE_LIST_ENTRY entry)
 {
     entry->Next = head->Next;
     head->Next = entry;
 }
 
-static inline PSINGLE_LIST_ENTRY PopEntryList(PSINGLE_LIST_ENTRY head)
+FORCEINLINE PSINGLE_LIST_ENTRY PopEntryList(PSINGLE_LIST_ENTRY head)
 {
     PSINGLE_LIST_ENTRY first = head->Next;
     if (first)
@@ -536,120 +538,120 @@ static inline PSINGLE_LIST_ENTRY PopEntryList(PSINGLE_LIST_ENTRY head)
 }
 
 /* ---- Interlocked calls. */
-static inline LONG InterlockedIncrement(LONG volatile *p)
+FORCEINLINE LONG InterlockedIncrement(LONG volatile *p)
 {
     return __atomic_add_fetch(p, 1, __ATOMIC_SEQ_CST);
 }
 
-static inline LONG InterlockedDecrement(LONG volatile *p)
+FORCEINLINE LONG InterlockedDecrement(LONG volatile *p)
 {
     return __atomic_sub_fetch(p, 1, __ATOMIC_SEQ_CST);
 }
 
-static inline LONG InterlockedExchange(LONG volatile *p, LONG to)
+FORCEINLINE LONG InterlockedExchange(LONG volatile *p, LONG to)
 {
     return __atomic_exchange_n(p, to, __ATOMIC_SEQ_CST);
 }
 
-static inline LONG InterlockedExchangeAdd(LONG volatile *p, LONG by)
+FORCEINLINE LONG InterlockedExchangeAdd(LONG volatile *p, LONG by)
 {
     return __atomic_fetch_add(p, by, __ATOMIC_SEQ_CST);
 }
 
-static inline LONG InterlockedAdd(LONG volatile *p, LONG by)
+FORCEINLINE LONG InterlockedAdd(LONG volatile *p, LONG by)
 {
     return __atomic_add_fetch(p, by, __ATOMIC_SEQ_CST);
 }
 
-static inline LONG InterlockedAnd(LONG volatile *p, LONG bits)
+FORCEINLINE LONG InterlockedAnd(LONG volatile *p, LONG bits)
 {
     return __atomic_fetch_and(p, bits, __ATOMIC_SEQ_CST);
 }
 
-static inline LONG InterlockedOr(LONG volatile *p, LONG bits)
+FORCEINLINE LONG InterlockedOr(LONG volatile *p, LONG bits)
 {
     return __atomic_fetch_or(p, bits, __ATOMIC_SEQ_CST);
 }
 
-static inline LONG InterlockedXor(LONG volatile *p, LONG bits)
+FORCEINLINE LONG InterlockedXor(LONG volatile *p, LONG bits)
 {
     return __atomic_fetch_xor(p, bits, __ATOMIC_SEQ_CST);
 }
 
-static inline LONG InterlockedCompareExchange(LONG volatile *p, LONG to, LONG from)
+FORCEINLINE LONG InterlockedCompareExchange(LONG volatile *p, LONG to, LONG from)
 {
     __atomic_compare_exchange_n(p, &from, to, 0, __ATOMIC_SEQ_CST, __ATOMIC_SEQ_CST);
     return from;
 }
 
-static inline SHORT InterlockedIncrement16(SHORT volatile *p)
+FORCEINLINE SHORT InterlockedIncrement16(SHORT volatile *p)
 {
     return __atomic_add_fetch(p, 1, __ATOMIC_SEQ_CST);
 }
 
-static inline SHORT InterlockedDecrement16(SHORT volatile *p)
+FORCEINLINE SHORT InterlockedDecrement16(SHORT volatile *p)
 {
     return __atomic_sub_fetch(p, 1, __ATOMIC_SEQ_CST);
 }
 
-static inline LONG64 InterlockedIncrement64(LONG64 volatile *p)
+FORCEINLINE LONG64 InterlockedIncrement64(LONG64 volatile *p)
 {
     return __atomic_add_fetch(p, 1, __ATOMIC_SEQ_CST);
 }
 
-static inline LONG64 InterlockedDecrement64(LONG64 volatile *p)
+FORCEINLINE LONG64 InterlockedDecrement64(LONG64 volatile *p)
 {
     return __atomic_sub_fetch(p, 1, __ATOMIC_SEQ_CST);
 }
 
-static inline LONG64 InterlockedExchange64(LONG64 volatile *p, LONG64 to)
+FORCEINLINE LONG64 InterlockedExchange64(LONG64 volatile *p, LONG64 to)
 {
     return __atomic_exchange_n(p, to, __ATOMIC_SEQ_CST);
 }
 
-static inline LONG64 InterlockedExchangeAdd64(LONG64 volatile *p, LONG64 by)
+FORCEINLINE LONG64 InterlockedExchangeAdd64(LONG64 volatile *p, LONG64 by)
 {
     return __atomic_fetch_add(p, by, __ATOMIC_SEQ_CST);
 }
 
-static inline LONG64 InterlockedAdd64(LONG64 volatile *p, LONG64 by)
+FORCEINLINE LONG64 InterlockedAdd64(LONG64 volatile *p, LONG64 by)
 {
     return __atomic_add_fetch(p, by, __ATOMIC_SEQ_CST);
 }
 
-static inline LONG64 InterlockedOr64(LONG64 volatile *p, LONG64 bits)
+FORCEINLINE LONG64 InterlockedOr64(LONG64 volatile *p, LONG64 bits)
 {
     return __atomic_fetch_or(p, bits, __ATOMIC_SEQ_CST);
 }
 
-static inline LONG64 InterlockedAnd64(LONG64 volatile *p, LONG64 bits)
+FORCEINLINE LONG64 InterlockedAnd64(LONG64 volatile *p, LONG64 bits)
 {
     return __atomic_fetch_and(p, bits, __ATOMIC_SEQ_CST);
 }
 
-static inline LONG64 InterlockedCompareExchange64(LONG64 volatile *p, LONG64 to, LONG64 from)
+FORCEINLINE LONG64 InterlockedCompareExchange64(LONG64 volatile *p, LONG64 to, LONG64 from)
 {
     __atomic_compare_exchange_n(p, &from, to, 0, __ATOMIC_SEQ_CST, __ATOMIC_SEQ_CST);
     return from;
 }
 
-static inline PVOID InterlockedExchangePointer(PVOID volatile *p, PVOID to)
+FORCEINLINE PVOID InterlockedExchangePointer(PVOID volatile *p, PVOID to)
 {
     return __atomic_exchange_n(p, to, __ATOMIC_SEQ_CST);
 }
 
-static inline PVOID InterlockedCompareExchangePointer(PVOID volatile *p, PVOID to, PVOID from)
+FORCEINLINE PVOID InterlockedCompareExchangePointer(PVOID volatile *p, PVOID to, PVOID from)
 {
     __atomic_compare_exchange_n(p, &from, to, 0, __ATOMIC_SEQ_CST, __ATOMIC_SEQ_CST);
     return from;
 }
 
-static inline BOOLEAN InterlockedBitTestAndSet(LONG volatile *p, LONG bit)
+FORCEINLINE BOOLEAN InterlockedBitTestAndSet(LONG volatile *p, LONG bit)
 {
     return (__atomic_fetch_or(p + bit / 32, (LONG)(1u << bit % 32), __ATOMIC_SEQ_CST) >> bit % 32 & 1) != 0;
 }
 
-static inline BOOLEAN InterlockedBitTestAndReset(LONG volatile *p, LONG bit)
+FORCEINLINE BOOLEAN InterlockedBitTestAndReset(LONG volatile *p, LONG bit)
 {
     return (__atomic_fetch_and(p + bit / 32, (LONG) ~(1u << bit % 32), __ATOMIC_SEQ_CST) >> bit % 32 & 1) != 0;
 }

@@ -44,7 +44,7 @@ NTSTATUS KzUnicodePrint(PUNICODE_STRING To, NTSTRSAFE_PCWSTR Format, ...);
 #define RtlStringCbVPrintfA RtlStringCchVPrintfA
 #define RtlStringCchPrintfExW(to, room, end, left, flags, ...) ((void)(flags), KzPrintW((to), (room), (end), (left), __VA_ARGS__))
 #define RtlStringCchPrintfExA(to, room, end, left, flags, ...) ((void)(flags), KzPrintA((to), (room), (end), (left), __VA_ARGS__))
-static inline NTSTATUS RtlStringCbLengthW(NTSTRSAFE_PCWSTR Text, size_t Bytes, size_t *Length)
+FORCEINLINE NTSTATUS RtlStringCbLengthW(NTSTRSAFE_PCWSTR Text, size_t Bytes, size_t *Length)
 {
     NTSTATUS status = RtlStringCchLengthW(Text, Bytes / sizeof(WCHAR), Length);
     if (Length)

@@ -665,7 +665,7 @@ VOID KzForgetLock(PVOID Lock, PCSTR Call);
 BOOLEAN KzIsHeldAlone(const VOID *Lock);
 ULONG KzIsHeld(const VOID *Lock);
 
-static inline VOID ExInitializeFastMutex(PFAST_MUTEX FastMutex)
+FORCEINLINE VOID ExInitializeFastMutex(PFAST_MUTEX FastMutex)
 {
     memset(FastMutex, 0, sizeof *FastMutex);
     FastMutex->Count = 1;

@@ -7,7 +7,10 @@ enum { EVENT_KEEPS = 0, EVENT_RESETS = 1, MUTANT = 2, SEMAPHORE = 5, TIMER_KEEPS
 #define MILLISECOND 10000LL
 
 static LONGLONG passed;
-static PKTIMER timers[64];
+static struct {
+    PKTIMER timer;
+    KzPlace place; /* where it was set */
+} timers[64];
 static size_t timers_count;
 static PRKDPC dpcs[64];
 static size_t dpcs_count;
@@ -141,7 +144,7 @@ bool kz_run_dpc(void)
     KzPlace before = kz_enter(KZ_IN_TIMER, kz_worker(), filter, NULL, NULL, NULL);
     kz_call_at(DISPATCH_LEVEL);
     kz_scheduler->touch(dpc, 0, KZT_TAKES);
-    unsigned depth = kz_let_driver("timer");
+    unsigned depth = kz_let_driver("timer", dpc->DeferredRoutine);
     dpc->DeferredRoutine(dpc, dpc->DeferredContext, dpc->SystemArgument1, dpc->SystemArgument2);
     kz_driver_returned(depth, "timer returns");
     kz_leave(before);
@@ -170,11 +173,19 @@ BOOLEAN KeCancelTimer(PKTIMER Timer)
 {
     KZ_CALL();
     for (size_t at = 0; at < timers_count; at++)
-        if (timers[at] == Timer) {
+        if (timers[at].timer == Timer) {
             memmove(timers + at, timers + at + 1, (--timers_count - at) * sizeof timers[0]);
             return TRUE;
         }
     return FALSE;
+}
+
+static void set_timer(PKTIMER timer, const KzPlace *place)
+{
+    if (timers_count == sizeof timers / sizeof timers[0])
+        return;
+    timers[timers_count].timer = timer;
+    timers[timers_count++].place = *place;
 }
 
 BOOLEAN KeSetTimerEx(PKTIMER Timer, LARGE_INTEGER DueTime, LONG Period, PKDPC Dpc)
@@ -187,13 +198,13 @@ BOOLEAN KeSetTimerEx(PKTIMER Timer, LARGE_INTEGER DueTime, LONG Period, PKDPC Dp
     Timer->Dpc = Dpc;
     Timer->Header.SignalState = 0;
     Timer->TimerListEntry.Flink = (PLIST_ENTRY)kz_me->place.filter;
-    if (timers_count < sizeof timers / sizeof timers[0])
-        timers[timers_count++] = Timer;
+    set_timer(Timer, &kz_me->place);
     return was_set;
 }
 
 BOOLEAN KeSetTimer(PKTIMER Timer, LARGE_INTEGER DueTime, PKDPC Dpc)
 {
+    KZ_INSIDE();
     return KeSetTimerEx(Timer, DueTime, 0, Dpc);
 }
 
@@ -207,22 +218,30 @@ static PKTIMER next_due(LONGLONG until)
 {
     PKTIMER next = NULL;
     for (size_t at = 0; at < timers_count; at++)
-        if ((LONGLONG)timers[at]->DueTime.QuadPart <= until && (!next || timers[at]->DueTime.QuadPart < next->DueTime.QuadPart))
-            next = timers[at];
+        if ((LONGLONG)timers[at].timer->DueTime.QuadPart <= until && (!next || timers[at].timer->DueTime.QuadPart < next->DueTime.QuadPart))
+            next = timers[at].timer;
     return next;
+}
+
+static KzPlace place_of(PKTIMER timer)
+{
+    for (size_t at = 0; at < timers_count; at++)
+        if (timers[at].timer == timer)
+            return timers[at].place;
+    return kz_me->place;
 }
 
 static void fire(PKTIMER timer)
 {
     PFLT_FILTER filter = (PFLT_FILTER)timer->TimerListEntry.Flink;
+    KzPlace place = place_of(timer);
     KeCancelTimer(timer);
     if ((LONGLONG)timer->DueTime.QuadPart > passed)
         passed = (LONGLONG)timer->DueTime.QuadPart;
     timer->Header.SignalState = 1;
     if (timer->Period) {
         timer->DueTime.QuadPart += (ULONGLONG)timer->Period * MILLISECOND;
-        if (timers_count < sizeof timers / sizeof timers[0])
-            timers[timers_count++] = timer;
+        set_timer(timer, &place);
     }
     if (timer->Dpc) {
         KzPlace before = kz_me->place;
@@ -257,11 +276,11 @@ void kz_tick(void)
 void kz_forget_timers(PFLT_FILTER filter)
 {
     for (size_t at = timers_count; at-- > 0;)
-        if ((PFLT_FILTER)timers[at]->TimerListEntry.Flink == filter) {
-            KzPlace before = kz_enter(KZ_IN_NOTHING, kz_worker(), filter, NULL, NULL, NULL);
+        if ((PFLT_FILTER)timers[at].timer->TimerListEntry.Flink == filter) {
+            KzPlace before = kz_enter_again(&timers[at].place);
             kz_tell(KZM_TIMER_LEFT, "KeCancelTimer", "never called for a timer that is set: it would fire in a driver that is gone");
             kz_me->place = before;
-            KeCancelTimer(timers[at]);
+            KeCancelTimer(timers[at].timer);
         }
 }
 
@@ -417,6 +436,7 @@ NTSTATUS KeWaitForSingleObject(PVOID Object, KWAIT_REASON WaitReason, KPROCESSOR
 NTSTATUS KeWaitForMultipleObjects(ULONG Count, PVOID Object[], WAIT_TYPE WaitType, KWAIT_REASON WaitReason, KPROCESSOR_MODE WaitMode, BOOLEAN Alertable,
                                   PLARGE_INTEGER Timeout, PVOID WaitBlockArray)
 {
+    KZ_CALL();
     (void)WaitBlockArray;
     LARGE_INTEGER now = {.QuadPart = 0};
     if (WaitType == WaitAny) {

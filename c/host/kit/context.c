@@ -41,6 +41,51 @@ static size_t dead_next;
 
 static const char *const kind_names[] = {"a volume", "an instance", "a stream", "a stream handle"};
 
+/* ---- Which call took a reference: that is known as long as a callback holds it. */
+static void note_taken(const void *body)
+{
+    unsigned at = 0;
+    while (at + 1 < KZ_TAKEN && kz_me->taken[at].body)
+        at++;
+    kz_me->taken[at] = (KzTaken){body, kz_me->place};
+}
+
+/* That of the callback that runs, or of another one of its operation; NULL if it isn't known. */
+static KzTaken *find_taken(const void *body)
+{
+    KzTaken *other = NULL;
+    for (unsigned at = KZ_TAKEN; at-- > 0;) {
+        KzTaken *one = &kz_me->taken[at];
+        if (one->body != body)
+            continue;
+        if (one->place.number == kz_me->place.number)
+            return one;
+        if (!other && one->place.op && one->place.op == kz_me->place.op && one->place.op_id == kz_me->place.op_id)
+            other = one;
+    }
+    return other;
+}
+
+static void forget_taken(const void *body)
+{
+    KzTaken *one = find_taken(body);
+    if (one)
+        *one = (KzTaken){0};
+}
+
+/* The callback that runs, with the call that took the reference which it leaves. */
+static KzPlace place_of_taken(const void *body)
+{
+    KzPlace place = kz_me->place;
+    KzTaken *one = find_taken(body);
+    if (!one)
+        return place;
+    place.call = one->place.call;
+    place.from = one->place.from;
+    *one = (KzTaken){0};
+    return place;
+}
+
 /* ---- Finding. */
 static Header **place_of(PVOID body)
 {
@@ -124,8 +169,10 @@ static PVOID body_of(uint32_t slot, uint32_t generation)
 static PVOID taken_body(uint32_t slot, uint32_t generation)
 {
     Header *one = known(slot, generation);
-    if (one)
+    if (one) {
         kz_scheduler->touch(one, 0, KZT_TAKES);
+        note_taken(one->body);
+    }
     return one ? one->body : NULL;
 }
 
@@ -152,7 +199,7 @@ static void finish(Header *context, uint8_t worker)
     context->is_in_cleanup = true;
     kz_scheduler->touch(context, 0, KZT_TAKES);
     if (context->how->ContextCleanupCallback) {
-        unsigned depth = kz_let_driver("context cleanup");
+        unsigned depth = kz_let_driver("context cleanup", context->how->ContextCleanupCallback);
         context->how->ContextCleanupCallback(context->body, context->type);
         kz_driver_returned(depth, "context cleanup returns");
     }
@@ -211,6 +258,7 @@ static uint32_t make_known(Header *context)
         context->generation = made.told.generation;
         context->is_known = true;
         enter_slot(context);
+        note_taken(context->body);
     }
     return made.status;
 }
@@ -262,7 +310,9 @@ VOID FltReferenceContext(PFLT_CONTEXT Context)
         return;
     bool is_counted =
         context->is_known && kz_event(kz_worker(), (KazdrinEvent){.event = KZE_REFERENCE, .slot = context->slot, .generation = context->generation}).status == KZS_OK;
-    if (!is_counted)
+    if (is_counted)
+        note_taken(context->body);
+    else
         keep(context, &kz_me->place);
 }
 
@@ -270,6 +320,8 @@ VOID FltReferenceContext(PFLT_CONTEXT Context)
 static bool release(uint8_t worker, const Header *context)
 {
     KzTold released = kz_event(worker, (KazdrinEvent){.event = KZE_RELEASE, .slot = context->slot, .generation = context->generation});
+    if (released.status == KZS_OK)
+        forget_taken(context->body);
     if (released.status == KZS_OK && released.told.due)
         kz_clean_up();
     return released.status == KZS_OK;
@@ -430,8 +482,10 @@ static NTSTATUS get_elsewhere(const char *call, uint8_t kind, PFLT_INSTANCE inst
         return refuse(call, instance, volume, NULL);
     }
     NTSTATUS status = get(call, worker, kind, found);
-    if (*found)
+    if (*found) {
         keep(find(*found), &kz_me->place);
+        forget_taken(*found);
+    }
     kz_leave_query(at, worker);
     kz_helped(worker);
     return status;
@@ -593,7 +647,7 @@ bool kz_sends(KzOp *op, PVOID completion, KazdrinEvent *event)
     }
     if (event->flag && !named) {
         KzSent *sent = kz_block(op, sizeof *sent);
-        *sent = (KzSent){op->sent, body_of(event->slot, event->generation), kz_me->place};
+        *sent = (KzSent){op->sent, body_of(event->slot, event->generation), place_of_taken(body_of(event->slot, event->generation))};
         op->sent = sent;
     }
     return event->flag;
@@ -608,7 +662,7 @@ static KzPlace left_in(PVOID body)
             *at = (*at)->next;
             return place;
         }
-    return kz_me->place;
+    return place_of_taken(body);
 }
 
 /* The callback is about to return: the host keeps what it still holds, but for the one reference that its completion takes along. */

@@ -77,6 +77,7 @@ VOID FltGetContexts(PCFLT_RELATED_OBJECTS FltObjects, FLT_CONTEXT_TYPE DesiredCo
 
 VOID FltReleaseContexts(PFLT_RELATED_CONTEXTS Contexts)
 {
+    KZ_CALL();
     PFLT_CONTEXT all[] = {Contexts->VolumeContext, Contexts->InstanceContext, Contexts->StreamContext, Contexts->StreamHandleContext};
     for (size_t at = 0; at < sizeof all / sizeof all[0]; at++)
         if (all[at])
@@ -96,6 +97,7 @@ NTSTATUS FltGetContextsEx(PCFLT_RELATED_OBJECTS FltObjects, FLT_CONTEXT_TYPE Des
 
 VOID FltReleaseContextsEx(SIZE_T ContextsSize, PFLT_RELATED_CONTEXTS_EX Contexts)
 {
+    KZ_CALL();
     (void)ContextsSize;
     FltReleaseContexts((PFLT_RELATED_CONTEXTS)Contexts);
 }

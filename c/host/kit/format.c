@@ -237,6 +237,7 @@ ULONG vDbgPrintEx(ULONG ComponentId, ULONG Level, PCSTR Format, va_list Argument
 
 ULONG DbgPrint(PCSTR Format, ...)
 {
+    KZ_INSIDE();
     va_list arguments;
     va_start(arguments, Format);
     vDbgPrintEx(DPFLTR_DEFAULT_ID, DPFLTR_INFO_LEVEL, Format, arguments);
@@ -246,6 +247,7 @@ ULONG DbgPrint(PCSTR Format, ...)
 
 ULONG DbgPrintEx(ULONG ComponentId, ULONG Level, PCSTR Format, ...)
 {
+    KZ_INSIDE();
     va_list arguments;
     va_start(arguments, Format);
     vDbgPrintEx(ComponentId, Level, Format, arguments);

@@ -10,6 +10,7 @@ typedef struct {
     bool is_shared;
     KIRQL irql, before; /* to which it raises, and at which it was taken */
     const char *call;
+    const void *from; /* where */
     uint64_t place; /* the callback's number: kz_me->place.number */
 } Held;
 
@@ -67,7 +68,7 @@ static void note(PVOID lock, int how, KIRQL irql, const char *call)
     if (one)
         one->count++;
     else
-        add((Held){lock, kz_me, 1, is_shared(how), irql, kz_irql(), call, kz_me->place.number});
+        add((Held){lock, kz_me, 1, is_shared(how), irql, kz_irql(), call, kz_me->place.from, kz_me->place.number});
     kz_scheduler->touch(lock, 0, KZT_TAKES);
 }
 
@@ -167,8 +168,11 @@ void kz_tell_locks(void)
             continue;
         }
         bool is_region = held[at].lock == &kz_me->region;
+        kz_me->place.call = held[at].call;
+        kz_me->place.from = held[at].from;
         kz_tell(KZM_LOCK_AT_RETURN, held[at].call, is_region ? "the critical region isn't left as the callback returns" : "the lock is still held as the callback returns");
         held[at].count = 1;
+        kz_me->place.from = NULL;
         let_go(&held[at], (PVOID)(uintptr_t)held[at].lock, held[at].call);
     }
     if (kz_me->place.callback != KZ_IN_NOTHING && kz_me->place.raised > kz_me->place.irql) {
@@ -232,6 +236,7 @@ VOID KzLetGoTo(PVOID Lock, KIRQL Irql, PCSTR Call)
 
 void KzPagedCode(PCSTR Function)
 {
+    KZ_INSIDE_OF("PAGED_CODE");
     KIRQL irql = KeGetCurrentIrql();
     if (irql > APC_LEVEL)
         kz_tell(KZM_IRQL, "PAGED_CODE", "%s runs at IRQL %u", Function, irql);
@@ -258,21 +263,25 @@ BOOLEAN ExAcquireResourceSharedLite(PERESOURCE Resource, BOOLEAN Wait)
 
 BOOLEAN ExAcquireSharedStarveExclusive(PERESOURCE Resource, BOOLEAN Wait)
 {
+    KZ_CALL();
     return ExAcquireResourceSharedLite(Resource, Wait);
 }
 
 BOOLEAN ExAcquireSharedWaitForExclusive(PERESOURCE Resource, BOOLEAN Wait)
 {
+    KZ_CALL();
     return ExAcquireResourceSharedLite(Resource, Wait);
 }
 
 VOID ExReleaseResourceLite(PERESOURCE Resource)
 {
+    KZ_CALL();
     KzLetGo(Resource, __func__);
 }
 
 VOID ExReleaseResourceForThreadLite(PERESOURCE Resource, ERESOURCE_THREAD ResourceThreadId)
 {
+    KZ_CALL();
     (void)ResourceThreadId;
     KzLetGo(Resource, __func__);
 }
@@ -307,6 +316,7 @@ BOOLEAN KeAreApcsDisabled(VOID)
 
 KIRQL KzTakeSpinLock(PVOID Lock, PCSTR Call)
 {
+    KZ_CALL_OF(Call);
     KIRQL before = KeGetCurrentIrql();
     KzTake(Lock, KZ_ALONE, DISPATCH_LEVEL, Call);
     return before;
@@ -314,6 +324,7 @@ KIRQL KzTakeSpinLock(PVOID Lock, PCSTR Call)
 
 KIRQL KzTakeSpinLockShared(PVOID Lock, PCSTR Call)
 {
+    KZ_CALL_OF(Call);
     KIRQL before = KeGetCurrentIrql();
     KzTake(Lock, KZ_SHARED, DISPATCH_LEVEL, Call);
     return before;
@@ -322,6 +333,7 @@ KIRQL KzTakeSpinLockShared(PVOID Lock, PCSTR Call)
 /* ---- Lists under a spin lock. */
 PLIST_ENTRY ExInterlockedInsertHeadList(PLIST_ENTRY ListHead, PLIST_ENTRY ListEntry, PKSPIN_LOCK Lock)
 {
+    KZ_CALL();
     KzTake(Lock, KZ_ALONE, DISPATCH_LEVEL, __func__);
     PLIST_ENTRY first = IsListEmpty(ListHead) ? NULL : ListHead->Flink;
     InsertHeadList(ListHead, ListEntry);
@@ -331,6 +343,7 @@ PLIST_ENTRY ExInterlockedInsertHeadList(PLIST_ENTRY ListHead, PLIST_ENTRY ListEn
 
 PLIST_ENTRY ExInterlockedInsertTailList(PLIST_ENTRY ListHead, PLIST_ENTRY ListEntry, PKSPIN_LOCK Lock)
 {
+    KZ_CALL();
     KzTake(Lock, KZ_ALONE, DISPATCH_LEVEL, __func__);
     PLIST_ENTRY last = IsListEmpty(ListHead) ? NULL : ListHead->Blink;
     InsertTailList(ListHead, ListEntry);
@@ -340,6 +353,7 @@ PLIST_ENTRY ExInterlockedInsertTailList(PLIST_ENTRY ListHead, PLIST_ENTRY ListEn
 
 PLIST_ENTRY ExInterlockedRemoveHeadList(PLIST_ENTRY ListHead, PKSPIN_LOCK Lock)
 {
+    KZ_CALL();
     KzTake(Lock, KZ_ALONE, DISPATCH_LEVEL, __func__);
     PLIST_ENTRY first = IsListEmpty(ListHead) ? NULL : RemoveHeadList(ListHead);
     KzLetGo(Lock, __func__);
@@ -348,6 +362,7 @@ PLIST_ENTRY ExInterlockedRemoveHeadList(PLIST_ENTRY ListHead, PKSPIN_LOCK Lock)
 
 PSINGLE_LIST_ENTRY ExInterlockedPushEntryList(PSINGLE_LIST_ENTRY ListHead, PSINGLE_LIST_ENTRY ListEntry, PKSPIN_LOCK Lock)
 {
+    KZ_CALL();
     KzTake(Lock, KZ_ALONE, DISPATCH_LEVEL, __func__);
     PSINGLE_LIST_ENTRY first = ListHead->Next;
     PushEntryList(ListHead, ListEntry);
@@ -357,6 +372,7 @@ PSINGLE_LIST_ENTRY ExInterlockedPushEntryList(PSINGLE_LIST_ENTRY ListHead, PSING
 
 PSINGLE_LIST_ENTRY ExInterlockedPopEntryList(PSINGLE_LIST_ENTRY ListHead, PKSPIN_LOCK Lock)
 {
+    KZ_CALL();
     KzTake(Lock, KZ_ALONE, DISPATCH_LEVEL, __func__);
     PSINGLE_LIST_ENTRY first = PopEntryList(ListHead);
     KzLetGo(Lock, __func__);
@@ -365,6 +381,7 @@ PSINGLE_LIST_ENTRY ExInterlockedPopEntryList(PSINGLE_LIST_ENTRY ListHead, PKSPIN
 
 LARGE_INTEGER ExInterlockedAddLargeInteger(PLARGE_INTEGER Addend, LARGE_INTEGER Increment, PKSPIN_LOCK Lock)
 {
+    KZ_CALL();
     KzTake(Lock, KZ_ALONE, DISPATCH_LEVEL, __func__);
     LARGE_INTEGER before = *Addend;
     Addend->QuadPart += Increment.QuadPart;
@@ -476,5 +493,6 @@ VOID ExWaitForRundownProtectionRelease(PEX_RUNDOWN_REF RunRef)
 
 VOID ExRundownCompleted(PEX_RUNDOWN_REF RunRef)
 {
+    KZ_CALL();
     RunRef->Count = 1;
 }

@@ -109,6 +109,6 @@ NTSTATUS ExDeleteResourceLite(PERESOURCE Resource)
 /* ---- Lists: the kit's own functions look at the neighbours, and stop the system where they aren't neighbours. */
 VOID KzBrokenList(PLIST_ENTRY Entry, PCSTR Call)
 {
-    KZ_INSIDE();
+    KZ_INSIDE_OF(Call);
     kz_tell_of(Entry, KZM_BROKEN_LIST, Call, "the list isn't whole there (an entry removed twice, or put in two lists?): it is left as it is");
 }

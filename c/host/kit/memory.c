@@ -150,12 +150,14 @@ void kz_check_piece(KzPiece *piece)
         return;
     piece->is_told = true;
     const char *where = is_behind ? "past" : "before";
-    char tag[8];
+    char tag[8], taken[40] = "";
     unsigned long long size = piece->size;
+    if (piece->place.from)
+        snprintf(taken, sizeof taken, ", taken at @%lx,", (unsigned long)kz_in_file(piece->place.from));
     if (piece->kind == KZK_POOL)
-        kz_tell(KZM_PAST_POOL, "ExAllocatePoolWithTag", "memory %s the %llu bytes of a pool was written, tag '%s'", where, size, kz_tag(piece->tag, tag));
+        kz_tell(KZM_PAST_POOL, "ExAllocatePoolWithTag", "memory %s the %llu bytes of a pool with the tag '%s'%s was written", where, size, kz_tag(piece->tag, tag), taken);
     else if (piece->kind == KZK_CONTEXT)
-        kz_tell(KZM_PAST_CONTEXT, "FltAllocateContext", "memory %s the %llu bytes of a context was written", where, size);
+        kz_tell(KZM_PAST_CONTEXT, "FltAllocateContext", "memory %s the %llu bytes of a context%s was written", where, size, taken);
     else if (piece->kind == KZK_NAME)
         kz_tell(KZM_PAST_BUFFER, "UNICODE_STRING", "memory %s the %llu bytes of a name was written", where, size);
     else
@@ -209,9 +211,9 @@ size_t kz_there(const void *memory, size_t size, const char *what)
     return piece->size;
 }
 
-void kz_check_text(const void *text, const char *call)
+void kz_check_text_from(const void *text, const char *call, const void *from)
 {
-    KZ_INSIDE();
+    __attribute__((cleanup(kz_end_call), unused)) unsigned depth = kz_go_inside(call, from);
     KzPiece *piece = kz_piece_of(text);
     const WCHAR *letters = text;
     size_t count = piece ? piece->size / sizeof(WCHAR) : 1;
@@ -237,16 +239,18 @@ void kz_check_blocks(const KzOp *op)
 /* Whether memory that was given back was written since: then that is told, once. */
 static void look_at(KzPiece *piece)
 {
-    char tag[8];
+    char tag[8], where[32] = "";
     if (is_filled(body_of(piece), piece->size, GONE_BYTE))
         return;
+    if (piece->place.from)
+        snprintf(where, sizeof where, " at @%lx", (unsigned long)kz_in_file(piece->place.from));
     if (piece->kind == KZK_POOL)
-        kz_tell(KZM_WRITTEN_FREED, "ExFreePoolWithTag", "%llu bytes of a pool were written after they were freed, tag '%s'", (unsigned long long)piece->size,
+        kz_tell(KZM_WRITTEN_FREED, "ExFreePoolWithTag", "%llu bytes of a pool were written after they were freed%s, tag '%s'", (unsigned long long)piece->size, where,
                 kz_tag(piece->tag, tag));
     else if (piece->kind == KZK_DATA)
         kz_tell(KZM_WRITTEN_DATA, "FltCompletePendedPreOperation", "callback data was written after the operation was completed");
     else
-        kz_tell(KZM_WRITTEN_CONTEXT, "FltReleaseContext", "%llu bytes were written after they were cleaned up", (unsigned long long)piece->size);
+        kz_tell(KZM_WRITTEN_CONTEXT, "FltReleaseContext", "%llu bytes were written after they were cleaned up%s", (unsigned long long)piece->size, where);
     memset(body_of(piece), GONE_BYTE, piece->size);
 }
 
@@ -290,6 +294,7 @@ void kz_give_back(void *memory)
         return;
     }
     memset(body_of(piece), GONE_BYTE, piece->size);
+    piece->place = kz_me->place; /* where it was given back */
     size_t *next = &gone[my_list()].next;
     forget(&gone[my_list()].pieces[*next]);
     gone[my_list()].pieces[*next] = piece;

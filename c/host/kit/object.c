@@ -194,13 +194,13 @@ static LONG_PTR let_go(PVOID object, const char *call)
 
 LONG_PTR KzReferenceObject(PVOID Object, PCSTR Call)
 {
-    KZ_INSIDE();
+    KZ_INSIDE_OF(Call);
     return take(Object, false, Call);
 }
 
 LONG_PTR KzDereferenceObject(PVOID Object, PCSTR Call)
 {
-    KZ_INSIDE();
+    KZ_INSIDE_OF(Call);
     return let_go(Object, Call);
 }
 

@@ -3,11 +3,13 @@
 
 VOID FltSetCallbackDataDirty(PFLT_CALLBACK_DATA Data)
 {
+    KZ_INSIDE();
     Data->Flags |= FLTFL_CALLBACK_DATA_DIRTY;
 }
 
 VOID FltClearCallbackDataDirty(PFLT_CALLBACK_DATA Data)
 {
+    KZ_INSIDE();
     Data->Flags &= ~FLTFL_CALLBACK_DATA_DIRTY;
 }
 
@@ -19,6 +21,7 @@ BOOLEAN FltIsCallbackDataDirty(PFLT_CALLBACK_DATA Data)
 /* The buffer of an operation, as the kit hands out pointers to its fields. */
 NTSTATUS FltDecodeParameters(PFLT_CALLBACK_DATA CallbackData, PMDL **MdlAddressPointer, PVOID **Buffer, PULONG *Length, LOCK_OPERATION *DesiredAccess)
 {
+    KZ_INSIDE();
     FLT_PARAMETERS *now = &CallbackData->Iopb->Parameters;
     PMDL *mdl = NULL;
     PVOID *buffer;
@@ -127,6 +130,7 @@ static bool puts_off(const char *call, PFLT_CALLBACK_DATA data, KzSafe safe)
 BOOLEAN FltDoCompletionProcessingWhenSafe(PFLT_CALLBACK_DATA Data, PCFLT_RELATED_OBJECTS FltObjects, PVOID CompletionContext, FLT_POST_OPERATION_FLAGS Flags,
                                           PFLT_POST_OPERATION_CALLBACK SafePostCallback, PFLT_POSTOP_CALLBACK_STATUS RetPostOperationStatus)
 {
+    KZ_INSIDE();
     if (puts_off(__func__, Data, (KzSafe){SafePostCallback, CompletionContext, Flags})) {
         *RetPostOperationStatus = FLT_POSTOP_MORE_PROCESSING_REQUIRED;
         return TRUE;
@@ -167,6 +171,7 @@ NTSTATUS FltGetRequestorSessionId(PFLT_CALLBACK_DATA CallbackData, PULONG Sessio
 /* No operation answers STATUS_PENDING to the filter that asked to be told, so that the routine isn't called. */
 NTSTATUS FltRequestOperationStatusCallback(PFLT_CALLBACK_DATA Data, PFLT_GET_OPERATION_STATUS_CALLBACK CallbackRoutine, PVOID RequesterContext)
 {
+    KZ_INSIDE();
     (void)Data, (void)CallbackRoutine, (void)RequesterContext;
     kz_tell(KZM_STATUS_LOST, __func__, "the routine is never called");
     return STATUS_SUCCESS;

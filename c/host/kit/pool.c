@@ -20,16 +20,19 @@ PVOID ExAllocatePoolWithTag(POOL_TYPE PoolType, SIZE_T NumberOfBytes, ULONG Tag)
 
 PVOID ExAllocatePool(POOL_TYPE PoolType, SIZE_T NumberOfBytes)
 {
+    KZ_INSIDE();
     return ExAllocatePoolWithTag(PoolType, NumberOfBytes, 'enoN');
 }
 
 PVOID ExAllocatePoolWithQuotaTag(POOL_TYPE PoolType, SIZE_T NumberOfBytes, ULONG Tag)
 {
+    KZ_INSIDE();
     return ExAllocatePoolWithTag(PoolType, NumberOfBytes, Tag);
 }
 
 PVOID ExAllocatePoolUninitialized(POOL_TYPE PoolType, SIZE_T NumberOfBytes, ULONG Tag)
 {
+    KZ_INSIDE();
     return ExAllocatePoolWithTag(PoolType, NumberOfBytes, Tag);
 }
 
@@ -81,11 +84,13 @@ VOID ExFreePoolWithTag(PVOID P, ULONG Tag)
 
 VOID ExFreePool(PVOID P)
 {
+    KZ_INSIDE();
     free_pool(P, __func__);
 }
 
 VOID ExFreePool2(PVOID P, ULONG Tag, PVOID ExtendedParameters, ULONG ExtendedParametersCount)
 {
+    KZ_INSIDE();
     (void)ExtendedParameters, (void)ExtendedParametersCount;
     ExFreePoolWithTag(P, Tag);
 }
@@ -95,7 +100,7 @@ VOID ExFreePool2(PVOID P, ULONG Tag, PVOID ExtendedParameters, ULONG ExtendedPar
 
 VOID KzInitializeLookaside(GENERAL_LOOKASIDE *List, PALLOCATE_FUNCTION Allocate, PFREE_FUNCTION Free, POOL_TYPE Type, SIZE_T Size, ULONG Tag)
 {
-    KZ_INSIDE();
+    KZ_INSIDE_OF(Type == PagedPool ? "ExInitializePagedLookasideList" : "ExInitializeNPagedLookasideList");
     kz_made(List, "a lookaside list", "ExInitializeNPagedLookasideList", "ExDeleteNPagedLookasideList");
     *List = (GENERAL_LOOKASIDE){.Size = (ULONG)Size, .Tag = Tag, .Type = Type, .Allocate = Allocate, .Free = Free, .Initialized = MADE};
 }
@@ -126,6 +131,7 @@ static void check_lookaside(PVOID memory, const GENERAL_LOOKASIDE *list, const c
 
 PVOID KzAllocateFromLookaside(GENERAL_LOOKASIDE *List, PCSTR Call)
 {
+    KZ_INSIDE_OF(Call);
     if (!is_made(List, Call))
         return NULL;
     __atomic_add_fetch(&List->TotalAllocates, 1, __ATOMIC_RELAXED);
@@ -138,6 +144,7 @@ PVOID KzAllocateFromLookaside(GENERAL_LOOKASIDE *List, PCSTR Call)
 
 VOID KzFreeToLookaside(GENERAL_LOOKASIDE *List, PVOID Entry, PCSTR Call)
 {
+    KZ_INSIDE_OF(Call);
     if (!is_made(List, Call))
         return;
     __atomic_add_fetch(&List->TotalFrees, 1, __ATOMIC_RELAXED);
@@ -174,11 +181,13 @@ PMDL IoAllocateMdl(PVOID VirtualAddress, ULONG Length, BOOLEAN SecondaryBuffer, 
 
 VOID IoFreeMdl(PMDL Mdl)
 {
+    KZ_INSIDE();
     free_pool(Mdl, __func__);
 }
 
 VOID IoBuildPartialMdl(PMDL SourceMdl, PMDL TargetMdl, PVOID VirtualAddress, ULONG Length)
 {
+    KZ_INSIDE();
     ULONG skipped = (ULONG)((PUCHAR)VirtualAddress - (PUCHAR)MmGetMdlVirtualAddress(SourceMdl));
     MmInitializeMdl(TargetMdl, VirtualAddress, Length ? Length : SourceMdl->ByteCount - skipped);
     TargetMdl->Size = sizeof *TargetMdl;
@@ -187,24 +196,28 @@ VOID IoBuildPartialMdl(PMDL SourceMdl, PMDL TargetMdl, PVOID VirtualAddress, ULO
 
 VOID MmBuildMdlForNonPagedPool(PMDL MemoryDescriptorList)
 {
+    KZ_INSIDE();
     MemoryDescriptorList->MdlFlags |= MDL_SOURCE_IS_NONPAGED_POOL;
     MemoryDescriptorList->MappedSystemVa = MmGetMdlVirtualAddress(MemoryDescriptorList);
 }
 
 VOID MmProbeAndLockPages(PMDL MemoryDescriptorList, KPROCESSOR_MODE AccessMode, LOCK_OPERATION Operation)
 {
+    KZ_INSIDE();
     (void)AccessMode, (void)Operation;
     MemoryDescriptorList->MdlFlags |= MDL_PAGES_LOCKED;
 }
 
 VOID MmUnlockPages(PMDL MemoryDescriptorList)
 {
+    KZ_INSIDE();
     MemoryDescriptorList->MdlFlags &= ~MDL_PAGES_LOCKED;
 }
 
 PVOID MmMapLockedPagesSpecifyCache(PMDL MemoryDescriptorList, KPROCESSOR_MODE AccessMode, MEMORY_CACHING_TYPE CacheType, PVOID RequestedAddress,
                                    ULONG BugCheckOnFailure, ULONG Priority)
 {
+    KZ_INSIDE();
     (void)AccessMode, (void)CacheType, (void)RequestedAddress, (void)BugCheckOnFailure, (void)Priority;
     return MmGetMdlVirtualAddress(MemoryDescriptorList);
 }

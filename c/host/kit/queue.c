@@ -31,6 +31,7 @@ VOID FltCbdqDisable(PFLT_CALLBACK_DATA_QUEUE Cbdq)
 
 NTSTATUS FltCbdqInsertIo(PFLT_CALLBACK_DATA_QUEUE Cbdq, PFLT_CALLBACK_DATA Cbd, PFLT_CALLBACK_DATA_QUEUE_IO_CONTEXT Context, PVOID InsertContext)
 {
+    KZ_INSIDE();
     KIRQL irql = 0;
     Cbdq->Acquire(Cbdq, &irql);
     bool is_disabled = __atomic_load_n(&Cbdq->Flags, __ATOMIC_SEQ_CST) & FLTFL_CALLBACK_DATA_QUEUE_DISABLED;
@@ -43,6 +44,7 @@ NTSTATUS FltCbdqInsertIo(PFLT_CALLBACK_DATA_QUEUE Cbdq, PFLT_CALLBACK_DATA Cbd, 
 
 PFLT_CALLBACK_DATA FltCbdqRemoveNextIo(PFLT_CALLBACK_DATA_QUEUE Cbdq, PVOID PeekContext)
 {
+    KZ_INSIDE();
     KIRQL irql = 0;
     Cbdq->Acquire(Cbdq, &irql);
     PFLT_CALLBACK_DATA next = Cbdq->PeekNextIo(Cbdq, NULL, PeekContext);
@@ -54,6 +56,7 @@ PFLT_CALLBACK_DATA FltCbdqRemoveNextIo(PFLT_CALLBACK_DATA_QUEUE Cbdq, PVOID Peek
 
 PFLT_CALLBACK_DATA FltCbdqRemoveIo(PFLT_CALLBACK_DATA_QUEUE Cbdq, PFLT_CALLBACK_DATA_QUEUE_IO_CONTEXT Context)
 {
+    KZ_INSIDE();
     KIRQL irql = 0;
     PFLT_CALLBACK_DATA found = Context->Cbd;
     Context->Cbd = NULL;

@@ -5,6 +5,7 @@
 
 VOID RtlInitUnicodeString(PUNICODE_STRING DestinationString, PCWSTR SourceString)
 {
+    KZ_INSIDE();
     kz_check_text(SourceString, __func__);
     USHORT length = SourceString ? (USHORT)(KzWcslen(SourceString) * sizeof(WCHAR)) : 0;
     *DestinationString = (UNICODE_STRING){length, SourceString ? (USHORT)(length + sizeof(WCHAR)) : 0, (PWSTR)SourceString};
@@ -12,6 +13,7 @@ VOID RtlInitUnicodeString(PUNICODE_STRING DestinationString, PCWSTR SourceString
 
 NTSTATUS RtlInitUnicodeStringEx(PUNICODE_STRING DestinationString, PCWSTR SourceString)
 {
+    KZ_INSIDE();
     if (SourceString && KzWcslen(SourceString) > UNICODE_STRING_MAX_CHARS - 1)
         return STATUS_NAME_TOO_LONG;
     RtlInitUnicodeString(DestinationString, SourceString);
@@ -112,6 +114,7 @@ NTSTATUS RtlAppendUnicodeStringToString(PUNICODE_STRING Destination, PCUNICODE_S
 
 NTSTATUS RtlAppendUnicodeToString(PUNICODE_STRING Destination, PCWSTR Source)
 {
+    KZ_INSIDE();
     UNICODE_STRING text;
     RtlInitUnicodeString(&text, Source);
     return RtlAppendUnicodeStringToString(Destination, &text);
@@ -232,6 +235,7 @@ VOID RtlFreeAnsiString(PANSI_STRING AnsiString)
 
 NTSTATUS RtlDuplicateUnicodeString(ULONG Flags, PCUNICODE_STRING StringIn, PUNICODE_STRING StringOut)
 {
+    KZ_INSIDE();
     if (!StringIn->Length && !(Flags & RTL_DUPLICATE_UNICODE_STRING_ALLOCATE_NULL_STRING)) {
         *StringOut = (UNICODE_STRING){0};
         return STATUS_SUCCESS;
@@ -329,6 +333,7 @@ NTSTATUS RtlGUIDFromString(PCUNICODE_STRING GuidString, GUID *Guid)
 /* ---- ntstrsafe.h's counted strings. */
 NTSTATUS RtlUnicodeStringInit(PUNICODE_STRING To, NTSTRSAFE_PCWSTR From)
 {
+    KZ_INSIDE();
     return RtlInitUnicodeStringEx(To, From);
 }
 
@@ -348,6 +353,7 @@ NTSTATUS RtlUnicodeStringCopy(PUNICODE_STRING To, PCUNICODE_STRING From)
 
 NTSTATUS RtlUnicodeStringCopyString(PUNICODE_STRING To, NTSTRSAFE_PCWSTR From)
 {
+    KZ_INSIDE();
     UNICODE_STRING text;
     RtlInitUnicodeString(&text, From);
     return put(To, 0, &text);
@@ -360,6 +366,7 @@ NTSTATUS RtlUnicodeStringCat(PUNICODE_STRING To, PCUNICODE_STRING From)
 
 NTSTATUS RtlUnicodeStringCatString(PUNICODE_STRING To, NTSTRSAFE_PCWSTR From)
 {
+    KZ_INSIDE();
     UNICODE_STRING text;
     RtlInitUnicodeString(&text, From);
     return put(To, To->Length, &text);

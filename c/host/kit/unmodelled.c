@@ -8,6 +8,7 @@
 struct _FLT_PORT {
     PFLT_PORT next;
     PFLT_FILTER filter;
+    KzPlace place; /* where it was made */
 };
 
 static PFLT_PORT ports;
@@ -23,6 +24,7 @@ NTSTATUS FltBuildDefaultSecurityDescriptor(PSECURITY_DESCRIPTOR *SecurityDescrip
 
 VOID FltFreeSecurityDescriptor(PSECURITY_DESCRIPTOR SecurityDescriptor)
 {
+    KZ_INSIDE();
     if (SecurityDescriptor != &descriptor)
         kz_tell(KZM_NO_FILTER_OBJECT, __func__, "no security descriptor of FltBuildDefaultSecurityDescriptor");
 }
@@ -35,7 +37,7 @@ NTSTATUS FltCreateCommunicationPort(PFLT_FILTER Filter, PFLT_PORT *ServerPort, P
     (void)ObjectAttributes, (void)ServerPortCookie, (void)ConnectNotifyCallback, (void)DisconnectNotifyCallback, (void)MessageNotifyCallback, (void)MaxConnections;
     kz_tell(KZM_PORT, __func__, "the port is made, and nobody ever connects to it");
     PFLT_PORT made = kz_memory(sizeof *made);
-    *made = (struct _FLT_PORT){ports, Filter};
+    *made = (struct _FLT_PORT){ports, Filter, kz_me->place};
     ports = made;
     *ServerPort = made;
     return STATUS_SUCCESS;
@@ -55,6 +57,7 @@ VOID FltCloseCommunicationPort(PFLT_PORT ServerPort)
 
 VOID FltCloseClientPort(PFLT_FILTER Filter, PFLT_PORT *ClientPort)
 {
+    KZ_INSIDE();
     (void)Filter;
     *ClientPort = NULL;
 }
@@ -71,7 +74,7 @@ void kz_tell_ports(PFLT_FILTER filter)
 {
     for (PFLT_PORT one = ports; one; one = one->next)
         if (one->filter == filter) {
-            KzPlace before = kz_enter(KZ_IN_NOTHING, kz_worker(), filter, NULL, NULL, NULL);
+            KzPlace before = kz_enter_again(&one->place);
             kz_tell(KZM_PORT_LEAK, "FltCloseCommunicationPort", "never called for a port");
             kz_me->place = before;
         }
@@ -102,11 +105,13 @@ static void nothing(KzMessage message, const char *call)
 #define NONE(message, name, ...)        \
     NTSTATUS name(__VA_ARGS__)          \
     {                                   \
+        KZ_INSIDE();                    \
         return none((message), #name);  \
     }
 #define NOTHING_DONE(message, name, ...) \
     VOID name(__VA_ARGS__)               \
     {                                    \
+        KZ_INSIDE();                     \
         nothing((message), #name);       \
     }
 
@@ -225,18 +230,21 @@ NOTHING_DONE(KZM_CANCEL, FltCancelFileOpen, PFLT_INSTANCE Instance, PFILE_OBJECT
 
 BOOLEAN FltCancelIo(PFLT_CALLBACK_DATA CallbackData)
 {
+    KZ_INSIDE();
     nothing(KZM_CANCEL, __func__);
     return FALSE;
 }
 
 NTSTATUS FltSetCancelCompletion(PFLT_CALLBACK_DATA CallbackData, VOID (*CanceledCallback)(PFLT_CALLBACK_DATA CallbackData))
 {
+    KZ_INSIDE();
     kz_tell(KZM_CANCEL, __func__, "nothing is cancelled: the routine is never called");
     return STATUS_SUCCESS;
 }
 
 NTSTATUS FltClearCancelCompletion(PFLT_CALLBACK_DATA CallbackData)
 {
+    KZ_INSIDE();
     return STATUS_SUCCESS;
 }
 
@@ -268,6 +276,7 @@ NTSTATUS FltDeleteFileContext(PFLT_INSTANCE Instance, PFILE_OBJECT FileObject, P
 NTSTATUS FltSetTransactionContext(PFLT_INSTANCE Instance, PKTRANSACTION Transaction, FLT_SET_CONTEXT_OPERATION Operation, PFLT_CONTEXT NewContext,
                                   PFLT_CONTEXT *OldContext)
 {
+    KZ_INSIDE();
     if (OldContext)
         *OldContext = NULL;
     return none(KZM_TRANSACTION, __func__);
@@ -275,12 +284,14 @@ NTSTATUS FltSetTransactionContext(PFLT_INSTANCE Instance, PKTRANSACTION Transact
 
 NTSTATUS FltGetTransactionContext(PFLT_INSTANCE Instance, PKTRANSACTION Transaction, PFLT_CONTEXT *Context)
 {
+    KZ_INSIDE();
     *Context = NULL;
     return none(KZM_TRANSACTION, __func__);
 }
 
 NTSTATUS FltDeleteTransactionContext(PFLT_INSTANCE Instance, PKTRANSACTION Transaction, PFLT_CONTEXT *OldContext)
 {
+    KZ_INSIDE();
     if (OldContext)
         *OldContext = NULL;
     return none(KZM_TRANSACTION, __func__);
@@ -302,6 +313,7 @@ NONE(KZM_TRANSACTION, FltRollbackComplete, PFLT_INSTANCE Instance, PKTRANSACTION
 /* Oplocks: none is ever granted, so that none has to be broken. */
 VOID FltInitializeOplock(POPLOCK Oplock)
 {
+    KZ_INSIDE();
     *Oplock = NULL;
 }
 
@@ -312,6 +324,7 @@ VOID FltUninitializeOplock(POPLOCK Oplock)
 
 FLT_PREOP_CALLBACK_STATUS FltOplockFsctrl(POPLOCK Oplock, PFLT_CALLBACK_DATA CallbackData, ULONG OpenCount)
 {
+    KZ_INSIDE();
     CallbackData->IoStatus.Status = none(KZM_OPLOCK, __func__);
     return FLT_PREOP_COMPLETE;
 }
@@ -338,6 +351,7 @@ NTSTATUS FltCreateSectionForDataScan(PFLT_INSTANCE Instance, PFILE_OBJECT FileOb
                                      POBJECT_ATTRIBUTES ObjectAttributes, PLARGE_INTEGER MaximumSize, ULONG SectionPageProtection, ULONG AllocationAttributes,
                                      ULONG Flags, PHANDLE SectionHandle, PVOID *SectionObject, PLARGE_INTEGER SectionFileSize)
 {
+    KZ_INSIDE();
     *SectionHandle = NULL;
     *SectionObject = NULL;
     return none(KZM_SECTION, __func__);
@@ -442,6 +456,7 @@ NTSTATUS SeQueryInformationToken(PACCESS_TOKEN Token, ULONG TokenInformationClas
 
 PACCESS_TOKEN PsReferencePrimaryToken(PEPROCESS Process)
 {
+    KZ_INSIDE();
     nothing(KZM_SECURITY, __func__);
     return NULL;
 }

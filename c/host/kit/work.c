@@ -16,6 +16,7 @@ struct _FLT_GENERIC_WORKITEM {
     PVOID object, context, item;
     PFLT_FILTER filter;
     PVOID routine;
+    KzPlace place; /* where it was queued */
 };
 
 static PFLT_GENERIC_WORKITEM first, *last = &first;
@@ -52,13 +53,14 @@ static NTSTATUS queue(PFLT_GENERIC_WORKITEM item, Kind kind, PVOID object, PVOID
         kz_tell(KZM_WORK_LEFT, call, "a work item that is queued already");
         return STATUS_INVALID_PARAMETER;
     }
-    *item = (struct _FLT_GENERIC_WORKITEM){NULL, kind, false, object, context, item, kz_me->place.filter, routine};
+    *item = (struct _FLT_GENERIC_WORKITEM){NULL, kind, false, object, context, item, kz_me->place.filter, routine, kz_me->place};
     enqueue(item);
     return STATUS_SUCCESS;
 }
 
 PFLT_GENERIC_WORKITEM FltAllocateGenericWorkItem(VOID)
 {
+    KZ_INSIDE();
     return allocate('wgMF');
 }
 
@@ -86,6 +88,7 @@ NTSTATUS FltQueueGenericWorkItem(PFLT_GENERIC_WORKITEM FltWorkItem, PVOID FltObj
 
 PFLT_DEFERRED_IO_WORKITEM FltAllocateDeferredIoWorkItem(VOID)
 {
+    KZ_INSIDE();
     return allocate('wdMF');
 }
 
@@ -113,6 +116,7 @@ NTSTATUS FltQueueDeferredIoWorkItem(PFLT_DEFERRED_IO_WORKITEM FltWorkItem, PFLT_
 
 PIO_WORKITEM IoAllocateWorkItem(PDEVICE_OBJECT DeviceObject)
 {
+    KZ_INSIDE();
     PFLT_GENERIC_WORKITEM made = allocate('wiO ');
     if (made)
         made->object = DeviceObject;
@@ -169,7 +173,7 @@ static void run(PFLT_GENERIC_WORKITEM item)
     kz_me->thread = 8;
     item->is_queued = false;
     items_running++;
-    unsigned depth = kz_let_driver("work item");
+    unsigned depth = kz_let_driver("work item", item->routine);
     call(item);
     kz_driver_returned(depth, "work item returns");
     items_running--;
@@ -223,7 +227,7 @@ void kz_tell_work(PFLT_FILTER filter)
 {
     for (PFLT_GENERIC_WORKITEM one = first; one; one = one->next)
         if (one->filter == filter) {
-            KzPlace before = kz_enter(KZ_IN_NOTHING, kz_worker(), filter, NULL, NULL, NULL);
+            KzPlace before = kz_enter_again(&one->place);
             kz_tell(KZM_WORK_LEFT, "FltQueueGenericWorkItem", "a work item is queued still: it would run in a driver that is gone");
             kz_me->place = before;
         }

@@ -155,9 +155,9 @@ static KzTold register_with_manager(PFLT_FILTER filter, uint8_t contexts)
 
 NTSTATUS FltRegisterFilter(PDRIVER_OBJECT Driver, CONST FLT_REGISTRATION *Registration, PFLT_FILTER *RetFilter)
 {
+    KZ_INSIDE();
     (void)Driver;
     *RetFilter = NULL;
-    KZ_INSIDE();
     PFLT_FILTER filter = kz_me->place.filter;
     uint8_t contexts;
     if (kz_me->place.callback != KZ_IN_ENTRY || filter->is_registered) {
@@ -283,7 +283,7 @@ VOID FltUnregisterFilter(PFLT_FILTER Filter)
 static void call_unload(PFLT_FILTER filter, FLT_FILTER_UNLOAD_FLAGS flags)
 {
     KzPlace before = kz_enter(KZ_IN_UNLOAD, kz_worker(), filter, NULL, NULL, NULL);
-    unsigned depth = kz_let_driver("unload");
+    unsigned depth = kz_let_driver("unload", filter->registration.FilterUnloadCallback);
     NTSTATUS said = filter->registration.FilterUnloadCallback(flags);
     kz_driver_returned(depth, "unload returns");
     if (is_loaded(filter) && NT_SUCCESS(said)) {
@@ -368,7 +368,7 @@ static uint32_t enter(PFLT_FILTER filter, NTSTATUS *other)
 {
     KzPlace before = kz_enter(KZ_IN_ENTRY, kz_worker(), filter, NULL, NULL, NULL);
     name_driver(filter);
-    unsigned depth = kz_let_driver("DriverEntry");
+    unsigned depth = kz_let_driver("DriverEntry", filter->driver->entry);
     NTSTATUS said = filter->driver->entry(&filter->object, &filter->registry_path);
     kz_driver_returned(depth, "DriverEntry returns");
     kz_scheduler->touch(&filter->is_started, 0, KZT_GIVES);

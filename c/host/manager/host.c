@@ -152,6 +152,7 @@ static void free_all(void)
     kz_free_registry();
     kz_free_ports();
     kz_free_told();
+    kz_free_kept_texts();
     for (size_t at = 0; at < kz.filters_count; at++)
         free(kz.filters[at]);
     for (size_t at = 0; at < kz.volumes_count; at++)
@@ -166,6 +167,8 @@ static void free_all(void)
 /* All that is looked at once no request comes any more. */
 void kz_end(void)
 {
+    kz_me->request = NULL;
+    kz_me->line_number = 0;
     kz_unload_all();
     kz_tell_held();
     for (size_t at = 0; at < kz.filters_count; at++) {
@@ -176,6 +179,7 @@ void kz_end(void)
     kz_tell_objects();
     kz_tell_keys();
     kz_tell_gone();
+    kz_tell_again();
     KzCounts counts = kz_counts();
     kz_say(KZ_SAID_COUNTS, "contexts born %llu, cleaned %llu, leaked references %llu, told %llu, limits %llu\n", (unsigned long long)counts.born,
            (unsigned long long)counts.cleaned, (unsigned long long)counts.leaked, (unsigned long long)counts.told, (unsigned long long)counts.limits);

@@ -31,7 +31,7 @@ static bool set_up(PFLT_INSTANCE instance, FLT_INSTANCE_SETUP_FLAGS flags)
     PFLT_INSTANCE_SETUP_CALLBACK callback = instance->filter->registration.InstanceSetupCallback;
     KzPlace before = kz_enter(KZ_IN_SETUP, kz_worker(), instance->filter, instance, NULL, NULL);
     FLT_RELATED_OBJECTS objects = kz_objects(instance, NULL);
-    unsigned depth = kz_let_driver("setup");
+    unsigned depth = kz_let_driver("setup", callback);
     NTSTATUS said = callback ? callback(&objects, flags, instance->volume->device.DeviceType, instance->volume->type) : STATUS_SUCCESS;
     kz_driver_returned(depth, "setup returns");
     kz_scheduler->touch(&instance->id, 0, KZT_GIVES);
@@ -139,7 +139,7 @@ static uint32_t ask(PFLT_INSTANCE instance)
     instance->is_asked = true;
     KzPlace before = kz_enter(KZ_IN_QUERY, kz_worker(), instance->filter, instance, NULL, NULL);
     FLT_RELATED_OBJECTS objects = kz_objects(instance, NULL);
-    unsigned depth = kz_let_driver("query");
+    unsigned depth = kz_let_driver("query", instance->filter->registration.InstanceQueryTeardownCallback);
     NTSTATUS said = instance->filter->registration.InstanceQueryTeardownCallback(&objects, 0);
     kz_driver_returned(depth, "query returns");
     kz_keep_rest(NULL);
@@ -157,7 +157,7 @@ static void tell_teardown(PFLT_INSTANCE instance, KzCallback place, PFLT_INSTANC
     KzPlace before = kz_enter(place, kz_worker(), instance->filter, instance, NULL, NULL);
     FLT_RELATED_OBJECTS objects = kz_objects(instance, NULL);
     if (callback) {
-        unsigned depth = kz_let_driver(place == KZ_IN_START ? "teardown start" : "teardown complete");
+        unsigned depth = kz_let_driver(place == KZ_IN_START ? "teardown start" : "teardown complete", callback);
         callback(&objects, reason);
         kz_driver_returned(depth, place == KZ_IN_START ? "teardown start returns" : "teardown complete returns");
     }

@@ -54,6 +54,9 @@ static KzOp *new_op(uint64_t id, KazdrinEvent asked, KzFile *file, PFLT_VOLUME v
     op->caller_room = caller_room(asked);
     op->caller = kz_block(op, op->caller_room);
     op->maker = kz_me->number;
+    op->request = kz_me->request;
+    op->line = kz_me->line_number;
+    op->path = file->path[0] ? kz_kept_text(file->path) : NULL;
     KzOp **place = &kz.ops;
     while (*place && (*place)->maker < op->maker)
         place = &(*place)->next;
@@ -151,7 +154,7 @@ static FLT_PREOP_CALLBACK_STATUS ask_pre(KzOp *op, PFLT_INSTANCE instance, PVOID
         return FLT_PREOP_SUCCESS_WITH_CALLBACK;
     FLT_RELATED_OBJECTS objects = kz_objects(instance, op->file);
     op->stage = KZ_IN_PREOPERATION;
-    unsigned depth = kz_let_driver("preoperation");
+    unsigned depth = kz_let_driver("preoperation", callback);
     FLT_PREOP_CALLBACK_STATUS said = callback(op->data, &objects, completion);
     kz_driver_returned(depth, "preoperation returns");
     bool is_completed = op->stage == KZ_COMPLETED_IN_PRE;
@@ -221,6 +224,7 @@ static void pre(KzOp *op, PFLT_INSTANCE instance)
     if (kazdrin_pre_returned(&kz.manager, &verdict) == KZS_OK && said == FLT_PREOP_PENDING) {
         op->stage = KZ_HELD_BY_PRE;
         op->holder = instance;
+        op->holder_function = kz_registered(instance->filter, kz_major(op->event))->PreOperation;
     }
     if (!kz_owes(op, instance, &verdict))
         kz_leave_flight(op, instance);
@@ -272,7 +276,7 @@ static FLT_POSTOP_CALLBACK_STATUS call_when_safe(KzOp *op, const FLT_RELATED_OBJ
     op->stage = KZ_IN_POSTOPERATION;
     kz_me->process = 4;
     kz_me->thread = 8;
-    unsigned depth = kz_let_driver("postoperation when safe");
+    unsigned depth = kz_let_driver("postoperation when safe", safe.callback);
     said = safe.callback(op->data, objects, safe.completion, safe.flags);
     kz_driver_returned(depth, "postoperation when safe returns");
     kz_me->process = process;
@@ -291,7 +295,7 @@ static void post(KzOp *op, PFLT_INSTANCE instance, PVOID completion)
     FLT_RELATED_OBJECTS objects = kz_objects(instance, op->file);
     PFLT_POST_OPERATION_CALLBACK callback = kz_registered(instance->filter, kz_major(op->event))->PostOperation;
     op->stage = KZ_IN_POSTOPERATION;
-    unsigned depth = kz_let_driver("postoperation");
+    unsigned depth = kz_let_driver("postoperation", callback);
     FLT_POSTOP_CALLBACK_STATUS said = callback(op->data, &objects, completion, 0);
     kz_driver_returned(depth, "postoperation returns");
     if (op->safe.callback)
@@ -317,6 +321,7 @@ static void post(KzOp *op, PFLT_INSTANCE instance, PVOID completion)
     if (kazdrin_post_returned(&kz.manager, &verdict) == KZS_OK && is_more) {
         op->stage = KZ_HELD_BY_POST;
         op->holder = instance;
+        op->holder_function = kz_registered(instance->filter, kz_major(op->event))->PostOperation;
     } else {
         kz_leave_flight(op, instance);
     }
@@ -336,7 +341,7 @@ static void drain(KzOp *op, PFLT_INSTANCE instance, PVOID completion)
     PFLT_POST_OPERATION_CALLBACK callback = kz_registered(instance->filter, kz_major(op->event))->PostOperation;
     op->users++;
     kz_scheduler->touch(&op->users, 0, KZT_TAKES);
-    unsigned depth = kz_let_driver("drain");
+    unsigned depth = kz_let_driver("drain", callback);
     FLT_POSTOP_CALLBACK_STATUS said = callback(&data, &objects, completion, FLTFL_POST_OPERATION_DRAINING);
     kz_driver_returned(depth, "drain returns");
     if (said != FLT_POSTOP_FINISHED_PROCESSING)
@@ -624,6 +629,7 @@ void kz_tell_held(void)
             continue;
         bool is_pre = op->stage == KZ_HELD_BY_PRE;
         KzPlace before = kz_enter(is_pre ? KZ_IN_PRE : KZ_IN_POST, kz_worker(), op->holder->filter, op->holder, op, NULL);
+        kz_me->place.function = op->holder_function;
         kz_tell(KZM_NEVER_COMPLETED, is_pre ? "FltCompletePendedPreOperation" : "FltCompletePendedPostOperation", "never called for an operation that is held");
         kz_me->place = before;
     }

@@ -22,15 +22,28 @@ void kz_new_client(KzClient *client, const char *name, unsigned number)
     client->busy_number = 0;
     client->names_count = 0;
     client->waits[0] = 0;
+    client->request = NULL;
+    client->line_number = 0;
+    memset(client->taken, 0, sizeof client->taken);
 }
 
-/* A driver's own call is looked at: whether it may be made at that IRQL. */
-unsigned kz_go_inside(const char *name)
+unsigned kz_go_inside_unsaid(void)
 {
     if (kz_me->inside > 0)
         return kz_me->inside++;
     kz_scheduler->lock();
     kz_me->inside = 1;
+    return 0;
+}
+
+/* A driver's own call is looked at: whether it may be made at that IRQL. */
+unsigned kz_go_inside(const char *name, const void *from)
+{
+    unsigned depth = kz_go_inside_unsaid();
+    if (depth > 0)
+        return depth;
+    kz_me->place.call = name;
+    kz_me->place.from = from;
     kz_check_irql(name);
     return 0;
 }
@@ -39,23 +52,36 @@ unsigned kz_begin_call(const char *name, const void *from)
 {
     if (kz_me->inside == 0)
         kz_scheduler->point(name, from);
-    return kz_go_inside(name);
+    return kz_go_inside(name, from);
 }
 
-void kz_end_call(unsigned *depth)
+void kz_end_inside(unsigned *depth)
 {
     kz_me->inside = *depth;
     if (*depth == 0)
         kz_scheduler->unlock();
 }
 
-unsigned kz_let_driver(const char *name)
+void kz_end_call(unsigned *depth)
+{
+    if (*depth == 0)
+        kz_me->place.call = kz_me->place.from = NULL;
+    kz_end_inside(depth);
+}
+
+static unsigned step_out(const char *name)
 {
     unsigned depth = kz_me->inside;
     kz_me->inside = 0;
     kz_scheduler->unlock();
     kz_scheduler->point(name, NULL);
     return depth;
+}
+
+unsigned kz_let_function(const char *name, const void *function)
+{
+    kz_me->place.function = function;
+    return step_out(name);
 }
 
 void kz_driver_returned(unsigned depth, const char *name)
@@ -67,7 +93,7 @@ void kz_driver_returned(unsigned depth, const char *name)
 
 void kz_pause(const char *name)
 {
-    kz_driver_returned(kz_let_driver(name), NULL);
+    kz_driver_returned(step_out(name), NULL);
 }
 
 static bool wait_as(KzWaits why, KzCan *can, void *what, const char *format, va_list arguments)
@@ -147,6 +173,12 @@ void kz_unmark(char *room, size_t size, const char *text)
 
 void kz_print(const KzSaid *said)
 {
+    char line[1800];
+    if (said->kind == KZ_SAID_TOLD || said->kind == KZ_SAID_LIMIT || said->kind == KZ_SAID_AGAIN) {
+        kz_readable(line, sizeof line, said->text);
+        fputs(line, stdout);
+        return;
+    }
     for (const char *text = said->text; *text;) {
         size_t length = strcspn(text, KZ_MARK);
         fwrite(text, 1, length, stdout);

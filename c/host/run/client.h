@@ -4,9 +4,17 @@
 
 #define KZ_LINE (2 * KZ_BYTES + 64)
 
+/* A reference to a context that a callback holds: by which call it took it, and where. No body if there is none. */
+typedef struct {
+    const void *body;
+    KzPlace place;
+} KzTaken;
+enum { KZ_TAKEN = 64 };
+
 struct KzClient {
     const char *name;
     KzPlace place;
+    KzTaken taken[KZ_TAKEN]; /* those that its callbacks hold, as far as there is room */
     uint64_t places; /* how many callbacks it was in */
     KazdrinEvent busy;     /* the event that was refused with 34; event 0 if none was */
     uint64_t busy_number;  /* how many were in its way */
@@ -23,6 +31,8 @@ struct KzClient {
     uint64_t timeout; /* of its wait, in milliseconds; 0 if it has none */
     KzWaits why;      /* it waits, and for what */
     char waits[160];
+    const char *request; /* what it asks for, in words, for what is told; NULL if that isn't known */
+    unsigned line_number; /* in its file; 0 if it isn't of one */
     char line[KZ_LINE];
     uint8_t bytes[KZ_BYTES];
     uint8_t room[KZ_BYTES + 64]; /* for the bytes of an answer, or of what is lent: whoever asks for them names it */
@@ -56,6 +66,9 @@ typedef struct {
     bool has_others; /* clients run beside one another, and work items beside them */
 } KzScheduler;
 
+/* A request, and how it is said where something is told; NULL is as it stands. What is said must stay until the end of the run. */
+KzReply kz_request_as(const char *line, const char *asked);
+
 /* A request of a scenario: $ in it is the handle of the client's last create. */
 KzReply kz_scripted_request(const char *line, uint64_t *handle);
 
@@ -64,14 +77,18 @@ extern const KzScheduler *kz_scheduler;
 
 /* ---- Calls of the host. The outermost one has a point before it, or none where no other client can tell. */
 unsigned kz_begin_call(const char *name, const void *from);
-unsigned kz_go_inside(const char *name);
+unsigned kz_go_inside(const char *name, const void *from);
+/* Inside, for what isn't a driver's own call. */
+unsigned kz_go_inside_unsaid(void);
 void kz_end_call(unsigned *depth);
+void kz_end_inside(unsigned *depth);
 #define KZ_CALL_OF(name) __attribute__((cleanup(kz_end_call), unused)) unsigned kz_depth = kz_begin_call((name), __builtin_return_address(0))
 #define KZ_CALL() KZ_CALL_OF(__func__)
-#define KZ_INSIDE() __attribute__((cleanup(kz_end_call), unused)) unsigned kz_depth = kz_go_inside(__func__)
+#define KZ_INSIDE_UNSAID() __attribute__((cleanup(kz_end_inside), unused)) unsigned kz_depth = kz_go_inside_unsaid()
+#define KZ_INSIDE_OF(name) __attribute__((cleanup(kz_end_call), unused)) unsigned kz_depth = kz_go_inside((name), __builtin_return_address(0))
+#define KZ_INSIDE() KZ_INSIDE_OF(__func__)
 
-/* A driver's code begins, and has returned: nobody is inside meanwhile. */
-unsigned kz_let_driver(const char *name);
+/* A driver's code begins (host.h has kz_let_driver), and has returned: nobody is inside meanwhile. */
 void kz_driver_returned(unsigned depth, const char *name);
 /* The client steps out of the host for a moment. */
 void kz_pause(const char *name);

@@ -1,7 +1,9 @@
 /* A crash says where it was, and then ends the program as it would have. Only calls that are safe in a signal's handler are made. */
+#define _GNU_SOURCE
 #include "host.h"
 
 #include <signal.h>
+#include <ucontext.h>
 #include <unistd.h>
 
 static const int signals[] = {SIGSEGV, SIGBUS, SIGABRT, SIGFPE, SIGILL};
@@ -15,9 +17,16 @@ static void put(const char *text)
     (void)written;
 }
 
-static void tell(const char *what)
+/* Where it was: in the driver's own code there, or in a call of it. */
+static bool find(const void *at, char *line, size_t size)
 {
-    char marked[256], place[256];
+    const KzPlace *place = &kz_me->place;
+    return (at && kz_find_source(kz_in_file(at) + 1, line, size)) || (place->from && kz_find_source(kz_in_file(place->from), line, size));
+}
+
+static void tell(const char *what, const void *at)
+{
+    char marked[256], place[256], line[100];
     if (was_told)
         return;
     was_told = 1;
@@ -27,9 +36,17 @@ static void tell(const char *what)
     kz_place_text(marked, sizeof marked);
     kz_unmark(place, sizeof place, marked);
     put(place);
-    if (kz_me->place.data && kz_me->place.op) {
+    if (find(at, line, sizeof line)) {
+        put(", at ");
+        put(line);
+    }
+    if (kz_me->place.path) {
+        put(", \\");
+        put(kz_me->place.path);
+    }
+    if (kz_me->place.request) {
         put(", ");
-        put(FltGetIrpName(kz_major(kz_me->place.op->event)));
+        put(kz_me->place.request);
     }
     put("\n");
 }
@@ -50,10 +67,21 @@ static const char *name_of(int signal)
     }
 }
 
+/* Where the program stood. */
+static const void *code_at(const void *context)
+{
+#ifdef __x86_64__
+    return (const void *)(uintptr_t)((const ucontext_t *)context)->uc_mcontext.gregs[REG_RIP];
+#else
+    (void)context;
+    return NULL;
+#endif
+}
+
 /* What was there before goes on: a sanitizer's report, or the end. */
 static void handle(int signal, siginfo_t *information, void *context)
 {
-    tell(name_of(signal));
+    tell(name_of(signal), code_at(context));
     for (size_t at = 0; at < sizeof signals / sizeof signals[0]; at++) {
         if (signals[at] != signal)
             continue;
@@ -70,7 +98,7 @@ static void handle(int signal, siginfo_t *information, void *context)
 void __asan_on_error(void);
 void __asan_on_error(void)
 {
-    tell("address sanitizer");
+    tell("address sanitizer", NULL);
 }
 
 void kz_watch_crashes(void)

@@ -85,23 +85,32 @@ void kz_note_callback(KzCallback callback, PFLT_FILTER filter)
     kz_report_event("Callback", members);
 }
 
+static void note_message(const KzSaid *said, bool is_counted)
+{
+    if (told_count == sizeof told / sizeof told[0])
+        return;
+    told[told_count].message = said->message;
+    told[told_count].is_counted = is_counted;
+    told[told_count++].is_expected = false;
+}
+
 void kz_note_told(const KzSaid *said, bool is_counted)
 {
-    char members[2400], quoted[2200], text[1024], id[16];
+    char text[1800], id[16];
     if (!is_watched())
         return;
+    note_message(said, is_counted);
+    if (!on_told)
+        return;
     snprintf(id, sizeof id, "KZ%04d", said->message);
-    kz_unmark(text, sizeof text, said->text);
-    if (on_told)
-        on_told(id, text);
-    if (told_count < sizeof told / sizeof told[0]) {
-        told[told_count].message = said->message;
-        told[told_count].is_counted = is_counted;
-        told[told_count++].is_expected = false;
-    }
-    kz_json_text(quoted, sizeof quoted, text);
-    snprintf(members, sizeof members, "\"id\": \"%s\", \"text\": %s", id, quoted);
-    kz_report_event(is_counted ? "Told" : "Limit", members);
+    kz_readable(text, sizeof text, said->text);
+    on_told(id, text);
+}
+
+void kz_note_again(const KzSaid *said)
+{
+    if (is_watched())
+        note_message(said, true);
 }
 
 void kz_note_reply(KzReply answer, const uint8_t *from, size_t size)

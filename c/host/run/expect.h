@@ -8,6 +8,8 @@
 void kz_note_request(const char *words);
 void kz_note_callback(KzCallback callback, PFLT_FILTER filter);
 void kz_note_told(const KzSaid *said, bool is_counted);
+/* One that is no line of its own. */
+void kz_note_again(const KzSaid *said);
 void kz_note_reply(KzReply reply, const uint8_t *bytes, size_t length);
 bool kz_fails_now(KzChoice what);
 /* A run begins with no call that is to fail. */
@@ -28,6 +30,8 @@ const char *kz_callback_word(KzCallback callback);
 /* report.c */
 bool kz_is_json(void);
 void kz_report_event(const char *event, const char *members);
+/* What is told: its line, and beside it what stands there, member by member. */
+void kz_report_told(const KzSaid *said);
 void kz_report_expectation(const char *words, const char *unmet);
 void kz_report_end(const char *file, int status);
 void kz_json_text(char *room, size_t size, const char *text);

@@ -30,7 +30,7 @@ KzReply kz_scripted_request(const char *line, uint64_t *handle)
     const char *dollar = strchr(line, '$');
     if (dollar)
         snprintf(words, sizeof words, "%.*s%llu%s", (int)(dollar - line), line, (unsigned long long)*handle, dollar + 1);
-    KzReply reply = kz_request(dollar ? words : line);
+    KzReply reply = kz_request_as(dollar ? words : line, line);
     if (reply.is_handle)
         *handle = reply.information;
     return reply;

@@ -19,7 +19,7 @@ typedef struct {
 
 static int usage(const char *name)
 {
-    fprintf(stderr, "usage: %s [--allow KZ0000].. [--strict] [--quiet] [--json] [--junit FILE] [--folder FOLDER] [--dispatch none|data|all] [REQUESTS.. | --load SCENARIO [--threads N] [--seconds S] [--seed N]]\n", name);
+    fprintf(stderr, "usage: %s [--allow KZ0000].. [--strict] [--quiet] [--json] [--junit FILE] [--folder FOLDER] [--dispatch none|data|all] [REQUESTS.. | --load SCENARIO [--threads N] [--seconds S] [--seed N]]\n       %s --explain KZ0000\n", name, name);
     return 2;
 }
 
@@ -77,9 +77,19 @@ static int run_files(const Asked *asked)
     return status;
 }
 
+static int explain(const char *id)
+{
+    if (kz_explain(id))
+        return 0;
+    fprintf(stderr, "%s: no number of what is told, as KZ0101 is one\n", id);
+    return 2;
+}
+
 int main(int count, char **words)
 {
     const char *name = words[0];
+    if (count == 3 && strcmp(words[1], "--explain") == 0)
+        return explain(words[2]);
     Asked asked = {.threads = 4, .seconds = 10, .seed = 1, .files = words}; /* those that are read make room for those that are files */
     if (!read_words(count, words, &asked))
         return usage(name);

@@ -1,6 +1,7 @@
 /* Reports for other programs: an object of JSON a line, and a file of JUnit with a test case for each expectation. */
 #include "run/expect.h"
 
+#include <stdarg.h>
 #include <stdlib.h>
 
 static bool is_json;
@@ -53,6 +54,71 @@ void kz_report_event(const char *event, const char *members)
         return;
     kz_json_text(words, sizeof words, kz_command());
     printf("{\"line\": %u, \"command\": %s, \"event\": \"%s\"%s%s}\n", kz_line(), words, event, *members ? ", " : "", members);
+}
+
+/* ---- What is told. */
+typedef struct {
+    char text[6000];
+    size_t used;
+} Members;
+
+__attribute__((format(printf, 2, 3))) static void add(Members *members, const char *format, ...)
+{
+    va_list arguments;
+    va_start(arguments, format);
+    int put = vsnprintf(members->text + members->used, sizeof members->text - members->used, format, arguments);
+    va_end(arguments);
+    members->used += (size_t)put < sizeof members->text - members->used ? (size_t)put : sizeof members->text - members->used - 1;
+}
+
+static void add_text(Members *members, const char *name, const char *text)
+{
+    char quoted[2200];
+    if (!text)
+        return;
+    kz_json_text(quoted, sizeof quoted, text);
+    add(members, ", \"%s\": %s", name, quoted);
+}
+
+static void add_source(Members *members, const KzPlace *place)
+{
+    char line[100];
+    uintptr_t address = place->from ? kz_in_file(place->from) : place->function ? kz_in_file(place->function) + 1 : 0;
+    if (address && kz_find_source(address, line, sizeof line))
+        add_text(members, "source", line);
+    add_text(members, "call", place->from ? place->call : NULL);
+}
+
+static void add_place(Members *members, const KzSaid *said)
+{
+    const KzPlace *place = said->place;
+    add_text(members, "filter", place->filter ? place->filter->driver->name : NULL);
+    if (place->instance)
+        add(members, ", \"instance\": %u", place->instance->id);
+    add_text(members, "callback", kz_callback_word(place->callback));
+    if (place->op)
+        add(members, ", \"operation\": %llu, \"major\": \"%s\"", (unsigned long long)place->op_id, FltGetIrpName(kz_major(place->event)));
+    add_text(members, "request", place->request);
+    if (place->line)
+        add(members, ", \"request_line\": %u", place->line);
+    add_text(members, "path", place->path);
+    add_source(members, place);
+    if (said->object)
+        add(members, ", \"object\": \"%p\"", said->object);
+}
+
+void kz_report_told(const KzSaid *said)
+{
+    Members members = {.used = 0};
+    char text[1800];
+    if (!is_json || kz_scheduler != &kz_in_order)
+        return;
+    kz_readable(text, sizeof text, said->text);
+    text[strcspn(text, "\n")] = 0;
+    add(&members, "\"id\": \"KZ%04d\"", said->message);
+    add_text(&members, "text", text);
+    add_place(&members, said);
+    kz_report_event(said->kind == KZ_SAID_AGAIN ? "Again" : said->kind == KZ_SAID_TOLD ? "Told" : "Limit", members.text);
 }
 
 static char *copy_of(const char *text)

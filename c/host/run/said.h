@@ -14,6 +14,7 @@ typedef enum {
     KZ_SAID_BY_DRIVER,
     KZ_SAID_TOLD,
     KZ_SAID_LIMIT,
+    KZ_SAID_AGAIN, /* how often what was told came up again, at the end of a run */
     KZ_SAID_COUNTS,
     KZ_SAID_ELSE
 } KzKind;

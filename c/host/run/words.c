@@ -379,7 +379,7 @@ static size_t split(char *line, char **words)
     return count;
 }
 
-KzReply kz_request(const char *line)
+KzReply kz_request_as(const char *line, const char *asked)
 {
     char *words[WORDS + 1];
     const char *expected = line + strspn(line, " \t");
@@ -399,6 +399,8 @@ KzReply kz_request(const char *line)
         note_unexpected();
     seen.requests++;
     kz_note_request(line);
+    kz_me->request = asked ? asked : kz_kept_text(expected);
+    kz_me->line_number = kz_scheduler == &kz_in_order ? kz_line() : 0;
     kz_forget_busy();
     kz_tick();
     kz_say(KZ_SAID_REQUEST, ">");
@@ -409,6 +411,11 @@ KzReply kz_request(const char *line)
         if (strcmp(requests[at].name, words[0]) == 0)
             return count >= requests[at].least && count <= requests[at].most ? requests[at].ask(words) : wrong();
     return wrong();
+}
+
+KzReply kz_request(const char *line)
+{
+    return kz_request_as(line, NULL);
 }
 
 int kz_run(const KzDriver *drivers, size_t count, const char *const *lines, size_t length)

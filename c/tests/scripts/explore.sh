@@ -25,7 +25,7 @@ play() {
 # What a search found, each kind in a line, without the numbers and names in which two schedules differ.
 kinds() {
     awk '/ schedules:$/ { text = ""; inside = 1; next } /^  the shortest:/ { print text; inside = 0; next } inside { text = text "|" $0 }' "$1" |
-        sed 's/operation [0-9]*/operation N/g; s/([a-z]*)/()/g' | sort
+        sed -E 's/operation [0-9]*/operation N/g; s/\([a-z]*\)/()/g; s/(, (at|in) [^,|]*)[^|]*/\1/g' | sort
 }
 
 # Known states are left out soundly: a program finds the kinds of ends in "$room/kinds" without them, too.

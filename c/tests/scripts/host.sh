@@ -53,6 +53,22 @@ tell $? "strict"
 [ $? = 5 ] && ! grep -q KZ0130 "$room/allow.out" && tail -n 1 "$room/allow.out" | grep -q "told 7, limits 3"
 tell $? "allow"
 
+# One line a place: what comes up again is counted.
+{
+    printf 'load answers\nattach 0 0 a 100\ncreate 0 new denied\n'
+    for at in $(seq 1000); do echo "write 0 0 61626364"; done
+} > "$room/again.txt"
+"$room/drivers" "$room/again.txt" > "$room/again.out"
+[ $? = 5 ] && [ "$(grep -c '^TOLD KZ0130' "$room/again.out")" = 2 ] && grep -q "^TOLD KZ0130 FLT_IO_PARAMETER_BLOCK: told 999 more times: .*, in answers.c:" "$room/again.out" &&
+    tail -n 1 "$room/again.out" | grep -q "told 1001, "
+tell $? "one line a place"
+
+# What each number means: the page has the rows of the program.
+"$room/drivers" --explain all > "$room/rows" && grep '^| KZ0' docs/TOLD.md | diff - "$room/rows"
+tell $? "docs/TOLD.md beside what the program says"
+[ "$("$room/drivers" --explain KZ0141 | sed -n 2p)" = "on Windows: a leak; the Verifier stops" ] && ! "$room/drivers" --explain KZ0999 2> "$room/none.err" && grep -q KZ0999 "$room/none.err"
+tell $? "explain"
+
 # Expectations: their exit statuses, and reports for other programs.
 "$room/drivers" --allow KZ0141 --json --junit "$room/expects.xml" $tests/requests/expects.txt > "$room/expects.json"
 tell $? "expectations that are met"
@@ -86,6 +102,7 @@ says 3 'is a folder' "$room"
 tell $? "a folder as a file of requests"
 
 if command -v python3 > /dev/null; then
+    "$room/drivers" --json $tests/requests/leaks.txt > "$room/leaks.json"
     python3 $tests/scripts/reports.py "$room"
     tell $? "JSON and JUnit, as they are read,"
     python3 $tests/scripts/numbers.py

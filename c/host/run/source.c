@@ -1,0 +1,132 @@
+/* Lines of sources, by the debug information of the program: addr2line of the binutils is asked, once for each address, and only when a line is told. A crash asks too, in its
+ * signal's handler: so nothing is called here that isn't safe there. */
+#include "host.h"
+
+#include <elf.h>
+#include <fcntl.h>
+#include <sys/wait.h>
+#include <unistd.h>
+
+extern const Elf64_Ehdr __ehdr_start __attribute__((visibility("hidden")));
+
+enum { KNOWN = 256, LONGEST = 80 };
+
+static struct {
+    uintptr_t address;
+    char line[LONGEST]; /* empty if there is none */
+} known[KNOWN];
+
+uintptr_t kz_in_file(const void *address)
+{
+    return (uintptr_t)address - (__ehdr_start.e_type == ET_DYN ? (uintptr_t)&__ehdr_start : 0);
+}
+
+/* ---- The program that knows. */
+static void put_number(char *room, uintptr_t number)
+{
+    int digits = 1;
+    while (digits < 16 && number >> 4 * digits)
+        digits++;
+    room[digits] = 0;
+    for (; digits > 0; number >>= 4)
+        room[--digits] = "0123456789abcdef"[number & 15];
+}
+
+/* In a child: it becomes addr2line, which writes to the pipe. */
+static void become(const char *program, const char *address, int to)
+{
+    int silence = open("/dev/null", O_RDWR);
+    dup2(silence, STDIN_FILENO);
+    dup2(to, STDOUT_FILENO);
+    dup2(silence, STDERR_FILENO);
+    execl("/usr/bin/env", "env", "addr2line", "-i", "-e", program, address, (char *)NULL);
+    _exit(1);
+}
+
+static size_t read_all(int from, char *room, size_t size)
+{
+    size_t used = 0;
+    ssize_t got = 1;
+    while (got > 0 && used + 1 < size) {
+        got = read(from, room + used, size - 1 - used);
+        used += got > 0 ? (size_t)got : 0;
+    }
+    room[used] = 0;
+    return used;
+}
+
+static size_t ask(uintptr_t address, char *room, size_t size)
+{
+    char program[512]; /* on the stack: the explorer guards all other memory */
+    char number[20];
+    int ends[2];
+    ssize_t length = readlink("/proc/self/exe", program, sizeof program - 1);
+    room[0] = 0;
+    if (length <= 0 || pipe(ends) != 0)
+        return 0;
+    program[length] = 0;
+    put_number(number, address);
+    pid_t child = fork();
+    if (child == 0)
+        become(program, number, ends[1]);
+    close(ends[1]);
+    size_t used = child > 0 ? read_all(ends[0], room, size) : 0;
+    close(ends[0]);
+    if (child > 0)
+        waitpid(child, NULL, 0);
+    return used;
+}
+
+/* ---- Lines. */
+/* The innermost one that is neither in the kit's headers, whose functions are put in place of their calls, nor in the host. */
+static void find(uintptr_t address, char *line)
+{
+    char all[4096];
+    ask(address, all, sizeof all);
+    line[0] = 0;
+    for (char *at = all, *end; *at && !*line; at = end) {
+        end = at + strcspn(at, "\n");
+        end += *end == '\n';
+        end[-1] = 0;
+        if (at[0] == '?' || strstr(at, "/c/include/") || strstr(at, "/c/host/"))
+            continue;
+        const char *slash = strrchr(at, '/');
+        const char *name = slash ? slash + 1 : at;
+        size_t length = strcspn(name, " ");
+        if (length < LONGEST && name[length - 1] != '?')
+            ((char *)memcpy(line, name, length))[length] = 0;
+    }
+}
+
+bool kz_find_source(uintptr_t address, char *room, size_t size)
+{
+    size_t at = (address >> 1) % KNOWN;
+    if (known[at].address != address) {
+        find(address - 1, known[at].line);
+        known[at].address = address;
+    }
+    snprintf(room, size, "%s", known[at].line);
+    return known[at].line[0];
+}
+
+/* An address stands behind an @, with a space in front. */
+void kz_readable(char *room, size_t size, const char *text)
+{
+    size_t used = 0;
+    char line[LONGEST];
+    while (*text && used + 1 < size) {
+        unsigned long address;
+        int length = 0;
+        if (text[0] == ' ' && text[1] == '@' && sscanf(text + 2, "%lx%n", &address, &length) == 1 && address > 4096) {
+            bool is_found = kz_find_source(address, line, sizeof line);
+            int put = is_found ? snprintf(room + used, size - used, " %s", line) : snprintf(room + used, size - used, " 0x%lx", address);
+            used += (size_t)put < size - used ? (size_t)put : size - used - 1;
+            text += 2 + length;
+        } else if (*text == KZ_MARK[0]) {
+            text++;
+        } else {
+            room[used++] = *text++;
+        }
+    }
+    room[used] = 0;
+}

@@ -69,7 +69,8 @@ void below_sync(fuse_req_t request, fuse_ino_t number, int is_data_alone, struct
     Mount *mount = fuse_req_userdata(request);
     (void)is_data_alone, (void)info;
     Look look = look_at(mount, number);
-    int error = mount->below == -1 ? EINVAL : sync_path(mount->below, look.path[0] ? look.path : ".");
+    /* A server writes a name out before it answers the create or the deletion, so that without the folder there is nothing left to do. */
+    int error = mount->below == -1 ? 0 : sync_path(mount->below, look.path[0] ? look.path : ".");
     fuse_reply_err(request, error);
 }
 

@@ -69,6 +69,36 @@ static KzFolderAnswer done(int file, bool is_right)
     return refused(error);
 }
 
+/* The folder in which a file lies. */
+static int open_above(const KzFolder *folder, const char *path)
+{
+    char above[LONGEST_PATH + 1] = ".";
+    const char *slash = strrchr(path, '/');
+    if (slash) {
+        memcpy(above, path, (size_t)(slash - path));
+        above[slash - path] = '\0';
+    }
+    return open_below(folder, above, O_RDONLY | O_DIRECTORY);
+}
+
+/* Has the host write out the names in a folder. One that can't sync a folder has nothing to write out there. */
+static bool sync_names(int place)
+{
+    return place != -1 && (fsync(place) == 0 || errno == EINVAL);
+}
+
+/* The same of the folder in which a file lies. */
+static bool sync_above(const KzFolder *folder, const char *path)
+{
+    int place = open_above(folder, path);
+    bool is_right = sync_names(place);
+    int error = errno;
+    if (place != -1)
+        close(place);
+    errno = error;
+    return is_right;
+}
+
 static KzFolderAnswer create_existing(const KzFolder *folder, const char *path)
 {
     struct stat found;
@@ -83,7 +113,7 @@ static KzFolderAnswer create(const KzFolder *folder, const char *path, uint8_t m
     int file = open_below(folder, path, O_WRONLY | O_CREAT | O_EXCL);
     if (file == -1 && errno == EEXIST && mode == 2)
         return create_existing(folder, path);
-    return done(file, file != -1);
+    return done(file, file != -1 && sync_above(folder, path));
 }
 
 /* Reads until there are so many, or the file ends: how many, or -1. */
@@ -157,23 +187,18 @@ static KzFolderAnswer flush(const KzFolder *folder, const char *path)
 {
     struct stat found;
     int file = open_regular(folder, path, O_RDONLY, &found);
-    return done(file, file != -1 && fsync(file) == 0);
+    return done(file, file != -1 && fsync(file) == 0 && sync_above(folder, path));
 }
 
 /* A link is taken away, and not what it leads to. */
 static KzFolderAnswer unlink_file(const KzFolder *folder, const char *path)
 {
-    char above[LONGEST_PATH + 1] = ".";
     const char *slash = strrchr(path, '/');
     KzFolderAnswer answer = create_existing(folder, path);
     if (answer.status != KZS_OK)
         return answer;
-    if (slash) {
-        memcpy(above, path, (size_t)(slash - path));
-        above[slash - path] = '\0';
-    }
-    int place = open_below(folder, above, O_PATH | O_DIRECTORY);
-    return done(place, place != -1 && unlinkat(place, slash ? slash + 1 : path, 0) == 0);
+    int place = open_above(folder, path);
+    return done(place, place != -1 && unlinkat(place, slash ? slash + 1 : path, 0) == 0 && sync_names(place));
 }
 
 static KzFolderAnswer list(const KzFolder *folder)

@@ -156,9 +156,9 @@ def sync(path):
 
 
 def syncs(tally, tools):
-    """A sync of a folder reaches the folder below, or is refused."""
+    """A sync of a folder reaches the folder below; without that it has nothing to do, since servers write names out."""
     with Ground(tally, tools) as ground:
-        tally.call("a folder's sync without the folder below", "EINVAL", sync, ground.mount)
+        tally.call("a folder's sync without the folder below", None, sync, ground.mount)
     with Ground(tally, tools, "below={host}", "folders=in:not") as ground:
         os.mkdir(ground.below("in"))
         tally.call("a folder's sync", None, sync, ground.mount)

@@ -8,6 +8,7 @@ use crate::paths::joined;
 use fm_types::{Bytes, CreateMode, RelPath};
 use std::fs::{File, OpenFile, OpenOptions};
 use std::io::{ErrorKind, Read, Seek, SeekFrom, Write};
+use std::path::Path;
 use std::rt::Files;
 use std::{fs, io};
 
@@ -23,9 +24,21 @@ fn open_existing(rt: &impl Files, path: &str) -> io::Result<()> {
     Ok(())
 }
 
+// Has the host write out the names in the folder of a file. Where it can't sync a folder there is nothing to
+// write out.
+fn sync_folder(rt: &impl Files, path: &str) -> io::Result<()> {
+    let Some(folder) = Path::new(path).parent() else {
+        return Ok(());
+    };
+    match fs::open(rt, folder)?.sync_all() {
+        Err(error) if error.kind() == ErrorKind::InvalidInput => Ok(()),
+        told => told,
+    }
+}
+
 fn make_new(rt: &impl Files, path: &str) -> io::Result<()> {
     let _file = File::create_new(rt, path)?;
-    Ok(())
+    sync_folder(rt, path)
 }
 
 // A file that is there, to be written.
@@ -34,7 +47,8 @@ fn open_to_write<R: Files>(rt: &R, path: &str) -> io::Result<R::File> {
     OpenOptions::new().write(true).open(rt, path)
 }
 
-/// Opens or makes a file; one that is there keeps its bytes.
+/// Opens or makes a file; one that is there keeps its bytes. The name of one that is made is written out, so
+/// that it is there after a power cut.
 pub fn create<R: Files + AllocGlobal>(
     rt: &R,
     folder: &str,
@@ -150,16 +164,18 @@ pub fn set_size<R: Files + AllocGlobal>(
     open_to_write(rt, whole.as_str())?.set_len(size)
 }
 
-/// Has the host write out what it buffers of a file.
+/// Has the host write out what it buffers of a file, and its name.
 pub fn flush<R: Files + AllocGlobal>(rt: &R, folder: &str, path: &RelPath) -> io::Result<()> {
     let whole = joined(rt.alloc(), folder, path)?;
     open_existing(rt, whole.as_str())?;
-    fs::open(rt, whole.as_str())?.sync_all()
+    fs::open(rt, whole.as_str())?.sync_all()?;
+    sync_folder(rt, whole.as_str())
 }
 
-/// Takes a file away.
+/// Takes a file away, and has the host write out that its name is gone.
 pub fn unlink<R: Files + AllocGlobal>(rt: &R, folder: &str, path: &RelPath) -> io::Result<()> {
     let whole = joined(rt.alloc(), folder, path)?;
     open_existing(rt, whole.as_str())?;
-    fs::remove_file(rt, whole.as_str())
+    fs::remove_file(rt, whole.as_str())?;
+    sync_folder(rt, whole.as_str())
 }

@@ -401,10 +401,16 @@ const NOT_OPENED: &[Row] = &[
     (Call::Flush(b"fifo"), Answer::No(Status::DeviceFault)),
 ];
 
-// Nothing is synced before the flush.
+// What writes a file syncs nothing, and what opens one neither. A flush, and what makes a name or takes it away, does.
 const SYNCED: &[Row] = &[
     (Call::Write(b"file", 0, b"x"), Answer::Done),
+    (Call::Create(b"file", CreateMode::Existing), Answer::Done),
     (Call::Flush(b"file"), Answer::No(Status::DeviceFault)),
+    (
+        Call::Create(b"made", CreateMode::New),
+        Answer::No(Status::DeviceFault),
+    ),
+    (Call::Unlink(b"file"), Answer::No(Status::DeviceFault)),
 ];
 
 const MIXED: &[Row] = &[(Call::List, Answer::Bytes(b".b\na\na c\nb\n"))];
@@ -428,7 +434,7 @@ const HOSTS: &[(Way, u64, &[Row], u64)] = &[
     (Way::Plain, 0, SLOW, 0),
     (Way::FailsAt(4), 0, FAILING, 3),
     (Way::Plain, 0, NOT_OPENED, 4),
-    (Way::FailsToSync, 0, SYNCED, 1),
+    (Way::FailsToSync, 0, SYNCED, 3),
     (Way::Mixed, 0, MIXED, 0),
     (Way::NotText, 0, NOT_TEXT, 1),
     (Way::Long(128), 0, LONGEST, 0),

@@ -1,4 +1,4 @@
-/* The protocol has a size alone. The owner is that of the mount; times and modes are those that it saw, or its own. */
+/* The protocol has a size alone. Owners, times and modes are those that the mount saw or was given, or its own. */
 #include "attributes.h"
 
 #include <unistd.h>
@@ -24,7 +24,7 @@ static mode_t folder_mode(mode_t mode)
 static mode_t mode_of(const Mount *mount, const Look *look)
 {
     if (look->is_folder)
-        return folder_mode(mount->options.mode);
+        return look->has_mode ? S_IFDIR | look->mode : folder_mode(mount->options.mode);
     return S_IFREG | (look->has_mode ? look->mode : mount->options.mode);
 }
 
@@ -34,8 +34,8 @@ struct stat attributes_of(const Mount *mount, const Look *look, uint64_t size)
         .st_ino = look->path[0] ? look->number : FUSE_ROOT_ID,
         .st_mode = mode_of(mount, look),
         .st_nlink = look->is_deleted ? 0 : look->is_folder ? 2 : 1,
-        .st_uid = getuid(),
-        .st_gid = getgid(),
+        .st_uid = look->has_owner ? look->user : getuid(),
+        .st_gid = look->has_owner ? look->group : getgid(),
         .st_size = (off_t)size,
         .st_blocks = (blkcnt_t)((size + 511) / 512),
         .st_blksize = 4096,

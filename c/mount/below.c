@@ -2,11 +2,13 @@
 #include "below.h"
 
 #include "attributes.h"
+#include "path.h"
 
 #include <errno.h>
 #include <fcntl.h>
 #include <linux/openat2.h>
 #include <stdio.h>
+#include <string.h>
 #include <sys/statvfs.h>
 #include <sys/syscall.h>
 #include <unistd.h>
@@ -53,10 +55,78 @@ void below_tell_size(fuse_req_t request, fuse_ino_t number)
     fuse_reply_statfs(request, &room);
 }
 
+/* Opens what lies below by its path, "" for the folder itself: -1 with errno. */
+static int open_at(int below, const char *path, int flags)
+{
+    struct open_how how = {.flags = (uint64_t)(flags | O_NOFOLLOW | O_CLOEXEC), .resolve = RESOLVE_BENEATH | RESOLVE_NO_SYMLINKS};
+    return (int)syscall(SYS_openat2, below, path[0] ? path : ".", &how, sizeof how);
+}
+
+char below_kind(const Mount *mount, const char *path)
+{
+    struct stat is;
+    int file = mount->below == -1 ? -1 : open_at(mount->below, path, O_PATH);
+    if (file == -1)
+        return 0;
+    bool is_known = fstat(file, &is) == 0;
+    close(file);
+    return !is_known ? 0 : S_ISDIR(is.st_mode) ? 'd' : S_ISREG(is.st_mode) ? 'f' : 0;
+}
+
+bool below_is_folder(const Mount *mount, const char *path)
+{
+    return path_is_in(mount->options.folders, path) || below_kind(mount, path) == 'd';
+}
+
+/* The folder that a path lies in, to be written out, and the last part of the path: -1 with errno. */
+static int open_above(const Mount *mount, const char *path, const char **name)
+{
+    char above[LONGEST_PATH + 1] = "";
+    const char *slash = strrchr(path, '/');
+    *name = slash ? slash + 1 : path;
+    if (slash)
+        snprintf(above, sizeof above, "%.*s", (int)(slash - path), path);
+    if (mount->below == -1)
+        errno = EPERM;
+    return mount->below == -1 ? -1 : open_at(mount->below, above, O_RDONLY | O_DIRECTORY);
+}
+
+/* Closes it, once its names are written out if all went right. */
+static int written(int above, bool is_right)
+{
+    int error = is_right && (fsync(above) == 0 || errno == EINVAL) ? 0 : errno;
+    if (above != -1)
+        close(above);
+    return error;
+}
+
+int below_make_folder(const Mount *mount, const char *path, mode_t mode)
+{
+    const char *name;
+    int above = open_above(mount, path, &name);
+    return written(above, above != -1 && mkdirat(above, name, S_IRWXU | (mode & 0777)) == 0);
+}
+
+int below_remove_folder(const Mount *mount, const char *path)
+{
+    const char *name;
+    int above = open_above(mount, path, &name);
+    return written(above, above != -1 && unlinkat(above, name, AT_REMOVEDIR) == 0);
+}
+
+DIR *below_list(const Mount *mount, const char *path)
+{
+    int folder = open_at(mount->below, path, O_RDONLY | O_DIRECTORY);
+    DIR *list = folder == -1 ? NULL : fdopendir(folder);
+    if (!list && folder != -1)
+        close(folder);
+    return list;
+}
+
 /* A folder in the folder is opened anew: 0 or an errno. */
 static int sync_path(int below, const char *path)
 {
-    int folder = openat(below, path, O_RDONLY | O_DIRECTORY | O_NOFOLLOW | O_CLOEXEC);
+    int folder = open_at(below, path, O_RDONLY | O_DIRECTORY);
     if (folder == -1)
         return errno;
     int error = fsync(folder) == 0 ? 0 : errno;
@@ -70,15 +140,14 @@ void below_sync(fuse_req_t request, fuse_ino_t number, int is_data_alone, struct
     (void)is_data_alone, (void)info;
     Look look = look_at(mount, number);
     /* A server writes a name out before it answers the create or the deletion, so that without the folder there is nothing left to do. */
-    int error = mount->below == -1 ? 0 : sync_path(mount->below, look.path[0] ? look.path : ".");
+    int error = mount->below == -1 ? 0 : sync_path(mount->below, look.path);
     fuse_reply_err(request, error);
 }
 
 /* A file that is ours alone, and what it is; -1 where there is none. It isn't opened to be read, and no link is followed. */
 static int find_own(int below, const char *path, struct stat *is)
 {
-    struct open_how how = {.flags = O_PATH | O_NOFOLLOW | O_CLOEXEC, .resolve = RESOLVE_BENEATH | RESOLVE_NO_SYMLINKS};
-    int file = below == -1 ? -1 : (int)syscall(SYS_openat2, below, path, &how, sizeof how);
+    int file = below == -1 ? -1 : open_at(below, path, O_PATH);
     if (file == -1)
         return -1;
     if (fstat(file, is) == 0 && S_ISREG(is->st_mode) && is->st_nlink == 1 && is->st_uid == geteuid())

@@ -1,8 +1,11 @@
-/* The server's folder itself, where -o below=FOLDER names it: it is asked for its room, and synced, and its files get modes. Nothing else of a file is touched. */
+/* The server's folder itself, where -o below=FOLDER names it: folders are made and removed in it, it is asked for its room and for names in folders, and synced, and its files get modes. Nothing
+ * else of a file is touched: filters hear of all the rest. No link is followed, and nothing outside the folder is reached. */
 #ifndef KZ_MOUNT_BELOW_H
 #define KZ_MOUNT_BELOW_H
 
 #include "mount.h"
+
+#include <dirent.h>
 
 /* Its descriptor, -1 where no folder is named. False: it can't be opened, which errno says. */
 bool below_open(Mount *mount);
@@ -11,7 +14,17 @@ void below_close(Mount *mount);
 bool below_is_full(const Mount *mount, uint64_t bytes);
 /* How much room is left; where no folder is named, room for one file of the largest size, for programs that look before they write. */
 void below_tell_size(fuse_req_t request, fuse_ino_t number);
-/* Syncs a folder: EINVAL where none is named, since no frame does it. */
+/* Whether a path is that of a folder: one that lies below, or one of -o folders. */
+bool below_is_folder(const Mount *mount, const char *path);
+/* Makes a folder, which its owner may always use; removes an empty one; gives an empty one another name. Each answers 0 or an errno once that is written out, and EPERM where no folder is
+ * named. */
+int below_make_folder(const Mount *mount, const char *path, mode_t mode);
+int below_remove_folder(const Mount *mount, const char *path);
+/* Opens a folder to be listed: NULL with errno. */
+DIR *below_list(const Mount *mount, const char *path);
+/* What an entry of such a list is: 'f' a file, 'd' a folder, 0 neither. */
+char below_kind(const Mount *mount, const char *path);
+/* Syncs a folder. Where none is named there is nothing left to do: servers write names out before they answer. */
 void below_sync(fuse_req_t request, fuse_ino_t number, int is_data_alone, struct fuse_file_info *info);
 /* The file below gets the mode as well, where it is ours. Its owner may read and write it always, for a server opens it at each call. A new one gets no more than it has. */
 void below_set_mode(const Mount *mount, const char *path, mode_t mode, bool is_new);

@@ -1,6 +1,7 @@
 #include "folder.h"
 
 #include "attributes.h"
+#include "below.h"
 #include "path.h"
 #include "error.h"
 
@@ -47,7 +48,7 @@ static bool lies_in(const char *item, size_t length, const char *folder)
     return length > own + slash && strncmp(item, folder, own) == 0 && (own == 0 || item[own] == '/') && !memchr(item + own + slash, '/', length - own - slash);
 }
 
-/* The folders in a folder are those that -o folders has. */
+/* Those folders in a folder that -o folders has. */
 static int add_folders(fuse_req_t request, Listing *listing, const char *list, const char *folder)
 {
     int error = 0;
@@ -78,6 +79,31 @@ static int add_names(fuse_req_t request, Mount *mount, Listing *listing, char *n
     for (char *name = strsep(&rest, "\n"); rest && error == 0; name = strsep(&rest, "\n"))
         if (!is_among(hidden, name) && !path_is_in(mount->options.folders, name))
             error = add(request, listing, name, name, false);
+    return error;
+}
+
+/* One entry of a folder that lies below. Files in the root aren't taken from here: the server lists them. A name that no path has is passed over, and what is neither a file nor a folder. */
+static int add_entry(fuse_req_t request, Listing *listing, const char *folder, const char *name)
+{
+    Mount *mount = fuse_req_userdata(request);
+    char path[LONGEST_PATH + 1];
+    if (strcmp(name, ".") == 0 || strcmp(name, "..") == 0 || path_join(path, folder, name) != 0 || path_is_in(mount->options.folders, path))
+        return 0;
+    char kind = below_kind(mount, path);
+    bool is_shown = kind == 'd' || (kind == 'f' && folder[0] && !nodes_is_hidden(&mount->nodes, path));
+    return is_shown ? add(request, listing, name, path, kind == 'd') : 0;
+}
+
+/* What lies in a folder below. */
+static int add_below(fuse_req_t request, Listing *listing, const char *folder)
+{
+    Mount *mount = fuse_req_userdata(request);
+    DIR *list = mount->below == -1 ? NULL : below_list(mount, folder);
+    int error = 0;
+    for (const struct dirent *entry = list ? readdir(list) : NULL; entry && error == 0; entry = readdir(list))
+        error = add_entry(request, listing, folder, entry->d_name);
+    if (list)
+        closedir(list);
     return error;
 }
 
@@ -121,6 +147,8 @@ static int list(fuse_req_t request, fuse_ino_t number, Listing *listing)
         error = add(request, listing, "..", "", true);
     if (error == 0)
         error = add_folders(request, listing, mount->options.folders, look.path);
+    if (error == 0)
+        error = add_below(request, listing, look.path);
     return error == 0 && look.path[0] == '\0' ? add_files(request, listing) : error;
 }
 

@@ -1,4 +1,4 @@
-/* Folders: the root is listed by the server, others by -o folders alone. */
+/* Folders: files in the root are listed by the server. Folders, and files in other folders, are those that lie below, beside those of -o folders. */
 #ifndef KZ_MOUNT_FOLDER_H
 #define KZ_MOUNT_FOLDER_H
 

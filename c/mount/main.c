@@ -7,6 +7,7 @@
 #include "options.h"
 #include "refused.h"
 #include "rename.h"
+#include "tree.h"
 
 #include <errno.h>
 #include <stdio.h>
@@ -50,8 +51,8 @@ static const struct fuse_lowlevel_ops operations = {
     .releasedir = folder_release,
     .fsyncdir = below_sync,
     .mknod = refuse_make_node,
-    .mkdir = refuse_make_folder,
-    .rmdir = refuse_remove_folder,
+    .mkdir = tree_make_folder,
+    .rmdir = tree_remove_folder,
     .symlink = refuse_symbolic_link,
     .link = refuse_link,
     .statfs = below_tell_size,

@@ -23,7 +23,7 @@ int open_path(Call *call, const char *path, bool is_home)
 /* The node is found while no deletion of the name can come between. */
 static int look_up(Call *call, const char *path, Node **node, uint64_t *size)
 {
-    bool is_folder = path_is_in(call->mount->options.folders, path);
+    bool is_folder = below_is_folder(call->mount, path);
     int error = is_folder ? 0 : open_path(call, path, false);
     if (error == 0 && !is_folder)
         error = call_measure(call, call->handle, size);
@@ -144,7 +144,7 @@ static void keep_mode(Mount *mount, Node *node, const Look *look, mode_t mode)
     if (mode == (attributes_of(mount, look, 0).st_mode & 0777))
         return;
     nodes_set_mode(&mount->nodes, node, mode);
-    if (!look->is_deleted)
+    if (!look->is_deleted && !look->is_folder)
         below_set_mode(mount, look->path, mode, false);
 }
 
@@ -154,12 +154,13 @@ static int refusal(Mount *mount, const Look *look, const struct stat *wanted, in
     struct stat is = attributes_of(mount, look, 0);
     bool is_read_given = (which & FUSE_SET_ATTR_ATIME) && !(which & FUSE_SET_ATTR_ATIME_NOW);
     bool is_changed_given = (which & FUSE_SET_ATTR_MTIME) && !(which & FUSE_SET_ATTR_MTIME_NOW);
-    bool may_have_mode = !look->is_folder && (look->has_mode || mount->options.has_memmodes) && (wanted->st_mode & 07000) == 0;
+    bool may_have_mode = (look->has_mode || mount->options.has_memmodes) && look->path[0] && (wanted->st_mode & 07000) == 0;
+    bool may_have_owner = mount->options.is_kept && look->path[0];
     if ((which & FUSE_SET_ATTR_MODE) && (wanted->st_mode & 07777) != (is.st_mode & 07777) && !may_have_mode)
         return EPERM;
-    if ((which & FUSE_SET_ATTR_UID) && wanted->st_uid != is.st_uid)
+    if ((which & FUSE_SET_ATTR_UID) && wanted->st_uid != is.st_uid && !may_have_owner)
         return EPERM;
-    if ((which & FUSE_SET_ATTR_GID) && wanted->st_gid != is.st_gid)
+    if ((which & FUSE_SET_ATTR_GID) && wanted->st_gid != is.st_gid && !may_have_owner)
         return EPERM;
     if ((is_read_given || is_changed_given) && !mount->options.has_memtimes)
         return EPERM;
@@ -188,8 +189,10 @@ void name_set_attributes(fuse_req_t request, fuse_ino_t number, struct stat *wan
         fuse_reply_err(request, error);
         return;
     }
-    if ((which & FUSE_SET_ATTR_MODE) && !look.is_folder)
+    if ((which & FUSE_SET_ATTR_MODE) && look.path[0])
         keep_mode(mount, node_at(number), &look, wanted->st_mode & 0777);
+    if ((which & (FUSE_SET_ATTR_UID | FUSE_SET_ATTR_GID)) && mount->options.is_kept && look.path[0])
+        nodes_set_owner(&mount->nodes, node_at(number), which & FUSE_SET_ATTR_UID ? wanted->st_uid : (uid_t)-1, which & FUSE_SET_ATTR_GID ? wanted->st_gid : (gid_t)-1);
     if (which & GIVEN_TIMES)
         keep_times(mount, node_at(number), wanted, which);
     answer(request, number, info, which & FUSE_SET_ATTR_SIZE ? &size : NULL);
@@ -233,7 +236,7 @@ void name_unlink(fuse_req_t request, fuse_ino_t folder, const char *name)
     Call call = call_of(request);
     char path[LONGEST_PATH + 1];
     int error = path_of(call.mount, folder, name, path);
-    if (error == 0 && path_is_in(call.mount->options.folders, path))
+    if (error == 0 && below_is_folder(call.mount, path))
         error = EISDIR;
     error = error == EINVAL ? ENOENT : error != 0 ? error : unlink_path(&call, path);
     call_end(&call);

@@ -1,4 +1,4 @@
-/* The table of nodes. A node is there while the kernel knows it, while it is held, or while its times or its mode are kept. */
+/* The table of nodes. A node is there while the kernel knows it, while it is held, or while its times, its mode or its owner are kept. */
 #include "nodes.h"
 
 #include "path.h"
@@ -7,6 +7,7 @@
 #include <stdio.h>
 #include <stdlib.h>
 #include <string.h>
+#include <unistd.h>
 
 /* Numbers of a name that came back lie so far apart: odd, and no small one. */
 #define SPREAD 11400714819323198485u
@@ -53,7 +54,7 @@ static void unlink_node(Nodes *nodes, Node *node)
 
 static bool is_kept(const Node *node)
 {
-    return (node->has_times || node->has_mode) && !node->is_deleted;
+    return (node->has_times || node->has_mode || node->has_owner) && !node->is_deleted;
 }
 
 static void reap(Nodes *nodes, Node *node)
@@ -103,6 +104,10 @@ Node *nodes_found(Nodes *nodes, const char *path, bool is_folder)
 {
     lock(nodes);
     Node *node = find(nodes, path, false);
+    if (node && node->is_folder != is_folder) {
+        mark_deleted(nodes, node);
+        node = NULL;
+    }
     if (!node)
         node = add(nodes, path, is_folder);
     if (node)
@@ -127,6 +132,9 @@ Look nodes_look(Nodes *nodes, Node *node)
     look.is_folder = node->is_folder;
     look.is_deleted = node->is_deleted;
     look.has_mode = node->has_mode;
+    look.has_owner = node->has_owner;
+    look.user = node->user;
+    look.group = node->group;
     look.changed = node->changed;
     look.read = node->read;
     look.mode = node->mode;
@@ -215,6 +223,23 @@ bool nodes_is_open(Nodes *nodes, const char *path)
     return is_open;
 }
 
+static bool is_open_in(const Node *node, const char *folder, size_t length)
+{
+    while (node && !(node->files && strncmp(node->path, folder, length) == 0 && node->path[length] == '/'))
+        node = node->next;
+    return node != NULL;
+}
+
+bool nodes_is_open_in(Nodes *nodes, const char *folder)
+{
+    bool is_so = false;
+    lock(nodes);
+    for (unsigned at = 0; at < CHAINS && !is_so; at++)
+        is_so = is_open_in(nodes->chains[at], folder, strlen(folder));
+    unlock(nodes);
+    return is_so;
+}
+
 static void move(Nodes *nodes, Node *node, char *path)
 {
     unlink_node(nodes, node);
@@ -246,7 +271,7 @@ void nodes_missed(Nodes *nodes, const char *path)
     lock(nodes);
     Node *node = find(nodes, path, false);
     if (node && is_kept(node)) {
-        node->has_times = node->has_mode = false;
+        node->has_times = node->has_mode = node->has_owner = false;
         node->changed = node->read = nodes->begun;
         reap(nodes, node);
     }
@@ -286,6 +311,16 @@ void nodes_set_mode(Nodes *nodes, Node *node, mode_t mode)
     lock(nodes);
     node->mode = mode;
     node->has_mode = true;
+    unlock(nodes);
+}
+
+void nodes_set_owner(Nodes *nodes, Node *node, uid_t user, gid_t group)
+{
+    lock(nodes);
+    bool was_given = node->has_owner;
+    node->has_owner = true;
+    node->user = user != (uid_t)-1 ? user : was_given ? node->user : getuid();
+    node->group = group != (gid_t)-1 ? group : was_given ? node->group : getgid();
     unlock(nodes);
 }
 

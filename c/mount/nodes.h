@@ -16,9 +16,11 @@ typedef struct Node {
     uint64_t lookups; /* the kernel's */
     unsigned holds;   /* open files, and calls that look at it */
     bool is_folder, is_deleted;
-    bool has_times, has_mode; /* as long as the mount: it isn't forgotten with the last look-up */
+    bool has_times, has_mode, has_owner; /* as long as the mount: it isn't forgotten with the last look-up */
     struct timespec changed, read;
     mode_t mode;
+    uid_t user;
+    gid_t group;
     uint64_t number; /* that programs see */
     File *files;     /* the open ones */
 } Node;
@@ -38,9 +40,11 @@ typedef struct {
 /* A node as it was at one moment. */
 typedef struct {
     char path[LONGEST_PATH + 1];
-    bool is_folder, is_deleted, has_mode;
+    bool is_folder, is_deleted, has_mode, has_owner;
     struct timespec changed, read;
     mode_t mode;
+    uid_t user;
+    gid_t group;
     uint64_t number;
 } Look;
 
@@ -60,6 +64,8 @@ bool nodes_wait_hidden(Nodes *nodes, const char *path, long milliseconds);
 /* The name was deleted. Whether the file is still open. */
 bool nodes_delete(Nodes *nodes, const char *path);
 bool nodes_is_open(Nodes *nodes, const char *path);
+/* Whether a file is open that lies in the folder, or in one below it. */
+bool nodes_is_open_in(Nodes *nodes, const char *folder);
 /* What had the one name has the other from now on; for want of memory it counts as deleted. */
 void nodes_rename(Nodes *nodes, const char *path, const char *to);
 /* The name isn't there any more: the times and the mode that were kept of it go. */
@@ -69,6 +75,8 @@ void nodes_set_times(Nodes *nodes, Node *node, const struct timespec *read, cons
 /* The file was made with that mode: whether it is kept, for one that was kept before stays. */
 bool nodes_made(Nodes *nodes, Node *node, mode_t mode);
 void nodes_set_mode(Nodes *nodes, Node *node, mode_t mode);
+/* Who owns it; -1 leaves that one as it is, or as it was given. */
+void nodes_set_owner(Nodes *nodes, Node *node, uid_t user, gid_t group);
 /* The number that programs see of a name. */
 uint64_t nodes_number(Nodes *nodes, const char *path);
 void nodes_hold(Nodes *nodes, Node *node);

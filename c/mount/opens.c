@@ -4,7 +4,6 @@
 #include "data.h"
 #include "files.h"
 #include "names.h"
-#include "path.h"
 
 #include <errno.h>
 #include <fcntl.h>
@@ -92,6 +91,14 @@ static mode_t mode_made(const Options *options, mode_t mode)
     return kept | (options->mode & 0111 & (kept & 0444) >> 2);
 }
 
+/* What is made is its maker's, where owners are kept. */
+static void own(Mount *mount, fuse_req_t request, Node *node)
+{
+    const struct fuse_ctx *maker = fuse_req_ctx(request);
+    if (mount->options.is_kept)
+        nodes_set_owner(&mount->nodes, node, maker->uid, maker->gid);
+}
+
 void data_create(fuse_req_t request, fuse_ino_t folder, const char *name, mode_t mode, struct fuse_file_info *info)
 {
     Call call = call_of(request);
@@ -99,7 +106,7 @@ void data_create(fuse_req_t request, fuse_ino_t folder, const char *name, mode_t
     Node *node = NULL;
     uint64_t size = 0;
     int error = path_of(call.mount, folder, name, path);
-    if (error == 0 && path_is_in(call.mount->options.folders, path))
+    if (error == 0 && below_is_folder(call.mount, path))
         error = EISDIR;
     if (error == 0)
         error = create(&call, path, info, &size);
@@ -111,8 +118,10 @@ void data_create(fuse_req_t request, fuse_ino_t folder, const char *name, mode_t
         return;
     }
     mode = mode_made(&call.mount->options, mode);
-    if (nodes_made(&call.mount->nodes, node, mode))
+    if (nodes_made(&call.mount->nodes, node, mode)) {
         below_set_mode(call.mount, path, mode, true);
+        own(call.mount, request, node);
+    }
     if (size == 0)
         nodes_changed(&call.mount->nodes, node);
     Look look = nodes_look(&call.mount->nodes, node);

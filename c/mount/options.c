@@ -22,6 +22,7 @@ static const struct fuse_opt known[] = {
     OPTION("copyrename", has_copyrename, 1),
     OPTION("memtimes", has_memtimes, 1),
     OPTION("memmodes", has_memmodes, 1),
+    OPTION("keep", is_kept, 1),
     OPTION("below=%s", below, 0),
     OPTION("allow_other", is_for_others, 1),
     FUSE_OPT_END,
@@ -39,8 +40,9 @@ void options_usage(FILE *to)
           "  copyrename       a rename copies the file, and deletes the old name\n"
           "  memtimes         given times are kept until the unmount\n"
           "  memmodes         given modes are, also of files that were there before\n"
+          "  keep             memtimes and memmodes; given owners are kept too, and a new file is its maker's\n"
           "  mode=0755        the mode of files (0644); given, it bounds the modes of new ones\n"
-          "  below=FOLDER     the server's folder: it is asked for its room, and synced\n"
+          "  below=FOLDER     the server's folder: folders are made in it, and it is asked for its room, and synced\n"
           "  connections=N    so many connections with the server, 4 to 31 (16)\n"
           "  volume=V         the volume (0)\n"
           "  allow_other      others may use it as the modes say (default_permissions)\n"
@@ -79,6 +81,8 @@ bool options_read(struct fuse_args *words, Options *options)
     *options = (Options){.connections = 16, .mode = NO_MODE};
     if (fuse_opt_parse(words, options, known, take_word) != 0)
         return false;
+    if (options->is_kept)
+        options->has_memtimes = options->has_memmodes = 1;
     options->is_mode_given = options->mode != NO_MODE;
     if (!options->is_mode_given)
         options->mode = 0644;

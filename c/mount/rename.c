@@ -1,10 +1,11 @@
-/* Renames by a copy, which are asked for by -o copyrename. A file that is open keeps its name: EXDEV. What is there under the new name is overwritten; a crash between leaves both.
+/* Renames by a copy, which are asked for by -o copyrename or -o below: so a filter that denies a deletion or a create isn't got round. A file that is open keeps its name: EXDEV. What is there under the new name is overwritten; a crash between leaves both.
  * Nobody interrupts it, for then too little would have been copied. */
 #include "rename.h"
 
 #include "below.h"
 #include "names.h"
 #include "path.h"
+#include "tree.h"
 #include "error.h"
 
 #include <errno.h>
@@ -16,12 +17,12 @@
 #define LOOKS 20
 #define PAUSE_MILLISECONDS 10
 
-static bool is_open(Nodes *nodes, const char *path)
+bool stays_open(Nodes *nodes, const char *path, bool (*is_open)(Nodes *nodes, const char *path))
 {
-    bool is_so = nodes_is_open(nodes, path);
+    bool is_so = is_open(nodes, path);
     for (unsigned look = 0; is_so && look < LOOKS; look++) {
         usleep(PAUSE_MILLISECONDS * 1000);
-        is_so = nodes_is_open(nodes, path);
+        is_so = is_open(nodes, path);
     }
     return is_so;
 }
@@ -105,6 +106,14 @@ static int rename_path(Call *call, const char *path, const char *to, bool is_new
     return error;
 }
 
+int rename_file(Mount *mount, const char *path, const char *to, bool is_new)
+{
+    Call call = call_on(mount, NULL);
+    int error = rename_path(&call, path, to, is_new);
+    call_end(&call);
+    return error;
+}
+
 /* Until nobody is there whom the rename would wait for: so long it can be interrupted. */
 static int wait_before(fuse_req_t request, const char *path, const char *to)
 {
@@ -113,24 +122,30 @@ static int wait_before(fuse_req_t request, const char *path, const char *to)
     return error != 0 ? error : call_wait(&call, to, NAMES, ALONE);
 }
 
+/* The file is copied once nobody has it open, and nobody waits for it. */
+static int rename_alone(fuse_req_t request, Mount *mount, const char *path, const char *to, bool is_new)
+{
+    if (below_is_folder(mount, to))
+        return EISDIR;
+    if (stays_open(&mount->nodes, path, nodes_is_open) || stays_open(&mount->nodes, to, nodes_is_open))
+        return EXDEV;
+    int error = wait_before(request, path, to);
+    return error != 0 || strcmp(path, to) == 0 ? error : rename_file(mount, path, to, is_new);
+}
+
 void name_rename(fuse_req_t request, fuse_ino_t folder, const char *name, fuse_ino_t to_folder, const char *to, unsigned flags)
 {
-    Call call = call_on(fuse_req_userdata(request), NULL);
+    Mount *mount = fuse_req_userdata(request);
     char path[LONGEST_PATH + 1], to_path[LONGEST_PATH + 1];
     bool is_new = flags == 1; /* RENAME_NOREPLACE */
-    int error = path_of(call.mount, folder, name, path);
+    int error = path_of(mount, folder, name, path);
     if (error == 0)
-        error = path_of(call.mount, to_folder, to, to_path);
-    if (error == 0 && (!call.mount->options.has_copyrename || path_is_in(call.mount->options.folders, path)))
+        error = path_of(mount, to_folder, to, to_path);
+    if (error == 0 && !mount->options.has_copyrename && mount->below == -1)
         error = EXDEV;
     if (error == 0 && flags > 1)
         error = EINVAL;
-    if (error == 0 && (is_open(&call.mount->nodes, path) || is_open(&call.mount->nodes, to_path)))
-        error = EXDEV;
     if (error == 0)
-        error = wait_before(request, path, to_path);
-    if (error == 0 && strcmp(path, to_path) != 0)
-        error = rename_path(&call, path, to_path, is_new);
-    call_end(&call);
+        error = below_is_folder(mount, path) ? tree_rename(mount, path, to_path, is_new) : rename_alone(request, mount, path, to_path, is_new);
     fuse_reply_err(request, error);
 }

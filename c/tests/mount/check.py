@@ -10,7 +10,7 @@ import traceback
 
 from ground import Tally
 
-PARTS = "client calls modes model deletions held ends programs".split()
+PARTS = "client calls modes folders model deletions held ends programs".split()
 
 
 def main():

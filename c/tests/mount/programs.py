@@ -1,4 +1,4 @@
-"""Programs that nobody wrote for the mount: sqlite, fio, cp, tar, sed."""
+"""Programs that nobody wrote for the mount: sqlite, fio, cp, tar, sed, and those that make folders."""
 import os
 import shutil
 import sqlite3
@@ -101,6 +101,32 @@ def copies(tally, ground, room):
     tally.note("cp, tar, sed, sort, mv", program("sh", "-c", script), (0, "271\nfive99\n1000\n"))
 
 
+def trees(tally, ground, room):
+    """Programs that make folders: cp, tar, rsync, git, and a build."""
+    source = os.path.join(room, "source")
+    for folder in ("a", "a/b", "c"):
+        os.makedirs(os.path.join(source, folder))
+        for number in range(5):
+            with open(os.path.join(source, folder, f"file{number}"), "wb") as file:
+                file.write(os.urandom(number * 3_000))
+    at = ground.at
+    steps = {
+        "cp": f"cp -a {source} {at('cp')} && diff -r {source} {at('cp')}",
+        "tar": f"tar -cf {room}/t.tar -C {room} source && tar -xf {room}/t.tar -C {ground.mount} && diff -r {source} {at('source')}",
+        "rsync": f"rsync -a {source}/ {at('rsync')}/ && diff -r {source} {at('rsync')} && rsync -ain {source}/ {at('rsync')}/",
+        "git": f"mkdir {at('git')} && cd {at('git')} && git init -q && cp -r {source}/* . && git add . && git -c user.name=a -c user.email=a@b commit -qm first"
+        " && git mv a moved && git -c user.name=a -c user.email=a@b commit -qm second && git status --porcelain && git checkout -q HEAD~1 && git fsck --no-progress",
+        "cc": f"mkdir {at('build')} && cd {at('build')} && printf 'int main(void) {{ return 0; }}' > m.c && cc -c m.c -o m.o && cc m.o -o m && ./m",
+        "mv": f"mv {at('cp')} {at('renamed')} && diff -r {source} {at('renamed')} && ! ls {at('cp')} 2> /dev/null",
+        "rm": f"rm -r {ground.mount}/* && ls -A {ground.mount}",
+    }
+    for name, script in steps.items():
+        if shutil.which(name):
+            tally.note(f"{name} of a tree", program("sh", "-c", script), (0, ""))
+        else:
+            print(f"mount: left out: {name}, which isn't here")
+
+
 def run(tally, tools):
     """These, above three filters; with pages that the kernel keeps also what maps files."""
     for options, modes in (((), MODES), (("below={host}", "cached"), MODES + ["wal"])):
@@ -113,3 +139,6 @@ def run(tally, tools):
     with Ground(tally, tools, "below={host}", "copyrename", "memtimes", patience=600) as ground:
         ground.attach(shift=100, meter=200, carry=150)
         copies(tally, ground, ground.room)
+    with Ground(tally, tools, "below={host}", "cached", "keep", "mode=0755", patience=600) as ground:
+        ground.attach(shift=100, meter=200, carry=150)
+        trees(tally, ground, ground.room)

@@ -41,6 +41,7 @@ impl ShortLine {
 
     /// Appends the line. All 16 bytes are, and what is behind the line goes again: that is quicker than to
     /// append as many as it has. It fails if there is no memory for 16 bytes, and nothing is appended then.
+    #[inline(always)]
     pub fn append(&self, text: &mut Vec<u8>) -> Result<(), AllocError>
         ensures appends { IfOk result (λ _. text.new.items ≡ text.old.items ++ self.now) }
         ensures err { OnErr result (text.new.items ≡ text.old.items) }

@@ -71,12 +71,9 @@ static int receive(Call *call, Reply *reply)
     return error;
 }
 
-int call_ask(Call *call, Request request, Reply *reply)
+/* What becomes of a call that was answered, or not. */
+static int answered(Call *call, int error)
 {
-    call->code = request.code;
-    int error = connection_send(&call->line->connection, &request);
-    if (error == 0)
-        error = receive(call, reply);
     if (error == EINTR) {
         call->is_abandoned = true;
     } else if (error != 0) {
@@ -84,6 +81,15 @@ int call_ask(Call *call, Request request, Reply *reply)
         pool_lost(&call->mount->pool, call->line);
     }
     return error;
+}
+
+int call_ask(Call *call, Request request, Reply *reply)
+{
+    call->code = request.code;
+    int error = connection_send(&call->line->connection, &request);
+    if (error == 0)
+        error = receive(call, reply);
+    return answered(call, error);
 }
 
 /* No status says that the disk is full: where the device failed, the folder is asked. */
@@ -126,6 +132,23 @@ int call_measure(Call *call, uint64_t handle, uint64_t *size)
     if (error == 0)
         *size = reply.information;
     return error;
+}
+
+int call_measure_and_close(Call *call, uint64_t *size)
+{
+    Reply measured = {0}, closed;
+    Request query = request_handle(FRAME_QUERY_SIZE, call->handle), close = request_handle(FRAME_CLOSE, call->handle);
+    call->code = close.code;
+    call->has_handle = false;
+    int error = connection_send_both(&call->line->connection, &query, &close);
+    if (error == 0)
+        error = receive(call, &measured);
+    uint8_t status = measured.status;
+    *size = measured.information;
+    if (error == 0)
+        error = receive(call, &closed);
+    error = answered(call, error);
+    return error != 0 ? error : errno_of(status);
 }
 
 void call_leave(Call *call)
@@ -173,7 +196,10 @@ static void *settle(void *abandoned)
     Reply reply;
     call->is_abandoned = false;
     pool_replace(pool, call->line);
-    if (receive(call, &reply) != 0) {
+    int error = receive(call, &reply);
+    while (error == 0 && call->line->connection.awaited > 0)
+        error = receive(call, &reply);
+    if (error != 0) {
         call->has_handle = false;
         pool_lost(pool, call->line);
     } else if (call->code == FRAME_CREATE && reply.status == KZS_OK) {

@@ -50,7 +50,7 @@ static int dial(int socket, const char *path, Server *server)
 
 int connection_dial(Connection *connection, const char *path, Server *server)
 {
-    connection->received = 0;
+    connection->received = connection->used = 0;
     connection->socket = socket(AF_UNIX, SOCK_STREAM | SOCK_CLOEXEC, 0);
     if (connection->socket == -1)
         return errno;
@@ -74,13 +74,11 @@ static void advance(struct msghdr *message, size_t sent)
     }
 }
 
-int connection_send(Connection *connection, const Request *request)
+static int send_parts(Connection *connection, struct iovec *parts, size_t count, unsigned requests)
 {
-    uint8_t head[LONGEST_REQUEST_HEAD];
-    size_t length = request_head(request, ++connection->number, head);
-    struct iovec parts[2] = {{head, length}, {(void *)request->bytes, request->length}};
-    struct msghdr message = {.msg_iov = parts, .msg_iovlen = 2};
-    connection->received = 0;
+    struct msghdr message = {.msg_iov = parts, .msg_iovlen = count};
+    connection->received = connection->used = 0;
+    connection->awaited = requests;
     while (message.msg_iovlen > 0) {
         ssize_t sent = sendmsg(connection->socket, &message, MSG_NOSIGNAL);
         if (sent >= 0)
@@ -91,16 +89,56 @@ int connection_send(Connection *connection, const Request *request)
     return 0;
 }
 
-/* How many bytes the frame has with its length in front, and 0 where no frame has so many. */
+int connection_send(Connection *connection, const Request *request)
+{
+    uint8_t head[LONGEST_REQUEST_HEAD];
+    size_t length = request_head(request, ++connection->number, head);
+    struct iovec parts[2] = {{head, length}, {(void *)request->bytes, request->length}};
+    return send_parts(connection, parts, 2, 1);
+}
+
+int connection_send_both(Connection *connection, const Request *first, const Request *second)
+{
+    uint8_t heads[2][LONGEST_REQUEST_HEAD];
+    size_t length = request_head(first, ++connection->number, heads[0]), other = request_head(second, ++connection->number, heads[1]);
+    struct iovec parts[2] = {{heads[0], length}, {heads[1], other}};
+    return send_parts(connection, parts, 2, 2);
+}
+
+/* How many bytes the frame at the front of the room has with its length: 0 where that hasn't come whole, or no frame has so many. */
 static size_t whole(const Connection *connection)
 {
-    uint64_t length = number_at(connection->room, FRAME_HEAD);
+    uint64_t length = connection->received < FRAME_HEAD ? 0 : number_at(connection->room, FRAME_HEAD);
     return is_body_length(length) ? (size_t)length + FRAME_HEAD : 0;
+}
+
+/* What came behind the last reply moves to the front. */
+static void take_rest(Connection *connection)
+{
+    connection->received -= connection->used;
+    memmove(connection->room, connection->room + connection->used, connection->received);
+    connection->used = 0;
+}
+
+/* The reply at the front, to the request that is next in turn. */
+static int read_front(Connection *connection, Reply *reply)
+{
+    connection->used = whole(connection);
+    uint32_t number = connection->number - --connection->awaited;
+    if (connection->awaited == 0 && connection->received > connection->used)
+        return EPROTO;
+    return reply_read(connection->room + FRAME_HEAD, connection->used - FRAME_HEAD, number, reply) ? 0 : EPROTO;
 }
 
 int connection_receive(Connection *connection, Reply *reply)
 {
+    take_rest(connection);
     for (;;) {
+        size_t length = whole(connection);
+        if (length > 0 && connection->received >= length)
+            return read_front(connection, reply);
+        if (length == 0 && connection->received >= FRAME_HEAD)
+            return EPROTO;
         ssize_t count = recv(connection->socket, connection->room + connection->received, sizeof connection->room - connection->received, 0);
         if (count == -1 && errno == EINTR)
             continue;
@@ -109,12 +147,6 @@ int connection_receive(Connection *connection, Reply *reply)
         if (count == 0)
             return EIO;
         connection->received += (size_t)count;
-        if (connection->received < FRAME_HEAD)
-            continue;
-        if (connection->received > whole(connection))
-            return EPROTO;
-        if (connection->received == whole(connection))
-            return reply_read(connection->room + FRAME_HEAD, connection->received - FRAME_HEAD, connection->number, reply) ? 0 : EPROTO;
     }
 }
 

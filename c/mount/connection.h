@@ -16,9 +16,10 @@ typedef struct {
 
 typedef struct {
     int socket; /* -1: it is gone */
-    uint32_t number;
-    size_t received;
-    uint8_t room[LONGEST_FRAME]; /* a reply's bytes lie in it until the server is asked again */
+    uint32_t number;       /* of the last request */
+    unsigned awaited;      /* replies that are still to come */
+    size_t received, used; /* bytes in the room, and those of them that are the last reply's */
+    uint8_t room[LONGEST_FRAME]; /* a reply's bytes lie in it until the next one is received, or the server is asked again */
 } Connection;
 
 /* Each answers 0 or an errno. */
@@ -27,6 +28,8 @@ int connection_dial(Connection *connection, const char *path, Server *server);
 int connection_greet(Connection *connection);
 /* ENOTCONN: the server is gone */
 int connection_send(Connection *connection, const Request *request);
+/* Two requests without bytes, which go out together. Their replies come in their order. */
+int connection_send_both(Connection *connection, const Request *first, const Request *second);
 /* EAGAIN: nothing came for a tick; EIO: the server is gone; EPROTO: what came is no reply */
 int connection_receive(Connection *connection, Reply *reply);
 bool connection_is_alive(const Connection *connection);

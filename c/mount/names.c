@@ -26,7 +26,7 @@ static int look_up(Call *call, const char *path, Node **node, uint64_t *size)
     bool is_folder = below_is_folder(call->mount, path);
     int error = is_folder ? 0 : open_path(call, path, false);
     if (error == 0 && !is_folder)
-        error = call_measure(call, call->handle, size);
+        error = call_measure_and_close(call, size);
     if (error == ENOENT)
         nodes_missed(&call->mount->nodes, path);
     if (error != 0)
@@ -93,7 +93,7 @@ static int size_by_path(Call *call, const char *path, const uint64_t *wanted, ui
 {
     int error = open_path(call, path, false);
     if (error == 0)
-        error = size_by(call, call->handle, wanted, size);
+        error = wanted ? size_by(call, call->handle, wanted, size) : call_measure_and_close(call, size);
     call_end(call);
     return error;
 }

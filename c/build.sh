@@ -1,6 +1,7 @@
 #!/usr/bin/env bash
 # c/build.sh [WORD..] PROGRAM DRIVER.. : builds a program that runs requests through those drivers. A driver is a file of C or C++, or a folder with such files; each is loaded by
-# the name of its file or folder. Behind --driver, up to the next one, the files are one driver, by the name of the first. The words:
+# the name of its file or folder. Behind --driver, up to the next one, the files are one driver, by the name of the first. Behind --user they are a program that works with the
+# driver: the request `start NAME` runs it (docs/C.md). The words:
 #
 #   --explore           a program that runs a scenario under every schedule (docs/EXPLORE.md)
 #   --serve             a server of the drivers, behind the frames of docs/FRAMES.md
@@ -167,19 +168,56 @@ name_of() {
     name=$(basename "$1")
     echo "${name%.*}"
 }
+# A program beside the drivers: its console, its end and its streams are the host's.
+programs=0
+: > "$room/programs"
+user="-fwrapv -fms-extensions $common -I$here/user -I$here/include -D_WIN64=1 -D_M_AMD64=100 -D_M_X64=100 -D_AMD64_=1 -D_WIN32=1 -D_WIN32_WINNT=0x0A00 -DWINVER=0x0A00 \
+-DNTDDI_VERSION=0x0A000002 -fno-builtin -include windows.h"
+streams=()
+for name in printf vprintf fprintf puts fputs putchar fputc fflush fopen fgets fgetc getchar exit; do
+    streams+=(--redefine-sym "$name=KzUser$(printf %s "${name:0:1}" | tr a-z A-Z)${name:1}")
+done
+add_user() {
+    local name=$1 file object objects=() entry=kz_program_$programs main=main
+    shift
+    for file in "$@"; do
+        object="$room/user_${programs}_$(basename "$file").o"
+        case "$file" in
+        *.cpp | *.cc | *.cxx) ${CXX:-c++} -std=gnu++17 -fno-exceptions -fno-rtti -w $user -c -o "$object" "$file" ;;
+        *) $cc -std=gnu11 -Wall -Wno-incompatible-pointer-types -Wno-int-conversion -Wno-unknown-pragmas -Wno-missing-braces $user -c -o "$object" "$file" ;;
+        esac
+        objects+=("$object")
+    done
+    $cc -nostdlib -r -o "$room/program_$programs.o" "${objects[@]}"
+    ! nm "$room/program_$programs.o" | grep -q ' T wmain$' || main=wmain
+    if ! nm "$room/program_$programs.o" | grep -q " T $main\$"; then
+        say "$name has no main"
+        exit 1
+    fi
+    objcopy --redefine-sym "$main=$entry" "${streams[@]}" "${changes[@]}" "$room/program_$programs.o"
+    objcopy --keep-global-symbol="$entry" "$room/program_$programs.o"
+    printf 'int %s(int, void *);\n' "$entry" >> "$room/declarations"
+    printf '{"%s", %s, %s},\n' "$name" "$entry" "$([ $main = wmain ] && echo 1 || echo 0)" >> "$room/programs"
+    programs=$((programs + 1))
+}
 while [ $# -gt 0 ]; do
-    if [ "$1" = --driver ]; then
+    if [ "$1" = --driver ] || [ "$1" = --user ]; then
+        word=$1
         shift
         files=()
-        while [ $# -gt 0 ] && [ "$1" != --driver ]; do
+        while [ $# -gt 0 ] && [ "$1" != --driver ] && [ "$1" != --user ]; do
             files+=("$1")
             shift
         done
         if [ ${#files[@]} = 0 ]; then
-            say "no file behind --driver"
+            say "no file behind $word"
             exit 2
         fi
-        add "$(name_of "${files[0]}")" "${files[@]}"
+        if [ "$word" = --driver ]; then
+            add "$(name_of "${files[0]}")" "${files[@]}"
+        else
+            add_user "$(name_of "${files[0]}")" "${files[@]}"
+        fi
     elif [ -d "$1" ]; then
         mapfile -d '' -t files < <(find "$1" -maxdepth 1 \( -name '*.c' -o -name '*.cpp' -o -name '*.cc' -o -name '*.cxx' \) -print0 | LC_ALL=C sort -z)
         if [ ${#files[@]} = 0 ]; then
@@ -199,6 +237,10 @@ done
     cat "$room/entries"
     echo "};"
     echo "const unsigned long kz_drivers_count = sizeof kz_drivers / sizeof kz_drivers[0];"
+    echo "const struct { const char *name; int (*entry)(int, void *); _Bool is_wide; } kz_programs[] = {"
+    cat "$room/programs"
+    echo "{0, 0, 0}};"
+    echo "const unsigned long kz_programs_count = $programs;"
 } > "$room/drivers.c"
 if [ -n "$main" ]; then
     $cc -std=gnu11 -Wall -Wextra $common "${includes[@]}" -I"$here/host" -I"$here" -c -o "$room/main.o" "$main"
@@ -206,4 +248,6 @@ if [ -n "$main" ]; then
 fi
 kit=("$support/liblibc_c.a")
 [ ! -f "$support/libos_c.a" ] || kit=("$support/libos_c.a" "${kit[@]}")
-$cc $link -o "$program" "$room/drivers.c" "$room"/driver_*.o "${libraries[@]}" "$library" "${kit[@]}" -pthread
+others=()
+[ "$programs" = 0 ] || others=("$room"/program_*.o)
+$cc $link -o "$program" "$room/drivers.c" "$room"/driver_*.o "${others[@]}" "${libraries[@]}" "$library" "${kit[@]}" -pthread

@@ -181,7 +181,7 @@ static void look_at_freed(uintptr_t address, const void *from, bool is_write)
 
 static bool is_watched(void)
 {
-    return ex && ex->is_running && kz_me != &kz_first;
+    return ex && ex->is_running && !ex->is_alone && kz_me != &kz_first;
 }
 
 void ex_access(const void *address, size_t size, bool is_write, bool is_atomic, const void *from)

@@ -42,7 +42,7 @@ static bool can_go_on(Runner *one)
     if (one->state != WAITING)
         return one->state != ENDED;
     KzClient *before = kz_me;
-    kz_me = &one->client;
+    kz_me = one->client;
     bool can = one->can(one->what);
     kz_me = before;
     return can;
@@ -51,7 +51,7 @@ static bool can_go_on(Runner *one)
 /* Of clients with the same lines that haven't begun only the first may begin: the others' schedules are the same by other names. */
 static bool is_behind_like(const Runner *one)
 {
-    for (int at = one->like; !one->has_begun && at < (int)one->client.number; at++)
+    for (int at = one->like; !one->has_begun && at < (int)one->client->number; at++)
         if (ex_runners[at].like == one->like && !ex_runners[at].has_begun)
             return true;
     return false;
@@ -70,7 +70,7 @@ typedef struct {
 
 static void add(Options *options, Runner *one)
 {
-    options->clients[options->count++] = (int)one->client.number;
+    options->clients[options->count++] = (int)one->client->number;
 }
 
 /* The one that runs first; those that only go on where nobody else can, then: the scenario's last lines, and waits whose time is over. */
@@ -89,8 +89,9 @@ static Options options_of(Runner *me)
     for (int at = 1; at <= ex->runners_count && !options.count; at++)
         if (is_finally(&ex_runners[at]) && can_go_on(&ex_runners[at]))
             add(&options, &ex_runners[at]);
+    bool is_over = !ex_is_stuck(); /* whoever is beside the clients alone waits on */
     for (int at = 1; at <= ex->runners_count && !options.count; at++)
-        if (ex_runners[at].state == WAITING && ex_runners[at].client.timeout) {
+        if (ex_runners[at].state == WAITING && ex_runners[at].client->timeout && !(is_over && ex_runners[at].thread)) {
             ex_runners[at].timed_out = true;
             add(&options, &ex_runners[at]);
         }
@@ -129,22 +130,22 @@ static int choose(Runner *me)
 /* Where states are told apart another stack chooses, so that all clients stand alike. */
 static void go_on(Runner *me)
 {
-    if (ex->is_reduced) {
+    if (ex->is_reduced || ex->is_alone) {
         ex_switch(&me->stands, ex->back);
         return;
     }
     int client = choose(me);
-    if (client == (int)me->client.number)
+    if (client == (int)me->client->number)
         return;
     ex->current = client;
-    kz_me = client ? &ex_runners[client].client : &kz_first;
+    kz_me = client ? ex_runners[client].client : &kz_first;
     ex_switch(&me->stands, client ? ex_runners[client].stands : ex->back);
 }
 
 /* ---- The scheduler's calls. */
 static void point(const char *name, const void *from)
 {
-    if (is_set_up() || !ex->is_running || !name)
+    if (is_set_up() || !ex->is_running || ex->is_alone || !name)
         return;
     Runner *me = mine();
     if (me->is_fresh) {
@@ -162,11 +163,11 @@ static void point(const char *name, const void *from)
 static bool wait(KzCan *can, void *what, KzWaits why, const char *text)
 {
     Runner *me = mine();
-    me->client.why = why;
+    me->client->why = why;
     me->can = can;
     me->what = what;
     me->timed_out = false;
-    snprintf(me->client.waits, sizeof me->client.waits, "%s", text);
+    snprintf(me->client->waits, sizeof me->client->waits, "%s", text);
     me->state = WAITING;
     go_on(me);
     me->state = RUNNING;
@@ -182,7 +183,7 @@ static bool has_moved(void *steps)
 void ex_note_spin(void)
 {
     Runner *me = mine();
-    if (me->state != RUNNING || me->client.inside || ++me->spins < 200)
+    if (ex->is_alone || me->state != RUNNING || me->client->inside || ++me->spins < 200)
         return;
     unsigned steps = ex->steps;
     me->spins = 0;
@@ -191,7 +192,7 @@ void ex_note_spin(void)
 
 static unsigned choose_answer(unsigned count, KzChoice what, const char *name)
 {
-    if (is_set_up() || !ex->is_running)
+    if (is_set_up() || !ex->is_running || ex->is_alone)
         return 0;
     bool is_time = what == KZ_CHOICE_TIME;
     if (is_time ? ex->timeouts > 0 : ex->fails_used >= ex->fails && !ex->replay)
@@ -212,8 +213,6 @@ static unsigned choose_answer(unsigned count, KzChoice what, const char *name)
 static void nothing(void)
 {
 }
-
-const KzScheduler ex_scheduler = {point, wait, ex_touch, choose_answer, nothing, nothing, ex_say, true};
 
 /* ---- A client's life. */
 static bool has_work(void *unused)
@@ -247,6 +246,16 @@ static void live(void)
     go_on(me);
 }
 
+static void live_beside(void)
+{
+    Runner *me = mine();
+    me->has_begun = true;
+    me->state = RUNNING;
+    kz_live(me->thread);
+    me->state = ENDED;
+    go_on(me);
+}
+
 /* A page below each stack isn't there: what runs past it is seen. */
 void ex_open_stacks(void)
 {
@@ -260,16 +269,66 @@ bool ex_is_stack(const void *address)
     return (uintptr_t)address >= STACKS && (uintptr_t)address < STACKS + (size_t)STACK * (RUNNERS + 1);
 }
 
-static void make(Runner *one)
+static void make(Runner *one, int number, void (*life)(void))
 {
-    void **stands = (void **)top_of((int)one->client.number) - 2 - KEPT;
+    void **stands = (void **)top_of(number) - 2 - KEPT;
     memset(stands, 0, (KEPT + 2) * sizeof *stands);
-    stands[KEPT] = (void *)(uintptr_t)live;
+    stands[KEPT] = (void *)(uintptr_t)life;
     one->stands = stands;
-    one->state = one->is_worker ? WAITING : READY;
+    one->state = one->is_worker && life == live ? WAITING : READY;
     one->can = has_work;
     one->at = "the start";
 }
+
+/* ---- Threads beside the clients. Those that began in the set-up have a stack by then, which isn't in the image. */
+static char *kept[RUNNERS + 1];
+
+void ex_keep_stacks(void)
+{
+    ex->usual_count = ex->runners_count;
+    for (int at = KZ_FIRST_THREAD; at <= ex->runners_count; at++) {
+        Runner *one = &ex_runners[at];
+        one->kept_size = one->state == ENDED ? 0 : (size_t)(top_of(at) - (char *)one->stands);
+        kept[at] = ex_map(one->kept_size + 1);
+        memcpy(kept[at], top_of(at) - one->kept_size, one->kept_size);
+    }
+}
+
+static void put_stack_back(int at)
+{
+    size_t size = ex_runners[at].kept_size;
+    memcpy(top_of(at) - size, kept[at], size);
+}
+
+/* Between the clients and the first thread there may be places of none. */
+static void begin(KzThread *thread)
+{
+    int number = (int)thread->client.number;
+    Runner *one = &ex_runners[number];
+    for (int at = ex->runners_count + 1; at < number; at++)
+        ex_runners[at] = (Runner){.state = ENDED, .is_worker = true};
+    *one = (Runner){.client = &thread->client, .thread = thread, .name = thread->name, .is_worker = true, .like = number};
+    make(one, number, live_beside);
+    ex->runners_count = number > ex->runners_count ? number : ex->runners_count;
+}
+
+/* Before a run and behind it. */
+static bool let(KzThread *thread)
+{
+    Runner *one = &ex_runners[thread->client.number];
+    bool is_late = one->state == WAITING && thread->client.timeout && thread->client.until <= kz_now();
+    if (!is_set_up() || !(can_go_on(one) || is_late))
+        return false;
+    one->timed_out = !can_go_on(one);
+    ex->is_alone = true;
+    kz_me = one->client;
+    ex_switch(&ex->back, one->stands);
+    kz_me = &kz_first;
+    ex->is_alone = false;
+    return true;
+}
+
+const KzScheduler ex_scheduler = {point, wait, ex_touch, choose_answer, begin, let, nothing, nothing, ex_say, true};
 
 /* What a client left on its stack below where it stands: two states aren't to differ by that. */
 static void tidy(Runner *one)
@@ -277,7 +336,7 @@ static void tidy(Runner *one)
     if (!ex->is_reduced)
         return;
     if (one->state == ENDED)
-        one->stands = top_of((int)one->client.number);
+        one->stands = top_of((int)one->client->number);
     else
         memset((char *)one->stands - BELOW, 0, BELOW);
 }
@@ -287,7 +346,7 @@ uint64_t ex_stacks_hash(void)
 {
     uint64_t hash = 0;
     for (int at = 1; at <= ex->runners_count; at++) {
-        char *stands = ex_runners[at].stands;
+        char *stands = ex_runners[at].state == ENDED ? top_of(at) : ex_runners[at].stands;
         hash += ex_bytes_hash(stands, (size_t)(top_of(at) - stands), (uint64_t)at);
     }
     return hash;
@@ -297,14 +356,17 @@ uint64_t ex_stacks_hash(void)
 void ex_run(void)
 {
     for (int at = 1; at <= ex->runners_count; at++)
-        make(&ex_runners[at]);
+        if (at >= KZ_FIRST_THREAD)
+            put_stack_back(at);
+        else if (ex_runners[at].client)
+            make(&ex_runners[at], at, live);
     ex->current = 0;
     ex->is_running = true;
     Runner *before = NULL;
     for (int client = choose(NULL); client; client = ex->is_reduced ? choose(before) : 0) {
         before = &ex_runners[client];
         ex->current = client;
-        kz_me = &before->client;
+        kz_me = before->client;
         ex_switch(&ex->back, before->stands);
         tidy(before);
     }

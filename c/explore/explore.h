@@ -3,12 +3,13 @@
 #define KZ_EXPLORE_H
 
 #include "host.h"
+#include "run/beside.h"
 #include "run/scenario.h"
 
 #include <setjmp.h>
 
 enum {
-    RUNNERS = KZ_CLIENTS + 1, /* with the one of work items */
+    RUNNERS = KZ_FIRST_THREAD + KZ_THREADS - 1, /* clients, the one of work items, and threads beside them */
     STEPS = 20000,      /* of a run: one that has more is endless */
     PATH = 20000,       /* choices of a run */
     KINDS = 1024,       /* kinds of ends and of what is told */
@@ -21,13 +22,15 @@ enum {
 typedef enum { READY, RUNNING, WAITING, ENDED } State;
 
 typedef struct {
-    KzClient client;
+    KzClient *client; /* NULL where no runner is */
     void *stands; /* where its stack ends, while another runs */
     State state;
     bool has_begun, is_worker, timed_out;
     unsigned spins;               /* interlocked and volatile accesses since its last point */
     bool is_fresh;                /* it has begun, and done nothing yet */
     int like;                     /* the first client with the same lines */
+    KzThread *thread;             /* of a thread beside the clients */
+    size_t kept_size;             /* of one that began in the set-up: its stack, from where it stands */
     KzCan *can;                   /* what it waits for */
     void *what;
     const char *at;               /* where it stands */
@@ -66,7 +69,8 @@ typedef struct {
 typedef struct {
     /* The scenario, and how it is searched. */
     KzScenario scenario;
-    int runners_count;
+    int runners_count, usual_count; /* up to the last one; and as a run begins */
+    bool is_alone; /* a thread goes on until it waits, and nobody else */
     unsigned bound, fails, shard, shards;
     bool wants_ends, is_traced, is_quiet;
     bool is_reduced; /* a run that comes to a known state is given up */
@@ -148,6 +152,7 @@ void ex_in_order(const void *object);
 /* coroutine.c */
 extern const KzScheduler ex_scheduler;
 void ex_open_stacks(void);
+void ex_keep_stacks(void);
 bool ex_is_stack(const void *address);
 uint64_t ex_stacks_hash(void);
 void ex_run(void);

@@ -67,7 +67,7 @@ bool ex_is_heap(const void *address)
 void *malloc(size_t size)
 {
     ex_open_memory();
-    unsigned client = kz_me->number;
+    unsigned client = image && image->is_taken ? kz_me->number : 0; /* what threads allocate in the set-up is of the image */
     size_t room = (sizeof(Head) + size + 15) & ~(size_t)15;
     Head *head = (Head *)next[client];
     if (room < size || (size_t)(next[client] - arena(client)) + room > ARENA) {

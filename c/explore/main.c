@@ -18,7 +18,8 @@ static void start_run(void)
     ex->depth = ex->found_count = ex->schedule_length = ex->output_length = 0;
     ex->preemptions = ex->switches = ex->fails_used = ex->timeouts = ex->steps = ex->deviations = 0;
     ex->hash = 0;
-    ex->is_limited = ex->is_given_up = false;
+    ex->is_limited = ex->is_given_up = ex->is_alone = false;
+    ex->runners_count = ex->usual_count;
     ex->run++;
     ex->runs++;
     ex_start_clocks();
@@ -30,9 +31,9 @@ static void tell_stuck(void)
     size_t used = strlen(text);
     for (int at = 1; at <= ex->runners_count; at++) {
         const Runner *one = &ex_runners[at];
-        ex->is_limited |= one->state == WAITING && one->client.why == KZ_WAITS_FOR_US;
+        ex->is_limited |= one->state == WAITING && one->client->why == KZ_WAITS_FOR_US;
         if (!one->is_worker && one->state != ENDED && used + 1 < sizeof text)
-            used += (size_t)snprintf(text + used, sizeof text - used, "\n  %s waits for %s", one->name, one->client.waits);
+            used += (size_t)snprintf(text + used, sizeof text - used, "\n  %s waits for %s", one->name, one->client->waits);
     }
     ex_found(ex->is_limited ? LIMITED : STUCK, text);
 }
@@ -306,15 +307,16 @@ int main(int count, char **words)
     ex->memory = 1UL << 30;
     if (!read_words(count, words, &asked))
         return usage(words[0]);
+    ex_open_stacks();
     if (ex_read(asked.scenario) != 0 || !set_up())
         return 2;
     ex_open_shadow();
-    ex_open_stacks();
     ex_watch_faults();
     if (asked.replay || asked.seed)
         ex->is_reduced = ex->has_no_bound = false;
     if (ex->is_reduced)
         ex_open_states();
+    ex_keep_stacks();
     ex_take_image();
     if (asked.replay)
         return play(asked.replay);

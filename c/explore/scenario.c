@@ -1,10 +1,13 @@
 /* The runners of a scenario, and the one of work items. */
 #include "explore.h"
 
+static KzClient clients[KZ_CLIENTS + 2]; /* by their numbers */
+
 static Runner *new_runner(const char *name)
 {
     Runner *one = &ex_runners[++ex->runners_count];
-    kz_new_client(&one->client, name, (unsigned)ex->runners_count);
+    one->client = &clients[ex->runners_count];
+    kz_new_client(one->client, name, (unsigned)ex->runners_count);
     one->name = name;
     one->like = ex->runners_count;
     return one;

@@ -12,7 +12,7 @@ void ex_trace_text(const char *text)
 void ex_trace_step(const Runner *runner, bool is_preemption)
 {
     char text[TEXT];
-    if ((int)runner->client.number != ex->current || !ex->trace_length)
+    if ((int)runner->client->number != ex->current || !ex->trace_length)
         snprintf(text, sizeof text, "---- %s%s\n", runner->name, is_preemption ? " (preempts)" : "");
     else
         text[0] = 0;

@@ -16,6 +16,8 @@
 #define KZ_OWED 16
 /* Those of clients, and 32 helpers behind them. */
 #define KZ_WORKERS 48
+/* Threads beside the requests, and their numbers as clients: behind those of scenarios. */
+enum { KZ_THREADS = 8, KZ_FIRST_THREAD = 14 };
 #define KZ_LARGEST ((size_t)1 << 30)
 
 typedef enum {
@@ -31,11 +33,16 @@ typedef enum {
     KZ_IN_UNLOAD,
     KZ_IN_CLEANUP,
     KZ_IN_WORK,
-    KZ_IN_TIMER
+    KZ_IN_TIMER,
+    KZ_IN_THREAD,
+    KZ_IN_PORT,
+    KZ_IN_CANCEL,
+    KZ_IN_NOTIFY
 } KzCallback;
 
 typedef struct KzOp KzOp;
 typedef struct KzClient KzClient;
+typedef struct KzThread KzThread;
 
 /* The callback that runs, with a number of its own. `worker` is that of the manager which is in it. */
 typedef struct KzPlace {
@@ -63,6 +70,7 @@ struct _FLT_FILTER {
     const KzDriver *driver;
     FLT_REGISTRATION registration;
     bool is_registered, is_started, is_mandatory;
+    bool gave_up;    /* a wait that nobody here could end: what it does behind that isn't its mistake */
     bool leaves_out; /* a block that would have released what it holds: what is left isn't its mistake */
     uint32_t end; /* how far its end came: 0, or the status that stopped it */
     char altitude[68]; /* where it is attached by itself; empty if it isn't */
@@ -100,6 +108,9 @@ typedef struct KzFile {
     struct KzFile *next;
     uint64_t handle;
     bool has_handle, is_directory, is_close_due;
+    bool is_opening;      /* the file system has answered its create, which goes up still */
+    bool is_own;          /* a driver opened it: its handle is no client's */
+    PFLT_INSTANCE opener; /* of a filter's own: those at its altitude and above don't hear of it */
     unsigned users; /* operations, and the handle */
     unsigned maker; /* the number of the client: lists are in this order, so that they are the same whoever came first */
     PFLT_VOLUME volume;
@@ -177,6 +188,26 @@ typedef struct {
     FLT_POST_OPERATION_FLAGS flags;
 } KzSafe;
 
+/* Of an operation that a driver began itself: who hears of it, and what comes of one that nobody waits for. */
+typedef struct {
+    bool is_own, is_unheard, is_waited_for;
+    bool is_user; /* a program began it */
+    PFLT_INSTANCE initiator; /* those at its altitude and above don't hear; NULL: all hear */
+    ULONG irp_flags;
+    uint8_t worker;
+    PFLT_CALLBACK_DATA data; /* that the filter has of it, if it made one */
+    void (*done)(void *given, NTSTATUS status, uint64_t information, const uint8_t *bytes, size_t length);
+    void *given;
+} KzOwn;
+
+/* Whether it is to be cancelled, and who is told: the queue that it is in, or a routine. */
+typedef struct {
+    bool is_asked;
+    PFLT_CALLBACK_DATA_QUEUE queue;
+    PFLT_CALLBACK_DATA_QUEUE_IO_CONTEXT context; /* that its filter keeps */
+    VOID (*routine)(PFLT_CALLBACK_DATA data);
+} KzCancel;
+
 struct KzOp {
     KzOp *next;
     uint64_t id;
@@ -207,6 +238,9 @@ struct KzOp {
     KzSafe safe;
     unsigned maker;
     KzClient *runner; /* who carries it on, also while it is held */
+    KzOwn own;
+    KzCancel cancel;
+    bool is_cancelled; /* a create that a filter cancelled in its postoperation */
     unsigned users;   /* callbacks that look at it beside its runner */
     const char *request, *path; /* as in KzPlace */
     unsigned line;
@@ -351,6 +385,10 @@ void kz_free_locks(void);
 
 /* clock.c */
 void kz_tick(void);
+LONGLONG kz_first_time(void); /* when a run begins */
+uint64_t kz_now(void);        /* how many milliseconds passed since */
+/* What is due next, up to then, comes: a timer, or the end of a thread's wait. False if nothing is. */
+bool kz_pass_to_next(uint64_t until);
 void kz_pass(uint64_t milliseconds);
 bool kz_run_dpc(void);
 bool kz_has_dpc(void);
@@ -361,6 +399,13 @@ void kz_free_clock(void);
 /* object.c */
 void kz_take_object(PVOID object, bool is_flt, const char *call);
 bool kz_is_referenced(const void *object);
+enum { KZ_THREAD_OBJECT = 6 }; /* as the kit has it in a dispatcher's header */
+PETHREAD kz_thread_object(uint64_t process, uint64_t id);
+void kz_end_thread_object(PETHREAD thread);
+
+/* thread.c */
+void kz_tell_threads(PFLT_FILTER filter);
+void kz_free_own_threads(void);
 void kz_tell_objects(void);
 void kz_free_objects(void);
 
@@ -376,7 +421,8 @@ bool kz_has_work_of(PFLT_FILTER filter);
 void kz_tell_work(PFLT_FILTER filter);
 void kz_free_work(void);
 
-/* left.c */
+/* port.c */
+void kz_disconnect_ports(PFLT_FILTER filter);
 void kz_tell_ports(PFLT_FILTER filter);
 void kz_free_ports(void);
 
@@ -425,8 +471,15 @@ KzFile *kz_file_of(uint64_t handle);
 KzFile *kz_file_with(PFILE_OBJECT object);
 KzFile *kz_new_file(PFLT_VOLUME volume, const char *path, bool is_directory);
 void kz_file_opened(KzFile *file);
+void kz_file_answered(KzFile *file, uint64_t handle);
+bool kz_handle_of(KzFile *file, uint64_t *handle);
 void kz_let_go_file(KzFile *file);
 void kz_drop_file(uint64_t handle);
+
+/* reparse.c */
+void kz_adopt_name(KzFile *file);
+void kz_free_file_name(KzFile *file);
+bool kz_is_file_name(const void *memory);
 
 /* operation.c: also its verdicts, and whether one waits still for what it passed. */
 KazdrinEvent kz_verdict_of(KzOp *op, PFLT_INSTANCE instance, FLT_PREOP_CALLBACK_STATUS said, PVOID completion);
@@ -447,8 +500,45 @@ bool kz_is_held(const KzOp *op);
 bool kz_is_anybody_left(void);
 FLT_RELATED_OBJECTS kz_objects(PFLT_INSTANCE instance, KzFile *file);
 KzOp *kz_op_with(PFLT_CALLBACK_DATA data);
+FLT_CALLBACK_DATA_FLAGS kz_data_flags(const KzOp *op);
 void kz_tell_held(void);
+void kz_leave_ops(const KzClient *client); /* nobody waits any more for those that it carries on */
+void kz_resume(KzOp *op); /* pend.c: it goes on, by its runner or by whoever comes to it */
 void kz_free_ops(void);
+
+/* What runs beside the requests goes on: a deferred procedure call, a work item. False if nothing could. */
+bool kz_let_others(void);
+
+/* volume.c: which of two altitudes is higher, by their decimal values. */
+int kz_compare_altitudes(const char *a, const char *b);
+
+/* process.c */
+uint32_t kz_begin_process(uint64_t id, uint64_t parent, const char *image, NTSTATUS *other);
+uint32_t kz_end_process(uint64_t id);
+bool kz_is_sid(const char *text);
+void kz_set_user(uint64_t id, const char *sid);
+void kz_tell_routines(PFLT_FILTER filter);
+void kz_free_routines(void);
+
+/* cancel.c, queue.c */
+uint32_t kz_cancel(bool is_first, uint64_t number);
+void kz_cancel_of(uint64_t process);
+void kz_cancel_op(KzOp *op);
+void kz_leave_queue(PFLT_CALLBACK_DATA data);
+KzOp *kz_own_op(PFLT_CALLBACK_DATA data);
+
+/* create.c: the volume that a name begins with, and what is behind it; NULL if it begins with none. */
+PFLT_VOLUME kz_volume_named(const char *name, const char **rest);
+/* Handles of a driver's own files, and of what else it opens. */
+KzFile *kz_own_file(HANDLE handle);
+HANDLE kz_open_handle(PVOID object, const char *what);
+PVOID kz_object_of(HANDLE handle);
+bool kz_close_handle(HANDLE handle);
+void kz_tell_handles(PFLT_FILTER filter);
+void kz_free_handles(void);
+
+/* io.c: one that is open; what isn't is told. */
+KzFile *kz_opened_file(PFILE_OBJECT object, const char *call);
 
 /* filter.c */
 uint64_t kz_filter_phase(PFLT_FILTER filter);

@@ -53,7 +53,7 @@ static PFLT_CALLBACK_DATA CsqPeekNextIo(_In_ PFLT_CALLBACK_DATA_QUEUE DataQueue,
 static VOID CsqCompleteCanceledIo(_In_ PFLT_CALLBACK_DATA_QUEUE DataQueue, _Inout_ PFLT_CALLBACK_DATA Data)
 {
     UNREFERENCED_PARAMETER(DataQueue);
-    Data->IoStatus.Status = STATUS_FLT_DELETING_OBJECT;
+    Data->IoStatus.Status = STATUS_CANCELLED;
     Data->IoStatus.Information = 0;
     FltCompletePendedPreOperation(Data, FLT_PREOP_COMPLETE, NULL);
 }

@@ -1,6 +1,6 @@
 /* Time and what waits for it: events, semaphores, mutexes, timers. The clock begins with a year, goes on by a millisecond for each request, and otherwise only where a
  * test or a driver asks for it. A timer never fires unless time passes. */
-#include "host.h"
+#include "run/beside.h"
 
 enum { EVENT_KEEPS = 0, EVENT_RESETS = 1, MUTANT = 2, SEMAPHORE = 5, TIMER_KEEPS = 8, TIMER_RESETS = 9 };
 #define BEGINS 134116992000000000LL /* 2026-01-01 00:00:00 UTC */
@@ -14,6 +14,11 @@ static struct {
 static size_t timers_count;
 static PRKDPC dpcs[64];
 static size_t dpcs_count;
+
+LONGLONG kz_first_time(void)
+{
+    return BEGINS;
+}
 
 VOID KeQuerySystemTime(PLARGE_INTEGER CurrentTime)
 {
@@ -251,14 +256,40 @@ static void fire(PKTIMER timer)
     }
 }
 
-/* Lets that many units of 100 nanoseconds pass; what is due meanwhile fires, one after the other. */
+/* The next one that is due up to then: a timer fires, or the time of a thread's wait is over. */
+static bool pass_to_next(LONGLONG until)
+{
+    uint64_t deadline;
+    PKTIMER timer = next_due(until);
+    LONGLONG due = timer ? (LONGLONG)timer->DueTime.QuadPart : until;
+    if (!kz_has_others() && kz_next_deadline(&deadline) && (LONGLONG)deadline * MILLISECOND <= due) {
+        if ((LONGLONG)deadline * MILLISECOND > passed)
+            passed = (LONGLONG)deadline * MILLISECOND;
+        return kz_run_threads();
+    }
+    if (!timer)
+        return false;
+    fire(timer);
+    KeFlushQueuedDpcs();
+    return true;
+}
+
+bool kz_pass_to_next(uint64_t until)
+{
+    return pass_to_next((LONGLONG)until * MILLISECOND);
+}
+
+uint64_t kz_now(void)
+{
+    return (uint64_t)(passed / MILLISECOND);
+}
+
+/* Lets that many units of 100 nanoseconds pass; what is due meanwhile comes, one after the other. */
 static void pass(LONGLONG units)
 {
     LONGLONG until = passed + units;
-    for (PKTIMER timer = next_due(until); timer; timer = next_due(until)) {
-        fire(timer);
-        KeFlushQueuedDpcs();
-    }
+    while (pass_to_next(until))
+        ;
     if (until > passed)
         passed = until;
 }
@@ -415,13 +446,11 @@ NTSTATUS KeWaitForSingleObject(PVOID Object, KWAIT_REASON WaitReason, KPROCESSOR
         kz_tell(KZM_IRQL, __func__, "a wait at IRQL %u", KeGetCurrentIrql());
     if (kz_has_others())
         return wait_for(Object, Timeout ? units_of(Timeout) : 0);
-    while (kz_run_dpc() || kz_work())
+    while (kz_let_others())
         if (is_there(Object))
             return STATUS_SUCCESS;
-    for (LONGLONG until = Timeout ? passed + units_of(Timeout) : passed + 3600 * 1000 * MILLISECOND; next_due(until);) {
-        fire(next_due(until));
-        KeFlushQueuedDpcs();
-        while (kz_work())
+    for (LONGLONG until = Timeout ? passed + units_of(Timeout) : passed + 3600 * 1000 * MILLISECOND; pass_to_next(until);) {
+        while (kz_let_others())
             ;
         if (is_there(Object))
             return STATUS_SUCCESS;
@@ -466,8 +495,9 @@ NTSTATUS KeDelayExecutionThread(KPROCESSOR_MODE WaitMode, BOOLEAN Alertable, PLA
     kz_me->timeout = (uint64_t)(units_of(Interval) > 0 ? units_of(Interval) / MILLISECOND : 0) + 1;
     kz_wait(never, NULL, "KeDelayExecutionThread");
     kz_me->timeout = 0;
-    while (!kz_has_others() && kz_work())
+    while (kz_let_others())
         ;
-    pass(units_of(Interval));
+    if (!kz_me->beside)
+        pass(units_of(Interval));
     return STATUS_SUCCESS;
 }

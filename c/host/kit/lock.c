@@ -481,7 +481,7 @@ VOID ExWaitForRundownProtectionRelease(PEX_RUNDOWN_REF RunRef)
     unsigned long long inside = RunRef->Count / 2;
     RunRef->Count |= 1;
     in_order_of(RunRef);
-    while (RunRef->Count > 1 && !kz_has_others() && (kz_run_dpc() || kz_work()))
+    while (RunRef->Count > 1 && kz_let_others())
         ;
     kz_wait(is_run_down, RunRef, "ExWaitForRundownProtectionRelease, while %llu are inside", inside);
     in_order_of(RunRef);

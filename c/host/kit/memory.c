@@ -24,7 +24,7 @@ static size_t pieces_count;
 static unsigned returns; /* since all were looked at */
 
 /* Of each client the pieces that it took, the newest first, and those that it gave back: so their order is its own alone. Whoever has the manager has these too. */
-enum { LISTS = 16 };
+enum { LISTS = KZ_FIRST_THREAD + KZ_THREADS };
 static KzPiece *pieces[LISTS];
 static struct {
     KzPiece *pieces[KEPT];

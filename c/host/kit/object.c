@@ -1,14 +1,11 @@
 /* Objects of the kernel: processes and threads by the numbers that a test gives, and references to objects, which are counted. */
-#include "host.h"
+#include "kit/process.h"
+#include "manager/below.h"
 
 #include <stdlib.h>
 
-struct _EPROCESS {
-    PEPROCESS next;
-    uint64_t id;
-};
-
 struct _ETHREAD {
+    DISPATCHER_HEADER header; /* it can be waited for: until its end */
     PETHREAD next;
     PEPROCESS process;
     uint64_t id;
@@ -30,7 +27,7 @@ static PEPROCESS process_of(uint64_t id)
         if (one->id == id)
             return one;
     PEPROCESS made = kz_memory(sizeof *made);
-    *made = (struct _EPROCESS){processes, id};
+    *made = (struct _EPROCESS){.next = processes, .id = id};
     return processes = made;
 }
 
@@ -43,8 +40,24 @@ static PETHREAD thread_of(uint64_t process, uint64_t id)
     PETHREAD made = kz_memory(sizeof *made), *place = &threads;
     while (*place && (*place)->id < id)
         place = &(*place)->next;
-    *made = (struct _ETHREAD){*place, owner, id};
+    *made = (struct _ETHREAD){.header.Type = KZ_THREAD_OBJECT, .next = *place, .process = owner, .id = id};
     return *place = made;
+}
+
+PEPROCESS kz_process(uint64_t id)
+{
+    return process_of(id);
+}
+
+PETHREAD kz_thread_object(uint64_t process, uint64_t id)
+{
+    return thread_of(process, id);
+}
+
+void kz_end_thread_object(PETHREAD thread)
+{
+    thread->header.SignalState = 1;
+    kz_scheduler->touch(&thread->header, 0, KZT_GIVES);
 }
 
 PETHREAD KzCurrentThread(VOID)
@@ -163,10 +176,30 @@ static Taken **find(PVOID object)
     return at;
 }
 
+/* A file object stays as long as somebody references it, and its close waits. */
+static void keep_file(PVOID object)
+{
+    KzFile *file = kz_file_with(object);
+    if (file)
+        file->users++;
+}
+
+static void let_go_of_file(PVOID object)
+{
+    KzFile *file = kz_file_with(object);
+    if (!file)
+        return;
+    bool is_last = file->users == 1;
+    kz_let_go_file(file);
+    if (!is_last)
+        kz_close_if_due(file);
+}
+
 static LONG_PTR take(PVOID object, bool is_flt, const char *call)
 {
     Taken **at = find(object);
     if (!*at) {
+        keep_file(object);
         Taken *made = kz_memory(sizeof *made);
         *made = (Taken){NULL, object, 0, is_flt, call, kz_me->place};
         *at = made;
@@ -188,6 +221,7 @@ static LONG_PTR let_go(PVOID object, const char *call)
         Taken *gone = *at;
         *at = gone->next;
         free(gone);
+        let_go_of_file(object);
     }
     return left;
 }
@@ -216,9 +250,13 @@ NTSTATUS ObReferenceObjectByHandle(HANDLE Handle, ACCESS_MASK DesiredAccess, POB
                                    POBJECT_HANDLE_INFORMATION HandleInformation)
 {
     KZ_INSIDE();
-    (void)Handle, (void)DesiredAccess, (void)ObjectType, (void)AccessMode, (void)HandleInformation;
+    (void)DesiredAccess, (void)ObjectType, (void)AccessMode, (void)HandleInformation;
+    *Object = kz_object_of(Handle);
+    if (*Object) {
+        take(*Object, false, __func__);
+        return STATUS_SUCCESS;
+    }
     kz_tell(KZM_OWN_IO, __func__, "no object stands behind a handle here: it answers STATUS_INVALID_HANDLE");
-    *Object = NULL;
     return STATUS_INVALID_HANDLE;
 }
 
@@ -226,6 +264,10 @@ NTSTATUS PsLookupProcessByProcessId(HANDLE ProcessId, PEPROCESS *Process)
 {
     KZ_INSIDE();
     *Process = process_of(HandleToULong(ProcessId));
+    if ((*Process)->is_over) {
+        *Process = NULL;
+        return STATUS_INVALID_PARAMETER;
+    }
     take(*Process, false, __func__);
     return STATUS_SUCCESS;
 }
@@ -341,18 +383,6 @@ NTSTATUS ExUuidCreate(GUID *Uuid)
     static ULONG count;
     *Uuid = (GUID){++count, 0x4b41, 0x4a44, {0x80, 0, 0, 0, 0, 0, 0, 0}};
     return STATUS_SUCCESS;
-}
-
-/* ---- Security, as far as a create shows it. */
-VOID SeCaptureSubjectContext(PSECURITY_SUBJECT_CONTEXT SubjectContext)
-{
-    KZ_INSIDE();
-    memset(SubjectContext, 0, sizeof *SubjectContext);
-}
-
-VOID SeReleaseSubjectContext(PSECURITY_SUBJECT_CONTEXT SubjectContext)
-{
-    (void)SubjectContext;
 }
 
 /* ---- Files are neither cached nor mapped. */

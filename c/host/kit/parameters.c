@@ -198,12 +198,6 @@ BOOLEAN FltIs32bitProcess(PFLT_CALLBACK_DATA CallbackData)
     return FALSE;
 }
 
-BOOLEAN FltIsIoCanceled(PFLT_CALLBACK_DATA CallbackData)
-{
-    (void)CallbackData;
-    return FALSE;
-}
-
 PCHAR FltGetIrpName(UCHAR IrpMajorCode)
 {
     static const char *const names[] = {"IRP_MJ_CREATE", "IRP_MJ_CREATE_NAMED_PIPE", "IRP_MJ_CLOSE", "IRP_MJ_READ", "IRP_MJ_WRITE",

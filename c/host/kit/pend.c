@@ -1,6 +1,13 @@
 /* Operations that a filter holds go on: it completes what it pended, in any order and from anywhere. */
 #include "run/expect.h"
 
+void kz_resume(KzOp *op)
+{
+    op->next_resumed = NULL;
+    *kz.resumed_end = op;
+    kz.resumed_end = &op->next_resumed;
+}
+
 static void resume(KzOp *op)
 {
     op->stage = KZ_RESUMED;
@@ -8,11 +15,8 @@ static void resume(KzOp *op)
     kz.changes++;
     kz_scheduler->touch(op, 0, KZT_GIVES);
     kz_renew_data(op);
-    if (op->runner)
-        return;
-    op->next_resumed = NULL;
-    *kz.resumed_end = op;
-    kz.resumed_end = &op->next_resumed;
+    if (!op->runner)
+        kz_resume(op);
 }
 
 /* Makes the event from a callback of the instance that holds the operation: the one that runs, or else the question whether it may be detached, which is refused behind it.
@@ -67,6 +71,10 @@ VOID FltCompletePendedPreOperation(PFLT_CALLBACK_DATA CallbackData, FLT_PREOP_CA
         op->early_context = Context;
         kz_scheduler->touch(op, 0, KZT_GIVES);
         return;
+    }
+    if (op->cancel.routine) {
+        kz_tell(KZM_CANCEL_LEFT, "FltClearCancelCompletion", "never called before the operation goes on: its routine may be called for one that is gone");
+        op->cancel.routine = NULL;
     }
     bool is_touched = kz_is_touched(op) && CallbackStatus != FLT_PREOP_COMPLETE;
     if (is_touched && op->data->Flags & FLTFL_CALLBACK_DATA_DIRTY)

@@ -48,11 +48,11 @@ PVOID ExAllocatePool2(POOL_FLAGS Flags, SIZE_T NumberOfBytes, ULONG Tag)
     return take_pool(__func__, Flags & POOL_FLAG_PAGED, NumberOfBytes, Flags & POOL_FLAG_UNINITIALIZED ? 0xcd : 0, Tag);
 }
 
-/* Whether that is memory of a pool. */
+/* Whether that is memory of a pool, as the name of a file object is too. */
 static KzPiece *pool_of(PVOID memory, const char *call)
 {
     KzPiece *piece = kz_piece_of(memory);
-    if (piece && piece->kind == KZK_POOL)
+    if (piece && (piece->kind == KZK_POOL || (piece->kind == KZK_NAME && kz_is_file_name(memory))))
         return piece;
     kz_tell(KZM_NO_POOL, call, piece && piece->kind == KZK_CONTEXT ? "a context, which isn't a pool's memory" : "memory that isn't a pool's (freed twice?)");
     return NULL;
@@ -77,7 +77,7 @@ VOID ExFreePoolWithTag(PVOID P, ULONG Tag)
         return;
     if (piece->is_paged)
         kz_may_be_called(__func__, APC_LEVEL);
-    if (Tag && (Tag & ~PROTECTED_POOL) != (piece->tag & ~PROTECTED_POOL))
+    if (Tag && piece->kind == KZK_POOL && (Tag & ~PROTECTED_POOL) != (piece->tag & ~PROTECTED_POOL))
         kz_tell(KZM_WRONG_TAG, __func__, "a pool's memory with the tag '%s', which was taken with '%s'", kz_tag(Tag, given), kz_tag(piece->tag, own));
     kz_give_back(P);
 }

@@ -1,4 +1,4 @@
-/* A filter's queue of operations that it pended: the filter's own callbacks keep it. Nothing cancels an operation here, so that none leaves it by itself. */
+/* A filter's queue of operations that it pended: the filter's own callbacks keep it. One that is cancelled leaves it (cancel.c). */
 #include "host.h"
 
 NTSTATUS FltCbdqInitialize(PFLT_INSTANCE Instance, PFLT_CALLBACK_DATA_QUEUE Cbdq, PFLT_CALLBACK_DATA_QUEUE_INSERT_IO CbdqInsertIo,
@@ -17,6 +17,29 @@ NTSTATUS FltCbdqInitialize(PFLT_INSTANCE Instance, PFLT_CALLBACK_DATA_QUEUE Cbdq
         .CompleteCanceledIo = CbdqCompleteCanceledIo,
     };
     return STATUS_SUCCESS;
+}
+
+/* The operation is in the queue from here on. */
+static void enter_queue(PFLT_CALLBACK_DATA_QUEUE queue, PFLT_CALLBACK_DATA data, PFLT_CALLBACK_DATA_QUEUE_IO_CONTEXT context)
+{
+    KZ_INSIDE();
+    KzOp *op = kz_op_with(data);
+    if (!op)
+        return;
+    op->cancel.queue = queue;
+    op->cancel.context = context;
+}
+
+void kz_leave_queue(PFLT_CALLBACK_DATA data)
+{
+    KZ_INSIDE();
+    KzOp *op = kz_op_with(data);
+    if (op && op->cancel.context)
+        op->cancel.context->Cbd = NULL;
+    if (op) {
+        op->cancel.queue = NULL;
+        op->cancel.context = NULL;
+    }
 }
 
 VOID FltCbdqEnable(PFLT_CALLBACK_DATA_QUEUE Cbdq)
@@ -38,6 +61,8 @@ NTSTATUS FltCbdqInsertIo(PFLT_CALLBACK_DATA_QUEUE Cbdq, PFLT_CALLBACK_DATA Cbd, 
     NTSTATUS status = is_disabled ? STATUS_FLT_CBDQ_DISABLED : Cbdq->InsertIo(Cbdq, Cbd, InsertContext);
     if (Context)
         Context->Cbd = NT_SUCCESS(status) ? Cbd : NULL;
+    if (NT_SUCCESS(status))
+        enter_queue(Cbdq, Cbd, Context);
     Cbdq->Release(Cbdq, irql);
     return status;
 }
@@ -48,8 +73,10 @@ PFLT_CALLBACK_DATA FltCbdqRemoveNextIo(PFLT_CALLBACK_DATA_QUEUE Cbdq, PVOID Peek
     KIRQL irql = 0;
     Cbdq->Acquire(Cbdq, &irql);
     PFLT_CALLBACK_DATA next = Cbdq->PeekNextIo(Cbdq, NULL, PeekContext);
-    if (next)
+    if (next) {
         Cbdq->RemoveIo(Cbdq, next);
+        kz_leave_queue(next);
+    }
     Cbdq->Release(Cbdq, irql);
     return next;
 }
@@ -58,12 +85,13 @@ PFLT_CALLBACK_DATA FltCbdqRemoveIo(PFLT_CALLBACK_DATA_QUEUE Cbdq, PFLT_CALLBACK_
 {
     KZ_INSIDE();
     KIRQL irql = 0;
-    PFLT_CALLBACK_DATA found = Context->Cbd;
-    Context->Cbd = NULL;
-    if (!found)
-        return NULL;
     Cbdq->Acquire(Cbdq, &irql);
-    Cbdq->RemoveIo(Cbdq, found);
+    PFLT_CALLBACK_DATA found = Context->Cbd;
+    if (found) {
+        Cbdq->RemoveIo(Cbdq, found);
+        kz_leave_queue(found);
+        Context->Cbd = NULL;
+    }
     Cbdq->Release(Cbdq, irql);
     return found;
 }

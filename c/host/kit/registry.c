@@ -208,7 +208,9 @@ NTSTATUS ZwCreateKey(PHANDLE KeyHandle, ACCESS_MASK DesiredAccess, POBJECT_ATTRI
 
 NTSTATUS ZwClose(HANDLE Handle)
 {
-    KZ_INSIDE();
+    KZ_CALL();
+    if (kz_close_handle(Handle))
+        return STATUS_SUCCESS;
     Key *gone = key_of(Handle, __func__);
     if (!gone)
         return STATUS_INVALID_HANDLE;

@@ -1,93 +1,7 @@
-/* What the manager leaves out by name is declared: it answers STATUS_NOT_SUPPORTED, or that there is none, and is told once as a LIMIT. A port is made, so that a driver that
- * has one beside its callbacks loads; nobody ever connects to it. */
+/* What the manager leaves out by name is declared: it answers STATUS_NOT_SUPPORTED, or that there is none, and is told once as a LIMIT. */
 #include "host.h"
 
 #include <stdlib.h>
-
-/* ---- Ports. */
-struct _FLT_PORT {
-    PFLT_PORT next;
-    PFLT_FILTER filter;
-    KzPlace place; /* where it was made */
-};
-
-static PFLT_PORT ports;
-static UCHAR descriptor;
-
-NTSTATUS FltBuildDefaultSecurityDescriptor(PSECURITY_DESCRIPTOR *SecurityDescriptor, ACCESS_MASK DesiredAccess)
-{
-    KZ_INSIDE();
-    (void)DesiredAccess;
-    *SecurityDescriptor = &descriptor;
-    return STATUS_SUCCESS;
-}
-
-VOID FltFreeSecurityDescriptor(PSECURITY_DESCRIPTOR SecurityDescriptor)
-{
-    KZ_INSIDE();
-    if (SecurityDescriptor != &descriptor)
-        kz_tell(KZM_NO_FILTER_OBJECT, __func__, "no security descriptor of FltBuildDefaultSecurityDescriptor");
-}
-
-NTSTATUS FltCreateCommunicationPort(PFLT_FILTER Filter, PFLT_PORT *ServerPort, POBJECT_ATTRIBUTES ObjectAttributes, PVOID ServerPortCookie,
-                                    PFLT_CONNECT_NOTIFY ConnectNotifyCallback, PFLT_DISCONNECT_NOTIFY DisconnectNotifyCallback,
-                                    PFLT_MESSAGE_NOTIFY MessageNotifyCallback, LONG MaxConnections)
-{
-    KZ_INSIDE();
-    (void)ObjectAttributes, (void)ServerPortCookie, (void)ConnectNotifyCallback, (void)DisconnectNotifyCallback, (void)MessageNotifyCallback, (void)MaxConnections;
-    kz_tell(KZM_PORT, __func__, "the port is made, and nobody ever connects to it");
-    PFLT_PORT made = kz_memory(sizeof *made);
-    *made = (struct _FLT_PORT){ports, Filter, kz_me->place};
-    ports = made;
-    *ServerPort = made;
-    return STATUS_SUCCESS;
-}
-
-VOID FltCloseCommunicationPort(PFLT_PORT ServerPort)
-{
-    KZ_INSIDE();
-    for (PFLT_PORT *at = &ports; *at; at = &(*at)->next)
-        if (*at == ServerPort) {
-            *at = ServerPort->next;
-            free(ServerPort);
-            return;
-        }
-    kz_tell(KZM_NO_HANDLE, __func__, "no port (closed twice?)");
-}
-
-VOID FltCloseClientPort(PFLT_FILTER Filter, PFLT_PORT *ClientPort)
-{
-    KZ_INSIDE();
-    (void)Filter;
-    *ClientPort = NULL;
-}
-
-NTSTATUS FltSendMessage(PFLT_FILTER Filter, PFLT_PORT *ClientPort, PVOID SenderBuffer, ULONG SenderBufferLength, PVOID ReplyBuffer, PULONG ReplyLength,
-                        PLARGE_INTEGER Timeout)
-{
-    KZ_INSIDE();
-    (void)Filter, (void)ClientPort, (void)SenderBuffer, (void)SenderBufferLength, (void)ReplyBuffer, (void)ReplyLength, (void)Timeout;
-    return STATUS_PORT_DISCONNECTED; /* as in the kit, where nobody is connected */
-}
-
-void kz_tell_ports(PFLT_FILTER filter)
-{
-    for (PFLT_PORT one = ports; one; one = one->next)
-        if (one->filter == filter) {
-            KzPlace before = kz_enter_again(&one->place);
-            kz_tell(KZM_PORT_LEAK, "FltCloseCommunicationPort", "never called for a port");
-            kz_me->place = before;
-        }
-}
-
-void kz_free_ports(void)
-{
-    while (ports) {
-        PFLT_PORT one = ports;
-        ports = one->next;
-        free(one);
-    }
-}
 
 /* ---- Answers. Arguments aren't looked at. */
 static NTSTATUS none(KzMessage message, const char *call)
@@ -116,38 +30,6 @@ static void nothing(KzMessage message, const char *call)
     }
 
 /* I/O that a filter begins itself. */
-NTSTATUS FltCreateFile(PFLT_FILTER Filter, PFLT_INSTANCE Instance, PHANDLE FileHandle, ACCESS_MASK DesiredAccess, POBJECT_ATTRIBUTES ObjectAttributes,
-                       PIO_STATUS_BLOCK IoStatusBlock, PLARGE_INTEGER AllocationSize, ULONG FileAttributes, ULONG ShareAccess, ULONG CreateDisposition,
-                       ULONG CreateOptions, PVOID EaBuffer, ULONG EaLength, ULONG Flags)
-{
-    KZ_INSIDE();
-    *FileHandle = NULL;
-    return none(KZM_OWN_IO, __func__);
-}
-
-NTSTATUS FltCreateFileEx(PFLT_FILTER Filter, PFLT_INSTANCE Instance, PHANDLE FileHandle, PFILE_OBJECT *FileObject, ACCESS_MASK DesiredAccess,
-                         POBJECT_ATTRIBUTES ObjectAttributes, PIO_STATUS_BLOCK IoStatusBlock, PLARGE_INTEGER AllocationSize, ULONG FileAttributes,
-                         ULONG ShareAccess, ULONG CreateDisposition, ULONG CreateOptions, PVOID EaBuffer, ULONG EaLength, ULONG Flags)
-{
-    KZ_INSIDE();
-    *FileHandle = NULL;
-    if (FileObject)
-        *FileObject = NULL;
-    return none(KZM_OWN_IO, __func__);
-}
-
-NTSTATUS FltCreateFileEx2(PFLT_FILTER Filter, PFLT_INSTANCE Instance, PHANDLE FileHandle, PFILE_OBJECT *FileObject, ACCESS_MASK DesiredAccess,
-                          POBJECT_ATTRIBUTES ObjectAttributes, PIO_STATUS_BLOCK IoStatusBlock, PLARGE_INTEGER AllocationSize, ULONG FileAttributes,
-                          ULONG ShareAccess, ULONG CreateDisposition, ULONG CreateOptions, PVOID EaBuffer, ULONG EaLength, ULONG Flags,
-                          PIO_DRIVER_CREATE_CONTEXT DriverContext)
-{
-    KZ_INSIDE();
-    *FileHandle = NULL;
-    if (FileObject)
-        *FileObject = NULL;
-    return none(KZM_OWN_IO, __func__);
-}
-
 NTSTATUS FltOpenVolume(PFLT_INSTANCE Instance, PHANDLE VolumeHandle, PFILE_OBJECT *VolumeFileObject)
 {
     KZ_INSIDE();
@@ -157,20 +39,6 @@ NTSTATUS FltOpenVolume(PFLT_INSTANCE Instance, PHANDLE VolumeHandle, PFILE_OBJEC
     return none(KZM_OWN_IO, __func__);
 }
 
-NTSTATUS FltClose(HANDLE FileHandle)
-{
-    KZ_INSIDE();
-    return ZwClose(FileHandle);
-}
-
-NONE(KZM_OWN_IO, FltReadFile, PFLT_INSTANCE InitiatingInstance, PFILE_OBJECT FileObject, PLARGE_INTEGER ByteOffset, ULONG Length, PVOID Buffer,
-     FLT_IO_OPERATION_FLAGS Flags, PULONG BytesRead, PFLT_COMPLETED_ASYNC_IO_CALLBACK CallbackRoutine, PVOID CallbackContext)
-NONE(KZM_OWN_IO, FltWriteFile, PFLT_INSTANCE InitiatingInstance, PFILE_OBJECT FileObject, PLARGE_INTEGER ByteOffset, ULONG Length, PVOID Buffer,
-     FLT_IO_OPERATION_FLAGS Flags, PULONG BytesWritten, PFLT_COMPLETED_ASYNC_IO_CALLBACK CallbackRoutine, PVOID CallbackContext)
-NONE(KZM_OWN_IO, FltQueryInformationFile, PFLT_INSTANCE Instance, PFILE_OBJECT FileObject, PVOID FileInformation, ULONG Length,
-     FILE_INFORMATION_CLASS FileInformationClass, PULONG LengthReturned)
-NONE(KZM_OWN_IO, FltSetInformationFile, PFLT_INSTANCE Instance, PFILE_OBJECT FileObject, PVOID FileInformation, ULONG Length,
-     FILE_INFORMATION_CLASS FileInformationClass)
 NONE(KZM_OWN_IO, FltQueryDirectoryFile, PFLT_INSTANCE Instance, PFILE_OBJECT FileObject, PVOID FileInformation, ULONG Length,
      FILE_INFORMATION_CLASS FileInformationClass, BOOLEAN ReturnSingleEntry, PUNICODE_STRING FileName, BOOLEAN RestartScan, PULONG LengthReturned)
 NONE(KZM_OWN_IO, FltQueryVolumeInformation, PFLT_INSTANCE Instance, PIO_STATUS_BLOCK Iosb, PVOID FsInformation, ULONG Length,
@@ -186,17 +54,14 @@ NONE(KZM_SECURITY, FltQuerySecurityObject, PFLT_INSTANCE Instance, PFILE_OBJECT 
      PSECURITY_DESCRIPTOR SecurityDescriptor, ULONG Length, PULONG LengthNeeded)
 NONE(KZM_SECURITY, FltSetSecurityObject, PFLT_INSTANCE Instance, PFILE_OBJECT FileObject, SECURITY_INFORMATION SecurityInformation,
      PSECURITY_DESCRIPTOR SecurityDescriptor)
-NONE(KZM_OWN_IO, FltFlushBuffers2, PFLT_INSTANCE Instance, PFILE_OBJECT FileObject, ULONG FlushType, PFLT_CALLBACK_DATA CallbackData)
 NONE(KZM_OWN_IO, FltNotifyFilterChangeDirectory, PVOID NotifySync, PLIST_ENTRY NotifyList, PVOID FsContext, PVOID FullDirectoryName, BOOLEAN WatchTree,
      BOOLEAN IgnoreBuffer, ULONG CompletionFilter, PFLT_CALLBACK_DATA NotifyCallbackData, PVOID TraverseCallback, PVOID SubjectContext, PVOID FilterCallback)
-NONE(KZM_OWN_IO, FltFlushBuffers, PFLT_INSTANCE Instance, PFILE_OBJECT FileObject)
 NONE(KZM_OWN_IO, FltFsControlFile, PFLT_INSTANCE Instance, PFILE_OBJECT FileObject, ULONG FsControlCode, PVOID InputBuffer, ULONG InputBufferLength,
      PVOID OutputBuffer, ULONG OutputBufferLength, PULONG LengthReturned)
 NONE(KZM_OWN_IO, FltDeviceIoControlFile, PFLT_INSTANCE Instance, PFILE_OBJECT FileObject, ULONG IoControlCode, PVOID InputBuffer, ULONG InputBufferLength,
      PVOID OutputBuffer, ULONG OutputBufferLength, PULONG LengthReturned)
 NONE(KZM_REPARSE, FltTagFile, PFLT_INSTANCE InitiatingInstance, PFILE_OBJECT FileObject, ULONG FileTag, GUID *Guid, PVOID DataBuffer, USHORT DataBufferLength)
 NONE(KZM_REPARSE, FltUntagFile, PFLT_INSTANCE InitiatingInstance, PFILE_OBJECT FileObject, ULONG FileTag, GUID *Guid)
-NONE(KZM_REPARSE, IoReplaceFileObjectName, PFILE_OBJECT FileObject, PWSTR NewFileName, USHORT FileNameLength)
 
 NTSTATUS FltAllocateCallbackData(PFLT_INSTANCE Instance, PFILE_OBJECT FileObject, PFLT_CALLBACK_DATA *RetNewCallbackData)
 {
@@ -210,43 +75,6 @@ NOTHING_DONE(KZM_OWN_IO, FltReuseCallbackData, PFLT_CALLBACK_DATA CallbackData)
 NOTHING_DONE(KZM_OWN_IO, FltPerformSynchronousIo, PFLT_CALLBACK_DATA CallbackData)
 NONE(KZM_OWN_IO, FltPerformAsynchronousIo, PFLT_CALLBACK_DATA CallbackData, PFLT_COMPLETED_ASYNC_IO_CALLBACK CallbackRoutine, PVOID CallbackContext)
 NOTHING_DONE(KZM_OWN_IO, FltReissueSynchronousIo, PFLT_INSTANCE InitiatingInstance, PFLT_CALLBACK_DATA CallbackData)
-
-NTSTATUS ZwCreateFile(PHANDLE FileHandle, ACCESS_MASK DesiredAccess, POBJECT_ATTRIBUTES ObjectAttributes, PIO_STATUS_BLOCK IoStatusBlock,
-                      PLARGE_INTEGER AllocationSize, ULONG FileAttributes, ULONG ShareAccess, ULONG CreateDisposition, ULONG CreateOptions, PVOID EaBuffer,
-                      ULONG EaLength)
-{
-    KZ_INSIDE();
-    *FileHandle = NULL;
-    return none(KZM_OWN_IO, __func__);
-}
-
-NONE(KZM_OWN_IO, ZwReadFile, HANDLE FileHandle, HANDLE Event, PVOID ApcRoutine, PVOID ApcContext, PIO_STATUS_BLOCK IoStatusBlock, PVOID Buffer, ULONG Length,
-     PLARGE_INTEGER ByteOffset, PULONG Key)
-NONE(KZM_OWN_IO, ZwWriteFile, HANDLE FileHandle, HANDLE Event, PVOID ApcRoutine, PVOID ApcContext, PIO_STATUS_BLOCK IoStatusBlock, PVOID Buffer, ULONG Length,
-     PLARGE_INTEGER ByteOffset, PULONG Key)
-
-/* Cancellation. An open that is to be cancelled stays: its caller has the handle. */
-NOTHING_DONE(KZM_CANCEL, FltCancelFileOpen, PFLT_INSTANCE Instance, PFILE_OBJECT FileObject)
-
-BOOLEAN FltCancelIo(PFLT_CALLBACK_DATA CallbackData)
-{
-    KZ_INSIDE();
-    nothing(KZM_CANCEL, __func__);
-    return FALSE;
-}
-
-NTSTATUS FltSetCancelCompletion(PFLT_CALLBACK_DATA CallbackData, VOID (*CanceledCallback)(PFLT_CALLBACK_DATA CallbackData))
-{
-    KZ_INSIDE();
-    kz_tell(KZM_CANCEL, __func__, "nothing is cancelled: the routine is never called");
-    return STATUS_SUCCESS;
-}
-
-NTSTATUS FltClearCancelCompletion(PFLT_CALLBACK_DATA CallbackData)
-{
-    KZ_INSIDE();
-    return STATUS_SUCCESS;
-}
 
 /* File, transaction and section contexts. A file system without file contexts answers so. */
 NTSTATUS FltSetFileContext(PFLT_INSTANCE Instance, PFILE_OBJECT FileObject, FLT_SET_CONTEXT_OPERATION Operation, PFLT_CONTEXT NewContext,
@@ -376,33 +204,7 @@ NTSTATUS FltFindExtraCreateParameter(PFLT_FILTER Filter, PVOID EcpList, const GU
     return STATUS_NOT_FOUND;
 }
 
-/* Threads, processes, tokens. */
-NTSTATUS PsCreateSystemThread(PHANDLE ThreadHandle, ULONG DesiredAccess, POBJECT_ATTRIBUTES ObjectAttributes, HANDLE ProcessHandle, CLIENT_ID *ClientId,
-                              PKSTART_ROUTINE StartRoutine, PVOID StartContext)
-{
-    KZ_INSIDE();
-    *ThreadHandle = NULL;
-    return none(KZM_THREAD, __func__);
-}
-
-NONE(KZM_THREAD, PsTerminateSystemThread, NTSTATUS ExitStatus)
-
-NTSTATUS PsSetCreateProcessNotifyRoutine(PCREATE_PROCESS_NOTIFY_ROUTINE NotifyRoutine, BOOLEAN Remove)
-{
-    KZ_INSIDE();
-    if (!Remove)
-        kz_tell(KZM_NOTIFY, __func__, "no process begins or ends: the routine is never called");
-    return STATUS_SUCCESS;
-}
-
-NTSTATUS PsSetCreateProcessNotifyRoutineEx(PCREATE_PROCESS_NOTIFY_ROUTINE_EX NotifyRoutine, BOOLEAN Remove)
-{
-    KZ_INSIDE();
-    if (!Remove)
-        kz_tell(KZM_NOTIFY, __func__, "no process begins or ends: the routine is never called");
-    return STATUS_SUCCESS;
-}
-
+/* Processes, tokens. */
 NTSTATUS ObOpenObjectByPointer(PVOID Object, ULONG HandleAttributes, PVOID PassedAccessState, ACCESS_MASK DesiredAccess, POBJECT_TYPE ObjectType,
                                KPROCESSOR_MODE AccessMode, PHANDLE Handle)
 {
@@ -411,19 +213,11 @@ NTSTATUS ObOpenObjectByPointer(PVOID Object, ULONG HandleAttributes, PVOID Passe
     return none(KZM_SECURITY, __func__);
 }
 
-NTSTATUS SeLocateProcessImageName(PEPROCESS Process, PUNICODE_STRING *ImageFileName)
-{
-    KZ_INSIDE();
-    *ImageFileName = NULL;
-    return none(KZM_SECURITY, __func__);
-}
-
 NONE(KZM_SECURITY, ZwQueryInformationProcess, HANDLE ProcessHandle, ULONG ProcessInformationClass, PVOID ProcessInformation, ULONG ProcessInformationLength,
      PULONG ReturnLength)
 NONE(KZM_SECTION, ZwMapViewOfSection, HANDLE SectionHandle, HANDLE ProcessHandle, PVOID *BaseAddress, ULONG_PTR ZeroBits, SIZE_T CommitSize,
      PLARGE_INTEGER SectionOffset, PSIZE_T ViewSize, ULONG InheritDisposition, ULONG AllocationType, ULONG Win32Protect)
 NONE(KZM_SECTION, ZwUnmapViewOfSection, HANDLE ProcessHandle, PVOID BaseAddress)
-NONE(KZM_OWN_IO, FsRtlGetFileSize, PFILE_OBJECT FileObject, PLARGE_INTEGER FileSize)
 
 /* No file is opened in a transaction. */
 PTXN_PARAMETER_BLOCK IoGetTransactionParameterBlock(PFILE_OBJECT FileObject)
@@ -433,36 +227,11 @@ PTXN_PARAMETER_BLOCK IoGetTransactionParameterBlock(PFILE_OBJECT FileObject)
 
 #define NEVER(name, ...)                                                                    NTSTATUS name(__VA_ARGS__)                                                              {                                                                                           kz_tell(KZM_NOTIFY, #name, "nothing of that happens: the routine is never called");         return STATUS_SUCCESS;                                                              }
 NEVER(PsSetCreateThreadNotifyRoutine, PCREATE_THREAD_NOTIFY_ROUTINE NotifyRoutine)
-NEVER(PsSetLoadImageNotifyRoutine, PLOAD_IMAGE_NOTIFY_ROUTINE NotifyRoutine)
 
 NTSTATUS PsRemoveCreateThreadNotifyRoutine(PCREATE_THREAD_NOTIFY_ROUTINE NotifyRoutine)
 {
     KZ_INSIDE();
     return STATUS_SUCCESS;
-}
-
-NTSTATUS PsRemoveLoadImageNotifyRoutine(PLOAD_IMAGE_NOTIFY_ROUTINE NotifyRoutine)
-{
-    KZ_INSIDE();
-    return STATUS_SUCCESS;
-}
-
-NTSTATUS SeQueryInformationToken(PACCESS_TOKEN Token, ULONG TokenInformationClass, PVOID *TokenInformation)
-{
-    KZ_INSIDE();
-    *TokenInformation = NULL;
-    return none(KZM_SECURITY, __func__);
-}
-
-PACCESS_TOKEN PsReferencePrimaryToken(PEPROCESS Process)
-{
-    KZ_INSIDE();
-    nothing(KZM_SECURITY, __func__);
-    return NULL;
-}
-
-VOID PsDereferencePrimaryToken(PACCESS_TOKEN PrimaryToken)
-{
 }
 
 /* A routine that an older filter manager lacks: whoever asks for one copes with none. */

@@ -327,7 +327,7 @@ NTSTATUS FltGetVolumeInstanceFromName(PFLT_FILTER Filter, PFLT_VOLUME Volume, PC
 }
 
 /* Altitudes as decimal numbers of any length: -1, 0 or 1. */
-static int compare_altitudes(const char *a, const char *b)
+int kz_compare_altitudes(const char *a, const char *b)
 {
     a += strspn(a, "0");
     b += strspn(b, "0");
@@ -347,14 +347,14 @@ static int compare_altitudes(const char *a, const char *b)
 LONG FltCompareInstanceAltitudes(PFLT_INSTANCE Instance1, PFLT_INSTANCE Instance2)
 {
     KZ_INSIDE();
-    return compare_altitudes(Instance1->altitude, Instance2->altitude);
+    return kz_compare_altitudes(Instance1->altitude, Instance2->altitude);
 }
 
 static PFLT_INSTANCE outermost(PFLT_VOLUME volume, int side)
 {
     PFLT_INSTANCE found = NULL;
     for (size_t at = 0; at < kz.instances_count; at++)
-        if (is_there(kz.instances[at], volume, NULL) && (!found || compare_altitudes(kz.instances[at]->altitude, found->altitude) == side))
+        if (is_there(kz.instances[at], volume, NULL) && (!found || kz_compare_altitudes(kz.instances[at]->altitude, found->altitude) == side))
             found = kz.instances[at];
     return found;
 }
@@ -377,8 +377,8 @@ static PFLT_INSTANCE next_to(PFLT_INSTANCE from, int side)
     PFLT_INSTANCE found = NULL;
     for (size_t at = 0; at < kz.instances_count; at++) {
         PFLT_INSTANCE one = kz.instances[at];
-        if (is_there(one, from->volume, NULL) && compare_altitudes(one->altitude, from->altitude) == side &&
-            (!found || compare_altitudes(found->altitude, one->altitude) == side))
+        if (is_there(one, from->volume, NULL) && kz_compare_altitudes(one->altitude, from->altitude) == side &&
+            (!found || kz_compare_altitudes(found->altitude, one->altitude) == side))
             found = one;
     }
     return found;

@@ -216,7 +216,7 @@ static void show(KzOp *op, PFLT_INSTANCE instance)
 {
     kazdrin_lent(&kz.manager, &(KazdrinEvent){.worker = kz_worker()}, &op->lent, kz_me->room, sizeof kz_me->room);
     memset(op->iopb, 0, sizeof *op->iopb);
-    op->iopb->IrpFlags = irp_flags_of(op->event);
+    op->iopb->IrpFlags = irp_flags_of(op->event) | op->own.irp_flags;
     op->iopb->MajorFunction = kz_major(op->event);
     op->iopb->MinorFunction = op->event == KZE_LIST ? IRP_MN_QUERY_DIRECTORY : IRP_MN_NORMAL;
     op->iopb->OperationFlags = op->event == KZE_LIST ? SL_RESTART_SCAN : 0;
@@ -227,7 +227,8 @@ static void show(KzOp *op, PFLT_INSTANCE instance)
     show_parameters(op, &op->iopb->Parameters);
     op->shown.pristine = op->shown.asked ? copied(op, op->shown.asked, op->shown.asked_length) : NULL;
     op->shown.parameters = *op->iopb;
-    op->data->Flags = FLTFL_CALLBACK_DATA_IRP_OPERATION;
+    op->data->Flags = kz_data_flags(op);
+    op->data->RequestorMode = op->own.is_own && !op->own.is_user ? KernelMode : UserMode;
     if (irp_flags_of(op->event) & IRP_BUFFERED_IO)
         op->data->Flags |= FLTFL_CALLBACK_DATA_SYSTEM_BUFFER;
 }
@@ -573,6 +574,10 @@ static bool changes_answer(KzOp *op, KzServed *now)
         return false;
     if (op->data->IoStatus.Status == STATUS_PENDING) {
         kz_tell(KZM_COMPLETED_PENDING, "FLT_CALLBACK_DATA", "IoStatus.Status is STATUS_PENDING: it doesn't count");
+        return false;
+    }
+    if (op->is_cancelled && (!NT_SUCCESS(op->data->IoStatus.Status) || op->data->IoStatus.Status == STATUS_REPARSE)) {
+        op->other = op->data->IoStatus.Status; /* those above see it */
         return false;
     }
     if (op->event == KZE_CREATE || op->event == KZE_CLEANUP || op->event == KZE_CLOSE) {

@@ -57,6 +57,20 @@ void kz_file_opened(KzFile *file)
     object->SharedRead = object->SharedWrite = object->SharedDelete = TRUE;
 }
 
+void kz_file_answered(KzFile *file, uint64_t handle)
+{
+    kz_file_opened(file);
+    file->handle = handle;
+    file->is_opening = true;
+}
+
+/* A file object whose handle a client has, or whose create the file system has answered: those that saw the answer may use it. */
+bool kz_handle_of(KzFile *file, uint64_t *handle)
+{
+    *handle = file->handle;
+    return file->has_handle || file->is_opening;
+}
+
 void kz_let_go_file(KzFile *file)
 {
     if (--file->users > 0)
@@ -66,7 +80,7 @@ void kz_let_go_file(KzFile *file)
             *at = file->next;
             break;
         }
-    kz_give_back(file->object.FileName.Buffer);
+    kz_free_file_name(file);
     free(file);
 }
 

@@ -236,7 +236,7 @@ static uint32_t end_instances(PFLT_FILTER filter)
 static uint32_t end(PFLT_FILTER filter)
 {
     uint32_t status = end_instances(filter);
-    while (status == KZS_BUSY && !kz_has_others() && (kz_run_dpc() || kz_work())) {
+    while (status == KZS_BUSY && kz_let_others()) {
         kz_settle();
         status = end_instances(filter);
     }
@@ -271,6 +271,7 @@ VOID FltUnregisterFilter(PFLT_FILTER Filter)
         force(Filter);
     else
         kz_event(kz_worker(), (KazdrinEvent){.event = KZE_UNLOAD_RETURNED, .flag = 1});
+    kz_disconnect_ports(Filter);
     Filter->end = end(Filter);
     kz_me->place = place;
     if (Filter->end == KZS_BUSY)
@@ -302,6 +303,9 @@ static void tell_left(PFLT_FILTER filter)
     kz_tell_work(filter);
     kz_forget_timers(filter);
     kz_tell_ports(filter);
+    kz_tell_handles(filter);
+    kz_tell_threads(filter);
+    kz_tell_routines(filter);
     kz_tell_made(filter);
 }
 

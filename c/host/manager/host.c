@@ -1,5 +1,7 @@
 /* The host's one state, and its calls of the manager. */
+#include "run/beside.h"
 #include "run/expect.h"
+#include "user/program.h"
 
 #include <stdarg.h>
 #include <stdlib.h>
@@ -151,6 +153,11 @@ static void free_all(void)
     kz_free_made();
     kz_free_registry();
     kz_free_ports();
+    kz_free_handles();
+    kz_free_routines();
+    kz_forget_threads();
+    kz_free_own_threads();
+    kz_free_programs();
     kz_free_told();
     kz_free_kept_texts();
     for (size_t at = 0; at < kz.filters_count; at++)
@@ -170,6 +177,7 @@ void kz_end(void)
     kz_me->request = NULL;
     kz_me->line_number = 0;
     kz_unload_all();
+    kz_end_programs();
     kz_tell_held();
     for (size_t at = 0; at < kz.filters_count; at++) {
         kz_check_all_memory(kz.filters[at]);

@@ -178,7 +178,7 @@ static void let_complete(PFLT_INSTANCE instance)
 {
     instance->is_in_start = true;
     instance->start_worker = kz_worker();
-    while (!kz_has_others() && !is_quiet(instance) && kz_work())
+    while (!is_quiet(instance) && kz_let_others())
         ;
     kz_wait_for_us(is_quiet, instance, "callbacks and work items of instance %u", instance->id);
     instance->is_in_start = false;

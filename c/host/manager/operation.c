@@ -1,5 +1,6 @@
 /* Operations: each from its beginning to its reply, with all callbacks in between. */
 #include "run/expect.h"
+#include "manager/below.h"
 #include "manager/folder.h"
 
 #include <stdlib.h>
@@ -37,7 +38,7 @@ static ULONG caller_room(KazdrinEvent asked)
     }
 }
 
-static KzOp *new_op(uint64_t id, KazdrinEvent asked, KzFile *file, PFLT_VOLUME volume)
+KzOp *kz_new_op(uint64_t id, KazdrinEvent asked, KzFile *file, PFLT_VOLUME volume)
 {
     KzOp *op = kz_memory(sizeof *op);
     op->id = id;
@@ -112,6 +113,9 @@ static void complete(KzOp *op, KazdrinEvent *verdict)
             kz_tell(KZM_CLOSE_COMPLETED, "FLT_PREOP_COMPLETE", "of a cleanup or a close: it counts as FLT_PREOP_SUCCESS_NO_CALLBACK");
         else
             kz_tell(KZM_FAILED_CLOSE, "FLT_PREOP_COMPLETE", "of a cleanup or a close with 0x%08x: these can't fail", (unsigned)said.Status);
+    } else if (op->event == KZE_CREATE && said.Status == STATUS_REPARSE) {
+        verdict->status = KZS_DEVICE_FAULT; /* nothing is opened, and those above see STATUS_REPARSE */
+        op->other = said.Status;
     } else if (op->event == KZE_CREATE && NT_SUCCESS(said.Status)) {
         op->other = STATUS_SUCCESS;
         kz_tell(KZM_CREATE_COMPLETED, "FLT_PREOP_COMPLETE", "of a create with success: it counts as STATUS_ACCESS_DENIED");
@@ -213,6 +217,7 @@ static void pre(KzOp *op, PFLT_INSTANCE instance)
     instance->running++;
     kz_show_pre(op, instance);
     FLT_PREOP_CALLBACK_STATUS said = ask_pre(op, instance, &completion);
+    kz_adopt_name(op->file);
     KazdrinEvent verdict = kz_verdict_of(op, instance, said, completion);
     if (verdict.mode == KZV_SYNCHRONIZE && owed_to(op, instance))
         owed_to(op, instance)->is_synchronized = true;
@@ -290,8 +295,8 @@ static void post(KzOp *op, PFLT_INSTANCE instance, PVOID completion)
     kz_call_at(irql_of(op, instance));
     instance->running++;
     kz_show_post(op, instance);
-    if (op->event == KZE_CREATE && NT_SUCCESS(op->data->IoStatus.Status))
-        kz_file_opened(op->file);
+    if (op->event == KZE_CREATE && op->lent.status == KZS_OK && !op->is_cancelled)
+        kz_file_answered(op->file, op->lent.information);
     FLT_RELATED_OBJECTS objects = kz_objects(instance, op->file);
     PFLT_POST_OPERATION_CALLBACK callback = kz_registered(instance->filter, kz_major(op->event))->PostOperation;
     op->stage = KZ_IN_POSTOPERATION;
@@ -332,10 +337,10 @@ static void post(KzOp *op, PFLT_INSTANCE instance, PVOID completion)
 static void drain(KzOp *op, PFLT_INSTANCE instance, PVOID completion)
 {
     FLT_IO_PARAMETER_BLOCK iopb = {.MajorFunction = kz_major(op->event), .TargetInstance = instance, .TargetFileObject = &op->file->object};
-    FLT_CALLBACK_DATA data = {.Flags = FLTFL_CALLBACK_DATA_IRP_OPERATION | FLTFL_CALLBACK_DATA_POST_OPERATION | FLTFL_CALLBACK_DATA_DRAINING_IO,
+    FLT_CALLBACK_DATA data = {.Flags = kz_data_flags(op) | FLTFL_CALLBACK_DATA_POST_OPERATION | FLTFL_CALLBACK_DATA_DRAINING_IO,
                               .Thread = op->thread,
                               .Iopb = &iopb,
-                              .RequestorMode = UserMode};
+                              .RequestorMode = op->own.is_own && !op->own.is_user ? KernelMode : UserMode};
     KzPlace before = kz_enter(KZ_IN_DRAIN, kz_worker(), instance->filter, instance, op, &data);
     FLT_RELATED_OBJECTS objects = kz_objects(instance, op->file);
     PFLT_POST_OPERATION_CALLBACK callback = kz_registered(instance->filter, kz_major(op->event))->PostOperation;
@@ -380,6 +385,8 @@ static void call_base(KzOp *op)
     if (is_failed && kazdrin_based(&kz.manager, &event, (const uint8_t *)"", 0) == KZS_OK)
         return;
     op->comes_from_device = true;
+    if (op->event == KZE_CLEANUP)
+        op->file->object.Flags |= FO_CLEANUP_COMPLETE;
     if (!kz_call_base_folder(event.worker))
         kazdrin_base(&kz.manager, &event);
 }
@@ -395,7 +402,10 @@ static Turn turn(KzOp *op)
     PVOID completion = (PVOID)(uintptr_t)told.number;
     switch (told.action) {
     case KZA_PRE:
-        pre(op, instance);
+        if (kz_is_passed(op, instance))
+            kazdrin_pre_returned(&kz.manager, &(KazdrinEvent){.mode = KZV_NO_CALLBACK, .worker = kz_worker()});
+        else
+            pre(op, instance);
         return GOES;
     case KZA_BASE:
         call_base(op);
@@ -457,17 +467,31 @@ static bool is_resumed(void *op)
     return ((KzOp *)op)->stage == KZ_RESUMED;
 }
 
+/* A client is answered that its operation is held, and goes on. A filter's own is waited for inside the filter's call. */
+static bool waits_for(KzOp *op)
+{
+    const char *side = op->stage == KZ_HELD_BY_POST ? "post" : "pre";
+    while (op->own.is_waited_for && !is_resumed(op) && kz_let_others())
+        ;
+    return kz_wait(is_resumed, op, KZ_OPERATION ", which a %soperation holds", (unsigned long long)op->id, side);
+}
+
 /* Its own client carries it on, also behind a callback that holds it, if somebody else may let it go on meanwhile. */
 static Turn carry_to_end(KzOp *op)
 {
     op->runner = kz_me;
     Turn made = carry(op);
-    while (made == HELD && kz_wait(is_resumed, op, KZ_OPERATION ", which a %soperation holds", (unsigned long long)op->id, op->stage == KZ_HELD_BY_POST ? "post" : "pre")) {
+    while (made == HELD && waits_for(op)) {
         op->stage = KZ_GOES_ON;
         made = carry(op);
     }
     op->runner = NULL;
     return made;
+}
+
+bool kz_carry_to_end(KzOp *op)
+{
+    return carry_to_end(op) == DONE;
 }
 
 /* ---- Replies. The kit's own status stands behind a number that stands for another. */
@@ -488,26 +512,19 @@ void kz_print_reply(KzReply reply, NTSTATUS other, const uint8_t *bytes, size_t 
     kz_say(KZ_SAID_REPLY, length ? "\n" : "-\n");
 }
 
-/* What an operation was answered: a number that stands for the kit's own status, which is `other`, and bytes, which lie in the client's room. */
-typedef struct {
-    KzReply reply;
-    NTSTATUS other;
-    size_t length;
-} Answer;
-
-static Answer refused(uint32_t status)
+static KzAnswer refused(uint32_t status)
 {
-    return (Answer){.reply.status = status};
+    return (KzAnswer){.reply.status = status};
 }
 
 /* Of a done operation, which is forgotten. */
-static Answer collect(KzOp *op)
+KzAnswer kz_collect(KzOp *op)
 {
     kz_pause("collect");
     kz_clean_up(); /* a close is over, and with it the contexts of its handle: the caller is told behind that */
     KazdrinTold told = kz_event_into(kz_worker(), (KazdrinEvent){.event = KZE_COLLECT, .operation = op->id}, kz_me->room, sizeof kz_me->room).told;
     KzReply reply = {.status = told.status, .information = told.information, .operation = op->id};
-    Answer answer = {.other = op->other, .length = told.length};
+    KzAnswer answer = {.other = op->other, .length = told.length};
     if (op->served.is_there) {
         reply.information = op->served.number;
         reply.status = op->served.has_status ? op->served.status : reply.status;
@@ -515,17 +532,19 @@ static Answer collect(KzOp *op)
         memcpy(kz_me->room, op->served.bytes ? op->served.bytes : (const uint8_t *)"", answer.length);
     }
     kz_scheduler->touch(op->file, 0, KZT_GIVES);
-    if (op->event == KZE_CREATE && reply.status == KZS_OK) {
-        kz_file_opened(op->file);
-        op->file->handle = reply.information;
+    if (op->other == STATUS_REPARSE)
+        kz_note_reparse(op);
+    if (op->is_cancelled && reply.status == KZS_OK) {
+        reply = kz_cancelled(op, &answer.other);
+    } else if (op->event == KZE_CREATE && reply.status == KZS_OK) {
+        kz_file_answered(op->file, reply.information);
+        op->file->is_opening = false;
         reply.is_handle = 1;
         op->file->has_handle = true;
         op->file->users++;
         kz_scheduler->touch(&op->file->handle, 0, KZT_GIVES);
     } else if (op->event == KZE_SET_DELETE && reply.status == KZS_OK) {
         op->file->object.DeletePending = TRUE;
-    } else if (op->event == KZE_CLEANUP && reply.status == KZS_OK) {
-        op->file->object.Flags |= FO_CLEANUP_COMPLETE;
     } else if (op->event == KZE_CLOSE && reply.status == KZS_OK) {
         kz_drop_file(op->file->handle);
     }
@@ -534,9 +553,9 @@ static Answer collect(KzOp *op)
     return answer;
 }
 
-static Answer run(KazdrinEvent asked, const void *bytes, size_t length, const char *path);
+static KzAnswer run(KazdrinEvent asked, const void *bytes, size_t length, const char *path);
 
-static void put_answer(Answer answer)
+static void put_answer(KzAnswer answer)
 {
     kz_print_reply(answer.reply, answer.other, kz_me->room, answer.length);
 }
@@ -549,9 +568,19 @@ static bool close_due(void)
         file = file->next;
     if (!file)
         return false;
+    if (file->is_own) {
+        kz_close_if_due(file);
+        return true;
+    }
     file->is_close_due = false;
     run((KazdrinEvent){.event = KZE_CLOSE, .handle = file->handle}, "", 0, NULL);
     return true;
+}
+
+static KzAnswer begin_create(void *unused, KazdrinEvent asked, const char *path)
+{
+    (void)unused;
+    return run(asked, path, strlen(path), path);
 }
 
 static void carry_resumed(void)
@@ -561,16 +590,24 @@ static void carry_resumed(void)
     if (!kz.resumed)
         kz.resumed_end = &kz.resumed;
     Turn made;
+    KzPlace before = kz_me->place;
     op->runner = kz_me;
+    if (op->own.is_own)
+        kz_me->place.worker = op->own.worker; /* what a filter began stays with the worker that it has */
     do {
         op->stage = KZ_GOES_ON;
         made = carry(op);
     } while (made == HELD && is_resumed(op));
     op->runner = NULL;
+    kz_me->place = before;
     if (made != DONE)
         return;
+    if (op->own.is_own) {
+        kz_end_below(op);
+        return;
+    }
     kz_say(KZ_SAID_REPLY, KZ_OPERATION ": ", (unsigned long long)op->id);
-    put_answer(collect(op));
+    put_answer(kz_follow(kz_collect(op), NULL, begin_create));
 }
 
 /* What was let go on, what is due, and what waits for its turn, until nothing of it is left. */
@@ -580,27 +617,39 @@ void kz_settle(void)
         while (kz.resumed)
             carry_resumed();
         kz_clean_up();
-    } while (close_due() || (!kz_has_others() && (kz_run_dpc() || kz_work())) || kz.resumed);
+    } while (close_due() || kz_let_others() || kz.resumed);
+}
+
+/* A driver's own handle is no client's, nor is one before its create is over. */
+static bool may_ask(const KazdrinEvent *asked)
+{
+    bool is_on_volume = asked->event == KZE_CREATE || asked->event == KZE_LIST;
+    for (const KzFile *file = kz.files; !is_on_volume && file; file = file->next)
+        if ((file->has_handle || file->is_opening) && file->handle == asked->handle)
+            return file->has_handle && !file->is_own;
+    return true;
 }
 
 /* Begins an operation and carries it on. Refused, it has no reply but the status. */
-static Answer run(KazdrinEvent asked, const void *bytes, size_t length, const char *path)
+static KzAnswer run(KazdrinEvent asked, const void *bytes, size_t length, const char *path)
 {
+    if (!may_ask(&asked))
+        return refused(KZS_NO_HANDLE);
     KzTold begun = kz_event_with(kz_worker(), asked, bytes, length);
     if (begun.status != KZS_OK)
         return refused(begun.status);
     uint64_t id = begun.told.operation;
     bool is_on_volume = asked.event == KZE_CREATE || asked.event == KZE_LIST;
     KzFile *file = is_on_volume ? kz_new_file(kz.volumes[asked.volume], asked.event == KZE_LIST ? "" : path, asked.event == KZE_LIST) : kz_file_of(asked.handle);
-    KzOp *op = new_op(id, asked, file, file->volume);
+    KzOp *op = kz_new_op(id, asked, file, file->volume);
     if (carry_to_end(op) == DONE)
-        return collect(op);
-    return (Answer){.reply = {.held = 1, .operation = id}};
+        return kz_collect(op);
+    return (KzAnswer){.reply = {.held = 1, .operation = id}};
 }
 
 KzReply kz_perform(KazdrinEvent asked, const void *bytes, size_t length, const char *path)
 {
-    Answer answer = run(asked, bytes, length, path);
+    KzAnswer answer = kz_follow(run(asked, bytes, length, path), NULL, begin_create);
     put_answer(answer);
     kz_settle();
     return answer.reply;
@@ -609,10 +658,10 @@ KzReply kz_perform(KazdrinEvent asked, const void *bytes, size_t length, const c
 /* A cleanup and then the close; the close alone if the cleanup was made before. */
 KzReply kz_close_file(uint64_t handle)
 {
-    Answer answer = run((KazdrinEvent){.event = KZE_CLEANUP, .handle = handle}, "", 0, NULL);
+    KzAnswer answer = run((KazdrinEvent){.event = KZE_CLEANUP, .handle = handle}, "", 0, NULL);
     KzReply reply = answer.reply;
-    KzFile *file = kz_has_others() && !reply.held && reply.status == KZS_OK ? kz_file_of(handle) : NULL;
-    if (file && file->users > 1)
+    KzFile *file = !reply.held && reply.status == KZS_OK ? kz_file_of(handle) : NULL;
+    if (file && file->users > 1 && (kz_has_others() || kz_is_referenced(&file->object)))
         file->is_close_due = true; /* as in the kit: whoever ends the last operation of a file object closes it */
     else if (!reply.held && (reply.status == KZS_OK || reply.status == KZS_WRONG_STEP))
         answer = run((KazdrinEvent){.event = KZE_CLOSE, .handle = handle}, "", 0, NULL);
@@ -635,6 +684,21 @@ void kz_tell_held(void)
     }
 }
 
+void kz_leave_ops(const KzClient *client)
+{
+    for (KzOp *op = kz.ops; op; op = op->next) {
+        if (op->runner != client)
+            continue;
+        if (op->stage == KZ_IN_PREOPERATION || op->stage == KZ_IN_POSTOPERATION)
+            op->iopb->TargetInstance->filter->gave_up = true; /* its callback never returns */
+        op->runner = NULL;
+        op->own.is_own = true;
+        op->own.done = NULL;
+        if (op->stage == KZ_RESUMED)
+            kz_resume(op);
+    }
+}
+
 void kz_free_ops(void)
 {
     kz.resumed = NULL;
@@ -645,6 +709,8 @@ void kz_free_ops(void)
     while (kz.files) {
         KzFile *file = kz.files;
         kz.files = file->next;
+        if (kz_piece_of(file->object.FileName.Buffer))
+            kz_give_back(file->object.FileName.Buffer);
         free(file);
     }
 }

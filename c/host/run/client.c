@@ -1,4 +1,5 @@
 /* Clients, and the calls by which they come inside the host and leave it. */
+#include "run/beside.h"
 #include "run/expect.h"
 
 #include <stdarg.h>
@@ -22,6 +23,7 @@ void kz_new_client(KzClient *client, const char *name, unsigned number)
     client->busy_number = 0;
     client->names_count = 0;
     client->waits[0] = 0;
+    client->beside = NULL;
     client->request = NULL;
     client->line_number = 0;
     memset(client->taken, 0, sizeof client->taken);
@@ -102,6 +104,7 @@ static bool wait_as(KzWaits why, KzCan *can, void *what, const char *format, va_
     if (can(what) || !kz_has_others())
         return can(what);
     vsnprintf(text, sizeof text, format, arguments);
+    kz_me->until = kz_now() + kz_me->timeout;
     return kz_scheduler->wait(can, what, why, text);
 }
 
@@ -129,10 +132,39 @@ bool kz_refuses(KzChoice what, const char *call)
     return kz_scheduler->choose(2, what, call) == 1;
 }
 
-/* Whether others run beside this client, which come to what it waits for. Beside the set-up, and at the end, none does. */
+/* Whether others run beside this client, which come to what it waits for. Beside the set-up, and at the end, none does but its threads, which have others. */
 bool kz_has_others(void)
 {
-    return kz_scheduler->has_others && kz_me != &kz_first;
+    return kz_me->beside || (kz_scheduler->has_others && kz_me != &kz_first);
+}
+
+bool kz_let_others(void)
+{
+    return !kz_has_others() && (kz_run_dpc() || kz_work() || kz_run_threads());
+}
+
+static bool wait_beside(KzCan *can, void *what, int64_t milliseconds, const char *text)
+{
+    kz_me->timeout = milliseconds < 0 ? 0 : (uint64_t)milliseconds + 1;
+    bool is_over = (kz_me->timeout && kz_scheduler->choose(2, KZ_CHOICE_TIME, "the time is over")) || !kz_wait(can, what, "%s", text);
+    kz_me->timeout = 0;
+    return !is_over;
+}
+
+enum { EVER = 3600 * 1000 }; /* no wait of a test is for longer */
+
+bool kz_wait_for(KzCan *can, void *what, int64_t milliseconds, const char *text)
+{
+    uint64_t until = kz_now() + (milliseconds < 0 ? EVER : (uint64_t)milliseconds);
+    if (can(what) || !milliseconds)
+        return can(what);
+    if (kz_has_others())
+        return wait_beside(can, what, milliseconds, text);
+    while (!can(what) && (kz_let_others() || kz_pass_to_next(until)))
+        ;
+    if (!can(what) && milliseconds > 0 && kz_now() < until)
+        kz_pass(until - kz_now());
+    return can(what);
 }
 
 /* ---- In order: one request after the other. */
@@ -141,10 +173,16 @@ static void pass_point(const char *name, const void *from)
     (void)name, (void)from;
 }
 
+/* A thread gives its turn back. Where all run at once since, it waits as they do. */
 static bool wait_in_order(KzCan *can, void *what, KzWaits why, const char *text)
 {
-    (void)why, (void)text;
-    return can(what);
+    if (!kz_me->beside)
+        return can(what);
+    kz_rest(can, what);
+    if (kz_scheduler == &kz_in_order)
+        return can(what);
+    kz_scheduler->lock();
+    return kz_scheduler->wait(can, what, why, text);
 }
 
 static void touch_nothing(const void *object, size_t size, KzTouch how)
@@ -186,4 +224,4 @@ void kz_print(const KzSaid *said)
     }
 }
 
-const KzScheduler kz_in_order = {pass_point, wait_in_order, touch_nothing, choose_as_asked, nothing, nothing, kz_print, false};
+const KzScheduler kz_in_order = {pass_point, wait_in_order, touch_nothing, choose_as_asked, kz_begin_thread, kz_let_thread, nothing, nothing, kz_print, false};

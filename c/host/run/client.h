@@ -29,8 +29,12 @@ struct KzClient {
     } names[32]; /* that its creates gave, by `as` */
     size_t names_count;
     uint64_t timeout; /* of its wait, in milliseconds; 0 if it has none */
+    uint64_t until;   /* and when it is over, by the clock */
+    KzThread *beside; /* the thread that it is, beside the requests; NULL for those of requests and of work items */
     KzWaits why;      /* it waits, and for what */
     char waits[160];
+    char reparsed[320]; /* the name that its last create was answered with, and how that is to be opened */
+    uint8_t reparsed_mode;
     const char *request; /* what it asks for, in words, for what is told; NULL if that isn't known */
     unsigned line_number; /* in its file; 0 if it isn't of one */
     char line[KZ_LINE];
@@ -59,6 +63,9 @@ typedef struct {
     void (*touch)(const void *object, size_t size, KzTouch how);
     /* Which of so many answers the call gets; 0 is the usual one. The name is for people. */
     unsigned (*choose)(unsigned count, KzChoice what, const char *name);
+    /* A thread beside the requests begins; one goes on until it waits, where it can, beside a client that waits for nobody: in order, and before and behind a run of the explorer. */
+    void (*begin)(KzThread *thread);
+    bool (*let)(KzThread *thread);
     /* One client at a time is inside. */
     void (*lock)(void);
     void (*unlock)(void);
@@ -93,6 +100,8 @@ void kz_driver_returned(unsigned depth, const char *name);
 /* The client steps out of the host for a moment. */
 void kz_pause(const char *name);
 bool kz_wait(KzCan *can, void *what, const char *text, ...) __attribute__((format(printf, 3, 4)));
+/* The same in order as well: what runs beside goes on, and time passes as far as it is to; for ever with -1. */
+bool kz_wait_for(KzCan *can, void *what, int64_t milliseconds, const char *text);
 bool kz_wait_for_us(KzCan *can, void *what, const char *text, ...) __attribute__((format(printf, 3, 4)));
 bool kz_refuses(KzChoice what, const char *call);
 /* Puts a text for people on the standard output. */

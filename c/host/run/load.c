@@ -1,6 +1,7 @@
 /* A load: threads that carry out the clients of a scenario again and again, for so many seconds, and one for work items. */
 #include "run/scenario.h"
 #include "run/threads.h"
+#include "run/beside.h"
 
 #include <pthread.h>
 #include <stdlib.h>
@@ -202,11 +203,13 @@ int kz_run_load(const KzDriver *drivers, size_t drivers_count, const char *path,
         fflush(stdout);
         _exit(6);
     }
+    kz_free_turns(false);
     kz_end_waits();
     for (unsigned number = 1; number <= count + 1 + is_finally_there; number++)
         pthread_join(threads[number].thread, NULL);
     is_finally_there = false;
     report(count, seconds);
+    kz_take_turns();
     kz_scheduler = &kz_in_order;
     kz_is_quiet = 0;
     status = kz_close();

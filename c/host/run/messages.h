@@ -75,6 +75,11 @@ typedef enum {
     KZM_TWO_OPERATIONS = 180,
     KZM_NO_END = 181,
     KZM_NO_FILTER_OBJECT = 182,
+    /* A driver's own input and output, its programs and threads. */
+    KZM_NOT_OPENED = 183,
+    KZM_THREAD_LEFT = 184,
+    KZM_CANCEL_LEFT = 185,
+    KZM_ROUTINE_LEFT = 186,
     /* The driver's own. */
     KZM_ASSERT = 191,
     KZM_BUG_CHECK = 192,
@@ -99,9 +104,9 @@ typedef enum {
     KZM_REDIRECTED = 227,
     KZM_STATUS_LOST = 228,
     /* What is left out by name. */
-    KZM_PORT = 231,
+    /* 231 was a port that nobody connects to. */
     KZM_OWN_IO = 232,
-    KZM_CANCEL = 233,
+    /* 233 was cancellation. */
     KZM_TRANSACTION = 234,
     KZM_OPLOCK = 235,
     KZM_SECTION = 236,
@@ -115,6 +120,8 @@ typedef enum {
     KZM_ATTACH = 244,
     KZM_DEVICE = 245,
     KZM_LEFT_OUT = 246,
+    /* A driver's own input and output, its programs and threads. */
+    KZM_MARKED_CLEANUP = 250,
     KZM_MESSAGES = 300
 } KzMessage;
 

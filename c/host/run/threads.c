@@ -2,6 +2,7 @@
  * what orders them on Windows too is shown to it. */
 #include "host.h"
 #include "run/threads.h"
+#include "run/beside.h"
 
 #include <pthread.h>
 #include <stdlib.h>
@@ -55,12 +56,20 @@ static void unlock(void)
     ignore(false);
 }
 
-/* Now and then a thread lets others go first, so that more orders come up. */
+static bool always(void *unused)
+{
+    (void)unused;
+    return true;
+}
+
+/* Now and then a thread lets others go first, so that more orders come up. One beside the requests stands here once the load is over. */
 static void point(const char *name, const void *from)
 {
     (void)name, (void)from;
     if (kz_me == &kz_first)
         return;
+    if (kz_is_to_rest())
+        kz_rest(always, NULL);
     if (!chance)
         chance = (seed + kz_me->number) * 0x9e3779b97f4a7c15ULL | 1;
     chance ^= chance << 13;
@@ -96,7 +105,10 @@ static bool wait(KzCan *can, void *what, KzWaits why, const char *text)
             pthread_cond_wait(&changed, &mutex);
     waiting--;
     kz_me->waits[0] = 0;
-    return can_go;
+    if (can_go || !is_over || !kz_me->beside)
+        return can_go;
+    unlock();
+    return kz_rest(can, what);
 }
 
 static void touch(const void *object, size_t size, KzTouch how)
@@ -122,13 +134,21 @@ static unsigned choose(unsigned count, KzChoice what, const char *name)
     return 0;
 }
 
-const KzScheduler kz_threads = {point, wait, touch, choose, lock, unlock, kz_print, true};
+/* It doesn't begin before it is given the turn: there all have it. */
+static bool let(KzThread *thread)
+{
+    (void)thread;
+    return false;
+}
+
+const KzScheduler kz_threads = {point, wait, touch, choose, kz_begin_thread, let, lock, unlock, kz_print, true};
 
 void kz_use_threads(uint64_t number)
 {
     seed = number;
     is_over = false;
     kz_scheduler = &kz_threads;
+    kz_free_turns(true);
 }
 
 /* Whoever waits for work, or for ever, is let go. */

@@ -6,7 +6,8 @@
 #include <stdlib.h>
 
 static const char *const callbacks[] = {"no callback",  "DriverEntry",    "setup",             "preoperation", "postoperation", "drain", "query",
-                                        "teardown start", "teardown complete", "unload",       "context cleanup", "work item", "timer"};
+                                        "teardown start", "teardown complete", "unload",       "context cleanup", "work item", "timer",
+                                        "thread",       "port",  "cancel",       "notify routine"};
 
 static bool is_allowed[KZM_MESSAGES];
 static bool is_strict;
@@ -185,6 +186,7 @@ static bool is_left(KzMessage message)
     case KZM_PORT_LEAK:
     case KZM_WORK_LEFT:
     case KZM_TIMER_LEFT:
+    case KZM_THREAD_LEFT:
     case KZM_WAITS_FOR_EVER:
     case KZM_LOCK_AT_RETURN:
         return true;
@@ -198,12 +200,14 @@ static void tell(const void *object, KzMessage message, const char *call, const 
 {
     char text[1000];
     PFLT_FILTER filter = kz_me->place.filter;
-    bool is_limit = KZ_IS_LIMIT(message) || (filter && filter->leaves_out && is_left(message));
+    bool is_limit = KZ_IS_LIMIT(message) || (filter && (filter->gave_up || (filter->leaves_out && is_left(message))));
     if (is_allowed[message])
         return;
     bool is_again = was_told(message, is_limit, call);
     if (is_limit && is_again)
         return;
+    if (filter && message == KZM_NOBODY_SETS)
+        filter->gave_up = true;
     if (is_limit)
         kz.counts.limits++;
     if (!is_limit || is_strict)

@@ -1,5 +1,6 @@
 /* Requests in words, one a line, and runs of them. */
 #include "run/expect.h"
+#include "user/program.h"
 
 #include <stdlib.h>
 
@@ -191,17 +192,37 @@ static KzReply ask_volume(char **words)
     return outcome(KZS_OK, 0);
 }
 
-/* Who asks from then on: `as process 42`, `as process 42 thread 7`. */
+/* Who asks from then on: `as process 42`, `as process 42 thread 7`, `as process 42 user S-1-5-18`. */
 static KzReply ask_as(char **words)
 {
     uint64_t process, thread;
-    if (strcmp(words[1], "process") != 0 || !read_number(words[2], UINT32_MAX, &process) || (words[3] && (strcmp(words[3], "thread") != 0 || !words[4])))
+    bool has_thread = words[3] && strcmp(words[3], "thread") == 0, has_user = words[3] && strcmp(words[3], "user") == 0;
+    if (strcmp(words[1], "process") != 0 || !read_number(words[2], UINT32_MAX, &process) || (words[3] && (!words[4] || !(has_thread || has_user))))
         return wrong();
-    if (!read_number(words[3] ? words[4] : "0", UINT32_MAX, &thread))
+    if ((has_user && !kz_is_sid(words[4])) || !read_number(has_thread ? words[4] : "0", UINT32_MAX, &thread))
         return wrong();
     kz_me->process = process;
-    kz_me->thread = words[3] ? thread : process + 4;
+    kz_me->thread = has_thread ? thread : process + 4;
+    if (has_user)
+        kz_set_user(process, words[4]);
     return outcome(KZS_OK, 0);
+}
+
+/* `process start P PARENT IMAGE`, `process end P`. */
+static KzReply ask_process(char **words)
+{
+    uint64_t id, parent;
+    NTSTATUS other = STATUS_SUCCESS;
+    bool is_start = strcmp(words[1], "start") == 0;
+    if ((!is_start && strcmp(words[1], "end") != 0) || !read_number(words[2], UINT32_MAX, &id) || (words[3] != NULL) != is_start)
+        return wrong();
+    if (is_start && (!words[4] || !read_number(words[3], UINT32_MAX, &parent)))
+        return wrong();
+    uint32_t status = is_start ? kz_begin_process(id, parent, words[4], &other) : kz_end_process(id);
+    KzReply reply = {.status = status};
+    kz_print_reply(reply, other, NULL, 0);
+    kz_settle();
+    return reply;
 }
 
 static KzReply ask_time(char **words)
@@ -212,6 +233,38 @@ static KzReply ask_time(char **words)
     kz_pass(milliseconds);
     kz_settle();
     return outcome(KZS_OK, 0);
+}
+
+/* A program of the test's own begins, and goes on until it waits. */
+static KzReply ask_start(char **words)
+{
+    uint64_t process = 0;
+    NTSTATUS other = STATUS_SUCCESS;
+    uint32_t status = kz_start_program(words[1], words + 2, &process, &other);
+    note_refused(status);
+    KzReply reply = {.status = status, .information = status == KZS_OK ? process : 0};
+    kz_print_reply(reply, other, NULL, 0);
+    kz_settle();
+    return reply;
+}
+
+static KzReply ask_type(char **words)
+{
+    KzReply reply = outcome(kz_type(words[1], words + 2), 0);
+    kz_settle();
+    return reply;
+}
+
+/* A held operation, by its number; `held` is the first one. */
+static KzReply ask_cancel(char **words)
+{
+    uint64_t number = 0;
+    bool is_first = strcmp(words[1], "held") == 0;
+    if (!is_first && !read_number(words[1], UINT64_MAX, &number))
+        return wrong();
+    KzReply reply = outcome(kz_cancel(is_first, number), 0);
+    kz_settle();
+    return reply;
 }
 
 static KzReply ask_registry(char **words)
@@ -365,7 +418,8 @@ static const struct {
     {"list", 2, 2, ask_list},         {"read", 4, 4, ask_read},           {"write", 4, 4, ask_write},           {"setsize", 3, 3, ask_set_size},
     {"querysize", 2, 2, ask_query_size}, {"flush", 2, 2, ask_flush},      {"setdelete", 2, 2, ask_set_delete},  {"close", 2, 2, ask_close},
     {"as", 3, 5, ask_as},             {"time", 2, 2, ask_time},           {"registry", 2, 2, ask_registry},
-    {"fail", 3, 3, ask_fail},
+    {"fail", 3, 3, ask_fail},         {"start", 2, WORDS, ask_start},     {"type", 3, WORDS, ask_type},
+    {"cancel", 2, 2, ask_cancel},     {"process", 3, 5, ask_process},
 };
 
 /* ---- Lines. */

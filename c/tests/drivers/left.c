@@ -4,50 +4,23 @@
 #define SHOW(e) DbgPrint("%s = 0x%08x\n", #e, (ULONG)(e))
 
 PFLT_FILTER gFilterHandle;
-static PFLT_PORT gPort;
-static PFLT_PORT gClient;
-
-static NTSTATUS Connect(PFLT_PORT ClientPort, PVOID ServerPortCookie, PVOID ConnectionContext, ULONG SizeOfContext, PVOID *ConnectionPortCookie)
-{
-    UNREFERENCED_PARAMETER(ServerPortCookie);
-    UNREFERENCED_PARAMETER(ConnectionContext);
-    UNREFERENCED_PARAMETER(SizeOfContext);
-    *ConnectionPortCookie = NULL;
-    gClient = ClientPort;
-    return STATUS_SUCCESS;
-}
-
-static VOID Disconnect(PVOID ConnectionCookie)
-{
-    UNREFERENCED_PARAMETER(ConnectionCookie);
-    FltCloseClientPort(gFilterHandle, &gClient);
-}
-
 static FLT_POSTOP_CALLBACK_STATUS PostCreate(PFLT_CALLBACK_DATA Data, PCFLT_RELATED_OBJECTS FltObjects, PVOID CompletionContext, FLT_POST_OPERATION_FLAGS Flags)
 {
-    FILE_STANDARD_INFORMATION info;
-    OBJECT_ATTRIBUTES attributes;
-    IO_STATUS_BLOCK io;
     PFLT_CONTEXT context;
     HANDLE handle;
     ULONG done;
     UCHAR room[16];
-    LARGE_INTEGER zero = {{0}};
 
     UNREFERENCED_PARAMETER(CompletionContext);
     UNREFERENCED_PARAMETER(Flags);
-    InitializeObjectAttributes(&attributes, NULL, OBJ_KERNEL_HANDLE, NULL, NULL);
-    SHOW(FltCreateFile(gFilterHandle, FltObjects->Instance, &handle, FILE_GENERIC_READ, &attributes, &io, NULL, FILE_ATTRIBUTE_NORMAL, FILE_SHARE_READ, FILE_OPEN,
-                       0, NULL, 0, IO_IGNORE_SHARE_ACCESS_CHECK));
-    SHOW(FltReadFile(FltObjects->Instance, FltObjects->FileObject, &zero, sizeof(room), room, FLTFL_IO_OPERATION_DO_NOT_UPDATE_BYTE_OFFSET, &done, NULL, NULL));
-    SHOW(FltQueryInformationFile(FltObjects->Instance, FltObjects->FileObject, &info, sizeof(info), FileStandardInformation, &done));
+    SHOW(FltOpenVolume(FltObjects->Instance, &handle, NULL));
+    SHOW(FltFsControlFile(FltObjects->Instance, FltObjects->FileObject, FSCTL_GET_REPARSE_POINT, NULL, 0, room, sizeof(room), &done));
+    SHOW(FltQueryEaFile(FltObjects->Instance, FltObjects->FileObject, room, sizeof(room), FALSE, NULL, 0, NULL, TRUE, &done));
     SHOW(FltAllocateContext(gFilterHandle, FLT_FILE_CONTEXT, 8, PagedPool, &context));
     SHOW(FltGetFileContext(FltObjects->Instance, FltObjects->FileObject, &context));
     SHOW(FltGetTransactionContext(FltObjects->Instance, FltObjects->Transaction, &context));
     SHOW(FltTagFile(FltObjects->Instance, FltObjects->FileObject, IO_REPARSE_TAG_SYMLINK, NULL, NULL, 0));
-    SHOW(FltSendMessage(gFilterHandle, &gClient, room, sizeof(room), NULL, NULL, NULL));
     if (NT_SUCCESS(Data->IoStatus.Status)) {
-        FltCancelFileOpen(FltObjects->Instance, FltObjects->FileObject);
         Data->IoStatus.Status = STATUS_VIRUS_INFECTED;
         Data->IoStatus.Information = 0;
     }
@@ -57,7 +30,6 @@ static FLT_POSTOP_CALLBACK_STATUS PostCreate(PFLT_CALLBACK_DATA Data, PCFLT_RELA
 static NTSTATUS Unload(FLT_FILTER_UNLOAD_FLAGS Flags)
 {
     UNREFERENCED_PARAMETER(Flags);
-    FltCloseCommunicationPort(gPort);
     FltUnregisterFilter(gFilterHandle);
     return STATUS_SUCCESS;
 }
@@ -76,22 +48,9 @@ CONST FLT_REGISTRATION Registration = {sizeof(FLT_REGISTRATION), FLT_REGISTRATIO
 
 NTSTATUS DriverEntry(PDRIVER_OBJECT DriverObject, PUNICODE_STRING RegistryPath)
 {
-    UNICODE_STRING name = RTL_CONSTANT_STRING(L"\\LeftPort");
-    PSECURITY_DESCRIPTOR descriptor;
-    OBJECT_ATTRIBUTES attributes;
-    HANDLE thread;
     NTSTATUS status = FltRegisterFilter(DriverObject, &Registration, &gFilterHandle);
 
     UNREFERENCED_PARAMETER(RegistryPath);
-    if (!NT_SUCCESS(status)) {
-        return status;
-    }
-    SHOW(PsCreateSystemThread(&thread, THREAD_ALL_ACCESS, NULL, NULL, NULL, NULL, NULL));
-    status = FltBuildDefaultSecurityDescriptor(&descriptor, FLT_PORT_ALL_ACCESS);
-    if (NT_SUCCESS(status)) {
-        InitializeObjectAttributes(&attributes, &name, OBJ_KERNEL_HANDLE | OBJ_CASE_INSENSITIVE, NULL, descriptor);
-        status = FltCreateCommunicationPort(gFilterHandle, &gPort, &attributes, NULL, Connect, Disconnect, NULL, 1);
-        FltFreeSecurityDescriptor(descriptor);
-    }
     return NT_SUCCESS(status) ? FltStartFiltering(gFilterHandle) : status;
 }
+

@@ -1,4 +1,5 @@
-/* Random requests through the drivers that are linked with it: fuzz COUNT SEED. Each session of up to 400 requests has a manager of its own.
+/* Random requests through the drivers that are linked with it: fuzz COUNT SEED [waits]. With the last word drivers may wait for one another: where a wait was given up, which is a
+ * limit, contexts may be left. Each session of up to 400 requests has a manager of its own.
  * It loads, attaches, detaches and unloads drivers, mounts and dismounts volumes, and reads and writes files meanwhile. At its end nothing may have been told, and all
  * contexts are cleaned up. */
 #include "kzflt.h"
@@ -173,7 +174,8 @@ int main(int count, char **words)
         int status = kz_close();
         KzCounts counts = kz_counts();
         born += counts.born;
-        if (status != 0 || counts.born != counts.cleaned) {
+        bool is_left = counts.born != counts.cleaned && !(count > 3 && counts.limits);
+        if (status != 0 || is_left) {
             printf("request %lu: told %llu, born %llu, cleaned %llu\n", made, (unsigned long long)counts.told, (unsigned long long)counts.born,
                    (unsigned long long)counts.cleaned);
             return 1;

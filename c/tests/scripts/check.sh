@@ -5,6 +5,7 @@
 #   legal     right drivers, of which nothing is told: in order, under every schedule, by threads
 #   explore   schedules
 #   threads   drivers under real threads
+#   programs  samples with programs, threads, processes: schedules, refusals, threads
 #   order     the lists that all managers are held to
 #   headers   constants and enumerators beside those of mingw-w64, where its headers are there
 #   mount     the mount above fltd
@@ -25,7 +26,7 @@ if [ -z "${KAZDRIN_LIB:-}" ]; then
     [ -f "$KAZDRIN_LIB" ] || KAZDRIN_LIB=$("$here/../../archive.sh" --unproved) || exit 1
     export KAZDRIN_LIB
 fi
-[ $# -gt 0 ] || set -- host legal explore threads order headers mount serve
+[ $# -gt 0 ] || set -- host legal explore threads programs order headers mount serve
 passed=0
 failed=0
 report=$(mktemp)

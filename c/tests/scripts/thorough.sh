@@ -3,6 +3,7 @@
 #
 #   explore     each sample with four clients, under every schedule with at most two preemptions
 #   threads     each sample for ten seconds with eight threads
+#   programs    samples with programs of their own, as both
 #   libfuzzer   libFuzzer over a driver with a mistake, which it must find, and over one without
 #   mount       the mount: COUNT random operations (100000), what of it shows races under the thread sanitizer, and some under valgrind: half an hour
 #
@@ -20,6 +21,11 @@ explore() {
 threads() {
     "$here/threads.sh" --whole
     tell $? threads
+}
+
+programs() {
+    "$here/programs.sh" --whole
+    tell $? programs
 }
 
 libfuzzer() {
@@ -57,7 +63,7 @@ mount() {
     fi
 }
 
-[ $# -gt 0 ] || set -- explore threads libfuzzer mount
+[ $# -gt 0 ] || set -- explore threads programs libfuzzer mount
 for part in "$@"; do
     case $part in
     explore | threads | libfuzzer | mount) "$part" ;;

@@ -11,7 +11,7 @@ fi
 samples="ctx cancelsafe csqworkitem"
 seconds=1
 if [ "$WHOLE" = --whole ]; then
-    samples=$(ls c/samples | sed 's/\.c$//')
+    samples=$(ls c/samples | sed -n 's/\.c$//p')
     seconds=10
 fi
 for name in $samples; do

@@ -1,0 +1,340 @@
+/* Files that a driver opens by itself, and its handles of them and of other objects. */
+#include "manager/below.h"
+
+#include <stdlib.h>
+
+typedef struct Handle {
+    struct Handle *next;
+    KzFile *file;
+    PVOID object;     /* of a handle of no file */
+    const char *what; /* it is */
+    HANDLE handle;
+    const char *call; /* that closes it */
+    KzPlace place;
+} Handle;
+
+static Handle *handles;
+static uintptr_t last_handle;
+
+static Handle **place_of(HANDLE handle)
+{
+    Handle **at = &handles;
+    while (*at && (*at)->handle != handle)
+        at = &(*at)->next;
+    return at;
+}
+
+KzFile *kz_own_file(HANDLE handle)
+{
+    Handle *one = *place_of(handle);
+    return one ? one->file : NULL;
+}
+
+/* Its number is as handles of the kernel are: none of a program's. */
+static Handle *new_handle(const char *call)
+{
+    Handle *made = kz_memory(sizeof *made);
+    *made = (Handle){.next = handles, .handle = (HANDLE)(0xffffffff80000000ULL + (last_handle += 4)), .call = call, .place = kz_me->place};
+    return handles = made;
+}
+
+HANDLE kz_open_handle(PVOID object, const char *what)
+{
+    Handle *made = new_handle("ZwClose");
+    made->object = object;
+    made->what = what;
+    return made->handle;
+}
+
+PVOID kz_object_of(HANDLE handle)
+{
+    Handle *one = *place_of(handle);
+    return !one ? NULL : one->file ? &one->file->object : one->object;
+}
+
+/* ---- Names: below a volume's device or its letter, from a directory's handle, or as the kit's own folders have them. */
+typedef struct {
+    PFLT_VOLUME volume;
+    char path[256];
+} Named;
+
+static const char *behind(const char *name, const char *prefix)
+{
+    size_t length = strlen(prefix);
+    return KzStrnicmp(name, prefix, length) == 0 ? name + length : NULL;
+}
+
+PFLT_VOLUME kz_volume_named(const char *name, const char **rest)
+{
+    for (size_t at = 0; at < kz.volumes_count; at++) {
+        char device[64], letter[] = {(char)('C' + at), ':', 0};
+        snprintf(device, sizeof device, "/Device/%s", kz.volumes[at]->name);
+        const char *folder = behind(name, "/?" "?/") ? behind(name, "/?" "?/") : behind(name, "/DosDevices/");
+        *rest = folder ? behind(folder, letter) : behind(name, device);
+        if (*rest && (**rest == '/' || !**rest))
+            return kz.volumes[at];
+    }
+    *rest = behind(name, "/SystemRoot/");
+    return *rest && kz.volumes_count ? kz.volumes[0] : NULL;
+}
+
+static NTSTATUS name_of(POBJECT_ATTRIBUTES attributes, Named *named)
+{
+    char name[320];
+    const char *rest = name;
+    if (!attributes || !attributes->ObjectName)
+        return STATUS_INVALID_PARAMETER;
+    if (kz_narrow(name, sizeof name, attributes->ObjectName) >= sizeof name)
+        return STATUS_OBJECT_NAME_INVALID;
+    KzFile *root = attributes->RootDirectory ? kz_own_file(attributes->RootDirectory) : NULL;
+    if (attributes->RootDirectory && !root)
+        return STATUS_INVALID_HANDLE;
+    if (root)
+        *named = (Named){.volume = root->volume};
+    else
+        *named = (Named){.volume = kz_volume_named(name, &rest)};
+    if (!named->volume)
+        return STATUS_OBJECT_PATH_NOT_FOUND;
+    const char *begins = root && *root->path ? root->path : "";
+    rest += *rest == '/';
+    int length = snprintf(named->path, sizeof named->path, "%s%s%s", begins, *begins && *rest ? "/" : "", rest);
+    return length < (int)sizeof named->path ? STATUS_SUCCESS : STATUS_OBJECT_NAME_INVALID;
+}
+
+/* ---- Opening. */
+typedef struct {
+    PFLT_INSTANCE instance;
+    POBJECT_ATTRIBUTES attributes;
+    ULONG disposition, options;
+    const char *call, *closed_by;
+} Wanted;
+
+static bool is_emptied(ULONG disposition)
+{
+    return disposition == FILE_SUPERSEDE || disposition == FILE_OVERWRITE || disposition == FILE_OVERWRITE_IF;
+}
+
+static uint8_t mode_of(ULONG disposition)
+{
+    if (disposition == FILE_CREATE)
+        return 1;
+    return disposition == FILE_OPEN || disposition == FILE_OVERWRITE ? 0 : 2;
+}
+
+static ULONG_PTR information_of(ULONG disposition)
+{
+    if (disposition == FILE_CREATE)
+        return FILE_CREATED;
+    return disposition == FILE_SUPERSEDE ? FILE_SUPERSEDED : is_emptied(disposition) ? FILE_OVERWRITTEN : FILE_OPENED;
+}
+
+/* What a file system does with the create itself: no filter hears of it. */
+static void finish_create(KzFile *file, const Wanted *wanted)
+{
+    const KzOwn unheard = {.is_unheard = true, .is_waited_for = true};
+    if (is_emptied(wanted->disposition))
+        kz_below(&unheard, file, (KazdrinEvent){.event = KZE_SET_SIZE, .handle = file->handle}, "", 0);
+    if (wanted->options & FILE_DELETE_ON_CLOSE)
+        kz_below(&unheard, file, (KazdrinEvent){.event = KZE_SET_DELETE, .handle = file->handle}, "", 0);
+}
+
+/* A create that is begun for the driver, and the file that it opened, which has one user more. */
+typedef struct {
+    const Wanted *wanted;
+    KzFile *file;
+} Opening;
+
+static KzAnswer begin(void *given, KazdrinEvent asked, const char *path)
+{
+    Opening *opening = given;
+    PFLT_INSTANCE instance = opening->wanted->instance;
+    const KzOwn own = {.initiator = instance, .is_waited_for = true};
+    if (instance && instance->volume->id != asked.volume)
+        return (KzAnswer){.reply.status = KZS_BAD_PATH, .other = STATUS_MOUNT_POINT_NOT_RESOLVED};
+    KzFile *file = kz_new_file(kz.volumes[asked.volume], path, false);
+    file->users++;
+    file->is_own = true;
+    file->opener = instance;
+    KzAnswer answer = kz_below(&own, file, asked, path, strlen(path));
+    opening->file = answer.reply.status == KZS_OK && !answer.reply.held ? file : NULL;
+    if (!opening->file)
+        kz_let_go_file(file);
+    return answer;
+}
+
+static NTSTATUS create(const Wanted *wanted, KzFile **made)
+{
+    Named named;
+    NTSTATUS status = name_of(wanted->attributes, &named);
+    if (!NT_SUCCESS(status))
+        return status;
+    if (wanted->instance && wanted->instance->volume != named.volume)
+        return STATUS_INVALID_DEVICE_OBJECT_PARAMETER;
+    if (wanted->disposition > FILE_OVERWRITE_IF)
+        return STATUS_INVALID_PARAMETER;
+    if (wanted->options & (FILE_DIRECTORY_FILE | FILE_OPEN_BY_FILE_ID) || !*named.path) {
+        kz_tell(KZM_OWN_IO, wanted->call, "a directory, a volume, or a file by its number: it answers STATUS_NOT_SUPPORTED");
+        return STATUS_NOT_SUPPORTED;
+    }
+    Opening opening = {wanted, NULL};
+    KazdrinEvent asked = {.event = KZE_CREATE, .volume = named.volume->id, .mode = mode_of(wanted->disposition)};
+    status = kz_status_of(kz_follow(begin(&opening, asked, named.path), &opening, begin));
+    if (NT_SUCCESS(status)) {
+        finish_create(opening.file, wanted);
+        *made = opening.file;
+    }
+    return status;
+}
+
+static NTSTATUS open_file(const Wanted *wanted, PHANDLE handle, PFILE_OBJECT *object, PIO_STATUS_BLOCK status)
+{
+    KzFile *file;
+    *handle = NULL;
+    if (object)
+        *object = NULL;
+    if (!kz_may_use(wanted->call, wanted->instance))
+        return status->Status = STATUS_INVALID_PARAMETER;
+    *status = (IO_STATUS_BLOCK){.Status = create(wanted, &file)};
+    if (!NT_SUCCESS(status->Status))
+        return status->Status;
+    status->Information = information_of(wanted->disposition);
+    Handle *made = new_handle(wanted->closed_by);
+    made->file = file;
+    *handle = made->handle;
+    if (object) {
+        *object = &file->object;
+        kz_take_object(&file->object, false, wanted->call);
+    }
+    return STATUS_SUCCESS;
+}
+
+NTSTATUS FltCreateFileEx2(PFLT_FILTER Filter, PFLT_INSTANCE Instance, PHANDLE FileHandle, PFILE_OBJECT *FileObject, ACCESS_MASK DesiredAccess,
+                          POBJECT_ATTRIBUTES ObjectAttributes, PIO_STATUS_BLOCK IoStatusBlock, PLARGE_INTEGER AllocationSize, ULONG FileAttributes,
+                          ULONG ShareAccess, ULONG CreateDisposition, ULONG CreateOptions, PVOID EaBuffer, ULONG EaLength, ULONG Flags,
+                          PIO_DRIVER_CREATE_CONTEXT DriverContext)
+{
+    KZ_CALL();
+    (void)Filter, (void)DesiredAccess, (void)AllocationSize, (void)FileAttributes, (void)ShareAccess, (void)EaBuffer, (void)EaLength, (void)Flags, (void)DriverContext;
+    const Wanted wanted = {Instance, ObjectAttributes, CreateDisposition, CreateOptions, __func__, "FltClose"};
+    return open_file(&wanted, FileHandle, FileObject, IoStatusBlock);
+}
+
+NTSTATUS FltCreateFileEx(PFLT_FILTER Filter, PFLT_INSTANCE Instance, PHANDLE FileHandle, PFILE_OBJECT *FileObject, ACCESS_MASK DesiredAccess,
+                         POBJECT_ATTRIBUTES ObjectAttributes, PIO_STATUS_BLOCK IoStatusBlock, PLARGE_INTEGER AllocationSize, ULONG FileAttributes,
+                         ULONG ShareAccess, ULONG CreateDisposition, ULONG CreateOptions, PVOID EaBuffer, ULONG EaLength, ULONG Flags)
+{
+    KZ_CALL();
+    (void)Filter, (void)DesiredAccess, (void)AllocationSize, (void)FileAttributes, (void)ShareAccess, (void)EaBuffer, (void)EaLength, (void)Flags;
+    const Wanted wanted = {Instance, ObjectAttributes, CreateDisposition, CreateOptions, __func__, "FltClose"};
+    return open_file(&wanted, FileHandle, FileObject, IoStatusBlock);
+}
+
+NTSTATUS FltCreateFile(PFLT_FILTER Filter, PFLT_INSTANCE Instance, PHANDLE FileHandle, ACCESS_MASK DesiredAccess, POBJECT_ATTRIBUTES ObjectAttributes,
+                       PIO_STATUS_BLOCK IoStatusBlock, PLARGE_INTEGER AllocationSize, ULONG FileAttributes, ULONG ShareAccess, ULONG CreateDisposition,
+                       ULONG CreateOptions, PVOID EaBuffer, ULONG EaLength, ULONG Flags)
+{
+    KZ_CALL();
+    (void)Filter, (void)DesiredAccess, (void)AllocationSize, (void)FileAttributes, (void)ShareAccess, (void)EaBuffer, (void)EaLength, (void)Flags;
+    const Wanted wanted = {Instance, ObjectAttributes, CreateDisposition, CreateOptions, __func__, "FltClose"};
+    return open_file(&wanted, FileHandle, NULL, IoStatusBlock);
+}
+
+NTSTATUS ZwCreateFile(PHANDLE FileHandle, ACCESS_MASK DesiredAccess, POBJECT_ATTRIBUTES ObjectAttributes, PIO_STATUS_BLOCK IoStatusBlock,
+                      PLARGE_INTEGER AllocationSize, ULONG FileAttributes, ULONG ShareAccess, ULONG CreateDisposition, ULONG CreateOptions, PVOID EaBuffer,
+                      ULONG EaLength)
+{
+    KZ_CALL();
+    (void)DesiredAccess, (void)AllocationSize, (void)FileAttributes, (void)ShareAccess, (void)EaBuffer, (void)EaLength;
+    const Wanted wanted = {NULL, ObjectAttributes, CreateDisposition, CreateOptions, __func__, "ZwClose"};
+    return open_file(&wanted, FileHandle, NULL, IoStatusBlock);
+}
+
+NTSTATUS ZwOpenFile(PHANDLE FileHandle, ACCESS_MASK DesiredAccess, POBJECT_ATTRIBUTES ObjectAttributes, PIO_STATUS_BLOCK IoStatusBlock, ULONG ShareAccess,
+                    ULONG OpenOptions)
+{
+    KZ_CALL();
+    (void)DesiredAccess, (void)ShareAccess;
+    const Wanted wanted = {NULL, ObjectAttributes, FILE_OPEN, OpenOptions, __func__, "ZwClose"};
+    return open_file(&wanted, FileHandle, NULL, IoStatusBlock);
+}
+
+NTSTATUS ZwDeleteFile(POBJECT_ATTRIBUTES ObjectAttributes)
+{
+    KZ_CALL();
+    const Wanted wanted = {NULL, ObjectAttributes, FILE_OPEN, FILE_DELETE_ON_CLOSE, __func__, "ZwClose"};
+    KzFile *file;
+    NTSTATUS status = create(&wanted, &file);
+    if (!NT_SUCCESS(status))
+        return status;
+    kz_close_below(NULL, file);
+    kz_let_go_file(file);
+    return STATUS_SUCCESS;
+}
+
+/* ---- Closing. */
+static void close_file(KzFile *file)
+{
+    kz_clean_up_below(file);
+    bool is_last = file->users == 1; /* a dismount took its handle */
+    kz_let_go_file(file);
+    if (!is_last)
+        kz_close_if_due(file);
+}
+
+/* False: it is none of these. */
+bool kz_close_handle(HANDLE handle)
+{
+    Handle **at = place_of(handle), *gone = *at;
+    if (!gone)
+        return false;
+    *at = gone->next;
+    if (gone->file)
+        close_file(gone->file);
+    free(gone);
+    return true;
+}
+
+NTSTATUS FltClose(HANDLE FileHandle)
+{
+    KZ_CALL();
+    return kz_close_handle(FileHandle) ? STATUS_SUCCESS : ZwClose(FileHandle);
+}
+
+/* An open is cancelled in its postoperation: those below hear of a cleanup and a close. What the caller, and those above, are told is the status that the filter then sets. */
+VOID FltCancelFileOpen(PFLT_INSTANCE Instance, PFILE_OBJECT FileObject)
+{
+    KZ_CALL();
+    KzOp *op = kz_me->place.op;
+    uint64_t handle;
+    bool is_its = op && op->event == KZE_CREATE && &op->file->object == FileObject && kz_me->place.callback == KZ_IN_POST && !op->is_cancelled;
+    if (!is_its || !kz_handle_of(op->file, &handle)) {
+        kz_tell(KZM_NOT_OPENED, __func__, "of a file object whose create isn't in its postoperation here, or failed");
+        return;
+    }
+    op->is_cancelled = true;
+    kz_close_below(Instance, op->file);
+    op->file->is_opening = false;
+    FileObject->Flags |= FO_FILE_OPEN_CANCELLED;
+}
+
+/* ---- The end of a filter, and of a run. */
+void kz_tell_handles(PFLT_FILTER filter)
+{
+    for (Handle *one = handles; one; one = one->next)
+        if (one->place.filter == filter && one->call) {
+            KzPlace before = kz_enter_again(&one->place);
+            kz_tell(KZM_HANDLE_LEAK, one->call, "never called for a handle of %s%s", one->file ? "the file " : one->what, one->file ? one->file->path : "");
+            kz_me->place = before;
+            one->call = NULL;
+        }
+}
+
+void kz_free_handles(void)
+{
+    while (handles) {
+        Handle *one = handles;
+        handles = one->next;
+        free(one);
+    }
+    last_handle = 0;
+}

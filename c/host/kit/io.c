@@ -1,0 +1,207 @@
+/* Reads, writes and flushes that a driver begins by itself. Those of more bytes than the manager takes at once are several operations. */
+#include "manager/below.h"
+
+#include <stdlib.h>
+
+/* What goes on between a driver's buffer and a file. */
+typedef struct {
+    KzOwn own;
+    KzFile *file;
+    uint8_t *buffer;
+    uint64_t offset;
+    ULONG length, done;
+    const char *call;
+} Transfer;
+
+static NTSTATUS read_part(Transfer *one, ULONG size)
+{
+    KazdrinEvent asked = {.event = KZE_READ, .offset = one->offset + one->done, .len = size};
+    KzAnswer answer = kz_below_file(&one->own, one->file, asked, "", 0);
+    NTSTATUS status = kz_status_of(answer);
+    size_t there = NT_SUCCESS(status) && answer.length < size ? answer.length : size;
+    if (!NT_SUCCESS(status))
+        return one->done ? STATUS_SUCCESS : status; /* it ends where the file does */
+    memcpy(one->buffer + one->done, kz_me->room, there);
+    one->done += (ULONG)there;
+    if (there < size)
+        one->length = one->done;
+    return status;
+}
+
+static NTSTATUS write_part(Transfer *one, ULONG size)
+{
+    KazdrinEvent asked = {.event = KZE_WRITE, .offset = one->offset + one->done};
+    NTSTATUS status = kz_status_of(kz_below_file(&one->own, one->file, asked, one->buffer + one->done, size));
+    one->done += NT_SUCCESS(status) ? size : 0;
+    return status;
+}
+
+static NTSTATUS transfer(Transfer *one, NTSTATUS (*part)(Transfer *, ULONG))
+{
+    NTSTATUS status;
+    do {
+        ULONG before = one->done, rest = one->length - one->done;
+        status = part(one, rest < KZ_BYTES ? rest : KZ_BYTES);
+        if (one->done == before)
+            break;
+    } while (NT_SUCCESS(status) && one->done < one->length);
+    return status;
+}
+
+/* ---- By a file object, for those below the instance. */
+KzFile *kz_opened_file(PFILE_OBJECT object, const char *call)
+{
+    uint64_t handle;
+    KzFile *file = kz_file_with(object);
+    if (file && kz_handle_of(file, &handle))
+        return file;
+    kz_tell(KZM_NOT_OPENED, call, file ? "a file object that isn't open: its create isn't answered yet, failed, or its close is over" : "no file object");
+    return NULL;
+}
+
+static ULONG irp_flags_of(FLT_IO_OPERATION_FLAGS flags)
+{
+    ULONG irp = flags & FLTFL_IO_OPERATION_NON_CACHED ? IRP_NOCACHE : 0;
+    if (flags & FLTFL_IO_OPERATION_PAGING)
+        irp |= IRP_NOCACHE | IRP_PAGING_IO;
+    return flags & FLTFL_IO_OPERATION_SYNCHRONOUS_PAGING ? irp | IRP_NOCACHE | IRP_PAGING_IO | IRP_SYNCHRONOUS_PAGING_IO : irp;
+}
+
+/* What isn't cached goes by whole sectors. */
+static bool is_aligned(const Transfer *one)
+{
+    USHORT sector = one->file->volume->sector;
+    return !(one->own.irp_flags & IRP_NOCACHE) || (one->offset % sector == 0 && one->length % sector == 0);
+}
+
+typedef struct {
+    PFLT_INSTANCE instance;
+    PFILE_OBJECT object;
+    PLARGE_INTEGER offset;
+    ULONG length;
+    PVOID buffer;
+    FLT_IO_OPERATION_FLAGS flags;
+    PULONG done;
+    PFLT_COMPLETED_ASYNC_IO_CALLBACK routine;
+    PVOID context;
+    const char *call;
+} Asked;
+
+/* The routine of an asynchronous call: it is called before the call returns, as in the kit where the file system answers at once. */
+static void complete(const Asked *asked, UCHAR major, NTSTATUS status, ULONG done)
+{
+    FLT_IO_PARAMETER_BLOCK iopb = {.MajorFunction = major, .TargetFileObject = asked->object, .TargetInstance = asked->instance};
+    FLT_CALLBACK_DATA data = {.Flags = FLTFL_CALLBACK_DATA_IRP_OPERATION | FLTFL_CALLBACK_DATA_GENERATED_IO,
+                              .Thread = PsGetCurrentThread(),
+                              .Iopb = &iopb,
+                              .IoStatus = {.Status = status, .Information = done},
+                              .RequestorMode = KernelMode};
+    unsigned depth = kz_let_driver("completion", asked->routine);
+    asked->routine(&data, asked->context);
+    kz_driver_returned(depth, "completion returns");
+}
+
+static NTSTATUS carry_out(const Asked *asked, bool is_write)
+{
+    KzFile *file = kz_may_use(asked->call, asked->instance) ? kz_opened_file(asked->object, asked->call) : NULL;
+    if (!file)
+        return STATUS_INVALID_PARAMETER;
+    bool keeps_offset = asked->flags & FLTFL_IO_OPERATION_DO_NOT_UPDATE_BYTE_OFFSET;
+    Transfer one = {.own = {.initiator = asked->instance, .is_waited_for = true, .irp_flags = irp_flags_of(asked->flags)},
+                    .file = file,
+                    .buffer = asked->buffer,
+                    .offset = (uint64_t)(asked->offset ? asked->offset : &asked->object->CurrentByteOffset)->QuadPart,
+                    .length = asked->length};
+    if (!is_aligned(&one))
+        return STATUS_INVALID_PARAMETER;
+    NTSTATUS status = transfer(&one, is_write ? write_part : read_part);
+    if (asked->done)
+        *asked->done = one.done;
+    if (NT_SUCCESS(status) && !keeps_offset && !(one.own.irp_flags & IRP_PAGING_IO))
+        asked->object->CurrentByteOffset.QuadPart = (LONGLONG)(one.offset + one.done);
+    if (!asked->routine)
+        return status;
+    complete(asked, is_write ? IRP_MJ_WRITE : IRP_MJ_READ, status, one.done);
+    return STATUS_PENDING;
+}
+
+NTSTATUS FltReadFile(PFLT_INSTANCE InitiatingInstance, PFILE_OBJECT FileObject, PLARGE_INTEGER ByteOffset, ULONG Length, PVOID Buffer,
+                     FLT_IO_OPERATION_FLAGS Flags, PULONG BytesRead, PFLT_COMPLETED_ASYNC_IO_CALLBACK CallbackRoutine, PVOID CallbackContext)
+{
+    KZ_CALL();
+    return carry_out(&(Asked){InitiatingInstance, FileObject, ByteOffset, Length, Buffer, Flags, BytesRead, CallbackRoutine, CallbackContext, __func__}, false);
+}
+
+NTSTATUS FltWriteFile(PFLT_INSTANCE InitiatingInstance, PFILE_OBJECT FileObject, PLARGE_INTEGER ByteOffset, ULONG Length, PVOID Buffer,
+                      FLT_IO_OPERATION_FLAGS Flags, PULONG BytesWritten, PFLT_COMPLETED_ASYNC_IO_CALLBACK CallbackRoutine, PVOID CallbackContext)
+{
+    KZ_CALL();
+    return carry_out(&(Asked){InitiatingInstance, FileObject, ByteOffset, Length, Buffer, Flags, BytesWritten, CallbackRoutine, CallbackContext, __func__}, true);
+}
+
+static NTSTATUS flush(PFLT_INSTANCE instance, PFILE_OBJECT object, const char *call)
+{
+    const KzOwn own = {.initiator = instance, .is_waited_for = true};
+    KzFile *file = kz_may_use(call, instance) ? kz_opened_file(object, call) : NULL;
+    return file ? kz_status_of(kz_below_file(&own, file, (KazdrinEvent){.event = KZE_FLUSH}, "", 0)) : STATUS_INVALID_PARAMETER;
+}
+
+NTSTATUS FltFlushBuffers(PFLT_INSTANCE Instance, PFILE_OBJECT FileObject)
+{
+    KZ_CALL();
+    return flush(Instance, FileObject, __func__);
+}
+
+NTSTATUS FltFlushBuffers2(PFLT_INSTANCE Instance, PFILE_OBJECT FileObject, ULONG FlushType, PFLT_CALLBACK_DATA CallbackData)
+{
+    KZ_CALL();
+    (void)FlushType, (void)CallbackData;
+    return flush(Instance, FileObject, __func__);
+}
+
+/* ---- By a handle, from the top of the stack. */
+static KzFile *file_of(HANDLE handle, const char *call)
+{
+    KzFile *file = kz_own_file(handle);
+    if (!file)
+        kz_tell(KZM_NO_HANDLE, call, "a handle that isn't open (closed twice?)");
+    return file;
+}
+
+static NTSTATUS by_handle(HANDLE handle, PIO_STATUS_BLOCK status, PVOID buffer, ULONG length, PLARGE_INTEGER offset, bool is_write, const char *call)
+{
+    KzFile *file = file_of(handle, call);
+    if (!file)
+        return STATUS_INVALID_HANDLE;
+    ULONG done = 0;
+    bool is_current = !offset || (offset->HighPart == -1 && offset->LowPart == FILE_USE_FILE_POINTER_POSITION);
+    *status = (IO_STATUS_BLOCK){.Status = carry_out(&(Asked){NULL, &file->object, is_current ? NULL : offset, length, buffer, 0, &done, NULL, NULL, call}, is_write)};
+    status->Information = done;
+    return status->Status;
+}
+
+NTSTATUS ZwReadFile(HANDLE FileHandle, HANDLE Event, PVOID ApcRoutine, PVOID ApcContext, PIO_STATUS_BLOCK IoStatusBlock, PVOID Buffer, ULONG Length,
+                    PLARGE_INTEGER ByteOffset, PULONG Key)
+{
+    KZ_CALL();
+    (void)Event, (void)ApcRoutine, (void)ApcContext, (void)Key;
+    return by_handle(FileHandle, IoStatusBlock, Buffer, Length, ByteOffset, false, __func__);
+}
+
+NTSTATUS ZwWriteFile(HANDLE FileHandle, HANDLE Event, PVOID ApcRoutine, PVOID ApcContext, PIO_STATUS_BLOCK IoStatusBlock, PVOID Buffer, ULONG Length,
+                     PLARGE_INTEGER ByteOffset, PULONG Key)
+{
+    KZ_CALL();
+    (void)Event, (void)ApcRoutine, (void)ApcContext, (void)Key;
+    return by_handle(FileHandle, IoStatusBlock, Buffer, Length, ByteOffset, true, __func__);
+}
+
+NTSTATUS ZwFlushBuffersFile(HANDLE FileHandle, PIO_STATUS_BLOCK IoStatusBlock)
+{
+    KZ_CALL();
+    KzFile *file = file_of(FileHandle, __func__);
+    if (!file)
+        return STATUS_INVALID_HANDLE;
+    *IoStatusBlock = (IO_STATUS_BLOCK){.Status = flush(NULL, &file->object, __func__)};
+    return IoStatusBlock->Status;
+}

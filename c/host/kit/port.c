@@ -1,0 +1,362 @@
+/* Ports. A program's thread calls the filter's callbacks by itself, as in the kit; a message of the filter's waits until a program's thread has got it, or has answered it. */
+#include "kit/port.h"
+#include "user/program.h"
+
+#include <stdlib.h>
+
+struct _FLT_PORT {
+    PFLT_PORT next;
+    PFLT_FILTER filter;
+    char name[128]; /* of the one that programs connect to */
+    PFLT_PORT server;
+    PVOID cookie;
+    PFLT_CONNECT_NOTIFY connect;
+    PFLT_DISCONNECT_NOTIFY disconnect;
+    PFLT_MESSAGE_NOTIFY message;
+    LONG most, connections;
+    bool is_refused, is_closed, is_disconnected; /* of a connection: by the connect callback, by the filter, by the program or the filter's end */
+    KzPortMessage *messages;
+    KzPlace place; /* where it was made */
+};
+
+static PFLT_PORT servers, connections;
+static uint64_t last_message;
+static UCHAR descriptor;
+
+/* Descriptors aren't looked into: whoever connects may. */
+NTSTATUS FltBuildDefaultSecurityDescriptor(PSECURITY_DESCRIPTOR *SecurityDescriptor, ACCESS_MASK DesiredAccess)
+{
+    KZ_INSIDE();
+    (void)DesiredAccess;
+    *SecurityDescriptor = &descriptor;
+    return STATUS_SUCCESS;
+}
+
+VOID FltFreeSecurityDescriptor(PSECURITY_DESCRIPTOR SecurityDescriptor)
+{
+    if (SecurityDescriptor != &descriptor)
+        kz_tell(KZM_NO_FILTER_OBJECT, __func__, "no security descriptor of FltBuildDefaultSecurityDescriptor");
+}
+
+static PFLT_PORT server_of(const char *name)
+{
+    PFLT_PORT one = servers;
+    while (one && KzStricmp(one->name, name) != 0)
+        one = one->next;
+    return one;
+}
+
+NTSTATUS FltCreateCommunicationPort(PFLT_FILTER Filter, PFLT_PORT *ServerPort, POBJECT_ATTRIBUTES ObjectAttributes, PVOID ServerPortCookie,
+                                    PFLT_CONNECT_NOTIFY ConnectNotifyCallback, PFLT_DISCONNECT_NOTIFY DisconnectNotifyCallback,
+                                    PFLT_MESSAGE_NOTIFY MessageNotifyCallback, LONG MaxConnections)
+{
+    KZ_CALL();
+    char name[128];
+    *ServerPort = NULL;
+    if (!kz_is_filter(Filter)) {
+        kz_tell(KZM_NO_FILTER_OBJECT, __func__, "no filter");
+        return STATUS_INVALID_PARAMETER;
+    }
+    if (!ObjectAttributes || !ObjectAttributes->ObjectName || !ConnectNotifyCallback || !DisconnectNotifyCallback || MaxConnections < 1)
+        return STATUS_INVALID_PARAMETER;
+    kz_narrow(name, sizeof name, ObjectAttributes->ObjectName);
+    if (server_of(name))
+        return STATUS_OBJECT_NAME_COLLISION;
+    if (kz_refuses(KZ_CHOICE_POOL, __func__))
+        return STATUS_INSUFFICIENT_RESOURCES;
+    PFLT_PORT made = kz_memory(sizeof *made);
+    *made = (struct _FLT_PORT){.next = servers,
+                               .filter = Filter,
+                               .cookie = ServerPortCookie,
+                               .connect = ConnectNotifyCallback,
+                               .disconnect = DisconnectNotifyCallback,
+                               .message = MessageNotifyCallback,
+                               .most = MaxConnections,
+                               .place = kz_me->place};
+    memcpy(made->name, name, sizeof name);
+    servers = made;
+    *ServerPort = made;
+    kz_scheduler->touch(made, 0, KZT_GIVES);
+    return STATUS_SUCCESS;
+}
+
+/* Connections that are there stay. */
+VOID FltCloseCommunicationPort(PFLT_PORT ServerPort)
+{
+    KZ_CALL();
+    for (PFLT_PORT *at = &servers; *at; at = &(*at)->next)
+        if (*at == ServerPort) {
+            *at = ServerPort->next;
+            for (PFLT_PORT one = connections; one; one = one->next)
+                one->server = one->server == ServerPort ? NULL : one->server;
+            free(ServerPort);
+            return;
+        }
+    kz_tell(KZM_NO_HANDLE, __func__, "no port (closed twice?)");
+}
+
+/* ---- Callbacks of a port, by the thread that asks. */
+typedef struct {
+    KzPlace before;
+    uint8_t worker;
+    unsigned depth;
+} Inside;
+
+static Inside go_in(PFLT_FILTER filter, const char *name, PVOID function)
+{
+    Inside one = {.worker = kz_helper()};
+    one.before = kz_enter(KZ_IN_PORT, one.worker, filter, NULL, NULL, NULL);
+    kz_call_at(PASSIVE_LEVEL);
+    one.depth = kz_let_driver(name, function);
+    return one;
+}
+
+static void come_back(Inside one, const char *name)
+{
+    kz_driver_returned(one.depth, name);
+    kz_keep_rest(NULL);
+    kz_leave(one.before);
+    kz_helped(one.worker);
+    kz_clean_up();
+}
+
+NTSTATUS kz_connect_port(const char *name, const void *context, USHORT size, PFLT_PORT *port)
+{
+    KZ_CALL();
+    PFLT_PORT server = server_of(name), made;
+    if (!server)
+        return STATUS_OBJECT_NAME_NOT_FOUND;
+    if (server->connections >= server->most)
+        return STATUS_CONNECTION_COUNT_LIMIT;
+    made = kz_memory(sizeof *made);
+    *made = (struct _FLT_PORT){.next = connections, .filter = server->filter, .server = server, .disconnect = server->disconnect, .message = server->message};
+    connections = made;
+    server->connections++;
+    void *captured = size ? kz_take_memory(KZK_BUFFER, size, 0, 0) : NULL;
+    if (captured)
+        memcpy(captured, context, size);
+    kz_scheduler->touch(server, 0, KZT_TAKES);
+    PFLT_CONNECT_NOTIFY connect = server->connect;
+    PVOID cookie = server->cookie;
+    Inside inside = go_in(made->filter, "connect", (PVOID)connect);
+    made->place = kz_me->place;
+    NTSTATUS status = connect(made, cookie, captured, size, &made->cookie);
+    come_back(inside, "connect returns");
+    kz_give_back(captured);
+    kz_scheduler->touch(made, 0, KZT_GIVES);
+    if (NT_SUCCESS(status)) {
+        *port = made;
+        return status;
+    }
+    made->is_refused = made->is_disconnected = true;
+    if (made->server)
+        made->server->connections--;
+    return status;
+}
+
+void kz_disconnect_port(PFLT_PORT port)
+{
+    KZ_CALL();
+    if (port->is_disconnected)
+        return;
+    port->is_disconnected = true;
+    kz.changes++;
+    kz_serve_messages(port);
+    if (port->server)
+        port->server->connections--;
+    kz_scheduler->touch(port, 0, KZT_TAKES);
+    Inside inside = go_in(port->filter, "disconnect", (PVOID)port->disconnect);
+    port->disconnect(port->cookie);
+    come_back(inside, "disconnect returns");
+}
+
+NTSTATUS kz_send_to_filter(PFLT_PORT port, void *in, ULONG in_length, void *out, ULONG out_length, PULONG returned)
+{
+    KZ_CALL();
+    *returned = 0;
+    if (kz_is_port_over(port))
+        return STATUS_PORT_DISCONNECTED;
+    if (!port->message)
+        return STATUS_NOT_SUPPORTED;
+    kz_scheduler->touch(port, 0, KZT_TAKES);
+    Inside inside = go_in(port->filter, "message", (PVOID)port->message);
+    NTSTATUS status = port->message(port->cookie, in, in_length, out, out_length, returned);
+    come_back(inside, "message returns");
+    return status;
+}
+
+bool kz_is_port_over(PFLT_PORT port)
+{
+    return port->is_closed || port->is_disconnected;
+}
+
+static bool is_connection(PFLT_PORT port)
+{
+    PFLT_PORT one = connections;
+    while (one && one != port)
+        one = one->next;
+    return one != NULL;
+}
+
+VOID FltCloseClientPort(PFLT_FILTER Filter, PFLT_PORT *ClientPort)
+{
+    KZ_CALL();
+    (void)Filter;
+    PFLT_PORT port = *ClientPort;
+    *ClientPort = NULL;
+    if (!port)
+        return;
+    if (!is_connection(port) || port->is_closed) {
+        kz_tell(KZM_NO_HANDLE, __func__, "no port of a connection (closed twice?)");
+        return;
+    }
+    port->is_closed = true;
+    kz.changes++;
+    kz_scheduler->touch(port, 0, KZT_GIVES);
+    kz_serve_messages(port);
+}
+
+/* ---- Messages to a program. */
+static bool is_over(void *given)
+{
+    const KzPortMessage *message = given;
+    return message->is_over || kz_is_port_over(message->port);
+}
+
+static void add(KzPortMessage *message)
+{
+    KzPortMessage **at = &message->port->messages;
+    while (*at)
+        at = &(*at)->next;
+    *at = message;
+    kz_scheduler->touch(message, 0, KZT_GIVES);
+    kz_serve_messages(message->port);
+}
+
+static void take_out(KzPortMessage *message)
+{
+    for (KzPortMessage **at = &message->port->messages; *at; at = &(*at)->next)
+        if (*at == message) {
+            *at = message->next;
+            return;
+        }
+}
+
+static int64_t milliseconds_of(PLARGE_INTEGER timeout)
+{
+    if (!timeout)
+        return -1;
+    LARGE_INTEGER now;
+    KeQuerySystemTime(&now);
+    int64_t units = timeout->QuadPart <= 0 ? -timeout->QuadPart : timeout->QuadPart - now.QuadPart;
+    return units > 0 ? (units + 9999) / 10000 : 0;
+}
+
+NTSTATUS FltSendMessage(PFLT_FILTER Filter, PFLT_PORT *ClientPort, PVOID SenderBuffer, ULONG SenderBufferLength, PVOID ReplyBuffer, PULONG ReplyLength,
+                        PLARGE_INTEGER Timeout)
+{
+    KZ_CALL();
+    (void)Filter;
+    PFLT_PORT port = ClientPort ? *ClientPort : NULL;
+    if (!port)
+        return STATUS_PORT_DISCONNECTED;
+    if (!is_connection(port)) {
+        kz_tell(KZM_NO_HANDLE, __func__, "no port of a connection");
+        return STATUS_INVALID_PARAMETER;
+    }
+    if (kz_is_port_over(port))
+        return STATUS_PORT_DISCONNECTED;
+    if (kz_refuses(KZ_CHOICE_POOL, __func__))
+        return STATUS_INSUFFICIENT_RESOURCES;
+    kz_scheduler->touch(port, 0, KZT_TAKES);
+    KzPortMessage message = {.port = port, .id = ++last_message, .bytes = SenderBuffer, .length = SenderBufferLength, .reply = ReplyBuffer, .room = ReplyBuffer && ReplyLength ? *ReplyLength : 0};
+    int64_t milliseconds = milliseconds_of(Timeout);
+    add(&message);
+    kz_wait_for(is_over, &message, milliseconds, ReplyBuffer ? "FltSendMessage, which is to be answered" : "FltSendMessage");
+    take_out(&message);
+    kz_scheduler->touch(&message, 0, KZT_TAKES);
+    if (message.is_over && ReplyLength && ReplyBuffer)
+        *ReplyLength = message.answered;
+    if (message.is_over)
+        return message.status;
+    if (kz_is_port_over(port))
+        return STATUS_PORT_DISCONNECTED;
+    if (milliseconds < 0)
+        kz_tell(KZM_NOBODY_SETS, __func__, "no program takes or answers the message: it ends with STATUS_TIMEOUT");
+    return STATUS_TIMEOUT;
+}
+
+KzPortMessage *kz_next_message(PFLT_PORT port)
+{
+    KzPortMessage *one = port->messages;
+    while (one && one->is_taken)
+        one = one->next;
+    return one;
+}
+
+void kz_take_message(KzPortMessage *message)
+{
+    message->is_taken = true;
+    message->is_over = !message->reply;
+    kz_scheduler->touch(message, 0, KZT_TAKES);
+    kz_scheduler->touch(message, 0, KZT_GIVES);
+}
+
+/* What is longer than the room isn't all there, and the sender is told so. */
+bool kz_reply_message(PFLT_PORT port, uint64_t id, NTSTATUS status, const void *bytes, ULONG length)
+{
+    KzPortMessage *one = port->messages;
+    while (one && !(one->id == id && one->is_taken && !one->is_over))
+        one = one->next;
+    if (!one)
+        return false;
+    one->answered = length < one->room ? length : one->room;
+    memcpy(one->reply, bytes, one->answered);
+    one->status = length > one->room ? STATUS_BUFFER_OVERFLOW : status;
+    one->is_over = true;
+    kz_scheduler->touch(one, 0, KZT_GIVES);
+    return true;
+}
+
+/* ---- The end of a filter. Its connections end. */
+void kz_disconnect_ports(PFLT_FILTER filter)
+{
+    for (PFLT_PORT one = connections; one; one = one->next)
+        if (one->filter == filter)
+            kz_disconnect_port(one);
+}
+
+static void tell_leak(PFLT_PORT port, const char *call, const char *what)
+{
+    KzPlace before = kz_enter_again(&port->place);
+    kz_tell(KZM_PORT_LEAK, call, "never called for a %s", what);
+    kz_me->place = before;
+}
+
+void kz_tell_ports(PFLT_FILTER filter)
+{
+    for (PFLT_PORT one = servers; one; one = one->next)
+        if (one->filter == filter)
+            tell_leak(one, "FltCloseCommunicationPort", "port");
+    for (PFLT_PORT one = connections; one; one = one->next)
+        if (one->filter == filter && !one->is_refused && !one->is_closed) {
+            one->is_closed = true;
+            tell_leak(one, "FltCloseClientPort", "connection");
+        }
+}
+
+static void free_all(PFLT_PORT *list)
+{
+    while (*list) {
+        PFLT_PORT one = *list;
+        *list = one->next;
+        free(one);
+    }
+}
+
+void kz_free_ports(void)
+{
+    free_all(&servers);
+    free_all(&connections);
+    last_message = 0;
+}

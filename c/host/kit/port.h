@@ -1,0 +1,33 @@
+/* Ports between a filter and its programs: the filter's calls are the kit's, the programs' are these. */
+#ifndef KZ_PORT_H
+#define KZ_PORT_H
+
+#include "host.h"
+
+/* What a filter sends, until its program has answered it, or has got it where no answer is wanted. It lies with the sender, who waits. */
+typedef struct KzPortMessage {
+    struct KzPortMessage *next;
+    PFLT_PORT port;
+    uint64_t id;
+    const void *bytes;
+    ULONG length;
+    void *reply;
+    ULONG room, answered; /* of the reply, and how much of it there is */
+    NTSTATUS status;
+    bool is_taken, is_over;
+} KzPortMessage;
+
+/* By its name, with a context for the filter's connect callback: what that answers, or why there is none. */
+NTSTATUS kz_connect_port(const char *name, const void *context, USHORT size, PFLT_PORT *port);
+/* The program closes its end: the filter's disconnect callback is called, once. */
+void kz_disconnect_port(PFLT_PORT port);
+NTSTATUS kz_send_to_filter(PFLT_PORT port, void *in, ULONG in_length, void *out, ULONG out_length, PULONG returned);
+/* The first message that nobody has got; NULL if there is none. */
+KzPortMessage *kz_next_message(PFLT_PORT port);
+void kz_take_message(KzPortMessage *message);
+/* False: nobody waits for that answer. */
+bool kz_reply_message(PFLT_PORT port, uint64_t id, NTSTATUS status, const void *bytes, ULONG length);
+/* The filter has closed it, or was unloaded. */
+bool kz_is_port_over(PFLT_PORT port);
+
+#endif

@@ -1,0 +1,107 @@
+/* Threads of a driver's own: each is a thread of the system's process beside the requests. */
+#include "run/beside.h"
+
+#include <setjmp.h>
+#include <stdlib.h>
+
+typedef struct Own {
+    struct Own *next;
+    PFLT_FILTER filter;
+    PKSTART_ROUTINE routine;
+    PVOID context;
+    KzThread *thread;
+    PETHREAD object;
+    KzPlace place; /* where it was made */
+    jmp_buf end;
+    bool has_ended;
+} Own;
+
+static Own *all;
+static uint64_t last_id;
+
+static void live(void *given)
+{
+    Own *me = given;
+    KZ_INSIDE();
+    KzPlace before = kz_enter(KZ_IN_THREAD, kz_worker(), me->filter, NULL, NULL, NULL);
+    unsigned depth = kz_let_driver("thread", me->routine);
+    if (setjmp(me->end) == 0)
+        me->routine(me->context);
+    kz_driver_returned(depth, "thread ends");
+    kz_keep_rest(NULL);
+    kz_leave(before);
+    me->has_ended = true;
+    kz_end_thread_object(me->object);
+}
+
+static Own *mine(void)
+{
+    Own *one = all;
+    while (one && !(kz_me->beside && one->thread == kz_me->beside))
+        one = one->next;
+    return one;
+}
+
+NTSTATUS PsCreateSystemThread(PHANDLE ThreadHandle, ULONG DesiredAccess, POBJECT_ATTRIBUTES ObjectAttributes, HANDLE ProcessHandle, CLIENT_ID *ClientId,
+                              PKSTART_ROUTINE StartRoutine, PVOID StartContext)
+{
+    KZ_CALL();
+    (void)DesiredAccess, (void)ObjectAttributes, (void)ProcessHandle;
+    *ThreadHandle = NULL;
+    if (kz_refuses(KZ_CHOICE_POOL, __func__))
+        return STATUS_INSUFFICIENT_RESOURCES;
+    uint64_t id = 12 + last_id;
+    Own *made = kz_memory(sizeof *made);
+    *made = (Own){.next = all, .filter = kz_me->place.filter, .routine = StartRoutine, .context = StartContext, .place = kz_me->place};
+    made->object = kz_thread_object(4, id);
+    made->thread = kz_new_thread("thread", 4, id, live, made);
+    if (!made->thread) {
+        free(made);
+        kz_tell(KZM_THREAD, __func__, "more than %u threads run beside the requests: it answers STATUS_INSUFFICIENT_RESOURCES", KZ_THREADS);
+        return STATUS_INSUFFICIENT_RESOURCES;
+    }
+    last_id += 4;
+    all = made;
+    if (ClientId)
+        *ClientId = (CLIENT_ID){ULongToHandle(4), ULongToHandle(id)};
+    *ThreadHandle = kz_open_handle(made->object, "a thread");
+    return STATUS_SUCCESS;
+}
+
+NTSTATUS PsTerminateSystemThread(NTSTATUS ExitStatus)
+{
+    (void)ExitStatus;
+    Own *me;
+    {
+        KZ_INSIDE();
+        me = mine();
+        if (!me)
+            kz_tell(KZM_NO_FILTER_OBJECT, __func__, "called by a thread that PsCreateSystemThread didn't make");
+    }
+    if (!me)
+        return STATUS_INVALID_PARAMETER;
+    longjmp(me->end, 1);
+}
+
+/* ---- A filter is unloaded, and a run ends. */
+void kz_tell_threads(PFLT_FILTER filter)
+{
+    for (Own *one = all; one; one = one->next)
+        if (one->filter == filter && !one->has_ended) {
+            KzPlace before = kz_enter_again(&one->place);
+            kz_tell(KZM_THREAD_LEFT, "PsCreateSystemThread", "the thread that was made here runs still: it would run in a driver that is gone");
+            kz_me->place = before;
+            kz_freeze(one->thread);
+        }
+}
+
+/* Behind the end of all threads. */
+void kz_free_own_threads(void)
+{
+    while (all) {
+        Own *one = all;
+        all = one->next;
+        free(one);
+    }
+    last_id = 0;
+}

@@ -1,0 +1,145 @@
+/* Operations that a driver begins itself: the manager's own, each by another worker, carried on inside the driver's call.
+ *
+ * The manager steps an operation through all instances. For those at the altitude of the one that began it, and above, the host answers FLT_PREOP_SUCCESS_NO_CALLBACK in their
+ * place: so only those below hear of it. That it passes the right ones is the host's; their order, counts, contexts and drains are the manager's. */
+#include "manager/below.h"
+
+#include <stdlib.h>
+
+bool kz_is_passed(const KzOp *op, PFLT_INSTANCE instance)
+{
+    const KzOwn *own = &op->own;
+    return own->is_unheard || (own->initiator && kz_compare_altitudes(instance->altitude, own->initiator->altitude) >= 0);
+}
+
+FLT_CALLBACK_DATA_FLAGS kz_data_flags(const KzOp *op)
+{
+    return FLTFL_CALLBACK_DATA_IRP_OPERATION | (op->own.initiator ? FLTFL_CALLBACK_DATA_GENERATED_IO : 0);
+}
+
+KzOp *kz_own_op(PFLT_CALLBACK_DATA data)
+{
+    for (KzOp *op = kz.ops; op; op = op->next)
+        if (op->own.is_own && op->own.data == data && data)
+            return op;
+    return NULL;
+}
+
+NTSTATUS kz_status_of(KzAnswer answer)
+{
+    if (answer.reply.held)
+        return STATUS_TIMEOUT;
+    return answer.other ? answer.other : kz_ntstatus(answer.reply.status);
+}
+
+KzReply kz_cancelled(const KzOp *op, NTSTATUS *other)
+{
+    bool is_exact = false;
+    NTSTATUS status = op->other ? op->other : STATUS_ACCESS_DENIED;
+    KzReply reply = {.status = NT_SUCCESS(status) ? KZS_DEVICE_FAULT : kz_number(status, &is_exact), .operation = op->id};
+    *other = NT_SUCCESS(status) || !is_exact ? status : STATUS_SUCCESS;
+    return reply;
+}
+
+static KzAnswer begin(const KzOwn *own, KzFile *file, KazdrinEvent asked, const void *bytes, size_t length)
+{
+    KzAnswer answer = {0};
+    KzTold begun = kz_event_with(kz_worker(), asked, bytes, length);
+    answer.reply.status = begun.status;
+    answer.is_refused = begun.status != KZS_OK;
+    if (answer.is_refused)
+        return answer;
+    KzOp *op = kz_new_op(begun.told.operation, asked, file, file->volume);
+    op->own = *own;
+    op->own.is_own = true;
+    op->own.worker = kz_worker();
+    if (kz_carry_to_end(op))
+        return kz_collect(op);
+    return (KzAnswer){.reply = {.held = 1, .operation = op->id}};
+}
+
+KzAnswer kz_below(const KzOwn *own, KzFile *file, KazdrinEvent asked, const void *bytes, size_t length)
+{
+    KzPlace before = kz_me->place;
+    uint8_t worker = kz_helper();
+    kz_me->place.worker = worker;
+    KzAnswer answer = begin(own, file, asked, bytes, length);
+    kz_me->place = before;
+    if (!answer.reply.held)
+        kz_helped(worker);
+    else if (own->is_waited_for)
+        kz_tell(KZM_NOBODY_SETS, "FltReadFile", "another filter holds " KZ_OPERATION ", which this one waits for, and nobody else runs here who would let it go on", (unsigned long long)answer.reply.operation);
+    return answer;
+}
+
+/* Of an operation that its caller didn't wait for. */
+void kz_end_below(KzOp *op)
+{
+    KzOwn own = op->own;
+    KzPlace before = kz_me->place;
+    kz_me->place.worker = own.worker;
+    KzAnswer answer = kz_collect(op);
+    kz_me->place = before;
+    kz_helped(own.worker);
+    if (own.done)
+        own.done(own.given, kz_status_of(answer), answer.reply.information, kz_me->room, answer.length);
+}
+
+/* Of a file whose cleanup has begun the manager takes nothing any more, but the file system here does, until its close. */
+static KzAnswer reopened(const KzOwn *own, KzFile *file, KazdrinEvent asked, const void *bytes, size_t length)
+{
+    const KzOwn unheard = {.is_unheard = true, .is_waited_for = true};
+    KzFile *hidden = kz_new_file(file->volume, file->path, false);
+    hidden->users++;
+    hidden->is_own = true;
+    KzAnswer answer = kz_below(&unheard, hidden, (KazdrinEvent){.event = KZE_CREATE, .volume = file->volume->id}, file->path, strlen(file->path));
+    if (answer.reply.status == KZS_OK) {
+        asked.handle = hidden->handle;
+        answer = kz_below(own, file, asked, bytes, length);
+        uint8_t *kept = kz_memory(answer.length);
+        memcpy(kept, kz_me->room, answer.length);
+        kz_below(&unheard, hidden, (KazdrinEvent){.event = KZE_CLEANUP, .handle = hidden->handle}, "", 0);
+        kz_below(&unheard, hidden, (KazdrinEvent){.event = KZE_CLOSE, .handle = hidden->handle}, "", 0);
+        memcpy(kz_me->room, kept, answer.length);
+        free(kept);
+    } else if (answer.reply.status == KZS_DELETE_PENDING) {
+        answer.other = STATUS_FILE_DELETED; /* as a file system answers behind the cleanup of a file that is marked */
+        if (!(file->object.Flags & FO_CLEANUP_COMPLETE))
+            kz_tell(KZM_MARKED_CLEANUP, "IRP_MJ_CLEANUP", "a file that is marked to be deleted is gone for its filters once its cleanup begins: it answers STATUS_FILE_DELETED");
+    }
+    kz_let_go_file(hidden);
+    return answer;
+}
+
+KzAnswer kz_below_file(const KzOwn *own, KzFile *file, KazdrinEvent asked, const void *bytes, size_t length)
+{
+    if (!kz_handle_of(file, &asked.handle))
+        return (KzAnswer){.other = STATUS_INVALID_HANDLE, .reply.status = KZS_NO_HANDLE};
+    KzAnswer answer = kz_below(own, file, asked, bytes, length);
+    return answer.is_refused && answer.reply.status == KZS_NO_HANDLE ? reopened(own, file, asked, bytes, length) : answer;
+}
+
+/* Its cleanup and its close. */
+void kz_close_below(PFLT_INSTANCE initiator, KzFile *file)
+{
+    const KzOwn own = {.initiator = initiator, .is_waited_for = true};
+    kz_below(&own, file, (KazdrinEvent){.event = KZE_CLEANUP, .handle = file->handle}, "", 0);
+    kz_below(&own, file, (KazdrinEvent){.event = KZE_CLOSE, .handle = file->handle}, "", 0);
+}
+
+/* Its cleanup; the close comes once nobody has its file object any more. */
+void kz_clean_up_below(KzFile *file)
+{
+    const KzOwn own = {.initiator = file->opener, .is_waited_for = true};
+    kz_below(&own, file, (KazdrinEvent){.event = KZE_CLEANUP, .handle = file->handle}, "", 0);
+    file->is_close_due = true;
+}
+
+void kz_close_if_due(KzFile *file)
+{
+    const KzOwn own = {.initiator = file->opener, .is_waited_for = true};
+    if (!file->is_close_due || file->users > 1)
+        return;
+    file->is_close_due = false;
+    kz_below(&own, file, (KazdrinEvent){.event = KZE_CLOSE, .handle = file->handle}, "", 0);
+}

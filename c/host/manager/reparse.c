@@ -1,0 +1,87 @@
+/* A create that a filter answers with STATUS_REPARSE begins anew, from the top, under the name that the filter put into its file object. */
+#include "manager/below.h"
+
+#include <stdlib.h>
+
+enum { MOST = 32 }; /* as often as the kit follows one */
+
+static bool is_reparsed(KzAnswer answer)
+{
+    return answer.other == STATUS_REPARSE;
+}
+
+/* What is to be opened in its place; the client's own until its next create. */
+void kz_note_reparse(const KzOp *op)
+{
+    kz_me->reparsed_mode = op->lent.mode;
+    kz_narrow(kz_me->reparsed, sizeof kz_me->reparsed, &op->file->object.FileName);
+}
+
+static KzAnswer refused(NTSTATUS status)
+{
+    bool is_exact;
+    KzAnswer answer = {.reply.status = kz_number(status, &is_exact)};
+    answer.other = is_exact ? STATUS_SUCCESS : status;
+    return answer;
+}
+
+KzAnswer kz_follow(KzAnswer answer, void *given, KzBeginCreate *begin)
+{
+    char name[sizeof kz_me->reparsed];
+    const char *path;
+    for (int round = 0; is_reparsed(answer); round++) {
+        memcpy(name, kz_me->reparsed, sizeof name);
+        PFLT_VOLUME volume = kz_volume_named(name, &path);
+        if (!volume || round == MOST)
+            return refused(volume ? STATUS_OBJECT_NAME_NOT_FOUND : STATUS_OBJECT_PATH_NOT_FOUND);
+        path += *path == '/';
+        answer = begin(given, (KazdrinEvent){.event = KZE_CREATE, .volume = volume->id, .mode = kz_me->reparsed_mode}, path);
+    }
+    return answer;
+}
+
+/* A filter may put another name into a file object, in memory of its pool: that is the file object's from then on. */
+void kz_adopt_name(KzFile *file)
+{
+    KzPiece *piece = kz_piece_of(file->object.FileName.Buffer);
+    if (piece && piece->kind == KZK_POOL)
+        piece->filter = NULL;
+}
+
+void kz_free_file_name(KzFile *file)
+{
+    PVOID name = file->object.FileName.Buffer;
+    if (!name)
+        return;
+    if (kz_piece_of(name))
+        kz_give_back(name);
+    else
+        kz_tell(KZM_NO_POOL, "FILE_OBJECT", "FileName.Buffer of \\%s is memory that isn't a pool's: the file object frees it", file->path);
+    file->object.FileName = (UNICODE_STRING){0, 0, NULL};
+}
+
+/* Only what a file object's name lies in may be freed by a driver as well. */
+bool kz_is_file_name(const void *memory)
+{
+    for (const KzFile *file = kz.files; file; file = file->next)
+        if (file->object.FileName.Buffer == memory)
+            return true;
+    return false;
+}
+
+NTSTATUS IoReplaceFileObjectName(PFILE_OBJECT FileObject, PWSTR NewFileName, USHORT FileNameLength)
+{
+    KZ_INSIDE();
+    KzFile *file = kz_file_with(FileObject);
+    if (!file) {
+        kz_tell(KZM_NO_TARGET, __func__, "no file object");
+        return STATUS_INVALID_PARAMETER;
+    }
+    PVOID room = kz_refuses(KZ_CHOICE_NAME, __func__) ? NULL : kz_take_memory(KZK_NAME, FileNameLength, 0, 0);
+    if (!room)
+        return STATUS_INSUFFICIENT_RESOURCES;
+    memcpy(room, NewFileName, FileNameLength);
+    kz_free_file_name(file);
+    FileObject->FileName = (UNICODE_STRING){FileNameLength, FileNameLength, room};
+    return STATUS_SUCCESS;
+}

@@ -1,0 +1,304 @@
+/* Files of a program: requests of its process, through all filters. */
+#include "user/program.h"
+#include "manager/below.h"
+
+#include <stdlib.h>
+
+static const KzOwn requests = {.is_waited_for = true, .is_user = true};
+
+static KzAnswer ask(KzFile *file, KazdrinEvent asked, const void *bytes, size_t length)
+{
+    asked.handle = file->handle;
+    return kz_below(&requests, file, asked, bytes, length);
+}
+
+/* 0, or the error of the answer. */
+static uint32_t error_of(KzAnswer answer)
+{
+    NTSTATUS status = kz_status_of(answer);
+    return NT_SUCCESS(status) ? 0 : kz_win32_of(status);
+}
+
+void kz_close_program_file(KzObject *object)
+{
+    KzFile *file = object->file;
+    ask(file, (KazdrinEvent){.event = KZE_CLEANUP}, "", 0);
+    file->is_close_due = true;
+    kz_let_go_file(file);
+    kz_close_if_due(file);
+}
+
+enum { CREATE_NEW = 1, CREATE_ALWAYS, OPEN_EXISTING, OPEN_ALWAYS, TRUNCATE_EXISTING };
+
+static uint8_t mode_of(uint32_t disposition)
+{
+    return disposition == CREATE_NEW ? 1 : disposition == OPEN_EXISTING || disposition == TRUNCATE_EXISTING ? 0 : 2;
+}
+
+/* A path below a volume's letter, or below its device. */
+static PFLT_VOLUME split(const char *name, const char **path)
+{
+    for (size_t at = 0; at < kz.volumes_count; at++) {
+        char device[64], letter[] = {(char)('C' + at), ':', '/', 0};
+        int length = snprintf(device, sizeof device, "//?/GLOBALROOT/Device/%s/", kz.volumes[at]->name);
+        bool is_device = KzStrnicmp(name, device, (size_t)length) == 0;
+        const char *begin = strncmp(name, "//?/", 4) == 0 && !is_device ? name + 4 : name;
+        *path = is_device ? name + length : begin + 3;
+        if (is_device || KzStrnicmp(begin, letter, 3) == 0)
+            return kz.volumes[at];
+    }
+    return NULL;
+}
+
+static KzAnswer begin(void *given, KazdrinEvent asked, const char *path)
+{
+    KzFile **made = given, *file = kz_new_file(kz.volumes[asked.volume], path, false);
+    file->users++;
+    file->is_own = true;
+    KzAnswer answer = kz_below(&requests, file, asked, path, strlen(path));
+    *made = answer.reply.status == KZS_OK && !answer.reply.held ? file : NULL;
+    if (!*made)
+        kz_let_go_file(file);
+    return answer;
+}
+
+static KzFile *open_file(const char *name, uint32_t disposition, uint32_t flags)
+{
+    const char *path;
+    KzFile *file = NULL;
+    PFLT_VOLUME volume = split(name, &path);
+    if (!volume || strlen(path) > 255) {
+        kz_failed(volume ? 123 : 3);
+        return NULL;
+    }
+    KazdrinEvent asked = {.event = KZE_CREATE, .volume = volume->id, .mode = mode_of(disposition)};
+    uint32_t error = error_of(kz_follow(begin(&file, asked, path), &file, begin));
+    if (error) {
+        kz_failed(error == 183 ? 80 : error); /* ERROR_FILE_EXISTS */
+        return NULL;
+    }
+    const KzOwn unheard = {.is_waited_for = true, .is_unheard = true};
+    if (disposition == CREATE_ALWAYS || disposition == TRUNCATE_EXISTING)
+        kz_below(&unheard, file, (KazdrinEvent){.event = KZE_SET_SIZE, .handle = file->handle}, "", 0);
+    if (flags & 0x04000000) /* FILE_FLAG_DELETE_ON_CLOSE */
+        kz_below(&unheard, file, (KazdrinEvent){.event = KZE_SET_DELETE, .handle = file->handle}, "", 0);
+    return file;
+}
+
+static void *create(const char *name, uint32_t disposition, uint32_t flags)
+{
+    void *handle = (void *)(intptr_t)-1;
+    {
+        KZ_CALL_OF("CreateFile");
+        char text[320];
+        snprintf(text, sizeof text, "%s", name);
+        for (char *letter = text; *letter; letter++)
+            *letter = *letter == '\\' ? '/' : *letter;
+        KzFile *file = open_file(text, disposition, flags);
+        if (file) {
+            KzObject *object = kz_new_object(KZU_FILE);
+            object->file = file;
+            handle = object;
+        }
+    }
+    kz_go_on_or_end();
+    return handle;
+}
+
+void *CreateFileA(const char *name, uint32_t access, uint32_t share, const void *attributes, uint32_t disposition, uint32_t flags, void *template);
+void *CreateFileA(const char *name, uint32_t access, uint32_t share, const void *attributes, uint32_t disposition, uint32_t flags, void *template)
+{
+    (void)access, (void)share, (void)attributes, (void)template;
+    return create(name, disposition, flags);
+}
+
+void *CreateFileW(const WCHAR *name, uint32_t access, uint32_t share, const void *attributes, uint32_t disposition, uint32_t flags, void *template);
+void *CreateFileW(const WCHAR *name, uint32_t access, uint32_t share, const void *attributes, uint32_t disposition, uint32_t flags, void *template)
+{
+    (void)access, (void)share, (void)attributes, (void)template;
+    char text[320];
+    UNICODE_STRING wide;
+    RtlInitUnicodeString(&wide, name);
+    kz_narrow(text, sizeof text, &wide);
+    return create(text, disposition, flags);
+}
+
+/* ---- Reading and writing. */
+typedef struct {
+    KzObject *object;
+    uint64_t offset;
+    uint8_t *buffer;
+    uint32_t length, done;
+    bool is_write;
+} Transfer;
+
+static uint32_t transfer_part(Transfer *one, uint32_t size)
+{
+    KazdrinEvent asked = {.event = one->is_write ? KZE_WRITE : KZE_READ, .offset = one->offset + one->done, .len = one->is_write ? 0 : size};
+    KzAnswer answer = ask(one->object->file, asked, one->is_write ? one->buffer + one->done : (uint8_t *)"", one->is_write ? size : 0);
+    NTSTATUS status = kz_status_of(answer);
+    if (status == STATUS_END_OF_FILE && !one->is_write)
+        return 0; /* as where no byte is there */
+    if (!NT_SUCCESS(status))
+        return kz_win32_of(status);
+    uint32_t moved = one->is_write || answer.length > size ? size : (uint32_t)answer.length;
+    if (!one->is_write)
+        memcpy(one->buffer + one->done, kz_me->room, moved);
+    one->done += moved;
+    return 0;
+}
+
+static uint32_t transfer(Transfer *one)
+{
+    uint32_t error, before;
+    do {
+        uint32_t rest = one->length - one->done;
+        before = one->done;
+        error = transfer_part(one, rest < KZ_BYTES ? rest : KZ_BYTES);
+    } while (!error && one->done > before && one->done < one->length);
+    return error;
+}
+
+static int move(void *handle, void *buffer, uint32_t length, uint32_t *done, KzOverlapped *overlapped, bool is_write)
+{
+    int is_right = 0;
+    {
+        KZ_CALL_OF(is_write ? "WriteFile" : "ReadFile");
+        KzObject *object = kz_object(handle, KZU_FILE);
+        if (object) {
+            Transfer one = {object, overlapped ? overlapped->offset : object->offset, buffer, length, 0, is_write};
+            uint32_t error = transfer(&one);
+            object->offset = one.offset + one.done;
+            if (done)
+                *done = one.done;
+            if (overlapped)
+                kz_complete(object, overlapped, one.done, error ? STATUS_UNSUCCESSFUL : STATUS_SUCCESS);
+            is_right = error ? kz_failed(error) : 1;
+        }
+    }
+    kz_go_on_or_end();
+    return is_right;
+}
+
+int ReadFile(void *handle, void *buffer, uint32_t length, uint32_t *done, KzOverlapped *overlapped);
+int ReadFile(void *handle, void *buffer, uint32_t length, uint32_t *done, KzOverlapped *overlapped)
+{
+    return move(handle, buffer, length, done, overlapped, false);
+}
+
+int WriteFile(void *handle, void *buffer, uint32_t length, uint32_t *done, KzOverlapped *overlapped);
+int WriteFile(void *handle, void *buffer, uint32_t length, uint32_t *done, KzOverlapped *overlapped)
+{
+    return move(handle, buffer, length, done, overlapped, true);
+}
+
+static int simple(void *handle, KazdrinEvent asked, uint64_t *information, const char *call)
+{
+    int is_right = 0;
+    {
+        KZ_CALL_OF(call);
+        KzObject *object = kz_object(handle, KZU_FILE);
+        if (object) {
+            KzAnswer answer = ask(object->file, asked, "", 0);
+            uint32_t error = error_of(answer);
+            if (information)
+                *information = answer.reply.information;
+            is_right = error ? kz_failed(error) : 1;
+        }
+    }
+    kz_go_on_or_end();
+    return is_right;
+}
+
+int FlushFileBuffers(void *handle);
+int FlushFileBuffers(void *handle)
+{
+    return simple(handle, (KazdrinEvent){.event = KZE_FLUSH}, NULL, __func__);
+}
+
+int GetFileSizeEx(void *handle, uint64_t *size);
+int GetFileSizeEx(void *handle, uint64_t *size)
+{
+    return simple(handle, (KazdrinEvent){.event = KZE_QUERY_SIZE}, size, __func__);
+}
+
+uint32_t GetFileSize(void *handle, uint32_t *high);
+uint32_t GetFileSize(void *handle, uint32_t *high)
+{
+    uint64_t size = 0;
+    if (!GetFileSizeEx(handle, &size))
+        return UINT32_MAX;
+    if (high)
+        *high = (uint32_t)(size >> 32);
+    return (uint32_t)size;
+}
+
+int SetFilePointerEx(void *handle, int64_t distance, uint64_t *now, uint32_t method);
+int SetFilePointerEx(void *handle, int64_t distance, uint64_t *now, uint32_t method)
+{
+    uint64_t begin = 0;
+    if (method == 2 && !GetFileSizeEx(handle, &begin))
+        return 0;
+    KZ_CALL();
+    KzObject *object = kz_object(handle, KZU_FILE);
+    if (!object)
+        return 0;
+    int64_t place = (int64_t)(method == 1 ? object->offset : begin) + distance;
+    if (place < 0)
+        return kz_failed(131); /* ERROR_NEGATIVE_SEEK */
+    object->offset = (uint64_t)place;
+    if (now)
+        *now = object->offset;
+    return 1;
+}
+
+uint32_t SetFilePointer(void *handle, int32_t distance, int32_t *high, uint32_t method);
+uint32_t SetFilePointer(void *handle, int32_t distance, int32_t *high, uint32_t method)
+{
+    uint64_t now = 0;
+    int64_t whole = high ? ((int64_t)*high << 32 | (uint32_t)distance) : distance;
+    if (!SetFilePointerEx(handle, whole, &now, method))
+        return UINT32_MAX;
+    if (high)
+        *high = (int32_t)(now >> 32);
+    return (uint32_t)now;
+}
+
+int SetEndOfFile(void *handle);
+int SetEndOfFile(void *handle)
+{
+    uint64_t size;
+    {
+        KZ_INSIDE();
+        KzObject *object = kz_object(handle, KZU_FILE);
+        size = object ? object->offset : 0;
+    }
+    return simple(handle, (KazdrinEvent){.event = KZE_SET_SIZE, .offset = size}, NULL, __func__);
+}
+
+static int delete_file(const char *name)
+{
+    void *handle = create(name, OPEN_EXISTING, 0);
+    if (handle == (void *)(intptr_t)-1)
+        return 0;
+    int is_right = simple(handle, (KazdrinEvent){.event = KZE_SET_DELETE}, NULL, "DeleteFile");
+    int CloseHandle(void *handle);
+    CloseHandle(handle);
+    return is_right;
+}
+
+int DeleteFileA(const char *name);
+int DeleteFileA(const char *name)
+{
+    return delete_file(name);
+}
+
+int DeleteFileW(const WCHAR *name);
+int DeleteFileW(const WCHAR *name)
+{
+    char text[320];
+    UNICODE_STRING wide;
+    RtlInitUnicodeString(&wide, name);
+    kz_narrow(text, sizeof text, &wide);
+    return delete_file(text);
+}

@@ -1,0 +1,132 @@
+/* Programs beside a driver: the author's own, compiled with c/user's headers. Each that was started is a process; its threads run beside the requests. */
+#ifndef KZ_PROGRAM_H
+#define KZ_PROGRAM_H
+
+#include "kit/port.h"
+#include "run/beside.h"
+
+#include <setjmp.h>
+
+enum { KZ_ERROR_IO_PENDING = 997, KZ_ERROR_INVALID_HANDLE = 6, KZ_WAIT_TIMEOUT = 258 };
+
+/* Of c/build.sh's list. */
+typedef struct {
+    const char *name;
+    int (*entry)(int count, void *words);
+    bool is_wide; /* wmain */
+} KzProgram;
+
+typedef struct KzObject KzObject;
+typedef struct KzUser KzUser;
+
+/* A process. */
+typedef struct KzProcess {
+    struct KzProcess *next;
+    const KzProgram *program;
+    uint64_t id;
+    char *words[16];
+    WCHAR *wide[17];
+    int count;
+    char typed[4096]; /* on its console, and not read yet */
+    KzObject *objects;
+    KzUser *users; /* all threads that there were */
+    unsigned threads, threads_made;
+    bool is_over;
+} KzProcess;
+
+/* A thread of it. */
+struct KzUser {
+    KzUser *next;
+    KzProcess *process;
+    KzThread *thread;
+    uint32_t (*start)(void *parameter); /* NULL: the program's main */
+    void *parameter;
+    uint32_t error, result;
+    jmp_buf end;
+    KzObject *object; /* its handle's, where it has one */
+    bool has_ended;
+};
+
+typedef enum { KZU_THREAD, KZU_EVENT, KZU_SEMAPHORE, KZU_MUTEX, KZU_PORT, KZU_COMPLETION, KZU_FILE, KZU_FIND } KzObjectKind;
+
+/* A packet of a completion port. */
+typedef struct KzPacket {
+    struct KzPacket *next;
+    uint32_t bytes, error;
+    uintptr_t key;
+    void *overlapped;
+} KzPacket;
+
+/* The beginning of an OVERLAPPED. */
+typedef struct {
+    uintptr_t status, bytes;
+    uint64_t offset;
+    void *event;
+} KzOverlapped;
+
+/* A message that is asked for, and that hasn't come yet. */
+typedef struct KzAskedFor {
+    struct KzAskedFor *next;
+    uint8_t *room;
+    uint32_t size;
+    KzOverlapped *overlapped;
+} KzAskedFor;
+
+/* What a handle of a program's names. */
+struct KzObject {
+    KzObject *next;
+    KzObjectKind kind;
+    KzProcess *process;
+    int32_t count, most; /* signalled, or how often it may be taken */
+    bool is_manual;
+    KzUser *owner; /* of a mutex, or the thread */
+    PFLT_PORT port;
+    KzAskedFor *asked;
+    KzObject *completion; /* where its operations complete */
+    uintptr_t key;
+    KzPacket *packets;
+    KzFile *file;
+    uint64_t offset;
+    bool is_append;
+    struct KzFound *found;
+};
+
+/* program.c */
+/* A process notify routine may refuse it, with a status of the kit's. */
+uint32_t kz_start_program(const char *name, char **words, uint64_t *process, NTSTATUS *other);
+uint32_t kz_type(const char *name, char **words);
+void kz_end_programs(void);
+void kz_free_programs(void);
+KzProcess *kz_processes(void);
+KzUser *kz_user(void); /* who calls */
+KzUser *kz_new_user(KzProcess *process, uint32_t (*start)(void *), void *parameter);
+/* Behind a call: a thread of a process that has ended goes no further. */
+void kz_go_on_or_end(void);
+/* Waits by the program's clock, or until its process ends; for ever with INFINITE. */
+bool kz_user_waits(KzCan *can, void *what, uint32_t milliseconds, const char *text);
+
+/* object.c */
+KzObject *kz_new_object(KzObjectKind kind);
+KzObject *kz_object(const void *handle, KzObjectKind kind); /* NULL, and the error is set */
+KzObject *kz_any_object(const void *handle);
+void kz_close_object(KzObject *object);
+int kz_failed(uint32_t error); /* sets the error; 0 */
+
+/* completion.c */
+void kz_complete(KzObject *object, KzOverlapped *overlapped, uint32_t bytes, NTSTATUS status);
+
+/* message.c: a message came, or the port is over. */
+void kz_serve_messages(PFLT_PORT port);
+void kz_abort_messages(KzObject *object, NTSTATUS status);
+
+/* error.c */
+uint32_t kz_win32_of(NTSTATUS status);
+int32_t kz_hresult_of(NTSTATUS status);
+
+/* file.c */
+void kz_close_program_file(KzObject *object);
+
+/* find.c */
+void kz_free_found(KzObject *object);
+
+#endif

@@ -14,6 +14,8 @@ struct _FLT_PORT {
     PFLT_DISCONNECT_NOTIFY disconnect;
     PFLT_MESSAGE_NOTIFY message;
     LONG most, connections;
+    unsigned running; /* connect callbacks of the one that programs connect to, or message callbacks of a connection */
+    bool is_ending; /* its filter is unloaded: no message comes any more */
     bool is_refused, is_closed, is_disconnected; /* of a connection: by the connect callback, by the filter, by the program or the filter's end */
     KzPortMessage *messages;
     KzPlace place; /* where it was made */
@@ -80,13 +82,20 @@ NTSTATUS FltCreateCommunicationPort(PFLT_FILTER Filter, PFLT_PORT *ServerPort, P
     return STATUS_SUCCESS;
 }
 
-/* Connections that are there stay. */
+static bool is_quiet(void *port)
+{
+    return ((PFLT_PORT)port)->running == 0;
+}
+
+/* Nobody connects from here on, and who was about to has; connections that are there stay. */
 VOID FltCloseCommunicationPort(PFLT_PORT ServerPort)
 {
     KZ_CALL();
     for (PFLT_PORT *at = &servers; *at; at = &(*at)->next)
         if (*at == ServerPort) {
             *at = ServerPort->next;
+            kz_wait_for(is_quiet, ServerPort, -1, "a connect callback to return");
+            kz_scheduler->touch(ServerPort, 0, KZT_TAKES);
             for (PFLT_PORT one = connections; one; one = one->next)
                 one->server = one->server == ServerPort ? NULL : one->server;
             free(ServerPort);
@@ -138,10 +147,14 @@ NTSTATUS kz_connect_port(const char *name, const void *context, USHORT size, PFL
     kz_scheduler->touch(server, 0, KZT_TAKES);
     PFLT_CONNECT_NOTIFY connect = server->connect;
     PVOID cookie = server->cookie;
+    server->running++;
     Inside inside = go_in(made->filter, "connect", (PVOID)connect);
     made->place = kz_me->place;
     NTSTATUS status = connect(made, cookie, captured, size, &made->cookie);
     come_back(inside, "connect returns");
+    server->running--;
+    kz.changes++;
+    kz_scheduler->touch(server, 0, KZT_GIVES);
     kz_give_back(captured);
     kz_scheduler->touch(made, 0, KZT_GIVES);
     if (NT_SUCCESS(status)) {
@@ -179,15 +192,19 @@ NTSTATUS kz_send_to_filter(PFLT_PORT port, void *in, ULONG in_length, void *out,
     if (!port->message)
         return STATUS_NOT_SUPPORTED;
     kz_scheduler->touch(port, 0, KZT_TAKES);
+    port->running++;
     Inside inside = go_in(port->filter, "message", (PVOID)port->message);
     NTSTATUS status = port->message(port->cookie, in, in_length, out, out_length, returned);
     come_back(inside, "message returns");
+    port->running--;
+    kz.changes++;
+    kz_scheduler->touch(port, 0, KZT_GIVES);
     return status;
 }
 
 bool kz_is_port_over(PFLT_PORT port)
 {
-    return port->is_closed || port->is_disconnected;
+    return port->is_closed || port->is_disconnected || port->is_ending;
 }
 
 static bool is_connection(PFLT_PORT port)
@@ -318,12 +335,15 @@ bool kz_reply_message(PFLT_PORT port, uint64_t id, NTSTATUS status, const void *
     return true;
 }
 
-/* ---- The end of a filter. Its connections end. */
+/* ---- The end of a filter. Its connections end, once no message callback runs any more. */
 void kz_disconnect_ports(PFLT_FILTER filter)
 {
     for (PFLT_PORT one = connections; one; one = one->next)
-        if (one->filter == filter)
+        if (one->filter == filter && !one->is_disconnected) {
+            one->is_ending = true;
+            kz_wait_for(is_quiet, one, -1, "a message callback to return");
             kz_disconnect_port(one);
+        }
 }
 
 static void tell_leak(PFLT_PORT port, const char *call, const char *what)

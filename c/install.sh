@@ -30,8 +30,9 @@ prefix=${pcfiledir}/../..
 share=${prefix}/share/kazdrin
 Name: kazdrin
 Description: A user-mode model of the Windows Filter Manager, for minifilters in C
-Version: 1
+Version: @VERSION@
 Cflags: "-I${share}/c/include" -fshort-wchar -fno-strict-aliasing
 Libs: "-L${share}/lib" -lkazdrin_host -lkazdrin_c -los_c -llibc_c
 PC
+sed -i "s/@VERSION@/$(cat "$here/../VERSION")/" "$prefix/lib/pkgconfig/kazdrin.pc"
 echo "installed in $prefix"

@@ -37,7 +37,8 @@ typedef enum {
     KZ_IN_THREAD,
     KZ_IN_PORT,
     KZ_IN_CANCEL,
-    KZ_IN_NOTIFY
+    KZ_IN_NOTIFY,
+    KZ_IN_COMPLETION
 } KzCallback;
 
 typedef struct KzOp KzOp;
@@ -191,7 +192,8 @@ typedef struct {
 /* Of an operation that a driver began itself: who hears of it, and what comes of one that nobody waits for. */
 typedef struct {
     bool is_own, is_unheard, is_waited_for;
-    bool is_user; /* a program began it */
+    bool is_user;     /* a program began it */
+    bool is_reissued; /* a filter sent it down again */
     PFLT_INSTANCE initiator; /* those at its altitude and above don't hear; NULL: all hear */
     ULONG irp_flags;
     uint8_t worker;
@@ -536,6 +538,10 @@ PVOID kz_object_of(HANDLE handle);
 bool kz_close_handle(HANDLE handle);
 void kz_tell_handles(PFLT_FILTER filter);
 void kz_free_handles(void);
+
+/* section.c */
+void *kz_section_bytes(HANDLE handle, uint64_t offset, size_t *size);
+void kz_free_sections(void);
 
 /* io.c: one that is open; what isn't is told. */
 KzFile *kz_opened_file(PFILE_OBJECT object, const char *call);

@@ -204,6 +204,10 @@ BOOL SetEndOfFile(HANDLE File);
 BOOL DeleteFileA(LPCSTR Name);
 BOOL DeleteFileW(LPCWSTR Name);
 
+#define FILE_MAP_READ 4
+LPVOID MapViewOfFile(HANDLE Section, DWORD Access, DWORD OffsetHigh, DWORD OffsetLow, SIZE_T Size);
+BOOL UnmapViewOfFile(LPCVOID Address);
+
 /* ---- Time, which is the test's own. */
 DWORD GetTickCount(void);
 ULONGLONG GetTickCount64(void);

@@ -39,7 +39,7 @@ static size_t slots_room;
 static Header dead[REMEMBERED];
 static size_t dead_next;
 
-static const char *const kind_names[] = {"a volume", "an instance", "a stream", "a stream handle"};
+static const char *const kind_names[] = {"a volume", "an instance", "a stream", "a stream handle", "a section"};
 
 /* ---- Which call took a reference: that is known as long as a callback holds it. */
 static void note_taken(const void *body)
@@ -274,8 +274,8 @@ NTSTATUS FltAllocateContext(PFLT_FILTER Filter, FLT_CONTEXT_TYPE ContextType, SI
     const FLT_CONTEXT_REGISTRATION *how = kz_registered_context(Filter, ContextType, ContextSize);
     if (!how)
         return STATUS_FLT_CONTEXT_ALLOCATION_NOT_FOUND;
-    if (kz_context_kind(ContextType) > 3) {
-        kz_tell(KZM_NO_SUCH_CONTEXTS, __func__, "contexts of files, transactions and sections aren't modelled: it answers STATUS_NOT_SUPPORTED");
+    if (kz_context_kind(ContextType) > 3 && ContextType != FLT_SECTION_CONTEXT) {
+        kz_tell(KZM_NO_SUCH_CONTEXTS, __func__, "contexts of files and transactions aren't modelled: it answers STATUS_NOT_SUPPORTED");
         return STATUS_NOT_SUPPORTED;
     }
     PVOID body = kz_refuses(KZ_CHOICE_CONTEXT, __func__) ? NULL : new_body(how, ContextSize, PoolType);
@@ -284,7 +284,7 @@ NTSTATUS FltAllocateContext(PFLT_FILTER Filter, FLT_CONTEXT_TYPE ContextType, SI
     Header *made = kz_memory(sizeof *made);
     *made = (Header){.body = body, .kind = kz_context_kind(ContextType), .type = ContextType, .filter = Filter, .how = how};
     enter_tables(made);
-    uint32_t status = make_known(made);
+    uint32_t status = made->kind > 3 ? KZS_WRONG_STEP : make_known(made); /* the manager has none of sections: the host alone counts their references */
     if (status == KZS_WRONG_STEP || status == KZS_HAND_FULL) {
         keep(made, &kz_me->place); /* in no callback of an instance, or where 16 are held: the manager gets to know it once it is set */
     } else if (status != KZS_OK) {

@@ -1,5 +1,5 @@
 /* What a driver asks of a file by itself, and sets. The standard information is an operation of which those below hear; what the host alone keeps of a file is answered by it. */
-#include "manager/below.h"
+#include "kit/io.h"
 
 #include <stdlib.h>
 
@@ -127,7 +127,7 @@ static NTSTATUS ask_all(PFLT_INSTANCE instance, KzFile *file, PFILE_ALL_INFORMAT
     return status;
 }
 
-static NTSTATUS query(PFLT_INSTANCE instance, PFILE_OBJECT object, PVOID to, ULONG room, FILE_INFORMATION_CLASS class, PULONG used, const char *call)
+NTSTATUS kz_query_below(PFLT_INSTANCE instance, PFILE_OBJECT object, PVOID to, ULONG room, FILE_INFORMATION_CLASS class, PULONG used, const char *call)
 {
     Fixed said;
     ULONG size;
@@ -157,7 +157,7 @@ NTSTATUS FltQueryInformationFile(PFLT_INSTANCE Instance, PFILE_OBJECT FileObject
 {
     KZ_CALL();
     ULONG used;
-    NTSTATUS status = query(Instance, FileObject, FileInformation, Length, FileInformationClass, &used, __func__);
+    NTSTATUS status = kz_query_below(Instance, FileObject, FileInformation, Length, FileInformationClass, &used, __func__);
     if (LengthReturned)
         *LengthReturned = used;
     return status;
@@ -168,14 +168,14 @@ NTSTATUS FsRtlGetFileSize(PFILE_OBJECT FileObject, PLARGE_INTEGER FileSize)
     KZ_CALL();
     FILE_STANDARD_INFORMATION standard;
     ULONG used;
-    NTSTATUS status = query(NULL, FileObject, &standard, sizeof standard, FileStandardInformation, &used, __func__);
+    NTSTATUS status = kz_query_below(NULL, FileObject, &standard, sizeof standard, FileStandardInformation, &used, __func__);
     if (NT_SUCCESS(status))
         *FileSize = standard.EndOfFile;
     return status;
 }
 
 /* ---- Setting. */
-static NTSTATUS set(PFLT_INSTANCE instance, PFILE_OBJECT object, PVOID from, ULONG length, FILE_INFORMATION_CLASS class, const char *call)
+NTSTATUS kz_set_below(PFLT_INSTANCE instance, PFILE_OBJECT object, PVOID from, ULONG length, FILE_INFORMATION_CLASS class, const char *call)
 {
     const KzOwn own = {.initiator = instance, .is_waited_for = true};
     KzFile *file = kz_may_use(call, instance) ? kz_opened_file(object, call) : NULL;
@@ -199,7 +199,7 @@ static NTSTATUS set(PFLT_INSTANCE instance, PFILE_OBJECT object, PVOID from, ULO
 NTSTATUS FltSetInformationFile(PFLT_INSTANCE Instance, PFILE_OBJECT FileObject, PVOID FileInformation, ULONG Length, FILE_INFORMATION_CLASS FileInformationClass)
 {
     KZ_CALL();
-    return set(Instance, FileObject, FileInformation, Length, FileInformationClass, __func__);
+    return kz_set_below(Instance, FileObject, FileInformation, Length, FileInformationClass, __func__);
 }
 
 /* ---- By a handle, from the top of the stack. */
@@ -218,7 +218,7 @@ NTSTATUS ZwQueryInformationFile(HANDLE FileHandle, PIO_STATUS_BLOCK IoStatusBloc
     PFILE_OBJECT object = object_of(FileHandle, __func__);
     if (!object)
         return STATUS_INVALID_HANDLE;
-    *IoStatusBlock = (IO_STATUS_BLOCK){.Status = query(NULL, object, FileInformation, Length, FileInformationClass, &used, __func__)};
+    *IoStatusBlock = (IO_STATUS_BLOCK){.Status = kz_query_below(NULL, object, FileInformation, Length, FileInformationClass, &used, __func__)};
     IoStatusBlock->Information = used;
     return IoStatusBlock->Status;
 }
@@ -229,6 +229,6 @@ NTSTATUS ZwSetInformationFile(HANDLE FileHandle, PIO_STATUS_BLOCK IoStatusBlock,
     PFILE_OBJECT object = object_of(FileHandle, __func__);
     if (!object)
         return STATUS_INVALID_HANDLE;
-    *IoStatusBlock = (IO_STATUS_BLOCK){.Status = set(NULL, object, FileInformation, Length, FileInformationClass, __func__)};
+    *IoStatusBlock = (IO_STATUS_BLOCK){.Status = kz_set_below(NULL, object, FileInformation, Length, FileInformationClass, __func__)};
     return IoStatusBlock->Status;
 }

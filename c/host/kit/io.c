@@ -1,5 +1,5 @@
 /* Reads, writes and flushes that a driver begins by itself. Those of more bytes than the manager takes at once are several operations. */
-#include "manager/below.h"
+#include "kit/io.h"
 
 #include <stdlib.h>
 
@@ -10,7 +10,6 @@ typedef struct {
     uint8_t *buffer;
     uint64_t offset;
     ULONG length, done;
-    const char *call;
 } Transfer;
 
 static NTSTATUS read_part(Transfer *one, ULONG size)
@@ -74,34 +73,82 @@ static bool is_aligned(const Transfer *one)
     return !(one->own.irp_flags & IRP_NOCACHE) || (one->offset % sector == 0 && one->length % sector == 0);
 }
 
+/* ---- What isn't waited for: its routine is called once it is over, by whoever came to its end. */
 typedef struct {
-    PFLT_INSTANCE instance;
-    PFILE_OBJECT object;
-    PLARGE_INTEGER offset;
-    ULONG length;
-    PVOID buffer;
-    FLT_IO_OPERATION_FLAGS flags;
-    PULONG done;
-    PFLT_COMPLETED_ASYNC_IO_CALLBACK routine;
-    PVOID context;
-    const char *call;
-} Asked;
+    KzTransfer asked;
+    bool is_write;
+    PFLT_FILTER filter;
+    FLT_IO_PARAMETER_BLOCK iopb;
+    FLT_CALLBACK_DATA data;
+} Later;
 
-/* The routine of an asynchronous call: it is called before the call returns, as in the kit where the file system answers at once. */
-static void complete(const Asked *asked, UCHAR major, NTSTATUS status, ULONG done)
+static void call_routine(Later *later, PFLT_CALLBACK_DATA data)
 {
-    FLT_IO_PARAMETER_BLOCK iopb = {.MajorFunction = major, .TargetFileObject = asked->object, .TargetInstance = asked->instance};
-    FLT_CALLBACK_DATA data = {.Flags = FLTFL_CALLBACK_DATA_IRP_OPERATION | FLTFL_CALLBACK_DATA_GENERATED_IO,
-                              .Thread = PsGetCurrentThread(),
-                              .Iopb = &iopb,
-                              .IoStatus = {.Status = status, .Information = done},
-                              .RequestorMode = KernelMode};
-    unsigned depth = kz_let_driver("completion", asked->routine);
-    asked->routine(&data, asked->context);
+    uint8_t worker = kz_helper();
+    KzPlace before = kz_enter(KZ_IN_COMPLETION, worker, later->filter, later->asked.instance, NULL, NULL);
+    kz_call_at(DISPATCH_LEVEL); /* as the kit may have it */
+    unsigned depth = kz_let_driver("completion", later->asked.routine);
+    later->asked.routine(data, later->asked.context);
     kz_driver_returned(depth, "completion returns");
+    kz_keep_rest(NULL);
+    kz_leave(before);
+    kz_helped(worker);
 }
 
-static NTSTATUS carry_out(const Asked *asked, bool is_write)
+static void end_later(void *given, NTSTATUS status, uint64_t information, const uint8_t *bytes, size_t length)
+{
+    Later *later = given;
+    PFLT_CALLBACK_DATA data = later->asked.data ? later->asked.data : &later->data;
+    size_t there = later->is_write || !NT_SUCCESS(status) ? 0 : length < later->asked.length ? length : later->asked.length;
+    memcpy(later->asked.buffer, bytes, there);
+    data->IoStatus = (IO_STATUS_BLOCK){.Status = status, .Information = !NT_SUCCESS(status) ? 0 : later->is_write ? information : there};
+    call_routine(later, data);
+    free(later);
+}
+
+static Later *new_later(const KzTransfer *asked, bool is_write)
+{
+    Later *made = kz_memory(sizeof *made);
+    made->asked = *asked;
+    made->is_write = is_write;
+    made->filter = kz_me->place.filter;
+    made->iopb = (FLT_IO_PARAMETER_BLOCK){.MajorFunction = is_write ? IRP_MJ_WRITE : IRP_MJ_READ, .TargetFileObject = asked->object, .TargetInstance = asked->instance};
+    FLT_CALLBACK_DATA data = {.Flags = FLTFL_CALLBACK_DATA_IRP_OPERATION | FLTFL_CALLBACK_DATA_GENERATED_IO,
+                              .Thread = PsGetCurrentThread(),
+                              .Iopb = &made->iopb,
+                              .RequestorMode = KernelMode};
+    memcpy(&made->data, &data, sizeof data);
+    return made;
+}
+
+/* One that is too long for one operation is carried out before the call returns. */
+static NTSTATUS begin_later(const KzTransfer *asked, Transfer *one, bool is_write)
+{
+    Later *later = new_later(asked, is_write);
+    if (one->length > KZ_BYTES) {
+        NTSTATUS status = transfer(one, is_write ? write_part : read_part);
+        later->is_write = true; /* the bytes are there */
+        end_later(later, status, one->done, (const uint8_t *)"", 0);
+        return STATUS_PENDING;
+    }
+    one->own.is_waited_for = false;
+    one->own.data = asked->data;
+    one->own.done = end_later;
+    one->own.given = later;
+    KazdrinEvent event = {.event = is_write ? KZE_WRITE : KZE_READ, .offset = one->offset, .len = is_write ? 0 : one->length};
+    KzAnswer answer = kz_below_file(&one->own, one->file, event, is_write ? one->buffer : (uint8_t *)"", is_write ? one->length : 0);
+    NTSTATUS status = kz_status_of(answer);
+    if (answer.reply.held)
+        return STATUS_PENDING;
+    if (answer.is_refused) {
+        free(later);
+        return status;
+    }
+    end_later(later, status, answer.reply.information, kz_me->room, answer.length);
+    return STATUS_PENDING;
+}
+
+NTSTATUS kz_transfer(const KzTransfer *asked, bool is_write)
 {
     KzFile *file = kz_may_use(asked->call, asked->instance) ? kz_opened_file(asked->object, asked->call) : NULL;
     if (!file)
@@ -114,32 +161,31 @@ static NTSTATUS carry_out(const Asked *asked, bool is_write)
                     .length = asked->length};
     if (!is_aligned(&one))
         return STATUS_INVALID_PARAMETER;
+    if (asked->routine)
+        return begin_later(asked, &one, is_write);
     NTSTATUS status = transfer(&one, is_write ? write_part : read_part);
     if (asked->done)
         *asked->done = one.done;
     if (NT_SUCCESS(status) && !keeps_offset && !(one.own.irp_flags & IRP_PAGING_IO))
         asked->object->CurrentByteOffset.QuadPart = (LONGLONG)(one.offset + one.done);
-    if (!asked->routine)
-        return status;
-    complete(asked, is_write ? IRP_MJ_WRITE : IRP_MJ_READ, status, one.done);
-    return STATUS_PENDING;
+    return status;
 }
 
 NTSTATUS FltReadFile(PFLT_INSTANCE InitiatingInstance, PFILE_OBJECT FileObject, PLARGE_INTEGER ByteOffset, ULONG Length, PVOID Buffer,
                      FLT_IO_OPERATION_FLAGS Flags, PULONG BytesRead, PFLT_COMPLETED_ASYNC_IO_CALLBACK CallbackRoutine, PVOID CallbackContext)
 {
     KZ_CALL();
-    return carry_out(&(Asked){InitiatingInstance, FileObject, ByteOffset, Length, Buffer, Flags, BytesRead, CallbackRoutine, CallbackContext, __func__}, false);
+    return kz_transfer(&(KzTransfer){InitiatingInstance, FileObject, ByteOffset, Length, Buffer, Flags, BytesRead, CallbackRoutine, CallbackContext, __func__, NULL}, false);
 }
 
 NTSTATUS FltWriteFile(PFLT_INSTANCE InitiatingInstance, PFILE_OBJECT FileObject, PLARGE_INTEGER ByteOffset, ULONG Length, PVOID Buffer,
                       FLT_IO_OPERATION_FLAGS Flags, PULONG BytesWritten, PFLT_COMPLETED_ASYNC_IO_CALLBACK CallbackRoutine, PVOID CallbackContext)
 {
     KZ_CALL();
-    return carry_out(&(Asked){InitiatingInstance, FileObject, ByteOffset, Length, Buffer, Flags, BytesWritten, CallbackRoutine, CallbackContext, __func__}, true);
+    return kz_transfer(&(KzTransfer){InitiatingInstance, FileObject, ByteOffset, Length, Buffer, Flags, BytesWritten, CallbackRoutine, CallbackContext, __func__, NULL}, true);
 }
 
-static NTSTATUS flush(PFLT_INSTANCE instance, PFILE_OBJECT object, const char *call)
+NTSTATUS kz_flush_below(PFLT_INSTANCE instance, PFILE_OBJECT object, const char *call)
 {
     const KzOwn own = {.initiator = instance, .is_waited_for = true};
     KzFile *file = kz_may_use(call, instance) ? kz_opened_file(object, call) : NULL;
@@ -149,14 +195,14 @@ static NTSTATUS flush(PFLT_INSTANCE instance, PFILE_OBJECT object, const char *c
 NTSTATUS FltFlushBuffers(PFLT_INSTANCE Instance, PFILE_OBJECT FileObject)
 {
     KZ_CALL();
-    return flush(Instance, FileObject, __func__);
+    return kz_flush_below(Instance, FileObject, __func__);
 }
 
 NTSTATUS FltFlushBuffers2(PFLT_INSTANCE Instance, PFILE_OBJECT FileObject, ULONG FlushType, PFLT_CALLBACK_DATA CallbackData)
 {
     KZ_CALL();
     (void)FlushType, (void)CallbackData;
-    return flush(Instance, FileObject, __func__);
+    return kz_flush_below(Instance, FileObject, __func__);
 }
 
 /* ---- By a handle, from the top of the stack. */
@@ -175,7 +221,7 @@ static NTSTATUS by_handle(HANDLE handle, PIO_STATUS_BLOCK status, PVOID buffer, 
         return STATUS_INVALID_HANDLE;
     ULONG done = 0;
     bool is_current = !offset || (offset->HighPart == -1 && offset->LowPart == FILE_USE_FILE_POINTER_POSITION);
-    *status = (IO_STATUS_BLOCK){.Status = carry_out(&(Asked){NULL, &file->object, is_current ? NULL : offset, length, buffer, 0, &done, NULL, NULL, call}, is_write)};
+    *status = (IO_STATUS_BLOCK){.Status = kz_transfer(&(KzTransfer){NULL, &file->object, is_current ? NULL : offset, length, buffer, 0, &done, NULL, NULL, call, NULL}, is_write)};
     status->Information = done;
     return status->Status;
 }
@@ -202,6 +248,6 @@ NTSTATUS ZwFlushBuffersFile(HANDLE FileHandle, PIO_STATUS_BLOCK IoStatusBlock)
     KzFile *file = file_of(FileHandle, __func__);
     if (!file)
         return STATUS_INVALID_HANDLE;
-    *IoStatusBlock = (IO_STATUS_BLOCK){.Status = flush(NULL, &file->object, __func__)};
+    *IoStatusBlock = (IO_STATUS_BLOCK){.Status = kz_flush_below(NULL, &file->object, __func__)};
     return IoStatusBlock->Status;
 }

@@ -325,6 +325,8 @@ static const char *freeing_of(ULONG tag)
         return "FltFreeGenericWorkItem";
     case 'wdMF':
         return "FltFreeDeferredIoWorkItem";
+    case 'dcMF':
+        return "FltFreeCallbackData";
     case 'wiO ':
         return "IoFreeWorkItem";
     default:

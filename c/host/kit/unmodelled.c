@@ -63,19 +63,6 @@ NONE(KZM_OWN_IO, FltDeviceIoControlFile, PFLT_INSTANCE Instance, PFILE_OBJECT Fi
 NONE(KZM_REPARSE, FltTagFile, PFLT_INSTANCE InitiatingInstance, PFILE_OBJECT FileObject, ULONG FileTag, GUID *Guid, PVOID DataBuffer, USHORT DataBufferLength)
 NONE(KZM_REPARSE, FltUntagFile, PFLT_INSTANCE InitiatingInstance, PFILE_OBJECT FileObject, ULONG FileTag, GUID *Guid)
 
-NTSTATUS FltAllocateCallbackData(PFLT_INSTANCE Instance, PFILE_OBJECT FileObject, PFLT_CALLBACK_DATA *RetNewCallbackData)
-{
-    KZ_INSIDE();
-    *RetNewCallbackData = NULL;
-    return none(KZM_OWN_IO, __func__);
-}
-
-NOTHING_DONE(KZM_OWN_IO, FltFreeCallbackData, PFLT_CALLBACK_DATA CallbackData)
-NOTHING_DONE(KZM_OWN_IO, FltReuseCallbackData, PFLT_CALLBACK_DATA CallbackData)
-NOTHING_DONE(KZM_OWN_IO, FltPerformSynchronousIo, PFLT_CALLBACK_DATA CallbackData)
-NONE(KZM_OWN_IO, FltPerformAsynchronousIo, PFLT_CALLBACK_DATA CallbackData, PFLT_COMPLETED_ASYNC_IO_CALLBACK CallbackRoutine, PVOID CallbackContext)
-NOTHING_DONE(KZM_OWN_IO, FltReissueSynchronousIo, PFLT_INSTANCE InitiatingInstance, PFLT_CALLBACK_DATA CallbackData)
-
 /* File, transaction and section contexts. A file system without file contexts answers so. */
 NTSTATUS FltSetFileContext(PFLT_INSTANCE Instance, PFILE_OBJECT FileObject, FLT_SET_CONTEXT_OPERATION Operation, PFLT_CONTEXT NewContext,
                            PFLT_CONTEXT *OldContext)
@@ -125,13 +112,6 @@ NTSTATUS FltDeleteTransactionContext(PFLT_INSTANCE Instance, PKTRANSACTION Trans
     return none(KZM_TRANSACTION, __func__);
 }
 
-NTSTATUS FltGetSectionContext(PFLT_INSTANCE Instance, PFILE_OBJECT FileObject, PFLT_CONTEXT *Context)
-{
-    KZ_INSIDE();
-    *Context = NULL;
-    return none(KZM_SECTION, __func__);
-}
-
 NONE(KZM_TRANSACTION, FltEnlistInTransaction, PFLT_INSTANCE Instance, PKTRANSACTION Transaction, PFLT_CONTEXT TransactionContext, ULONG NotificationMask)
 NONE(KZM_TRANSACTION, FltRollbackEnlistment, PFLT_INSTANCE Instance, PKTRANSACTION Transaction, PFLT_CONTEXT TransactionContext)
 NONE(KZM_TRANSACTION, FltCommitComplete, PFLT_INSTANCE Instance, PKTRANSACTION Transaction, PFLT_CONTEXT TransactionContext)
@@ -174,22 +154,6 @@ BOOLEAN FltCurrentBatchOplock(POPLOCK Oplock)
     return FALSE;
 }
 
-/* Sections. */
-NTSTATUS FltCreateSectionForDataScan(PFLT_INSTANCE Instance, PFILE_OBJECT FileObject, PFLT_CONTEXT SectionContext, ACCESS_MASK DesiredAccess,
-                                     POBJECT_ATTRIBUTES ObjectAttributes, PLARGE_INTEGER MaximumSize, ULONG SectionPageProtection, ULONG AllocationAttributes,
-                                     ULONG Flags, PHANDLE SectionHandle, PVOID *SectionObject, PLARGE_INTEGER SectionFileSize)
-{
-    KZ_INSIDE();
-    *SectionHandle = NULL;
-    *SectionObject = NULL;
-    return none(KZM_SECTION, __func__);
-}
-
-NONE(KZM_SECTION, FltCloseSectionForDataScan, PFLT_CONTEXT SectionContext)
-
-/* That it can't is an answer which a scanner copes with at the setup of its instance. */
-NONE(KZM_SECTION, FltRegisterForDataScan, PFLT_INSTANCE Instance)
-
 /* No create has extra parameters. */
 NTSTATUS FltGetEcpListFromCallbackData(PFLT_FILTER Filter, PFLT_CALLBACK_DATA CallbackData, PVOID *EcpList)
 {
@@ -205,20 +169,8 @@ NTSTATUS FltFindExtraCreateParameter(PFLT_FILTER Filter, PVOID EcpList, const GU
 }
 
 /* Processes, tokens. */
-NTSTATUS ObOpenObjectByPointer(PVOID Object, ULONG HandleAttributes, PVOID PassedAccessState, ACCESS_MASK DesiredAccess, POBJECT_TYPE ObjectType,
-                               KPROCESSOR_MODE AccessMode, PHANDLE Handle)
-{
-    KZ_INSIDE();
-    *Handle = NULL;
-    return none(KZM_SECURITY, __func__);
-}
-
 NONE(KZM_SECURITY, ZwQueryInformationProcess, HANDLE ProcessHandle, ULONG ProcessInformationClass, PVOID ProcessInformation, ULONG ProcessInformationLength,
      PULONG ReturnLength)
-NONE(KZM_SECTION, ZwMapViewOfSection, HANDLE SectionHandle, HANDLE ProcessHandle, PVOID *BaseAddress, ULONG_PTR ZeroBits, SIZE_T CommitSize,
-     PLARGE_INTEGER SectionOffset, PSIZE_T ViewSize, ULONG InheritDisposition, ULONG AllocationType, ULONG Win32Protect)
-NONE(KZM_SECTION, ZwUnmapViewOfSection, HANDLE ProcessHandle, PVOID BaseAddress)
-
 /* No file is opened in a transaction. */
 PTXN_PARAMETER_BLOCK IoGetTransactionParameterBlock(PFILE_OBJECT FileObject)
 {

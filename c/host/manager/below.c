@@ -14,7 +14,8 @@ bool kz_is_passed(const KzOp *op, PFLT_INSTANCE instance)
 
 FLT_CALLBACK_DATA_FLAGS kz_data_flags(const KzOp *op)
 {
-    return FLTFL_CALLBACK_DATA_IRP_OPERATION | (op->own.initiator ? FLTFL_CALLBACK_DATA_GENERATED_IO : 0);
+    FLT_CALLBACK_DATA_FLAGS own = op->own.is_reissued ? FLTFL_CALLBACK_DATA_REISSUED_IO : FLTFL_CALLBACK_DATA_GENERATED_IO;
+    return FLTFL_CALLBACK_DATA_IRP_OPERATION | (op->own.initiator ? own : 0);
 }
 
 KzOp *kz_own_op(PFLT_CALLBACK_DATA data)
@@ -94,8 +95,10 @@ static KzAnswer reopened(const KzOwn *own, KzFile *file, KazdrinEvent asked, con
     hidden->is_own = true;
     KzAnswer answer = kz_below(&unheard, hidden, (KazdrinEvent){.event = KZE_CREATE, .volume = file->volume->id}, file->path, strlen(file->path));
     if (answer.reply.status == KZS_OK) {
+        KzOwn waited = *own;
+        waited.is_waited_for = true;
         asked.handle = hidden->handle;
-        answer = kz_below(own, file, asked, bytes, length);
+        answer = kz_below(&waited, file, asked, bytes, length);
         uint8_t *kept = kz_memory(answer.length);
         memcpy(kept, kz_me->room, answer.length);
         kz_below(&unheard, hidden, (KazdrinEvent){.event = KZE_CLEANUP, .handle = hidden->handle}, "", 0);

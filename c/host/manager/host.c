@@ -154,6 +154,7 @@ static void free_all(void)
     kz_free_registry();
     kz_free_ports();
     kz_free_handles();
+    kz_free_sections();
     kz_free_routines();
     kz_forget_threads();
     kz_free_own_threads();

@@ -471,6 +471,8 @@ static bool is_resumed(void *op)
 static bool waits_for(KzOp *op)
 {
     const char *side = op->stage == KZ_HELD_BY_POST ? "post" : "pre";
+    if (op->own.is_own && !op->own.is_waited_for)
+        return false;
     while (op->own.is_waited_for && !is_resumed(op) && kz_let_others())
         ;
     return kz_wait(is_resumed, op, KZ_OPERATION ", which a %soperation holds", (unsigned long long)op->id, side);

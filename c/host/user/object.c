@@ -78,10 +78,9 @@ int CloseHandle(void *handle)
     {
         KZ_CALL();
         KzObject *object = kz_any_object(handle);
-        if (object) {
+        if (object)
             kz_close_object(object);
-            is_closed = 1;
-        }
+        is_closed = object || kz_close_handle(handle); /* what a filter opened for the program */
     }
     kz_go_on_or_end();
     return is_closed;

@@ -38,7 +38,8 @@ typedef enum {
     KZ_IN_PORT,
     KZ_IN_CANCEL,
     KZ_IN_NOTIFY,
-    KZ_IN_COMPLETION
+    KZ_IN_COMPLETION,
+    KZ_IN_DISPATCH
 } KzCallback;
 
 typedef struct KzOp KzOp;
@@ -427,6 +428,10 @@ void kz_free_work(void);
 void kz_disconnect_ports(PFLT_FILTER filter);
 void kz_tell_ports(PFLT_FILTER filter);
 void kz_free_ports(void);
+
+/* device.c */
+void kz_offer_devices(PFLT_FILTER filter);
+void kz_free_devices(void);
 
 /* contexts.c */
 NTSTATUS kz_registration_of_contexts(PFLT_FILTER filter, uint8_t *mask);

@@ -885,10 +885,12 @@ struct DECLSPEC_ALIGN(16) _DEVICE_OBJECT {
     PVOID Reserved;
 };
 KZ_ASSERT(sizeof(DEVICE_OBJECT) == 0x150, "layout");
-/* A device of the driver's own is made, and nobody ever opens it. Of an IRP the answer alone is there. */
-struct _IRP {
+/* Programs open a device of the driver's own; of an IRP what its dispatch routine needs is there. */
+struct DECLSPEC_ALIGN(16) _IRP {
     CSHORT Type;
     USHORT Size;
+    USHORT AllocationProcessorNumber;
+    USHORT Reserved;
     PMDL MdlAddress;
     ULONG Flags;
     union {
@@ -899,8 +901,39 @@ struct _IRP {
     LIST_ENTRY ThreadListEntry;
     IO_STATUS_BLOCK IoStatus;
     KPROCESSOR_MODE RequestorMode;
+    BOOLEAN PendingReturned;
+    CHAR StackCount;
+    CHAR CurrentLocation;
+    BOOLEAN Cancel;
+    KIRQL CancelIrql;
+    CCHAR ApcEnvironment;
+    UCHAR AllocationFlags;
+    PIO_STATUS_BLOCK UserIosb;
+    PKEVENT UserEvent;
+    union {
+        struct {
+            PVOID UserApcRoutine;
+            PVOID UserApcContext;
+        } AsynchronousParameters;
+        LARGE_INTEGER AllocationSize;
+    } Overlay;
+    VOID (*CancelRoutine)(PDEVICE_OBJECT DeviceObject, PIRP Irp);
     PVOID UserBuffer;
-    struct _IO_STACK_LOCATION *CurrentStackLocation;
+    union {
+        struct {
+            PVOID DriverContext[4];
+            PETHREAD Thread;
+            PCHAR AuxiliaryBuffer;
+            LIST_ENTRY ListEntry;
+            union {
+                struct _IO_STACK_LOCATION *CurrentStackLocation;
+                ULONG PacketType;
+            };
+            struct _FILE_OBJECT *OriginalFileObject;
+        } Overlay;
+        UCHAR Apc[88];
+        PVOID CompletionKey;
+    } Tail;
 };
 typedef struct _IO_STACK_LOCATION {
     UCHAR MajorFunction;
@@ -915,10 +948,23 @@ typedef struct _IO_STACK_LOCATION {
             PVOID Type3InputBuffer;
         } DeviceIoControl;
         struct {
+            ULONG OutputBufferLength;
+            ULONG POINTER_ALIGNMENT InputBufferLength;
+            ULONG POINTER_ALIGNMENT FsControlCode;
+            PVOID Type3InputBuffer;
+        } FileSystemControl;
+        struct {
+            struct _IO_SECURITY_CONTEXT *SecurityContext;
+            ULONG Options;
+            USHORT POINTER_ALIGNMENT FileAttributes;
+            USHORT ShareAccess;
+            ULONG POINTER_ALIGNMENT EaLength;
+        } Create;
+        struct {
             ULONG Length;
             ULONG POINTER_ALIGNMENT Key;
             LARGE_INTEGER ByteOffset;
-        } Read;
+        } Read, Write;
         struct {
             PVOID Argument1;
             PVOID Argument2;
@@ -928,7 +974,10 @@ typedef struct _IO_STACK_LOCATION {
     } Parameters;
     PDEVICE_OBJECT DeviceObject;
     struct _FILE_OBJECT *FileObject;
+    NTSTATUS (*CompletionRoutine)(PDEVICE_OBJECT DeviceObject, PIRP Irp, PVOID Context);
+    PVOID Context;
 } IO_STACK_LOCATION, *PIO_STACK_LOCATION;
+KZ_ASSERT(sizeof(IRP) == 0xd0 && sizeof(IO_STACK_LOCATION) == 0x48, "layout");
 typedef struct _FAST_IO_DISPATCH {
     ULONG SizeOfFastIoDispatch;
     PVOID FastIoCheckIfPossible;
@@ -959,8 +1008,10 @@ typedef struct _FAST_IO_DISPATCH {
     PVOID AcquireForCcFlush;
     PVOID ReleaseForCcFlush;
 } FAST_IO_DISPATCH, *PFAST_IO_DISPATCH;
-#define IoGetCurrentIrpStackLocation(irp) ((irp)->CurrentStackLocation)
-#define IoCompleteRequest(irp, boost) ((void)(irp), (void)(boost))
+#define IoGetCurrentIrpStackLocation(irp) ((irp)->Tail.Overlay.CurrentStackLocation)
+VOID IofCompleteRequest(PIRP Irp, CCHAR PriorityBoost);
+#define IoCompleteRequest(irp, boost) IofCompleteRequest((irp), (boost))
+#define IoMarkIrpPending(irp) ((void)((irp)->Tail.Overlay.CurrentStackLocation->Control |= 1)) /* SL_PENDING_RETURNED */
 NTSTATUS IoCreateDevice(PDRIVER_OBJECT DriverObject, ULONG DeviceExtensionSize, PUNICODE_STRING DeviceName, DEVICE_TYPE DeviceType, ULONG DeviceCharacteristics,
                         BOOLEAN Exclusive, PDEVICE_OBJECT *DeviceObject);
 VOID IoDeleteDevice(PDEVICE_OBJECT DeviceObject);

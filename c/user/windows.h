@@ -195,6 +195,7 @@ HANDLE CreateFileA(LPCSTR Name, DWORD Access, DWORD Share, LPSECURITY_ATTRIBUTES
 HANDLE CreateFileW(LPCWSTR Name, DWORD Access, DWORD Share, LPSECURITY_ATTRIBUTES Attributes, DWORD Disposition, DWORD Flags, HANDLE Template);
 BOOL ReadFile(HANDLE File, LPVOID Buffer, DWORD Length, LPDWORD Done, LPOVERLAPPED Overlapped);
 BOOL WriteFile(HANDLE File, LPCVOID Buffer, DWORD Length, LPDWORD Done, LPOVERLAPPED Overlapped);
+BOOL DeviceIoControl(HANDLE Device, DWORD Code, LPVOID In, DWORD InSize, LPVOID Out, DWORD OutSize, LPDWORD Returned, LPOVERLAPPED Overlapped);
 BOOL FlushFileBuffers(HANDLE File);
 BOOL GetFileSizeEx(HANDLE File, PLARGE_INTEGER Size);
 DWORD GetFileSize(HANDLE File, LPDWORD High);
@@ -300,5 +301,7 @@ char *gets_s(char *Room, size_t Size);
 #endif
 
 KZ_END
+
+#include "winioctl.h"
 
 #endif

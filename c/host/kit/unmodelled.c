@@ -192,46 +192,6 @@ PVOID FltGetRoutineAddress(PCSTR FltMgrRoutineName)
     return NULL;
 }
 
-/* Devices of a driver's own. */
-NTSTATUS IoCreateDevice(PDRIVER_OBJECT DriverObject, ULONG DeviceExtensionSize, PUNICODE_STRING DeviceName, DEVICE_TYPE DeviceType, ULONG DeviceCharacteristics,
-                        BOOLEAN Exclusive, PDEVICE_OBJECT *DeviceObject)
-{
-    KZ_INSIDE();
-    kz_tell(KZM_DEVICE, __func__, "the device is made, and nobody ever opens it");
-    PDEVICE_OBJECT made = ExAllocatePoolZero(NonPagedPool, sizeof *made + DeviceExtensionSize, 'iveD');
-    *DeviceObject = made;
-    if (!made)
-        return STATUS_INSUFFICIENT_RESOURCES;
-    made->Type = 3;
-    made->Size = (USHORT)(sizeof *made + DeviceExtensionSize);
-    made->DriverObject = DriverObject;
-    made->DeviceType = DeviceType;
-    made->Characteristics = DeviceCharacteristics;
-    made->DeviceExtension = made + 1;
-    made->Flags = DO_DEVICE_INITIALIZING;
-    made->NextDevice = DriverObject->DeviceObject;
-    DriverObject->DeviceObject = made;
-    return STATUS_SUCCESS;
-}
-
-VOID IoDeleteDevice(PDEVICE_OBJECT DeviceObject)
-{
-    KZ_INSIDE();
-    ExFreePoolWithTag(DeviceObject, 'iveD');
-}
-
-NTSTATUS IoCreateSymbolicLink(PUNICODE_STRING SymbolicLinkName, PUNICODE_STRING DeviceName)
-{
-    KZ_INSIDE();
-    return STATUS_SUCCESS;
-}
-
-NTSTATUS IoDeleteSymbolicLink(PUNICODE_STRING SymbolicLinkName)
-{
-    KZ_INSIDE();
-    return STATUS_SUCCESS;
-}
-
 BOOLEAN IoIs32bitProcess(PIRP Irp)
 {
     return FALSE;

@@ -375,6 +375,7 @@ static uint32_t enter(PFLT_FILTER filter, NTSTATUS *other)
     unsigned depth = kz_let_driver("DriverEntry", filter->driver->entry);
     NTSTATUS said = filter->driver->entry(&filter->object, &filter->registry_path);
     kz_driver_returned(depth, "DriverEntry returns");
+    kz_offer_devices(filter);
     kz_scheduler->touch(&filter->is_started, 0, KZT_GIVES);
     if (NT_SUCCESS(said) && !filter->is_registered)
         kz_tell(KZM_NEVER_REGISTERED, "FltRegisterFilter", "never called by a DriverEntry that succeeded");

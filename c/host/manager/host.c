@@ -153,6 +153,7 @@ static void free_all(void)
     kz_free_made();
     kz_free_registry();
     kz_free_ports();
+    kz_free_devices();
     kz_free_handles();
     kz_free_sections();
     kz_free_routines();

@@ -67,7 +67,7 @@ void kz_note_request(const char *words)
 
 const char *kz_callback_word(KzCallback callback)
 {
-    static const char *const words[] = {"none", "entry", "setup", "pre", "post", "drain", "query", "start", "complete", "unload", "cleanup", "work", "timer", "thread", "port", "cancel", "notify", "completion"};
+    static const char *const words[] = {"none", "entry", "setup", "pre", "post", "drain", "query", "start", "complete", "unload", "cleanup", "work", "timer", "thread", "port", "cancel", "notify", "completion", "dispatch"};
     return words[callback];
 }
 

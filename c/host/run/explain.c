@@ -86,6 +86,7 @@ static const Meaning meanings[] = {
     {KZM_THREAD_LEFT, "a thread of the driver's own runs still once it is unloaded", "it runs in a driver that is gone", "tell it to end, and wait for its object, in the unload"},
     {KZM_CANCEL_LEFT, "a held operation goes on while its cancel routine is set", "the routine is called for an operation that is gone", "call `FltClearCancelCompletion` first"},
     {KZM_ROUTINE_LEFT, "a routine for processes or images is still registered once its driver is unloaded", "it is called in a driver that is gone", "take it off in the unload"},
+    {KZM_IRP, "an IRP was completed twice, or with another status than its dispatch routine returned, or neither completed nor left pending", "a bugcheck, or a program that waits for ever", "complete each IRP once, and return its status"},
     {KZM_ASSERT, "an assertion of the driver's own doesn't hold", "the debugger, or a stop", "see what it says"},
     {KZM_BUG_CHECK, "a breakpoint or a bugcheck of the driver's own", "the debugger, or a stop", "see what led there"},
 
@@ -118,7 +119,7 @@ static const Meaning meanings[] = {
     {KZM_EXCEPTION, "`ExRaiseStatus` returns", "the exception is raised", "return the status, to try the rest"},
     {KZM_NOTIFY, "routines for threads, for the registry and for handles of processes are never called", "they are called", "nothing: that part can't be tried"},
     {KZM_ATTACH, "attaching, detaching, loading and information by a driver's own call", "it is done", "use the requests `attach`, `detach` and `load`"},
-    {KZM_DEVICE, "a device of a driver's own is never opened", "programs open it", "nothing: that part can't be tried"},
+    {KZM_DEVICE, "a driver has the IRPs of its own device alone: it makes none, sends none on, and queues none", "it may", "nothing: that part can't be tried"},
     {KZM_LEFT_OUT, "a `return`, a `goto` or a `break` left a `try` block, and its `finally` block isn't run", "it is run", "use `leave`, which the kit advises too"},
     {KZM_MARKED_CLEANUP, "a file that is marked to be deleted is gone for its filters once its cleanup begins: it answers STATUS_FILE_DELETED", "so once the file system has done the last cleanup", "read it before its cleanup"},
 };

@@ -80,6 +80,7 @@ typedef enum {
     KZM_THREAD_LEFT = 184,
     KZM_CANCEL_LEFT = 185,
     KZM_ROUTINE_LEFT = 186,
+    KZM_IRP = 187,
     /* The driver's own. */
     KZM_ASSERT = 191,
     KZM_BUG_CHECK = 192,

@@ -7,7 +7,7 @@
 
 static const char *const callbacks[] = {"no callback",  "DriverEntry",    "setup",             "preoperation", "postoperation", "drain", "query",
                                         "teardown start", "teardown complete", "unload",       "context cleanup", "work item", "timer",
-                                        "thread",       "port",  "cancel",       "notify routine", "completion"};
+                                        "thread",       "port",  "cancel",       "notify routine", "completion", "dispatch"};
 
 static bool is_allowed[KZM_MESSAGES];
 static bool is_strict;

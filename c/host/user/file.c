@@ -85,6 +85,32 @@ static KzFile *open_file(const char *name, uint32_t disposition, uint32_t flags)
     return file;
 }
 
+static KzObject *open_device(const char *name)
+{
+    KzDeviceFile opened;
+    NTSTATUS status = kz_open_device(name, &opened);
+    if (!NT_SUCCESS(status)) {
+        kz_failed(kz_win32_of(status));
+        return NULL;
+    }
+    KzObject *object = kz_new_object(KZU_DEVICE);
+    object->device = opened;
+    return object;
+}
+
+static KzObject *open_any(const char *name, uint32_t disposition, uint32_t flags)
+{
+    const char *path;
+    if (strncmp(name, "//", 2) == 0 && !split(name, &path))
+        return open_device(name);
+    KzFile *file = open_file(name, disposition, flags);
+    if (!file)
+        return NULL;
+    KzObject *object = kz_new_object(KZU_FILE);
+    object->file = file;
+    return object;
+}
+
 static void *create(const char *name, uint32_t disposition, uint32_t flags)
 {
     void *handle = (void *)(intptr_t)-1;
@@ -94,12 +120,8 @@ static void *create(const char *name, uint32_t disposition, uint32_t flags)
         snprintf(text, sizeof text, "%s", name);
         for (char *letter = text; *letter; letter++)
             *letter = *letter == '\\' ? '/' : *letter;
-        KzFile *file = open_file(text, disposition, flags);
-        if (file) {
-            KzObject *object = kz_new_object(KZU_FILE);
-            object->file = file;
-            handle = object;
-        }
+        KzObject *object = open_any(text, disposition, flags);
+        handle = object ? object : handle;
     }
     kz_go_on_or_end();
     return handle;
@@ -159,15 +181,53 @@ static uint32_t transfer(Transfer *one)
     return error;
 }
 
+static uint32_t transfer_of_device(Transfer *one)
+{
+    KzDeviceAsk asked = {.major = one->is_write ? IRP_MJ_WRITE : IRP_MJ_READ, .offset = one->offset};
+    ULONG_PTR information = 0;
+    if (one->is_write)
+        asked.in = one->buffer, asked.in_length = one->length;
+    else
+        asked.out = one->buffer, asked.out_length = one->length;
+    NTSTATUS status = kz_ask_device(&one->object->device, &asked, &information);
+    one->done = (uint32_t)information;
+    return NT_SUCCESS(status) ? 0 : kz_win32_of(status);
+}
+
+int DeviceIoControl(void *handle, uint32_t code, void *in, uint32_t in_length, void *out, uint32_t out_length, uint32_t *done, KzOverlapped *overlapped);
+int DeviceIoControl(void *handle, uint32_t code, void *in, uint32_t in_length, void *out, uint32_t out_length, uint32_t *done, KzOverlapped *overlapped)
+{
+    int is_right = 0;
+    {
+        KZ_CALL();
+        KzObject *object = kz_any_object(handle);
+        if (object && object->kind != KZU_DEVICE) {
+            kz_failed(1); /* ERROR_INVALID_FUNCTION */
+        } else if (object) {
+            ULONG_PTR information = 0;
+            NTSTATUS status = kz_ask_device(&object->device, &(KzDeviceAsk){IRP_MJ_DEVICE_CONTROL, code, in, out, in_length, out_length, 0}, &information);
+            if (done)
+                *done = (uint32_t)information;
+            if (overlapped)
+                kz_complete(object, overlapped, (uint32_t)information, status);
+            is_right = NT_SUCCESS(status) ? 1 : kz_failed(kz_win32_of(status));
+        }
+    }
+    kz_go_on_or_end();
+    return is_right;
+}
+
 static int move(void *handle, void *buffer, uint32_t length, uint32_t *done, KzOverlapped *overlapped, bool is_write)
 {
     int is_right = 0;
     {
         KZ_CALL_OF(is_write ? "WriteFile" : "ReadFile");
-        KzObject *object = kz_object(handle, KZU_FILE);
-        if (object) {
+        KzObject *object = kz_any_object(handle);
+        if (object && object->kind != KZU_FILE && object->kind != KZU_DEVICE) {
+            kz_failed(KZ_ERROR_INVALID_HANDLE);
+        } else if (object) {
             Transfer one = {object, overlapped ? overlapped->offset : object->offset, buffer, length, 0, is_write};
-            uint32_t error = transfer(&one);
+            uint32_t error = object->kind == KZU_FILE ? transfer(&one) : transfer_of_device(&one);
             object->offset = one.offset + one.done;
             if (done)
                 *done = one.done;

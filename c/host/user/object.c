@@ -63,6 +63,8 @@ void kz_close_object(KzObject *object)
         kz_disconnect_port(object->port);
     } else if (object->kind == KZU_FILE) {
         kz_close_program_file(object);
+    } else if (object->kind == KZU_DEVICE) {
+        kz_close_device(&object->device);
     } else if (object->kind == KZU_FIND) {
         kz_free_found(object);
     } else if (object->kind == KZU_THREAD) {

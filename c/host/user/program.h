@@ -2,6 +2,7 @@
 #ifndef KZ_PROGRAM_H
 #define KZ_PROGRAM_H
 
+#include "kit/device.h"
 #include "kit/port.h"
 #include "run/beside.h"
 
@@ -47,7 +48,7 @@ struct KzUser {
     bool has_ended;
 };
 
-typedef enum { KZU_THREAD, KZU_EVENT, KZU_SEMAPHORE, KZU_MUTEX, KZU_PORT, KZU_COMPLETION, KZU_FILE, KZU_FIND } KzObjectKind;
+typedef enum { KZU_THREAD, KZU_EVENT, KZU_SEMAPHORE, KZU_MUTEX, KZU_PORT, KZU_COMPLETION, KZU_FILE, KZU_FIND, KZU_DEVICE } KzObjectKind;
 
 /* A packet of a completion port. */
 typedef struct KzPacket {
@@ -86,6 +87,7 @@ struct KzObject {
     uintptr_t key;
     KzPacket *packets;
     KzFile *file;
+    KzDeviceFile device;
     uint64_t offset;
     bool is_append;
     struct KzFound *found;

@@ -1,0 +1,29 @@
+/* Devices of a driver's own, as programs open them. */
+#ifndef KZ_DEVICE_H
+#define KZ_DEVICE_H
+
+#include "host.h"
+
+typedef struct KzDevice KzDevice;
+
+/* What is open by one handle of a program. */
+typedef struct {
+    KzDevice *device;
+    PFILE_OBJECT object;
+} KzDeviceFile;
+
+/* One call: an IRP. What is asked for and what is answered may lie in the same room. */
+typedef struct {
+    UCHAR major;
+    ULONG code; /* of a device control */
+    void *in, *out;
+    ULONG in_length, out_length;
+    uint64_t offset;
+} KzDeviceAsk;
+
+/* By a name with `/`: of a symbolic link behind `//./`, or of the device behind `//?/GLOBALROOT`. */
+NTSTATUS kz_open_device(const char *name, KzDeviceFile *made);
+NTSTATUS kz_ask_device(KzDeviceFile *file, const KzDeviceAsk *asked, ULONG_PTR *information);
+void kz_close_device(KzDeviceFile *file);
+
+#endif

@@ -43,7 +43,7 @@ shift
 cc=${CC:-cc}
 cflags=${CFLAGS:-}
 is_clang() {
-    $cc --version 2> /dev/null | grep -q clang
+    $1 --version 2> /dev/null | grep -q clang
 }
 case " $cflags ${KZAPI:-} " in
 *" -flto"*)
@@ -94,7 +94,7 @@ driver="-fwrapv -fms-extensions $common \
 link="$common"
 renames=""
 volatiles() {
-    if is_clang; then echo "-mllvm -tsan-distinguish-volatile=1"; else echo "--param=tsan-distinguish-volatile=1"; fi
+    if is_clang "$cc"; then echo "-mllvm -tsan-distinguish-volatile=1"; else echo "--param=tsan-distinguish-volatile=1"; fi
 }
 libraries=("$host/libkazdrin_host.a")
 # The explorer is behind the compiler's calls before each access of a driver's code; its addresses are those of the program's file.
@@ -127,21 +127,52 @@ done
 [ "$kind" != libfuzzer ] || changes+=(--rename-section .data=kz_data,alloc,load,data,contents --rename-section .bss=kz_bss,alloc)
 
 # What is told names the line of a driver that makes a call: calls of two lines aren't made one, and a call at a function's end leaves its frame there.
-if is_clang; then
-    driver="$driver -fno-optimize-sibling-calls -mllvm -simplifycfg-sink-common=false -mllvm -enable-tail-merge=false"
-else
-    driver="$driver -fno-optimize-sibling-calls -fno-crossjumping -fno-tree-tail-merge"
+calls_of() {
+    if is_clang "$1"; then
+        echo "-fno-optimize-sibling-calls -mllvm -simplifycfg-sink-common=false -mllvm -enable-tail-merge=false"
+    else
+        echo "-fno-optimize-sibling-calls -fno-crossjumping -fno-tree-tail-merge"
+    fi
+}
+calls=$(calls_of "$cc")
+calls_cxx=$(calls_of "${CXX:-c++}")
+
+# Bit fields lie as Microsoft's compiler has them, where the machine's compiler can do so.
+if echo 'int a;' | $cc -mms-bitfields -x c -c -o /dev/null - 2> /dev/null; then
+    driver="$driver -mms-bitfields"
 fi
 
 # ---- Drivers: each a name and its files. All but its entry is its own, so that two drivers may use one name.
 room=$(mktemp -d)
+includes+=(-I"$room/tmh")
 trap 'rm -rf "$room"' EXIT
 count=0
 : > "$room/entries"
+# WPP's preprocessor makes a .tmh file of each source, with the trace functions that its project names: here they do nothing.
+tracing() {
+    local name
+    for name in $(grep -hoE '^[[:space:]]*#[[:space:]]*include[[:space:]]*"[^"]+\.tmh"' "$1" | sed 's/.*"\(.*\)"/\1/'); do
+        mkdir -p "$room/tmh/$(dirname "$name")"
+        {
+            echo '#include <kzwpp.h>'
+            cat "$(dirname "$1")"/*.[chCH] "$(dirname "$1")"/*.cpp 2> /dev/null | sed -nE 's|^[[:space:]]*//[[:space:]]*FUNC[[:space:]]+([A-Za-z_][A-Za-z_0-9]*).*|\1|p' |
+                sort -u | sed 's/.*/#undef &\n#define &(...) ((void)0)/'
+        } > "$room/tmh/$name"
+    done
+}
+# In C++ the words __try and __finally are those of its own library's headers, where a source has some.
+blocks() {
+    grep -qE '^[[:space:]]*#[[:space:]]*include[[:space:]]*<[a-z_]+>' "$1" || echo -DKZ_SEH
+}
 compile() {
+    local file
+    tracing "$2"
+    mkdir "$1.adapted"
+    file=$("$host/adapt" "$1.adapted" "$2") || exit 1
     case "$2" in
-    *.cpp | *.cc | *.cxx) ${CXX:-c++} -std=gnu++17 -fno-exceptions -fno-rtti -w $driver "${includes[@]}" -DDriverEntry="$3" -c -o "$1" "$2" ;;
-    *) $cc -std=gnu11 -Wall -Wno-incompatible-pointer-types -Wno-int-conversion -Wno-multichar -Wno-unknown-pragmas -Wno-missing-braces $driver "${includes[@]}" -DDriverEntry="$3" -c -o "$1" "$2" ;;
+    *.cpp | *.cc | *.cxx) ${CXX:-c++} -std=gnu++17 -fno-exceptions -fno-rtti -w $driver $calls_cxx $(blocks "$2") "${includes[@]}" -iquote "$(dirname "$2")" -DDriverEntry="$3" -c -o "$1" "$file" ;;
+    *) $cc -std=gnu11 -Wall -Wno-incompatible-pointer-types -Wno-int-conversion -Wno-multichar -Wno-unknown-pragmas -Wno-missing-braces $driver $calls "${includes[@]}" -iquote "$(dirname "$2")" \
+        -DDriverEntry="$3" -c -o "$1" "$file" ;;
     esac
 }
 add() {

@@ -14,7 +14,7 @@ share=$prefix/share/kazdrin
 mkdir -p "$share/lib" "$share/c/tests"
 cp "$library" "$share/lib/libkazdrin_c.a"
 cp "$support/libos_c.a" "$support/liblibc_c.a" "$share/lib/"
-cp -Rp "$here/include" "$here/user" "$here/host" "$here/explore" "$here/serve" "$here/wire" "$here/fuzz" "$here/Makefile" "$here/build.sh" "$here/fuzz.sh" "$share/c/"
+cp -Rp "$here/include" "$here/adapt" "$here/user" "$here/host" "$here/explore" "$here/serve" "$here/wire" "$here/fuzz" "$here/Makefile" "$here/build.sh" "$here/fuzz.sh" "$share/c/"
 cp -Rp "$here/tests/scenarios" "$share/c/tests/"
 cp "$here/cmake/KazdrinConfig.cmake" "$prefix/lib/cmake/Kazdrin/"
 ln -sf ../share/kazdrin/c/build.sh "$prefix/bin/kazdrin-build"

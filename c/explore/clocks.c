@@ -234,7 +234,7 @@ static void give(Object *one)
 static void take_back(const void *memory, size_t size)
 {
     uintptr_t start = (uintptr_t)memory, end = start + size;
-    const void *from = ex_runners[kz_me->number].from;
+    const void *from = kz_me->place.from ? kz_me->place.from : ex_runners[kz_me->number].from;
     for (uintptr_t tag = start >> 3; tag << 3 < end; tag++) {
         Cell *cell = cell_of(tag, false);
         if (cell)

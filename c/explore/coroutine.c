@@ -218,7 +218,7 @@ static void nothing(void)
 static bool has_work(void *unused)
 {
     (void)unused;
-    return kz_has_dpc() || kz_has_work();
+    return kz_has_dpc() || kz_has_work() || kz_may_fire();
 }
 
 static void work(void)
@@ -226,8 +226,8 @@ static void work(void)
     for (;;) {
         KZ_INSIDE();
         kz_wait(has_work, NULL, "a work item");
-        if (!kz_run_dpc())
-            kz_work();
+        if (!kz_run_dpc() && !kz_work())
+            kz_fire();
         kz_settle();
     }
 }
@@ -328,7 +328,7 @@ static bool let(KzThread *thread)
     return true;
 }
 
-const KzScheduler ex_scheduler = {point, wait, ex_touch, choose_answer, begin, let, nothing, nothing, ex_say, true};
+const KzScheduler ex_scheduler = {point, wait, ex_touch, choose_answer, begin, let, nothing, nothing, ex_say, true, false};
 
 /* What a client left on its stack below where it stands: two states aren't to differ by that. */
 static void tidy(Runner *one)

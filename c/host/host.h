@@ -83,7 +83,7 @@ struct _FLT_FILTER {
 struct _FLT_VOLUME {
     uint8_t id;
     char name[40];
-    bool is_dismounting;
+    bool is_dismounting, is_gone;
     DEVICE_OBJECT device, disk;
     FLT_FILESYSTEM_TYPE type;
     USHORT sector;
@@ -341,8 +341,11 @@ typedef enum { KZK_POOL, KZK_CONTEXT, KZK_NAME, KZK_BUFFER, KZK_DATA } KzMemory;
 typedef struct KzPiece {
     struct KzPiece *next, *before;
     struct KzPiece *same; /* the next one at the same place of the table by address */
-    void *start;          /* what was allocated */
-    size_t size;
+    uint8_t *body;        /* as its user sees it */
+    void *start;          /* what was allocated, if it has no pages of its own */
+    uint8_t *pages;       /* else these */
+    size_t size, pages_size;
+    bool is_shut; /* its pages can't be touched: it was given back */
     PFLT_FILTER filter;
     KzPlace place; /* where it was taken */
     ULONG tag;
@@ -351,6 +354,7 @@ typedef struct KzPiece {
     KzMemory kind;
     unsigned list;
     bool is_told, is_read_told;
+    bool is_touched; /* behind its end, and that was told */
 } __attribute__((aligned(16))) KzPiece;
 void *kz_take_memory(KzMemory kind, size_t size, int fill, ULONG tag);
 void kz_give_back(void *memory);
@@ -368,11 +372,15 @@ void kz_check_blocks(const KzOp *op);
 void kz_tell_pools(PFLT_FILTER filter);
 void kz_tell_gone(void);
 void kz_free_memory(void);
+/* Somebody touched what can't be: whether it is memory that was given back. That is told, and may be touched from then on. */
+bool kz_touched(const void *address, const void *code, bool is_written);
 
 /* made.c: structures of the kit in a driver's own memory. */
 void kz_made(const void *at, const char *kind, const char *call, const char *deletes);
 bool kz_unmade(const void *at);
 void kz_check_made(const void *memory, size_t size);
+/* Whether it is one of those; that it isn't is told. */
+bool kz_is_made(const void *at, const char *kind, const char *call);
 void kz_tell_made(PFLT_FILTER filter);
 void kz_free_made(void);
 
@@ -385,6 +393,8 @@ KIRQL kz_irql(void);
 bool kz_is_taken(const void *lock);
 void kz_tell_locks(void);
 void kz_free_locks(void);
+/* Memory is given back: no lock that is held lies in it. */
+void kz_check_locks(const void *memory, size_t size);
 
 /* clock.c */
 void kz_tick(void);
@@ -396,8 +406,13 @@ void kz_pass(uint64_t milliseconds);
 bool kz_run_dpc(void);
 bool kz_has_dpc(void);
 bool kz_has_timer(void);
+/* A client waits, and the next timer that is set may fire meanwhile. */
+bool kz_may_fire(void);
+void kz_fire(void);
 void kz_forget_timers(PFLT_FILTER filter);
 void kz_free_clock(void);
+/* Memory is given back: neither a timer that is set nor a DPC that is queued lies in it. */
+void kz_check_clock(const void *memory, size_t size);
 
 /* object.c */
 void kz_take_object(PVOID object, bool is_flt, const char *call);
@@ -423,6 +438,8 @@ bool kz_has_work(void);
 bool kz_has_work_of(PFLT_FILTER filter);
 void kz_tell_work(PFLT_FILTER filter);
 void kz_free_work(void);
+/* Memory is given back: no work item that is queued lies in it. */
+void kz_check_work(const void *memory, size_t size);
 
 /* port.c */
 void kz_disconnect_ports(PFLT_FILTER filter);
@@ -472,6 +489,7 @@ void kz_free_names(void);
 /* volume.c */
 bool kz_set_volume(PFLT_VOLUME volume, const char *word);
 void kz_new_volume(PFLT_VOLUME volume);
+bool kz_may_use_volume(const char *call, PFLT_VOLUME volume);
 
 /* file.c */
 KzFile *kz_file_of(uint64_t handle);

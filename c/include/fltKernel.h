@@ -148,6 +148,14 @@ typedef union _FLT_PARAMETERS {
             PVOID DirectoryBuffer;
             PMDL MdlAddress;
         } NotifyDirectory;
+        struct {
+            ULONG Length;
+            ULONG POINTER_ALIGNMENT CompletionFilter;
+            DIRECTORY_NOTIFY_INFORMATION_CLASS POINTER_ALIGNMENT DirectoryNotifyInformationClass;
+            ULONG POINTER_ALIGNMENT Spare2;
+            PVOID DirectoryBuffer;
+            PMDL MdlAddress;
+        } NotifyDirectoryEx;
     } DirectoryControl;
     union {
         struct {
@@ -823,16 +831,6 @@ typedef ULONG FLT_CALLBACK_DATA_QUEUE_FLAGS;
 #define FLTFL_CALLBACK_DATA_QUEUE_VALID 0x00000001
 #define FLTFL_CALLBACK_DATA_QUEUE_DISABLED 0x00000002
 
-typedef struct _IO_CSQ {
-    ULONG Type;
-    PVOID CsqInsertIrp;
-    PVOID CsqRemoveIrp;
-    PVOID CsqPeekNextIrp;
-    PVOID CsqAcquireLock;
-    PVOID CsqReleaseLock;
-    PVOID CsqCompleteCanceledIrp;
-    PVOID ReservePointer;
-} IO_CSQ, *PIO_CSQ;
 typedef struct _FLT_CALLBACK_DATA_QUEUE {
     IO_CSQ Csq;
     FLT_CALLBACK_DATA_QUEUE_FLAGS Flags;
@@ -902,13 +900,6 @@ typedef VOID (*PFLT_COMPLETED_IO_CALLBACK)(PFLT_CALLBACK_DATA CallbackData, PFLT
 #define IO_FORCE_ACCESS_CHECK 0x0001
 #define IO_NO_PARAMETER_CHECKING 0x0100
 #define IO_OPEN_TARGET_DIRECTORY 0x0004
-typedef struct _IO_DRIVER_CREATE_CONTEXT {
-    CSHORT Size;
-    PVOID ExtraCreateParameter;
-    PVOID DeviceObjectHint;
-    PVOID TxnParameters;
-    PVOID SiloContext;
-} IO_DRIVER_CREATE_CONTEXT, *PIO_DRIVER_CREATE_CONTEXT;
 #define IoInitializeDriverCreateContext(c) (memset((c), 0, sizeof *(c)), (c)->Size = sizeof *(c))
 NTSTATUS FltCreateFile(PFLT_FILTER Filter, PFLT_INSTANCE Instance, PHANDLE FileHandle, ACCESS_MASK DesiredAccess, POBJECT_ATTRIBUTES ObjectAttributes,
                        PIO_STATUS_BLOCK IoStatusBlock, PLARGE_INTEGER AllocationSize, ULONG FileAttributes, ULONG ShareAccess, ULONG CreateDisposition,
@@ -968,6 +959,22 @@ NTSTATUS FltCommitComplete(PFLT_INSTANCE Instance, PKTRANSACTION Transaction, PF
 NTSTATUS FltPrepareComplete(PFLT_INSTANCE Instance, PKTRANSACTION Transaction, PFLT_CONTEXT TransactionContext);
 NTSTATUS FltRollbackComplete(PFLT_INSTANCE Instance, PKTRANSACTION Transaction, PFLT_CONTEXT TransactionContext);
 #define FLT_MAX_TRANSACTION_NOTIFICATIONS 0xffffffff
+#define TRANSACTION_NOTIFY_PREPREPARE 0x00000001
+#define TRANSACTION_NOTIFY_PREPREPARE_COMPLETE 0x00000010
+#define TRANSACTION_NOTIFY_PREPARE_COMPLETE 0x00000020
+#define TRANSACTION_NOTIFY_COMMIT_COMPLETE 0x00000040
+#define TRANSACTION_NOTIFY_ROLLBACK_COMPLETE 0x00000080
+#define TRANSACTION_NOTIFY_RECOVER 0x00000100
+#define TRANSACTION_NOTIFY_SINGLE_PHASE_COMMIT 0x00000200
+#define TRANSACTION_NOTIFY_DELEGATE_COMMIT 0x00000400
+#define TRANSACTION_NOTIFY_RECOVER_QUERY 0x00000800
+#define TRANSACTION_NOTIFY_ENLIST_PREPREPARE 0x00001000
+#define TRANSACTION_NOTIFY_LAST_RECOVER 0x00002000
+#define TRANSACTION_NOTIFY_INDOUBT 0x00004000
+#define TRANSACTION_NOTIFY_PROPAGATE_PULL 0x00008000
+#define TRANSACTION_NOTIFY_PROPAGATE_PUSH 0x00010000
+#define TRANSACTION_NOTIFY_MARSHAL 0x00020000
+#define TRANSACTION_NOTIFY_ENLIST_MASK 0x00040000
 #define TRANSACTION_NOTIFY_COMMIT_FINALIZE 0x40000000
 #define TRANSACTION_NOTIFY_COMMIT 0x00000004
 #define TRANSACTION_NOTIFY_PREPARE 0x00000002
@@ -978,7 +985,6 @@ typedef struct _TXN_PARAMETER_BLOCK {
     PVOID TransactionObject;
 } TXN_PARAMETER_BLOCK, *PTXN_PARAMETER_BLOCK;
 PTXN_PARAMETER_BLOCK IoGetTransactionParameterBlock(PFILE_OBJECT FileObject);
-typedef PVOID OPLOCK, *POPLOCK;
 VOID FltInitializeOplock(POPLOCK Oplock);
 VOID FltUninitializeOplock(POPLOCK Oplock);
 FLT_PREOP_CALLBACK_STATUS FltOplockFsctrl(POPLOCK Oplock, PFLT_CALLBACK_DATA CallbackData, ULONG OpenCount);
@@ -990,8 +996,8 @@ NTSTATUS FltCreateSectionForDataScan(PFLT_INSTANCE Instance, PFILE_OBJECT FileOb
                                      ULONG Flags, PHANDLE SectionHandle, PVOID *SectionObject, PLARGE_INTEGER SectionFileSize);
 NTSTATUS FltCloseSectionForDataScan(PFLT_CONTEXT SectionContext);
 NTSTATUS FltRegisterForDataScan(PFLT_INSTANCE Instance);
-NTSTATUS FltGetEcpListFromCallbackData(PFLT_FILTER Filter, PFLT_CALLBACK_DATA CallbackData, PVOID *EcpList);
-NTSTATUS FltFindExtraCreateParameter(PFLT_FILTER Filter, PVOID EcpList, const GUID *EcpType, PVOID *EcpContext, ULONG *EcpContextSize);
+NTSTATUS FltGetEcpListFromCallbackData(PFLT_FILTER Filter, PFLT_CALLBACK_DATA CallbackData, PECP_LIST *EcpList);
+NTSTATUS FltFindExtraCreateParameter(PFLT_FILTER Filter, PECP_LIST EcpList, const GUID *EcpType, PVOID *EcpContext, ULONG *EcpContextSize);
 NTSTATUS IoReplaceFileObjectName(PFILE_OBJECT FileObject, PWSTR NewFileName, USHORT FileNameLength);
 NTSTATUS ZwCreateFile(PHANDLE FileHandle, ACCESS_MASK DesiredAccess, POBJECT_ATTRIBUTES ObjectAttributes, PIO_STATUS_BLOCK IoStatusBlock,
                       PLARGE_INTEGER AllocationSize, ULONG FileAttributes, ULONG ShareAccess, ULONG CreateDisposition, ULONG CreateOptions, PVOID EaBuffer,
@@ -1023,6 +1029,16 @@ NTSTATUS FsRtlGetFileSize(PFILE_OBJECT FileObject, PLARGE_INTEGER FileSize);
 NTSTATUS SeLocateProcessImageName(PEPROCESS Process, PUNICODE_STRING *ImageFileName);
 PACCESS_TOKEN PsReferencePrimaryToken(PEPROCESS Process);
 VOID PsDereferencePrimaryToken(PACCESS_TOKEN PrimaryToken);
+
+typedef enum _IO_PRIORITY_HINT { IoPriorityVeryLow, IoPriorityLow, IoPriorityNormal, IoPriorityHigh, IoPriorityCritical, MaxIoPriorityTypes } IO_PRIORITY_HINT;
+typedef ULONG FSRTL_ALLOCATE_ECPLIST_FLAGS, FSRTL_ALLOCATE_ECP_FLAGS, FSRTL_ECP_LOOKASIDE_FLAGS;
+#define FSRTL_ALLOCATE_ECP_FLAG_CHARGE_QUOTA 0x00000001
+#define FSRTL_ALLOCATE_ECP_FLAG_NONPAGED_POOL 0x00000002
+typedef VOID NTAPI FSRTL_EXTRA_CREATE_PARAMETER_CLEANUP_CALLBACK(PVOID EcpContext, LPCGUID EcpType);
+typedef FSRTL_EXTRA_CREATE_PARAMETER_CLEANUP_CALLBACK *PFSRTL_EXTRA_CREATE_PARAMETER_CLEANUP_CALLBACK;
+#define KZ_ROUTINE(type, answer, message, name, ...) type name(__VA_ARGS__);
+#include <kzfltroutines.h>
+#undef KZ_ROUTINE
 
 KZ_END
 

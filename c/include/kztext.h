@@ -47,6 +47,9 @@ int KzSprintf(char *to, const char *format, ...);
 int KzSprintfS(char *to, size_t room, const char *format, ...);
 int KzStrcpyS(char *to, size_t room, const char *from);
 int KzStrcatS(char *to, size_t room, const char *from);
+int KzMemcpyS(void *to, size_t room, const void *from, size_t count);
+int KzMemmoveS(void *to, size_t room, const void *from, size_t count);
+int KzWtoi(const WCHAR *text);
 int KzStricmp(const char *a, const char *b);
 int KzStrnicmp(const char *a, const char *b, size_t most);
 char *KzStrupr(char *text);
@@ -90,6 +93,9 @@ KZ_END
 #define sprintf_s KzSprintfS
 #define strcpy_s KzStrcpyS
 #define strcat_s KzStrcatS
+#define memcpy_s KzMemcpyS
+#define memmove_s KzMemmoveS
+#define _wtoi KzWtoi
 #define _stricmp KzStricmp
 #define stricmp KzStricmp
 #define _strnicmp KzStrnicmp

@@ -123,6 +123,9 @@
 #define __assume(x) ((void)0)
 #define __noop(...) ((void)0)
 #define __debugbreak() KzBreak()
+#if !defined(__cplusplus) && !defined(static_assert)
+#define static_assert _Static_assert
+#endif
 #define C_ASSERT(e) typedef char KZ_JOIN(kz_c_assert_, __LINE__)[(e) ? 1 : -1] __attribute__((unused))
 #define KZ_JOIN(a, b) KZ_JOIN2(a, b)
 #define KZ_JOIN2(a, b) a##b

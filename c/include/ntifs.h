@@ -6,6 +6,12 @@
 
 KZ_BEGIN
 
+typedef enum _DIRECTORY_NOTIFY_INFORMATION_CLASS {
+    DirectoryNotifyInformation = 1,
+    DirectoryNotifyExtendedInformation,
+    DirectoryNotifyFullInformation
+} DIRECTORY_NOTIFY_INFORMATION_CLASS, *PDIRECTORY_NOTIFY_INFORMATION_CLASS;
+
 typedef enum _FILE_INFORMATION_CLASS {
     FileDirectoryInformation = 1,
     FileFullDirectoryInformation = 2,
@@ -462,7 +468,7 @@ typedef struct _REPARSE_DATA_BUFFER {
 } REPARSE_DATA_BUFFER, *PREPARSE_DATA_BUFFER;
 
 /* ---- Security's types, as a create shows them. */
-typedef enum _SECURITY_IMPERSONATION_LEVEL { SecurityAnonymous, SecurityIdentification, SecurityImpersonation, SecurityDelegation } SECURITY_IMPERSONATION_LEVEL;
+typedef enum _SECURITY_IMPERSONATION_LEVEL { SecurityAnonymous, SecurityIdentification, SecurityImpersonation, SecurityDelegation } SECURITY_IMPERSONATION_LEVEL, *PSECURITY_IMPERSONATION_LEVEL;
 typedef PVOID PACCESS_TOKEN;
 typedef struct _SID_IDENTIFIER_AUTHORITY {
     UCHAR Value[6];
@@ -580,7 +586,7 @@ VOID SeReleaseSubjectContext(PSECURITY_SUBJECT_CONTEXT SubjectContext);
 BOOLEAN FsRtlIsNameInExpression(PUNICODE_STRING Expression, PUNICODE_STRING Name, BOOLEAN IgnoreCase, PWCH UpcaseTable);
 BOOLEAN FsRtlDoesNameContainWildCards(PUNICODE_STRING Name);
 #define FsRtlIsNtstatusExpected(status) TRUE
-BOOLEAN FsRtlIsPagingFile(PFILE_OBJECT FileObject);
+LOGICAL FsRtlIsPagingFile(PFILE_OBJECT FileObject);
 #define FsRtlIsTotalDeviceFailure(status) FALSE
 
 /* ---- The cache manager isn't there: nothing is cached. */
@@ -588,7 +594,7 @@ BOOLEAN CcIsFileCached(PFILE_OBJECT FileObject);
 BOOLEAN MmCanFileBeTruncated(PSECTION_OBJECT_POINTERS SectionPointer, PLARGE_INTEGER NewFileSize);
 BOOLEAN MmFlushImageSection(PSECTION_OBJECT_POINTERS SectionObjectPointer, ULONG FlushType);
 VOID CcFlushCache(PSECTION_OBJECT_POINTERS SectionObjectPointer, PLARGE_INTEGER FileOffset, ULONG Length, PIO_STATUS_BLOCK IoStatus);
-BOOLEAN CcPurgeCacheSection(PSECTION_OBJECT_POINTERS SectionObjectPointer, PLARGE_INTEGER FileOffset, ULONG Length, BOOLEAN UninitializeCacheMaps);
+BOOLEAN CcPurgeCacheSection(PSECTION_OBJECT_POINTERS SectionObjectPointer, PLARGE_INTEGER FileOffset, ULONG Length, ULONG UninitializeCacheMaps);
 
 /* ---- An AVL or splay table of the driver's own elements. */
 typedef enum _RTL_GENERIC_COMPARE_RESULTS { GenericLessThan, GenericGreaterThan, GenericEqual } RTL_GENERIC_COMPARE_RESULTS;
@@ -604,8 +610,10 @@ typedef RTL_GENERIC_FREE_ROUTINE *PRTL_GENERIC_FREE_ROUTINE, *PRTL_AVL_FREE_ROUT
 #define RTL_AVL_FREE_ROUTINE RTL_GENERIC_FREE_ROUTINE
 /* In order of insertion; as many elements as a test has, a walk finds soon enough. */
 struct _RTL_GENERIC_TABLE {
+    PVOID TableRoot;
     LIST_ENTRY InsertOrderList;
-    PVOID RestartKey;
+    PVOID OrderedPointer;
+    ULONG WhichOrderedElement;
     ULONG NumberGenericTableElements;
     PRTL_GENERIC_COMPARE_ROUTINE CompareRoutine;
     PRTL_GENERIC_ALLOCATE_ROUTINE AllocateRoutine;
@@ -631,6 +639,99 @@ BOOLEAN RtlIsGenericTableEmpty(PRTL_GENERIC_TABLE Table);
 #define RtlGetElementGenericTableAvl RtlGetElementGenericTable
 #define RtlNumberGenericTableElementsAvl RtlNumberGenericTableElements
 #define RtlIsGenericTableEmptyAvl RtlIsGenericTableEmpty
+
+KZ_END
+
+#include <kztypes.h>
+
+KZ_BEGIN
+#define KZ_ROUTINE(type, answer, message, name, ...) type name(__VA_ARGS__);
+#include <kzroutines.h>
+#undef KZ_ROUTINE
+
+/* Registered, and never called. */
+NTSTATUS ObRegisterCallbacks(POB_CALLBACK_REGISTRATION CallbackRegistration, PVOID *RegistrationHandle);
+NTSTATUS CmRegisterCallback(PEX_CALLBACK_FUNCTION Function, PVOID Context, PLARGE_INTEGER Cookie);
+NTSTATUS CmRegisterCallbackEx(PEX_CALLBACK_FUNCTION Function, PCUNICODE_STRING Altitude, PVOID Driver, PVOID Context, PLARGE_INTEGER Cookie, PVOID Reserved);
+NTSTATUS EtwRegister(LPCGUID ProviderId, PETWENABLECALLBACK EnableCallback, PVOID CallbackContext, PREGHANDLE RegHandle);
+NTSTATUS EtwUnregister(REGHANDLE RegHandle);
+BOOLEAN EtwEventEnabled(REGHANDLE RegHandle, PCEVENT_DESCRIPTOR EventDescriptor);
+BOOLEAN EtwProviderEnabled(REGHANDLE RegHandle, UCHAR Level, ULONGLONG Keyword);
+NTSTATUS EtwWrite(REGHANDLE RegHandle, PCEVENT_DESCRIPTOR EventDescriptor, LPCGUID ActivityId, ULONG UserDataCount, PEVENT_DATA_DESCRIPTOR UserData);
+NTSTATUS EtwWriteTransfer(REGHANDLE RegHandle, PCEVENT_DESCRIPTOR EventDescriptor, LPCGUID ActivityId, LPCGUID RelatedActivityId, ULONG UserDataCount, PEVENT_DATA_DESCRIPTOR UserData);
+
+/* ---- What is there beside them. */
+USHORT ObGetFilterVersion(VOID);
+VOID CmGetCallbackVersion(PULONG Major, PULONG Minor);
+#define ObCloseHandle(handle, mode) ((void)(mode), ZwClose(handle))
+#define ExAllocatePoolQuotaZero(type, size, tag) ExAllocatePoolZero((type), (size), (tag))
+#define FsRtlAllocatePoolWithTag(type, size, tag) ExAllocatePoolWithTag((type), (size), (tag))
+VOID FsRtlDissectName(UNICODE_STRING Name, PUNICODE_STRING FirstPart, PUNICODE_STRING RemainingPart);
+NTSTATUS FsRtlNormalizeNtstatus(NTSTATUS Exception, NTSTATUS GenericException);
+BOOLEAN RtlIsNameInExpression(PCUNICODE_STRING Expression, PCUNICODE_STRING Name, BOOLEAN IgnoreCase, PWCH UpcaseTable);
+BOOLEAN RtlTimeToSecondsSince1970(PLARGE_INTEGER Time, PULONG ElapsedSeconds);
+VOID RtlSecondsSince1970ToTime(ULONG ElapsedSeconds, PLARGE_INTEGER Time);
+ULONG RtlNtStatusToDosError(NTSTATUS Status);
+NTSTATUS RtlUnicodeToUTF8N(PCHAR UTF8StringDestination, ULONG UTF8StringMaxByteCount, PULONG UTF8StringActualByteCount, PCWCH UnicodeStringSource, ULONG UnicodeStringByteCount);
+NTSTATUS RtlCharToInteger(PCSZ String, ULONG Base, PULONG Value);
+VOID RtlUpperString(PSTRING DestinationString, const STRING *SourceString);
+ULONG RtlCrc32(const VOID *Buffer, SIZE_T Size, ULONG InitialCrc);
+ULONG RtlLengthSid(PSID Sid);
+ULONG RtlLengthRequiredSid(ULONG SubAuthorityCount);
+NTSTATUS RtlInitializeSid(PSID Sid, PSID_IDENTIFIER_AUTHORITY IdentifierAuthority, UCHAR SubAuthorityCount);
+PULONG RtlSubAuthoritySid(PSID Sid, ULONG SubAuthority);
+NTSTATUS RtlCopySid(ULONG DestinationSidLength, PSID DestinationSid, PSID SourceSid);
+BOOLEAN RtlEqualSid(PSID Sid1, PSID Sid2);
+BOOLEAN RtlValidSid(PSID Sid);
+NTSTATUS RtlRunOnceExecuteOnce(PRTL_RUN_ONCE RunOnce, PRTL_RUN_ONCE_INIT_FN InitFn, PVOID Parameter, PVOID *Context);
+NTSTATUS RtlRunOnceBeginInitialize(PRTL_RUN_ONCE RunOnce, ULONG Flags, PVOID *Context);
+NTSTATUS RtlRunOnceComplete(PRTL_RUN_ONCE RunOnce, ULONG Flags, PVOID Context);
+ULONGLONG KeQueryUnbiasedInterruptTime(VOID);
+ULONG KeGetCurrentProcessorNumberEx(PPROCESSOR_NUMBER ProcNumber);
+ULONG KeQueryMaximumProcessorCountEx(USHORT GroupNumber);
+ULONG KeGetProcessorIndexFromNumber(PPROCESSOR_NUMBER ProcNumber);
+KPRIORITY KeQueryPriorityThread(PKTHREAD Thread);
+VOID IoGetStackLimits(PULONG_PTR LowLimit, PULONG_PTR HighLimit);
+SIZE_T IoGetRemainingStackSize(VOID);
+LOGICAL MmIsDriverVerifying(PDRIVER_OBJECT DriverObject);
+#define MmPrepareMdlForReuse(mdl) ((void)(mdl))
+#define RtlInitHashTable(table, flags) RtlCreateHashTable((table), 0, (flags))
+#define IoCreateDeviceSecure(driver, extension, name, type, characteristics, exclusive, sddl, guid, device) \
+    ((void)(sddl), (void)(guid), IoCreateDevice((driver), (extension), (name), (type), (characteristics), (exclusive), (device)))
+#define IoCallDriver(device, irp) IofCallDriver((device), (irp))
+#define IoSkipCurrentIrpStackLocation(irp) ((void)(irp))
+#define IoCopyCurrentIrpStackLocationToNext(irp) ((void)(irp))
+#define IoSetCompletionRoutine(irp, routine, context, success, error, cancel) ((void)(irp), (void)(routine), (void)(context))
+#define MM_USER_PROBE_ADDRESS 0x00007FFFFFFF0000ULL
+extern PVOID MmHighestUserAddress;
+extern ULONG_PTR MmUserProbeAddress;
+extern POBJECT_TYPE *IoDriverObjectType;
+extern PBOOLEAN KdDebuggerEnabled, KdDebuggerNotPresent;
+typedef struct _SE_EXPORTS {
+    LUID SeCreateTokenPrivilege, SeAssignPrimaryTokenPrivilege, SeLockMemoryPrivilege, SeIncreaseQuotaPrivilege, SeUnsolicitedInputPrivilege, SeTcbPrivilege, SeSecurityPrivilege,
+        SeTakeOwnershipPrivilege, SeLoadDriverPrivilege, SeCreatePagefilePrivilege, SeIncreaseBasePriorityPrivilege, SeSystemProfilePrivilege, SeSystemtimePrivilege,
+        SeProfileSingleProcessPrivilege, SeCreatePermanentPrivilege, SeBackupPrivilege, SeRestorePrivilege, SeShutdownPrivilege, SeDebugPrivilege, SeAuditPrivilege,
+        SeSystemEnvironmentPrivilege, SeChangeNotifyPrivilege, SeRemoteShutdownPrivilege;
+    PSID SeNullSid, SeWorldSid, SeLocalSid, SeCreatorOwnerSid, SeCreatorGroupSid, SeNtAuthoritySid, SeDialupSid, SeNetworkSid, SeBatchSid, SeInteractiveSid, SeLocalSystemSid,
+        SeAliasAdminsSid, SeAliasUsersSid, SeAliasGuestsSid, SeAliasPowerUsersSid, SeAliasAccountOpsSid, SeAliasSystemOpsSid, SeAliasPrintOpsSid, SeAliasBackupOpsSid,
+        SeAuthenticatedUsersSid, SeRestrictedSid, SeAnonymousLogonSid;
+    LUID SeUndockPrivilege, SeSyncAgentPrivilege, SeEnableDelegationPrivilege;
+    PSID SeLocalServiceSid, SeNetworkServiceSid;
+    LUID SeManageVolumePrivilege, SeImpersonatePrivilege, SeCreateGlobalPrivilege, SeTrustedCredManAccessPrivilege, SeRelabelPrivilege, SeIncreaseWorkingSetPrivilege, SeTimeZonePrivilege,
+        SeCreateSymbolicLinkPrivilege;
+    PSID SeIUserSid, SeUntrustedMandatorySid, SeLowMandatorySid, SeMediumMandatorySid, SeHighMandatorySid, SeSystemMandatorySid, SeOwnerRightsSid;
+} SE_EXPORTS, *PSE_EXPORTS;
+extern PSE_EXPORTS SeExports;
+FORCEINLINE VOID RtlInitEmptyAnsiString(PANSI_STRING AnsiString, PCHAR Buffer, USHORT BufferSize)
+{
+    AnsiString->Length = 0;
+    AnsiString->MaximumLength = BufferSize;
+    AnsiString->Buffer = Buffer;
+}
+FORCEINLINE NTSTATUS RtlSIZETMult(SIZE_T Multiplicand, SIZE_T Multiplier, SIZE_T *Result)
+{
+    return __builtin_mul_overflow(Multiplicand, Multiplier, Result) ? (*Result = (SIZE_T)-1, STATUS_INTEGER_OVERFLOW) : STATUS_SUCCESS;
+}
 
 KZ_END
 

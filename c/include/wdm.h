@@ -347,17 +347,39 @@ typedef PVOID ALLOCATE_FUNCTION(POOL_TYPE PoolType, SIZE_T NumberOfBytes, ULONG 
 typedef VOID FREE_FUNCTION(PVOID Buffer);
 typedef ALLOCATE_FUNCTION *PALLOCATE_FUNCTION;
 typedef FREE_FUNCTION *PFREE_FUNCTION;
-typedef struct DECLSPEC_ALIGN(64) _GENERAL_LOOKASIDE {
-    ULONG Size;
-    ULONG Tag;
-    POOL_TYPE Type;
-    PALLOCATE_FUNCTION Allocate;
-    PFREE_FUNCTION Free;
-    LONG TotalAllocates;
-    LONG TotalFrees;
+/* Which one it is, and that it is there, stands where the kit keeps room for later. */
+#define KZ_LOOKASIDE_FIELDS             \
+    UCHAR ListHead[16];                 \
+    USHORT Depth;                       \
+    USHORT MaximumDepth;                \
+    ULONG TotalAllocates;               \
+    union {                             \
+        ULONG AllocateMisses;           \
+        ULONG AllocateHits;             \
+    };                                  \
+    ULONG TotalFrees;                   \
+    union {                             \
+        ULONG FreeMisses;               \
+        ULONG FreeHits;                 \
+    };                                  \
+    POOL_TYPE Type;                     \
+    ULONG Tag;                          \
+    ULONG Size;                         \
+    PALLOCATE_FUNCTION Allocate;        \
+    PFREE_FUNCTION Free;                \
+    LIST_ENTRY ListEntry;               \
+    ULONG LastTotalAllocates;           \
+    union {                             \
+        ULONG LastAllocateMisses;       \
+        ULONG LastAllocateHits;         \
+    };                                  \
     ULONG64 Initialized;
-    UCHAR Reserved[0x48];
-} GENERAL_LOOKASIDE;
+typedef struct _GENERAL_LOOKASIDE_POOL {
+    KZ_LOOKASIDE_FIELDS
+} GENERAL_LOOKASIDE_POOL, *PGENERAL_LOOKASIDE_POOL;
+typedef struct DECLSPEC_ALIGN(64) _GENERAL_LOOKASIDE {
+    KZ_LOOKASIDE_FIELDS
+} GENERAL_LOOKASIDE, *PGENERAL_LOOKASIDE;
 typedef struct _NPAGED_LOOKASIDE_LIST {
     GENERAL_LOOKASIDE L;
 } NPAGED_LOOKASIDE_LIST, *PNPAGED_LOOKASIDE_LIST;
@@ -365,14 +387,14 @@ typedef struct _PAGED_LOOKASIDE_LIST {
     GENERAL_LOOKASIDE L;
 } PAGED_LOOKASIDE_LIST, *PPAGED_LOOKASIDE_LIST;
 typedef struct _LOOKASIDE_LIST_EX {
-    GENERAL_LOOKASIDE L;
+    GENERAL_LOOKASIDE_POOL L;
 } LOOKASIDE_LIST_EX, *PLOOKASIDE_LIST_EX;
-KZ_ASSERT(sizeof(NPAGED_LOOKASIDE_LIST) == 0x80 && sizeof(PAGED_LOOKASIDE_LIST) == 0x80, "layout");
+KZ_ASSERT(sizeof(NPAGED_LOOKASIDE_LIST) == 0x80 && sizeof(PAGED_LOOKASIDE_LIST) == 0x80 && sizeof(LOOKASIDE_LIST_EX) == 0x60, "layout");
 
-VOID KzInitializeLookaside(GENERAL_LOOKASIDE *List, PALLOCATE_FUNCTION Allocate, PFREE_FUNCTION Free, POOL_TYPE Type, SIZE_T Size, ULONG Tag);
-PVOID KzAllocateFromLookaside(GENERAL_LOOKASIDE *List, PCSTR Call);
-VOID KzFreeToLookaside(GENERAL_LOOKASIDE *List, PVOID Entry, PCSTR Call);
-VOID KzDeleteLookaside(GENERAL_LOOKASIDE *List);
+VOID KzInitializeLookaside(PVOID List, PALLOCATE_FUNCTION Allocate, PFREE_FUNCTION Free, POOL_TYPE Type, SIZE_T Size, ULONG Tag);
+PVOID KzAllocateFromLookaside(PVOID List, PCSTR Call);
+VOID KzFreeToLookaside(PVOID List, PVOID Entry, PCSTR Call);
+VOID KzDeleteLookaside(PVOID List);
 #define ExInitializeNPagedLookasideList(list, allocate, free, flags, size, tag, depth) \
     ((void)(flags), (void)(depth), KzInitializeLookaside(&(list)->L, (allocate), (free), NonPagedPool, (size), (tag)))
 #define ExAllocateFromNPagedLookasideList(list) KzAllocateFromLookaside(&(list)->L, "ExAllocateFromNPagedLookasideList")
@@ -1285,7 +1307,14 @@ NTSTATUS PsTerminateSystemThread(NTSTATUS ExitStatus);
 #define THREAD_ALL_ACCESS 0x001FFFFF
 typedef struct _PS_CREATE_NOTIFY_INFO {
     SIZE_T Size;
-    ULONG Flags;
+    union {
+        ULONG Flags;
+        struct {
+            ULONG FileOpenNameAvailable : 1;
+            ULONG IsSubsystemProcess : 1;
+            ULONG Reserved : 30;
+        };
+    };
     HANDLE ParentProcessId;
     CLIENT_ID CreatingThreadId;
     struct _FILE_OBJECT *FileObject;
@@ -1323,7 +1352,6 @@ typedef struct _IMAGE_INFO {
     ULONG ImageSectionNumber;
 } IMAGE_INFO, *PIMAGE_INFO;
 NTSTATUS PsSetLoadImageNotifyRoutineEx(PLOAD_IMAGE_NOTIFY_ROUTINE NotifyRoutine, ULONG_PTR Flags);
-NTSTATUS CmRegisterCallbackEx(PVOID Function, PCUNICODE_STRING Altitude, PVOID Driver, PVOID Context, PLARGE_INTEGER Cookie, PVOID Reserved);
 NTSTATUS CmUnRegisterCallback(LARGE_INTEGER Cookie);
 typedef struct _OB_CALLBACK_REGISTRATION *POB_CALLBACK_REGISTRATION;
 NTSTATUS ObRegisterCallbacks(POB_CALLBACK_REGISTRATION CallbackRegistration, PVOID *RegistrationHandle);

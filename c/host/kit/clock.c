@@ -12,6 +12,7 @@ static struct {
     KzPlace place; /* where it was set */
 } timers[64];
 static size_t timers_count;
+static unsigned waiters, fires_left;
 static PRKDPC dpcs[64];
 static size_t dpcs_count;
 
@@ -96,15 +97,49 @@ BOOLEAN RtlTimeFieldsToTime(PTIME_FIELDS TimeFields, PLARGE_INTEGER Time)
     return TRUE;
 }
 
+/* ---- What was initialized has a list of its own, in which nobody waits here. */
+static bool was_made(const DISPATCHER_HEADER *object)
+{
+    return object->WaitListHead.Flink == &object->WaitListHead;
+}
+
+static void make(PDISPATCHER_HEADER object)
+{
+    InitializeListHead(&object->WaitListHead);
+}
+
+static bool check_made(const DISPATCHER_HEADER *object, const char *kind, const char *call)
+{
+    if (!was_made(object))
+        kz_tell_of(object, KZM_NEVER_MADE, call, "%s that was never initialized", kind);
+    return was_made(object);
+}
+
 /* ---- Deferred procedure calls: they run once the request is answered, at DISPATCH_LEVEL. */
+static bool is_queued(const KDPC *dpc)
+{
+    size_t at = 0;
+    while (at < dpcs_count && dpcs[at] != dpc)
+        at++;
+    return at < dpcs_count;
+}
+
 VOID KeInitializeDpc(PRKDPC Dpc, PKDEFERRED_ROUTINE DeferredRoutine, PVOID DeferredContext)
 {
+    KZ_INSIDE();
+    if (is_queued(Dpc))
+        kz_tell_of(Dpc, KZM_STILL_MADE, __func__, "a DPC that is queued");
+    KeRemoveQueueDpc(Dpc);
     *Dpc = (KDPC){.DeferredRoutine = DeferredRoutine, .DeferredContext = DeferredContext};
 }
 
 BOOLEAN KeInsertQueueDpc(PRKDPC Dpc, PVOID SystemArgument1, PVOID SystemArgument2)
 {
     KZ_CALL();
+    if (!Dpc->DeferredRoutine) {
+        kz_tell_of(Dpc, KZM_NEVER_MADE, __func__, "a DPC that was never initialized");
+        return FALSE;
+    }
     if (Dpc->DpcData || dpcs_count == sizeof dpcs / sizeof dpcs[0])
         return FALSE;
     Dpc->SystemArgument1 = SystemArgument1;
@@ -164,19 +199,35 @@ VOID KeFlushQueuedDpcs(VOID)
 }
 
 /* ---- Timers. */
+static bool is_set(const KTIMER *timer)
+{
+    size_t at = 0;
+    while (at < timers_count && timers[at].timer != timer)
+        at++;
+    return at < timers_count;
+}
+
 VOID KeInitializeTimerEx(PKTIMER Timer, TIMER_TYPE Type)
 {
+    KZ_INSIDE();
+    if (is_set(Timer)) {
+        kz_tell_of(Timer, KZM_STILL_MADE, __func__, "a timer that is set");
+        KeCancelTimer(Timer);
+    }
     *Timer = (KTIMER){.Header.Type = (UCHAR)(Type == NotificationTimer ? TIMER_KEEPS : TIMER_RESETS)};
+    make(&Timer->Header);
 }
 
 VOID KeInitializeTimer(PKTIMER Timer)
 {
+    KZ_INSIDE();
     KeInitializeTimerEx(Timer, NotificationTimer);
 }
 
 BOOLEAN KeCancelTimer(PKTIMER Timer)
 {
     KZ_CALL();
+    check_made(&Timer->Header, "a timer", "KeCancelTimer");
     for (size_t at = 0; at < timers_count; at++)
         if (timers[at].timer == Timer) {
             memmove(timers + at, timers + at + 1, (--timers_count - at) * sizeof timers[0]);
@@ -196,6 +247,8 @@ static void set_timer(PKTIMER timer, const KzPlace *place)
 BOOLEAN KeSetTimerEx(PKTIMER Timer, LARGE_INTEGER DueTime, LONG Period, PKDPC Dpc)
 {
     KZ_CALL();
+    if (!check_made(&Timer->Header, "a timer", __func__))
+        KeInitializeTimer(Timer);
     BOOLEAN was_set = KeCancelTimer(Timer);
     LONGLONG due = DueTime.QuadPart < 0 ? passed - DueTime.QuadPart : DueTime.QuadPart - BEGINS;
     Timer->DueTime.QuadPart = (ULONGLONG)due;
@@ -315,21 +368,38 @@ void kz_forget_timers(PFLT_FILTER filter)
         }
 }
 
+void kz_check_clock(const void *memory, size_t size)
+{
+    for (size_t at = timers_count; at-- > 0;)
+        if ((uintptr_t)timers[at].timer - (uintptr_t)memory < size) {
+            kz_tell_of(timers[at].timer, KZM_TIMER_LEFT, "KeCancelTimer", "never called for a timer that is set, whose memory is freed");
+            KeCancelTimer(timers[at].timer);
+        }
+    for (size_t at = dpcs_count; at-- > 0;)
+        if ((uintptr_t)dpcs[at] - (uintptr_t)memory < size) {
+            kz_tell_of(dpcs[at], KZM_TIMER_LEFT, "KeRemoveQueueDpc", "never called for a DPC that is queued, whose memory is freed");
+            KeRemoveQueueDpc(dpcs[at]);
+        }
+}
+
 void kz_free_clock(void)
 {
     passed = 0;
     timers_count = dpcs_count = 0;
+    waiters = fires_left = 0;
 }
 
 /* ---- What can be waited for. */
 VOID KeInitializeEvent(PRKEVENT Event, EVENT_TYPE Type, BOOLEAN State)
 {
     *Event = (KEVENT){.Header = {.Type = (UCHAR)(Type == NotificationEvent ? EVENT_KEEPS : EVENT_RESETS), .SignalState = State}};
+    make(&Event->Header);
 }
 
 LONG KeSetEvent(PRKEVENT Event, KPRIORITY Increment, BOOLEAN Wait)
 {
     KZ_CALL();
+    check_made(&Event->Header, "an event", __func__);
     (void)Increment, (void)Wait;
     LONG before = Event->Header.SignalState;
     Event->Header.SignalState = 1;
@@ -340,6 +410,7 @@ LONG KeSetEvent(PRKEVENT Event, KPRIORITY Increment, BOOLEAN Wait)
 LONG KeResetEvent(PRKEVENT Event)
 {
     KZ_CALL();
+    check_made(&Event->Header, "an event", __func__);
     LONG before = Event->Header.SignalState;
     Event->Header.SignalState = 0;
     kz_scheduler->touch(Event, 0, KZT_TAKES);
@@ -349,12 +420,14 @@ LONG KeResetEvent(PRKEVENT Event)
 VOID KeClearEvent(PRKEVENT Event)
 {
     KZ_CALL();
+    check_made(&Event->Header, "an event", __func__);
     Event->Header.SignalState = 0;
 }
 
 LONG KeReadStateEvent(PRKEVENT Event)
 {
     KZ_CALL();
+    check_made(&Event->Header, "an event", __func__);
     kz_scheduler->touch(Event, 0, KZT_TAKES);
     return Event->Header.SignalState;
 }
@@ -362,14 +435,18 @@ LONG KeReadStateEvent(PRKEVENT Event)
 VOID KeInitializeSemaphore(PRKSEMAPHORE Semaphore, LONG Count, LONG Limit)
 {
     *Semaphore = (KSEMAPHORE){.Header = {.Type = SEMAPHORE, .SignalState = Count}, .Limit = Limit};
+    make(&Semaphore->Header);
 }
 
 LONG KeReleaseSemaphore(PRKSEMAPHORE Semaphore, KPRIORITY Increment, LONG Adjustment, BOOLEAN Wait)
 {
     KZ_CALL();
+    check_made(&Semaphore->Header, "a semaphore", __func__);
     (void)Increment, (void)Wait;
     LONG before = Semaphore->Header.SignalState;
     kz_scheduler->touch(Semaphore, 0, KZT_GIVES);
+    if (!was_made(&Semaphore->Header))
+        return 0;
     if (before > Semaphore->Limit - Adjustment)
         kz_tell(KZM_LOCK_NOT_HELD, __func__, "past the limit of the semaphore");
     else
@@ -381,11 +458,13 @@ VOID KeInitializeMutex(PRKMUTEX Mutex, ULONG Level)
 {
     (void)Level;
     *Mutex = (KMUTEX){.Header = {.Type = MUTANT, .SignalState = 1}};
+    make(&Mutex->Header);
 }
 
 LONG KeReleaseMutex(PRKMUTEX Mutex, BOOLEAN Wait)
 {
     KZ_CALL();
+    check_made(&Mutex->Header, "a mutex", __func__);
     (void)Wait;
     LONG before = Mutex->Header.SignalState;
     KzLetGo(Mutex, __func__);
@@ -422,15 +501,41 @@ static bool is_signalled(void *object)
     return header->Type == MUTANT ? !kz_is_taken(object) : header->SignalState > 0;
 }
 
+/* Timers fire while somebody waits: so many of them, since one that fires again and again need not end the wait. */
+enum { FIRES = 16 };
+
+bool kz_may_fire(void)
+{
+    return waiters > 0 && fires_left > 0 && timers_count > 0;
+}
+
+void kz_fire(void)
+{
+    PKTIMER next = next_due(INT64_MAX);
+    if (!next)
+        return;
+    fires_left--;
+    fire(next);
+}
+
 /* Beside other clients it waits for one of them, or for as long as it is to. */
 static NTSTATUS wait_for(PDISPATCHER_HEADER object, LONGLONG units)
 {
     kz_me->timeout = units > 0 ? (uint64_t)(units / MILLISECOND) + 1 : 0;
+    waiters++;
+    fires_left = FIRES;
     bool is_over = (kz_me->timeout && kz_scheduler->choose(2, KZ_CHOICE_TIME, "the time is over")) || !kz_wait(is_signalled, object, "KeWaitForSingleObject");
     kz_me->timeout = 0;
+    waiters--;
     if (is_over)
         return STATUS_TIMEOUT;
     return is_there(object) ? STATUS_SUCCESS : STATUS_TIMEOUT;
+}
+
+/* Of these the kit's initialization is known; memory that was never initialized looks like one of them, or like nothing. */
+static bool is_known(const DISPATCHER_HEADER *object)
+{
+    return object->Type <= SEMAPHORE || object->Type == TIMER_KEEPS || object->Type == TIMER_RESETS || object->Type > 64;
 }
 
 /* What else runs here, work items and timers, goes on meanwhile. */
@@ -438,6 +543,8 @@ NTSTATUS KeWaitForSingleObject(PVOID Object, KWAIT_REASON WaitReason, KPROCESSOR
 {
     KZ_CALL();
     (void)WaitReason, (void)WaitMode, (void)Alertable;
+    if (is_known(Object))
+        check_made(Object, "an object", __func__);
     if (is_signalled(Object) && is_there(Object))
         return STATUS_SUCCESS;
     if (Timeout && units_of(Timeout) <= 0)

@@ -181,6 +181,18 @@ void kz_tell_locks(void)
     }
 }
 
+void kz_check_locks(const void *memory, size_t size)
+{
+    for (size_t at = held_count; at-- > 0;) {
+        Held one = held[at];
+        if ((uintptr_t)one.lock - (uintptr_t)memory >= size)
+            continue;
+        kz_tell_of(one.lock, KZM_LOCK_DELETED, one.call, "the lock is still held, and its memory is freed");
+        held[at].count = 1;
+        let_go(&held[at], (PVOID)(uintptr_t)one.lock, one.call);
+    }
+}
+
 void kz_free_locks(void)
 {
     free(held);
@@ -243,34 +255,59 @@ void KzPagedCode(PCSTR Function)
 }
 
 /* ---- Resources: an owner may take one again. */
+/* Whether its thread can't be suspended by an APC: at APC_LEVEL, in a critical region, or with a lock by a call that enters one. */
+static bool are_apcs_disabled(void)
+{
+    for (size_t at = 0; at < held_count; at++)
+        if (held[at].client == kz_me && strncmp(held[at].call, "ExAcquire", 9) != 0)
+            return true;
+    return kz_irql() > PASSIVE_LEVEL;
+}
+
+/* A thread of the system isn't suspended: those of programs are looked at, in callbacks of their operations. */
+static void check_resource(PERESOURCE resource, const char *call)
+{
+    kz_is_made(resource, "a resource", call);
+    bool is_program = kz_me->process != 4 && kz_me->place.op;
+    if (is_program && !are_apcs_disabled())
+        kz_tell_of(resource, KZM_APCS_ENABLED, call, "called with normal kernel APCs enabled (no KeEnterCriticalRegion)");
+}
+
 BOOLEAN ExAcquireResourceExclusiveLite(PERESOURCE Resource, BOOLEAN Wait)
 {
-    KZ_INSIDE();
+    KZ_CALL();
+    check_resource(Resource, __func__);
     if (!Wait)
         return KzTryTake(Resource, KZ_AGAIN, PASSIVE_LEVEL, __func__);
     KzTake(Resource, KZ_AGAIN, PASSIVE_LEVEL, __func__);
     return TRUE;
 }
 
+static BOOLEAN take_shared(PERESOURCE Resource, BOOLEAN Wait, const char *call)
+{
+    check_resource(Resource, call);
+    if (!Wait)
+        return KzTryTake(Resource, KZ_SHARED_AGAIN, PASSIVE_LEVEL, call);
+    KzTake(Resource, KZ_SHARED_AGAIN, PASSIVE_LEVEL, call);
+    return TRUE;
+}
+
 BOOLEAN ExAcquireResourceSharedLite(PERESOURCE Resource, BOOLEAN Wait)
 {
-    KZ_INSIDE();
-    if (!Wait)
-        return KzTryTake(Resource, KZ_SHARED_AGAIN, PASSIVE_LEVEL, __func__);
-    KzTake(Resource, KZ_SHARED_AGAIN, PASSIVE_LEVEL, __func__);
-    return TRUE;
+    KZ_CALL();
+    return take_shared(Resource, Wait, __func__);
 }
 
 BOOLEAN ExAcquireSharedStarveExclusive(PERESOURCE Resource, BOOLEAN Wait)
 {
     KZ_CALL();
-    return ExAcquireResourceSharedLite(Resource, Wait);
+    return take_shared(Resource, Wait, __func__);
 }
 
 BOOLEAN ExAcquireSharedWaitForExclusive(PERESOURCE Resource, BOOLEAN Wait)
 {
     KZ_CALL();
-    return ExAcquireResourceSharedLite(Resource, Wait);
+    return take_shared(Resource, Wait, __func__);
 }
 
 VOID ExReleaseResourceLite(PERESOURCE Resource)

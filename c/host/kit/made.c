@@ -43,6 +43,14 @@ bool kz_unmade(const void *at)
     return true;
 }
 
+bool kz_is_made(const void *at, const char *kind, const char *call)
+{
+    if (*find(at))
+        return true;
+    kz_tell_of(at, KZM_NEVER_MADE, call, "%s that was never initialized, or was deleted", kind);
+    return false;
+}
+
 /* Memory is given back: what lies in it must have been deleted. */
 void kz_check_made(const void *memory, size_t size)
 {
@@ -93,6 +101,7 @@ NTSTATUS ExInitializeResourceLite(PERESOURCE Resource)
 NTSTATUS ExReinitializeResourceLite(PERESOURCE Resource)
 {
     KZ_INSIDE();
+    kz_is_made(Resource, "a resource", __func__);
     memset(Resource, 0, sizeof *Resource);
     return STATUS_SUCCESS;
 }

@@ -1,8 +1,11 @@
 /* Memory that drivers see: each piece lies between two red zones, and is filled before its first use and after its last one. What is written where it mustn't be is told.
+ * What a driver allocates has pages of its own, as far as there are some: those are shut once it is given back, so that an access is told as it happens.
  * Under the address sanitizer the zones are its own, and it tells. */
+#define _GNU_SOURCE
 #include "host.h"
 
 #include <stdlib.h>
+#include <sys/mman.h>
 
 /* There under the address sanitizer alone. */
 extern void __asan_poison_memory_region(const volatile void *start, size_t size) __attribute__((weak));
@@ -12,7 +15,11 @@ extern void __asan_unpoison_memory_region(const volatile void *start, size_t siz
 enum { LINE = 64 };
 enum { ZONE = 32, ZONE_BYTE = 0xfd, GONE_BYTE = 0xdd };
 /* How much of what was given back is kept, to see whether it is written. */
-enum { KEPT = 64, KEPT_BYTES = 4096 };
+enum { KEPT = 64, KEPT_BYTES = 32768 };
+
+/* Pieces of up to so many bytes have pages of their own, and up to so many pieces at once: the system has no more than 65,530 ranges of pages. */
+enum { PAGE = 4096, GUARDED_BYTES = 64 * 1024, GUARDED = 8192 };
+static size_t guarded_count;
 
 /* Up to so many pieces each one is looked at as a callback returns. Where there are more, the last few that the client took are, and all of them now and then. */
 enum { FEW = 256, LAST = 64, NOW_AND_THEN = 256 };
@@ -50,7 +57,7 @@ static KzPiece *piece_behind(const KzPiece *piece)
 
 static uint8_t *body_of(const KzPiece *piece)
 {
-    return (uint8_t *)piece + sizeof *piece + ZONE;
+    return piece->body;
 }
 
 static KzPiece **place_of(const void *body)
@@ -89,17 +96,64 @@ static void open_all(const KzPiece *piece)
         __asan_unpoison_memory_region(body_of(piece) - ZONE, ZONE + piece->size + ZONE);
 }
 
+static bool is_guarded(KzMemory kind, size_t size)
+{
+    return kz_scheduler->has_pages && !__asan_poison_memory_region && (kind == KZK_POOL || kind == KZK_CONTEXT || kind == KZK_NAME) && size <= GUARDED_BYTES &&
+           guarded_count < GUARDED;
+}
+
+static uint8_t *at_boundary(uint8_t *start, size_t size)
+{
+    uintptr_t boundary = size < LINE ? 16 : LINE;
+    return (uint8_t *)(((uintptr_t)start + ZONE + boundary - 1) & ~(boundary - 1));
+}
+
+/* A piece with its zones; NULL if there is no memory. */
+static KzPiece *allocate(KzMemory kind, size_t size)
+{
+    size_t whole = ZONE + LINE + size + ZONE + sizeof(WCHAR);
+    if (!is_guarded(kind, size)) {
+        KzPiece *piece = malloc(sizeof *piece + whole);
+        if (piece)
+            *piece = (KzPiece){.start = piece, .body = at_boundary((uint8_t *)(piece + 1), size)};
+        return piece;
+    }
+    KzPiece *piece = malloc(sizeof *piece);
+    size_t pages = (whole + PAGE - 1) & ~(size_t)(PAGE - 1);
+    void *start = piece ? mmap(NULL, pages, PROT_READ | PROT_WRITE, MAP_PRIVATE | MAP_ANONYMOUS, -1, 0) : MAP_FAILED;
+    if (start == MAP_FAILED) {
+        free(piece);
+        return NULL;
+    }
+    *piece = (KzPiece){.pages = start, .pages_size = pages, .body = at_boundary(start, size)};
+    guarded_count++;
+    return piece;
+}
+
+static void let_go(KzPiece *piece)
+{
+    if (!piece)
+        return;
+    if (piece->pages) {
+        munmap(piece->pages, piece->pages_size);
+        guarded_count--;
+    }
+    free(piece);
+}
+
 void *kz_take_memory(KzMemory kind, size_t size, int fill, ULONG tag)
 {
-    if (size > KZ_LARGEST)
+    KzPiece *piece = size <= KZ_LARGEST ? allocate(kind, size) : NULL;
+    if (!piece)
         return NULL;
-    void *start = malloc(sizeof(KzPiece) + ZONE + size + ZONE + sizeof(WCHAR) + LINE);
-    if (!start)
-        return NULL;
-    uintptr_t boundary = size < LINE ? 16 : LINE, body = ((uintptr_t)start + sizeof(KzPiece) + ZONE + boundary - 1) & ~(boundary - 1);
-    KzPiece *piece = (KzPiece *)(body - ZONE - sizeof *piece);
     KzPiece **first = &pieces[my_list()];
-    *piece = (KzPiece){.next = *first, .start = start, .size = size, .kind = kind, .filter = kz_me->place.filter, .place = kz_me->place, .tag = tag, .list = my_list()};
+    piece->next = *first;
+    piece->size = size;
+    piece->kind = kind;
+    piece->place = kz_me->place;
+    piece->filter = kz_me->place.filter;
+    piece->tag = tag;
+    piece->list = my_list();
     if (*first)
         (*first)->before = piece;
     *first = piece;
@@ -213,7 +267,7 @@ size_t kz_there(const void *memory, size_t size, const char *what)
 
 void kz_check_text_from(const void *text, const char *call, const void *from)
 {
-    __attribute__((cleanup(kz_end_call), unused)) unsigned depth = kz_go_inside(call, from);
+    KZ_INSIDE_FROM(call, from);
     KzPiece *piece = kz_piece_of(text);
     const WCHAR *letters = text;
     size_t count = piece ? piece->size / sizeof(WCHAR) : 1;
@@ -233,14 +287,14 @@ void kz_check_blocks(const KzOp *op)
     if (name)
         kz_check_piece(name);
     for (const KzBlock *block = op->blocks; block; block = block->next)
-        kz_check_piece((KzPiece *)((uint8_t *)block->bytes - ZONE - sizeof(KzPiece)));
+        kz_check_piece(kz_piece_of(block->bytes));
 }
 
 /* Whether memory that was given back was written since: then that is told, once. */
 static void look_at(KzPiece *piece)
 {
     char tag[8], where[32] = "";
-    if (is_filled(body_of(piece), piece->size, GONE_BYTE))
+    if (piece->is_shut || piece->is_touched || is_filled(body_of(piece), piece->size, GONE_BYTE))
         return;
     if (piece->place.from)
         snprintf(where, sizeof where, " at @%lx", (unsigned long)kz_in_file(piece->place.from));
@@ -273,32 +327,84 @@ static void forget(KzPiece **place)
     KzPlace before = kz_enter(KZ_IN_NOTHING, kz_worker(), piece->filter, NULL, NULL, NULL);
     look_at(piece);
     kz_me->place = before;
-    free(piece->start);
+    let_go(piece);
 }
 
 void kz_give_back(void *memory)
 {
-    KzPiece *piece = memory ? (KzPiece *)((uint8_t *)memory - ZONE - sizeof(KzPiece)) : NULL;
+    KzPiece *piece = memory ? kz_piece_of(memory) : NULL;
     if (!piece)
         return;
     kz_check_piece(piece);
     kz_check_made(memory, piece->size);
+    kz_check_locks(memory, piece->size);
+    kz_check_clock(memory, piece->size);
+    kz_check_work(memory, piece->size);
     kz_scheduler->touch(body_of(piece), piece->size, KZT_HAS_TAKEN_BACK);
     *(piece->before ? &piece->before->next : &pieces[piece->list]) = piece->next;
     if (piece->next)
         piece->next->before = piece->before;
     leave_table(piece);
     open_all(piece);
-    if (__asan_poison_memory_region || piece->size > KEPT_BYTES) {
-        free(piece->start);
+    if (__asan_poison_memory_region || (!piece->pages && piece->size > KEPT_BYTES)) {
+        let_go(piece);
         return;
     }
     memset(body_of(piece), GONE_BYTE, piece->size);
     piece->place = kz_me->place; /* where it was given back */
+    piece->is_shut = piece->pages && mprotect(piece->pages, piece->pages_size, PROT_NONE) == 0;
     size_t *next = &gone[my_list()].next;
     forget(&gone[my_list()].pieces[*next]);
     gone[my_list()].pieces[*next] = piece;
     *next = (*next + 1) % KEPT;
+}
+
+/* ---- What is touched behind that. */
+static KzPiece *shut_piece_at(const void *address)
+{
+    for (size_t at = 0; at < (size_t)LISTS * KEPT; at++) {
+        KzPiece *piece = gone[at / KEPT].pieces[at % KEPT];
+        if (piece && piece->is_shut && (uintptr_t)address - (uintptr_t)piece->pages < piece->pages_size)
+            return piece;
+    }
+    return NULL;
+}
+
+static const char *giving_back(const KzPiece *piece)
+{
+    return piece->kind == KZK_POOL ? "ExFreePoolWithTag" : piece->kind == KZK_CONTEXT ? "FltReleaseContext" : "FltReleaseFileNameInformation";
+}
+
+static void tell_touch(const KzPiece *piece, bool is_written)
+{
+    static const char *const kinds[] = {[KZK_POOL] = "a pool", [KZK_CONTEXT] = "a context", [KZK_NAME] = "a name"};
+    char where[32] = "";
+    if (piece->place.from)
+        snprintf(where, sizeof where, " at @%lx", (unsigned long)kz_in_file(piece->place.from));
+    KzMessage written = piece->kind == KZK_CONTEXT ? KZM_WRITTEN_CONTEXT : KZM_WRITTEN_FREED;
+    kz_tell(is_written ? written : KZM_READ_FREED, giving_back(piece), "%llu bytes of %s are %s after they were given back%s", (unsigned long long)piece->size, kinds[piece->kind],
+            is_written ? "written" : "read", where);
+}
+
+/* The driver's own code stands there, or code that it called. Reads see the bytes with which it was filled. */
+bool kz_touched(const void *address, const void *code, bool is_written)
+{
+    char line[100];
+    KZ_INSIDE_UNSAID();
+    KzPiece *piece = shut_piece_at(address);
+    if (!piece)
+        return false;
+    mprotect(piece->pages, piece->pages_size, PROT_READ | PROT_WRITE);
+    piece->is_shut = false;
+    piece->is_touched = true;
+    KzPlace before = kz_me->place;
+    if (kz_find_source(kz_in_file(code) + 1, line, sizeof line)) {
+        kz_me->place.call = giving_back(piece);
+        kz_me->place.from = (const uint8_t *)code + 1;
+    }
+    tell_touch(piece, is_written);
+    kz_me->place = before;
+    return true;
 }
 
 static void forget_list(unsigned list)
@@ -355,13 +461,13 @@ void kz_free_memory(void)
     for (KzPiece *piece = first_from(0), *behind; piece; piece = behind) {
         behind = piece_behind(piece);
         open_all(piece);
-        free(piece->start);
+        let_go(piece);
     }
     memset(pieces, 0, sizeof pieces);
     memset(places, 0, sizeof places);
     pieces_count = 0;
     returns = 0;
     for (size_t at = 0; at < (size_t)LISTS * KEPT; at++)
-        free(gone[at / KEPT].pieces[at % KEPT] ? gone[at / KEPT].pieces[at % KEPT]->start : NULL);
+        let_go(gone[at / KEPT].pieces[at % KEPT]);
     memset(gone, 0, sizeof gone);
 }

@@ -233,6 +233,8 @@ static NTSTATUS put_name(const char *text, PUNICODE_STRING to, PULONG needed)
 NTSTATUS FltGetVolumeName(PFLT_VOLUME Volume, PUNICODE_STRING VolumeName, PULONG BufferSizeNeeded)
 {
     KZ_INSIDE();
+    if (!kz_may_use_volume(__func__, Volume))
+        return STATUS_FLT_DELETING_OBJECT;
     char text[64];
     device_name(text, sizeof text, Volume);
     return put_name(text, VolumeName, BufferSizeNeeded);
@@ -241,6 +243,8 @@ NTSTATUS FltGetVolumeName(PFLT_VOLUME Volume, PUNICODE_STRING VolumeName, PULONG
 NTSTATUS FltGetVolumeGuidName(PFLT_VOLUME Volume, PUNICODE_STRING VolumeGuidName, PULONG BufferSizeNeeded)
 {
     KZ_INSIDE();
+    if (!kz_may_use_volume(__func__, Volume))
+        return STATUS_FLT_DELETING_OBJECT;
     char text[80];
     snprintf(text, sizeof text, "/?" "?/Volume{00000000-0000-0000-0000-%012x}", Volume->id + 1u);
     return put_name(text, VolumeGuidName, BufferSizeNeeded);

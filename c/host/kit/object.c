@@ -392,7 +392,7 @@ BOOLEAN CcIsFileCached(PFILE_OBJECT FileObject)
     return FALSE;
 }
 
-BOOLEAN FsRtlIsPagingFile(PFILE_OBJECT FileObject)
+LOGICAL FsRtlIsPagingFile(PFILE_OBJECT FileObject)
 {
     (void)FileObject;
     return FALSE;
@@ -420,7 +420,7 @@ VOID CcFlushCache(PSECTION_OBJECT_POINTERS SectionObjectPointer, PLARGE_INTEGER 
         *IoStatus = (IO_STATUS_BLOCK){.Status = STATUS_SUCCESS};
 }
 
-BOOLEAN CcPurgeCacheSection(PSECTION_OBJECT_POINTERS SectionObjectPointer, PLARGE_INTEGER FileOffset, ULONG Length, BOOLEAN UninitializeCacheMaps)
+BOOLEAN CcPurgeCacheSection(PSECTION_OBJECT_POINTERS SectionObjectPointer, PLARGE_INTEGER FileOffset, ULONG Length, ULONG UninitializeCacheMaps)
 {
     KZ_INSIDE();
     (void)SectionObjectPointer, (void)FileOffset, (void)Length, (void)UninitializeCacheMaps;

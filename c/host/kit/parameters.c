@@ -114,9 +114,9 @@ VOID FltRetainSwappedBufferMdlAddress(PFLT_CALLBACK_DATA CallbackData)
 }
 
 /* Whether the callback must wait until its postoperation has returned. */
-static bool puts_off(const char *call, PFLT_CALLBACK_DATA data, KzSafe safe)
+static bool puts_off(const char *call, const void *from, PFLT_CALLBACK_DATA data, KzSafe safe)
 {
-    KZ_INSIDE();
+    KZ_INSIDE_FROM(call, from);
     if (safe.flags & FLTFL_POST_OPERATION_DRAINING) {
         kz_tell(KZM_HELD_DRAIN, call, "in a drain, where it mustn't be called");
         return false;
@@ -130,8 +130,7 @@ static bool puts_off(const char *call, PFLT_CALLBACK_DATA data, KzSafe safe)
 BOOLEAN FltDoCompletionProcessingWhenSafe(PFLT_CALLBACK_DATA Data, PCFLT_RELATED_OBJECTS FltObjects, PVOID CompletionContext, FLT_POST_OPERATION_FLAGS Flags,
                                           PFLT_POST_OPERATION_CALLBACK SafePostCallback, PFLT_POSTOP_CALLBACK_STATUS RetPostOperationStatus)
 {
-    KZ_INSIDE();
-    if (puts_off(__func__, Data, (KzSafe){SafePostCallback, CompletionContext, Flags})) {
+    if (puts_off(__func__, __builtin_return_address(0), Data, (KzSafe){SafePostCallback, CompletionContext, Flags})) {
         *RetPostOperationStatus = FLT_POSTOP_MORE_PROCESSING_REQUIRED;
         return TRUE;
     }

@@ -98,21 +98,25 @@ VOID ExFreePool2(PVOID P, ULONG Tag, PVOID ExtendedParameters, ULONG ExtendedPar
 /* ---- Lookaside lists. */
 #define MADE 0x4c6f6f6b41736964ULL
 
-VOID KzInitializeLookaside(GENERAL_LOOKASIDE *List, PALLOCATE_FUNCTION Allocate, PFREE_FUNCTION Free, POOL_TYPE Type, SIZE_T Size, ULONG Tag)
+/* A list of any of the kit's structures: they differ by where they lie alone. */
+typedef GENERAL_LOOKASIDE_POOL Lookaside;
+
+VOID KzInitializeLookaside(PVOID List, PALLOCATE_FUNCTION Allocate, PFREE_FUNCTION Free, POOL_TYPE Type, SIZE_T Size, ULONG Tag)
 {
     KZ_INSIDE_OF(Type == PagedPool ? "ExInitializePagedLookasideList" : "ExInitializeNPagedLookasideList");
     kz_made(List, "a lookaside list", "ExInitializeNPagedLookasideList", "ExDeleteNPagedLookasideList");
-    *List = (GENERAL_LOOKASIDE){.Size = (ULONG)Size, .Tag = Tag, .Type = Type, .Allocate = Allocate, .Free = Free, .Initialized = MADE};
+    *(Lookaside *)List = (Lookaside){.Size = (ULONG)Size, .Tag = Tag, .Type = Type, .Allocate = Allocate, .Free = Free, .Initialized = MADE};
 }
 
-static bool is_made(const GENERAL_LOOKASIDE *list, const char *call)
+static bool is_made(const Lookaside *list, const char *call, const void *from)
 {
+    KZ_INSIDE_FROM(call, from);
     if (list->Initialized != MADE)
         kz_tell(KZM_NO_LOOKASIDE, call, "a lookaside list that wasn't initialized, or was deleted");
     return list->Initialized == MADE;
 }
 
-static void note_lookaside(PVOID memory, const GENERAL_LOOKASIDE *list)
+static void note_lookaside(PVOID memory, const Lookaside *list)
 {
     KZ_INSIDE();
     KzPiece *piece = memory ? kz_piece_of(memory) : NULL;
@@ -121,7 +125,7 @@ static void note_lookaside(PVOID memory, const GENERAL_LOOKASIDE *list)
 }
 
 /* An entry goes back to the list that it is of. */
-static void check_lookaside(PVOID memory, const GENERAL_LOOKASIDE *list, const char *call)
+static void check_lookaside(PVOID memory, const Lookaside *list, const char *call)
 {
     KZ_INSIDE();
     KzPiece *piece = kz_piece_of(memory);
@@ -129,41 +133,44 @@ static void check_lookaside(PVOID memory, const GENERAL_LOOKASIDE *list, const c
         kz_tell_of(memory, KZM_NO_LOOKASIDE, call, "%llu bytes that aren't this list's: its entries have %u", (unsigned long long)piece->size, list->Size);
 }
 
-PVOID KzAllocateFromLookaside(GENERAL_LOOKASIDE *List, PCSTR Call)
+PVOID KzAllocateFromLookaside(PVOID List, PCSTR Call)
 {
-    KZ_INSIDE_OF(Call);
-    if (!is_made(List, Call))
+    Lookaside *list = List;
+    if (!is_made(list, Call, __builtin_return_address(0)))
         return NULL;
-    __atomic_add_fetch(&List->TotalAllocates, 1, __ATOMIC_RELAXED);
-    if (List->Allocate)
-        return List->Allocate(List->Type, List->Size, List->Tag);
-    PVOID memory = ExAllocatePoolWithTag(List->Type, List->Size, List->Tag);
-    note_lookaside(memory, List);
+    __atomic_add_fetch(&list->TotalAllocates, 1, __ATOMIC_RELAXED);
+    if (list->Allocate)
+        return list->Allocate(list->Type, list->Size, list->Tag);
+    KZ_INSIDE_OF(Call);
+    PVOID memory = ExAllocatePoolWithTag(list->Type, list->Size, list->Tag);
+    note_lookaside(memory, list);
     return memory;
 }
 
-VOID KzFreeToLookaside(GENERAL_LOOKASIDE *List, PVOID Entry, PCSTR Call)
+VOID KzFreeToLookaside(PVOID List, PVOID Entry, PCSTR Call)
 {
-    KZ_INSIDE_OF(Call);
-    if (!is_made(List, Call))
+    Lookaside *list = List;
+    if (!is_made(list, Call, __builtin_return_address(0)))
         return;
-    __atomic_add_fetch(&List->TotalFrees, 1, __ATOMIC_RELAXED);
-    if (List->Free) {
-        List->Free(Entry);
+    __atomic_add_fetch(&list->TotalFrees, 1, __ATOMIC_RELAXED);
+    if (list->Free) {
+        list->Free(Entry);
         return;
     }
-    if (!List->Allocate)
-        check_lookaside(Entry, List, Call);
+    KZ_INSIDE_OF(Call);
+    if (!list->Allocate)
+        check_lookaside(Entry, list, Call);
     free_pool(Entry, Call);
 }
 
-VOID KzDeleteLookaside(GENERAL_LOOKASIDE *List)
+VOID KzDeleteLookaside(PVOID List)
 {
-    KZ_INSIDE();
-    if (!is_made(List, "ExDeleteNPagedLookasideList"))
+    Lookaside *list = List;
+    KZ_INSIDE_OF("ExDeleteNPagedLookasideList");
+    if (!is_made(list, "ExDeleteNPagedLookasideList", __builtin_return_address(0)))
         return;
-    List->Initialized = 0;
-    kz_unmade(List);
+    list->Initialized = 0;
+    kz_unmade(list);
 }
 
 /* ---- Memory descriptions: the pages are always there. */

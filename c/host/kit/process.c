@@ -371,7 +371,7 @@ NTSTATUS RtlConvertSidToUnicodeString(PUNICODE_STRING UnicodeString, PSID Sid, B
 }
 
 /* ---- Registry and object callbacks are registered, and nothing calls them. */
-NTSTATUS CmRegisterCallbackEx(PVOID Function, PCUNICODE_STRING Altitude, PVOID Driver, PVOID Context, PLARGE_INTEGER Cookie, PVOID Reserved)
+NTSTATUS CmRegisterCallbackEx(PEX_CALLBACK_FUNCTION Function, PCUNICODE_STRING Altitude, PVOID Driver, PVOID Context, PLARGE_INTEGER Cookie, PVOID Reserved)
 {
     KZ_INSIDE();
     (void)Function, (void)Altitude, (void)Driver, (void)Context, (void)Reserved;

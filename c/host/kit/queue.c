@@ -19,6 +19,15 @@ NTSTATUS FltCbdqInitialize(PFLT_INSTANCE Instance, PFLT_CALLBACK_DATA_QUEUE Cbdq
     return STATUS_SUCCESS;
 }
 
+/* Whether it was initialized, and its instance is there still. */
+static bool is_made(PFLT_CALLBACK_DATA_QUEUE queue, const char *call, const void *from)
+{
+    KZ_INSIDE_FROM(call, from);
+    if (!(queue->Flags & FLTFL_CALLBACK_DATA_QUEUE_VALID) || !queue->Acquire)
+        kz_tell_of(queue, KZM_NEVER_MADE, call, "a queue that was never initialized");
+    return queue->Acquire && kz_may_use(call, queue->Instance);
+}
+
 /* The operation is in the queue from here on. */
 static void enter_queue(PFLT_CALLBACK_DATA_QUEUE queue, PFLT_CALLBACK_DATA data, PFLT_CALLBACK_DATA_QUEUE_IO_CONTEXT context)
 {
@@ -54,8 +63,9 @@ VOID FltCbdqDisable(PFLT_CALLBACK_DATA_QUEUE Cbdq)
 
 NTSTATUS FltCbdqInsertIo(PFLT_CALLBACK_DATA_QUEUE Cbdq, PFLT_CALLBACK_DATA Cbd, PFLT_CALLBACK_DATA_QUEUE_IO_CONTEXT Context, PVOID InsertContext)
 {
-    KZ_INSIDE();
     KIRQL irql = 0;
+    if (!is_made(Cbdq, __func__, __builtin_return_address(0)))
+        return STATUS_FLT_CBDQ_DISABLED;
     Cbdq->Acquire(Cbdq, &irql);
     bool is_disabled = __atomic_load_n(&Cbdq->Flags, __ATOMIC_SEQ_CST) & FLTFL_CALLBACK_DATA_QUEUE_DISABLED;
     NTSTATUS status = is_disabled ? STATUS_FLT_CBDQ_DISABLED : Cbdq->InsertIo(Cbdq, Cbd, InsertContext);
@@ -69,8 +79,9 @@ NTSTATUS FltCbdqInsertIo(PFLT_CALLBACK_DATA_QUEUE Cbdq, PFLT_CALLBACK_DATA Cbd, 
 
 PFLT_CALLBACK_DATA FltCbdqRemoveNextIo(PFLT_CALLBACK_DATA_QUEUE Cbdq, PVOID PeekContext)
 {
-    KZ_INSIDE();
     KIRQL irql = 0;
+    if (!is_made(Cbdq, __func__, __builtin_return_address(0)))
+        return NULL;
     Cbdq->Acquire(Cbdq, &irql);
     PFLT_CALLBACK_DATA next = Cbdq->PeekNextIo(Cbdq, NULL, PeekContext);
     if (next) {
@@ -83,7 +94,6 @@ PFLT_CALLBACK_DATA FltCbdqRemoveNextIo(PFLT_CALLBACK_DATA_QUEUE Cbdq, PVOID Peek
 
 PFLT_CALLBACK_DATA FltCbdqRemoveIo(PFLT_CALLBACK_DATA_QUEUE Cbdq, PFLT_CALLBACK_DATA_QUEUE_IO_CONTEXT Context)
 {
-    KZ_INSIDE();
     KIRQL irql = 0;
     Cbdq->Acquire(Cbdq, &irql);
     PFLT_CALLBACK_DATA found = Context->Cbd;

@@ -378,7 +378,6 @@ static NTSTATUS query_row(const char *key, const RTL_QUERY_REGISTRY_TABLE *row, 
 
 NTSTATUS RtlQueryRegistryValues(ULONG RelativeTo, PCWSTR Path, PRTL_QUERY_REGISTRY_TABLE QueryTable, PVOID Context, PVOID Environment)
 {
-    KZ_INSIDE();
     kz_check_irql(__func__); /* its routines are the driver's, and run as its code does */
     (void)Environment;
     OBJECT_ATTRIBUTES attributes;

@@ -60,8 +60,8 @@ BOOLEAN RtlDeleteElementGenericTable(PRTL_GENERIC_TABLE Table, PVOID Buffer)
     Element *found = find(Table, Buffer, &place);
     if (!found)
         return FALSE;
-    if (Table->RestartKey == found)
-        Table->RestartKey = found->links.Blink == &Table->InsertOrderList ? NULL : element_of(found->links.Blink);
+    if (Table->OrderedPointer == found)
+        Table->OrderedPointer = found->links.Blink == &Table->InsertOrderList ? NULL : element_of(found->links.Blink);
     RemoveEntryList(&found->links);
     Table->NumberGenericTableElements--;
     Table->FreeRoutine(Table, found);
@@ -87,8 +87,8 @@ PVOID RtlEnumerateGenericTableWithoutSplaying(PRTL_GENERIC_TABLE Table, PVOID *R
 PVOID RtlEnumerateGenericTable(PRTL_GENERIC_TABLE Table, BOOLEAN Restart)
 {
     if (Restart)
-        Table->RestartKey = NULL;
-    return RtlEnumerateGenericTableWithoutSplaying(Table, &Table->RestartKey);
+        Table->OrderedPointer = NULL;
+    return RtlEnumerateGenericTableWithoutSplaying(Table, &Table->OrderedPointer);
 }
 
 PVOID RtlGetElementGenericTable(PRTL_GENERIC_TABLE Table, ULONG I)

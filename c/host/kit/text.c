@@ -254,6 +254,30 @@ unsigned long KzWcstoul(const WCHAR *text, WCHAR **end, int base)
     return is_negative ? 0 - number : number;
 }
 
+int KzWtoi(const WCHAR *text)
+{
+    return (int)KzWcstol(text, NULL, 10);
+}
+
+/* As the kit's C library has them: what doesn't fit isn't copied, and the room is cleared. */
+int KzMemmoveS(void *to, size_t room, const void *from, size_t count)
+{
+    if (!count)
+        return 0;
+    if (!to || !from || count > room) {
+        if (to)
+            memset(to, 0, room);
+        return to && from ? 34 : 22;
+    }
+    memmove(to, from, count);
+    return 0;
+}
+
+int KzMemcpyS(void *to, size_t room, const void *from, size_t count)
+{
+    return KzMemmoveS(to, room, from, count);
+}
+
 /* ---- Printing into a room. */
 typedef struct {
     void *to;

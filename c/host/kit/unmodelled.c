@@ -155,13 +155,13 @@ BOOLEAN FltCurrentBatchOplock(POPLOCK Oplock)
 }
 
 /* No create has extra parameters. */
-NTSTATUS FltGetEcpListFromCallbackData(PFLT_FILTER Filter, PFLT_CALLBACK_DATA CallbackData, PVOID *EcpList)
+NTSTATUS FltGetEcpListFromCallbackData(PFLT_FILTER Filter, PFLT_CALLBACK_DATA CallbackData, PECP_LIST *EcpList)
 {
     *EcpList = NULL;
     return STATUS_SUCCESS;
 }
 
-NTSTATUS FltFindExtraCreateParameter(PFLT_FILTER Filter, PVOID EcpList, const GUID *EcpType, PVOID *EcpContext, ULONG *EcpContextSize)
+NTSTATUS FltFindExtraCreateParameter(PFLT_FILTER Filter, PECP_LIST EcpList, const GUID *EcpType, PVOID *EcpContext, ULONG *EcpContextSize)
 {
     if (EcpContext)
         *EcpContext = NULL;
@@ -189,6 +189,8 @@ NTSTATUS PsRemoveCreateThreadNotifyRoutine(PCREATE_THREAD_NOTIFY_ROUTINE NotifyR
 /* A routine that an older filter manager lacks: whoever asks for one copes with none. */
 PVOID FltGetRoutineAddress(PCSTR FltMgrRoutineName)
 {
+    KZ_INSIDE();
+    kz_tell(KZM_NOT_MODELLED, __func__, "%s isn't found by its name: it answers NULL", FltMgrRoutineName);
     return NULL;
 }
 

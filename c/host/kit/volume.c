@@ -99,9 +99,23 @@ void kz_new_volume(PFLT_VOLUME volume)
 }
 
 /* ---- What a filter asks of a volume. */
+/* A volume may be used as long as it is mounted, or as somebody references it. */
+bool kz_may_use_volume(const char *call, PFLT_VOLUME volume)
+{
+    size_t at = 0;
+    while (at < kz.volumes_count && kz.volumes[at] != volume)
+        at++;
+    bool is_there = at < kz.volumes_count && (!volume->is_gone || kz_is_referenced(volume));
+    if (!is_there)
+        kz_tell_of(volume, KZM_NO_FILTER_OBJECT, call, at == kz.volumes_count ? "no volume" : "a volume that was dismounted (FltObjectReference keeps one)");
+    return is_there;
+}
+
 NTSTATUS FltGetVolumeProperties(PFLT_VOLUME Volume, PFLT_VOLUME_PROPERTIES VolumeProperties, ULONG VolumePropertiesLength, PULONG LengthReturned)
 {
     KZ_INSIDE();
+    if (!kz_may_use_volume(__func__, Volume))
+        return STATUS_FLT_DELETING_OBJECT;
     const FileSystem *system = system_of(Volume->type);
     char name[64];
     snprintf(name, sizeof name, "/Device/%s", Volume->name);
@@ -170,6 +184,8 @@ NTSTATUS FltIsVolumeSnapshot(PVOID FltObject, PBOOLEAN IsSnapshotVolume)
 NTSTATUS FltGetDiskDeviceObject(PFLT_VOLUME Volume, PDEVICE_OBJECT *DiskDeviceObject)
 {
     KZ_INSIDE();
+    if (!kz_may_use_volume(__func__, Volume))
+        return STATUS_FLT_DELETING_OBJECT;
     *DiskDeviceObject = NULL;
     if (Volume->device.DeviceType == FILE_DEVICE_NETWORK_FILE_SYSTEM)
         return STATUS_FLT_NO_DEVICE_OBJECT;
@@ -181,6 +197,8 @@ NTSTATUS FltGetDiskDeviceObject(PFLT_VOLUME Volume, PDEVICE_OBJECT *DiskDeviceOb
 NTSTATUS FltGetDeviceObject(PFLT_VOLUME Volume, PDEVICE_OBJECT *DeviceObject)
 {
     KZ_INSIDE();
+    if (!kz_may_use_volume(__func__, Volume))
+        return STATUS_FLT_DELETING_OBJECT;
     *DeviceObject = &Volume->device;
     kz_take_object(&Volume->device, false, __func__);
     return STATUS_SUCCESS;

@@ -141,8 +141,14 @@ VOID ExQueueWorkItem(PWORK_QUEUE_ITEM WorkItem, WORK_QUEUE_TYPE QueueType)
 {
     KZ_CALL();
     (void)QueueType;
+    for (PFLT_GENERIC_WORKITEM one = first; one; one = one->next)
+        if (one->kind == SYSTEM && one->item == WorkItem) {
+            kz_tell_of(WorkItem, KZM_WORK_LEFT, __func__, "a work item that is queued already");
+            return;
+        }
     PFLT_GENERIC_WORKITEM made = kz_memory(sizeof *made);
     queue(made, SYSTEM, NULL, (PVOID)WorkItem->WorkerRoutine, WorkItem->Parameter, __func__);
+    made->item = WorkItem;
 }
 
 static void call(PFLT_GENERIC_WORKITEM item)
@@ -231,6 +237,13 @@ void kz_tell_work(PFLT_FILTER filter)
             kz_tell(KZM_WORK_LEFT, "FltQueueGenericWorkItem", "a work item is queued still: it would run in a driver that is gone");
             kz_me->place = before;
         }
+}
+
+void kz_check_work(const void *memory, size_t size)
+{
+    for (PFLT_GENERIC_WORKITEM one = first; one; one = one->next)
+        if (one->kind == SYSTEM && (uintptr_t)one->item - (uintptr_t)memory < size)
+            kz_tell_of(one->item, KZM_WORK_LEFT, "ExQueueWorkItem", "a work item that is queued, whose memory is freed");
 }
 
 void kz_free_work(void)

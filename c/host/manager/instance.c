@@ -307,5 +307,7 @@ uint32_t kz_dismount(PFLT_VOLUME volume)
     if (status != KZS_OK)
         return status;
     kz_clean_up();
-    return kz_until_free("finish the volume", (KazdrinEvent){.event = KZE_FINISH_VOLUME, .volume = volume->id}, NULL);
+    status = kz_until_free("finish the volume", (KazdrinEvent){.event = KZE_FINISH_VOLUME, .volume = volume->id}, NULL);
+    volume->is_gone = status == KZS_OK;
+    return status;
 }

@@ -224,4 +224,4 @@ void kz_print(const KzSaid *said)
     }
 }
 
-const KzScheduler kz_in_order = {pass_point, wait_in_order, touch_nothing, choose_as_asked, kz_begin_thread, kz_let_thread, nothing, nothing, kz_print, false};
+const KzScheduler kz_in_order = {pass_point, wait_in_order, touch_nothing, choose_as_asked, kz_begin_thread, kz_let_thread, nothing, nothing, kz_print, false, true};

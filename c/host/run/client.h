@@ -71,6 +71,7 @@ typedef struct {
     void (*unlock)(void);
     void (*said)(const KzSaid *said);
     bool has_others; /* clients run beside one another, and work items beside them */
+    bool has_pages;  /* memory may have pages of its own, and an access to them may be a signal */
 } KzScheduler;
 
 /* A request, and how it is said where something is told; NULL is as it stands. What is said must stay until the end of the run. */
@@ -92,7 +93,8 @@ void kz_end_inside(unsigned *depth);
 #define KZ_CALL_OF(name) __attribute__((cleanup(kz_end_call), unused)) unsigned kz_depth = kz_begin_call((name), __builtin_return_address(0))
 #define KZ_CALL() KZ_CALL_OF(__func__)
 #define KZ_INSIDE_UNSAID() __attribute__((cleanup(kz_end_inside), unused)) unsigned kz_depth = kz_go_inside_unsaid()
-#define KZ_INSIDE_OF(name) __attribute__((cleanup(kz_end_call), unused)) unsigned kz_depth = kz_go_inside((name), __builtin_return_address(0))
+#define KZ_INSIDE_FROM(name, from) __attribute__((cleanup(kz_end_call), unused)) unsigned kz_depth = kz_go_inside((name), (from))
+#define KZ_INSIDE_OF(name) KZ_INSIDE_FROM((name), __builtin_return_address(0))
 #define KZ_INSIDE() KZ_INSIDE_OF(__func__)
 
 /* A driver's code begins (host.h has kz_let_driver), and has returned: nobody is inside meanwhile. */

@@ -78,9 +78,26 @@ static const void *code_at(const void *context)
 #endif
 }
 
+static void watch(int signal);
+
+/* Memory that was given back was touched: that is told, and the program goes on. */
+static bool is_touch(int signal, const siginfo_t *information, const void *context)
+{
+#ifdef __x86_64__
+    bool is_written = ((const ucontext_t *)context)->uc_mcontext.gregs[REG_ERR] & 2;
+#else
+    bool is_written = false;
+#endif
+    return signal == SIGSEGV && kz_touched(information->si_addr, code_at(context), is_written);
+}
+
 /* What was there before goes on: a sanitizer's report, or the end. */
 static void handle(int signal, siginfo_t *information, void *context)
 {
+    if (is_touch(signal, information, context)) {
+        watch(signal);
+        return;
+    }
     tell(name_of(signal), code_at(context));
     for (size_t at = 0; at < sizeof signals / sizeof signals[0]; at++) {
         if (signals[at] != signal)
@@ -101,6 +118,11 @@ void __asan_on_error(void)
     tell("address sanitizer", NULL);
 }
 
+static void watch(int signal)
+{
+    sigaction(signal, &(struct sigaction){.sa_sigaction = handle, .sa_flags = SA_SIGINFO | SA_ONSTACK | SA_RESETHAND}, NULL);
+}
+
 void kz_watch_crashes(void)
 {
     static bool is_watched;
@@ -110,7 +132,8 @@ void kz_watch_crashes(void)
         return;
     is_watched = true;
     sigaltstack(&(stack_t){.ss_sp = stack, .ss_size = sizeof stack}, NULL);
-    struct sigaction action = {.sa_sigaction = handle, .sa_flags = SA_SIGINFO | SA_ONSTACK | SA_RESETHAND};
-    for (size_t at = 0; at < sizeof signals / sizeof signals[0]; at++)
-        sigaction(signals[at], &action, &before[at]);
+    for (size_t at = 0; at < sizeof signals / sizeof signals[0]; at++) {
+        sigaction(signals[at], NULL, &before[at]);
+        watch(signals[at]);
+    }
 }

@@ -63,7 +63,7 @@ static void *live(void *given)
 static bool has_work(void *unused)
 {
     (void)unused;
-    return kz_has_dpc() || kz_has_work();
+    return kz_has_dpc() || kz_has_work() || kz_may_fire();
 }
 
 static bool work(void)
@@ -71,8 +71,8 @@ static bool work(void)
     KZ_INSIDE();
     if (!kz_wait(has_work, NULL, "a work item"))
         return false;
-    if (!kz_run_dpc())
-        kz_work();
+    if (!kz_run_dpc() && !kz_work())
+        kz_fire();
     kz_settle();
     return true;
 }

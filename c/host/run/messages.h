@@ -46,6 +46,7 @@ typedef enum {
     KZM_NOT_TERMINATED = 147,
     KZM_BROKEN_LIST = 148,
     KZM_STILL_MADE = 149,
+    KZM_READ_FREED = 150,
     /* Names, objects, handles. */
     KZM_NAME_LEAK = 151,
     KZM_NO_NAME = 152,
@@ -56,12 +57,14 @@ typedef enum {
     KZM_PORT_LEAK = 157,
     KZM_WORK_LEFT = 158,
     KZM_TIMER_LEFT = 159,
+    KZM_NEVER_MADE = 160,
     /* Locks. */
     KZM_WAITS_FOR_EVER = 161,
     KZM_LOCK_NOT_HELD = 162,
     KZM_LOCK_AT_RETURN = 163,
     KZM_LOCK_DELETED = 164,
     KZM_IRQL = 165,
+    KZM_APCS_ENABLED = 166,
     /* Loading and unloading. */
     KZM_REGISTERED_OUTSIDE = 171,
     KZM_NEVER_REGISTERED = 172,
@@ -123,6 +126,12 @@ typedef enum {
     KZM_LEFT_OUT = 246,
     /* A driver's own input and output, its programs and threads. */
     KZM_MARKED_CLEANUP = 250,
+    /* What isn't modelled. */
+    KZM_NOT_MODELLED = 251,
+    KZM_FILE_LOCK = 252,
+    KZM_CACHE = 253,
+    KZM_ECP = 254,
+    KZM_CRYPTO = 255,
     KZM_MESSAGES = 300
 } KzMessage;
 

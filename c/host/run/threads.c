@@ -141,7 +141,7 @@ static bool let(KzThread *thread)
     return false;
 }
 
-const KzScheduler kz_threads = {point, wait, touch, choose, kz_begin_thread, let, lock, unlock, kz_print, true};
+const KzScheduler kz_threads = {point, wait, touch, choose, kz_begin_thread, let, lock, unlock, kz_print, true, true};
 
 void kz_use_threads(uint64_t number)
 {

@@ -3,6 +3,7 @@
 #
 #   host      the host: stored requests through drivers, expectations, reports, CMake, random requests
 #   legal     right drivers, of which nothing is told: in order, under every schedule, by threads
+#   misuse    drivers with mistakes, under threads and schedules
 #   explore   schedules
 #   threads   drivers under real threads
 #   programs  samples with programs, threads, processes: schedules, refusals, threads
@@ -26,7 +27,7 @@ if [ -z "${KAZDRIN_LIB:-}" ]; then
     [ -f "$KAZDRIN_LIB" ] || KAZDRIN_LIB=$("$here/../../archive.sh" --unproved) || exit 1
     export KAZDRIN_LIB
 fi
-[ $# -gt 0 ] || set -- host legal explore threads programs order headers mount serve
+[ $# -gt 0 ] || set -- host legal misuse explore threads programs order headers mount serve
 passed=0
 failed=0
 report=$(mktemp)

@@ -1,6 +1,7 @@
 #!/usr/bin/env python3
-"""The constants and enumerators of c/include beside those of Debian's mingw-w64 headers (mingw-w64-x86-64-dev), by the compilers themselves: headers.py [FILE]. A name that both have must have
-one value, but for those that FILE lists with their reason (c/tests/headers.txt). Where the package isn't there it says so. The last line is 'headers: N passed, M failed'.
+"""The headers of c/include beside Debian's mingw-w64 headers (mingw-w64-x86-64-dev), by the compilers themselves: headers.py [FILE]. What both have must be the same: the values of constants and
+enumerators, the sizes of structures and where their fields are (with clang), and how many parameters a routine has, and of which size each is (with clang). FILE (c/tests/headers.txt) lists what differs,
+with the reason. Where the package or the compiler isn't there it says so. The last line is 'headers: N passed, M failed'.
 """
 import os
 import re
@@ -8,9 +9,20 @@ import subprocess
 import sys
 
 MINGW = "/usr/share/mingw-w64/include"
-OURS = ["cc", "-fshort-wchar", "-fms-extensions", "-D_WIN64=1", "-D_M_AMD64=100", "-D_AMD64_=1", "-DNTDDI_VERSION=0x0A000002", "-DKZ_DRIVER=1", "-Ic/include", "-include", "fltKernel.h"]
-THEIRS = ["x86_64-w64-mingw32-gcc", "-w", f"-I{MINGW}/ddk", "-D_WIN32_WINNT=0x0A00", "-DNTDDI_VERSION=0x0A000000"]
-THEIR_TEXT = "#include <ntifs.h>\n#include <ntddk.h>\n#include <dpfilter.h>\n"
+DEFINED = ["-D_WIN64=1", "-D_M_AMD64=100", "-D_AMD64_=1", "-DNTDDI_VERSION=0x0A000002", "-DKZ_DRIVER=1"]
+OURS = ["cc", "-fshort-wchar", "-fms-extensions"] + DEFINED + ["-Ic/include", "-include", "fltKernel.h"]
+THEIR_WORDS = ["-w", f"-I{MINGW}/ddk", "-D_WIN32_WINNT=0x0A00", "-DNTDDI_VERSION=0x0A000000"]
+THEIRS = ["x86_64-w64-mingw32-gcc"] + THEIR_WORDS
+THEIR_TEXT = "#include <ntifs.h>\n#include <ntddk.h>\n#include <dpfilter.h>\n#include <bcrypt.h>\n#include <ntimage.h>\n"
+OUR_TEXT = "#include <bcrypt.h>\n#include <ntimage.h>\n"
+CLANG = ["clang", "-w", "-fsyntax-only"]
+OUR_CLANG = CLANG + ["-fshort-wchar", "-fms-extensions", "-mms-bitfields"] + DEFINED + ["-Ic/include", "-include", "fltKernel.h"]
+THEIR_CLANG = CLANG + ["--target=x86_64-w64-mingw32", "-isystem", MINGW] + THEIR_WORDS
+
+
+def is_there(program):
+    """Whether that program can be called."""
+    return any(os.access(os.path.join(place, program), os.X_OK) for place in os.environ["PATH"].split(":"))
 
 
 def run(command, text):
@@ -50,29 +62,123 @@ def parsed(assembly):
     return found
 
 
+def records(command, text):
+    """The structures and unions with a name: the size, and where each field is, by its path."""
+    found = {}
+    for block in run(command + ["-Xclang", "-fdump-record-layouts-complete"], text)[0].split("*** Dumping AST Record Layout")[1:]:
+        rows = re.findall(r"^ *([\d:\-]+) \| ( *)(\S.*)$", block, re.M)
+        size = re.search(r"\[sizeof=(\d+)", block)
+        if not rows or not size or "unnamed" in rows[0][2] or "anonymous" in rows[0][2]:
+            continue
+        fields, path = {}, []
+        for offset, indent, words in rows[1:]:
+            depth = len(indent) // 2
+            name = re.search(r"(?<![\w)])(\w+)$", words)
+            is_unnamed = re.search(r"\(anonymous [^)]*\)$|\(unnamed [^)]*\)$", words)
+            path = path[: depth - 1] + ([None] if is_unnamed or not name else [name.group(1)])
+            if path[-1]:
+                fields[".".join(part for part in path if part)] = offset
+        found[rows[0][2].split(" ")[1]] = (int(size.group(1)), fields)
+    return found
+
+
+def kind_of(text, typedefs, long):
+    """A type as what is passed: a pointer, a whole number of so many bytes, or a structure."""
+    text = re.sub(r"\b(const|volatile|enum|struct|union|restrict)\b", "", text).strip()
+    for _ in range(20):
+        if text.endswith(("*", "]", ")")):
+            return "pointer"
+        if text not in typedefs:
+            break
+        text = re.sub(r"\b(const|volatile|struct|union|restrict)\b", "", typedefs[text]).strip()
+    if text.startswith("enum "):
+        return "4 bytes"
+    sizes = {"void": 0, "char": 1, "signed char": 1, "unsigned char": 1, "short": 2, "unsigned short": 2, "wchar_t": 2, "int": 4, "unsigned int": 4, "long": long, "unsigned long": long,
+             "long long": 8, "unsigned long long": 8, "_Bool": 1}
+    return f"{sizes[text]} bytes" if text in sizes else text.lstrip("_")
+
+
+def routines(command, text, long):
+    """Each routine's answer and parameters, as kinds."""
+    dumped = run(command + ["-Xclang", "-ast-dump"], text)[0]
+    typedefs = {}
+    for name, first, second in re.findall(r"TypedefDecl 0x\w+ .*? (\w+) '([^']*)'(?::'([^']*)')?$", dumped, re.M):
+        typedefs.setdefault(name, second or first)
+    enums = set(re.findall(r"EnumDecl 0x\w+ .*? (\w+)$", dumped, re.M))
+    typedefs.update({name: "int" for name in enums})
+    found, last = {}, None
+    for line in dumped.split("\n"):
+        function = re.match(r"^\|-FunctionDecl 0x\w+ .*? (\w+) '(.*?) ?\(.*'", line)
+        parameter = re.match(r"^\| [|`]-ParmVarDecl 0x\w+ .*?'([^']*)'(?::'([^']*)')?$", line)
+        if function:
+            last = function.group(1)
+            found.setdefault(last, [])
+            found[last] = [kind_of(function.group(2), typedefs, long)]
+        elif parameter and last:
+            found[last].append(kind_of(parameter.group(2) or parameter.group(1), typedefs, long))
+        elif line.startswith("|-") or line.startswith("`-"):
+            last = None
+    return found
+
+
+class Check:
+    """What was compared, and what differs and isn't listed."""
+
+    def __init__(self, listed):
+        self.listed, self.compared, self.failed, self.used = listed, 0, 0, set()
+
+    def same(self, name, ours, theirs):
+        """Both are the same, or the name is listed."""
+        self.compared += 1
+        if ours == theirs:
+            return
+        self.used.add(name)
+        if name not in self.listed:
+            self.failed += 1
+            print(f"headers: {name} is {ours}, and {theirs} there")
+
+    def structures(self):
+        """Sizes, and fields of both."""
+        ours, theirs = records(OUR_CLANG, OUR_TEXT), records(THEIR_CLANG, THEIR_TEXT)
+        for name in sorted(set(ours) & set(theirs)):
+            self.same(name, ours[name][0], theirs[name][0])
+            for field in sorted(set(ours[name][1]) & set(theirs[name][1])):
+                self.same(f"{name}.{field}", ours[name][1][field], theirs[name][1][field])
+
+    def prototypes(self):
+        """Answers and parameters."""
+        ours, theirs = routines(OUR_CLANG, OUR_TEXT, 8), routines(THEIR_CLANG, THEIR_TEXT, 4)
+        for name in sorted(set(ours) & set(theirs)):
+            self.same(f"{name}()", ", ".join(ours[name]), ", ".join(theirs[name]))
+
+    def constants(self):
+        """Macros and enumerators."""
+        theirs = THEIRS if is_there(THEIRS[0]) else [word for word in THEIR_CLANG if word != "-fsyntax-only"]
+        both = names(OURS, OUR_TEXT) & names(theirs, THEIR_TEXT)
+        ours, there = values(OURS, OUR_TEXT, both), values(theirs, THEIR_TEXT, both)
+        mask = (1 << 32) - 1
+        for name in sorted(set(ours) & set(there)):
+            self.same(name, hex(ours[name] & mask), hex(there[name] & mask))
+
+
 def main():
     """Compares: 0, or 1 if something differs that isn't listed."""
     os.chdir(os.path.join(os.path.dirname(os.path.abspath(__file__)), "../../.."))
-    if not os.path.isdir(f"{MINGW}/ddk") or not any(os.access(os.path.join(place, THEIRS[0]), os.X_OK) for place in os.environ["PATH"].split(":")):
+    if not os.path.isdir(f"{MINGW}/ddk") or not (is_there(THEIRS[0]) or is_there("clang")):
         print("headers: 0 passed, 0 failed (mingw-w64 isn't here)")
         return 0
     path = sys.argv[1] if len(sys.argv) > 1 else "c/tests/headers.txt"
-    listed = dict(re.findall(r"^(\w+) +(.+)$", open(path, encoding="utf-8").read(), re.M)) if os.path.exists(path) else {}
-    both = names(OURS, "") & names(THEIRS, THEIR_TEXT)
-    ours, theirs = values(OURS, "", both), values(THEIRS, THEIR_TEXT, both)
-    compared = sorted(set(ours) & set(theirs))
-    mask = (1 << 32) - 1
-    differing = [name for name in compared if ours[name] != theirs[name] and ours[name] & mask != theirs[name] & mask]
-    failed = 0
-    for name in differing:
-        if name not in listed:
-            failed += 1
-            print(f"headers: {name} is {ours[name]:#x}, and {theirs[name]:#x} there")
-    for name in sorted(set(listed) - set(differing)):
-        failed += 1
-        print(f"headers: {name} is listed, and doesn't differ")
-    print(f"headers: {len(compared) - failed} passed, {failed} failed")
-    return 1 if failed else 0
+    listed = dict(re.findall(r"^([\w.()]+) +(.+)$", open(path, encoding="utf-8").read(), re.M)) if os.path.exists(path) else {}
+    check = Check(listed)
+    check.constants()
+    if is_there("clang"):
+        check.structures()
+        check.prototypes()
+        for name in sorted(set(listed) - check.used):
+            check.failed += 1
+            print(f"headers: {name} is listed, and doesn't differ")
+    print(f"headers: {check.compared - check.failed} passed, {check.failed} failed")
+    return 1 if check.failed else 0
 
 
 if __name__ == "__main__":

@@ -21,7 +21,7 @@ done
 build drivers "$room/drivers" "${drivers[@]}"
 for requests in $tests/requests/*.txt; do
     name=$(basename "$requests" .txt)
-    [ "$name" != plus ] || command -v "${CXX:-c++}" > /dev/null || continue
+    case $name in plus | blocks) command -v "${CXX:-c++}" > /dev/null || continue ;; esac
     # Where nothing is stored, its own expectations are all.
     if [ -f "$tests/expected/$name.out" ]; then
         try "$name" "$room/drivers" "$requests"
@@ -65,6 +65,11 @@ tell $? "allow"
 [ $? = 5 ] && [ "$(grep -c '^TOLD KZ0130' "$room/again.out")" = 2 ] && grep -q "^TOLD KZ0130 FLT_IO_PARAMETER_BLOCK: told 999 more times: .*, in answers.c:" "$room/again.out" &&
     tail -n 1 "$room/again.out" | grep -q "told 1001, "
 tell $? "one line a place"
+
+# Each routine that isn't modelled links, and tells its limit; what is modelled beside them answers as the kit does.
+"$room/drivers" $tests/requests/routines.txt > "$room/routines.out" && tail -n 1 "$room/routines.out" | grep -q "told 0, limits $(cat c/include/kz*routines.h | grep -c '^KZ_ROUTINE')$" &&
+    grep -v '^LIMIT' "$room/routines.out" | sed '$d' | diff $tests/expected/routines.txt -
+tell $? "routines that aren't modelled"
 
 # What each number means: the page has the rows of the program.
 "$room/drivers" --explain all > "$room/rows" && grep '^| KZ0' docs/TOLD.md | diff - "$room/rows"

@@ -2,6 +2,7 @@
 # c/tests/scripts/thorough.sh [PART ..] (make -C c thorough PART='..') : the long tests of the C half.
 #
 #   explore     each sample with four clients, under every schedule with at most two preemptions
+#   lines       lines of drivers by gcc and clang at several optimizations, and the headers beside those of mingw-w64
 #   threads     each sample for ten seconds with eight threads
 #   programs    samples with programs of their own, as both
 #   libfuzzer   libFuzzer over a driver with a mistake, which it must find, and over one without
@@ -16,6 +17,19 @@ export KAZDRIN_LIB=${KAZDRIN_LIB:-$(c/archive.sh --unproved)}
 explore() {
     "$here/explore.sh" --whole
     tell $? explore
+}
+
+# The lines of a driver are the same by each compiler and at each optimization; so are the headers as mingw-w64 has them.
+lines() {
+    local words
+    for words in "cc -O0" "cc -O3" "clang -O0" "clang -O3"; do
+        command -v "${words% *}" > /dev/null || continue
+        CC=${words% *} CFLAGS=${words#* } c/build.sh "$room/leaks" $tests/misuse/leaks.c && { "$room/leaks" $tests/requests/leaks.txt; [ $? = 5 ]; } > "$room/leaks.out" &&
+            diff $tests/expected/leaks.out "$room/leaks.out"
+        tell $? "lines by $words"
+    done
+    "$here/headers.sh"
+    tell $? "headers"
 }
 
 threads() {
@@ -63,10 +77,10 @@ mount() {
     fi
 }
 
-[ $# -gt 0 ] || set -- explore threads programs libfuzzer mount
+[ $# -gt 0 ] || set -- explore lines threads programs libfuzzer mount
 for part in "$@"; do
     case $part in
-    explore | threads | libfuzzer | mount) "$part" ;;
+    explore | lines | threads | programs | libfuzzer | mount) "$part" ;;
     *)
         echo "there is no part $part" >&2
         exit 2

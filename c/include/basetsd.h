@@ -1,0 +1,2 @@
+/* Basic types: they are in ntdef.h here. */
+#include <ntdef.h>

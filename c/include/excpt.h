@@ -1,0 +1,2 @@
+/* Structured exceptions: their words are in ntdef.h here. */
+#include <ntdef.h>

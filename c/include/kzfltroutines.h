@@ -1,0 +1,116 @@
+/* Routines of the filter manager that are declared and aren't modelled, as kzroutines.h has those of the kernel. fltKernel.h declares them by this table, and the host makes their bodies by it. */
+
+KZ_ROUTINE(NTSTATUS, STATUS_NOT_SUPPORTED, REDIRECTED, FltIsIoRedirectionAllowed, PFLT_INSTANCE SourceInstance, PFLT_INSTANCE TargetInstance, PBOOLEAN RedirectionAllowed)
+KZ_ROUTINE(NTSTATUS, STATUS_NOT_SUPPORTED, REDIRECTED, FltIsIoRedirectionAllowedForOperation, PFLT_CALLBACK_DATA Data, PFLT_INSTANCE TargetInstance, PBOOLEAN RedirectionAllowedThisIo,
+           PBOOLEAN RedirectionAllowedAllIo)
+KZ_ROUTINE(NTSTATUS, STATUS_NOT_SUPPORTED, REDIRECTED, FltAdjustDeviceStackSizeForIoRedirection, PFLT_INSTANCE SourceInstance, PFLT_INSTANCE TargetInstance, PBOOLEAN SourceDeviceStackSizeModified)
+KZ_ROUTINE(FLT_PREOP_CALLBACK_STATUS, FLT_PREOP_SUCCESS_NO_CALLBACK, FILE_LOCK, FltProcessFileLock, PFILE_LOCK FileLock, PFLT_CALLBACK_DATA CallbackData, PVOID Context)
+KZ_ROUTINE(PFILE_LOCK, NULL, FILE_LOCK, FltAllocateFileLock, PVOID CompleteLockCallbackDataRoutine, PVOID UnlockRoutine)
+KZ_ROUTINE(VOID, , FILE_LOCK, FltFreeFileLock, PFILE_LOCK FileLock)
+KZ_ROUTINE(VOID, , FILE_LOCK, FltInitializeFileLock, PFILE_LOCK FileLock)
+KZ_ROUTINE(VOID, , FILE_LOCK, FltUninitializeFileLock, PFILE_LOCK FileLock)
+KZ_ROUTINE(BOOLEAN, TRUE, FILE_LOCK, FltCheckLockForReadAccess, PFILE_LOCK FileLock, PFLT_CALLBACK_DATA CallbackData)
+KZ_ROUTINE(BOOLEAN, TRUE, FILE_LOCK, FltCheckLockForWriteAccess, PFILE_LOCK FileLock, PFLT_CALLBACK_DATA CallbackData)
+KZ_ROUTINE(PVOID, NULL, NOT_MODELLED, FltGetNewSystemBufferAddress, PFLT_CALLBACK_DATA CallbackData)
+KZ_ROUTINE(NTSTATUS, STATUS_NOT_SUPPORTED, NOT_MODELLED, FltPropagateActivityIdToThread, PFLT_CALLBACK_DATA CallbackData, LPGUID PropagateId, LPGUID *OriginalId)
+KZ_ROUTINE(NTSTATUS, STATUS_NOT_FOUND, NOT_MODELLED, FltGetActivityIdCallbackData, PFLT_CALLBACK_DATA CallbackData, LPGUID Guid)
+KZ_ROUTINE(NTSTATUS, STATUS_NOT_SUPPORTED, NOT_MODELLED, FltSetActivityIdCallbackData, PFLT_CALLBACK_DATA CallbackData, LPCGUID Guid)
+KZ_ROUTINE(NTSTATUS, STATUS_NOT_SUPPORTED, NOT_MODELLED, FltPropagateIrpExtension, PFLT_CALLBACK_DATA SourceData, PFLT_CALLBACK_DATA TargetData, ULONG Flags)
+KZ_ROUTINE(IO_PRIORITY_HINT, IoPriorityNormal, NOT_MODELLED, FltGetIoPriorityHint, PFLT_CALLBACK_DATA Data)
+KZ_ROUTINE(IO_PRIORITY_HINT, IoPriorityNormal, NOT_MODELLED, FltGetIoPriorityHintFromCallbackData, PFLT_CALLBACK_DATA Data)
+KZ_ROUTINE(IO_PRIORITY_HINT, IoPriorityNormal, NOT_MODELLED, FltGetIoPriorityHintFromFileObject, PFILE_OBJECT FileObject)
+KZ_ROUTINE(IO_PRIORITY_HINT, IoPriorityNormal, NOT_MODELLED, FltGetIoPriorityHintFromThread, PETHREAD Thread)
+KZ_ROUTINE(NTSTATUS, STATUS_NOT_SUPPORTED, NOT_MODELLED, FltSetIoPriorityHintIntoCallbackData, PFLT_CALLBACK_DATA Data, IO_PRIORITY_HINT PriorityHint)
+KZ_ROUTINE(NTSTATUS, STATUS_NOT_SUPPORTED, NOT_MODELLED, FltSetIoPriorityHintIntoFileObject, PFILE_OBJECT FileObject, IO_PRIORITY_HINT PriorityHint)
+KZ_ROUTINE(NTSTATUS, STATUS_NOT_SUPPORTED, NOT_MODELLED, FltSetIoPriorityHintIntoThread, PETHREAD Thread, IO_PRIORITY_HINT PriorityHint)
+KZ_ROUTINE(PVOID, NULL, NOT_MODELLED, FltGetIoAttributionHandleFromCallbackData, PFLT_CALLBACK_DATA Data)
+KZ_ROUTINE(NTSTATUS, STATUS_NOT_SUPPORTED, NOT_MODELLED, FltApplyPriorityInfoThread, PVOID InputPriorityInfo, PVOID OutputPriorityInfo, PETHREAD Thread)
+KZ_ROUTINE(NTSTATUS, STATUS_NOT_FOUND, NOT_MODELLED, FltGetFsZeroingOffset, PFLT_CALLBACK_DATA Data, PULONG ZeroingOffset)
+KZ_ROUTINE(BOOLEAN, FALSE, NOT_MODELLED, FltGetCallerIsReadOnlyExtension, PFLT_CALLBACK_DATA Data)
+
+/* ---- Lists of what is there. */
+KZ_ROUTINE(NTSTATUS, STATUS_NOT_SUPPORTED, ATTACH, FltEnumerateInstancesByDeviceObject, PDEVICE_OBJECT DeviceObject, PFLT_INSTANCE *InstanceList, ULONG InstanceListSize, PULONG NumberInstancesReturned)
+KZ_ROUTINE(NTSTATUS, STATUS_NOT_SUPPORTED, ATTACH, FltEnumerateFilterInformation, ULONG Index, FILTER_INFORMATION_CLASS InformationClass, PVOID Buffer, ULONG BufferSize, PULONG BytesReturned)
+KZ_ROUTINE(NTSTATUS, STATUS_NOT_SUPPORTED, ATTACH, FltEnumerateInstanceInformationByFilter, PFLT_FILTER Filter, ULONG Index, INSTANCE_INFORMATION_CLASS InformationClass, PVOID Buffer, ULONG BufferSize,
+           PULONG BytesReturned)
+KZ_ROUTINE(NTSTATUS, STATUS_NOT_SUPPORTED, ATTACH, FltEnumerateInstanceInformationByVolume, PFLT_VOLUME Volume, ULONG Index, INSTANCE_INFORMATION_CLASS InformationClass, PVOID Buffer, ULONG BufferSize,
+           PULONG BytesReturned)
+KZ_ROUTINE(NTSTATUS, STATUS_NOT_SUPPORTED, ATTACH, FltEnumerateInstanceInformationByVolumeName, PUNICODE_STRING VolumeName, ULONG Index, INSTANCE_INFORMATION_CLASS InformationClass, PVOID Buffer,
+           ULONG BufferSize, PULONG BytesReturned)
+KZ_ROUTINE(NTSTATUS, STATUS_NOT_SUPPORTED, ATTACH, FltEnumerateInstanceInformationByDeviceObject, PDEVICE_OBJECT DeviceObject, ULONG Index, INSTANCE_INFORMATION_CLASS InformationClass, PVOID Buffer,
+           ULONG BufferSize, PULONG BytesReturned)
+KZ_ROUTINE(NTSTATUS, STATUS_NOT_SUPPORTED, ATTACH, FltEnumerateVolumeInformation, PFLT_FILTER Filter, ULONG Index, FILTER_VOLUME_INFORMATION_CLASS InformationClass, PVOID Buffer, ULONG BufferSize,
+           PULONG BytesReturned)
+
+/* ---- A filter's own input and output. */
+KZ_ROUTINE(NTSTATUS, STATUS_NOT_SUPPORTED, OWN_IO, FltCreateNamedPipeFile, PFLT_FILTER Filter, PFLT_INSTANCE Instance, PHANDLE FileHandle, PFILE_OBJECT *FileObject, ULONG DesiredAccess,
+           POBJECT_ATTRIBUTES ObjectAttributes, PIO_STATUS_BLOCK IoStatusBlock, ULONG ShareAccess, ULONG CreateDisposition, ULONG CreateOptions, ULONG NamedPipeType, ULONG ReadMode,
+           ULONG CompletionMode, ULONG MaximumInstances, ULONG InboundQuota, ULONG OutboundQuota, PLARGE_INTEGER DefaultTimeout, PIO_DRIVER_CREATE_CONTEXT DriverContext)
+KZ_ROUTINE(NTSTATUS, STATUS_NOT_SUPPORTED, OWN_IO, FltCreateMailslotFile, PFLT_FILTER Filter, PFLT_INSTANCE Instance, PHANDLE FileHandle, PFILE_OBJECT *FileObject, ULONG DesiredAccess,
+           POBJECT_ATTRIBUTES ObjectAttributes, PIO_STATUS_BLOCK IoStatusBlock, ULONG CreateOptions, ULONG MailslotQuota, ULONG MaximumMessageSize, PLARGE_INTEGER ReadTimeout,
+           PIO_DRIVER_CREATE_CONTEXT DriverContext)
+KZ_ROUTINE(NTSTATUS, STATUS_NOT_SUPPORTED, OWN_IO, FltReadFileEx, PFLT_INSTANCE InitiatingInstance, PFILE_OBJECT FileObject, PLARGE_INTEGER ByteOffset, ULONG Length, PVOID Buffer,
+           FLT_IO_OPERATION_FLAGS Flags, PULONG BytesRead, PFLT_COMPLETED_ASYNC_IO_CALLBACK CallbackRoutine, PVOID CallbackContext, PULONG Key, PMDL Mdl)
+KZ_ROUTINE(NTSTATUS, STATUS_NOT_SUPPORTED, OWN_IO, FltWriteFileEx, PFLT_INSTANCE InitiatingInstance, PFILE_OBJECT FileObject, PLARGE_INTEGER ByteOffset, ULONG Length, PVOID Buffer,
+           FLT_IO_OPERATION_FLAGS Flags, PULONG BytesWritten, PFLT_COMPLETED_ASYNC_IO_CALLBACK CallbackRoutine, PVOID CallbackContext, PULONG Key, PMDL Mdl)
+KZ_ROUTINE(NTSTATUS, STATUS_NOT_SUPPORTED, OWN_IO, FltFastIoMdlRead, PFLT_INSTANCE InitiatingInstance, PFILE_OBJECT FileObject, PLARGE_INTEGER FileOffset, ULONG Length, ULONG LockKey, PMDL *MdlChain,
+           PIO_STATUS_BLOCK IoStatus)
+KZ_ROUTINE(NTSTATUS, STATUS_NOT_SUPPORTED, OWN_IO, FltFastIoMdlReadComplete, PFLT_INSTANCE InitiatingInstance, PFILE_OBJECT FileObject, PMDL MdlChain)
+KZ_ROUTINE(NTSTATUS, STATUS_NOT_SUPPORTED, OWN_IO, FltFastIoPrepareMdlWrite, PFLT_INSTANCE InitiatingInstance, PFILE_OBJECT FileObject, PLARGE_INTEGER FileOffset, ULONG Length, ULONG LockKey,
+           PMDL *MdlChain, PIO_STATUS_BLOCK IoStatus)
+KZ_ROUTINE(NTSTATUS, STATUS_NOT_SUPPORTED, OWN_IO, FltFastIoMdlWriteComplete, PFLT_INSTANCE InitiatingInstance, PFILE_OBJECT FileObject, PLARGE_INTEGER FileOffset, PMDL MdlChain)
+KZ_ROUTINE(NTSTATUS, STATUS_NOT_SUPPORTED, OWN_IO, FltQueryInformationByName, PFLT_FILTER Filter, PFLT_INSTANCE Instance, POBJECT_ATTRIBUTES ObjectAttributes, PIO_STATUS_BLOCK IoStatusBlock,
+           PVOID FileInformation, ULONG Length, FILE_INFORMATION_CLASS FileInformationClass, PIO_DRIVER_CREATE_CONTEXT DriverContext)
+KZ_ROUTINE(NTSTATUS, STATUS_NOT_SUPPORTED, OWN_IO, FltQueryDirectoryFileEx, PFLT_INSTANCE Instance, PFILE_OBJECT FileObject, PVOID FileInformation, ULONG Length,
+           FILE_INFORMATION_CLASS FileInformationClass, ULONG QueryFlags, PUNICODE_STRING FileName, PULONG LengthReturned)
+KZ_ROUTINE(NTSTATUS, STATUS_NOT_SUPPORTED, OWN_IO, FltQueryQuotaInformationFile, PFLT_INSTANCE Instance, PFILE_OBJECT FileObject, PIO_STATUS_BLOCK IoStatusBlock, PVOID Buffer, ULONG Length,
+           BOOLEAN ReturnSingleEntry, PVOID SidList, ULONG SidListLength, PSID StartSid, BOOLEAN RestartScan, PULONG LengthReturned)
+KZ_ROUTINE(NTSTATUS, STATUS_NOT_SUPPORTED, OWN_IO, FltSetQuotaInformationFile, PFLT_INSTANCE Instance, PFILE_OBJECT FileObject, PVOID Buffer, ULONG Length)
+KZ_ROUTINE(NTSTATUS, STATUS_NOT_SUPPORTED, REPARSE, FltTagFileEx, PFLT_INSTANCE InitiatingInstance, PFILE_OBJECT FileObject, ULONG FileTag, GUID *Guid, PVOID DataBuffer, USHORT DataBufferLength,
+           ULONG ExistingFileTag, GUID *ExistingGuid, ULONG Flags)
+KZ_ROUTINE(NTSTATUS, STATUS_NOT_SUPPORTED, OWN_IO, FltAllocateCallbackDataEx, PFLT_INSTANCE Instance, PFILE_OBJECT FileObject, ULONG Flags, PFLT_CALLBACK_DATA *RetNewCallbackData)
+KZ_ROUTINE(NTSTATUS, STATUS_NOT_SUPPORTED, REPARSE, FltCopyOpenReparseList, PFLT_FILTER Filter, PFLT_CALLBACK_DATA Data, PECP_LIST EcpList)
+KZ_ROUTINE(VOID, , REPARSE, FltFreeOpenReparseList, PFLT_FILTER Filter, PECP_LIST EcpList)
+KZ_ROUTINE(NTSTATUS, STATUS_NOT_SUPPORTED, REPARSE, FltAddOpenReparseEntry, PFLT_FILTER Filter, PFLT_CALLBACK_DATA Data, PVOID OpenReparseEntry)
+KZ_ROUTINE(NTSTATUS, STATUS_NOT_SUPPORTED, REPARSE, FltRemoveOpenReparseEntry, PFLT_FILTER Filter, PFLT_CALLBACK_DATA Data, PVOID OpenReparseEntry)
+KZ_ROUTINE(NTSTATUS, STATUS_NOT_SUPPORTED, OWN_IO, FltPrefetchFile, PFLT_INSTANCE Instance, PFILE_OBJECT FileObject, PVOID PrefetchOpenData)
+KZ_ROUTINE(NTSTATUS, STATUS_NOT_SUPPORTED, NOT_MODELLED, FltVetoBypassIo, PFLT_CALLBACK_DATA CallbackData, PCFLT_RELATED_OBJECTS FltObjects, NTSTATUS OperationStatus, PCUNICODE_STRING FailureReason)
+
+/* ---- Waits, transactions, oplocks. */
+KZ_ROUTINE(NTSTATUS, STATUS_TIMEOUT, NOBODY_SETS, FltCancellableWaitForSingleObject, PVOID Object, PLARGE_INTEGER Timeout, PFLT_CALLBACK_DATA CallbackData)
+KZ_ROUTINE(NTSTATUS, STATUS_TIMEOUT, NOBODY_SETS, FltCancellableWaitForMultipleObjects, ULONG Count, PVOID ObjectArray[], WAIT_TYPE WaitType, PLARGE_INTEGER Timeout, PVOID WaitBlockArray,
+           PFLT_CALLBACK_DATA CallbackData)
+KZ_ROUTINE(NTSTATUS, STATUS_NOT_SUPPORTED, TRANSACTION, FltPrePrepareComplete, PFLT_INSTANCE Instance, PKTRANSACTION Transaction, PFLT_CONTEXT TransactionContext)
+KZ_ROUTINE(NTSTATUS, STATUS_NOT_SUPPORTED, TRANSACTION, FltCommitFinalizeComplete, PFLT_INSTANCE Instance, PKTRANSACTION Transaction, PFLT_CONTEXT TransactionContext)
+KZ_ROUTINE(FLT_PREOP_CALLBACK_STATUS, FLT_PREOP_SUCCESS_NO_CALLBACK, OPLOCK, FltOplockFsctrlEx, POPLOCK Oplock, PFLT_CALLBACK_DATA CallbackData, ULONG OpenCount, ULONG Flags)
+KZ_ROUTINE(FLT_PREOP_CALLBACK_STATUS, FLT_PREOP_SUCCESS_NO_CALLBACK, OPLOCK, FltCheckOplockEx, POPLOCK Oplock, PFLT_CALLBACK_DATA CallbackData, ULONG Flags, PVOID Context,
+           PVOID WaitCompletionRoutine, PVOID PrePostCallbackDataRoutine)
+KZ_ROUTINE(FLT_PREOP_CALLBACK_STATUS, FLT_PREOP_SUCCESS_NO_CALLBACK, OPLOCK, FltOplockBreakH, POPLOCK Oplock, PFLT_CALLBACK_DATA CallbackData, ULONG Flags, PVOID Context, PVOID WaitCompletionRoutine,
+           PVOID PrePostCallbackDataRoutine)
+KZ_ROUTINE(FLT_PREOP_CALLBACK_STATUS, FLT_PREOP_SUCCESS_NO_CALLBACK, OPLOCK, FltOplockBreakToNone, POPLOCK Oplock, PFLT_CALLBACK_DATA CallbackData, PVOID Context, PVOID WaitCompletionRoutine,
+           PVOID PrePostCallbackDataRoutine)
+KZ_ROUTINE(FLT_PREOP_CALLBACK_STATUS, FLT_PREOP_SUCCESS_NO_CALLBACK, OPLOCK, FltOplockBreakToNoneEx, POPLOCK Oplock, PFLT_CALLBACK_DATA CallbackData, ULONG Flags, PVOID Context,
+           PVOID WaitCompletionRoutine, PVOID PrePostCallbackDataRoutine)
+KZ_ROUTINE(BOOLEAN, FALSE, OPLOCK, FltOplockIsSharedRequest, PFLT_CALLBACK_DATA CallbackData)
+KZ_ROUTINE(BOOLEAN, FALSE, OPLOCK, FltOplockKeysEqual, PFILE_OBJECT Fo1, PFILE_OBJECT Fo2)
+KZ_ROUTINE(BOOLEAN, FALSE, OPLOCK, FltCurrentOplock, POPLOCK Oplock)
+KZ_ROUTINE(BOOLEAN, FALSE, OPLOCK, FltCurrentOplockH, POPLOCK Oplock)
+
+/* ---- Extra create parameters. */
+KZ_ROUTINE(NTSTATUS, STATUS_NOT_SUPPORTED, ECP, FltAllocateExtraCreateParameterList, PFLT_FILTER Filter, FSRTL_ALLOCATE_ECPLIST_FLAGS Flags, PECP_LIST *EcpList)
+KZ_ROUTINE(VOID, , ECP, FltFreeExtraCreateParameterList, PFLT_FILTER Filter, PECP_LIST EcpList)
+KZ_ROUTINE(NTSTATUS, STATUS_NOT_SUPPORTED, ECP, FltAllocateExtraCreateParameter, PFLT_FILTER Filter, LPCGUID EcpType, ULONG SizeOfContext, FSRTL_ALLOCATE_ECP_FLAGS Flags,
+           PFSRTL_EXTRA_CREATE_PARAMETER_CLEANUP_CALLBACK CleanupCallback, ULONG PoolTag, PVOID *EcpContext)
+KZ_ROUTINE(VOID, , ECP, FltFreeExtraCreateParameter, PFLT_FILTER Filter, PVOID EcpContext)
+KZ_ROUTINE(VOID, , ECP, FltInitExtraCreateParameterLookasideList, PFLT_FILTER Filter, PVOID Lookaside, FSRTL_ECP_LOOKASIDE_FLAGS Flags, SIZE_T Size, ULONG Tag)
+KZ_ROUTINE(VOID, , ECP, FltDeleteExtraCreateParameterLookasideList, PFLT_FILTER Filter, PVOID Lookaside, FSRTL_ECP_LOOKASIDE_FLAGS Flags)
+KZ_ROUTINE(NTSTATUS, STATUS_NOT_SUPPORTED, ECP, FltAllocateExtraCreateParameterFromLookasideList, PFLT_FILTER Filter, LPCGUID EcpType, ULONG SizeOfContext, FSRTL_ALLOCATE_ECP_FLAGS Flags,
+           PFSRTL_EXTRA_CREATE_PARAMETER_CLEANUP_CALLBACK CleanupCallback, PVOID LookasideList, PVOID *EcpContext)
+KZ_ROUTINE(NTSTATUS, STATUS_NOT_SUPPORTED, ECP, FltInsertExtraCreateParameter, PFLT_FILTER Filter, PECP_LIST EcpList, PVOID EcpContext)
+KZ_ROUTINE(NTSTATUS, STATUS_NOT_FOUND, ECP, FltRemoveExtraCreateParameter, PFLT_FILTER Filter, PECP_LIST EcpList, LPCGUID EcpType, PVOID *EcpContext, ULONG *EcpContextSize)
+KZ_ROUTINE(NTSTATUS, STATUS_NOT_FOUND, ECP, FltGetNextExtraCreateParameter, PFLT_FILTER Filter, PECP_LIST EcpList, PVOID CurrentEcpContext, LPGUID NextEcpType, PVOID *NextEcpContext,
+           ULONG *NextEcpContextSize)
+KZ_ROUTINE(VOID, , ECP, FltAcknowledgeEcp, PFLT_FILTER Filter, PVOID EcpContext)
+KZ_ROUTINE(BOOLEAN, FALSE, ECP, FltIsEcpAcknowledged, PFLT_FILTER Filter, PVOID EcpContext)
+KZ_ROUTINE(BOOLEAN, FALSE, ECP, FltIsEcpFromUserMode, PFLT_FILTER Filter, PVOID EcpContext)
+KZ_ROUTINE(NTSTATUS, STATUS_NOT_SUPPORTED, ECP, FltSetEcpListIntoCallbackData, PFLT_FILTER Filter, PFLT_CALLBACK_DATA CallbackData, PECP_LIST EcpList)

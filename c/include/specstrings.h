@@ -1,0 +1,2 @@
+/* Annotations: they are in sal.h here. */
+#include <sal.h>

@@ -1,0 +1,2 @@
+/* Of WMI: what event tracing uses. */
+#include <evntrace.h>

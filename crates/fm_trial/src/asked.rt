@@ -1,14 +1,14 @@
 //! What a line asked for, once its request is gone.
 
 use fm_data::Request;
-use fm_view::Subject;
+use fm_report::Facts;
 use fm_wire::{Body, Control};
 
 /// What a line asked for.
 #[derive(Clone, Copy)]
 pub(crate) enum Asked {
     /// An operation on that handle or volume.
-    Operation(Subject),
+    Operation(Facts),
     /// That filters be managed.
     Control(Control),
     /// Nothing.
@@ -26,11 +26,11 @@ impl Asked {
     }
 
     /// What it names.
-    pub(crate) fn subject(&self) -> Subject {
+    pub(crate) fn subject(&self) -> Facts {
         match self {
             Asked::Operation(subject) => *subject,
             Asked::Control(control) => controlled(*control),
-            Asked::Nothing => Subject::default(),
+            Asked::Nothing => Facts::none(),
         }
     }
 
@@ -44,39 +44,39 @@ impl Asked {
 }
 
 // What a request names.
-fn subject_of(request: &Request) -> Subject {
+fn subject_of(request: &Request) -> Facts {
     match request {
-        Request::Create { volume, .. } | Request::List { volume } => Subject {
+        Request::Create { volume, .. } | Request::List { volume } => Facts {
             volume: Some(u64::from(volume.0)),
-            ..Subject::default()
+            ..Facts::none()
         },
-        Request::OnHandle { handle, .. } => Subject {
+        Request::OnHandle { handle, .. } => Facts {
             handle: Some(handle.0),
-            ..Subject::default()
+            ..Facts::none()
         },
     }
 }
 
 // What a control names.
-fn controlled(control: Control) -> Subject {
+fn controlled(control: Control) -> Facts {
     match control {
-        Control::Attach { filter, volume, .. } => Subject {
+        Control::Attach { filter, volume, .. } => Facts {
             filter: Some(u64::from(filter.0)),
             volume: Some(u64::from(volume.0)),
-            ..Subject::default()
+            ..Facts::none()
         },
-        Control::Detach { instance } => Subject {
+        Control::Detach { instance } => Facts {
             instance: Some(u64::from(instance.0)),
-            ..Subject::default()
+            ..Facts::none()
         },
-        Control::Unload { filter } => Subject {
+        Control::Unload { filter } => Facts {
             filter: Some(u64::from(filter.0)),
-            ..Subject::default()
+            ..Facts::none()
         },
-        Control::Dismount { volume } => Subject {
+        Control::Dismount { volume } => Facts {
             volume: Some(u64::from(volume.0)),
-            ..Subject::default()
+            ..Facts::none()
         },
-        Control::Load { .. } | Control::Stop => Subject::default(),
+        Control::Load { .. } | Control::Stop => Facts::none(),
     }
 }

@@ -1,6 +1,6 @@
 //! How a trial is shown.
 
-use fm_view::{Inert, PAGE_BEGIN, PAGE_END};
+use fm_page::{Inert, PAGE_BEGIN, PAGE_END};
 use std::alloc::Global;
 use std::io::{self, Write};
 

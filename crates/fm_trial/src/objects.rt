@@ -2,11 +2,11 @@
 
 use crate::asked::Asked;
 use crate::report::Manager;
-use fm_data::{PostVerdict, Reply};
+use fm_data::{PostVerdict, PreVerdict, Reply};
 use fm_filter::Minifilter;
 use fm_local::{PostAnswer, PreAnswer, Traced, Visit};
+use fm_report::{Detail, Event, Facts, Kind, Teller, Visit as At, counted_for};
 use fm_types::{FilterId, InstanceId, OpId, Status};
-use fm_view::{Detail, Event, Teller, Visit as At, counted_for};
 use fm_wire::Control;
 use std::alloc::AllocError;
 
@@ -74,15 +74,10 @@ fn say_step(
         Visit::Pre(instance, answer) => say_pre(teller, text, at(operation, instance), &answer),
         Visit::Post(instance, answer) => say_post(teller, text, at(operation, instance), &answer),
         Visit::Base(status) => {
-            let base = Event::Base {
-                operation: operation.0,
-                status,
-            };
-            teller.say_event(text, &base, &Detail::default())
+            teller.say_plain(text, &Event::answered(Kind::Base, operation.0, status))
         }
         Visit::Drain(instance) => {
-            let drained = Event::Drained(at(operation, instance));
-            teller.say_event(text, &drained, &Detail::default())
+            teller.say_plain(text, &Event::on(Kind::Drained, at(operation, instance)))
         }
         Visit::Replied(status) => match reply {
             Some(reply) => say_reply(teller, text, operation, reply),
@@ -96,7 +91,7 @@ fn at(operation: OpId, instance: InstanceId) -> At {
     At {
         worker: 0,
         operation: operation.0,
-        instance: instance.0,
+        instance: u64::from(instance.0),
     }
 }
 
@@ -107,18 +102,17 @@ fn say_pre(
     visit: At,
     answer: &PreAnswer,
 ) -> Result<(), AllocError> {
-    let pre = Event::Pre {
-        visit,
-        verdict: answer.given,
-        context: None,
-    };
+    let pre = Event::verdict(Kind::Pre, visit, answer.given, None);
     let detail = Detail {
-        counted: answer
-            .counted
-            .and_then(|stands| counted_for(answer.given, stands)),
-        ..Detail::default()
+        counted: counted_of(answer),
+        ..Detail::none()
     };
     teller.say_event(text, &pre, &detail)
+}
+
+// The verdict that counts, where it is another one than was given.
+fn counted_of(answer: &PreAnswer) -> Option<PreVerdict> {
+    counted_for(answer.given, answer.counted?)
 }
 
 // Appends that a postoperation returned, and which status it left in place of another.
@@ -128,15 +122,15 @@ fn say_post(
     visit: At,
     answer: &PostAnswer,
 ) -> Result<(), AllocError> {
-    let post = match answer.given {
-        PostVerdict::MoreProcessing => Event::PostHeld(visit),
-        PostVerdict::Finished => Event::Post(visit),
+    let kind = match answer.given {
+        PostVerdict::MoreProcessing => Kind::PostHeld,
+        PostVerdict::Finished => Kind::Post,
     };
     let detail = Detail {
         left: (answer.found != answer.left).then_some(answer.left),
-        ..Detail::default()
+        ..Detail::none()
     };
-    teller.say_event(text, &post, &detail)
+    teller.say_event(text, &Event::on(kind, visit), &detail)
 }
 
 /// Appends the reply of an operation; nothing where it is held. Fails if memory is refused.
@@ -169,16 +163,8 @@ fn say_answer(
     (status, information): (Status, u64),
     bytes: &[u8],
 ) -> Result<(), AllocError> {
-    let replied = Event::Replied {
-        operation: operation.0,
-        status,
-        information,
-    };
-    let detail = Detail {
-        bytes: Some(bytes),
-        ..Detail::default()
-    };
-    teller.say_event(text, &replied, &detail)
+    let replied = Event::replied(operation.0, status, information);
+    teller.say_event(text, &replied, &Detail::bytes(bytes))
 }
 
 // Appends what a request came to that has no operation to tell it.
@@ -217,14 +203,12 @@ fn say_control(
             Err(_) => Ok(()),
         },
         Control::Detach { instance } => {
-            let finished = Event::Finished {
-                instance: instance.0,
-            };
-            teller.say_event(text, &finished, &Detail::default())
+            let facts = Facts::instance(u64::from(instance.0));
+            teller.say_plain(text, &Event::of(Kind::Finished, facts))
         }
         Control::Unload { filter } => {
-            let finished = Event::FilterFinished { filter: filter.0 };
-            teller.say_event(text, &finished, &Detail::default())
+            let facts = Facts::filter_since(u64::from(filter.0), 0);
+            teller.say_plain(text, &Event::of(Kind::FilterFinished, facts))
         }
         Control::Stop => teller.say_stopped(text),
         Control::Attach { .. } | Control::Dismount { .. } => Ok(()),

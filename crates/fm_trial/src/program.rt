@@ -5,8 +5,8 @@ use crate::scenario::{Scenario, WRONG_FILE};
 use crate::voice::Voice;
 use crate::words::Words;
 use fm_filter::Minifilter;
+use fm_report::{Fault, Tally, Teller};
 use fm_types::{Name, Status};
-use fm_view::{ScriptEnd, Tally, Teller};
 use std::alloc::{AllocError, Global};
 use std::env::{self, Env};
 use std::fs;
@@ -133,7 +133,7 @@ fn unread_objects(alloc: Global, file: &str, words: &str) -> Result<String, Allo
     let teller = Teller::new(alloc);
     teller.begin(&mut text, Some(file))?;
     let tally = Tally {
-        end: ScriptEnd::ReadFault,
+        fault: Some(Fault::Read),
         status: WRONG_FILE,
         lines: 0,
         refused: 0,

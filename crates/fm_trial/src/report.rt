@@ -6,8 +6,8 @@ use fm_core::{Hold, Phase, Place};
 use fm_data::Reply;
 use fm_filter::Minifilter;
 use fm_local::{Leak, LocalManager, Refusal, Visit};
+use fm_report::{callback_of, held_at, instance_in, operation_in};
 use fm_types::{InstanceId, OpId, Status};
-use fm_view::{callback_of, held_at, instance_in, operation_in};
 use std::alloc::AllocError;
 use std::fmt::Write;
 
@@ -123,15 +123,27 @@ fn write_place<F: Minifilter>(
     manager: &Manager<F>,
     place: Place,
 ) -> Result<(), AllocError> {
-    if let Some(instance) = instance_in(place) {
+    if let Some(instance) = instance_of(place) {
         text.push_str(": ")?;
-        write_instance(text, manager, InstanceId(instance))?;
-        write!(text, ", {}", callback_word(place))?;
-        if let Some(operation) = operation_in(place) {
-            write!(text, ", operation {operation}")?;
-        }
+        write_instance(text, manager, instance)?;
+        text.push_str(", ")?;
+        text.push_str(callback_word(place))?;
+        write_operation(text, place)?;
     }
     text.push_str("\n")
+}
+
+// The instance whose callback is there.
+fn instance_of(place: Place) -> Option<InstanceId> {
+    Some(InstanceId(u16::try_from(instance_in(place)?).ok()?))
+}
+
+// Appends for which operation a callback is, if it is for one.
+fn write_operation(text: &mut String, place: Place) -> Result<(), AllocError> {
+    match operation_in(place) {
+        Some(operation) => write!(text, ", operation {operation}"),
+        None => Ok(()),
+    }
 }
 
 // The word for a callback in lines: a drain is one, whenever it comes.

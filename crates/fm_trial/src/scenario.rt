@@ -14,10 +14,10 @@ use fm_data::Reply;
 use fm_exec::LocalExec;
 use fm_filter::Minifilter;
 use fm_local::PortCall;
+use fm_report::Tally;
 use fm_server::status_reply;
 use fm_types::limits::OPERATIONS;
 use fm_types::{CtxId, InstanceId, Name, OpId, Status, VolumeId};
-use fm_view::{ScriptEnd, Tally};
 use fm_wire::Body;
 use std::alloc::Global;
 use std::fmt::Write;
@@ -418,7 +418,7 @@ impl<F: Minifilter> Scenario<F> {
     fn tally(&self, status: u8) -> Tally {
         let state = self.exec.manager().state();
         Tally {
-            end: ScriptEnd::Ended,
+            fault: None,
             status,
             lines: u32::try_from(self.lines).unwrap_or(u32::MAX),
             refused: self.voice.refused(),

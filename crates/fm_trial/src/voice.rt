@@ -7,8 +7,8 @@ use crate::told::Told;
 use fm_core::Place;
 use fm_data::Reply;
 use fm_filter::Minifilter;
+use fm_report::{Facts, Tally, Teller, Telling};
 use fm_types::{CtxId, Name, OpId, Status, VolumeId};
-use fm_view::{Subject, Tally, Teller, Telling};
 use fm_wire::Body;
 use std::alloc::AllocError;
 use std::fmt::Write;
@@ -73,7 +73,7 @@ impl Voice {
             ),
             Voice::Objects(teller) => {
                 let reason = Some("it is no request, and nothing that is expected");
-                teller.say_refused(text, Status::BadRequest, reason, Subject::default())
+                teller.say_refused(text, Status::BadRequest, reason, Facts::none())
             }
         }
     }

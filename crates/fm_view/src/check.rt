@@ -1,9 +1,8 @@
 //! Scripts as tests: each is run, and whether it is as its lines expect is told in the words of TAP.
 
-use crate::expect::MARK_TEXT;
-use crate::named::Ascii;
 use crate::view::{Manner, Shown, run_shown};
-use std::alloc::{AllocError, Global};
+use fm_report::{Text, push_ascii};
+use std::alloc::Global;
 use std::fs;
 use std::io::{self, Write};
 use std::rt::Files;
@@ -26,7 +25,7 @@ struct Run {
 }
 
 // Runs a script.
-fn run(alloc: Global, strictness: Strictness, script: &[u8]) -> Run {
+fn run_script(alloc: Global, strictness: Strictness, script: &[u8]) -> Run {
     let shown = Shown {
         is_strict: strictness.is_strict,
         ..Shown::new(Manner::Check)
@@ -41,47 +40,53 @@ fn run(alloc: Global, strictness: Strictness, script: &[u8]) -> Run {
 }
 
 // Appends each line as a remark.
-fn remark(text: &mut String, lines: &[u8]) -> Result<(), AllocError> {
+fn remark(text: &mut Text, lines: &[u8]) {
     for line in lines.split(|byte| *byte == b'\n') {
         if !line.is_empty() {
-            write!(text, "# {}\n", Ascii(line))?;
+            text.push_str("# ");
+            push_ascii(text, line);
+            text.push('\n');
         }
     }
-    Ok(())
+}
+
+// Appends whether a script passes, with its number and its name.
+fn say_head(text: &mut Text, word: &str, number: usize, name: &str) {
+    text.push_str(word);
+    text.push_number(number as u64);
+    text.push_str(" - ");
+    push_ascii(text, name.as_bytes())
 }
 
 // Appends what came of a script. Whether it passes.
-fn say_run(
-    text: &mut String,
-    number: usize,
-    name: &str,
-    run: &Run,
-    skips: bool,
-) -> Result<bool, AllocError> {
-    let name = Ascii(name.as_bytes());
-    match (run.status, run.expected) {
-        (0, 0) if skips => {
-            write!(
-                text,
-                "ok {number} - {name} # SKIP no line says what is expected\n"
-            )?;
-            return Ok(true);
-        }
-        (0, expected) if expected > 0 => {
-            write!(text, "ok {number} - {name}\n")?;
-            return Ok(true);
-        }
-        _ => write!(text, "not ok {number} - {name}\n")?,
+fn say_run(text: &mut Text, number: usize, name: &str, run: &Run, skips: bool) -> bool {
+    let is_skipped = skips && run.status == 0 && run.expected == 0;
+    if is_skipped {
+        say_head(text, "ok ", number, name);
+        text.push_str(" # SKIP no line says what is expected\n");
+        return true;
     }
-    remark(text, run.said.as_slice())?;
+    let is_well = run.status == 0 && run.expected > 0;
+    if is_well {
+        say_head(text, "ok ", number, name);
+        text.push('\n');
+        return true;
+    }
+    say_head(text, "not ok ", number, name);
+    text.push('\n');
+    say_why(text, run);
+    false
+}
+
+// Appends why a script doesn't pass.
+fn say_why(text: &mut Text, run: &Run) {
+    remark(text, run.said.as_slice());
     if run.expected == 0 {
-        write!(
-            text,
-            "# no line says what is expected, as `{MARK_TEXT} status 0` would\n"
-        )?;
+        text.push_str("# no line says what is expected, as `#! expect status 0` would\n");
     }
-    write!(text, "# status {}\n", run.status)?;
-    Ok(false)
+    text.push_str("# status ");
+    text.push_number(u64::from(run.status));
+    text.push('\n')
 }
 
 // Runs the script of a file, and writes what came of it. Whether it passes.
@@ -93,21 +98,20 @@ fn check_file<R: Files + AllocGlobal, W: Write>(
     out: &mut W,
 ) -> io::Result<bool> {
     let alloc = rt.alloc();
-    let mut text = String::new(alloc);
+    let mut text = Text::new(alloc);
     let is_well = match fs::read(rt, name) {
         Ok(script) => {
-            let run = run(alloc, strictness, script.as_slice());
-            say_run(&mut text, number, name, &run, strictness.skips)?
+            let run = run_script(alloc, strictness, script.as_slice());
+            say_run(&mut text, number, name, &run, strictness.skips)
         }
         Err(error) => {
-            let name = Ascii(name.as_bytes());
-            write!(
-                text,
-                "not ok {number} - {name}\n# it can't be read: {error}\n"
-            )?;
+            let words = format!(in alloc; "\n# it can't be read: {error}\n")?;
+            say_head(&mut text, "not ok ", number, name);
+            text.push_str(words.as_str());
             false
         }
     };
+    let text = text.finish()?;
     out.write_all(text.as_bytes())?;
     out.flush()?;
     Ok(is_well)

@@ -1,10 +1,9 @@
 //! Colours of a terminal.
 
-use crate::event::{Deed, Event};
-use fm_types::Status;
+use fm_report::{Event, Tone};
 
 /// A colour, by what it is for.
-#[derive(Clone, Copy, Debug, PartialEq, Eq)]
+#[derive(Clone, Copy)]
 pub enum Colour {
     /// As the terminal writes.
     Plain,
@@ -39,26 +38,12 @@ impl Colour {
 
 /// The colour in which an event is told.
 pub fn colour_of(event: &Event) -> Colour {
-    match event {
-        Event::Refused { .. } => Colour::Bad,
-        Event::Replied { status, .. } | Event::Base { status, .. } | Event::Known { status, .. } =>
-            of_status(*status),
-        Event::Held { .. } | Event::PostHeld(_) => Colour::Waiting,
-        Event::Drained(_) | Event::Dismounting { .. } => Colour::Waiting,
-        Event::OnContext {
-            deed: Deed::Cleaned,
-            ..
-        }
-        | Event::Finished { .. }
-        | Event::FilterFinished { .. }
-        | Event::VolumeFinished { .. } => Colour::Good,
-        _ => Colour::Plain,
-    }
-}
-
-fn of_status(status: Status) -> Colour {
-    match status {
-        Status::Success => Colour::Good,
-        _ => Colour::Bad,
+    match event.kind.tone() {
+        Tone::Plain => Colour::Plain,
+        Tone::Good => Colour::Good,
+        Tone::Waiting => Colour::Waiting,
+        Tone::Bad => Colour::Bad,
+        Tone::ByStatus if event.is_success() => Colour::Good,
+        Tone::ByStatus => Colour::Bad,
     }
 }

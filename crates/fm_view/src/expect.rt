@@ -10,9 +10,6 @@ use std::alloc::Global;
 /// What an expectation begins with.
 const MARK: &[u8] = b"#! expect";
 
-/// The same as a text.
-pub const MARK_TEXT: &str = "#! expect";
-
 /// What one on the status begins with.
 const STATUS: &[u8] = b"status";
 

@@ -1,7 +1,6 @@
 //! Where things stand in a picture of a run.
 
-use crate::event::{Event, Moment};
-use crate::notes::Notes;
+use fm_report::{Moment, Notes};
 use std::alloc::{AllocError, Global};
 
 /// Where the lanes begin, from the left.
@@ -33,7 +32,7 @@ impl Columns {
         let mut places = Vec::new(alloc);
         let mut count = 0u32;
         for moment in moments {
-            if is_drawn(&moment.event) {
+            if moment.event.kind.is_drawn() {
                 count = count.saturating_add(1);
             }
             places.push(count)?;
@@ -65,25 +64,6 @@ impl Columns {
 
 fn x_of(column: u32) -> u32 {
     LEFT.saturating_add(column.saturating_mul(STEP))
-}
-
-// Whether an event has a column of its own.
-fn is_drawn(event: &Event) -> bool {
-    !matches!(
-        event,
-        Event::Loaded { .. }
-            | Event::Mounted { .. }
-            | Event::Planned { .. }
-            | Event::WillFail { .. }
-            | Event::Failures { .. }
-            | Event::Leaks { .. }
-            | Event::Phase { .. }
-            | Event::Flight { .. }
-            | Event::Counted { .. }
-            | Event::Held { .. }
-            | Event::Moved { .. }
-            | Event::Done { .. },
-    )
 }
 
 /// The rows in which the names of the operations on a volume stand, from the top: none runs into another one, or into another one's stalk.
@@ -126,7 +106,7 @@ impl Rows {
 }
 
 /// What a lane is for.
-#[derive(Clone, Copy, Debug, PartialEq, Eq)]
+#[derive(Clone, Copy, PartialEq, Eq)]
 pub enum Owner {
     /// The heads of the operations on a volume.
     Client(u8),

@@ -1,22 +1,21 @@
 //! Why a line was refused, as far as the manager's state and the notes tell.
 
-use crate::named::{Ascii, Named, PlaceName};
-use crate::notes::{ContextNote, InstanceNote, Notes, What};
-use crate::status::sentence;
 use crate::subject::{
     filter_of, handle_of, instance_of, operation_of, turned, volume_of, worker_of,
 };
 use crate::usage::{say_wrong, usage};
-use crate::verdict::held_at;
-use crate::words::phase_word;
+use crate::verdict::say_where;
 use fm_altitude::Altitude;
 use fm_core::{Count, Entry, FilterPhase, Phase, Place, State, Step, VolumePhase};
+use fm_report::{
+    ContextNote, Facts, InstanceNote, Notes, Text, What, fill, held_at, push_ascii, push_context,
+    push_instance, push_operation, push_those, push_verb, sentence,
+};
 use fm_script::{ContextList, Keyword, Task, split_at_byte};
 use fm_text::read_id;
 use fm_types::limits::{LINE, SCRIPT_WORKERS, WORKERS};
 use fm_types::{ContextKind, FilterId, InstanceId, OpId, Status, WorkerId};
 use std::alloc::{AllocError, Global};
-use std::fmt;
 use strsim::osa_distance;
 
 /// A line that was refused, beside what is known.
@@ -38,22 +37,34 @@ pub struct Refusal<'a> {
     pub context: Option<u64>,
 }
 
+impl Refusal<'_> {
+    // Appends words with these facts.
+    fn fill(&self, text: &mut Text, facts: &Facts, pattern: &str) {
+        fill(text, self.notes, facts, pattern)
+    }
+}
+
+// Appends the sentence of a status.
+fn say_sentence(text: &mut Text, status: Status) {
+    text.push_str(sentence(status))
+}
+
 /// Appends why a line was refused.
-pub fn say_refusal(
-    alloc: Global,
-    text: &mut String,
-    refusal: &Refusal<'_>,
-    status: Status,
-) -> Result<(), AllocError> {
-    let Some(task) = refusal.task else {
-        return say_unasked(alloc, text, refusal, status);
-    };
+pub fn say_refusal(alloc: Global, text: &mut Text, refusal: &Refusal<'_>, status: Status) {
+    match refusal.task {
+        Some(task) => say_asked(text, refusal, task, status),
+        None => say_unasked(alloc, text, refusal, status),
+    }
+}
+
+// A line that asked for something.
+fn say_asked(text: &mut Text, refusal: &Refusal<'_>, task: &Task, status: Status) {
     match status {
         Status::WrongStep => say_wrong_step(text, refusal, task),
         Status::DeletingObject | Status::NoInstance => say_going(text, refusal, task),
         Status::NotPended => say_not_held(text, refusal, task),
         Status::Busy(count) => say_busy(text, refusal, task, count),
-        Status::BadRequest => write!(text, "{}", past_a_limit(task)),
+        Status::BadRequest => text.push_str(past_a_limit(task)),
         Status::NoHandle => say_no_handle(text, refusal, task),
         Status::DoNotDetach => say_unwilling(text, refusal, task),
         Status::AlreadyDefined => say_defined(text, refusal, task),
@@ -61,23 +72,18 @@ pub fn say_refusal(
         Status::NameCollision | Status::AltitudeCollision => {
             say_collision(text, refusal, task, status)
         }
-        _ => write!(text, "{}", sentence(status)),
+        _ => say_sentence(text, status),
     }
 }
 
 // A line that was refused before any event.
-fn say_unasked(
-    alloc: Global,
-    text: &mut String,
-    refusal: &Refusal<'_>,
-    status: Status,
-) -> Result<(), AllocError> {
+fn say_unasked(alloc: Global, text: &mut Text, refusal: &Refusal<'_>, status: Status) {
     match status {
         Status::BadRequest => say_unread(alloc, text, refusal.line),
         Status::WrongStep => say_unknown(text, refusal),
-        Status::NotHeld => write!(text, "no context has that number"),
-        Status::NoHandle => write!(text, "no handle of that number was given"),
-        _ => write!(text, "{}", sentence(status)),
+        Status::NotHeld => text.push_str("no context has that number"),
+        Status::NoHandle => text.push_str("no handle of that number was given"),
+        _ => say_sentence(text, status),
     }
 }
 
@@ -94,87 +100,110 @@ fn past_a_limit(task: &Task) -> &'static str {
 }
 
 // Which number of a line was never given.
-fn say_unknown(text: &mut String, refusal: &Refusal<'_>) -> Result<(), AllocError> {
+fn say_unknown(text: &mut Text, refusal: &Refusal<'_>) {
     for word in refusal.line.split(|byte| *byte == b' ') {
-        if let Some(operation) = read_id(b'o', word) {
-            if operation >= refusal.state.operations_begun() {
-                return write!(text, "no o{operation} was begun");
+        match unknown_in(refusal.state, word) {
+            Some(facts) if facts.operation.is_some() => {
+                return refusal.fill(text, &facts, "no %o was begun");
             }
-        }
-        if let Some(worker) = read_id(b'w', word) {
-            if worker >= SCRIPT_WORKERS {
-                return write!(text, "there is no w{worker}: workers are w0 to w15");
+            Some(facts) => {
+                return refusal.fill(text, &facts, "there is no %w: workers are w0 to w15");
             }
+            None => {}
         }
     }
-    write!(text, "{}", sentence(Status::WrongStep))
+    say_sentence(text, Status::WrongStep)
+}
+
+// The operation or the worker that a word names, if it was never given.
+fn unknown_in(state: &State, word: &[u8]) -> Option<Facts> {
+    if let Some(operation) = read_id(b'o', word) {
+        if operation >= state.operations_begun() {
+            return Some(Facts::operation(operation));
+        }
+    }
+    let worker = read_id(b'w', word)?;
+    if worker >= SCRIPT_WORKERS {
+        return Some(Facts::worker(worker));
+    }
+    None
 }
 
 // Why a handle isn't open for it.
-fn say_no_handle(text: &mut String, refusal: &Refusal<'_>, task: &Task) -> Result<(), AllocError> {
+fn say_no_handle(text: &mut Text, refusal: &Refusal<'_>, task: &Task) {
     let Some(handle) = handle_of(task) else {
-        return write!(text, "{}", sentence(Status::NoHandle));
+        return say_sentence(text, Status::NoHandle);
     };
+    let facts = Facts::handle(handle);
     if handle >= refusal.state.handles_given() {
-        return write!(text, "no h{handle} was given");
+        return refusal.fill(text, &facts, "no %h was given");
     }
+    match end_of(refusal.notes, handle) {
+        Some((facts, words)) => refusal.fill(text, &facts, words),
+        None => refusal.fill(text, &facts, "%h was closed by the dismount"),
+    }
+}
+
+// The last operation that ends a handle, and the words for it.
+fn end_of(notes: &Notes, handle: u64) -> Option<(Facts, &'static str)> {
     let mut number = 0u64;
     let mut last = None;
-    for note in &refusal.notes.operations {
-        match note.what {
-            What::Cleanup(other) if other == handle => last = Some(("cleanup", number, note.line)),
-            What::Close(other) if other == handle => last = Some(("close", number, note.line)),
-            _ => {}
+    for note in &notes.operations {
+        if let Some(words) = end_words(&note.what, handle) {
+            let facts = Facts {
+                operation: Some(number),
+                line: note.line,
+                ..Facts::handle(handle)
+            };
+            last = Some((facts, words));
         }
         number = number.saturating_add(1);
     }
-    match last {
-        Some((what, operation, line)) => {
-            write!(
-                text,
-                "the {what} of h{handle}, o{operation}, began on line {line}"
-            )
+    last
+}
+
+// The words for a request that ends a handle.
+fn end_words(what: &What, handle: u64) -> Option<&'static str> {
+    match what {
+        What::Cleanup(other) if *other == handle => {
+            Some("the cleanup of %h, %o, began on line %l")
         }
-        None => write!(text, "h{handle} was closed by the dismount"),
+        What::Close(other) if *other == handle => Some("the close of %h, %o, began on line %l"),
+        _ => None,
     }
 }
 
 // Whether a filter was asked at all.
-fn say_unwilling(text: &mut String, refusal: &Refusal<'_>, task: &Task) -> Result<(), AllocError> {
-    let (asks, routine) = match task {
-        Task::Event(Step::AskDetach { instance, .. }) => {
-            (refusal.state.filter_of(*instance), "query")
-        }
-        Task::Event(Step::AskUnload { filter, .. }) => (Some(*filter), "unload"),
+fn say_unwilling(text: &mut Text, refusal: &Refusal<'_>, task: &Task) {
+    let (asks, words) = match task {
+        Task::Event(Step::AskDetach { instance, .. }) => (
+            refusal.state.filter_of(*instance),
+            "%f has no query routine, so nobody was asked",
+        ),
+        Task::Event(Step::AskUnload { filter, .. }) => (
+            Some(*filter),
+            "%f has no unload routine, so nobody was asked",
+        ),
         _ => (None, ""),
     };
     match asks {
-        Some(filter) => {
-            let filter = Named::Filter(refusal.notes, filter.0);
-            write!(
-                text,
-                "{filter} has no {routine} routine, so nobody was asked"
-            )
-        }
-        None => write!(text, "{}", sentence(Status::DoNotDetach)),
+        Some(filter) => { refusal.fill(text, &Facts::filter_since(u64::from(filter.0), 0), words) }
+        None => say_sentence(text, Status::DoNotDetach),
     }
 }
 
 // Which context is set there already, and whether a reference to it came into the hand.
-fn say_defined(text: &mut String, refusal: &Refusal<'_>, task: &Task) -> Result<(), AllocError> {
-    if let Some(context) = refusal.context {
-        let named = Named::Context(refusal.notes, context);
-        return write!(
-            text,
-            "{named} is set there already, and one reference to it came into the hand"
-        );
-    }
-    match only_other(refusal, task) {
-        Some(context) => {
-            let named = Named::Context(refusal.notes, context);
-            write!(text, "{named} is set there already")
-        }
-        None => write!(text, "{}", sentence(Status::AlreadyDefined)),
+fn say_defined(text: &mut Text, refusal: &Refusal<'_>, task: &Task) {
+    let (context, words) = match refusal.context {
+        Some(context) => (
+            Some(context),
+            "%c is set there already, and one reference to it came into the hand",
+        ),
+        None => (only_other(refusal, task), "%c is set there already"),
+    };
+    match context {
+        Some(context) => refusal.fill(text, &Facts::context_since(context, 0), words),
+        None => say_sentence(text, Status::AlreadyDefined),
     }
 }
 
@@ -201,349 +230,412 @@ fn is_alike(notes: &Notes, note: &ContextNote, own: usize) -> bool {
     let Some(other) = notes.contexts.get(own) else {
         return false;
     };
-    let filter = |instance: u16| {
-        notes
-            .instances
-            .get(usize::from(instance))
-            .map(|note| note.filter)
-    };
-    let is_one_owner = match note.kind {
-        ContextKind::Volume => filter(note.instance) == filter(other.instance),
+    note.kind == other.kind && is_one_owner(notes, note, other)
+}
+
+// Whether two contexts of a kind have one owner.
+fn is_one_owner(notes: &Notes, note: &ContextNote, other: &ContextNote) -> bool {
+    match note.kind {
+        ContextKind::Volume => {
+            filter_at(notes, note.instance) == filter_at(notes, other.instance)
+        }
         _ => note.instance == other.instance,
-    };
-    note.kind == other.kind && is_one_owner
+    }
+}
+
+// The filter of an instance.
+fn filter_at(notes: &Notes, instance: u16) -> Option<u8> {
+    Some(notes.instance(u64::from(instance))?.filter)
 }
 
 // Where a context is set already.
-fn say_linked(text: &mut String, refusal: &Refusal<'_>, task: &Task) -> Result<(), AllocError> {
-    let context = match task {
-        Task::Event(Step::Set { context, .. }) => refusal.contexts.number_of(*context),
-        _ => None,
+fn say_linked(text: &mut Text, refusal: &Refusal<'_>, task: &Task) {
+    let Some(number) = context_in(refusal, task) else {
+        return say_sentence(text, Status::AlreadyLinked);
     };
-    let Some(number) = context else {
-        return write!(text, "{}", sentence(Status::AlreadyLinked));
-    };
-    let number = number as u64;
-    write!(
-        text,
-        "{} is set already",
-        Named::Context(refusal.notes, number)
-    )?;
     match refusal.notes.context(number) {
-        Some(note) if note.set > 0 => write!(text, ", since line {}", note.set),
-        _ => Ok(()),
+        Some(note) if note.set > 0 => {
+            let facts = Facts::context_since(number, note.set);
+            refusal.fill(text, &facts, "%c is set already, since line %l")
+        }
+        _ => {
+            let facts = Facts::context_since(number, 0);
+            refusal.fill(text, &facts, "%c is set already")
+        }
+    }
+}
+
+// The number of the context that a line sets.
+fn context_in(refusal: &Refusal<'_>, task: &Task) -> Option<u64> {
+    match task {
+        Task::Event(Step::Set { context, .. }) => {
+            Some(refusal.contexts.number_of(*context)? as u64)
+        }
+        _ => None,
     }
 }
 
 // Which instance has the name or the altitude.
-fn say_collision(
-    text: &mut String,
-    refusal: &Refusal<'_>,
-    task: &Task,
-    status: Status,
-) -> Result<(), AllocError> {
-    write!(text, "{}", sentence(status))?;
+fn say_collision(text: &mut Text, refusal: &Refusal<'_>, task: &Task, status: Status) {
+    say_sentence(text, status);
     let Some(volume) = volume_of(task) else {
-        return Ok(());
+        return;
     };
-    let mut number = 0u16;
+    let mut number = 0u64;
     for note in &refusal.notes.instances {
         let is_there = note.phase != Phase::Detached && note.volume == volume.0;
         if is_there && is_spelled(note, refusal.line, status) {
-            return write!(text, ": {}", Named::Instance(refusal.notes, number));
+            return refusal.fill(text, &Facts::instance(number), ": %i");
         }
         number = number.saturating_add(1);
     }
-    Ok(())
 }
 
 // Whether a word of the line is the instance's name, or its altitude.
 fn is_spelled(note: &InstanceNote, line: &[u8], status: Status) -> bool {
     for word in line.split(|byte| *byte == b' ').skip(3) {
-        let is_same = match status {
-            Status::NameCollision => word == note.name.text(),
-            _ => Altitude::read(word) == Ok(note.altitude),
-        };
-        if is_same {
+        if is_same(note, word, status) {
             return true;
         }
     }
     false
 }
 
+// Whether a word is the instance's name, or its altitude.
+fn is_same(note: &InstanceNote, word: &[u8], status: Status) -> bool {
+    match status {
+        Status::NameCollision => word == note.name.text(),
+        _ => Altitude::read(word) == Ok(note.altitude),
+    }
+}
+
 // A line that can't be read: which word isn't one.
-fn say_unread(alloc: Global, text: &mut String, line: &[u8]) -> Result<(), AllocError> {
+fn say_unread(alloc: Global, text: &mut Text, line: &[u8]) {
     if line.len() > LINE {
-        return write!(text, "a line has at most {LINE} bytes");
+        text.push_str("a line has at most ");
+        text.push_number(LINE as u64);
+        return text.push_str(" bytes");
     }
     let (word, _) = split_at_byte(line, b' ');
     match Keyword::read(word) {
         Some(keyword) => {
-            say_wrong(text, line, usage(keyword))?;
-            write!(text, ": it is {} {}", Ascii(word), usage(keyword))
+            say_wrong(text, line, usage(keyword));
+            text.push_str(": it is ");
+            say_usage(text, word, keyword)
         }
-        None if word == b"detach".as_slice() => {
-            write!(
-                text,
-                "a detach is query, queried, start, started, complete, completed and finish"
-            )
-        }
-        None if word == b"help".as_slice() => {
-            write!(
-                text,
-                "the commands stand in docs/SCRIPT.md; the end of the input ends a script"
-            )
-        }
-        None if word == b"quit".as_slice() || word == b"exit".as_slice() => {
-            write!(text, "the end of the input ends a script")
-        }
-        None => {
-            write!(text, "'{}' is no command", Ascii(word))?;
-            say_nearest(alloc, text, word)
-        }
+        None => say_no_command(alloc, text, word),
     }
 }
 
+// How a command is spelled.
+fn say_usage(text: &mut Text, word: &[u8], keyword: Keyword) {
+    push_ascii(text, word);
+    text.push(' ');
+    text.push_str(usage(keyword))
+}
+
+// A line whose first word is no command.
+fn say_no_command(alloc: Global, text: &mut Text, word: &[u8]) {
+    let words = other_words(word);
+    if !words.is_empty() {
+        return text.push_str(words);
+    }
+    text.push('\'');
+    push_ascii(text, word);
+    text.push_str("' is no command");
+    say_nearest(alloc, text, word)
+}
+
+// What is said of words that other languages have.
+fn other_words(word: &[u8]) -> &'static str {
+    match word {
+        b"detach" => "a detach is query, queried, start, started, complete, completed and finish",
+        b"help" => "the commands stand in docs/SCRIPT.md; the end of the input ends a script",
+        b"quit" | b"exit" => "the end of the input ends a script",
+        _ => "",
+    }
+}
+
+// Bytes as a text.
+fn written(alloc: Global, bytes: &[u8]) -> Result<String, AllocError> {
+    let mut text = Text::new(alloc);
+    push_ascii(&mut text, bytes);
+    text.finish()
+}
+
 // The command that is spelled most alike.
-fn say_nearest(alloc: Global, text: &mut String, word: &[u8]) -> Result<(), AllocError> {
-    let word = format!(in alloc; "{}", Ascii(word))?;
+fn say_nearest(alloc: Global, text: &mut Text, word: &[u8]) {
+    match nearest(alloc, word) {
+        Ok(Some(keyword)) => {
+            text.push_str("; the nearest is ");
+            say_usage(text, keyword.spelling(), keyword)
+        }
+        Ok(None) => {}
+        Err(_) => text.fail(),
+    }
+}
+
+// The keyword that is spelled most alike, if one is.
+fn nearest(alloc: Global, word: &[u8]) -> Result<Option<Keyword>, AllocError> {
+    let word = written(alloc, word)?;
     let mut least = word.len().min(4);
     let mut nearest = None;
     for keyword in Keyword::ALL {
-        let spelled = format!(in alloc; "{}", Ascii(keyword.spelling()))?;
+        let spelled = written(alloc, keyword.spelling())?;
         let distance = osa_distance(alloc, word.as_str(), spelled.as_str())?;
         if distance < least {
             least = distance;
             nearest = Some(keyword);
         }
     }
-    match nearest {
-        Some(keyword) => {
-            let spelled = Ascii(keyword.spelling());
-            write!(text, "; the nearest is {spelled} {}", usage(keyword))
-        }
-        None => Ok(()),
-    }
+    Ok(nearest)
 }
 
 // Something out of order: where the worker is, or what else is in the way.
-fn say_wrong_step(text: &mut String, refusal: &Refusal<'_>, task: &Task) -> Result<(), AllocError> {
+fn say_wrong_step(text: &mut Text, refusal: &Refusal<'_>, task: &Task) {
     let worker = worker_of(task);
     if let (Some(worker), true) = (worker, refusal.place != Place::Idle) {
-        return say_place(text, refusal, worker, refusal.place);
+        return say_where(text, refusal.notes, worker, refusal.place);
     }
-    match (task, turned(task), worker) {
-        (_, Some(operation), _) => say_operation(text, refusal, operation),
-        (
-            Task::Event(
-                Step::StartTeardown { instance, .. }
-                | Step::CompleteTeardown { instance, .. }
-                | Step::Finish { instance },
-            ),
-            _,
-            _,
-        ) => say_instance(text, refusal, task, instance.0),
-        (_, _, Some(worker)) => write!(text, "w{} is in no callback", worker.0),
+    match (turned(task), torn(task), worker) {
+        (Some(operation), _, _) => say_operation(text, refusal, operation),
+        (_, Some(instance), _) => say_instance(text, refusal, task, u64::from(instance.0)),
+        (_, _, Some(worker)) => {
+            let facts = Facts::worker(u64::from(worker.0));
+            refusal.fill(text, &facts, "%w is in no callback")
+        }
         _ => say_object(text, refusal, task),
     }
 }
 
-// Where a worker is, and since when.
-fn say_place(
-    text: &mut String,
-    refusal: &Refusal<'_>,
-    worker: WorkerId,
-    place: Place,
-) -> Result<(), AllocError> {
-    let since = refusal.notes.since(worker);
-    let place = PlaceName(refusal.notes, place);
-    write!(text, "w{} is {place} since line {since}", worker.0)
+// The instance of a step of a teardown.
+fn torn(task: &Task) -> Option<InstanceId> {
+    match task {
+        Task::Event(
+            Step::StartTeardown { instance, .. }
+            | Step::CompleteTeardown { instance, .. }
+            | Step::Finish { instance },
+        ) => Some(*instance),
+        _ => None,
+    }
 }
 
 // Why an operation doesn't go on.
-fn say_operation(
-    text: &mut String,
-    refusal: &Refusal<'_>,
-    operation: OpId,
-) -> Result<(), AllocError> {
-    if let Some(worker) = worker_in(refusal.state, operation) {
-        if let Some(place) = refusal.state.place(worker) {
-            return say_place(text, refusal, worker, place);
-        }
+fn say_operation(text: &mut Text, refusal: &Refusal<'_>, operation: OpId) {
+    if let Some((worker, place)) = worker_in(refusal.state, operation) {
+        return say_where(text, refusal.notes, worker, place);
     }
+    let facts = Facts::operation(operation.0);
     if let Some(worker) = refusal.state.sync_worker(operation) {
-        return write!(text, "its next postoperation is for w{} alone", worker.0);
+        let facts = Facts::worker(u64::from(worker.0));
+        return refusal.fill(text, &facts, "its next postoperation is for %w alone");
     }
     match refusal.state.is_done(operation) {
-        Some(false) => write!(text, "o{} isn't done", operation.0),
-        _ => write!(text, "the reply of o{} was collected", operation.0),
+        Some(false) => refusal.fill(text, &facts, "%o isn't done"),
+        _ => refusal.fill(text, &facts, "the reply of %o was collected"),
     }
 }
 
-// The worker that is in a callback or a call for an operation.
-fn worker_in(state: &State, operation: OpId) -> Option<WorkerId> {
+// The worker that is in a callback or a call for an operation, and where.
+fn worker_in(state: &State, operation: OpId) -> Option<(WorkerId, Place)> {
     for number in 0..WORKERS as u8 {
         let worker = WorkerId(number);
-        match state.place(worker) {
-            Some(Place::Pre(o, _) | Place::Post(o, _) | Place::Drain(o, _) | Place::Base(o))
-                if o == operation => {
-                return Some(worker);
-            }
-            _ => {}
+        let place = state.place(worker).unwrap_or(Place::Idle);
+        if is_for(place, operation) {
+            return Some((worker, place));
         }
     }
     None
 }
 
+// Whether a callback or a call is for an operation, in its turn.
+fn is_for(place: Place, operation: OpId) -> bool {
+    match place {
+        Place::Pre(other, _)
+        | Place::Post(other, _)
+        | Place::Drain(other, _)
+        | Place::Base(other) => { other == operation }
+        _ => false,
+    }
+}
+
 // Why an instance isn't so far.
-fn say_instance(
-    text: &mut String,
-    refusal: &Refusal<'_>,
-    task: &Task,
-    instance: u16,
-) -> Result<(), AllocError> {
-    let Some(note) = refusal.notes.instances.get(usize::from(instance)) else {
-        return write!(text, "{}", sentence(Status::WrongStep));
+fn say_instance(text: &mut Text, refusal: &Refusal<'_>, task: &Task, instance: u64) {
+    let Some(note) = refusal.notes.instance(instance) else {
+        return say_sentence(text, Status::WrongStep);
     };
-    let named = Named::Instance(refusal.notes, instance);
     let is_finish = matches!(task, Task::Event(Step::Finish { .. }));
     if is_finish || note.phase != Phase::Stopping {
-        let phase = phase_word(note.phase);
-        return write!(text, "{named} is {phase} since line {}", note.since);
+        return say_phase(text, refusal, instance, &note);
     }
     let is_start = matches!(task, Task::Event(Step::StartTeardown { .. }));
-    match note.started {
-        (started, _) if is_start => {
-            write!(text, "the teardown of {named} started on line {started}")
-        }
-        (0, _) => write!(text, "the teardown of {named} hasn't started"),
-        (started, 0) => write!(text, "the teardown-start of line {started} hasn't returned"),
-        _ => write!(text, "a query of {named} hasn't returned"),
+    let (line, words) = teardown_words(note.started, is_start);
+    refusal.fill(text, &Facts::instance_since(instance, line), words)
+}
+
+// How far an instance's life is, and since when.
+fn say_phase(text: &mut Text, refusal: &Refusal<'_>, instance: u64, note: &InstanceNote) {
+    let facts = Facts {
+        phase: Some(note.phase),
+        ..Facts::instance_since(instance, note.since)
+    };
+    refusal.fill(text, &facts, "%i is %P since line %l")
+}
+
+// What isn't so far of a teardown, and the line that is told with it.
+fn teardown_words(started: (u32, u32), is_start: bool) -> (u32, &'static str) {
+    match started {
+        (started, _) if is_start => (started, "the teardown of %i started on line %l"),
+        (0, _) => (0, "the teardown of %i hasn't started"),
+        (started, 0) => (started, "the teardown-start of line %l hasn't returned"),
+        _ => (0, "a query of %i hasn't returned"),
     }
 }
 
 // The words for how far a filter's life is.
-fn filter_word(phase: FilterPhase) -> &'static str {
+fn filter_words(phase: FilterPhase) -> &'static str {
     match phase {
-        FilterPhase::Loaded => "has to be unloaded first: it is loaded",
-        FilterPhase::Unloading => "is being unloaded",
-        FilterPhase::Emptied => "has lost its volume contexts",
-        FilterPhase::NotLoaded => "isn't loaded any more",
+        FilterPhase::Loaded => "%f has to be unloaded first: it is loaded since line %l",
+        FilterPhase::Unloading => "%f is being unloaded since line %l",
+        FilterPhase::Emptied => "%f has lost its volume contexts since line %l",
+        FilterPhase::NotLoaded => "%f isn't loaded any more since line %l",
     }
 }
 
 // The words for how far a volume's life is.
-fn volume_word(phase: VolumePhase) -> &'static str {
+fn volume_words(phase: VolumePhase) -> &'static str {
     match phase {
-        VolumePhase::Mounted => "has to be dismounted first: it is mounted",
-        VolumePhase::Dismounting => "is being dismounted",
-        VolumePhase::Emptied => "has lost its contexts",
-        VolumePhase::Finished => "is dismounted",
+        VolumePhase::Mounted => "%v has to be dismounted first: it is mounted since line %l",
+        VolumePhase::Dismounting => "%v is being dismounted since line %l",
+        VolumePhase::Emptied => "%v has lost its contexts since line %l",
+        VolumePhase::Finished => "%v is dismounted since line %l",
     }
 }
 
 // How far the life of a filter or a volume is.
-fn say_object(text: &mut String, refusal: &Refusal<'_>, task: &Task) -> Result<(), AllocError> {
-    let notes = refusal.notes;
-    if let Some(volume) = volume_of(task) {
-        if let Some(note) = notes.volumes.get(usize::from(volume.0)) {
-            let (named, word) = (Named::Volume(notes, volume.0), volume_word(note.phase));
-            return write!(text, "{named} {word} since line {}", note.since);
-        }
+fn say_object(text: &mut Text, refusal: &Refusal<'_>, task: &Task) {
+    if let Some((facts, words)) = volume_life(refusal.notes, task) {
+        return refusal.fill(text, &facts, words);
     }
-    if let Some(filter) = filter_of(task, refusal.place) {
-        if let Some(note) = notes.filters.get(usize::from(filter.0)) {
-            let (named, word) = (Named::Filter(notes, filter.0), filter_word(note.phase));
-            return write!(text, "{named} {word} since line {}", note.since);
-        }
+    if let Some((facts, words)) = filter_life(refusal, task) {
+        return refusal.fill(text, &facts, words);
     }
     match handle_of(task) {
-        Some(handle) => {
-            write!(
-                text,
-                "the cleanup of h{handle} comes once, and is done before its close"
-            )
-        }
-        None => write!(text, "{}", sentence(Status::WrongStep)),
+        Some(handle) => refusal.fill(
+            text,
+            &Facts::handle(handle),
+            "the cleanup of %h comes once, and is done before its close",
+        ),
+        None => say_sentence(text, Status::WrongStep),
     }
 }
 
+// How far the life of the volume is that a line names.
+fn volume_life(notes: &Notes, task: &Task) -> Option<(Facts, &'static str)> {
+    let volume = u64::from(volume_of(task)?.0);
+    let note = notes.volume(volume)?;
+    Some((
+        Facts::volume_since(volume, note.since),
+        volume_words(note.phase),
+    ))
+}
+
+// How far the life of the filter is that a line names.
+fn filter_life(refusal: &Refusal<'_>, task: &Task) -> Option<(Facts, &'static str)> {
+    let filter = u64::from(filter_of(task, refusal.place)?.0);
+    let note = refusal.notes.filter(filter)?;
+    Some((
+        Facts::filter_since(filter, note.since),
+        filter_words(note.phase),
+    ))
+}
+
 // What is going, and since when.
-fn say_going(text: &mut String, refusal: &Refusal<'_>, task: &Task) -> Result<(), AllocError> {
-    let notes = refusal.notes;
+fn say_going(text: &mut Text, refusal: &Refusal<'_>, task: &Task) {
     if let Some(instance) = instance_of(task, refusal.place) {
-        return say_going_instance(text, notes, instance);
+        return say_going_instance(text, refusal, instance);
     }
     let Some(filter) = filter_of(task, refusal.place) else {
-        return write!(text, "{}", sentence(Status::DeletingObject));
+        return say_sentence(text, Status::DeletingObject);
     };
-    let named = Named::Filter(notes, filter.0);
-    match notes.filters.get(usize::from(filter.0)) {
+    let filter = u64::from(filter.0);
+    match refusal.notes.filter(filter) {
         Some(note) if note.phase != FilterPhase::Loaded => {
-            write!(text, "{named} is being unloaded since line {}", note.since)
+            let facts = Facts::filter_since(filter, note.since);
+            refusal.fill(text, &facts, "%f is being unloaded since line %l")
         }
-        _ => write!(text, "{named} is asked already"),
+        _ => refusal.fill(text, &Facts::filter_since(filter, 0), "%f is asked already"),
     }
 }
 
 // Whether an instance is going, and since when.
-fn say_going_instance(text: &mut String, notes: &Notes, instance: u16) -> Result<(), AllocError> {
-    let named = Named::Instance(notes, instance);
-    match notes.instances.get(usize::from(instance)) {
-        Some(note) if note.phase != Phase::Attached => {
-            let phase = phase_word(note.phase);
-            write!(text, "{named} is {phase} since line {}", note.since)
-        }
-        _ => write!(text, "{named} is asked already, or its object is going"),
+fn say_going_instance(text: &mut Text, refusal: &Refusal<'_>, instance: u64) {
+    match refusal.notes.instance(instance) {
+        Some(note) if note.phase != Phase::Attached => say_phase(text, refusal, instance, &note),
+        _ => refusal.fill(
+            text,
+            &Facts::instance(instance),
+            "%i is asked already, or its object is going",
+        ),
     }
 }
 
 // Who holds an operation, if not the instance whose callback resumes it.
-fn say_not_held(text: &mut String, refusal: &Refusal<'_>, task: &Task) -> Result<(), AllocError> {
+fn say_not_held(text: &mut Text, refusal: &Refusal<'_>, task: &Task) {
     let operation = operation_of(task, refusal.place).unwrap_or(0);
-    match held_at(refusal.state, OpId(operation)) {
-        Some((instance, _)) => {
-            let named = Named::Instance(refusal.notes, instance.0);
-            let own = instance_of(task, refusal.place).unwrap_or(0);
-            write!(
-                text,
-                "{named} holds o{operation}, and the callback is one of i{own}"
-            )
-        }
-        None => write!(text, "nobody holds o{operation}"),
-    }
+    let facts = Facts::operation(operation);
+    let Some((holder, _)) = held_at(refusal.state, OpId(operation)) else {
+        return refusal.fill(text, &facts, "nobody holds %o");
+    };
+    let held = Facts {
+        instance: Some(u64::from(holder.0)),
+        ..facts
+    };
+    refusal.fill(text, &held, "%i holds %o, and the callback is one of ");
+    let own = instance_of(task, refusal.place).unwrap_or(0);
+    refusal.fill(text, &Facts::instance(own), "%j")
 }
 
 // What is in the way.
-fn say_busy(
-    text: &mut String,
-    refusal: &Refusal<'_>,
-    task: &Task,
-    count: u64,
-) -> Result<(), AllocError> {
+fn say_busy(text: &mut Text, refusal: &Refusal<'_>, task: &Task, count: u64) {
     match task {
         Task::Event(Step::CompleteTeardown { instance, .. }) => {
-            write!(text, "{} in flight at it", Verb(count, "operation"))?;
+            push_verb(text, count, "operation");
+            text.push_str(" in flight at it");
             say_group(text, refusal, Group::At(*instance), count)
         }
-        Task::Event(Step::Finish { .. }) => {
-            write!(text, "{} not cleaned up", Those(count, "contexts"))?;
-            say_contexts(text, refusal, task)
-        }
-        Task::Event(Step::EmptyFilter { filter }) => {
-            write!(text, "{} not detached", Those(count, "instances"))?;
-            say_attached(text, refusal, *filter)
-        }
-        Task::Event(Step::FinishFilter { .. } | Step::FinishVolume { .. }) => {
-            write!(text, "{} not cleaned up", Verb(count, "volume context"))?;
-            say_contexts(text, refusal, task)
-        }
         Task::Event(Step::StartDismount { volume }) => {
-            write!(text, "{} not collected", Those(count, "operations"))?;
+            push_those(text, count, "operations");
+            text.push_str(" not collected");
             say_group(text, refusal, Group::On(volume.0), count)
         }
+        Task::Event(Step::EmptyFilter { filter }) => {
+            push_those(text, count, "instances");
+            text.push_str(" not detached");
+            say_attached(text, refusal, *filter)
+        }
         Task::Event(Step::EmptyVolume { volume }) => say_left_open(text, refusal, volume.0, count),
-        _ => write!(text, "{count} are in the way"),
+        other => say_busy_end(text, refusal, other, count),
+    }
+}
+
+// What is in the way of an end.
+fn say_busy_end(text: &mut Text, refusal: &Refusal<'_>, task: &Task, count: u64) {
+    match task {
+        Task::Event(Step::Finish { .. }) => {
+            push_those(text, count, "contexts");
+            text.push_str(" not cleaned up");
+            say_contexts(text, refusal, task)
+        }
+        Task::Event(Step::FinishFilter { .. } | Step::FinishVolume { .. }) => {
+            push_verb(text, count, "volume context");
+            text.push_str(" not cleaned up");
+            say_contexts(text, refusal, task)
+        }
+        _ => {
+            text.push_number(count);
+            text.push_str(" are in the way")
+        }
     }
 }
 
@@ -590,24 +682,18 @@ impl Group {
 }
 
 // The operations of a group, if the notes tell all that are in the way.
-fn say_group(
-    text: &mut String,
-    refusal: &Refusal<'_>,
-    group: Group,
-    count: u64,
-) -> Result<(), AllocError> {
+fn say_group(text: &mut Text, refusal: &Refusal<'_>, group: Group, count: u64) {
     if group.count(refusal) != count {
-        return Ok(());
+        return;
     }
     let mut is_first = true;
     for number in 0..refusal.state.operations_begun() {
         if group.has(refusal, number) {
-            let named = Named::Operation(refusal.notes, number);
-            write!(text, "{}{named}", mark(is_first))?;
+            text.push_str(mark(is_first));
+            push_operation(text, refusal.notes, number);
             is_first = false;
         }
     }
-    Ok(())
 }
 
 // What stands before one of a list.
@@ -616,22 +702,17 @@ fn mark(is_first: bool) -> &'static str {
 }
 
 // The instances of a filter that aren't detached.
-fn say_attached(
-    text: &mut String,
-    refusal: &Refusal<'_>,
-    filter: FilterId,
-) -> Result<(), AllocError> {
+fn say_attached(text: &mut Text, refusal: &Refusal<'_>, filter: FilterId) {
     let mut is_first = true;
-    let mut number = 0u16;
+    let mut number = 0u64;
     for note in &refusal.notes.instances {
         if note.phase != Phase::Detached && note.filter == filter.0 {
-            let named = Named::Instance(refusal.notes, number);
-            write!(text, "{}{named}", mark(is_first))?;
+            text.push_str(mark(is_first));
+            push_instance(text, refusal.notes, number);
             is_first = false;
         }
         number = number.saturating_add(1);
     }
-    Ok(())
 }
 
 // Whether a context keeps the line's instance, filter or volume from its end.
@@ -651,7 +732,7 @@ fn is_kept(refusal: &Refusal<'_>, task: &Task, note: &ContextNote) -> bool {
 }
 
 // The contexts that aren't cleaned up and keep it from its end.
-fn say_contexts(text: &mut String, refusal: &Refusal<'_>, task: &Task) -> Result<(), AllocError> {
+fn say_contexts(text: &mut Text, refusal: &Refusal<'_>, task: &Task) {
     let mut is_first = true;
     let ids = refusal.contexts.as_slice();
     for (number, note) in refusal.notes.contexts.iter().enumerate() {
@@ -660,21 +741,15 @@ fn say_contexts(text: &mut String, refusal: &Refusal<'_>, task: &Task) -> Result
             None => true,
         };
         if !is_cleaned && is_kept(refusal, task, note) {
-            let named = Named::Context(refusal.notes, number as u64);
-            write!(text, "{}{named}", mark(is_first))?;
+            text.push_str(mark(is_first));
+            push_context(text, refusal.notes, number as u64);
             is_first = false;
         }
     }
-    Ok(())
 }
 
 // What keeps a volume from being emptied: handles, and instances.
-fn say_left_open(
-    text: &mut String,
-    refusal: &Refusal<'_>,
-    volume: u8,
-    count: u64,
-) -> Result<(), AllocError> {
+fn say_left_open(text: &mut Text, refusal: &Refusal<'_>, volume: u8, count: u64) {
     let mut attached = 0u64;
     for note in &refusal.notes.instances {
         if note.phase != Phase::Detached && note.volume == volume {
@@ -683,61 +758,34 @@ fn say_left_open(
     }
     let open = count.saturating_sub(attached);
     match (open, attached) {
-        (0, _) => write!(text, "{} not detached", Verb(attached, "instance")),
-        (_, 0) => write!(text, "{} open", Verb(open, "handle")),
-        _ => write!(
-            text,
-            "{} open, and {} not detached",
-            Verb(open, "handle"),
-            Verb(attached, "instance")
-        ),
-    }?;
+        (0, _) => {
+            push_verb(text, attached, "instance");
+            text.push_str(" not detached");
+        }
+        (_, 0) => {
+            push_verb(text, open, "handle");
+            text.push_str(" open");
+        }
+        _ => {
+            push_verb(text, open, "handle");
+            text.push_str(" open, and ");
+            push_verb(text, attached, "instance");
+            text.push_str(" not detached");
+        }
+    }
     say_left_instances(text, refusal, volume)
 }
 
 // The instances on a volume that aren't detached.
-fn say_left_instances(
-    text: &mut String,
-    refusal: &Refusal<'_>,
-    volume: u8,
-) -> Result<(), AllocError> {
+fn say_left_instances(text: &mut Text, refusal: &Refusal<'_>, volume: u8) {
     let mut is_first = true;
-    let mut number = 0u16;
+    let mut number = 0u64;
     for note in &refusal.notes.instances {
         if note.phase != Phase::Detached && note.volume == volume {
-            let named = Named::Instance(refusal.notes, number);
-            write!(text, "{}{named}", mark(is_first))?;
+            text.push_str(mark(is_first));
+            push_instance(text, refusal.notes, number);
             is_first = false;
         }
         number = number.saturating_add(1);
-    }
-    Ok(())
-}
-
-// So many of those that a thing has, with their verb: `1 of its contexts is`, `2 of its contexts are`.
-#[derive(Clone, Copy)]
-struct Those(u64, &'static str);
-
-impl fmt::Display for Those {
-    fn fmt<W: fmt::Write>(&self, f: &mut fmt::Formatter<W>) -> fmt::Result {
-        let Those(count, what) = self;
-        match count {
-            1 => write!(f, "1 of its {what} is"),
-            _ => write!(f, "{count} of its {what} are"),
-        }
-    }
-}
-
-// So many of a thing, with its verb: `1 handle is`, `2 handles are`.
-#[derive(Clone, Copy)]
-struct Verb(u64, &'static str);
-
-impl fmt::Display for Verb {
-    fn fmt<W: fmt::Write>(&self, f: &mut fmt::Formatter<W>) -> fmt::Result {
-        let Verb(count, what) = self;
-        match count {
-            1 => write!(f, "1 {what} is"),
-            _ => write!(f, "{count} {what}s are"),
-        }
     }
 }

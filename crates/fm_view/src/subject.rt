@@ -1,42 +1,29 @@
 //! What a line is about, as far as its task names it or the callback is for it that its worker is in.
 
-use crate::event::{instance_in, operation_in};
 use fm_core::{Place, Step};
 use fm_data::Request;
+use fm_report::{Facts, instance_in, operation_in};
 use fm_script::Task;
-use fm_types::{FilterId, OpId, VolumeId, WorkerId};
+use fm_types::{ContextKind, FilterId, OpId, VolumeId, WorkerId};
 
-/// What a line that was refused names, by numbers.
-#[derive(Clone, Copy, Debug, Default)]
-pub struct Subject {
-    /// The worker.
-    pub worker: Option<u64>,
-    /// The filter.
-    pub filter: Option<u64>,
-    /// The volume.
-    pub volume: Option<u64>,
-    /// The instance.
-    pub instance: Option<u64>,
-    /// The operation.
-    pub operation: Option<u64>,
-    /// The handle.
-    pub handle: Option<u64>,
+/// What a line names, whose worker was there before.
+pub fn facts_of(task: &Task, place: Place) -> Facts {
+    Facts {
+        worker: worker_of(task).map(|worker| u64::from(worker.0)),
+        filter: filter_of(task, place).map(|filter| u64::from(filter.0)),
+        volume: volume_of(task).map(|volume| u64::from(volume.0)),
+        instance: instance_of(task, place),
+        operation: operation_of(task, place),
+        handle: handle_of(task),
+        ..Facts::none()
+    }
 }
 
-impl Subject {
-    /// That of a line of a script, whose worker was there before; nothing where the line couldn't be read.
-    pub fn of(task: Option<&Task>, place: Place) -> Subject {
-        let Some(task) = task else {
-            return Subject::default();
-        };
-        Subject {
-            worker: worker_of(task).map(|worker| u64::from(worker.0)),
-            filter: filter_of(task, place).map(|filter| u64::from(filter.0)),
-            volume: volume_of(task).map(|volume| u64::from(volume.0)),
-            instance: instance_of(task, place).map(u64::from),
-            operation: operation_of(task, place),
-            handle: handle_of(task),
-        }
+/// The worker of an allocation, and the kind of its context.
+pub fn context_kind(task: &Task) -> Option<(WorkerId, ContextKind)> {
+    match task {
+        Task::Event(Step::Allocate { worker, kind, .. }) => Some((*worker, *kind)),
+        _ => None,
     }
 }
 
@@ -79,7 +66,7 @@ pub fn turned(task: &Task) -> Option<OpId> {
 }
 
 /// The instance that a line names, or whose callback its worker is in.
-pub fn instance_of(task: &Task, place: Place) -> Option<u16> {
+pub fn instance_of(task: &Task, place: Place) -> Option<u64> {
     match task {
         Task::Plan { instance, .. }
         | Task::Phase(instance)
@@ -90,7 +77,7 @@ pub fn instance_of(task: &Task, place: Place) -> Option<u16> {
             | Step::DrainTake { instance, .. }
             | Step::CompleteTeardown { instance, .. }
             | Step::Finish { instance },
-        ) => Some(instance.0),
+        ) => Some(u64::from(instance.0)),
         _ => instance_in(place),
     }
 }

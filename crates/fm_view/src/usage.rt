@@ -1,9 +1,8 @@
 //! How commands are spelled, and which word of a line isn't.
 
-use crate::named::Ascii;
+use fm_report::{Text, push_ascii};
 use fm_script::Keyword;
 use fm_text::{read_id, read_number, read_status};
-use std::alloc::AllocError;
 
 /// The words that stand after a command's first word.
 pub fn usage(keyword: Keyword) -> &'static str {
@@ -51,28 +50,61 @@ fn usage_of_few(keyword: Keyword) -> &'static str {
 }
 
 /// Appends what of a line isn't as it is spelled: the first word that can't be read, one that is missing, or one too many.
-pub fn say_wrong(text: &mut String, line: &[u8], usage: &'static str) -> Result<(), AllocError> {
+pub fn say_wrong(text: &mut Text, line: &[u8], usage: &'static str) {
     let mut forms = usage.as_bytes().split(|byte| *byte == b' ');
     let mut chosen = None;
     for word in line.split(|byte| *byte == b' ').skip(1) {
         if word.is_empty() {
-            return write!(text, "a space stands before a space or at the end");
+            return text.push_str("a space stands before a space or at the end");
         }
-        match (chosen, forms.next()) {
-            (Some(before), _) => {
-                return write!(text, "what stands behind '{}' can't be read", Ascii(before));
-            }
-            (None, Some(form)) if is_choice(form) && is_chosen(usage, word) => {
-                chosen = Some(word);
-            }
-            (None, Some(form)) if is_choice(form) || !fits(form, word) => {
-                return write!(text, "'{}' can't be read", Ascii(word));
-            }
-            (None, Some(_)) => {}
-            (None, None) => return write!(text, "'{}' is a word too many", Ascii(word)),
+        if let Some(before) = chosen {
+            return say_quoted(text, "what stands behind ", before, " can't be read");
+        }
+        match judge(usage, forms.next(), word) {
+            Judged::Fits => {}
+            Judged::Chosen => chosen = Some(word),
+            Judged::Unread => return say_quoted(text, "", word, " can't be read"),
+            Judged::TooMany => return say_quoted(text, "", word, " is a word too many"),
         }
     }
-    write!(text, "a word is missing")
+    text.push_str("a word is missing")
+}
+
+// What a word of a line is, at its place.
+#[derive(Clone, Copy)]
+enum Judged {
+    // One of the form that stands there.
+    Fits,
+    // One of those of which one is written, behind which no word of the form can be told.
+    Chosen,
+    // None that can be read there.
+    Unread,
+    // One too many.
+    TooMany,
+}
+
+fn judge(usage: &'static str, form: Option<&[u8]>, word: &[u8]) -> Judged {
+    match form {
+        None => Judged::TooMany,
+        Some(form) if is_choice(form) => {
+            if is_chosen(usage, word) {
+                Judged::Chosen
+            } else {
+                Judged::Unread
+            }
+        }
+        Some(form) if fits(form, word) => Judged::Fits,
+        Some(_) => Judged::Unread,
+    }
+}
+
+// Appends a word in quotes, with what stands before and behind it.
+fn say_quoted(text: &mut Text, before: &str, word: &[u8], behind: &str) {
+    text.push_str(before);
+    text.push('\'');
+    push_ascii(text, word);
+    text.push('\'');
+    text.push_str(behind)
 }
 
 // Whether the form is the first of some words of which one is written.

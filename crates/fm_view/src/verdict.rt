@@ -3,16 +3,15 @@
 ghost use Rattle.std.specs.Prelude.{◌≡◌};
 ghost use Rattle.fm_view.specs.Ends.{status_of};
 
-use crate::event::Event;
 use crate::expect::Expectations;
-use crate::named::{Counted, Named, PlaceName, Stated};
-use crate::notes::{LeakNote, Notes};
-use fm_core::{Entry, Hold, Phase, Place, PostState, PreState, State};
+use fm_core::{Hold, Phase, Place, State};
 use fm_data::PreVerdict;
+use fm_report::{
+    Event, Facts, Fault, Kind, Notes, Text, counted_for, fill, held_at, push_count, push_instance,
+    push_place, say_leak, stands_at,
+};
 use fm_script::ScriptEnd;
-use fm_types::{InstanceId, OpId, Status, WorkerId};
-use std::alloc::AllocError;
-use std::fmt;
+use fm_types::{OpId, Status, WorkerId};
 
 /// The exit status of a script that was shown: that of its end. Of one that ended well it is 2 if a line expects what can't be read, else 6 if an expectation
 /// wasn't met, and else 5 if it left a reference behind, or an operation that a filter holds, or if a line gave back or resumed what it didn't have.
@@ -34,56 +33,14 @@ pub fn exit_status(
     }
 }
 
-/// Where an operation is held: the instance, and whether its preoperation or its postoperation holds it.
-pub fn held_at(state: &State, operation: OpId) -> Option<(InstanceId, Hold)> {
-    let trace = state.trace(operation)?;
-    for entry in trace {
-        match entry {
-            Entry::Pre(visit) if visit.state == PreState::Held => {
-                return Some((visit.instance, Hold::Pre));
-            }
-            Entry::Post(visit) if visit.state == PostState::Held => {
-                return Some((visit.instance, Hold::Post));
-            }
-            _ => {}
-        }
-    }
-    None
-}
-
-/// The verdict that counts in place of the one that a preoperation gave, where another one does: none where it asked for a postoperation that its filter
-/// doesn't have, or completed a cleanup or a close; and for a create that it completed with Success the completion with AccessDenied.
-pub fn counted_for(given: PreVerdict, stands: PreState) -> Option<PreVerdict> {
-    match (given, stands) {
-        (
-            PreVerdict::WithCallback(_) | PreVerdict::Synchronize(_) | PreVerdict::Complete(_),
-            PreState::Passed,
-        ) => Some(PreVerdict::NoCallback),
-        (PreVerdict::Complete(status), PreState::Completed(other)) if status != other => {
-            Some(PreVerdict::Complete(other))
-        }
-        _ => None,
-    }
-}
-
-/// How the preoperation of an instance stands that saw an operation, if it did.
-pub fn stands_at(state: &State, operation: OpId, instance: u16) -> Option<PreState> {
-    for entry in state.trace(operation)? {
-        match entry {
-            Entry::Pre(pre) if pre.instance.0 == instance => return Some(pre.state),
-            _ => {}
-        }
-    }
-    None
-}
-
 /// The verdict that counts in place of the one that a preoperation gave that has just returned.
 pub fn counted_at(state: &State, event: &Event) -> Option<PreVerdict> {
-    let Event::Pre { visit, verdict, .. } = event else {
+    let facts = &event.facts;
+    if event.kind != Kind::Pre {
         return None;
-    };
-    let stands = stands_at(state, OpId(visit.operation), visit.instance)?;
-    counted_for(*verdict, stands)
+    }
+    let stands = stands_at(state, OpId(facts.operation?), facts.instance?)?;
+    counted_for(facts.verdict?, stands)
 }
 
 /// How many operations filters hold.
@@ -98,223 +55,224 @@ pub fn held(state: &State) -> u64 {
 }
 
 /// Appends what is left.
-pub fn say_end(
-    text: &mut String,
-    notes: &Notes,
-    state: &State,
-    lines: u32,
-) -> Result<(), AllocError> {
-    write!(text, "{lines} lines, ")?;
-    say_refusals(text, notes)?;
-    write!(
-        text,
-        "contexts: {} born, {} cleaned up, {} left behind\n",
-        state.born(),
-        state.cleaned_count(),
-        Counted(state.leaks(), "reference"),
-    )?;
-    say_leaks(text, notes)?;
-    say_operations(text, notes, state)?;
-    say_workers(text, notes, state)?;
-    say_handles(text, notes, state)?;
+pub fn say_end(text: &mut Text, notes: &Notes, state: &State, lines: u32) {
+    text.push_number(u64::from(lines));
+    text.push_str(" lines, ");
+    say_refusals(text, notes);
+    say_contexts(text, state);
+    say_leaks(text, notes);
+    say_operations(text, notes, state);
+    say_workers(text, notes, state);
+    say_handles(text, notes, state);
     say_instances(text, notes)
 }
 
+// What became of contexts.
+fn say_contexts(text: &mut Text, state: &State) {
+    text.push_str("contexts: ");
+    text.push_number(state.born());
+    text.push_str(" born, ");
+    text.push_number(state.cleaned_count());
+    text.push_str(" cleaned up, ");
+    push_count(text, state.leaks(), "reference");
+    text.push_str(" left behind\n")
+}
+
 // How many lines were refused, by their statuses.
-fn say_refusals(text: &mut String, notes: &Notes) -> Result<(), AllocError> {
-    write!(text, "{} of them refused", notes.refused())?;
+fn say_refusals(text: &mut Text, notes: &Notes) {
+    text.push_number(notes.refused());
+    text.push_str(" of them refused");
     let mut mark = ": ";
     for (number, count) in notes.refusals.iter().enumerate() {
-        let status = match u8::try_from(number) {
-            Ok(number) => Status::from_number(number, 0),
-            Err(_) => None,
-        };
-        if let (Some(status), true) = (status, *count > 0) {
-            write!(
-                text,
-                "{mark}{count} with {} {}",
-                status.number(),
-                status.name()
-            )?;
+        if *count > 0 {
+            text.push_str(mark);
+            say_refused_with(text, number, *count);
             mark = ", ";
         }
     }
     text.push('\n')
 }
 
-/// Appends which references were left behind, and by which callbacks.
-pub fn say_leaks(text: &mut String, notes: &Notes) -> Result<(), AllocError> {
-    for leak in &notes.leaks {
-        write!(text, "  ")?;
-        say_leak(text, notes, leak)?;
-        text.push('\n')?;
+// How many were refused with the status of that number.
+fn say_refused_with(text: &mut Text, number: usize, count: u64) {
+    text.push_number(count);
+    text.push_str(" with ");
+    text.push_number(number as u64);
+    text.push(' ');
+    text.push_str(name_of(number))
+}
+
+// The name of the status of that number.
+fn name_of(number: usize) -> &'static str {
+    let Ok(number) = u8::try_from(number) else {
+        return "";
+    };
+    match Status::from_number(number, 0) {
+        Some(status) => status.name(),
+        None => "",
     }
-    Ok(())
+}
+
+/// Appends which references were left behind, and by which callbacks.
+pub fn say_leaks(text: &mut Text, notes: &Notes) {
+    for leak in &notes.leaks {
+        text.push_str("  ");
+        say_leak(text, notes, leak);
+        text.push('\n');
+    }
 }
 
 /// Appends which operations filters hold.
-pub fn say_held(text: &mut String, notes: &Notes, state: &State) -> Result<(), AllocError> {
+pub fn say_held(text: &mut Text, notes: &Notes, state: &State) {
     for number in 0..state.operations_begun() {
         if held_at(state, OpId(number)).is_some() {
-            say_operation(text, notes, state, number)?;
+            say_operation(text, notes, state, number);
         }
     }
-    Ok(())
-}
-
-/// Appends that a reference was left behind, and by which callback.
-pub fn say_leak(text: &mut String, notes: &Notes, leak: &LeakNote) -> Result<(), AllocError> {
-    let context = Named::Context(notes, leak.context);
-    let place = PlaceName(notes, leak.place);
-    write!(
-        text,
-        "LEAKED {context}, {place}, which returned on line {}",
-        leak.line
-    )
 }
 
 // The operations that are held, under way, or not collected.
-fn say_operations(text: &mut String, notes: &Notes, state: &State) -> Result<(), AllocError> {
+fn say_operations(text: &mut Text, notes: &Notes, state: &State) {
     for number in 0..state.operations_begun() {
-        say_operation(text, notes, state, number)?;
+        say_operation(text, notes, state, number);
     }
-    Ok(())
 }
 
-fn say_operation(
-    text: &mut String,
-    notes: &Notes,
-    state: &State,
-    number: u64,
-) -> Result<(), AllocError> {
-    let named = Named::Operation(notes, number);
+fn say_operation(text: &mut Text, notes: &Notes, state: &State, number: u64) {
+    let facts = Facts::operation(number);
     match (held_at(state, OpId(number)), state.is_done(OpId(number))) {
         (Some((instance, hold)), _) => {
-            let callback = match hold {
-                Hold::Pre => "preoperation",
-                Hold::Post => "postoperation",
+            let facts = Facts {
+                instance: Some(u64::from(instance.0)),
+                ..facts
             };
-            let instance = Named::Instance(notes, instance.0);
-            write!(text, "  HELD {named} by the {callback} of {instance}\n")
+            fill(text, notes, &facts, held_words(hold))
         }
-        (None, Some(false)) => write!(text, "  under way: {named}\n"),
-        _ => Ok(()),
+        (None, Some(false)) => fill(text, notes, &facts, "  under way: %O\n"),
+        _ => {}
+    }
+}
+
+// By what an operation is held.
+fn held_words(hold: Hold) -> &'static str {
+    match hold {
+        Hold::Pre => "  HELD %O by the preoperation of %i\n",
+        Hold::Post => "  HELD %O by the postoperation of %i\n",
     }
 }
 
 // The workers that are inside something.
-fn say_workers(text: &mut String, notes: &Notes, state: &State) -> Result<(), AllocError> {
+fn say_workers(text: &mut Text, notes: &Notes, state: &State) {
     for number in 0..16u8 {
         let worker = WorkerId(number);
-        if let Some(place) = state.place(worker) {
-            if place != Place::Idle {
-                let since = notes.since(worker);
-                write!(
-                    text,
-                    "  w{number} is {} since line {since}\n",
-                    PlaceName(notes, place)
-                )?;
-            }
+        let place = state.place(worker).unwrap_or(Place::Idle);
+        if place != Place::Idle {
+            text.push_str("  ");
+            say_where(text, notes, worker, place);
+            text.push('\n');
         }
     }
-    Ok(())
+}
+
+/// Appends where a worker is, and since when.
+pub fn say_where(text: &mut Text, notes: &Notes, worker: WorkerId, place: Place) {
+    text.push('w');
+    text.push_number(u64::from(worker.0));
+    text.push_str(" is ");
+    push_place(text, notes, place);
+    text.push_str(" since line ");
+    text.push_number(u64::from(notes.since(worker)))
 }
 
 // The handles that are open.
-fn say_handles(text: &mut String, notes: &Notes, state: &State) -> Result<(), AllocError> {
+fn say_handles(text: &mut Text, notes: &Notes, state: &State) {
     let count = state.handles();
     if count == 0 {
-        return Ok(());
+        return;
     }
-    write!(text, "  handles open: {count}")?;
+    text.push_str("  handles open: ");
+    text.push_number(count as u64);
     if count == notes.handles.len() {
         for handle in &notes.handles {
-            write!(text, " h{handle}")?;
+            fill(text, notes, &Facts::handle(*handle), " %h");
         }
     }
     text.push('\n')
 }
 
 // The instances that aren't detached.
-fn say_instances(text: &mut String, notes: &Notes) -> Result<(), AllocError> {
+fn say_instances(text: &mut Text, notes: &Notes) {
     let mut mark = "  instances not detached: ";
-    let mut number = 0u16;
+    let mut number = 0u64;
     for note in &notes.instances {
         if note.phase != Phase::Detached {
-            write!(text, "{mark}{}", Named::Instance(notes, number))?;
+            text.push_str(mark);
+            push_instance(text, notes, number);
             mark = ", ";
         }
         number = number.saturating_add(1);
     }
     if mark == ", " {
         text.push('\n')
-    } else {
-        Ok(())
-    }
+    } else {}
 }
 
 /// Appends how many lines aren't as a script should be: which expect what can't be read, or gave back what they didn't have, which expectations weren't met, and
 /// in a strict run which refusals nothing expects.
-pub fn say_expectations(
-    text: &mut String,
-    expectations: &Expectations,
-    is_strict: bool,
-) -> Result<(), AllocError> {
-    if expectations.wrong > 0 {
-        write!(
-            text,
-            "  {} what can't be read\n",
-            Lines(expectations.wrong, "expects", "expect")
-        )?;
-    }
-    if expectations.misuses > 0 {
-        write!(
-            text,
-            "  {} gave back or resumed what it didn't have\n",
-            Counted(expectations.misuses, "line")
-        )?;
-    }
-    if expectations.unmet > 0 {
-        write!(
-            text,
-            "  {} not met\n",
-            Counted(expectations.unmet, "expectation")
-        )?;
-    }
-    if is_strict && expectations.surprises > 0 {
-        write!(
-            text,
-            "  {} that no line expects\n",
-            Counted(expectations.surprises, "refusal")
-        )?;
-    }
-    Ok(())
+pub fn say_expectations(text: &mut Text, expectations: &Expectations, is_strict: bool) {
+    let surprises = if is_strict { expectations.surprises } else { 0 };
+    say_lines(
+        text,
+        expectations.wrong,
+        "line",
+        wrong_words(expectations.wrong),
+    );
+    say_lines(
+        text,
+        expectations.misuses,
+        "line",
+        "gave back or resumed what it didn't have",
+    );
+    say_lines(text, expectations.unmet, "expectation", "not met");
+    say_lines(text, surprises, "refusal", "that no line expects")
 }
 
-// So many lines, with their verb.
-#[derive(Clone, Copy)]
-struct Lines(u64, &'static str, &'static str);
-
-impl fmt::Display for Lines {
-    fn fmt<W: fmt::Write>(&self, f: &mut fmt::Formatter<W>) -> fmt::Result {
-        let Lines(count, one, more) = self;
-        match count {
-            1 => write!(f, "1 line {one}"),
-            _ => write!(f, "{count} lines {more}"),
-        }
+// That so many lines expect what can't be read.
+fn wrong_words(count: u64) -> &'static str {
+    match count {
+        1 => "expects what can't be read",
+        _ => "expect what can't be read",
     }
+}
+
+// A line of its own that so many of these are so, where there are some.
+fn say_lines(text: &mut Text, count: u64, what: &str, words: &str) {
+    if count == 0 {
+        return;
+    }
+    text.push_str("  ");
+    push_count(text, count, what);
+    text.push(' ');
+    text.push_str(words);
+    text.push('\n')
 }
 
 /// Why an end wasn't a good one.
-pub fn say_fault(text: &mut String, end: ScriptEnd) -> Result<(), AllocError> {
+pub fn say_fault(text: &mut Text, end: ScriptEnd) {
     match end {
-        ScriptEnd::Ended => Ok(()),
-        ScriptEnd::NoMemory => write!(
-            text,
-            "{}: the script ended early\n",
-            Stated(Status::NoMemory)
-        ),
-        ScriptEnd::ReadFault => write!(text, "the script couldn't be read to its end\n"),
-        ScriptEnd::WriteFault => write!(text, "the output couldn't be written\n"),
+        ScriptEnd::Ended => {}
+        ScriptEnd::NoMemory => text.push_str("1 NoMemory: the script ended early\n"),
+        ScriptEnd::ReadFault => text.push_str("the script couldn't be read to its end\n"),
+        ScriptEnd::WriteFault => text.push_str("the output couldn't be written\n"),
+    }
+}
+
+/// What cut a script off, if something did.
+pub fn fault_of(end: ScriptEnd) -> Option<Fault> {
+    match end {
+        ScriptEnd::Ended => None,
+        ScriptEnd::NoMemory => Some(Fault::NoMemory),
+        ScriptEnd::ReadFault => Some(Fault::Read),
+        ScriptEnd::WriteFault => Some(Fault::Write),
     }
 }

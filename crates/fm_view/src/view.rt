@@ -2,29 +2,24 @@
 
 use crate::answer::printed;
 use crate::colour::{Colour, colour_of};
-use crate::event::{Event, Moment};
 use crate::expect::{Expectations, Expected, LineNote, Outcome, behind_mark, expected_in};
 use crate::happened::{Asked, refusal_in};
-use crate::inert::Inert;
-use crate::json::{
-    Detail, Told, say_begin_json, say_change_json, say_comment_json, say_end_json,
-    say_expectation_json, say_json, say_leak_json,
-};
-use crate::label::Label;
-use crate::named::{Ascii, Stated};
-use crate::notes::Notes;
-use crate::page::{PAGE_BEGIN, PAGE_END};
+use crate::learn::{bytes_in, learn};
 use crate::picture::draw;
 use crate::reason::{Refusal, say_refusal};
-use crate::subject::{Subject, worker_of};
-use crate::tally::Tally;
+use crate::subject::{facts_of, worker_of};
 use crate::verdict::{
-    counted_at, exit_status, held, say_end, say_expectations, say_fault, say_held, say_leak,
+    counted_at, exit_status, fault_of, held, say_end, say_expectations, say_fault, say_held,
     say_leaks,
 };
-use crate::words::say_detail;
 use fm_core::{Place, State, Step};
-use fm_data::{FileRequest, Request};
+use fm_data::PreVerdict;
+use fm_page::{Inert, Label, PAGE_BEGIN, PAGE_END};
+use fm_report::{
+    Detail, Event, Facts, Kind, Moment, Notes, Tally, Text, Told, push_ascii, say_begin_json,
+    say_change_json, say_comment_json, say_detail, say_end_json, say_expectation_json, say_json,
+    say_leak, say_leak_json,
+};
 use fm_script::{Interpreter, Listener, Said, ScriptEnd, Task, is_silent, read_lines};
 use fm_types::limits::{LINE, TURNS};
 use fm_types::{OpId, Status, WorkerId};
@@ -36,7 +31,7 @@ use std::mem;
 const COMMAND: usize = 27;
 
 /// How a run is shown.
-#[derive(Clone, Copy, Debug, PartialEq, Eq)]
+#[derive(Clone, Copy, PartialEq, Eq)]
 pub enum Manner {
     /// In words, line by line.
     Words,
@@ -51,7 +46,7 @@ pub enum Manner {
 }
 
 /// What is shown of a run, and how strictly it is judged.
-#[derive(Clone, Copy, Debug, PartialEq, Eq)]
+#[derive(Clone, Copy)]
 pub struct Shown {
     /// How it is shown.
     pub manner: Manner,
@@ -89,7 +84,7 @@ struct Line<'a> {
 // What is shown of a line, and what a script prints for it, so far.
 #[derive(Drop)]
 struct Answered {
-    text: String,
+    text: Text,
     printed: Vec<u8>,
     is_first: bool,
 }
@@ -107,7 +102,7 @@ struct View<W: Write + Drop> {
     shown: Shown,
     expectations: Expectations,
     /// In a check, what is told of the last line where no line expects it.
-    surprise: String,
+    surprise: Text,
     writer: W,
 }
 
@@ -124,7 +119,7 @@ impl<W: Write + Drop> View<W> {
             last: 0,
             shown,
             expectations: Expectations::new(alloc),
-            surprise: String::new(alloc),
+            surprise: Text::new(alloc),
             writer,
         })
     }
@@ -137,9 +132,9 @@ impl<W: Write + Drop> View<W> {
         if !self.is_json() {
             return Ok(());
         }
-        let mut text = String::new(self.alloc);
-        say_begin_json(self.alloc, &mut text).map_err(|_| ScriptEnd::NoMemory)?;
-        self.write(text.as_str())
+        let mut text = Text::new(self.alloc);
+        say_begin_json(self.alloc, &mut text);
+        self.write_made(text)
     }
 
     // Whether objects are written.
@@ -159,7 +154,7 @@ impl<W: Write + Drop> View<W> {
         let task = self.read(text)?;
         let (changes, leaks) = (self.notes.changes.len(), self.notes.leaks.len());
         let mut answered = Answered {
-            text: String::new(self.alloc),
+            text: Text::new(self.alloc),
             printed: Vec::new(self.alloc),
             is_first: true,
         };
@@ -174,10 +169,9 @@ impl<W: Write + Drop> View<W> {
             printed,
             ..
         } = answered;
-        self.show_rest(&mut text, changes, leaks)
-            .map_err(|_| ScriptEnd::NoMemory)?;
+        self.show_rest(&mut text, changes, leaks);
         self.note_answers(&task, printed);
-        self.write(text.as_str())
+        self.write_made(text)
     }
 
     // Runs a line that is done at once.
@@ -218,29 +212,23 @@ impl<W: Write + Drop> View<W> {
 
     // Notes what a line printed, for what the script expects of it.
     fn note_answers(&mut self, task: &Result<Task, Status>, printed: Vec<u8>) {
-        let status = match self.moments.last() {
-            Some(
-                Moment {
-                    event: Event::Refused { status, .. },
-                    ..
-                },
-            ) => Some(*status),
-            _ => None,
-        };
-        let is_misuse = matches!(
-            (task, status),
-            (Ok(Task::Event(Step::Release { .. })), Some(Status::NotHeld))
-                | (
-                    Ok(Task::Event(Step::ResumePre { .. } | Step::ResumePost { .. })),
-                    Some(Status::NotPended),
-                )
-        );
+        let status = self.last_refusal();
         let note = LineNote {
             is_refused: status.is_some(),
             is_unread: is_unread(task),
-            is_misuse,
+            is_misuse: is_misuse(task, status),
         };
         self.expectations.take(printed, note);
+    }
+
+    // With what the last line was refused, if it was.
+    fn last_refusal(&self) -> Option<Status> {
+        let event = self.moments.last()?.event;
+        if event.kind == Kind::Refused {
+            event.facts.status
+        } else {
+            None
+        }
     }
 
     // Nothing more is expected of the last line. A check tells what counts of it.
@@ -248,10 +236,10 @@ impl<W: Write + Drop> View<W> {
         let note = self.expectations.last();
         let is_told = note.is_unread || note.is_misuse || (note.is_refused && self.shown.is_strict);
         self.expectations.settle();
-        let mut surprise = String::new(self.alloc);
+        let mut surprise = Text::new(self.alloc);
         mem::swap(&mut surprise, &mut self.surprise);
         if is_told && self.shown.manner == Manner::Check {
-            return self.write(surprise.as_str());
+            return self.write_made(surprise);
         }
         Ok(())
     }
@@ -262,98 +250,111 @@ impl<W: Write + Drop> View<W> {
             Outcome::Wrong(why) => self.wrong_line(line, why),
             outcome => self.expectation(line, behind_mark(line), outcome == Outcome::Met),
         };
-        let text = text.map_err(|_| ScriptEnd::NoMemory)?;
-        self.write(text.as_str())
+        self.write_made(text)
     }
 
     // A line that expects what can't be read, as it is shown: it is refused.
-    fn wrong_line(&mut self, line: &[u8], why: &str) -> Result<String, AllocError> {
-        let refused = Event::Refused {
-            status: Status::BadRequest,
-            context: None,
-        };
+    fn wrong_line(&mut self, line: &[u8], why: &str) -> Text {
+        let refused = Event::refused(Status::BadRequest, Facts::none());
         self.notes.refuse(Status::BadRequest);
-        let words = format!(in self.alloc; "REFUSED {}: {why}", Stated(Status::BadRequest))?;
-        let mut text = String::new(self.alloc);
-        let told = Told {
-            line: self.line,
-            command: line,
-            words: words.as_str(),
-            reason: why,
-            detail: Detail::default(),
+        let detail = Detail {
+            reason: Some(why),
+            ..Detail::none()
         };
-        match self.shown.manner {
-            Manner::Json | Manner::Page => {
-                say_json(self.alloc, &mut text, &self.notes, &refused, &told)?;
-            }
-            Manner::Check => {
-                write!(text, "line {}, {}: {why}\n", self.line, Ascii(line))?;
-            }
-            _ if self.is_said() => {
-                self.show_words(&mut text, line, &refused, words.as_str(), true)?;
-            }
-            _ => {}
+        let mut words = Text::new(self.alloc);
+        say_detail(&mut words, &self.notes, &refused, &detail);
+        let mut text = Text::new(self.alloc);
+        if self.shown.manner == Manner::Check {
+            self.say_surprise(&mut text, line, words.as_str());
+        } else if self.is_json() {
+            let told = Told {
+                line: self.line,
+                command: line,
+                words: words.as_str(),
+                reason: why,
+                detail,
+            };
+            say_json(self.alloc, &mut text, &self.notes, &refused, &told);
+        } else if self.is_said() {
+            self.show_words(&mut text, line, &refused, words.as_str(), true);
         }
-        Ok(text)
+        text
+    }
+
+    // Appends what a check tells of a line.
+    fn say_surprise(&self, text: &mut Text, line: &[u8], words: &str) {
+        text.push_str("line ");
+        text.push_number(u64::from(self.line));
+        text.push_str(", ");
+        push_ascii(text, line);
+        text.push_str(": ");
+        text.push_str(words);
+        text.push('\n')
     }
 
     // An expectation as it is shown.
-    fn expectation(
-        &self,
-        line: &[u8],
-        expected: &[u8],
-        is_met: bool,
-    ) -> Result<String, AllocError> {
-        let mut text = String::new(self.alloc);
+    fn expectation(&self, line: &[u8], expected: &[u8], is_met: bool) -> Text {
+        let mut text = Text::new(self.alloc);
         let number = self.line;
         if self.is_json() {
             let printed = self.expectations.printed();
             let outcome = (is_met, printed);
-            say_expectation_json(self.alloc, &mut text, number, expected, outcome)?;
+            say_expectation_json(self.alloc, &mut text, number, expected, outcome);
         }
         if self.is_said() {
-            self.say_comment(&mut text, line)?;
+            self.say_comment(&mut text, line);
         }
         if !is_met && matches!(self.shown.manner, Manner::Words | Manner::Check) {
-            self.say_unmet(&mut text, expected)?;
+            self.say_unmet(&mut text, expected);
         }
-        Ok(text)
+        text
     }
 
     // What wasn't as the line expects.
-    fn say_unmet(&self, text: &mut String, expected: &[u8]) -> Result<(), AllocError> {
+    fn say_unmet(&self, text: &mut Text, expected: &[u8]) {
         let (begin, end) = Colour::Wrong.around(self.shown.is_coloured);
-        let number = self.line;
-        let expected = Ascii(expected);
-        write!(
-            text,
-            "{begin}NOT AS EXPECTED on line {number}{end}: {expected}"
-        )?;
-        let mut is_first = true;
-        for answer in self.expectations.printed().split(|byte| *byte == b'\n') {
-            if !answer.is_empty() {
-                write!(text, "{}{}", between(is_first), Ascii(answer))?;
-                is_first = false;
-            }
-        }
+        text.push_str(begin);
+        text.push_str("NOT AS EXPECTED on line ");
+        text.push_number(u64::from(self.line));
+        text.push_str(end);
+        text.push_str(": ");
+        push_ascii(text, expected);
+        self.say_printed(text);
         text.push('\n')
     }
 
-    // A line that asks for nothing, as it is shown.
-    fn comment(&self, line: &[u8]) -> Result<String, AllocError> {
-        let mut text = String::new(self.alloc);
-        if self.is_json() {
-            say_comment_json(self.alloc, &mut text, self.line, line)?;
-        } else if self.is_said() {
-            self.say_comment(&mut text, line)?;
+    // What the line before printed.
+    fn say_printed(&self, text: &mut Text) {
+        let mut mark = "; it answered ";
+        for answer in self.expectations.printed().split(|byte| *byte == b'\n') {
+            if !answer.is_empty() {
+                text.push_str(mark);
+                push_ascii(text, answer);
+                mark = ", ";
+            }
         }
-        Ok(text)
+    }
+
+    // A line that asks for nothing, as it is shown.
+    fn comment(&self, line: &[u8]) -> Text {
+        let mut text = Text::new(self.alloc);
+        if self.is_json() {
+            say_comment_json(self.alloc, &mut text, self.line, line);
+        } else if self.is_said() {
+            self.say_comment(&mut text, line);
+        }
+        text
     }
 
     // A line that asks for nothing, in words.
-    fn say_comment(&self, text: &mut String, line: &[u8]) -> Result<(), AllocError> {
+    fn say_comment(&self, text: &mut Text, line: &[u8]) {
         let (begin, end) = Colour::Dim.around(self.shown.is_coloured);
-        write!(text, "{begin}{:>4}  {}{end}\n", self.line, Ascii(line))
+        text.push_str(begin);
+        push_line(text, self.line);
+        text.push_str("  ");
+        push_ascii(text, line);
+        text.push_str(end);
+        text.push('\n')
     }
 
     // Shows what a line or a turn answered, and notes it.
@@ -373,30 +374,27 @@ impl<W: Write + Drop> View<W> {
     }
 
     // Appends what only the end of a line tells: how far lives came, and what was left behind.
-    fn show_rest(&self, text: &mut String, changes: usize, leaks: usize) -> Result<(), AllocError> {
+    fn show_rest(&self, text: &mut Text, changes: usize, leaks: usize) {
         if self.is_json() {
-            self.show_changes(text, changes)?;
-            self.show_leaks(text, leaks)?;
+            self.show_changes(text, changes);
+            self.show_leaks(text, leaks);
         }
-        Ok(())
     }
 
     // Appends how far lives came on this line.
-    fn show_changes(&self, text: &mut String, from: usize) -> Result<(), AllocError> {
+    fn show_changes(&self, text: &mut Text, from: usize) {
         for change in self.notes.changes.iter().skip(from) {
-            say_change_json(self.alloc, text, change)?;
+            say_change_json(self.alloc, text, change);
         }
-        Ok(())
     }
 
     // Appends what was left behind on this line.
-    fn show_leaks(&self, text: &mut String, from: usize) -> Result<(), AllocError> {
+    fn show_leaks(&self, text: &mut Text, from: usize) {
         for leak in self.notes.leaks.iter().skip(from) {
-            let mut words = String::new(self.alloc);
-            say_leak(&mut words, &self.notes, leak)?;
-            say_leak_json(self.alloc, text, &self.notes, leak, words.as_str())?;
+            let mut words = Text::new(self.alloc);
+            say_leak(&mut words, &self.notes, leak);
+            say_leak_json(self.alloc, text, &self.notes, leak, words.as_str());
         }
-        Ok(())
     }
 
     // How things are before a line, or before a turn of it.
@@ -418,17 +416,18 @@ impl<W: Write + Drop> View<W> {
 
     // Notes the references that the callback left behind that returned on a line, or in a turn of it.
     fn note_leaks(&mut self, line: &Line<'_>) -> Result<(), AllocError> {
-        let state = self.interpreter.state();
-        let (Some(worker), true) = (line.worker, state.leaks() != line.leaks) else {
+        let is_more = self.interpreter.state().leaks() != line.leaks;
+        let (Some(worker), true) = (line.worker, is_more) else {
             return Ok(());
         };
         let place = self.returned_from(line);
-        for context in state.left(worker) {
-            if let Some(number) = self.interpreter.contexts().number_of(*context) {
-                self.notes.leak(number as u64, place, self.line)?;
-            }
-        }
-        Ok(())
+        let number = self.line;
+        let View {
+            interpreter,
+            notes,
+            ..
+        } = self;
+        note_left(notes, interpreter, worker, (place, number))
     }
 
     // The callback that returned on a line: the one that its worker was in, or the one that a turn came to.
@@ -452,13 +451,14 @@ impl<W: Write + Drop> View<W> {
     // The event of one line of an answer.
     fn event(&self, line: &Line<'_>, said: &Said) -> Option<Event> {
         let Some(task) = line.task else {
-            return refusal_in(said);
+            return refusal_in(said, Facts::none());
         };
         let interpreter = &self.interpreter;
         let asked = Asked {
             task,
             place: line.place,
             has_called: interpreter.calls() != line.calls,
+            subject: facts_of(task, line.place),
             state: interpreter.state(),
             contexts: interpreter.contexts(),
         };
@@ -468,10 +468,9 @@ impl<W: Write + Drop> View<W> {
     // Notes what happened.
     fn note(&mut self, line: &Line<'_>, event: &Event) -> Result<(), AllocError> {
         let state = self.interpreter.state();
-        match (line.task, event) {
-            (Some(task), _) => self.notes.learn(self.line, event, task, state)?,
-            (None, Event::Refused { status, .. }) => self.notes.refuse(*status),
-            _ => {}
+        match line.task {
+            Some(task) => learn(&mut self.notes, self.line, event, task, state)?,
+            None => self.notes.note(self.line, event)?,
         }
         self.moments.push(Moment {
             line: self.line,
@@ -483,7 +482,7 @@ impl<W: Write + Drop> View<W> {
     // Shows one answer of a line, and notes it.
     fn show(
         &mut self,
-        text: &mut String,
+        text: &mut Text,
         line: &Line<'_>,
         said: &Said,
         is_first: bool,
@@ -492,79 +491,92 @@ impl<W: Write + Drop> View<W> {
             return Ok(());
         };
         self.note(line, &event)?;
-        let is_surprise = self.shown.manner == Manner::Check && is_refusal(&event);
-        let is_drawn = self.shown.manner == Manner::Picture;
-        if !self.is_json() && !self.is_said() && !is_drawn && !is_surprise {
+        if !self.is_told(&event) {
             return Ok(());
         }
-        let detail = Detail {
-            bytes: bytes_of(line.task, said),
-            counted: counted_at(self.interpreter.state(), &event),
-            subject: Subject::of(line.task, line.place),
-            ..Detail::default()
-        };
-        let words = self.words(line, &event, &detail)?;
-        if is_surprise {
-            return self.note_surprise(line, words.as_str());
+        let reason = self.reason(line, &event);
+        reason.check()?;
+        let words = self.words(line, said, &event, reason.as_str());
+        words.check()?;
+        let words = words.as_str();
+        match self.shown.manner {
+            Manner::Check => self.note_surprise(line, words),
+            Manner::Words => self.show_words(text, line.text, &event, words, is_first),
+            Manner::Json | Manner::Page => {
+                self.show_object(text, line, said, &event, (words, reason.as_str()))
+            }
+            Manner::Picture => return self.title(line, words),
         }
-        if is_drawn {
-            return self.title(line, words.as_str());
-        }
-        if self.is_said() {
-            return self.show_words(text, line.text, &event, words.as_str(), is_first);
-        }
-        let reason = self.reason(line, &event)?;
-        let told = Told {
-            line: self.line,
-            command: line.text,
-            words: words.as_str(),
-            reason: reason.as_str(),
-            detail,
-        };
-        say_json(self.alloc, text, &self.notes, &event, &told)
-    }
-
-    // Keeps what a check tells of a line that was refused, if no line expects it.
-    fn note_surprise(&mut self, line: &Line<'_>, words: &str) -> Result<(), AllocError> {
-        self.surprise.clear();
-        let number = self.line;
-        write!(
-            self.surprise,
-            "line {number}, {}: {words}\n",
-            Ascii(line.text)
-        )
-    }
-
-    // Keeps what is told of an event in a picture.
-    fn title(&mut self, line: &Line<'_>, words: &str) -> Result<(), AllocError> {
-        let title = format!(in self.alloc; "line {}, {}: {words}", self.line, Ascii(line.text))?;
-        self.titles.push(Label::new(self.alloc, title.as_bytes())?)?;
         Ok(())
     }
 
     // What happened, in words.
-    fn words(
+    fn words(&self, line: &Line<'_>, said: &Said, event: &Event, reason: &str) -> Text {
+        let mut words = Text::new(self.alloc);
+        let counted = counted_at(self.interpreter.state(), event);
+        let bytes = bytes_of(line.task, said).unwrap_or(b"");
+        say_words(&mut words, &self.notes, event, bytes, (counted, reason));
+        words
+    }
+
+    // Appends what happened as an object.
+    fn show_object(
         &self,
+        text: &mut Text,
         line: &Line<'_>,
+        said: &Said,
         event: &Event,
-        detail: &Detail<'_>,
-    ) -> Result<String, AllocError> {
-        let mut words = String::new(self.alloc);
-        match event {
-            Event::Refused { status, .. } => {
-                let reason = self.reason(line, event)?;
-                write!(words, "REFUSED {}: {}", Stated(*status), reason.as_str())?;
-            }
-            _ => say_detail(&mut words, &self.notes, event, detail)?,
+        (words, reason): (&str, &str),
+    ) {
+        let counted = counted_at(self.interpreter.state(), event);
+        let bytes = bytes_of(line.task, said);
+        let telling = (self.line, line.text, words, reason);
+        say_object(
+            self.alloc,
+            text,
+            &self.notes,
+            event,
+            (bytes, counted),
+            telling,
+        )
+    }
+
+    // Whether an event is told: a check tells refusals alone, and words may be of a part of the lines.
+    fn is_told(&self, event: &Event) -> bool {
+        match self.shown.manner {
+            Manner::Check => event.kind == Kind::Refused,
+            Manner::Words => self.is_said(),
+            Manner::Json | Manner::Page | Manner::Picture => true,
         }
-        Ok(words)
+    }
+
+    // Keeps what a check tells of a line that was refused, if no line expects it.
+    fn note_surprise(&mut self, line: &Line<'_>, words: &str) {
+        let mut surprise = Text::new(self.alloc);
+        self.say_surprise(&mut surprise, line.text, words);
+        self.surprise = surprise;
+    }
+
+    // Keeps what is told of an event in a picture.
+    fn title(&mut self, line: &Line<'_>, words: &str) -> Result<(), AllocError> {
+        let mut title = Text::new(self.alloc);
+        title.push_str("line ");
+        title.push_number(u64::from(self.line));
+        title.push_str(", ");
+        push_ascii(&mut title, line.text);
+        title.push_str(": ");
+        title.push_str(words);
+        let title = title.finish()?;
+        let label = Label::new(self.alloc, title.as_bytes())?;
+        self.titles.push(label)?;
+        Ok(())
     }
 
     // Why a line was refused; nothing if it wasn't.
-    fn reason(&self, line: &Line<'_>, event: &Event) -> Result<String, AllocError> {
-        let mut reason = String::new(self.alloc);
-        let Event::Refused { status, context } = event else {
-            return Ok(reason);
+    fn reason(&self, line: &Line<'_>, event: &Event) -> Text {
+        let mut reason = Text::new(self.alloc);
+        let (Kind::Refused, Some(status)) = (event.kind, event.facts.status) else {
+            return reason;
         };
         let interpreter = &self.interpreter;
         let refusal = Refusal {
@@ -574,32 +586,42 @@ impl<W: Write + Drop> View<W> {
             task: line.task,
             place: line.place,
             line: line.text,
-            context: *context,
+            context: event.facts.context,
         };
-        say_refusal(self.alloc, &mut reason, &refusal, *status)?;
-        Ok(reason)
+        say_refusal(self.alloc, &mut reason, &refusal, status);
+        reason
     }
 
     // One answer in words, with the command before the first one of its line. One that is wider than its column has a line of its own.
-    fn show_words(
-        &self,
-        text: &mut String,
-        line: &[u8],
-        event: &Event,
-        words: &str,
-        is_first: bool,
-    ) -> Result<(), AllocError> {
-        let (dim, plain) = Colour::Dim.around(self.shown.is_coloured);
-        let command = format!(in self.alloc; "{}", Ascii(line))?;
-        let is_wide = command.len() > COMMAND;
-        let number = self.line;
-        match (is_first, is_wide) {
-            (true, true) => write!(text, "{dim}{number:>4}{plain}  {command}\n{:<35}", "")?,
-            (true, false) => write!(text, "{dim}{number:>4}{plain}  {command:<27}  ")?,
-            (false, _) => write!(text, "{:<35}", "")?,
+    fn show_words(&self, text: &mut Text, line: &[u8], event: &Event, words: &str, is_first: bool) {
+        if is_first {
+            self.show_command(text, line);
+        } else {
+            push_spaces(text, COMMAND.saturating_add(8));
         }
         let (begin, end) = colour_of(event).around(self.shown.is_coloured);
-        write!(text, "{begin}{words}{end}\n")
+        text.push_str(begin);
+        text.push_str(words);
+        text.push_str(end);
+        text.push('\n')
+    }
+
+    // A command before its answer, with its number.
+    fn show_command(&self, text: &mut Text, line: &[u8]) {
+        let (dim, plain) = Colour::Dim.around(self.shown.is_coloured);
+        text.push_str(dim);
+        push_line(text, self.line);
+        text.push_str(plain);
+        text.push_str("  ");
+        let mut command = Text::new(self.alloc);
+        push_ascii(&mut command, line);
+        text.push_str(command.as_str());
+        let width = command.len();
+        if width > COMMAND {
+            text.push('\n');
+            return push_spaces(text, COMMAND.saturating_add(8));
+        }
+        push_spaces(text, COMMAND.saturating_sub(width).saturating_add(2))
     }
 
     // Ends a run that ended so: writes the verdict or the picture. It gives the exit status, and how many lines expect something.
@@ -608,23 +630,33 @@ impl<W: Write + Drop> View<W> {
             (Err(fault), ScriptEnd::Ended) => fault,
             _ => end,
         };
-        let end = match self.last_text(end) {
-            Ok(text) => match self.end(text.as_str()) {
-                Ok(()) => end,
-                Err(fault) => fault,
-            },
-            Err(_) => ScriptEnd::NoMemory,
+        let end = match self.end(end) {
+            Ok(()) => end,
+            Err(fault) => fault,
         };
         (self.tally(end).status, self.expectations.count)
     }
 
     // Writes the last text, and hands all out.
-    fn end(&mut self, text: &str) -> Result<(), ScriptEnd> {
-        self.write(text)?;
+    fn end(&mut self, end: ScriptEnd) -> Result<(), ScriptEnd> {
+        if self.shown.manner == Manner::Picture {
+            self.write_picture()?;
+        } else {
+            let text = self.last_text(end);
+            self.write_made(text)?;
+        }
         if self.shown.manner == Manner::Page {
             self.write_raw(PAGE_END)?;
         }
         self.pause()
+    }
+
+    // Writes the picture.
+    fn write_picture(&mut self) -> Result<(), ScriptEnd> {
+        let picture = draw(self.alloc, &self.notes, &self.moments, &self.titles).map_err(
+            |_| ScriptEnd::NoMemory,
+        )?;
+        self.write_raw(picture.as_str())
     }
 
     // The figures of a run that ended so.
@@ -635,7 +667,7 @@ impl<W: Write + Drop> View<W> {
         let wrong = self.expectations.wrong;
         let status = exit_status(end, wrong, unmet, leaks, held, misuses);
         Tally {
-            end,
+            fault: fault_of(end),
             status: self.expectations.status(status),
             lines: self.last,
             refused: self.notes.refused(),
@@ -666,43 +698,51 @@ impl<W: Write + Drop> View<W> {
         self.expectations.unmet.saturating_add(more)
     }
 
-    // What is written at the end.
-    fn last_text(&self, end: ScriptEnd) -> Result<String, AllocError> {
+    // What is written at the end, if it isn't a picture.
+    fn last_text(&self, end: ScriptEnd) -> Text {
+        let mut text = Text::new(self.alloc);
         match self.shown.manner {
             Manner::Words => {
-                let mut text = String::new(self.alloc);
-                text.push('\n')?;
-                self.say_verdict(&mut text, end)?;
-                Ok(text)
+                text.push('\n');
+                self.say_verdict(&mut text, end);
             }
-            Manner::Check => self.say_causes(end),
-            Manner::Json | Manner::Page => {
-                let mut words = String::new(self.alloc);
-                self.say_verdict(&mut words, end)?;
-                let mut text = String::new(self.alloc);
-                say_end_json(self.alloc, &mut text, &self.tally(end), words.as_str())?;
-                Ok(text)
-            }
-            Manner::Picture => draw(self.alloc, &self.notes, &self.moments, &self.titles),
+            Manner::Check => self.say_causes(&mut text, end),
+            Manner::Json | Manner::Page => self.say_end_object(&mut text, end),
+            Manner::Picture => {}
         }
+        text
+    }
+
+    // The last object.
+    fn say_end_object(&self, text: &mut Text, end: ScriptEnd) {
+        let mut words = Text::new(self.alloc);
+        self.say_verdict(&mut words, end);
+        if words.check().is_err() {
+            text.fail();
+        }
+        say_end_json(self.alloc, text, &self.tally(end), words.as_str())
     }
 
     // What a check tells at the end, beside its status: what was left behind, what is held, and what isn't as expected.
-    fn say_causes(&self, end: ScriptEnd) -> Result<String, AllocError> {
-        let mut text = String::new(self.alloc);
-        say_leaks(&mut text, &self.notes)?;
-        say_held(&mut text, &self.notes, self.interpreter.state())?;
-        say_expectations(&mut text, &self.expectations, self.shown.is_strict)?;
-        say_fault(&mut text, end)?;
-        Ok(text)
+    fn say_causes(&self, text: &mut Text, end: ScriptEnd) {
+        say_leaks(text, &self.notes);
+        say_held(text, &self.notes, self.interpreter.state());
+        say_expectations(text, &self.expectations, self.shown.is_strict);
+        say_fault(text, end)
     }
 
     // What is left at the end, in words.
-    fn say_verdict(&self, text: &mut String, end: ScriptEnd) -> Result<(), AllocError> {
+    fn say_verdict(&self, text: &mut Text, end: ScriptEnd) {
         let state = self.interpreter.state();
-        say_end(text, &self.notes, state, self.last)?;
-        say_expectations(text, &self.expectations, self.shown.is_strict)?;
+        say_end(text, &self.notes, state, self.last);
+        say_expectations(text, &self.expectations, self.shown.is_strict);
         say_fault(text, end)
+    }
+
+    // Writes what was made, if there was memory for all of it.
+    fn write_made(&mut self, text: Text) -> Result<(), ScriptEnd> {
+        let text = text.finish().map_err(|_| ScriptEnd::NoMemory)?;
+        self.write(text.as_str())
     }
 
     // Writes a text out: in a page as data, that can't break out of its place.
@@ -732,26 +772,69 @@ fn place_of(state: &State, worker: Option<WorkerId>) -> Place {
     }
 }
 
+// Appends what happened in words, with the verdict that counts and the reason of a refusal.
+fn say_words<'x>(
+    words: &mut Text,
+    notes: &Notes,
+    event: &Event,
+    bytes: &'x [u8],
+    (counted, reason): (Option<PreVerdict>, &'x str),
+) {
+    let detail = Detail {
+        bytes: Some(bytes),
+        counted,
+        left: None,
+        reason: Some(reason),
+    };
+    say_detail(words, notes, event, &detail)
+}
+
+// Appends what happened as an object.
+fn say_object<'x>(
+    alloc: Global,
+    text: &mut Text,
+    notes: &Notes,
+    event: &Event,
+    (bytes, counted): (Option<&'x [u8]>, Option<PreVerdict>),
+    (line, command, words, reason): (u32, &'x [u8], &'x str, &'x str),
+) {
+    let told = Told {
+        line,
+        command,
+        words,
+        reason,
+        detail: Detail {
+            bytes,
+            counted,
+            left: None,
+            reason: None,
+        },
+    };
+    say_json(alloc, text, notes, event, &told)
+}
+
+// Notes what a worker's last callback left behind, which returned there, on that line.
+fn note_left(
+    notes: &mut Notes,
+    interpreter: &Interpreter,
+    worker: WorkerId,
+    (place, line): (Place, u32),
+) -> Result<(), AllocError> {
+    let contexts = interpreter.contexts();
+    for context in interpreter.state().left(worker) {
+        if let Some(number) = contexts.number_of(*context) {
+            notes.leak(number as u64, place, line)?;
+        }
+    }
+    Ok(())
+}
+
 // The bytes that a line writes, or that its answer tells.
 fn bytes_of<'a>(task: Option<&'a Task>, said: &'a Said) -> Option<&'a [u8]> {
-    match (said, task) {
-        (Said::Told(_, bytes), _) => Some(bytes.as_slice()),
-        (Said::Replied(answer), _) => Some(answer.bytes.as_slice()),
-        (
-            Said::Id(..) | Said::Plain(_),
-            Some(
-                Task::Event(
-                    Step::Begin(
-                        Request::OnHandle {
-                            request: FileRequest::Write { bytes, .. },
-                            ..
-                        },
-                    )
-                    | Step::Allocate { body: bytes, .. }
-                    | Step::WriteBody { bytes, .. },
-                ),
-            ),
-        ) => Some(bytes.as_slice()),
+    match said {
+        Said::Told(_, bytes) => Some(bytes.as_slice()),
+        Said::Replied(answer) => Some(answer.bytes.as_slice()),
+        Said::Id(..) | Said::Plain(_) => bytes_in(task?),
         _ => None,
     }
 }
@@ -764,14 +847,35 @@ fn is_unread(task: &Result<Task, Status>) -> bool {
     )
 }
 
-// Whether a line was refused.
-fn is_refusal(event: &Event) -> bool {
-    matches!(event, Event::Refused { .. })
+// Whether a line gave back what wasn't held, or resumed what no filter held, by its refusal.
+fn is_misuse(task: &Result<Task, Status>, status: Option<Status>) -> bool {
+    match (task, status) {
+        (Ok(Task::Event(Step::Release { .. })), Some(Status::NotHeld)) => true,
+        (
+            Ok(Task::Event(Step::ResumePre { .. } | Step::ResumePost { .. })),
+            Some(Status::NotPended),
+        ) => true,
+        _ => false,
+    }
 }
 
-// What stands before an answer in a list of them.
-fn between(is_first: bool) -> &'static str {
-    if is_first { "; it answered " } else { ", " }
+// Appends so many spaces.
+fn push_spaces(text: &mut Text, count: usize) {
+    for _ in 0..count {
+        text.push(' ');
+    }
+}
+
+// Appends the number of a line, in four places.
+fn push_line(text: &mut Text, line: u32) {
+    let places = match line {
+        0..=9 => 3,
+        10..=99 => 2,
+        100..=999 => 1,
+        _ => 0,
+    };
+    push_spaces(text, places);
+    text.push_number(u64::from(line))
 }
 
 /// Runs the script that a reader gives, and writes what happened to a writer. It gives the exit status: that of the script's end. Of one that ended well it is
@@ -820,8 +924,8 @@ impl<W: Write + Drop> Listener for View<W> {
         if line.is_empty() {
             return Ok(());
         }
-        let text = self.comment(line).map_err(|_| ScriptEnd::NoMemory)?;
-        self.write(text.as_str())
+        let text = self.comment(line);
+        self.write_made(text)
     }
 
     fn pause(&mut self) -> Result<(), ScriptEnd> {

@@ -1,12 +1,21 @@
 //! The figures of a run at its end.
 
-use fm_script::ScriptEnd;
+/// What cut a run off.
+#[derive(Clone, Copy, PartialEq, Eq)]
+pub enum Fault {
+    /// There was no memory.
+    NoMemory,
+    /// It couldn't be read to its end.
+    Read,
+    /// The output couldn't be written.
+    Write,
+}
 
 /// What a run left, and how it ended.
 #[derive(Clone, Copy)]
 pub struct Tally {
-    /// How it ended.
-    pub end: ScriptEnd,
+    /// What cut it off, if something did.
+    pub fault: Option<Fault>,
     /// Its exit status.
     pub status: u8,
     /// How many lines it has.
@@ -31,16 +40,16 @@ pub struct Tally {
 }
 
 impl Tally {
-    /// The verdict in a word. A script that ended has no status 2: that is a trial's, of which a line says nothing.
+    /// The verdict in a word.
     pub fn verdict(&self) -> &'static str {
-        match (self.end, self.status) {
-            (ScriptEnd::NoMemory, _) => "NoMemory",
-            (ScriptEnd::ReadFault, _) => "ReadFault",
-            (ScriptEnd::WriteFault, _) => "WriteFault",
-            (ScriptEnd::Ended, 0) => "Well",
-            (ScriptEnd::Ended, 2) => "WrongLine",
-            (ScriptEnd::Ended, 5) => "Left",
-            (ScriptEnd::Ended, _) => "Unexpected",
+        match (self.fault, self.status) {
+            (Some(Fault::NoMemory), _) => "NoMemory",
+            (Some(Fault::Read), _) => "ReadFault",
+            (Some(Fault::Write), _) => "WriteFault",
+            (None, 0) => "Well",
+            (None, 2) => "WrongLine",
+            (None, 5) => "Left",
+            (None, _) => "Unexpected",
         }
     }
 }

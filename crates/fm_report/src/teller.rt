@@ -1,18 +1,20 @@
 //! A run that is told in objects as it goes, by what isn't a script: a trial of filters as code.
 
-use crate::event::{Event, instance_in, operation_in};
+use crate::event::Event;
+use crate::facts::Facts;
 use crate::json::{
-    Detail, FORMAT, Told, answers, callback_of, say_change_json, say_comment_json, say_end_json,
-    say_json,
+    Detail, FORMAT, Told, put_place, say_change_json, say_comment_json, say_end_json, say_json,
 };
-use crate::named::{PlaceName, kind_word};
-use crate::notes::{Loaded, Notes, OperationNote, What, what_of};
+use crate::kind::Kind;
+use crate::named::{kind_word, push_place};
+use crate::notes::{Notes, What, what_of};
 use crate::object::Object;
+use crate::push::push_id;
 use crate::status::sentence;
-use crate::subject::Subject;
 use crate::tally::Tally;
+use crate::text::Text;
 use crate::words::say_detail;
-use fm_core::{FilterPhase, Phase, Place, State, VolumePhase};
+use fm_core::{Phase, Place, State};
 use fm_data::{FileRequest, Request};
 use fm_types::{ContextKind, CtxId, FilterId, InstanceId, Name, Status, VolumeId};
 use std::alloc::{AllocError, Global};
@@ -52,14 +54,18 @@ pub struct Teller {
     changes: usize,
 }
 
-// Appends why a line was refused, if it was.
-fn say_reason(text: &mut String, event: &Event, detail: &Detail<'_>) -> Result<(), AllocError> {
-    let Event::Refused { status, .. } = event else {
-        return Ok(());
-    };
-    match detail.reason {
-        Some(reason) => text.push_str(reason),
-        None => text.push_str(sentence(*status)),
+// Appends what was written.
+fn push_made(text: &mut String, made: Text) -> Result<(), AllocError> {
+    let made = made.finish()?;
+    text.push_str(made.as_str())
+}
+
+// Why a line was refused, if it was.
+fn reason_of<'a>(event: &Event, detail: &Detail<'a>) -> &'a str {
+    match (event.kind, event.facts.status, detail.reason) {
+        (Kind::Refused, _, Some(reason)) => reason,
+        (Kind::Refused, Some(status), None) => sentence(status),
+        _ => "",
     }
 }
 
@@ -79,13 +85,20 @@ impl Teller {
 
     /// Appends the first object: the number of the schema, that this is a trial, and of which file.
     pub fn begin(&self, text: &mut String, file: Option<&str>) -> Result<(), AllocError> {
-        let mut object = Object::new(self.alloc, 0, "Run")?;
-        object.number("format", FORMAT)?;
-        object.text("origin", "trial")?;
+        let mut object = Object::new(self.alloc, 0, "Run");
+        object.number("format", FORMAT);
+        object.text("origin", "trial");
         if let Some(file) = file {
-            object.written("file", "raw", file.as_bytes())?;
+            object.written("file", "raw", file.as_bytes());
         }
-        object.finish(text)
+        self.append(text, object)
+    }
+
+    // Appends an object.
+    fn append(&self, text: &mut String, object: Object) -> Result<(), AllocError> {
+        let mut made = Text::new(self.alloc);
+        object.finish(&mut made);
+        push_made(text, made)
     }
 
     /// Goes on to a line, of which is told what follows. What is asked for by the one before is forgotten.
@@ -103,7 +116,9 @@ impl Teller {
 
     /// Appends that the line asks for nothing.
     pub fn say_comment(&self, text: &mut String) -> Result<(), AllocError> {
-        say_comment_json(self.alloc, text, self.line, self.command.as_bytes())
+        let mut made = Text::new(self.alloc);
+        say_comment_json(self.alloc, &mut made, self.line, self.command.as_bytes());
+        push_made(text, made)
     }
 
     /// Appends what happened, and notes it.
@@ -113,33 +128,25 @@ impl Teller {
         event: &Event,
         detail: &Detail<'_>,
     ) -> Result<(), AllocError> {
-        self.note(event)?;
-        let mut words = String::new(self.alloc);
-        say_detail(&mut words, &self.notes, event, detail)?;
-        let mut reason = String::new(self.alloc);
-        say_reason(&mut reason, event, detail)?;
+        self.notes.note(self.line, event)?;
+        let mut words = Text::new(self.alloc);
+        say_detail(&mut words, &self.notes, event, detail);
+        words.check()?;
         let told = Told {
             line: self.line,
             command: self.command.as_bytes(),
             words: words.as_str(),
-            reason: reason.as_str(),
+            reason: reason_of(event, detail),
             detail: *detail,
         };
-        say_json(self.alloc, text, &self.notes, event, &told)
+        let mut made = Text::new(self.alloc);
+        say_json(self.alloc, &mut made, &self.notes, event, &told);
+        push_made(text, made)
     }
 
-    // Notes what an event named.
-    fn note(&mut self, event: &Event) -> Result<(), AllocError> {
-        match event {
-            Event::Refused { status, .. } => self.notes.refuse(*status),
-            Event::Replied {
-                operation,
-                status: Status::Success,
-                information,
-            } => self.notes.reply(*operation, *information)?,
-            _ => {}
-        }
-        Ok(())
+    /// Appends what happened that has its facts alone, and notes it.
+    pub fn say_plain(&mut self, text: &mut String, event: &Event) -> Result<(), AllocError> {
+        self.say_event(text, event, &Detail::none())
     }
 
     /// Appends that the line was refused, what it names, and why; the sentence of the status, where no reason is given.
@@ -148,16 +155,12 @@ impl Teller {
         text: &mut String,
         status: Status,
         reason: Option<&str>,
-        subject: Subject,
+        subject: Facts,
     ) -> Result<(), AllocError> {
-        let refused = Event::Refused {
-            status,
-            context: None,
-        };
+        let refused = Event::refused(status, subject);
         let detail = Detail {
-            subject,
             reason,
-            ..Detail::default()
+            ..Detail::none()
         };
         self.say_event(text, &refused, &detail)
     }
@@ -169,13 +172,12 @@ impl Teller {
         filter: FilterId,
         name: Name,
     ) -> Result<(), AllocError> {
-        self.notes.filters.push(Loaded {
-            name,
-            phase: FilterPhase::Loaded,
-            since: self.line,
-        })?;
-        let loaded = Event::Loaded { filter: filter.0 };
-        self.say_event(text, &loaded, &Detail::default())
+        self.notes.load(name, self.line)?;
+        let facts = Facts {
+            filter: Some(u64::from(filter.0)),
+            ..Facts::none()
+        };
+        self.say_plain(text, &Event::of(Kind::Loaded, facts))
     }
 
     /// Appends that a volume was mounted. Volumes are numbered in that order.
@@ -185,21 +187,20 @@ impl Teller {
         volume: VolumeId,
         name: Name,
     ) -> Result<(), AllocError> {
-        self.notes.volumes.push(Loaded {
-            name,
-            phase: VolumePhase::Mounted,
-            since: self.line,
-        })?;
-        let mounted = Event::Mounted { volume: volume.0 };
-        self.say_event(text, &mounted, &Detail::default())
+        self.notes.mount(name, self.line)?;
+        let facts = Facts {
+            volume: Some(u64::from(volume.0)),
+            ..Facts::none()
+        };
+        self.say_plain(text, &Event::of(Kind::Mounted, facts))
     }
 
     /// Appends that the line asks for an end, which a trial passes over.
     pub fn say_stopped(&self, text: &mut String) -> Result<(), AllocError> {
-        let mut object = Object::new(self.alloc, self.line, "Stopped")?;
-        object.written("command", "raw", self.command.as_bytes())?;
-        object.text("words", "a trial ends with its file, and goes on here")?;
-        object.finish(text)
+        let mut object = Object::new(self.alloc, self.line, "Stopped");
+        object.written("command", "raw", self.command.as_bytes());
+        object.text("words", "a trial ends with its file, and goes on here");
+        self.append(text, object)
     }
 
     /// Notes what the line asks for, before it is asked: what begins on the line is that.
@@ -229,18 +230,13 @@ impl Teller {
         let Some(Asked { what, bytes }) = self.next_asked() else {
             return Ok(());
         };
-        self.notes.operations.push(OperationNote {
-            what,
-            line: self.line,
-        })?;
-        let detail = Detail {
-            bytes: match &bytes {
-                Some(bytes) => Some(bytes.as_slice()),
-                None => None,
-            },
-            ..Detail::default()
+        self.notes.begin(self.line, what)?;
+        let detail = match &bytes {
+            Some(bytes) => Detail::bytes(bytes.as_slice()),
+            None => Detail::none(),
         };
-        self.say_event(text, &Event::Began { operation }, &detail)
+        let began = Event::of(Kind::Began, Facts::operation(operation));
+        self.say_event(text, &began, &detail)
     }
 
     // What of the request begins next. A close is a cleanup first, unless that began before.
@@ -302,19 +298,18 @@ impl Teller {
         if phase != Phase::Attached {
             return Ok(());
         }
-        let attached = Event::Attached {
-            instance: instance.0,
-        };
-        self.say_event(text, &attached, &Detail::default())
+        let facts = Facts::instance(u64::from(instance.0));
+        self.say_plain(text, &Event::of(Kind::Attached, facts))
     }
 
     // Appends the changes of lives that weren't told yet.
     fn say_changes(&mut self, text: &mut String) -> Result<(), AllocError> {
+        let mut made = Text::new(self.alloc);
         for change in self.notes.changes.iter().skip(self.changes) {
-            say_change_json(self.alloc, text, change)?;
+            say_change_json(self.alloc, &mut made, change);
         }
         self.changes = self.notes.changes.len();
-        Ok(())
+        push_made(text, made)
     }
 
     /// Appends that the callback that returned there left a reference behind.
@@ -327,20 +322,31 @@ impl Teller {
     ) -> Result<(), AllocError> {
         let number = self.number_of(context)?;
         let kind = kind.map(kind_word);
-        let mut words = String::new(self.alloc);
-        write!(words, "LEAKED c{number}")?;
+        let words = self.leak_words(number, kind, place);
+        words.check()?;
+        let mut object = Object::new(self.alloc, self.line, "Leaked");
+        object.text("words", words.as_str());
+        object.id("context", 'c', number);
         if let Some(kind) = kind {
-            write!(words, " ({kind} context)")?;
+            object.text("kind", kind);
         }
-        write!(words, ", {}", PlaceName(&self.notes, place))?;
-        let mut object = Object::new(self.alloc, self.line, "Leaked")?;
-        object.text("words", words.as_str())?;
-        object.id("context", 'c', number)?;
+        put_place(&mut object, place);
+        self.append(text, object)
+    }
+
+    // The words for a reference that was left behind.
+    fn leak_words(&self, number: u64, kind: Option<&str>, place: Place) -> Text {
+        let mut words = Text::new(self.alloc);
+        words.push_str("LEAKED ");
+        push_id(&mut words, 'c', number);
         if let Some(kind) = kind {
-            object.text("kind", kind)?;
+            words.push_str(" (");
+            words.push_str(kind);
+            words.push_str(" context)");
         }
-        put_place(&mut object, place)?;
-        object.finish(text)
+        words.push_str(", ");
+        push_place(&mut words, &self.notes, place);
+        words
     }
 
     // The number of a context: how many others were told before it.
@@ -357,17 +363,17 @@ impl Teller {
     /// Appends what is told of a callback.
     pub fn say_told(&mut self, text: &mut String, telling: &Telling<'_>) -> Result<(), AllocError> {
         let kind = if telling.is_limit { "limit" } else { "mistake" };
-        let mut object = Object::new(self.alloc, self.line, "Told")?;
-        object.text("id", telling.id)?;
-        object.text("telling", kind)?;
-        object.text("words", telling.words)?;
-        object.id("worker", 'w', 0)?;
+        let mut object = Object::new(self.alloc, self.line, "Told");
+        object.text("id", telling.id);
+        object.text("telling", kind);
+        object.text("words", telling.words);
+        object.id("worker", 'w', 0);
         if let Some(context) = telling.context {
             let number = self.number_of(context)?;
-            object.id("context", 'c', number)?;
+            object.id("context", 'c', number);
         }
-        put_place(&mut object, telling.place)?;
-        object.finish(text)
+        put_place(&mut object, telling.place);
+        self.append(text, object)
     }
 
     /// Appends whether the line's expectation was met: the words that are expected, and the lines of what was answered.
@@ -379,24 +385,19 @@ impl Teller {
         answered: &str,
     ) -> Result<(), AllocError> {
         let event = if is_met { "Met" } else { "Unmet" };
-        let mut object = Object::new(self.alloc, self.line, event)?;
-        object.written("command", "raw", self.command.as_bytes())?;
-        object.text("expected", expected)?;
+        let mut object = Object::new(self.alloc, self.line, event);
+        object.written("command", "raw", self.command.as_bytes());
+        object.text("expected", expected);
         if !is_met {
-            object.list("answered", answers(self.alloc, answered.as_bytes())?)?;
+            object.lines("answered", answered.as_bytes());
         }
-        object.finish(text)
+        self.append(text, object)
     }
 
     /// Appends the last object: what is left, in figures and in words, and the exit status.
     pub fn say_end(&self, text: &mut String, tally: &Tally, words: &str) -> Result<(), AllocError> {
-        say_end_json(self.alloc, text, tally, words)
+        let mut made = Text::new(self.alloc);
+        say_end_json(self.alloc, &mut made, tally, words);
+        push_made(text, made)
     }
-}
-
-// Which callback it is, of which instance, and for which operation.
-fn put_place(object: &mut Object, place: Place) -> Result<(), AllocError> {
-    object.text("callback", callback_of(place))?;
-    object.maybe("instance", 'i', instance_in(place).map(u64::from))?;
-    object.maybe("operation", 'o', operation_in(place))
 }

@@ -2,7 +2,7 @@
 use Rattle.std.proofs.Common.{◌≡◌, ℕ, ◌<◌, ◌%◌, ◌/◌, ◌++◌, List, [], ◌∷◌, Bool, true, false, cond, refl, arith, subst, sym}
 use Rattle.std.specs.List.{All}
 use Rattle.std.proofs.lemmas.List.Elements.{All-append, All-cons, All-nil}
-use Rattle.fm_view.specs.Escapes.{IsSafe, digit, escaped, is_safe, spelled}
+use Rattle.fm_page.specs.Escapes.{IsSafe, digit, escaped, is_safe, spelled}
 
 digit-safe : (n : ℕ) → n < 16 → IsSafe (digit n)
 digit-safe n few = grind arith

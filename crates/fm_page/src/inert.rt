@@ -2,7 +2,7 @@
 
 ghost use Rattle.std.specs.Prelude.{◌≡◌, ◌<◌, ◌++◌, IfOk};
 ghost use Rattle.std.specs.List.{All};
-ghost use Rattle.fm_view.specs.Escapes.{IsInert, inert, is_inert, spelled_inert};
+ghost use Rattle.fm_page.specs.Escapes.{IsInert, inert, is_inert, spelled_inert};
 
 use crate::escape::digit;
 use std::alloc::{AllocError, Global};

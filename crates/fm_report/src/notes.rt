@@ -1,10 +1,10 @@
-//! What the lines of a script named so far, and since when: what the manager's state doesn't tell.
+//! What a run named so far, and since when: what the manager's state doesn't tell.
 
-use crate::event::{Deed, Event, instance_in};
+use crate::event::Event;
+use crate::kind::Kind;
 use fm_altitude::Altitude;
-use fm_core::{FilterPhase, Phase, Place, State, Step, VolumePhase};
+use fm_core::{FilterPhase, Phase, Place, State, VolumePhase};
 use fm_data::{FileRequest, Request};
-use fm_script::Task;
 use fm_types::limits::SCRIPT_WORKERS;
 use fm_types::{
     ContextKind, CreateMode, FilterId, InstanceId, Name, SharedPath, Status, VolumeId, WorkerId,
@@ -81,6 +81,22 @@ impl What {
         }
     }
 
+    /// The word with which it is told.
+    pub fn title(&self) -> &'static str {
+        match self {
+            What::Create(..) => "CREATE",
+            What::List(_) => "LIST",
+            What::Read(..) => "READ",
+            What::Write(..) => "WRITE",
+            What::SetSize(..) => "SET_SIZE",
+            What::Size(_) => "QUERY_SIZE",
+            What::Flush(_) => "FLUSH",
+            What::Delete(_) => "DELETE",
+            What::Cleanup(_) => "CLEANUP",
+            What::Close(_) => "CLOSE",
+        }
+    }
+
     /// The handle that it is on.
     pub fn handle(&self) -> Option<u64> {
         match self {
@@ -142,8 +158,6 @@ pub struct Change {
 #[derive(Drop)]
 pub struct Notes {
     pub filters: Vec<Loaded<FilterPhase>>,
-    /// For each filter whether it has a query and an unload routine.
-    pub routines: Vec<(bool, bool)>,
     pub volumes: Vec<Loaded<VolumePhase>>,
     pub instances: Vec<InstanceNote>,
     pub operations: Vec<OperationNote>,
@@ -160,12 +174,16 @@ pub struct Notes {
     pub refusals: [u64; STATUSES],
 }
 
+// The item of a list at that number.
+fn item_at<T: Copy>(items: &[T], number: u64) -> Option<T> {
+    items.get(usize::try_from(number).ok()?).copied()
+}
+
 impl Notes {
     /// Nothing was named.
     pub fn new(alloc: Global) -> Notes {
         Notes {
             filters: Vec::new(alloc),
-            routines: Vec::new(alloc),
             volumes: Vec::new(alloc),
             instances: Vec::new(alloc),
             operations: Vec::new(alloc),
@@ -179,41 +197,24 @@ impl Notes {
         }
     }
 
-    /// Notes what an event of a line named, and what changed with it.
-    pub fn learn(
-        &mut self,
-        line: u32,
-        event: &Event,
-        task: &Task,
-        state: &State,
-    ) -> Result<(), AllocError> {
-        match event {
-            Event::Refused { status, .. } => self.refuse(*status),
-            Event::Began { .. } => self.begin(line, task)?,
-            Event::OnContext {
-                deed: Deed::Allocated,
-                worker,
-                ..
-            } => self.allocate(line, *worker, task, state)?,
-            Event::OnContext {
-                deed: Deed::Set(_),
-                context,
-                ..
-            } => self.set(line, *context),
-            Event::Replied {
-                operation,
-                status: Status::Success,
-                information,
-            } => self.reply(*operation, *information)?,
-            Event::Dropped { handle, .. } => self.close(*handle),
-            _ => self.name(line, task, event)?,
-        }
-        self.move_worker(line, event);
-        self.start(line, event);
-        if changes_phases(event) {
-            return self.follow(line, state);
-        }
-        Ok(())
+    /// What is noted of a filter.
+    pub fn filter(&self, number: u64) -> Option<Loaded<FilterPhase>> {
+        item_at(self.filters.as_slice(), number)
+    }
+
+    /// What is noted of a volume.
+    pub fn volume(&self, number: u64) -> Option<Loaded<VolumePhase>> {
+        item_at(self.volumes.as_slice(), number)
+    }
+
+    /// What is noted of an instance.
+    pub fn instance(&self, number: u64) -> Option<InstanceNote> {
+        item_at(self.instances.as_slice(), number)
+    }
+
+    /// What is noted of a context.
+    pub fn context(&self, number: u64) -> Option<ContextNote> {
+        item_at(self.contexts.as_slice(), number)
     }
 
     /// Counts a refusal.
@@ -231,54 +232,23 @@ impl Notes {
         all
     }
 
-    // Notes what was named.
-    fn name(&mut self, since: u32, task: &Task, event: &Event) -> Result<(), AllocError> {
-        match (event, task) {
-            (Event::Loaded { .. }, Task::Event(Step::Register { name, registration })) => {
-                self.filters.push(Loaded {
-                    name: *name,
-                    phase: FilterPhase::Loaded,
-                    since,
-                })?;
-                self.routines
-                    .push((registration.query, registration.unload))?;
-            }
-            (Event::Mounted { .. }, Task::Event(Step::Mount { name })) => {
-                self.volumes.push(Loaded {
-                    name: *name,
-                    phase: VolumePhase::Mounted,
-                    since,
-                })?;
-            }
-            (
-                Event::Entered { .. },
-                Task::Event(
-                    Step::Attach {
-                        name,
-                        altitude,
-                        filter,
-                        volume,
-                        ..
-                    },
-                ),
-            ) => self.attach(*name, *altitude, (filter.0, volume.0), Phase::Setup, since)?,
-            (
-                Event::Attached { .. },
-                Task::Attach {
-                    name,
-                    altitude,
-                    filter,
-                    volume,
-                },
-            ) => self.attach(
-                *name,
-                *altitude,
-                (filter.0, volume.0),
-                Phase::Attached,
-                since,
-            )?,
-            _ => {}
-        }
+    /// A filter is there.
+    pub fn load(&mut self, name: Name, since: u32) -> Result<(), AllocError> {
+        self.filters.push(Loaded {
+            name,
+            phase: FilterPhase::Loaded,
+            since,
+        })?;
+        Ok(())
+    }
+
+    /// A volume is there.
+    pub fn mount(&mut self, name: Name, since: u32) -> Result<(), AllocError> {
+        self.volumes.push(Loaded {
+            name,
+            phase: VolumePhase::Mounted,
+            since,
+        })?;
         Ok(())
     }
 
@@ -292,11 +262,7 @@ impl Notes {
         since: u32,
     ) -> Result<(), AllocError> {
         if let Ok(instance) = u16::try_from(self.instances.len()) {
-            self.changes.push(Change {
-                line: since,
-                instance,
-                phase,
-            })?;
+            self.change(since, instance, phase)?;
         }
         self.instances.push(InstanceNote {
             name,
@@ -310,52 +276,45 @@ impl Notes {
         Ok(())
     }
 
-    // An operation began.
-    fn begin(&mut self, line: u32, task: &Task) -> Result<(), AllocError> {
-        if let Task::Event(Step::Begin(request)) = task {
-            self.operations.push(OperationNote {
-                what: what_of(request)?,
-                line,
-            })?;
-        }
+    // The life of an instance came so far.
+    fn change(&mut self, line: u32, instance: u16, phase: Phase) -> Result<(), AllocError> {
+        self.changes.push(Change {
+            line,
+            instance,
+            phase,
+        })?;
         Ok(())
     }
 
-    // A context was allocated by the callback that the worker is in.
-    fn allocate(
+    /// An operation began, that does this.
+    pub fn begin(&mut self, line: u32, what: What) -> Result<(), AllocError> {
+        self.operations.push(OperationNote { what, line })?;
+        Ok(())
+    }
+
+    /// A context was allocated by a callback of that instance.
+    pub fn allocate(
         &mut self,
         line: u32,
-        worker: u8,
-        task: &Task,
-        state: &State,
+        kind: ContextKind,
+        instance: u16,
     ) -> Result<(), AllocError> {
-        let place = state.place(WorkerId(worker)).unwrap_or(Place::Idle);
-        if let (Task::Event(Step::Allocate { kind, .. }), Some(instance)) = (
-            task,
-            instance_in(place),
-        ) {
-            self.contexts.push(ContextNote {
-                kind: *kind,
-                instance,
-                line,
-                set: 0,
-            })?;
-        }
+        self.contexts.push(ContextNote {
+            kind,
+            instance,
+            line,
+            set: 0,
+        })?;
         Ok(())
     }
 
-    // A context was set.
-    fn set(&mut self, line: u32, context: u64) {
+    /// A context was set.
+    pub fn set(&mut self, line: u32, context: u64) {
         if let Ok(at) = usize::try_from(context) {
             if let Some(note) = self.contexts.get_mut(at) {
                 note.set = line;
             }
         }
-    }
-
-    /// What is noted of a context.
-    pub fn context(&self, number: u64) -> Option<ContextNote> {
-        self.contexts.get(usize::try_from(number).ok()?).copied()
     }
 
     /// A reply of success was handed out: a create's handle is open, and a close's isn't any more.
@@ -399,8 +358,8 @@ impl Notes {
         self.volume_of_request(self.what(Some(operation))?)
     }
 
-    // A handle isn't open any more.
-    fn close(&mut self, handle: u64) {
+    /// A handle isn't open any more.
+    pub fn close(&mut self, handle: u64) {
         self.handles.retain(|other| *other != handle);
     }
 
@@ -414,57 +373,59 @@ impl Notes {
         Ok(())
     }
 
-    // A worker came to where it is.
-    fn move_worker(&mut self, line: u32, event: &Event) {
-        let worker = match event {
-            Event::Entered { worker, .. }
-            | Event::OnContext {
-                worker,
-                deed: Deed::InCleanup,
-                ..
-            } => *worker,
-            _ => return,
+    /// Notes of an event what needs no more than its facts: where a worker came to, a teardown's start, a reply, a refusal.
+    pub fn note(&mut self, line: u32, event: &Event) -> Result<(), AllocError> {
+        if event.kind.is_entry() {
+            self.move_worker(line, event.facts.worker);
+        }
+        let Some(status) = event.facts.status else {
+            self.start(line, event);
+            return Ok(());
         };
-        if let Some(since) = self.workers.get_mut(usize::from(worker)) {
-            *since = line;
+        match (event.kind, event.facts.operation) {
+            (Kind::Refused, _) => self.refuse(status),
+            (Kind::Replied, Some(operation)) if status == Status::Success => {
+                self.reply(operation, event.facts.number)?
+            }
+            _ => {}
+        }
+        Ok(())
+    }
+
+    // A worker came to where it is.
+    fn move_worker(&mut self, line: u32, worker: Option<u64>) {
+        let Some(worker) = worker else {
+            return;
+        };
+        if let Ok(at) = usize::try_from(worker) {
+            if let Some(since) = self.workers.get_mut(at) {
+                *since = line;
+            }
         }
     }
 
-    // A teardown starts.
+    // A teardown starts, or its start is over.
     fn start(&mut self, line: u32, event: &Event) {
-        let (is_over, instance) = match event {
-            Event::Entered {
-                place: Place::Start(instance),
-                ..
-            } => (false, *instance),
-            Event::Returned {
-                place: Place::Start(instance),
-                ..
-            } => (true, *instance),
+        let is_over = match event.kind {
+            Kind::InStart => false,
+            Kind::Started => true,
             _ => return,
         };
-        if let Some(note) = self.instances.get_mut(usize::from(instance.0)) {
-            if is_over {
-                note.started = (note.started.0, line);
-            } else {
-                note.started = (line, 0);
+        let Some(instance) = event.facts.instance else {
+            return;
+        };
+        if let Ok(at) = usize::try_from(instance) {
+            if let Some(note) = self.instances.get_mut(at) {
+                note.started = started_at(note.started, line, is_over);
             }
         }
     }
 
     /// Notes how far the life of each filter, volume and instance is.
     pub fn follow(&mut self, line: u32, state: &State) -> Result<(), AllocError> {
-        for (at, note) in self.instances.iter_mut().enumerate() {
+        for at in 0..self.instances.len() {
             if let Some((instance, phase)) = phase_at(state, at) {
-                if phase != note.phase {
-                    note.phase = phase;
-                    note.since = line;
-                    self.changes.push(Change {
-                        line,
-                        instance,
-                        phase,
-                    })?;
-                }
+                self.follow_instance(line, at, instance, phase)?;
             }
         }
         self.follow_filters(line, state);
@@ -472,13 +433,29 @@ impl Notes {
         Ok(())
     }
 
+    // An instance's life is so far.
+    fn follow_instance(
+        &mut self,
+        line: u32,
+        at: usize,
+        instance: u16,
+        phase: Phase,
+    ) -> Result<(), AllocError> {
+        let Some(note) = self.instances.get_mut(at) else {
+            return Ok(());
+        };
+        if note.phase == phase {
+            return Ok(());
+        }
+        note.phase = phase;
+        note.since = line;
+        self.change(line, instance, phase)
+    }
+
     fn follow_filters(&mut self, line: u32, state: &State) {
         for (at, note) in self.filters.iter_mut().enumerate() {
             if let Some(phase) = filter_phase_at(state, at) {
-                if phase != note.phase {
-                    note.phase = phase;
-                    note.since = line;
-                }
+                come_to(note, phase, line);
             }
         }
     }
@@ -486,10 +463,7 @@ impl Notes {
     fn follow_volumes(&mut self, line: u32, state: &State) {
         for (at, note) in self.volumes.iter_mut().enumerate() {
             if let Some(phase) = volume_phase_at(state, at) {
-                if phase != note.phase {
-                    note.phase = phase;
-                    note.since = line;
-                }
+                come_to(note, phase, line);
             }
         }
     }
@@ -500,6 +474,19 @@ impl Notes {
             Some(line) => *line,
             None => 0,
         }
+    }
+}
+
+// The lines of a teardown's start: that on which it began, and that on which it was over.
+fn started_at((started, _): (u32, u32), line: u32, is_over: bool) -> (u32, u32) {
+    if is_over { (started, line) } else { (line, 0) }
+}
+
+// A filter's or a volume's life is so far.
+fn come_to<P: Copy + PartialEq>(note: &mut Loaded<P>, phase: P, line: u32) {
+    if phase != note.phase {
+        note.phase = phase;
+        note.since = line;
     }
 }
 
@@ -516,42 +503,29 @@ fn volume_phase_at(state: &State, at: usize) -> Option<VolumePhase> {
     state.volume_phase(VolumeId(u8::try_from(at).ok()?))
 }
 
-// Whether the life of an instance, a filter or a volume may have gone on.
-fn changes_phases(event: &Event) -> bool {
-    matches!(
-        event,
-        Event::Returned { .. }
-            | Event::Entered {
-                place: Place::Complete(_),
-                ..
-            }
-            | Event::Finished { .. }
-            | Event::FilterEmptied { .. }
-            | Event::FilterFinished { .. }
-            | Event::Dismounting { .. }
-            | Event::VolumeEmptied { .. }
-            | Event::VolumeFinished { .. }
-            | Event::Refused { .. },
-    )
-}
-
 /// What a request does.
 pub fn what_of(request: &Request) -> Result<What, AllocError> {
-    let what = match request {
-        Request::Create { volume, path, mode } => What::Create(volume.0, path.share()?, *mode),
-        Request::List { volume } => What::List(volume.0),
-        Request::OnHandle { handle, request } => what_on(handle.0, request),
-    };
-    Ok(what)
+    match request {
+        Request::Create { volume, path, mode } => {
+            Ok(What::Create(volume.0, path.share()?, *mode))
+        }
+        Request::List { volume } => Ok(What::List(volume.0)),
+        Request::OnHandle { handle, request } => Ok(what_on(handle.0, request)),
+    }
+}
+
+// The offset behind so many bytes.
+fn behind(offset: u64, len: u64) -> u64 {
+    offset.saturating_add(len)
 }
 
 fn what_on(handle: u64, request: &FileRequest) -> What {
     match request {
         FileRequest::Read { offset, len } => {
-            What::Read(handle, *offset, offset.saturating_add(u64::from(*len)))
+            What::Read(handle, *offset, behind(*offset, u64::from(*len)))
         }
         FileRequest::Write { offset, bytes } => {
-            What::Write(handle, *offset, offset.saturating_add(bytes.len() as u64))
+            What::Write(handle, *offset, behind(*offset, bytes.len() as u64))
         }
         FileRequest::QuerySize => What::Size(handle),
         FileRequest::SetSize { size } => What::SetSize(handle, *size),

@@ -2,7 +2,7 @@
 
 ghost use Rattle.std.specs.Prelude.{◌≡◌, ◌<◌, ◌++◌, IfOk};
 ghost use Rattle.std.specs.List.{All};
-ghost use Rattle.fm_view.specs.Escapes.{IsSafe, digit, escaped, is_safe, spelled};
+ghost use Rattle.fm_page.specs.Escapes.{IsSafe, digit, escaped, is_safe, spelled};
 
 use std::alloc::{AllocError, Global};
 

@@ -2,7 +2,7 @@
 use Rattle.std.proofs.Common.{◌≡◌, ℕ, ◌<◌, ◌%◌, ◌/◌, ◌++◌, List, [], ◌∷◌, Bool, true, false, cond, refl, arith, subst, sym}
 use Rattle.std.specs.List.{All}
 use Rattle.std.proofs.lemmas.List.Elements.{All-append, All-cons, All-nil}
-use Rattle.fm_view.specs.Escapes.{IsInert, digit, inert, is_inert, spelled_inert}
+use Rattle.fm_page.specs.Escapes.{IsInert, digit, inert, is_inert, spelled_inert}
 
 digit-inert : (n : ℕ) → n < 16 → IsInert (digit n)
 digit-inert n few = grind arith

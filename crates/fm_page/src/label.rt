@@ -18,6 +18,13 @@ impl Label {
         })
     }
 
+    /// That of no bytes.
+    pub fn empty(alloc: Global) -> Label {
+        Label {
+            bytes: Vec::new(alloc),
+        }
+    }
+
     /// Its text.
     pub fn text(&self) -> &str {
         match str::from_utf8(self.bytes.as_slice()) {

@@ -556,7 +556,8 @@ KzOp *kz_own_op(PFLT_CALLBACK_DATA data);
 PFLT_VOLUME kz_volume_named(const char *name, const char **rest);
 /* Handles of a driver's own files, and of what else it opens. */
 KzFile *kz_own_file(HANDLE handle);
-HANDLE kz_open_handle(PVOID object, const char *what);
+HANDLE kz_open_handle(PVOID object, const char *what, ULONG attributes);
+void kz_close_handles_of(uint64_t process);
 PVOID kz_object_of(HANDLE handle);
 bool kz_close_handle(HANDLE handle);
 void kz_tell_handles(PFLT_FILTER filter);

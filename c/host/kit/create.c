@@ -9,7 +9,8 @@ typedef struct Handle {
     PVOID object;     /* of a handle of no file */
     const char *what; /* it is */
     HANDLE handle;
-    const char *call; /* that closes it */
+    const char *call; /* that closes it; NULL: nobody needs to */
+    uint64_t process; /* the program's whose handle it is; 0: it is the kernel's */
     KzPlace place;
 } Handle;
 
@@ -38,9 +39,13 @@ static Handle *new_handle(const char *call)
     return handles = made;
 }
 
-HANDLE kz_open_handle(PVOID object, const char *what)
+/* What a filter opens for the program that called it is the program's, which closes it by itself, or by its end. */
+HANDLE kz_open_handle(PVOID object, const char *what, ULONG attributes)
 {
-    Handle *made = new_handle("ZwClose");
+    bool is_by_program = kz_me->place.callback == KZ_IN_PORT || kz_me->place.callback == KZ_IN_DISPATCH;
+    bool is_of_kernel = (attributes & OBJ_KERNEL_HANDLE) || !is_by_program;
+    Handle *made = new_handle(is_of_kernel ? "ZwClose" : NULL);
+    made->process = is_of_kernel ? 0 : kz_me->process;
     made->object = object;
     made->what = what;
     return made->handle;
@@ -292,6 +297,17 @@ bool kz_close_handle(HANDLE handle)
         close_file(gone->file);
     free(gone);
     return true;
+}
+
+void kz_close_handles_of(uint64_t process)
+{
+    for (Handle **at = &handles; *at;) {
+        Handle *one = *at;
+        if (one->process == process && process)
+            kz_close_handle(one->handle);
+        else
+            at = &one->next;
+    }
 }
 
 NTSTATUS FltClose(HANDLE FileHandle)

@@ -42,7 +42,7 @@ NTSTATUS FltCreateSectionForDataScan(PFLT_INSTANCE Instance, PFILE_OBJECT FileOb
                                      ULONG Flags, PHANDLE SectionHandle, PVOID *SectionObject, PLARGE_INTEGER SectionFileSize)
 {
     KZ_CALL();
-    (void)DesiredAccess, (void)ObjectAttributes, (void)MaximumSize, (void)SectionPageProtection, (void)AllocationAttributes, (void)Flags;
+    (void)DesiredAccess, (void)MaximumSize, (void)SectionPageProtection, (void)AllocationAttributes, (void)Flags;
     *SectionHandle = NULL;
     *SectionObject = NULL;
     Section *made = kz_memory(sizeof *made);
@@ -57,7 +57,7 @@ NTSTATUS FltCreateSectionForDataScan(PFLT_INSTANCE Instance, PFILE_OBJECT FileOb
     made->next = sections;
     sections = made;
     FltReferenceContext(SectionContext); /* the section has it, until it is closed */
-    *SectionHandle = kz_open_handle(made, "a section");
+    *SectionHandle = kz_open_handle(made, "a section", ObjectAttributes ? ObjectAttributes->Attributes : 0);
     *SectionObject = made;
     kz_take_object(made, false, __func__);
     if (SectionFileSize)
@@ -145,10 +145,10 @@ NTSTATUS ObOpenObjectByPointer(PVOID Object, ULONG HandleAttributes, PVOID Passe
                                KPROCESSOR_MODE AccessMode, PHANDLE Handle)
 {
     KZ_CALL();
-    (void)HandleAttributes, (void)PassedAccessState, (void)DesiredAccess, (void)ObjectType, (void)AccessMode;
+    (void)PassedAccessState, (void)DesiredAccess, (void)ObjectType, (void)AccessMode;
     *Handle = NULL;
     if (section_of(Object)) {
-        *Handle = kz_open_handle(Object, "a section");
+        *Handle = kz_open_handle(Object, "a section", HandleAttributes);
         return STATUS_SUCCESS;
     }
     kz_tell(KZM_SECURITY, __func__, "of what isn't a section it answers STATUS_NOT_SUPPORTED");

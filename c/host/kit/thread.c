@@ -64,7 +64,7 @@ NTSTATUS PsCreateSystemThread(PHANDLE ThreadHandle, ULONG DesiredAccess, POBJECT
     all = made;
     if (ClientId)
         *ClientId = (CLIENT_ID){ULongToHandle(4), ULongToHandle(id)};
-    *ThreadHandle = kz_open_handle(made->object, "a thread");
+    *ThreadHandle = kz_open_handle(made->object, "a thread", OBJ_KERNEL_HANDLE);
     return STATUS_SUCCESS;
 }
 

@@ -86,6 +86,15 @@ void kz_end_below(KzOp *op)
         own.done(own.given, kz_status_of(answer), answer.reply.information, kz_me->room, answer.length);
 }
 
+/* By another handle, whose cleanup isn't done. */
+static bool is_open_else(const KzFile *file)
+{
+    for (const KzFile *one = kz.files; one; one = one->next)
+        if (one != file && one->has_handle && one->volume == file->volume && strcmp(one->path, file->path) == 0 && !(one->object.Flags & FO_CLEANUP_COMPLETE))
+            return true;
+    return false;
+}
+
 /* Of a file whose cleanup has begun the manager takes nothing any more, but the file system here does, until its close. */
 static KzAnswer reopened(const KzOwn *own, KzFile *file, KazdrinEvent asked, const void *bytes, size_t length)
 {
@@ -106,8 +115,8 @@ static KzAnswer reopened(const KzOwn *own, KzFile *file, KazdrinEvent asked, con
         memcpy(kz_me->room, kept, answer.length);
         free(kept);
     } else if (answer.reply.status == KZS_DELETE_PENDING) {
-        answer.other = STATUS_FILE_DELETED; /* as a file system answers behind the cleanup of a file that is marked */
-        if (!(file->object.Flags & FO_CLEANUP_COMPLETE))
+        answer.other = STATUS_FILE_DELETED; /* as a file system answers behind the last cleanup of a file that is marked */
+        if (!(file->object.Flags & FO_CLEANUP_COMPLETE) || is_open_else(file))
             kz_tell(KZM_MARKED_CLEANUP, "IRP_MJ_CLEANUP", "a file that is marked to be deleted is gone for its filters once its cleanup begins: it answers STATUS_FILE_DELETED");
     }
     kz_let_go_file(hidden);

@@ -385,8 +385,6 @@ static void call_base(KzOp *op)
     if (is_failed && kazdrin_based(&kz.manager, &event, (const uint8_t *)"", 0) == KZS_OK)
         return;
     op->comes_from_device = true;
-    if (op->event == KZE_CLEANUP)
-        op->file->object.Flags |= FO_CLEANUP_COMPLETE;
     if (!kz_call_base_folder(event.worker))
         kazdrin_base(&kz.manager, &event);
 }
@@ -411,6 +409,8 @@ static Turn turn(KzOp *op)
         call_base(op);
         return GOES;
     case KZA_POST:
+        if (op->event == KZE_CLEANUP)
+            op->file->object.Flags |= FO_CLEANUP_COMPLETE; /* a cleanup's turn at the file system is no call */
         post(op, instance, completion);
         return GOES;
     case KZA_DRAIN:

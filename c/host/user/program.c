@@ -58,6 +58,7 @@ static void end_process(KzProcess *process)
     kz_cancel_of(process->id);
     while (process->objects)
         kz_close_object(process->objects);
+    kz_close_handles_of(process->id);
     kz_end_process(process->id);
 }
 

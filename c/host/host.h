@@ -432,6 +432,11 @@ bool kz_read_registry(const char *path);
 void kz_tell_keys(void);
 void kz_free_registry(void);
 
+/* Whether the filter has any that could run code of its driver. */
+bool kz_has_threads_of(PFLT_FILTER filter);
+bool kz_has_routines_of(PFLT_FILTER filter);
+bool kz_has_ports_of(PFLT_FILTER filter);
+
 /* work.c */
 bool kz_work(void);
 bool kz_has_work(void);

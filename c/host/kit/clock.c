@@ -538,6 +538,25 @@ static bool is_known(const DISPATCHER_HEADER *object)
     return object->Type <= SEMAPHORE || object->Type == TIMER_KEEPS || object->Type == TIMER_RESETS || object->Type > 64;
 }
 
+/* Whether no other code of the driver can run: before it starts filtering, or behind its end, with nothing of its own beside. So what it waits for never comes, on Windows too. */
+static bool is_alone(PFLT_FILTER filter)
+{
+    bool is_beginning = kz_me->place.callback == KZ_IN_ENTRY && !filter->is_started;
+    bool is_over = kz_me->place.callback == KZ_IN_UNLOAD && kz_filter_phase(filter) == KZP_FILTER_NOT_LOADED;
+    return (is_beginning || is_over) && !kz_has_threads_of(filter) && !kz_has_routines_of(filter) && !kz_has_ports_of(filter) && !kz_has_work_of(filter);
+}
+
+static void tell_endless(const char *call)
+{
+    PFLT_FILTER filter = kz_me->place.filter;
+    if (!filter || !is_alone(filter)) {
+        kz_tell(KZM_NOBODY_SETS, call, "nobody else runs here who would set it: the wait ends with STATUS_TIMEOUT");
+        return;
+    }
+    kz_tell(KZM_WAITS_FOR_EVER, call, "no other code of the driver can run, and set it: it would wait for ever");
+    filter->gave_up = true; /* what it does behind it, it never does */
+}
+
 /* What else runs here, work items and timers, goes on meanwhile. */
 NTSTATUS KeWaitForSingleObject(PVOID Object, KWAIT_REASON WaitReason, KPROCESSOR_MODE WaitMode, BOOLEAN Alertable, PLARGE_INTEGER Timeout)
 {
@@ -565,7 +584,7 @@ NTSTATUS KeWaitForSingleObject(PVOID Object, KWAIT_REASON WaitReason, KPROCESSOR
     if (Timeout)
         pass(units_of(Timeout));
     else
-        kz_tell(KZM_NOBODY_SETS, __func__, "nobody else runs here who would set it: the wait ends with STATUS_TIMEOUT");
+        tell_endless(__func__);
     return STATUS_TIMEOUT;
 }
 

@@ -353,6 +353,17 @@ static void tell_leak(PFLT_PORT port, const char *call, const char *what)
     kz_me->place = before;
 }
 
+bool kz_has_ports_of(PFLT_FILTER filter)
+{
+    for (PFLT_PORT one = servers; one; one = one->next)
+        if (one->filter == filter)
+            return true;
+    for (PFLT_PORT one = connections; one; one = one->next)
+        if (one->filter == filter && !one->is_closed)
+            return true;
+    return false;
+}
+
 void kz_tell_ports(PFLT_FILTER filter)
 {
     for (PFLT_PORT one = servers; one; one = one->next)

@@ -399,6 +399,14 @@ VOID ObUnRegisterCallbacks(PVOID RegistrationHandle)
     (void)RegistrationHandle;
 }
 
+bool kz_has_routines_of(PFLT_FILTER filter)
+{
+    const Routine *one = routines;
+    while (one && one->filter != filter)
+        one = one->next;
+    return one != NULL;
+}
+
 /* ---- A filter is unloaded, and a run ends. */
 void kz_tell_routines(PFLT_FILTER filter)
 {

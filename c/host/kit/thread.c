@@ -83,6 +83,14 @@ NTSTATUS PsTerminateSystemThread(NTSTATUS ExitStatus)
     longjmp(me->end, 1);
 }
 
+bool kz_has_threads_of(PFLT_FILTER filter)
+{
+    const Own *one = all;
+    while (one && !(one->filter == filter && !one->has_ended))
+        one = one->next;
+    return one != NULL;
+}
+
 /* ---- A filter is unloaded, and a run ends. */
 void kz_tell_threads(PFLT_FILTER filter)
 {

@@ -1,5 +1,8 @@
 //! The trial program.
 
+ghost use Rattle.std.specs.Prelude.{◌≡◌};
+ghost use Rattle.fm_trial.specs.Verdicts.{worse};
+
 use crate::manner::Manner;
 use crate::scenario::{Scenario, WRONG_FILE};
 use crate::voice::Voice;
@@ -22,12 +25,17 @@ fn failed(status: Status) -> io::Error {
 }
 
 // Which of two exit statuses says more: 2 before 1, and 1 before 5.
-fn worse(one: u8, other: u8) -> u8 {
-    match (one, other) {
-        (WRONG_FILE, _) | (_, WRONG_FILE) => WRONG_FILE,
-        (1, _) | (_, 1) => 1,
-        (one, 0) => one,
-        (_, other) => other,
+fn worse(one: u8, other: u8) -> u8
+    ensures { result ≡ worse one other }
+{
+    if one == WRONG_FILE || other == WRONG_FILE {
+        WRONG_FILE
+    } else if one == 1 || other == 1 {
+        1
+    } else if other == 0 {
+        one
+    } else {
+        other
     }
 }
 

@@ -1,5 +1,8 @@
 //! A scenario under way.
 
+ghost use Rattle.std.specs.Prelude.{◌≡◌};
+ghost use Rattle.fm_trial.specs.Verdicts.{status_of};
+
 use crate::asked::Asked;
 use crate::expectation::{Expectation, expected_words};
 use crate::line::Line;
@@ -55,16 +58,15 @@ struct Telling {
 
 impl Count {
     // The exit status of a scenario that came to that.
-    fn status(self) -> u8 {
-        match self {
-            Count {
-                failed: 0,
-                told: 0,
-                dropped: 0,
-                ..
-            } => 0,
-            Count { failed: 0, .. } => 5,
-            _ => 1,
+    fn status(self) -> u8
+        ensures { result ≡ status_of self.failed self.told self.dropped }
+    {
+        if self.failed > 0 {
+            1
+        } else if self.told > 0 || self.dropped > 0 {
+            5
+        } else {
+            0
         }
     }
 }

@@ -1,5 +1,8 @@
 //! Mistakes of filters, by the numbers under which the host for drivers in C tells them.
 
+ghost use Rattle.std.specs.Prelude.{◌≡◌};
+ghost use Rattle.fm_trial.specs.Mistakes.{is_limit, is_misuse, mistake_of};
+
 use fm_core::PreState;
 use fm_data::PreVerdict;
 use fm_local::{PortCall, PostAnswer, PreAnswer, Refusal};
@@ -67,7 +70,9 @@ impl Told {
     }
 
     /// Whether it is a limit of the model, and no mistake of the filter.
-    pub(crate) fn is_limit(self) -> bool {
+    pub(crate) fn is_limit(self) -> bool
+        ensures { result ≡ is_limit self }
+    {
         matches!(
             self,
             Told::CreateCompleted | Told::CloseCompleted | Told::FixedAnswer
@@ -75,7 +80,9 @@ impl Told {
     }
 
     /// Whether something was given back or let go on that isn't held.
-    pub(crate) fn is_misuse(self) -> bool {
+    pub(crate) fn is_misuse(self) -> bool
+        ensures { result ≡ is_misuse self }
+    {
         matches!(self, Told::ReleasedTwice | Told::NotHeld)
     }
 
@@ -85,7 +92,9 @@ impl Told {
     }
 
     /// Which mistake a refused call of a port is; none where a filter may meet that refusal.
-    pub(crate) fn of(refusal: &Refusal) -> Option<Told> {
+    pub(crate) fn of(refusal: &Refusal) -> Option<Told>
+        ensures { result ≡ mistake_of refusal.now.status refusal.now.call }
+    {
         match (refusal.status, refusal.call) {
             (Status::NotHeld, PortCall::Release(_)) => Some(Told::ReleasedTwice),
             (Status::NotHeld, PortCall::Set(_)) => Some(Told::SetNotReferenced),

@@ -297,8 +297,8 @@ static const char *user_of(PEPROCESS process)
 NTSTATUS SeQueryInformationToken(PACCESS_TOKEN Token, TOKEN_INFORMATION_CLASS TokenInformationClass, PVOID *TokenInformation)
 {
     KZ_INSIDE();
-    ULONG numbers[15];
-    UCHAR authority;
+    ULONG numbers[15] = {0};
+    UCHAR authority = 0;
     *TokenInformation = NULL;
     if (TokenInformationClass != TokenUser) {
         kz_tell(KZM_SECURITY, __func__, "class %d isn't modelled: it answers STATUS_NOT_SUPPORTED", (int)TokenInformationClass);

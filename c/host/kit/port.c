@@ -14,7 +14,7 @@ struct _FLT_PORT {
     PFLT_DISCONNECT_NOTIFY disconnect;
     PFLT_MESSAGE_NOTIFY message;
     LONG most, connections;
-    unsigned running; /* connect callbacks of the one that programs connect to, or message callbacks of a connection */
+    unsigned running; /* connect callbacks of the one that programs connect to, or message and disconnect callbacks of a connection */
     bool is_ending; /* its filter is unloaded: no message comes any more */
     bool is_refused, is_closed, is_disconnected; /* of a connection: by the connect callback, by the filter, by the program or the filter's end */
     KzPortMessage *messages;
@@ -178,9 +178,13 @@ void kz_disconnect_port(PFLT_PORT port)
     if (port->server)
         port->server->connections--;
     kz_scheduler->touch(port, 0, KZT_TAKES);
+    port->running++;
     Inside inside = go_in(port->filter, "disconnect", (PVOID)port->disconnect);
     port->disconnect(port->cookie);
     come_back(inside, "disconnect returns");
+    port->running--;
+    kz.changes++;
+    kz_scheduler->touch(port, 0, KZT_GIVES);
 }
 
 NTSTATUS kz_send_to_filter(PFLT_PORT port, void *in, ULONG in_length, void *out, ULONG out_length, PULONG returned)
@@ -335,13 +339,14 @@ bool kz_reply_message(PFLT_PORT port, uint64_t id, NTSTATUS status, const void *
     return true;
 }
 
-/* ---- The end of a filter. Its connections end, once no message callback runs any more. */
+/* ---- The end of a filter. Its connections end, once no callback of theirs runs any more: a program may be about to disconnect. */
 void kz_disconnect_ports(PFLT_FILTER filter)
 {
     for (PFLT_PORT one = connections; one; one = one->next)
-        if (one->filter == filter && !one->is_disconnected) {
+        if (one->filter == filter && !one->is_refused) {
             one->is_ending = true;
-            kz_wait_for(is_quiet, one, -1, "a message callback to return");
+            kz_wait_for(is_quiet, one, -1, "a callback of a port to return");
+            kz_scheduler->touch(one, 0, KZT_TAKES);
             kz_disconnect_port(one);
         }
 }

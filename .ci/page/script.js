@@ -1,0 +1,586 @@
+'use strict';
+// A run is drawn from its objects: columns are what happened, in order; lanes are clients, instances by altitude, and file systems.
+const STEP = 15, LANE = 30, ROW = 13, ROWS = 12, BAR = 12, NAMES = 210, SVG = 'http://www.w3.org/2000/svg';
+const HUES = [210, 22, 135, 280, 330, 45, 181, 90];
+const SILENT = new Set(['Run', 'End', 'Comment', 'Became', 'Leaked', 'Told', 'Met', 'Unmet']);
+const RETURNS = { preoperation: ['Pre'], postoperation: ['Post', 'PostHeld'], drain: ['Drained'] };
+const PHASES = ['setup', 'stopping', 'completing', 'emptying', 'detached'];
+const byId = (id) => document.getElementById(id);
+
+function readRun() {
+  const all = [];
+  for (const line of byId('run').textContent.split('\n')) {
+    if (line === '') continue;
+    try { all.push(JSON.parse(line)); } catch (fault) { break; }
+  }
+  return all;
+}
+
+// Altitudes are compared by their decimal values.
+function compareAltitudes(one, other) {
+  const parts = (text) => { const [whole, rest] = text.split('.'); return [whole.replace(/^0+/, ''), (rest || '').replace(/0+$/, '')]; };
+  const [a, b] = [parts(one), parts(other)];
+  if (a[0].length !== b[0].length) return a[0].length - b[0].length;
+  if (a[0] !== b[0]) return a[0] < b[0] ? -1 : 1;
+  return a[1] === b[1] ? 0 : a[1] < b[1] ? -1 : 1;
+}
+
+// What the run has: columns, instances, operations with their stops, contexts, shades, leaks, and what is told of callbacks.
+function modelOf(all) {
+  const run = { columns: [], rows: [], volumes: new Map(), instances: new Map(), operations: new Map(), contexts: new Map(), shades: [], leaks: [], mistakes: [], trouble: [], end: null };
+  for (const told of all) {
+    if (!SILENT.has(told.event)) { told.column = run.columns.length; run.columns.push(told); }
+    const at = returnOf(run, told, Math.max(run.columns.length - 1, 0));
+    if (told.column === undefined && told.event !== 'Run') told.near = at;
+    if (told.event !== 'Run' && told.event !== 'Became') run.rows.push(told);
+    note(run, told, at);
+  }
+  return run;
+}
+
+// A trial tells of a callback once its whole request is over: the column is that of the callback's return. Anything else is where the run is.
+function returnOf(run, told, at) {
+  if (told.event !== 'Told' && told.event !== 'Leaked') return at;
+  const names = RETURNS[told.callback] || [];
+  for (let column = at; column >= 0 && run.columns[column]; column -= 1) {
+    const other = run.columns[column];
+    if (names.includes(other.event) && other.operation === told.operation && other.instance === told.instance) return column;
+  }
+  return at;
+}
+
+function note(run, told, at) {
+  if (told.event === 'Mounted') run.volumes.set(told.volume, { id: told.volume, name: told.name });
+  if (told.event === 'Attached' || told.event === 'InSetup') run.instances.set(told.instance, { ...told, id: told.instance, born: at, changes: [] });
+  if (told.event === 'Became' && run.instances.has(told.instance)) run.instances.get(told.instance).changes.push({ at, phase: told.phase });
+  if (told.event === 'Began') run.operations.set(told.operation, { id: told.operation, told, stops: [], at });
+  if (told.event === 'Allocated') run.contexts.set(told.context, { id: told.context, kind: told.kind, owner: told.owner, from: at, until: null, links: [] });
+  if (told.context && run.contexts.has(told.context)) noteContext(run.contexts.get(told.context), told, at);
+  if (told.event === 'Run') run.told = told;
+  if (told.event === 'Leaked') run.leaks.push({ ...told, at });
+  if (told.event === 'Told') run.mistakes.push({ told, at, before: run.mistakes.filter((one) => one.at === at && one.told.instance === told.instance).length });
+  if (told.event === 'End') run.end = told;
+  if (told.operation && run.operations.has(told.operation)) run.operations.get(told.operation).stops.push(told);
+  if (isTrouble(told)) run.trouble.push(told);
+}
+
+function noteContext(context, told, at) {
+  if (told.event === 'Cleaned') context.until = at;
+  if (['Set', 'Got', 'TakenOff', 'Pre', 'InCleanup', 'Referenced', 'Released'].includes(told.event)) context.links.push({ at, event: told.event });
+}
+
+function isTrouble(told) {
+  return ['Refused', 'Leaked', 'Told', 'Unmet'].includes(told.event) || (told.event === 'Base' && told.status === 18);
+}
+
+function labelOf(told) {
+  const file = told.path !== undefined ? told.path + ' ' + told.mode : told.handle || told.volume || '';
+  const range = told.from !== undefined ? ' ' + told.from + '..' + told.until : told.size !== undefined ? ' ' + told.size : '';
+  return told.operation + ' ' + told.request + ' ' + file + range;
+}
+
+// Where everything is, from the top.
+function layOut(run) {
+  run.lanes = [{ kind: 'refused', y: 13, text: 'refused, elsewhere than at an instance' }];
+  let top = 28;
+  for (const volume of run.volumes.values()) {
+    const here = [...run.operations.values()].filter((operation) => (operation.told.volume || 'v0') === volume.id);
+    const rows = placeNames(here);
+    volume.y = top + rows * ROW + 12;
+    run.lanes.push({ kind: 'volume', y: volume.y, text: volume.id + ' ' + volume.name });
+    here.forEach((operation) => { operation.top = volume.y; operation.labelY = top + operation.row * ROW + 9; });
+    top = volume.y + 10;
+    const stack = [...run.instances.values()].filter((instance) => instance.volume === volume.id);
+    stack.sort((one, other) => compareAltitudes(other.altitude, one.altitude) || one.born - other.born);
+    for (const instance of stack) top = placeInstance(run, instance, top);
+    volume.floor = top;
+    run.lanes.push({ kind: 'base', y: top + LANE / 2, text: 'file system of ' + volume.id });
+    top += LANE + 16;
+  }
+  run.height = top;
+}
+
+// A name goes below all that reach over its beginning, so that its stalk crosses none.
+function placeNames(operations) {
+  const ends = [];
+  for (const operation of operations) {
+    operation.label = labelOf(operation.told).slice(0, 40);
+    const x = operation.at * STEP;
+    let row = 0;
+    ends.forEach((end, at) => { if (end > x) row = at + 1; });
+    operation.row = row < ROWS ? row : null;
+    if (row < ROWS) ends[row] = x + operation.label.length * 6 + 12;
+  }
+  return ends.length;
+}
+
+// An instance, and under it its contexts: a row is used again once its context is cleaned up.
+function placeInstance(run, instance, top) {
+  instance.y = top + LANE / 2;
+  instance.top = top;
+  const ends = [];
+  for (const context of run.contexts.values()) {
+    if (context.owner !== instance.id) continue;
+    let row = ends.findIndex((end) => end <= context.from);
+    if (row < 0) row = ends.length;
+    ends[row] = context.until === null ? Infinity : context.until + 3;
+    context.y = top + LANE - 2 + row * BAR;
+    context.laneY = instance.y;
+  }
+  instance.height = LANE + ends.length * BAR;
+  run.lanes.push({ kind: 'instance', y: instance.y, text: instance.id + ' ' + instance.name, altitude: instance.altitude });
+  if (ends.length > 0) run.lanes.push({ kind: 'context', y: top + LANE + 3, text: ends.length === 1 ? 'its contexts' : 'its contexts, ' + ends.length + ' at once' });
+  return top + instance.height;
+}
+
+// The stops of an operation on its way, with how far down each is.
+function waysOf(run) {
+  for (const operation of run.operations.values()) {
+    const volume = run.volumes.get(operation.told.volume || 'v0');
+    operation.way = [];
+    for (const told of operation.stops) {
+      const y = volume && stopY(run, volume, told);
+      if (y && told.column !== undefined) operation.way.push({ told, x: told.column, y });
+    }
+    const last = operation.way[operation.way.length - 1];
+    operation.isOver = last !== undefined && last.told.event === 'Replied';
+    operation.isHeld = last !== undefined && holds(last.told);
+  }
+  nameFailures(run);
+}
+
+// A failure has the name of its status beside it, unless that would run into the one before in the same lane.
+function nameFailures(run) {
+  const ends = new Map();
+  const all = [...run.operations.values()].flatMap((operation) => operation.way.filter((stop) => isFailure(stop.told)));
+  all.sort((one, other) => one.x - other.x);
+  for (const stop of all) {
+    stop.isNamed = xOf(stop.x) >= (ends.get(stop.y) || 0);
+    if (stop.isNamed) ends.set(stop.y, xOf(stop.x) + (stop.told.status_name || '').length * 5.6 + 8);
+  }
+}
+
+function isFailure(told) {
+  if (told.event === 'Pre' || told.event === 'Resumed') return told.verdict === 'complete';
+  return told.status !== undefined && told.status !== 0;
+}
+
+function holds(told) {
+  return told.event === 'PostHeld' || (told.event === 'Pre' && told.verdict === 'pend');
+}
+
+function stopY(run, volume, told) {
+  const instance = run.instances.get(told.instance);
+  switch (told.event) {
+    case 'Began': case 'Replied': return volume.y;
+    case 'InBase': case 'Base': return volume.floor + LANE / 2;
+    case 'Known': return volume.floor - 1;
+    case 'InPre': case 'Pre': case 'InPost': case 'Post': case 'PostHeld': case 'InDrain': case 'Drained': case 'Resumed': case 'PostResumed':
+      return instance && instance.y;
+    default: return undefined;
+  }
+}
+
+// Drawing: each function adds to an SVG what lies between two columns.
+function add(parent, name, attributes, text) {
+  const element = document.createElementNS(SVG, name);
+  for (const key in attributes) element.setAttribute(key, attributes[key]);
+  if (text !== undefined) element.textContent = text;
+  parent.appendChild(element);
+  return element;
+}
+
+const xOf = (column) => column * STEP + STEP / 2;
+const colourOf = (id) => 'hsl(' + HUES[Number(id.slice(1)) % 8] + ' 62% var(--light))';
+
+function drawWindow(svg, run, from, until, chosen) {
+  const right = xOf(Math.min(until, run.columns.length));
+  const left = Math.max(xOf(from) - STEP, 0);
+  drawLanes(svg, run, left, right, from, until);
+  if (chosen !== null) add(svg, 'rect', { class: 'here', x: xOf(chosen) - STEP / 2, y: 0, width: STEP, height: run.height });
+  for (const context of run.contexts.values()) drawContext(svg, run, context, from, until, right);
+  for (const operation of run.operations.values()) drawWay(svg, run, operation, from, until);
+  for (let column = from; column < until && column < run.columns.length; column += 1) drawOwn(svg, run, run.columns[column]);
+  for (const leak of run.leaks) if (leak.at >= from && leak.at <= until) drawLeak(svg, run, leak);
+  for (const mistake of run.mistakes) if (mistake.at >= from && mistake.at <= until) drawTold(svg, run, mistake);
+}
+
+function drawLanes(svg, run, left, right, from, until) {
+  for (const instance of run.instances.values()) {
+    if (instance.y === undefined) continue;
+    instance.changes.forEach((change, at) => {
+      const next = instance.changes[at + 1];
+      const end = next ? next.at : run.columns.length;
+      if (!PHASES.includes(change.phase) || end < from || change.at > until) return;
+      const x = Math.max(xOf(change.at), left);
+      add(svg, 'rect', { class: change.phase, x, y: instance.top + 2, width: Math.max(Math.min(xOf(end), right) - x, 0), height: instance.height - 4 });
+    });
+    if (instance.born <= until) add(svg, 'line', { class: 'lane', x1: Math.max(xOf(instance.born), left), x2: right, y1: instance.y, y2: instance.y });
+  }
+  for (const volume of run.volumes.values()) {
+    add(svg, 'line', { class: 'top', x1: left, x2: right, y1: volume.y, y2: volume.y });
+    add(svg, 'rect', { class: 'floor', x: left, y: volume.floor + 4, width: Math.max(right - left, 0), height: LANE - 8 });
+  }
+}
+
+function drawContext(svg, run, context, from, until, right) {
+  const end = context.until === null ? run.columns.length : context.until;
+  if (context.y === undefined || end < from || context.from > until) return;
+  const x = xOf(Math.max(context.from, from - 1));
+  add(svg, 'rect', { class: 'bar', x, y: context.y, width: Math.max(Math.min(xOf(end), right) - x, 2), height: 8, rx: 3, 'data-context': context.id });
+  const dot = context.links.find((link) => link.event === 'Set' && link.at < context.from + 5);
+  if (context.from >= from - 8) add(svg, 'text', { class: 'small', x: dot ? xOf(dot.at) + 6 : xOf(context.from) + 4, y: context.y + 7.5 }, context.id + ' ' + context.kind);
+  for (const link of context.links) {
+    if (link.at < from || link.at > until) continue;
+    add(svg, 'line', { class: 'thread', x1: xOf(link.at), x2: xOf(link.at), y1: context.laneY, y2: context.y + 4 });
+    if (link.event === 'Set') add(svg, 'circle', { class: 'link', cx: xOf(link.at), cy: context.y + 4, r: 3.5 });
+  }
+}
+
+function drawWay(svg, run, operation, from, until) {
+  const colour = colourOf(operation.id);
+  const group = add(svg, 'g', { 'data-operation': operation.id, class: run.only && run.only !== operation.id ? 'faded' : '' });
+  let last = null;
+  for (const stop of operation.way) {
+    if (last && stop.x >= from && last.x <= until) drawLeg(group, last, stop, colour);
+    if (stop.x >= from && stop.x <= until) drawMark(group, stop, colour);
+    last = stop;
+  }
+  if (last && !operation.isOver) drawOpenEnd(group, run, operation, last, colour, until);
+  if (operation.row !== null && operation.labelY !== undefined && operation.at >= from - 20 && operation.at <= until) {
+    add(group, 'line', { x1: xOf(operation.at), x2: xOf(operation.at), y1: operation.labelY, y2: operation.top, stroke: colour, 'stroke-width': 0.7 });
+    add(group, 'text', { class: 'name', x: xOf(operation.at) + 3, y: operation.labelY, style: 'fill:' + colour }, operation.label);
+  }
+}
+
+function drawLeg(group, last, stop, colour) {
+  add(group, 'path', { class: 'way' + (holds(last.told) ? ' held' : ''), d: 'M' + xOf(last.x) + ' ' + last.y + 'H' + xOf(stop.x) + 'V' + stop.y, stroke: colour });
+}
+
+function drawOpenEnd(group, run, operation, last, colour, until) {
+  const end = xOf(run.columns.length);
+  add(group, 'path', { class: 'way' + (operation.isHeld ? ' held' : ''), d: 'M' + xOf(last.x) + ' ' + last.y + 'H' + end, stroke: colour });
+  if (until >= run.columns.length - 1) add(group, 'text', { class: 'bad-text', x: end + 4, y: last.y + 3 }, operation.id + (operation.isHeld ? ' HELD' : ' under way'));
+}
+
+function drawMark(group, stop, colour) {
+  const x = xOf(stop.x), y = stop.y, told = stop.told, at = 'M' + x + ' ' + y;
+  if (isFailure(told)) drawFailure(group, x, y, stop);
+  else if (holds(told)) add(group, 'path', { class: 'hold', d: at + 'm-3 -7v14m6 -14v14' });
+  else if (told.event === 'Pre' || told.event === 'Resumed') add(group, 'circle', { cx: x, cy: y, r: 4.5, stroke: colour, 'stroke-width': 1.5, style: 'fill:' + (told.verdict === 'none' ? 'var(--paper)' : colour) });
+  else if (told.event === 'Post') add(group, 'path', { d: at + 'm-5 4l5 -9l5 9z', style: 'fill:' + colour });
+  else if (told.event === 'PostResumed') add(group, 'circle', { cx: x, cy: y, r: 4.5, style: 'fill:' + colour });
+  else if (told.event === 'Drained') add(group, 'path', { class: 'red', d: at + 'm-5 -5l10 10m0 -10l-10 10' });
+  else if (told.event === 'Known') add(group, 'path', { d: at + 'm-4 -4h8v8h-8z', stroke: colour, 'stroke-width': 1.5, style: 'fill:var(--paper)' });
+  else if (told.event === 'Base' || told.event === 'Replied') add(group, 'path', { d: at + 'm-3 -3h6v6h-6z', style: 'fill:' + colour });
+  drawHit(group, told, x, y);
+}
+
+function drawFailure(group, x, y, stop) {
+  const told = stop.told;
+  if (told.event === 'Base' && told.status === 18) add(group, 'path', { class: 'red-fill', d: 'M' + x + ' ' + y + 'm2 -9l-8 11h5l-2 8l8 -12h-5z' });
+  else add(group, 'path', { class: 'red-fill', d: 'M' + x + ' ' + y + 'm-5 -5h10v10h-10z' });
+  if (stop.isNamed) add(group, 'text', { class: 'bad-text', x: x + 6, y: y - 5 }, told.status_name);
+}
+
+// What a place answers to the pointer.
+function drawHit(parent, told, x, y) {
+  const hit = add(parent, 'rect', { class: 'hit', x: x - STEP / 2, y: y - 10, width: STEP, height: 20 });
+  hit.told = told;
+}
+
+// What is no part of a way: refusals, callbacks of setups and teardowns, early drains, contexts, ends.
+function drawOwn(svg, run, told) {
+  const x = xOf(told.column);
+  const instance = run.instances.get(told.instance);
+  const y = instance ? instance.y : undefined;
+  const volume = run.volumes.get(told.volume);
+  if (told.event === 'Refused') drawRefused(svg, told, x, y);
+  else if (told.event === 'EarlyDrained' && y) add(svg, 'path', { class: 'red', d: 'M' + x + ' ' + y + 'm-5 -5l10 10m0 -10l-10 10' });
+  else if (told.event === 'InEarlyDrain' && y) add(svg, 'circle', { class: 'red', cx: x, cy: y, r: 3 });
+  else if (['InSetup', 'InQuery', 'InStart', 'InComplete'].includes(told.event) && y) add(svg, 'path', { class: 'callback', d: 'M' + (x + 4) + ' ' + (y - 8) + 'h-6v16h6' });
+  else if (['SetUp', 'Queried', 'Started', 'Completed'].includes(told.event) && y) add(svg, 'path', { class: 'callback', d: 'M' + (x - 4) + ' ' + (y - 8) + 'h6v16h-6' });
+  else if (['Dismounting', 'VolumeEmptied', 'VolumeFinished', 'Dropped'].includes(told.event) && volume) drawEnd(svg, told, x, volume.y);
+  const context = run.contexts.get(told.context);
+  if (context && context.y !== undefined && told.event !== 'Pre') drawHit(svg, told, x, context.y + 4);
+  else if (told.event !== 'Refused' && (!told.operation || ['InEarlyDrain', 'EarlyDrained'].includes(told.event))) drawHit(svg, told, x, y || (volume ? volume.y : 14));
+}
+
+function drawRefused(svg, told, x, y) {
+  const place = y === undefined ? 13 : y - 11;
+  add(svg, 'path', { class: 'red', d: 'M' + x + ' ' + place + 'm-4 0a4 4 0 1 0 8 0a4 4 0 1 0 -8 0m1 3l6 -6' });
+  drawHit(svg, told, x, place);
+}
+
+function drawEnd(svg, told, x, y) {
+  add(svg, 'path', { class: 'callback', d: 'M' + x + ' ' + (y - 7) + 'v14' });
+  if (told.event !== 'Dropped') add(svg, 'text', { class: 'small', x: x + 3, y: y + 10 }, { Dismounting: 'dismount', VolumeEmptied: 'emptied', VolumeFinished: 'dismounted' }[told.event]);
+}
+
+function drawLeak(svg, run, leak) {
+  const context = run.contexts.get(leak.context);
+  const instance = run.instances.get(leak.instance);
+  const x = xOf(leak.at);
+  if (!instance || instance.y === undefined) return;
+  add(svg, 'circle', { class: 'red', cx: x, cy: instance.y, r: 8 });
+  if (context && context.y !== undefined) {
+    add(svg, 'path', { class: 'red', d: 'M' + x + ' ' + (instance.y + 8) + 'V' + (context.y + 4), 'stroke-dasharray': '2 2', 'stroke-width': 1 });
+    add(svg, 'text', { class: 'bad-text', x: x + 5, y: context.y + 8 }, 'LEAKED ' + leak.context);
+  }
+  drawHit(svg, leak, x, instance.y);
+}
+
+// What is told of a callback stands above its lane, and what no instance did above all. Of several at one place the first has its number beside it.
+function drawTold(svg, run, { told, at, before }) {
+  const instance = run.instances.get(told.instance), kind = told.telling === 'limit' ? ' limit' : '';
+  const x = xOf(at) + before * 10, y = instance && instance.y !== undefined ? instance.y - 9 : 20;
+  add(svg, 'path', { class: 'told' + kind, d: 'M' + x + ' ' + y + 'l7 -12h-14z' });
+  add(svg, 'path', { class: 'told-stroke', d: 'M' + x + ' ' + (y - 11) + 'v4m0 2v1.5' });
+  if (before === 0) add(svg, 'text', { class: kind ? 'limit-text' : 'bad-text', x: x + 8, y: y - 13 }, told.id);
+  const hit = add(svg, 'rect', { class: 'hit', x: x - 7, y: y - 13, width: 14, height: 13 });
+  hit.told = told;
+}
+
+// The numbers of the lines: each at its first column, unless it would run into the one before.
+function drawAxis(svg, run, from, until) {
+  let free = -1;
+  let line = from > 0 ? run.columns[from - 1].line : 0;
+  for (let column = from; column < until && column < run.columns.length; column += 1) {
+    const told = run.columns[column];
+    if (told.line === line && told.event !== 'Refused') continue;
+    line = told.line;
+    if (xOf(column) < free) continue;
+    const text = add(svg, 'text', { class: 'number' + (told.event === 'Refused' ? ' bad' : ''), x: xOf(column), y: 14 }, String(line));
+    text.told = told;
+    free = xOf(column) + String(line).length * 6 + 8;
+  }
+}
+
+// The page: the chart draws what is in view; the list below has all that was told.
+const run = modelOf(readRun());
+layOut(run);
+waysOf(run);
+let chosen = null;
+let drawn = null;
+
+function drawView(force) {
+  const chart = byId('chart');
+  const margin = 60;
+  const first = Math.floor(chart.scrollLeft / STEP), count = Math.ceil(chart.clientWidth / STEP);
+  if (!force && drawn && first >= drawn[0] && first + count <= drawn[1]) return;
+  drawn = [Math.max(first - margin, 0), first + count + margin];
+  for (const [id, height, draw] of [['axis', 20, (svg) => drawAxis(svg, run, ...drawn)], ['plot', run.height, (svg) => drawWindow(svg, run, ...drawn, chosen)]]) {
+    const svg = document.createElementNS(SVG, 'svg');
+    svg.setAttribute('width', run.columns.length * STEP + 110);
+    svg.setAttribute('height', height);
+    draw(svg);
+    byId(id).replaceChildren(svg);
+  }
+}
+
+function fillNames(parent) {
+  for (const lane of run.lanes) {
+    const name = document.createElement('div');
+    name.className = lane.kind;
+    name.style.top = (lane.y - 9) + 'px';
+    name.textContent = lane.text;
+    name.title = lane.text + (lane.altitude ? ' at ' + lane.altitude : '');
+    if (lane.altitude) {
+      const altitude = document.createElement('span');
+      altitude.className = 'altitude';
+      altitude.textContent = '  ' + lane.altitude;
+      name.appendChild(altitude);
+    }
+    parent.appendChild(name);
+  }
+}
+
+function cell(row, name, text) {
+  const element = document.createElement('span');
+  element.className = name;
+  element.textContent = text;
+  row.appendChild(element);
+}
+
+function fillList() {
+  const list = byId('told');
+  let line = -1;
+  for (const told of run.rows) {
+    const row = document.createElement('div');
+    row.className = told.event + (told.event === 'Base' && told.status === 18 ? ' fault' : '') + (told.telling === 'limit' ? ' limit' : '');
+    row.told = told;
+    told.row = row;
+    cell(row, 'line', told.line === line || told.event === 'End' ? '' : String(told.line));
+    if (told.event === 'Comment') cell(row, 'comment', told.command);
+    else {
+      cell(row, 'command', told.line === line ? '' : told.command || (told.expected !== undefined ? '#! expect ' + told.expected : ''));
+      cell(row, 'words', wordsOf(told));
+    }
+    line = told.line;
+    list.appendChild(row);
+  }
+}
+
+function wordsOf(told) {
+  if (told.event === 'Met') return 'as expected';
+  if (told.event === 'Unmet') return 'NOT AS EXPECTED: it answered ' + told.answered.join(', ');
+  return told.words || '';
+}
+
+function choose(told, fromList) {
+  if (run.here) run.here.classList.remove('here');
+  run.here = told.row;
+  if (told.row) told.row.classList.add('here');
+  chosen = told.column !== undefined ? told.column : told.near;
+  const chart = byId('chart');
+  const x = xOf(chosen || 0), view = chart.clientWidth - NAMES;
+  if (x < chart.scrollLeft + 40 || x > chart.scrollLeft + view - 60) chart.scrollLeft = Math.max(x - view / 2, 0);
+  drawView(true);
+  if (!fromList && told.row) told.row.scrollIntoView({ block: 'center' });
+  history.replaceState(null, '', '#L' + told.line);
+}
+
+function showTip(event) {
+  const told = event.target.told, tip = byId('tip');
+  if (!told || !told.words) { tip.style.display = 'none'; return; }
+  tip.textContent = 'line ' + told.line + (told.command ? '  ' + told.command : '') + '\n' + told.words;
+  tip.style.display = 'block';
+  tip.style.left = Math.min(event.clientX + 14, innerWidth - tip.offsetWidth - 6) + 'px';
+  tip.style.top = Math.min(event.clientY + 16, innerHeight - tip.offsetHeight - 6) + 'px';
+}
+
+function clickChart(event) {
+  const told = event.target.told;
+  if (!told) return;
+  run.only = told.operation && told.event !== 'Refused' ? told.operation : null;
+  choose(told, false);
+}
+
+function clickList(event) {
+  const row = event.target.closest('#told > div');
+  if (!row || row.told.event === 'End') return;
+  run.only = row.told.operation || null;
+  choose(row.told, true);
+}
+
+// The event so many columns on, or the first one of another line.
+function step(by, isLine) {
+  if (run.columns.length === 0) return;
+  let at = chosen === null ? (by > 0 ? -1 : run.columns.length) : chosen;
+  const line = chosen === null ? 0 : run.columns[chosen].line;
+  do { at += by; } while (isLine && run.columns[at] && run.columns[at].line === line);
+  const told = run.columns[Math.min(Math.max(at, 0), run.columns.length - 1)];
+  choose(told, false);
+}
+
+function stepTrouble(by) {
+  const where = (told) => told.column !== undefined ? told.column : told.near + 0.5;
+  const here = run.trouble.includes(run.at) && run.at ? where(run.at) : chosen === null ? -1 : chosen;
+  const all = by > 0 ? run.trouble : [...run.trouble].reverse();
+  const next = all.find((told) => by > 0 ? where(told) > here : where(told) < here) || all[0];
+  if (next) { run.at = next; choose(next, false); }
+}
+
+function pressKey(event) {
+  if (event.ctrlKey || event.metaKey || event.altKey) return;
+  const moves = {
+    ArrowRight: () => step(1, false), ArrowLeft: () => step(-1, false), ArrowDown: () => step(1, true), ArrowUp: () => step(-1, true),
+    n: () => stepTrouble(1), p: () => stepTrouble(-1), Escape: () => { run.only = null; drawView(true); }, '?': () => byId('legend').classList.toggle('shown'),
+  };
+  if (moves[event.key]) { moves[event.key](); event.preventDefault(); }
+}
+
+// What the marks mean.
+function fillLegend() {
+  const marks = [
+    ['circle', { cx: 9, cy: 8, r: 4.5, style: 'fill:var(--quiet)' }, 'preoperation, asks to come back'],
+    ['circle', { cx: 9, cy: 8, r: 4.5, stroke: 'var(--quiet)', style: 'fill:var(--paper)' }, 'passes it on'],
+    ['path', { class: 'hold', d: 'M9 8m-3 -7v14m6 -14v14' }, 'holds it; dots until it goes on'],
+    ['path', { d: 'M9 8m-5 4l5 -9l5 9z', style: 'fill:var(--quiet)' }, 'postoperation'],
+    ['path', { class: 'red', d: 'M9 8m-5 -5l10 10m0 -10l-10 10' }, 'drained'],
+    ['path', { class: 'red-fill', d: 'M4 3h10v10h-10z' }, 'ended or failed, with its status'],
+    ['path', { d: 'M5 4h8v8h-8z', stroke: 'var(--quiet)', style: 'fill:var(--paper)' }, 'answered without the file system'],
+    ['path', { class: 'red-fill', d: 'M11 0l-8 11h5l-2 8l8 -12h-5z' }, 'device fault'],
+    ['path', { class: 'red', d: 'M9 8m-4 0a4 4 0 1 0 8 0a4 4 0 1 0 -8 0m1 3l6 -6' }, 'the line was refused'],
+    ['circle', { class: 'red', cx: 9, cy: 8, r: 7 }, 'left a reference behind'],
+    ['path', { class: 'told', d: 'M9 14l7 -12h-14z' }, 'a mistake of a filter, with its number'],
+    ['path', { class: 'told limit', d: 'M9 14l7 -12h-14z' }, 'a limit of the model, with its number'],
+    ['path', { class: 'callback', d: 'M6 0h-4v16h4m6 -16h4v16h-4' }, 'a callback of a setup or a teardown, from entry to return'],
+    ['rect', { class: 'bar', x: 0, y: 4, width: 18, height: 8, rx: 3 }, 'a context; a dot where it is set'],
+  ];
+  for (const [name, attributes, text] of marks) {
+    const span = document.createElement('span');
+    const svg = document.createElementNS(SVG, 'svg');
+    svg.setAttribute('width', 18); svg.setAttribute('height', 17);
+    svg.style.position = 'static';
+    add(svg, name, attributes);
+    span.append(svg, text);
+    byId('legend').appendChild(span);
+  }
+  for (const phase of PHASES) {
+    const span = document.createElement('span'), shade = document.createElement('i');
+    shade.style.background = 'var(--' + phase + ')';
+    span.append(shade, phase);
+    byId('legend').appendChild(span);
+  }
+}
+
+function fillHeader() {
+  const end = run.end, verdict = byId('verdict');
+  if (isTrial()) document.title = document.querySelector('h1').textContent = 'Kazdrin: a trial' + (run.told.file ? ' of ' + run.told.file : '');
+  if (!end) { verdict.textContent = 'cut off'; verdict.className = 'bad'; return; }
+  const words = { Well: 'well', Left: isTrial() ? 'a mistake was told' : 'something is left behind', Unexpected: 'not as expected', WrongLine: 'a line says nothing', NoMemory: 'no memory', ReadFault: 'not read to its end', WriteFault: 'not written' };
+  verdict.textContent = words[end.verdict];
+  verdict.className = end.status === 0 ? '' : 'bad';
+  byId('figures').textContent = end.line + ' lines, ' + end.refused + ' refused, ' + end.leaks + ' references left behind, ' + end.held + ' operations held, ' + (isTrial() ? end.told + ' mistakes told, ' : '') + 'status ' + end.status;
+}
+
+function isTrial() {
+  return run.told !== undefined && run.told.origin === 'trial';
+}
+
+// On paper the chart stands in bands, one below the other.
+function fillPaper() {
+  const paper = byId('paper'), bands = Math.ceil(run.columns.length / 66), columns = Math.ceil(run.columns.length / bands), width = NAMES + columns * STEP + 90;
+  paper.replaceChildren();
+  for (let from = 0; from < run.columns.length; from += columns) {
+    const svg = document.createElementNS(SVG, 'svg');
+    svg.setAttribute('viewBox', '0 0 ' + width + ' ' + (run.height + 22));
+    svg.setAttribute('width', width);
+    for (const lane of run.lanes) add(svg, 'text', { x: 2, y: lane.y + 26, 'font-size': 11 }, (lane.text + ' ' + (lane.altitude || '')).slice(0, 40));
+    const clip = add(add(svg, 'clipPath', { id: 'band' + from }), 'rect', { x: from * STEP, y: -30, width: columns * STEP + (from + columns >= run.columns.length ? 90 : 0), height: run.height + 60 });
+    const shift = add(svg, 'g', { transform: 'translate(' + (NAMES - from * STEP) + ' 22)', 'clip-path': 'url(#band' + from + ')' });
+    drawWindow(shift, run, from, from + columns, null);
+    const axis = add(svg, 'g', { transform: 'translate(' + (NAMES - from * STEP) + ' 0)' });
+    drawAxis(axis, run, from, from + columns);
+    paper.appendChild(svg);
+  }
+}
+
+function start() {
+  byId('names').style.height = byId('plot').style.height = run.height + 'px';
+  byId('axis').style.width = byId('plot').style.width = (run.columns.length * STEP + 110) + 'px';
+  byId('chart').style.maxHeight = (run.height + 40) + 'px';
+  fillNames(byId('names'));
+  fillList();
+  fillLegend();
+  fillHeader();
+  drawView(true);
+  byId('chart').addEventListener('scroll', () => requestAnimationFrame(() => drawView(false)));
+  byId('chart').addEventListener('click', clickChart);
+  byId('chart').addEventListener('mousemove', showTip);
+  byId('chart').addEventListener('mouseleave', () => { byId('tip').style.display = 'none'; });
+  byId('told').addEventListener('click', clickList);
+  byId('on').addEventListener('click', () => step(1, false));
+  byId('back').addEventListener('click', () => step(-1, false));
+  byId('trouble').addEventListener('click', () => stepTrouble(1));
+  byId('explain').addEventListener('click', () => byId('legend').classList.toggle('shown'));
+  addEventListener('keydown', pressKey);
+  addEventListener('resize', () => drawView(true));
+  addEventListener('beforeprint', fillPaper);
+  const line = /^#L(\d+)$/.exec(location.hash);
+  const told = line && run.columns.find((told) => told.line === Number(line[1]));
+  if (told) choose(told, false);
+}
+
+start();

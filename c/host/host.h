@@ -197,6 +197,7 @@ typedef struct {
     bool is_reissued; /* a filter sent it down again */
     PFLT_INSTANCE initiator; /* those at its altitude and above don't hear; NULL: all hear */
     ULONG irp_flags;
+    PECP_LIST ecps; /* of a create; the filter's own */
     uint8_t worker;
     PFLT_CALLBACK_DATA data; /* that the filter has of it, if it made one */
     void (*done)(void *given, NTSTATUS status, uint64_t information, const uint8_t *bytes, size_t length);
@@ -242,6 +243,7 @@ struct KzOp {
     unsigned maker;
     KzClient *runner; /* who carries it on, also while it is held */
     KzOwn own;
+    PECP_LIST ecps; /* that a filter put into a create */
     KzCancel cancel;
     bool is_cancelled; /* a create that a filter cancelled in its postoperation */
     unsigned users;   /* callbacks that look at it beside its runner */
@@ -450,6 +452,9 @@ void kz_check_work(const void *memory, size_t size);
 void kz_disconnect_ports(PFLT_FILTER filter);
 void kz_tell_ports(PFLT_FILTER filter);
 void kz_free_ports(void);
+
+/* ecp.c */
+void kz_free_ecps(KzOp *op);
 
 /* device.c */
 void kz_offer_devices(PFLT_FILTER filter);

@@ -96,20 +96,7 @@ KZ_ROUTINE(BOOLEAN, FALSE, OPLOCK, FltCurrentOplock, POPLOCK Oplock)
 KZ_ROUTINE(BOOLEAN, FALSE, OPLOCK, FltCurrentOplockH, POPLOCK Oplock)
 
 /* ---- Extra create parameters. */
-KZ_ROUTINE(NTSTATUS, STATUS_NOT_SUPPORTED, ECP, FltAllocateExtraCreateParameterList, PFLT_FILTER Filter, FSRTL_ALLOCATE_ECPLIST_FLAGS Flags, PECP_LIST *EcpList)
-KZ_ROUTINE(VOID, , ECP, FltFreeExtraCreateParameterList, PFLT_FILTER Filter, PECP_LIST EcpList)
-KZ_ROUTINE(NTSTATUS, STATUS_NOT_SUPPORTED, ECP, FltAllocateExtraCreateParameter, PFLT_FILTER Filter, LPCGUID EcpType, ULONG SizeOfContext, FSRTL_ALLOCATE_ECP_FLAGS Flags,
-           PFSRTL_EXTRA_CREATE_PARAMETER_CLEANUP_CALLBACK CleanupCallback, ULONG PoolTag, PVOID *EcpContext)
-KZ_ROUTINE(VOID, , ECP, FltFreeExtraCreateParameter, PFLT_FILTER Filter, PVOID EcpContext)
 KZ_ROUTINE(VOID, , ECP, FltInitExtraCreateParameterLookasideList, PFLT_FILTER Filter, PVOID Lookaside, FSRTL_ECP_LOOKASIDE_FLAGS Flags, SIZE_T Size, ULONG Tag)
 KZ_ROUTINE(VOID, , ECP, FltDeleteExtraCreateParameterLookasideList, PFLT_FILTER Filter, PVOID Lookaside, FSRTL_ECP_LOOKASIDE_FLAGS Flags)
 KZ_ROUTINE(NTSTATUS, STATUS_NOT_SUPPORTED, ECP, FltAllocateExtraCreateParameterFromLookasideList, PFLT_FILTER Filter, LPCGUID EcpType, ULONG SizeOfContext, FSRTL_ALLOCATE_ECP_FLAGS Flags,
            PFSRTL_EXTRA_CREATE_PARAMETER_CLEANUP_CALLBACK CleanupCallback, PVOID LookasideList, PVOID *EcpContext)
-KZ_ROUTINE(NTSTATUS, STATUS_NOT_SUPPORTED, ECP, FltInsertExtraCreateParameter, PFLT_FILTER Filter, PECP_LIST EcpList, PVOID EcpContext)
-KZ_ROUTINE(NTSTATUS, STATUS_NOT_FOUND, ECP, FltRemoveExtraCreateParameter, PFLT_FILTER Filter, PECP_LIST EcpList, LPCGUID EcpType, PVOID *EcpContext, ULONG *EcpContextSize)
-KZ_ROUTINE(NTSTATUS, STATUS_NOT_FOUND, ECP, FltGetNextExtraCreateParameter, PFLT_FILTER Filter, PECP_LIST EcpList, PVOID CurrentEcpContext, LPGUID NextEcpType, PVOID *NextEcpContext,
-           ULONG *NextEcpContextSize)
-KZ_ROUTINE(VOID, , ECP, FltAcknowledgeEcp, PFLT_FILTER Filter, PVOID EcpContext)
-KZ_ROUTINE(BOOLEAN, FALSE, ECP, FltIsEcpAcknowledged, PFLT_FILTER Filter, PVOID EcpContext)
-KZ_ROUTINE(BOOLEAN, FALSE, ECP, FltIsEcpFromUserMode, PFLT_FILTER Filter, PVOID EcpContext)
-KZ_ROUTINE(NTSTATUS, STATUS_NOT_SUPPORTED, ECP, FltSetEcpListIntoCallbackData, PFLT_FILTER Filter, PFLT_CALLBACK_DATA CallbackData, PECP_LIST EcpList)

@@ -112,6 +112,7 @@ typedef struct {
     POBJECT_ATTRIBUTES attributes;
     ULONG disposition, options;
     const char *call, *closed_by;
+    PECP_LIST ecps;
 } Wanted;
 
 static bool is_emptied(ULONG disposition)
@@ -153,7 +154,7 @@ static KzAnswer begin(void *given, KazdrinEvent asked, const char *path)
 {
     Opening *opening = given;
     PFLT_INSTANCE instance = opening->wanted->instance;
-    const KzOwn own = {.initiator = instance, .is_waited_for = true};
+    const KzOwn own = {.initiator = instance, .is_waited_for = true, .ecps = opening->wanted->ecps};
     if (instance && instance->volume->id != asked.volume)
         return (KzAnswer){.reply.status = KZS_BAD_PATH, .other = STATUS_MOUNT_POINT_NOT_RESOLVED};
     KzFile *file = kz_new_file(kz.volumes[asked.volume], path, false);
@@ -219,8 +220,9 @@ NTSTATUS FltCreateFileEx2(PFLT_FILTER Filter, PFLT_INSTANCE Instance, PHANDLE Fi
                           PIO_DRIVER_CREATE_CONTEXT DriverContext)
 {
     KZ_CALL();
-    (void)Filter, (void)DesiredAccess, (void)AllocationSize, (void)FileAttributes, (void)ShareAccess, (void)EaBuffer, (void)EaLength, (void)Flags, (void)DriverContext;
-    const Wanted wanted = {Instance, ObjectAttributes, CreateDisposition, CreateOptions, __func__, "FltClose"};
+    (void)Filter, (void)DesiredAccess, (void)AllocationSize, (void)FileAttributes, (void)ShareAccess, (void)EaBuffer, (void)EaLength, (void)Flags;
+    PECP_LIST ecps = DriverContext ? DriverContext->ExtraCreateParameter : NULL;
+    const Wanted wanted = {Instance, ObjectAttributes, CreateDisposition, CreateOptions, __func__, "FltClose", ecps};
     return open_file(&wanted, FileHandle, FileObject, IoStatusBlock);
 }
 
@@ -230,7 +232,7 @@ NTSTATUS FltCreateFileEx(PFLT_FILTER Filter, PFLT_INSTANCE Instance, PHANDLE Fil
 {
     KZ_CALL();
     (void)Filter, (void)DesiredAccess, (void)AllocationSize, (void)FileAttributes, (void)ShareAccess, (void)EaBuffer, (void)EaLength, (void)Flags;
-    const Wanted wanted = {Instance, ObjectAttributes, CreateDisposition, CreateOptions, __func__, "FltClose"};
+    const Wanted wanted = {Instance, ObjectAttributes, CreateDisposition, CreateOptions, __func__, "FltClose", NULL};
     return open_file(&wanted, FileHandle, FileObject, IoStatusBlock);
 }
 
@@ -240,7 +242,7 @@ NTSTATUS FltCreateFile(PFLT_FILTER Filter, PFLT_INSTANCE Instance, PHANDLE FileH
 {
     KZ_CALL();
     (void)Filter, (void)DesiredAccess, (void)AllocationSize, (void)FileAttributes, (void)ShareAccess, (void)EaBuffer, (void)EaLength, (void)Flags;
-    const Wanted wanted = {Instance, ObjectAttributes, CreateDisposition, CreateOptions, __func__, "FltClose"};
+    const Wanted wanted = {Instance, ObjectAttributes, CreateDisposition, CreateOptions, __func__, "FltClose", NULL};
     return open_file(&wanted, FileHandle, NULL, IoStatusBlock);
 }
 
@@ -250,7 +252,7 @@ NTSTATUS ZwCreateFile(PHANDLE FileHandle, ACCESS_MASK DesiredAccess, POBJECT_ATT
 {
     KZ_CALL();
     (void)DesiredAccess, (void)AllocationSize, (void)FileAttributes, (void)ShareAccess, (void)EaBuffer, (void)EaLength;
-    const Wanted wanted = {NULL, ObjectAttributes, CreateDisposition, CreateOptions, __func__, "ZwClose"};
+    const Wanted wanted = {NULL, ObjectAttributes, CreateDisposition, CreateOptions, __func__, "ZwClose", NULL};
     return open_file(&wanted, FileHandle, NULL, IoStatusBlock);
 }
 
@@ -259,14 +261,14 @@ NTSTATUS ZwOpenFile(PHANDLE FileHandle, ACCESS_MASK DesiredAccess, POBJECT_ATTRI
 {
     KZ_CALL();
     (void)DesiredAccess, (void)ShareAccess;
-    const Wanted wanted = {NULL, ObjectAttributes, FILE_OPEN, OpenOptions, __func__, "ZwClose"};
+    const Wanted wanted = {NULL, ObjectAttributes, FILE_OPEN, OpenOptions, __func__, "ZwClose", NULL};
     return open_file(&wanted, FileHandle, NULL, IoStatusBlock);
 }
 
 NTSTATUS ZwDeleteFile(POBJECT_ATTRIBUTES ObjectAttributes)
 {
     KZ_CALL();
-    const Wanted wanted = {NULL, ObjectAttributes, FILE_OPEN, FILE_DELETE_ON_CLOSE, __func__, "ZwClose"};
+    const Wanted wanted = {NULL, ObjectAttributes, FILE_OPEN, FILE_DELETE_ON_CLOSE, __func__, "ZwClose", NULL};
     KzFile *file;
     NTSTATUS status = create(&wanted, &file);
     if (!NT_SUCCESS(status))

@@ -154,20 +154,6 @@ BOOLEAN FltCurrentBatchOplock(POPLOCK Oplock)
     return FALSE;
 }
 
-/* No create has extra parameters. */
-NTSTATUS FltGetEcpListFromCallbackData(PFLT_FILTER Filter, PFLT_CALLBACK_DATA CallbackData, PECP_LIST *EcpList)
-{
-    *EcpList = NULL;
-    return STATUS_SUCCESS;
-}
-
-NTSTATUS FltFindExtraCreateParameter(PFLT_FILTER Filter, PECP_LIST EcpList, const GUID *EcpType, PVOID *EcpContext, ULONG *EcpContextSize)
-{
-    if (EcpContext)
-        *EcpContext = NULL;
-    return STATUS_NOT_FOUND;
-}
-
 /* Processes, tokens. */
 NONE(KZM_SECURITY, ZwQueryInformationProcess, HANDLE ProcessHandle, ULONG ProcessInformationClass, PVOID ProcessInformation, ULONG ProcessInformationLength,
      PULONG ReturnLength)

@@ -78,6 +78,7 @@ static void free_op(KzOp *op)
             *at = op->next;
             break;
         }
+    kz_free_ecps(op);
     kz_free_data(op);
     kz_let_go_file(op->file);
     free(op);

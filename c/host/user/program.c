@@ -116,6 +116,21 @@ static void add_word(KzProcess *process, const char *word)
     process->words[process->count++] = copy_of(word);
 }
 
+/* Behind the end of its threads. */
+static void free_process(KzProcess *process)
+{
+    for (int at = 0; at < process->count; at++) {
+        free(process->words[at]);
+        free(process->wide[at]);
+    }
+    while (process->users) {
+        KzUser *one = process->users;
+        process->users = one->next;
+        free(one);
+    }
+    free(process);
+}
+
 uint32_t kz_start_program(const char *name, char **words, uint64_t *process, NTSTATUS *other)
 {
     size_t at = 0, count = &kz_programs_count ? kz_programs_count : 0;
@@ -135,6 +150,8 @@ uint32_t kz_start_program(const char *name, char **words, uint64_t *process, NTS
         add_word(made, *words);
     if (!kz_new_user(made, NULL, NULL)) {
         kz_tell(KZM_THREAD, "start", "more than %u threads run beside the requests: the program isn't started", KZ_THREADS);
+        kz_end_process(made->id);
+        free_process(made);
         return KZS_TOO_MANY;
     }
     processes = made;
@@ -170,21 +187,6 @@ void kz_end_programs(void)
     for (KzProcess *one = processes; one; one = one->next)
         if (one->threads)
             kz_say(KZ_SAID_ELSE, "the program %s doesn't end\n", one->program->name);
-}
-
-/* Behind the end of their threads. */
-static void free_process(KzProcess *process)
-{
-    for (int at = 0; at < process->count; at++) {
-        free(process->words[at]);
-        free(process->wide[at]);
-    }
-    while (process->users) {
-        KzUser *one = process->users;
-        process->users = one->next;
-        free(one);
-    }
-    free(process);
 }
 
 void kz_free_programs(void)

@@ -1,5 +1,6 @@
 /* Threads beside the requests. In order a thread of the system has the turn or waits for it: so the sanitizers see each one's stack, and every run is the same. */
 #include "run/beside.h"
+#include "run/threads.h"
 
 #include <stdlib.h>
 #include <time.h>
@@ -24,15 +25,37 @@ static void say_name(KzThread *made, const char *name)
     snprintf(made->name, sizeof made->name, same > 1 ? "%.20s.%u" : "%.20s", name, same);
 }
 
+static bool is_taken(unsigned number)
+{
+    const KzThread *one = threads;
+    while (one && !(one->client.number == number && !one->has_ended))
+        one = one->next;
+    return one != NULL;
+}
+
+/* A number is free again once its thread has ended; but for the explorer, which knows a client by it to the end of a run. */
+static bool free_number(unsigned *number)
+{
+    bool is_for_good = kz_scheduler != &kz_in_order && kz_scheduler != &kz_threads;
+    *number = KZ_FIRST_THREAD;
+    while (*number < KZ_FIRST_THREAD + KZ_THREADS && (is_for_good ? *number < KZ_FIRST_THREAD + count : is_taken(*number)))
+        ++*number;
+    if (*number == KZ_FIRST_THREAD + KZ_THREADS)
+        return false;
+    count++;
+    return true;
+}
+
 KzThread *kz_new_thread(const char *name, uint64_t process, uint64_t thread, void (*life)(void *given), void *given)
 {
-    if (count == KZ_THREADS)
+    unsigned number;
+    if (!free_number(&number))
         return NULL;
     KzThread *made = kz_memory(sizeof *made), **place = &threads;
     say_name(made, name);
     made->life = life;
     made->given = given;
-    kz_new_client(&made->client, made->name, KZ_FIRST_THREAD + count++);
+    kz_new_client(&made->client, made->name, number);
     made->client.place.worker = kz_helper();
     made->client.process = process;
     made->client.thread = thread;

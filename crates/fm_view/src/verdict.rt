@@ -82,15 +82,29 @@ fn say_contexts(text: &mut Text, state: &State) {
 fn say_refusals(text: &mut Text, notes: &Notes) {
     text.push_number(notes.refused());
     text.push_str(" of them refused");
-    let mut mark = ": ";
+    let mut is_first = true;
     for (number, count) in notes.refusals.iter().enumerate() {
         if *count > 0 {
-            text.push_str(mark);
+            text.push_str(before(is_first));
             say_refused_with(text, number, *count);
-            mark = ", ";
+            is_first = false;
         }
     }
     text.push('\n')
+}
+
+// What stands before a status in a list of them.
+fn before(is_first: bool) -> &'static str {
+    if is_first { ": " } else { ", " }
+}
+
+// What stands before an instance in a list of them.
+fn before_instance(is_first: bool) -> &'static str {
+    if is_first {
+        "  instances not detached: "
+    } else {
+        ", "
+    }
 }
 
 // How many were refused with the status of that number.
@@ -202,19 +216,19 @@ fn say_handles(text: &mut Text, notes: &Notes, state: &State) {
 
 // The instances that aren't detached.
 fn say_instances(text: &mut Text, notes: &Notes) {
-    let mut mark = "  instances not detached: ";
+    let mut is_first = true;
     let mut number = 0u64;
     for note in &notes.instances {
         if note.phase != Phase::Detached {
-            text.push_str(mark);
+            text.push_str(before_instance(is_first));
             push_instance(text, notes, number);
-            mark = ", ";
+            is_first = false;
         }
         number = number.saturating_add(1);
     }
-    if mark == ", " {
+    if !is_first {
         text.push('\n')
-    } else {}
+    }
 }
 
 /// Appends how many lines aren't as a script should be: which expect what can't be read, or gave back what they didn't have, which expectations weren't met, and

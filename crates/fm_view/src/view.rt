@@ -325,12 +325,12 @@ impl<W: Write + Drop> View<W> {
 
     // What the line before printed.
     fn say_printed(&self, text: &mut Text) {
-        let mut mark = "; it answered ";
+        let mut is_first = true;
         for answer in self.expectations.printed().split(|byte| *byte == b'\n') {
             if !answer.is_empty() {
-                text.push_str(mark);
+                text.push_str(between(is_first));
                 push_ascii(text, answer);
-                mark = ", ";
+                is_first = false;
             }
         }
     }
@@ -857,6 +857,11 @@ fn is_misuse(task: &Result<Task, Status>, status: Option<Status>) -> bool {
         ) => true,
         _ => false,
     }
+}
+
+// What stands before an answer in a list of them.
+fn between(is_first: bool) -> &'static str {
+    if is_first { "; it answered " } else { ", " }
 }
 
 // Appends so many spaces.

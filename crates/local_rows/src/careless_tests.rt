@@ -3,7 +3,8 @@
 use crate::asked::{Ask, DONE, Told};
 use crate::careless::Careless;
 use crate::steps::{Count, INSTANCE, Row, Step, named, run};
-use fm_local::{Callback, Leak};
+use fm_core::Place;
+use fm_local::Leak;
 use fm_types::{ContextKind, CtxId, Name, OpId, Status};
 use std::alloc::Global;
 use std::process::Abort;
@@ -36,9 +37,7 @@ const OF_TWO: Leak = Leak {
         generation: 0,
     },
     kind: Some(ContextKind::Stream),
-    instance: INSTANCE,
-    callback: Callback::Pre,
-    operation: Some(OpId(1)),
+    place: Place::Pre(OpId(1), INSTANCE),
 };
 
 const OF_A_VOLUME: Leak = Leak {
@@ -47,9 +46,7 @@ const OF_A_VOLUME: Leak = Leak {
         generation: 1,
     },
     kind: Some(ContextKind::Volume),
-    instance: INSTANCE,
-    callback: Callback::Pre,
-    operation: Some(OpId(2)),
+    place: Place::Pre(OpId(2), INSTANCE),
 };
 
 const OF_A_POST: Leak = Leak {
@@ -58,9 +55,7 @@ const OF_A_POST: Leak = Leak {
         generation: 0,
     },
     kind: Some(ContextKind::Stream),
-    instance: INSTANCE,
-    callback: Callback::Post,
-    operation: Some(OpId(6)),
+    place: Place::Post(OpId(6), INSTANCE),
 };
 
 const OF_A_QUERY: Leak = Leak {
@@ -69,9 +64,7 @@ const OF_A_QUERY: Leak = Leak {
         generation: 1,
     },
     kind: Some(ContextKind::Instance),
-    instance: INSTANCE,
-    callback: Callback::Query,
-    operation: None,
+    place: Place::Query(INSTANCE),
 };
 
 // Contexts are cleaned up as each request ends, so that the next one lies in the slot of the last; but the one that is set on the instance stays in its slot.
@@ -112,9 +105,7 @@ const OF_THE_QUERY: Leak = Leak {
         generation: 0,
     },
     kind: Some(ContextKind::Instance),
-    instance: INSTANCE,
-    callback: Callback::Query,
-    operation: None,
+    place: Place::Query(INSTANCE),
 };
 
 const OF_A_DRAIN: Leak = Leak {
@@ -123,9 +114,7 @@ const OF_A_DRAIN: Leak = Leak {
         generation: 0,
     },
     kind: Some(ContextKind::Stream),
-    instance: INSTANCE,
-    callback: Callback::Drain,
-    operation: Some(OpId(1)),
+    place: Place::EarlyDrain(OpId(1), INSTANCE),
 };
 
 // The read is held below, so the instance above is drained of it as it is detached.

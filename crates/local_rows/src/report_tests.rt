@@ -3,7 +3,8 @@
 use crate::asked::{Ask, DONE, Told};
 use crate::forgets::Forgets;
 use crate::steps::{Count, INSTANCE, Row, Step, named, run};
-use fm_local::{Callback, Leak};
+use fm_core::Place;
+use fm_local::Leak;
 use fm_types::{ContextKind, CtxId, OpId, Status};
 use std::alloc::Global;
 use std::process::Abort;
@@ -38,9 +39,7 @@ const LEAKS: [Step; 10] = [
                 generation: 0,
             },
             kind: Some(ContextKind::Instance),
-            instance: INSTANCE,
-            callback: Callback::Setup,
-            operation: None,
+            place: Place::Setup(INSTANCE),
         },
         "leak c0 instance i0 setup",
     ),
@@ -52,9 +51,7 @@ const LEAKS: [Step; 10] = [
                 generation: 0,
             },
             kind: Some(ContextKind::Stream),
-            instance: INSTANCE,
-            callback: Callback::Pre,
-            operation: Some(OpId(2)),
+            place: Place::Pre(OpId(2), INSTANCE),
         },
         "leak c1 stream i0 pre o2",
     ),
@@ -66,9 +63,7 @@ const LEAKS: [Step; 10] = [
                 generation: 0,
             },
             kind: Some(ContextKind::Stream),
-            instance: INSTANCE,
-            callback: Callback::Post,
-            operation: Some(OpId(2)),
+            place: Place::Post(OpId(2), INSTANCE),
         },
         "leak c1 stream i0 post o2",
     ),
@@ -80,9 +75,7 @@ const LEAKS: [Step; 10] = [
                 generation: 1,
             },
             kind: Some(ContextKind::Stream),
-            instance: INSTANCE,
-            callback: Callback::Pre,
-            operation: Some(OpId(3)),
+            place: Place::Pre(OpId(3), INSTANCE),
         },
         "leak c1.1 stream i0 pre o3",
     ),
@@ -94,9 +87,7 @@ const LEAKS: [Step; 10] = [
                 generation: 1,
             },
             kind: Some(ContextKind::Stream),
-            instance: INSTANCE,
-            callback: Callback::Post,
-            operation: Some(OpId(3)),
+            place: Place::Post(OpId(3), INSTANCE),
         },
         "leak c1.1 stream i0 post o3",
     ),
@@ -121,9 +112,7 @@ const TORN_DOWN: [Step; 5] = [
                 generation: 2,
             },
             kind: Some(ContextKind::Stream),
-            instance: INSTANCE,
-            callback: Callback::Complete,
-            operation: None,
+            place: Place::Complete(INSTANCE),
         },
         "leak c1.2 stream i0 complete",
     ),

@@ -130,7 +130,7 @@ static const Meaning meanings[] = {
     {KZM_NOT_MODELLED, "another routine that isn't modelled; the line says which, and what it answers", "it is done", "nothing: that part can't be tried"},
     {KZM_FILE_LOCK, "locks on ranges of files", "they are there", "nothing: that part can't be tried"},
     {KZM_CACHE, "the cache manager", "files are cached", "nothing: that part can't be tried"},
-    {KZM_ECP, "extra create parameters", "they are there", "nothing: that part can't be tried"},
+    {KZM_ECP, "extra create parameters of lookaside lists, and the calls of FsRtl on them", "they are there", "use the calls of the filter manager"},
     {KZM_CRYPTO, "cryptography: the routines of bcrypt.h", "it is done", "nothing: that part can't be tried"},
 };
 

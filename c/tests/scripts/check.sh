@@ -8,7 +8,7 @@
 #   threads   drivers under real threads
 #   programs  samples with programs, threads, processes: schedules, refusals, threads
 #   order     the lists that all managers are held to
-#   headers   constants and enumerators beside those of mingw-w64, where its headers are there
+#   headers   constants, structures and prototypes beside those of mingw-w64, where its headers are there: by its name alone, and in thorough.sh
 #   mount     the mount above fltd
 #   serve     the server of drivers: the same frames as fltd, and the mount above it
 #
@@ -27,7 +27,7 @@ if [ -z "${KAZDRIN_LIB:-}" ]; then
     [ -f "$KAZDRIN_LIB" ] || KAZDRIN_LIB=$("$here/../../archive.sh" --unproved) || exit 1
     export KAZDRIN_LIB
 fi
-[ $# -gt 0 ] || set -- host legal misuse explore threads programs order headers mount serve
+[ $# -gt 0 ] || set -- host legal misuse explore threads programs order mount serve
 passed=0
 failed=0
 report=$(mktemp)

@@ -215,7 +215,7 @@ impl Keyword {
         }
     }
 
-    // Whether a word spells it. Most words that don't differ in their lengths, so these are compared first.
+    // Whether a word spells it. Other words mostly differ in length, so lengths are compared first.
     fn is_spelled(self, word: &[u8]) -> bool
         ensures { result ≡ bytes_eq (spelling self) word.now }
     {

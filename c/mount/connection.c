@@ -112,7 +112,7 @@ static size_t whole(const Connection *connection)
     return is_body_length(length) ? (size_t)length + FRAME_HEAD : 0;
 }
 
-/* What came behind the last reply moves to the front. */
+/* What came after the last reply moves to the front. */
 static void take_rest(Connection *connection)
 {
     connection->received -= connection->used;

@@ -60,7 +60,7 @@ void tree_remove_folder(fuse_req_t request, fuse_ino_t folder, const char *name)
 
 /* ---- renames ---- */
 
-/* The names in a folder, each ended by a zero, an empty one behind the last: NULL with errno. `.` and `..` aren't among them. */
+/* The names in a folder, each ended by a zero, an empty one after the last: NULL with errno. `.` and `..` aren't among them. */
 static char *names_in(const Mount *mount, const char *path)
 {
     DIR *list = below_list(mount, path);

@@ -1,9 +1,9 @@
 #!/usr/bin/env python3
 """A soak: soak.py --server SERVER --mount FLTMOUNT [--seconds N] [--seed N] [--filters NAME@ALTITUDE,..]
 
-Programs work in folders of a mount, each beside a model of its own that is written down before and behind each call. Meanwhile programs, the mount and the server are killed or
+Programs work in folders of a mount, each beside a model of its own that is written down before and after each call. Meanwhile programs, the mount and the server are killed or
 halted, filters come and go, and, as root, the disk below is full now and then. Each program that is started again looks whether what was acknowledged is there, and what was under
-way is there as before, or as behind it. The last line has the counts; the exit status is 0 where nothing was lost, wrong or hung."""
+way is there as before, or as after it. The last line has the counts; the exit status is 0 where nothing was lost, wrong or hung."""
 import argparse
 import errno
 import json
@@ -85,7 +85,7 @@ def in_doubt(model, got):
 
 
 def settle(model, folder):
-    """Looks at the folder behind an end: what was acknowledged has to be there."""
+    """Looks at the folder after an end: what was acknowledged has to be there."""
     got = found(folder)
     wanted = in_doubt(model, got) if model.doing else model.files
     if got != wanted and not (model.doing and got == model.files):

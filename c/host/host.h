@@ -43,6 +43,8 @@ typedef enum {
 } KzCallback;
 
 typedef struct KzOp KzOp;
+typedef struct KzCarried KzCarried;
+typedef struct KzAsked KzAsked;
 typedef struct KzClient KzClient;
 typedef struct KzThread KzThread;
 
@@ -64,7 +66,7 @@ typedef struct KzPlace {
     const void *from, *function;
     const char *request, *path; /* of the client that began the operation, or that asks; NULL if there is none */
     unsigned line;              /* of the request in its file; 0 if it has none */
-    uint8_t event;              /* of the operation */
+    UCHAR major;                /* of the operation */
 } KzPlace;
 
 struct _FLT_FILTER {
@@ -88,6 +90,7 @@ struct _FLT_VOLUME {
     FLT_FILESYSTEM_TYPE type;
     USHORT sector;
     bool is_read_only, is_snapshot;
+    bool is_case_sensitive; /* names that differ by it alone are two */
 };
 
 struct _FLT_INSTANCE {
@@ -116,7 +119,17 @@ typedef struct KzFile {
     unsigned users; /* operations, and the handle */
     unsigned maker; /* the number of the client: lists are in this order, so that they are the same whoever came first */
     PFLT_VOLUME volume;
-    char path[256];
+    char path[256];      /* by which it was opened */
+    struct KzName *name; /* that leads to it now; NULL of a volume, of a listing, and of a path that is none */
+    bool is_by_key;      /* it is opened by its key, whatever the names are */
+    bool is_counted;     /* among its file's open handles */
+    bool is_leaving;     /* and its cleanup has begun */
+    bool is_posix;       /* a deletion takes its name away with the handle's cleanup */
+    struct {             /* of a directory */
+        char pattern[256], last[256];
+        unsigned dots;
+        bool is_begun;
+    } scan;
 } KzFile;
 
 /* Memory that lives as long as its operation. */
@@ -198,7 +211,10 @@ typedef struct {
     PFLT_INSTANCE initiator; /* those at its altitude and above don't hear; NULL: all hear */
     ULONG irp_flags;
     PECP_LIST ecps; /* of a create; the filter's own */
+    const KzAsked *carried; /* what the kit has in place of the manager's operation, as it begins */
+    bool is_directory;      /* a create opens one */
     uint8_t worker;
+    bool has_worker; /* a client's, which has one of its own all the same */
     PFLT_CALLBACK_DATA data; /* that the filter has of it, if it made one */
     void (*done)(void *given, NTSTATUS status, uint64_t information, const uint8_t *bytes, size_t length);
     void *given;
@@ -243,6 +259,8 @@ struct KzOp {
     unsigned maker;
     KzClient *runner; /* who carries it on, also while it is held */
     KzOwn own;
+    KzCarried *carried; /* NULL: it is one of the manager's own */
+    bool is_waiting;    /* the file system keeps it; it has a worker of its own */
     PECP_LIST ecps; /* that a filter put into a create */
     KzCancel cancel;
     bool is_cancelled; /* a create that a filter cancelled in its postoperation */
@@ -288,6 +306,7 @@ uint32_t kz_until_free(const char *name, KazdrinEvent event, PFLT_INSTANCE insta
 /* The worker of the manager that the client is in. */
 uint8_t kz_worker(void);
 uint8_t kz_helper(void);
+bool kz_has_helpers(void); /* for one more operation that may stay */
 void kz_helped(uint8_t worker);
 void *kz_memory(size_t size);
 void kz_say(KzKind kind, const char *format, ...) __attribute__((format(printf, 2, 3)));
@@ -493,6 +512,8 @@ void kz_renew_data(KzOp *op);
 /* A text of ASCII as the kit gives it: memory of exactly its length, with nothing behind it, or with a null; `/` is the kit's `\`. */
 bool kz_give_name(PUNICODE_STRING to, const char *text, bool is_ended);
 size_t kz_narrow(char *room, size_t size, PCUNICODE_STRING text);
+/* Of ASCII into letters of the kit, `/` as its `\\`: how many bytes they take. */
+ULONG kz_widen(WCHAR *room, const char *text);
 void kz_tell_names(PFLT_FILTER filter);
 void kz_free_names(void);
 
@@ -508,6 +529,9 @@ KzFile *kz_new_file(PFLT_VOLUME volume, const char *path, bool is_directory);
 void kz_file_opened(KzFile *file);
 void kz_file_answered(KzFile *file, uint64_t handle);
 bool kz_handle_of(KzFile *file, uint64_t *handle);
+/* A client's handle as drivers are given it, in a rename's RootDirectory. */
+HANDLE kz_root_handle(uint64_t handle);
+KzFile *kz_file_of_client(HANDLE root);
 void kz_let_go_file(KzFile *file);
 void kz_drop_file(uint64_t handle);
 
@@ -586,7 +610,10 @@ uint32_t kz_load(const char *name, const char *altitude, uint64_t *number, NTSTA
 uint32_t kz_unload(PFLT_FILTER filter);
 void kz_unload_all(void);
 const FLT_OPERATION_REGISTRATION *kz_registered(PFLT_FILTER filter, UCHAR major);
-UCHAR kz_major(uint8_t event);
+/* Also of a fast one, or of the manager's own operations, as drivers see it. */
+UCHAR kz_major_of(const KzOp *op);
+/* Whether the filter registered a callback for it, and isn't left out by its flags. */
+bool kz_hears(PFLT_FILTER filter, const KzOp *op);
 bool kz_is_filter(PFLT_FILTER filter);
 
 /* instance.c */

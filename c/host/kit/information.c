@@ -1,6 +1,8 @@
 /* What a driver asks of a file by itself, and sets. The standard information is an operation of which those below hear; what the host alone keeps of a file is answered by it. */
 #include "kit/io.h"
 
+#include "filesystem/tree.h"
+
 #include <stdlib.h>
 
 typedef union {
@@ -21,7 +23,7 @@ typedef union {
 static uint64_t number_of(const KzFile *file)
 {
     uint64_t number = 0xcbf29ce484222325ULL + file->volume->id;
-    for (const char *at = file->path; *at; at++)
+    for (const char *at = kz_key_of(file); *at; at++)
         number = (number ^ (uint8_t)*at) * 0x100000001b3ULL;
     return number & INT64_MAX;
 }

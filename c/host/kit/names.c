@@ -1,5 +1,5 @@
 /* Names of files and volumes. */
-#include "host.h"
+#include "filesystem/tree.h"
 
 #include <stdio.h>
 #include <stdlib.h>
@@ -14,6 +14,14 @@ typedef struct Named {
 } Named;
 
 static Named *all;
+
+ULONG kz_widen(WCHAR *room, const char *text)
+{
+    size_t at = 0;
+    for (; text[at]; at++)
+        room[at] = (WCHAR)(text[at] == '/' ? '\\' : text[at]);
+    return (ULONG)(at * sizeof(WCHAR));
+}
 
 static void put_wide(WCHAR *room, const char *text)
 {

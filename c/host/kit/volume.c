@@ -82,6 +82,8 @@ bool kz_set_volume(PFLT_VOLUME volume, const char *word)
         return volume->is_read_only = true;
     if (strcmp(word, "snapshot") == 0)
         return volume->is_snapshot = true;
+    if (strcmp(word, "case") == 0)
+        return volume->is_case_sensitive = true;
     if (strcmp(word, "removable") == 0) {
         volume->device.Characteristics |= FILE_REMOVABLE_MEDIA;
         volume->disk.Characteristics |= FILE_REMOVABLE_MEDIA;

@@ -2,14 +2,16 @@
  *
  * The manager steps an operation through all instances. For those at the altitude of the one that began it, and above, the host answers FLT_PREOP_SUCCESS_NO_CALLBACK in their
  * place: so only those below hear of it. That it passes the right ones is the host's; their order, counts, contexts and drains are the manager's. */
-#include "manager/below.h"
+#include "manager/carrier.h"
+
+#include "filesystem/tree.h"
 
 #include <stdlib.h>
 
 bool kz_is_passed(const KzOp *op, PFLT_INSTANCE instance)
 {
     const KzOwn *own = &op->own;
-    return own->is_unheard || (own->initiator && kz_compare_altitudes(instance->altitude, own->initiator->altitude) >= 0);
+    return own->is_unheard || !kz_hears(instance->filter, op) || (own->initiator && kz_compare_altitudes(instance->altitude, own->initiator->altitude) >= 0);
 }
 
 FLT_CALLBACK_DATA_FLAGS kz_data_flags(const KzOp *op)
@@ -42,9 +44,24 @@ KzReply kz_cancelled(const KzOp *op, NTSTATUS *other)
     return reply;
 }
 
+/* A create's file is known by its key; one that is opened unheard has its name already. */
+static void name_file(KzFile *file, const char *path, const void **bytes, size_t *length)
+{
+    if (!file->name && !file->is_by_key)
+        file->name = kz_take_name(file->volume, path);
+    if (!file->name)
+        return;
+    *bytes = file->name->node->key;
+    *length = strlen(file->name->node->key);
+}
+
 static KzAnswer begin(const KzOwn *own, KzFile *file, KazdrinEvent asked, const void *bytes, size_t length)
 {
     KzAnswer answer = {0};
+    if (asked.event == KZE_CREATE)
+        name_file(file, bytes, &bytes, &length);
+    else if (asked.event == KZE_CLEANUP)
+        kz_begin_cleanup(file);
     KzTold begun = kz_event_with(kz_worker(), asked, bytes, length);
     answer.reply.status = begun.status;
     answer.is_refused = begun.status != KZS_OK;
@@ -54,6 +71,9 @@ static KzAnswer begin(const KzOwn *own, KzFile *file, KazdrinEvent asked, const 
     op->own = *own;
     op->own.is_own = true;
     op->own.worker = kz_worker();
+    op->own.carried = NULL;
+    if (own->carried)
+        kz_begin_carried(op, own->carried);
     if (kz_carry_to_end(op))
         return kz_collect(op);
     return (KzAnswer){.reply = {.held = 1, .operation = op->id}};
@@ -90,18 +110,28 @@ void kz_end_below(KzOp *op)
 static bool is_open_else(const KzFile *file)
 {
     for (const KzFile *one = kz.files; one; one = one->next)
-        if (one != file && one->has_handle && one->volume == file->volume && strcmp(one->path, file->path) == 0 && !(one->object.Flags & FO_CLEANUP_COMPLETE))
+        if (one != file && one->has_handle && one->name && file->name && one->name->node == file->name->node && !(one->object.Flags & FO_CLEANUP_COMPLETE))
             return true;
     return false;
+}
+
+/* A file object that nobody hears of, for a file by its key. */
+static KzFile *new_hidden(KzFile *file)
+{
+    KzFile *hidden = kz_new_file(file->volume, file->path, false);
+    hidden->users++;
+    hidden->is_own = true;
+    hidden->name = file->name;
+    if (hidden->name)
+        kz_keep_name(hidden->name);
+    return hidden;
 }
 
 /* Of a file whose cleanup has begun the manager takes nothing any more, but the file system here does, until its close. */
 static KzAnswer reopened(const KzOwn *own, KzFile *file, KazdrinEvent asked, const void *bytes, size_t length)
 {
     const KzOwn unheard = {.is_unheard = true, .is_waited_for = true};
-    KzFile *hidden = kz_new_file(file->volume, file->path, false);
-    hidden->users++;
-    hidden->is_own = true;
+    KzFile *hidden = new_hidden(file);
     KzAnswer answer = kz_below(&unheard, hidden, (KazdrinEvent){.event = KZE_CREATE, .volume = file->volume->id}, file->path, strlen(file->path));
     if (answer.reply.status == KZS_OK) {
         KzOwn waited = *own;
@@ -129,6 +159,49 @@ KzAnswer kz_below_file(const KzOwn *own, KzFile *file, KazdrinEvent asked, const
         return (KzAnswer){.other = STATUS_INVALID_HANDLE, .reply.status = KZS_NO_HANDLE};
     KzAnswer answer = kz_below(own, file, asked, bytes, length);
     return answer.is_refused && answer.reply.status == KZS_NO_HANDLE ? reopened(own, file, asked, bytes, length) : answer;
+}
+
+bool kz_delete_by_key(PFLT_VOLUME volume, const char *key)
+{
+    const KzOwn unheard = {.is_unheard = true, .is_waited_for = true};
+    KzFile *hidden = kz_new_file(volume, key, false);
+    hidden->users++;
+    hidden->is_own = hidden->is_by_key = true;
+    bool is_open = kz_below(&unheard, hidden, (KazdrinEvent){.event = KZE_CREATE, .volume = volume->id}, key, strlen(key)).reply.status == KZS_OK;
+    bool is_gone = is_open && kz_below(&unheard, hidden, (KazdrinEvent){.event = KZE_SET_DELETE, .handle = hidden->handle}, "", 0).reply.status == KZS_OK;
+    if (is_open) {
+        kz_below(&unheard, hidden, (KazdrinEvent){.event = KZE_CLEANUP, .handle = hidden->handle}, "", 0);
+        is_gone &= kz_below(&unheard, hidden, (KazdrinEvent){.event = KZE_CLOSE, .handle = hidden->handle}, "", 0).reply.status == KZS_OK;
+    }
+    kz_let_go_file(hidden);
+    return is_gone;
+}
+
+NTSTATUS kz_write_unheard(KzFile *file, uint64_t offset, const uint8_t *bytes, size_t length)
+{
+    const KzOwn unheard = {.is_unheard = true, .is_waited_for = true};
+    uint8_t *copy = kz_memory(length);
+    memcpy(copy, bytes, length);
+    NTSTATUS status = kz_status_of(kz_below_file(&unheard, file, (KazdrinEvent){.event = KZE_WRITE, .offset = offset}, copy, length));
+    free(copy);
+    return status;
+}
+
+NTSTATUS kz_cut_unheard(KzFile *file, uint64_t size)
+{
+    const KzOwn unheard = {.is_unheard = true, .is_waited_for = true};
+    return kz_status_of(kz_below_file(&unheard, file, (KazdrinEvent){.event = KZE_SET_SIZE, .offset = size}, "", 0));
+}
+
+NTSTATUS kz_ask_below(PFLT_INSTANCE initiator, KzFile *file, const KzAsked *asked, void *to, uint64_t *information)
+{
+    const KzOwn own = {.initiator = initiator, .is_waited_for = true, .carried = asked};
+    KzAnswer answer = kz_below_file(&own, file, (KazdrinEvent){.event = KZE_FLUSH}, "", 0);
+    size_t there = answer.length < asked->room ? answer.length : asked->room;
+    *information = answer.reply.information;
+    if (to && there)
+        memcpy(to, kz_me->room, there);
+    return kz_status_of(answer);
 }
 
 /* Its cleanup and its close. */

@@ -1,5 +1,7 @@
 /* Callback data: what the manager lends is shown in the kit's structures, and what a callback left in them is put back. */
-#include "host.h"
+#include "manager/carrier.h"
+
+#include "filesystem/answers.h"
 
 #include <stdlib.h>
 
@@ -67,6 +69,10 @@ static void leave_visit(KzOp *op)
 /* An instance that is drained frees its buffer: those below go on with one of the operation's own. */
 void kz_forget_swap(KzOp *op, PFLT_INSTANCE instance)
 {
+    if (op->carried) {
+        kz_forget_carried_swap(op, instance);
+        return;
+    }
     for (KzVisit *below = NULL, *at = op->visits; at; below = at, at = at->above) {
         if (at->instance != instance || !at->swapped)
             continue;
@@ -112,9 +118,9 @@ void kz_free_data(KzOp *op)
 }
 
 /* ---- What is asked for. */
-static ULONG options_of(uint8_t mode)
+static ULONG options_of(uint8_t mode, bool is_directory)
 {
-    return (ULONG)(mode == 0 ? FILE_OPEN : mode == 1 ? FILE_CREATE : FILE_OPEN_IF) << 24 | FILE_NON_DIRECTORY_FILE | FILE_SYNCHRONOUS_IO_NONALERT;
+    return (ULONG)(mode == 0 ? FILE_OPEN : mode == 1 ? FILE_CREATE : FILE_OPEN_IF) << 24 | (is_directory ? FILE_DIRECTORY_FILE : FILE_NON_DIRECTORY_FILE) | FILE_SYNCHRONOUS_IO_NONALERT;
 }
 
 #define ACCESS (FILE_GENERIC_READ | FILE_GENERIC_WRITE | DELETE)
@@ -124,7 +130,7 @@ static void show_create(KzOp *op, FLT_PARAMETERS *shown)
     op->access = (ACCESS_STATE){.RemainingDesiredAccess = ACCESS, .OriginalDesiredAccess = ACCESS};
     op->security = (IO_SECURITY_CONTEXT){.AccessState = &op->access, .DesiredAccess = ACCESS};
     shown->Create.SecurityContext = &op->security;
-    shown->Create.Options = options_of(op->lent.mode);
+    shown->Create.Options = options_of(op->lent.mode, op->file->is_directory);
     shown->Create.FileAttributes = FILE_ATTRIBUTE_NORMAL;
     shown->Create.ShareAccess = FILE_SHARE_VALID_FLAGS;
 }
@@ -217,7 +223,7 @@ static void show(KzOp *op, PFLT_INSTANCE instance)
     kazdrin_lent(&kz.manager, &(KazdrinEvent){.worker = kz_worker()}, &op->lent, kz_me->room, sizeof kz_me->room);
     memset(op->iopb, 0, sizeof *op->iopb);
     op->iopb->IrpFlags = irp_flags_of(op->event) | op->own.irp_flags;
-    op->iopb->MajorFunction = kz_major(op->event);
+    op->iopb->MajorFunction = kz_major_of(op);
     op->iopb->MinorFunction = op->event == KZE_LIST ? IRP_MN_QUERY_DIRECTORY : IRP_MN_NORMAL;
     op->iopb->OperationFlags = op->event == KZE_LIST ? SL_RESTART_SCAN : 0;
     op->iopb->TargetFileObject = &op->file->object;
@@ -248,6 +254,10 @@ static void put_served(KzOp *op)
 
 void kz_show_pre(KzOp *op, PFLT_INSTANCE instance)
 {
+    if (op->carried) {
+        kz_show_carried(op, instance, false);
+        return;
+    }
     if (has_buffer(op))
         visit(op, instance);
     show(op, instance);
@@ -300,8 +310,8 @@ static bool changed(KzOp *op, KazdrinEvent *event, const uint8_t **bytes, size_t
     switch (op->event) {
     case KZE_CREATE: {
         ULONG disposition = now->Create.Options >> 24;
-        *bytes = (const uint8_t *)op->file->path;
-        *length = strlen(op->file->path);
+        *bytes = (const uint8_t *)kz_key_of(op->file);
+        *length = strlen(kz_key_of(op->file));
         event->mode = (uint8_t)(disposition == FILE_CREATE ? 1 : disposition == FILE_OPEN ? 0 : 2);
         return disposition >= FILE_OPEN && disposition <= FILE_OPEN_IF;
     }
@@ -368,6 +378,10 @@ void kz_take_pre(KzOp *op, bool has_post, bool is_completed)
     check_target(op, is_dirty);
     if (!is_completed && (op->data->IoStatus.Status != op->shown.status.Status || op->data->IoStatus.Information != op->shown.status.Information))
         kz_tell(KZM_STATUS_NOT_COMPLETED, "FLT_CALLBACK_DATA", "IoStatus was set by a preoperation that doesn't complete: it doesn't count");
+    if (op->carried) {
+        kz_take_carried_pre(op, has_post, is_completed);
+        return;
+    }
     if (op->event == KZE_WRITE && is_in_place(op) && !is_completed)
         take_in_place(op);
     if (!is_dirty) {
@@ -434,10 +448,15 @@ static size_t names_in(const uint8_t *chain, size_t size, uint8_t *room, size_t 
     return length;
 }
 
-static void show_size(PFILE_STANDARD_INFORMATION info, uint64_t size)
+/* The size is the manager's. */
+static void show_size(const KzOp *op, PFILE_STANDARD_INFORMATION info, uint64_t size)
 {
-    *info = (FILE_STANDARD_INFORMATION){
-        .AllocationSize.QuadPart = (LONGLONG)((size + 511) & ~(uint64_t)511), .EndOfFile.QuadPart = (LONGLONG)size, .NumberOfLinks = 1};
+    *info = (FILE_STANDARD_INFORMATION){.NumberOfLinks = 1};
+    if (op->file->name)
+        kz_show_standard(op->file, info);
+    info->EndOfFile.QuadPart = (LONGLONG)size;
+    if (!op->file->name || info->AllocationSize.QuadPart < (LONGLONG)size)
+        info->AllocationSize.QuadPart = (LONGLONG)kz_allocated(op->volume, size);
 }
 
 static void show_answer(KzOp *op)
@@ -456,7 +475,7 @@ static void show_answer(KzOp *op)
     case KZE_QUERY_SIZE:
         op->data->IoStatus.Information = 0;
         if (op->lent.status == KZS_OK && room >= sizeof(FILE_STANDARD_INFORMATION)) {
-            show_size((PFILE_STANDARD_INFORMATION)below, op->lent.information);
+            show_size(op, (PFILE_STANDARD_INFORMATION)below, op->lent.information);
             op->data->IoStatus.Information = sizeof(FILE_STANDARD_INFORMATION);
         }
         break;
@@ -473,6 +492,12 @@ static void show_answer(KzOp *op)
 
 void kz_show_post(KzOp *op, PFLT_INSTANCE instance)
 {
+    if (op->carried) {
+        kazdrin_lent(&kz.manager, &(KazdrinEvent){.flag = 1, .worker = kz_worker()}, &op->lent, kz_me->room, sizeof kz_me->room);
+        put_served(op);
+        kz_show_carried(op, instance, true);
+        return;
+    }
     while (has_buffer(op) && op->visits && op->visits->instance != instance)
         leave_visit(op);
     if (has_buffer(op) && !op->visits)
@@ -531,6 +556,10 @@ static void check_length(KzOp *op, const char *call)
 /* A preoperation completed it: what is beside the status waits until the manager can be told. */
 void kz_serve(KzOp *op)
 {
+    if (op->carried) {
+        kz_serve_carried(op);
+        return;
+    }
     uint64_t said = op->data->IoStatus.Information;
     check_length(op, "FLT_PREOP_COMPLETE");
     if (!NT_SUCCESS(op->data->IoStatus.Status) || op->event == KZE_CREATE || op->event == KZE_CLEANUP || op->event == KZE_CLOSE)
@@ -591,6 +620,10 @@ static bool changes_answer(KzOp *op, KzServed *now)
 
 void kz_take_post(KzOp *op)
 {
+    if (op->carried) {
+        kz_take_carried_post(op);
+        return;
+    }
     KzServed now;
     if (!changes_answer(op, &now))
         return;
@@ -602,6 +635,10 @@ void kz_take_post(KzOp *op)
 /* A postoperation that is held completes it: the manager learns of what it changed where it next lends the answer, and else the client does. */
 void kz_take_held(KzOp *op)
 {
+    if (op->carried) {
+        kz_take_carried_post(op);
+        return;
+    }
     KzServed now;
     if (!changes_answer(op, &now))
         return;

@@ -1,5 +1,5 @@
 /* Open files, as filters see them. */
-#include "host.h"
+#include "filesystem/tree.h"
 
 #include <stdlib.h>
 
@@ -81,7 +81,22 @@ void kz_let_go_file(KzFile *file)
             break;
         }
     kz_free_file_name(file);
+    kz_let_go_name(file->name);
     free(file);
+}
+
+/* Numbers that are no handle of a driver's own. */
+enum { ROOTS = 0x40000000 };
+
+HANDLE kz_root_handle(uint64_t handle)
+{
+    return (HANDLE)(uintptr_t)(ROOTS + 4 * handle);
+}
+
+KzFile *kz_file_of_client(HANDLE root)
+{
+    uint64_t number = (uint64_t)(uintptr_t)root;
+    return number >= ROOTS && number % 4 == 0 ? kz_file_of((number - ROOTS) / 4) : NULL;
 }
 
 void kz_drop_file(uint64_t handle)
@@ -90,5 +105,6 @@ void kz_drop_file(uint64_t handle)
     if (!file)
         return;
     file->has_handle = false;
+    kz_count_no_open(file);
     kz_let_go_file(file);
 }

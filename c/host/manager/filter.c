@@ -1,10 +1,10 @@
 /* Filters: loading, registration and unloading. */
-#include "host.h"
+#include "manager/carrier.h"
 
 #include <stdlib.h>
 
 /* ---- Operations by the kit's major functions. */
-UCHAR kz_major(uint8_t event)
+static UCHAR major_of_event(uint8_t event)
 {
     switch (event) {
     case KZE_CREATE:
@@ -29,7 +29,12 @@ UCHAR kz_major(uint8_t event)
     }
 }
 
-/* The manager's mask of a major function. */
+UCHAR kz_major_of(const KzOp *op)
+{
+    return op->carried ? op->carried->major : major_of_event(op->event);
+}
+
+/* The manager's mask of a major function. What the manager hasn't rides on a flush, or on a listing where it has no handle. */
 static uint16_t mask_of(UCHAR major)
 {
     switch (major) {
@@ -40,19 +45,21 @@ static uint16_t mask_of(UCHAR major)
     case IRP_MJ_WRITE:
         return KZ_MASK_WRITE;
     case IRP_MJ_QUERY_INFORMATION:
-        return KZ_MASK_QUERY_SIZE;
+        return KZ_MASK_QUERY_SIZE | KZ_MASK_FLUSH;
     case IRP_MJ_SET_INFORMATION:
-        return KZ_MASK_SET_SIZE | KZ_MASK_SET_DELETE;
-    case IRP_MJ_FLUSH_BUFFERS:
-        return KZ_MASK_FLUSH;
+        return KZ_MASK_SET_SIZE | KZ_MASK_SET_DELETE | KZ_MASK_FLUSH;
     case IRP_MJ_DIRECTORY_CONTROL:
+        return KZ_MASK_LIST | KZ_MASK_FLUSH;
+    case IRP_MJ_SHUTDOWN:
+    case IRP_MJ_PNP:
+    case IRP_MJ_NETWORK_QUERY_OPEN:
         return KZ_MASK_LIST;
     case IRP_MJ_CLEANUP:
         return KZ_MASK_CLEANUP;
     case IRP_MJ_CLOSE:
         return KZ_MASK_CLOSE;
     default:
-        return 0;
+        return KZ_MASK_FLUSH;
     }
 }
 
@@ -127,11 +134,21 @@ static void name_of(PFLT_FILTER filter, char *name)
     name[length] = 0;
 }
 
-/* Reads and writes here are cached, and of files: a filter that asks to be left out of those never sees one. */
+/* Reads and writes here are of files: a filter that asks to be left out of those never sees one. */
 static bool is_skipped(const FLT_OPERATION_REGISTRATION *one)
 {
     bool is_data = one->MajorFunction == IRP_MJ_READ || one->MajorFunction == IRP_MJ_WRITE;
-    return is_data && one->Flags & (FLTFL_OPERATION_REGISTRATION_SKIP_CACHED_IO | FLTFL_OPERATION_REGISTRATION_SKIP_NON_DASD_IO);
+    return is_data && one->Flags & FLTFL_OPERATION_REGISTRATION_SKIP_NON_DASD_IO;
+}
+
+/* Those of requests are cached, but for paging I/O and what a filter asks for itself. */
+bool kz_hears(PFLT_FILTER filter, const KzOp *op)
+{
+    const FLT_OPERATION_REGISTRATION *one = kz_registered(filter, kz_major_of(op));
+    bool is_data = op->event == KZE_READ || op->event == KZE_WRITE, is_cached = !(op->own.irp_flags & (IRP_NOCACHE | IRP_PAGING_IO));
+    if (!one || (is_data && is_cached && one->Flags & FLTFL_OPERATION_REGISTRATION_SKIP_CACHED_IO))
+        return false;
+    return !(op->own.irp_flags & IRP_PAGING_IO && one->Flags & FLTFL_OPERATION_REGISTRATION_SKIP_PAGING_IO);
 }
 
 static KzTold register_with_manager(PFLT_FILTER filter, uint8_t contexts)

@@ -6,6 +6,7 @@
 
 #include "wire/frame.h"
 
+#include <dirent.h>
 #include <errno.h>
 #include <fcntl.h>
 #include <linux/openat2.h>
@@ -199,6 +200,71 @@ static KzFolderAnswer unlink_file(const KzFolder *folder, const char *path)
         return answer;
     int place = open_above(folder, path);
     return done(place, place != -1 && unlinkat(place, slash ? slash + 1 : path, 0) == 0 && sync_names(place));
+}
+
+/* ---- Names, for what the manager hasn't. */
+/* Seconds since 1970 as the kit's tenths of microseconds since 1601. */
+static int64_t time_of(const struct timespec *time)
+{
+    return (time->tv_sec + 11644473600LL) * 10000000LL + time->tv_nsec / 100;
+}
+
+void kz_folder_look(const KzFolder *folder, const char *path, KzFound *found)
+{
+    struct stat is;
+    int file = open_below(folder, *path ? path : ".", O_PATH);
+    *found = (KzFound){0};
+    if (file == -1)
+        return;
+    if (fstat(file, &is) == 0 && (S_ISREG(is.st_mode) || S_ISDIR(is.st_mode)))
+        *found = (KzFound){true, S_ISDIR(is.st_mode), S_ISREG(is.st_mode) ? (uint64_t)is.st_size : 0, time_of(&is.st_mtim)};
+    close(file);
+}
+
+void kz_folder_entries(const KzFolder *folder, const char *path, void (*say)(void *given, const char *name), void *given)
+{
+    int file = open_below(folder, *path ? path : ".", O_RDONLY | O_DIRECTORY);
+    DIR *place = file == -1 ? NULL : fdopendir(file);
+    for (const struct dirent *entry = place ? readdir(place) : NULL; entry; entry = readdir(place))
+        if (is_path((const uint8_t *)entry->d_name, strlen(entry->d_name)))
+            say(given, entry->d_name);
+    if (place)
+        closedir(place);
+}
+
+static const char *last_of(const char *path)
+{
+    const char *slash = strrchr(path, '/');
+    return slash ? slash + 1 : path;
+}
+
+static bool link_over(int from, const char *old, int to, const char *fresh)
+{
+    unlinkat(to, fresh, 0);
+    return linkat(from, old, to, fresh, 0) == 0;
+}
+
+KzFolderAnswer kz_folder_rename(const KzFolder *folder, const char *from, const char *to, bool is_link)
+{
+    int place = open_above(folder, from), other = open_above(folder, to);
+    bool is_right = place != -1 && other != -1 && (is_link ? link_over(place, last_of(from), other, last_of(to)) : renameat(place, last_of(from), other, last_of(to)) == 0) && sync_names(other);
+    int error = errno;
+    if (other != -1)
+        close(other);
+    errno = error;
+    return done(place, is_right && sync_names(place));
+}
+
+KzFolderAnswer kz_folder_make(const KzFolder *folder, const char *path)
+{
+    int place = open_above(folder, path);
+    return done(place, place != -1 && mkdirat(place, last_of(path), 0777) == 0 && sync_names(place));
+}
+
+KzFolderAnswer kz_folder_unlink(const KzFolder *folder, const char *path)
+{
+    int place = open_above(folder, path);
+    return done(place, place != -1 && (unlinkat(place, last_of(path), 0) == 0 || unlinkat(place, last_of(path), AT_REMOVEDIR) == 0) && sync_names(place));
 }
 
 static KzFolderAnswer list(const KzFolder *folder)

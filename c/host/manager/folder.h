@@ -22,7 +22,19 @@ int kz_open_folder(KzFolder *folder, const char *path);
 /* Carries out a call of the base as fltd's folder does: the path of its file, and what is written. */
 KzFolderAnswer kz_call_folder(KzFolder *folder, const KazdrinData *call, const char *path, const uint8_t *bytes);
 
-/* The call that the worker was lent is carried out below the folder of kz_use_folder, and returns with that; false if that isn't so, and nothing was done. */
-bool kz_call_base_folder(uint8_t worker);
+/* What is below it by that name. */
+typedef struct {
+    bool is_there, is_directory;
+    uint64_t size;
+    int64_t written; /* as the kit counts time */
+} KzFound;
+
+void kz_folder_look(const KzFolder *folder, const char *path, KzFound *found);
+/* Says the name of each entry of a folder. */
+void kz_folder_entries(const KzFolder *folder, const char *path, void (*say)(void *given, const char *name), void *given);
+/* What is there by the new name goes. */
+KzFolderAnswer kz_folder_rename(const KzFolder *folder, const char *from, const char *to, bool is_link);
+KzFolderAnswer kz_folder_make(const KzFolder *folder, const char *path);
+KzFolderAnswer kz_folder_unlink(const KzFolder *folder, const char *path);
 
 #endif

@@ -1,4 +1,7 @@
 /* The host's one state, and its calls of the manager. */
+#include "filesystem/answers.h"
+#include "filesystem/ranges.h"
+#include "manager/below.h"
 #include "run/beside.h"
 #include "run/expect.h"
 #include "user/program.h"
@@ -49,7 +52,7 @@ typedef struct {
 static bool is_free(void *busy)
 {
     const Busy *one = busy;
-    return kz.changes != one->changes && (!one->instance || !one->instance->in_flight);
+    return kz.changes != one->changes && (!one->instance || !one->instance->in_flight || kz_has_waiting(one->instance));
 }
 
 static bool wait_until_free(Busy *busy)
@@ -66,17 +69,27 @@ uint32_t kz_until_free(const char *name, KazdrinEvent event, PFLT_INSTANCE insta
     Busy busy = {instance, kz.changes};
     uint32_t status = kz_event(kz_worker(), event).status;
     while (status == KZS_BUSY && kz_has_others() && wait_until_free(&busy)) {
+        while (instance && kz_has_waiting(instance) && kz_drain_next(instance))
+            ; /* it came to wait after the teardown had drained */
         busy.changes = kz.changes;
         status = kz_event(kz_worker(), event).status;
     }
     return status;
 }
 
+enum { HELPERS = 32, SPARE = 12 };
+
+/* What stays with a helper leaves enough of them for what comes and goes. */
+bool kz_has_helpers(void)
+{
+    return __builtin_popcount(kz.helpers) < HELPERS - SPARE;
+}
+
 /* Another worker of the session, which is idle: it cleans up, or is in a callback, while the current one is in its own. */
 uint8_t kz_helper(void)
 {
     uint8_t place = 0;
-    while (place < 31 && kz.helpers >> place & 1)
+    while (place < HELPERS - 1 && kz.helpers >> place & 1)
         place++;
     kz.helpers |= (uint32_t)1 << place;
     return (uint8_t)(16 + place);
@@ -156,6 +169,10 @@ static void free_all(void)
     kz_free_devices();
     kz_free_handles();
     kz_free_sections();
+    kz_free_notices();
+    kz_free_ranges();
+    kz_free_labels();
+    kz_free_tree();
     kz_free_routines();
     kz_forget_threads();
     kz_free_own_threads();

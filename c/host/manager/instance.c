@@ -1,5 +1,5 @@
 /* Volumes and instances: how they come and go. */
-#include "host.h"
+#include "filesystem/answers.h"
 
 #include <stdlib.h>
 
@@ -253,6 +253,8 @@ uint32_t kz_detach(PFLT_INSTANCE instance)
 /* ---- Dismount, in the order of fm_worker's dismount: the instances are stopped, the handles are dropped, and then the instances end. */
 static uint32_t start_dismount(PFLT_VOLUME volume)
 {
+    kz_end_notices(NULL, volume); /* a file system that goes answers who waits in it */
+    kz_settle();
     uint32_t status = kz_event(kz_worker(), (KazdrinEvent){.event = KZE_START_DISMOUNT, .volume = volume->id}).status;
     if (status != KZS_OK)
         return status;

@@ -1,7 +1,9 @@
 /* Operations: each from its beginning to its reply, with all callbacks in between. */
+#include "manager/carrier.h"
+
+#include "filesystem/tree.h"
+#include "manager/base.h"
 #include "run/expect.h"
-#include "manager/below.h"
-#include "manager/folder.h"
 
 #include <stdlib.h>
 
@@ -57,7 +59,7 @@ KzOp *kz_new_op(uint64_t id, KazdrinEvent asked, KzFile *file, PFLT_VOLUME volum
     op->maker = kz_me->number;
     op->request = kz_me->request;
     op->line = kz_me->line_number;
-    op->path = file->path[0] ? kz_kept_text(file->path) : NULL;
+    op->path = *kz_name_now(file) ? kz_kept_text(kz_name_now(file)) : NULL;
     KzOp **place = &kz.ops;
     while (*place && (*place)->maker < op->maker)
         place = &(*place)->next;
@@ -67,7 +69,7 @@ KzOp *kz_new_op(uint64_t id, KazdrinEvent asked, KzFile *file, PFLT_VOLUME volum
 }
 
 /* Not before the last callback that looks at it has returned: a drain comes before the operation's turn. */
-static void free_op(KzOp *op)
+void kz_forget_op(KzOp *op)
 {
     op->stage = KZ_OVER;
     kz_scheduler->touch(&op->stage, 0, op->users ? KZT_GIVES : KZT_TAKES);
@@ -79,10 +81,17 @@ static void free_op(KzOp *op)
             break;
         }
     kz_free_ecps(op);
+    kz_free_carried(op);
     kz_free_data(op);
     kz_let_go_file(op->file);
     free(op);
     kz.changes++;
+}
+
+/* A shutdown, and what is asked of a device, has no file object. */
+static FLT_RELATED_OBJECTS objects_of(PFLT_INSTANCE instance, const KzOp *op)
+{
+    return kz_objects(instance, op->carried && op->carried->has_no_file ? NULL : op->file);
 }
 
 FLT_RELATED_OBJECTS kz_objects(PFLT_INSTANCE instance, KzFile *file)
@@ -133,7 +142,7 @@ KazdrinEvent kz_verdict_of(KzOp *op, PFLT_INSTANCE instance, FLT_PREOP_CALLBACK_
     case FLT_PREOP_SYNCHRONIZE:
         verdict.mode = said == FLT_PREOP_SYNCHRONIZE ? KZV_SYNCHRONIZE : KZV_WITH_CALLBACK;
         kz_sends(op, completion, &verdict);
-        if (!kz_registered(instance->filter, kz_major(op->event))->PostOperation)
+        if (!kz_registered(instance->filter, kz_major_of(op))->PostOperation)
             kz_tell(KZM_NO_POST, "FLT_PREOP_SUCCESS_WITH_CALLBACK", "no postoperation is registered: it counts as FLT_PREOP_SUCCESS_NO_CALLBACK");
         break;
     case FLT_PREOP_SUCCESS_NO_CALLBACK:
@@ -154,10 +163,10 @@ KazdrinEvent kz_verdict_of(KzOp *op, PFLT_INSTANCE instance, FLT_PREOP_CALLBACK_
  * returns: then that is its verdict. */
 static FLT_PREOP_CALLBACK_STATUS ask_pre(KzOp *op, PFLT_INSTANCE instance, PVOID *completion)
 {
-    PFLT_PRE_OPERATION_CALLBACK callback = kz_registered(instance->filter, kz_major(op->event))->PreOperation;
+    PFLT_PRE_OPERATION_CALLBACK callback = kz_registered(instance->filter, kz_major_of(op))->PreOperation;
     if (!callback)
         return FLT_PREOP_SUCCESS_WITH_CALLBACK;
-    FLT_RELATED_OBJECTS objects = kz_objects(instance, op->file);
+    FLT_RELATED_OBJECTS objects = objects_of(instance, op);
     op->stage = KZ_IN_PREOPERATION;
     unsigned depth = kz_let_driver("preoperation", callback);
     FLT_PREOP_CALLBACK_STATUS said = callback(op->data, &objects, completion);
@@ -180,7 +189,7 @@ bool kz_owes(KzOp *op, PFLT_INSTANCE instance, const KazdrinEvent *verdict)
 {
     if (verdict->mode == KZV_PENDING)
         return true;
-    return (verdict->mode == KZV_WITH_CALLBACK || verdict->mode == KZV_SYNCHRONIZE) && kz_registered(instance->filter, kz_major(op->event))->PostOperation;
+    return (verdict->mode == KZV_WITH_CALLBACK || verdict->mode == KZV_SYNCHRONIZE) && kz_registered(instance->filter, kz_major_of(op))->PostOperation;
 }
 
 static void enter_flight(KzOp *op, PFLT_INSTANCE instance)
@@ -230,7 +239,7 @@ static void pre(KzOp *op, PFLT_INSTANCE instance)
     if (kazdrin_pre_returned(&kz.manager, &verdict) == KZS_OK && said == FLT_PREOP_PENDING) {
         op->stage = KZ_HELD_BY_PRE;
         op->holder = instance;
-        op->holder_function = kz_registered(instance->filter, kz_major(op->event))->PreOperation;
+        op->holder_function = kz_registered(instance->filter, kz_major_of(op))->PreOperation;
     }
     if (!kz_owes(op, instance, &verdict))
         kz_leave_flight(op, instance);
@@ -298,8 +307,8 @@ static void post(KzOp *op, PFLT_INSTANCE instance, PVOID completion)
     kz_show_post(op, instance);
     if (op->event == KZE_CREATE && op->lent.status == KZS_OK && !op->is_cancelled)
         kz_file_answered(op->file, op->lent.information);
-    FLT_RELATED_OBJECTS objects = kz_objects(instance, op->file);
-    PFLT_POST_OPERATION_CALLBACK callback = kz_registered(instance->filter, kz_major(op->event))->PostOperation;
+    FLT_RELATED_OBJECTS objects = objects_of(instance, op);
+    PFLT_POST_OPERATION_CALLBACK callback = kz_registered(instance->filter, kz_major_of(op))->PostOperation;
     op->stage = KZ_IN_POSTOPERATION;
     unsigned depth = kz_let_driver("postoperation", callback);
     FLT_POSTOP_CALLBACK_STATUS said = callback(op->data, &objects, completion, 0);
@@ -327,7 +336,7 @@ static void post(KzOp *op, PFLT_INSTANCE instance, PVOID completion)
     if (kazdrin_post_returned(&kz.manager, &verdict) == KZS_OK && is_more) {
         op->stage = KZ_HELD_BY_POST;
         op->holder = instance;
-        op->holder_function = kz_registered(instance->filter, kz_major(op->event))->PostOperation;
+        op->holder_function = kz_registered(instance->filter, kz_major_of(op))->PostOperation;
     } else {
         kz_leave_flight(op, instance);
     }
@@ -337,14 +346,17 @@ static void post(KzOp *op, PFLT_INSTANCE instance, PVOID completion)
 /* The callback data of a drain is its own, since another filter may hold the operation: it says only what the operation is. */
 static void drain(KzOp *op, PFLT_INSTANCE instance, PVOID completion)
 {
-    FLT_IO_PARAMETER_BLOCK iopb = {.MajorFunction = kz_major(op->event), .TargetInstance = instance, .TargetFileObject = &op->file->object};
+    FLT_RELATED_OBJECTS objects = objects_of(instance, op);
+    FLT_IO_PARAMETER_BLOCK iopb = {.MajorFunction = kz_major_of(op),
+                                   .MinorFunction = op->carried ? op->carried->minor : IRP_MN_NORMAL,
+                                   .TargetInstance = instance,
+                                   .TargetFileObject = objects.FileObject};
     FLT_CALLBACK_DATA data = {.Flags = kz_data_flags(op) | FLTFL_CALLBACK_DATA_POST_OPERATION | FLTFL_CALLBACK_DATA_DRAINING_IO,
                               .Thread = op->thread,
                               .Iopb = &iopb,
                               .RequestorMode = op->own.is_own && !op->own.is_user ? KernelMode : UserMode};
     KzPlace before = kz_enter(KZ_IN_DRAIN, kz_worker(), instance->filter, instance, op, &data);
-    FLT_RELATED_OBJECTS objects = kz_objects(instance, op->file);
-    PFLT_POST_OPERATION_CALLBACK callback = kz_registered(instance->filter, kz_major(op->event))->PostOperation;
+    PFLT_POST_OPERATION_CALLBACK callback = kz_registered(instance->filter, kz_major_of(op))->PostOperation;
     op->users++;
     kz_scheduler->touch(&op->users, 0, KZT_TAKES);
     unsigned depth = kz_let_driver("drain", callback);
@@ -358,7 +370,7 @@ static void drain(KzOp *op, PFLT_INSTANCE instance, PVOID completion)
     kz_leave_flight(op, instance);
     op->users--;
     if (op->stage == KZ_OVER)
-        free_op(op);
+        kz_forget_op(op);
 }
 
 /* Has a stopping instance let go of what the first operation owes it, before its turn; false if none does. */
@@ -378,16 +390,14 @@ bool kz_drain_next(PFLT_INSTANCE instance)
 }
 
 /* ---- Turns. */
-/* The device may fail, but for a cleanup or a close. */
-static void call_base(KzOp *op)
+/* Whether an operation waits in the file system that owes the instance something: its teardown has it drained. */
+bool kz_has_waiting(PFLT_INSTANCE instance)
 {
-    KazdrinEvent event = {.worker = kz_worker(), .status = KZS_DEVICE_FAULT};
-    bool is_failed = op->event != KZE_CLEANUP && op->event != KZE_CLOSE && kz_refuses(KZ_CHOICE_DEVICE, "the device");
-    if (is_failed && kazdrin_based(&kz.manager, &event, (const uint8_t *)"", 0) == KZS_OK)
-        return;
-    op->comes_from_device = true;
-    if (!kz_call_base_folder(event.worker))
-        kazdrin_base(&kz.manager, &event);
+    for (const KzOp *op = kz.ops; op; op = op->next)
+        for (unsigned at = 0; op->is_waiting && at < op->owed_count; at++)
+            if (op->owed[at].instance == instance)
+                return true;
+    return false;
 }
 
 static Turn turn(KzOp *op)
@@ -407,11 +417,10 @@ static Turn turn(KzOp *op)
             pre(op, instance);
         return GOES;
     case KZA_BASE:
-        call_base(op);
-        return GOES;
+        return kz_call_base(op) ? GOES : HELD;
     case KZA_POST:
         if (op->event == KZE_CLEANUP)
-            op->file->object.Flags |= FO_CLEANUP_COMPLETE; /* a cleanup's turn at the file system is no call */
+            kz_cleanup_over(op->file); /* a cleanup's turn at the file system is no call */
         post(op, instance, completion);
         return GOES;
     case KZA_DRAIN:
@@ -484,7 +493,7 @@ static Turn carry_to_end(KzOp *op)
 {
     op->runner = kz_me;
     Turn made = carry(op);
-    while (made == HELD && waits_for(op)) {
+    while (made == HELD && !op->is_waiting && waits_for(op)) {
         op->stage = KZ_GOES_ON;
         made = carry(op);
     }
@@ -497,181 +506,17 @@ bool kz_carry_to_end(KzOp *op)
     return carry_to_end(op) == DONE;
 }
 
-/* ---- Replies. The kit's own status stands behind a number that stands for another. */
-void kz_print_reply(KzReply reply, NTSTATUS other, const uint8_t *bytes, size_t length)
+/* By whoever came to it, as far as it goes. */
+bool kz_carry(KzOp *op)
 {
-    kz_pass_reply(reply, bytes, length);
-    kz_note_reply(reply, bytes, length);
-    if (reply.held) {
-        kz_say(KZ_SAID_REPLY, "held %llu\n", (unsigned long long)reply.operation);
-        return;
-    }
-    kz_say(KZ_SAID_REPLY, "status %u", reply.status);
-    if (other)
-        kz_say(KZ_SAID_REPLY, " (0x%08x)", (unsigned)other);
-    kz_say(reply.is_handle ? KZ_SAID_HANDLE : KZ_SAID_REPLY, " info %llu bytes ", (unsigned long long)reply.information);
-    for (size_t at = 0; at < length; at++)
-        kz_say(KZ_SAID_REPLY, "%02x", bytes[at]);
-    kz_say(KZ_SAID_REPLY, length ? "\n" : "-\n");
-}
-
-static KzAnswer refused(uint32_t status)
-{
-    return (KzAnswer){.reply.status = status};
-}
-
-/* Of a done operation, which is forgotten. */
-KzAnswer kz_collect(KzOp *op)
-{
-    kz_pause("collect");
-    kz_clean_up(); /* a close is over, and with it the contexts of its handle: the caller is told behind that */
-    KazdrinTold told = kz_event_into(kz_worker(), (KazdrinEvent){.event = KZE_COLLECT, .operation = op->id}, kz_me->room, sizeof kz_me->room).told;
-    KzReply reply = {.status = told.status, .information = told.information, .operation = op->id};
-    KzAnswer answer = {.other = op->other, .length = told.length};
-    if (op->served.is_there) {
-        reply.information = op->served.number;
-        reply.status = op->served.has_status ? op->served.status : reply.status;
-        answer.length = op->served.bytes ? op->served.length : 0;
-        memcpy(kz_me->room, op->served.bytes ? op->served.bytes : (const uint8_t *)"", answer.length);
-    }
-    kz_scheduler->touch(op->file, 0, KZT_GIVES);
-    if (op->other == STATUS_REPARSE)
-        kz_note_reparse(op);
-    if (op->is_cancelled && reply.status == KZS_OK) {
-        reply = kz_cancelled(op, &answer.other);
-    } else if (op->event == KZE_CREATE && reply.status == KZS_OK) {
-        kz_file_answered(op->file, reply.information);
-        op->file->is_opening = false;
-        reply.is_handle = 1;
-        op->file->has_handle = true;
-        op->file->users++;
-        kz_scheduler->touch(&op->file->handle, 0, KZT_GIVES);
-    } else if (op->event == KZE_SET_DELETE && reply.status == KZS_OK) {
-        op->file->object.DeletePending = TRUE;
-    } else if (op->event == KZE_CLOSE && reply.status == KZS_OK) {
-        kz_drop_file(op->file->handle);
-    }
-    free_op(op);
-    answer.reply = reply;
-    return answer;
-}
-
-static KzAnswer run(KazdrinEvent asked, const void *bytes, size_t length, const char *path);
-
-static void put_answer(KzAnswer answer)
-{
-    kz_print_reply(answer.reply, answer.other, kz_me->room, answer.length);
-}
-
-/* The close of a file whose handle was closed while operations on it went on; false if none is due. */
-static bool close_due(void)
-{
-    KzFile *file = kz.files;
-    while (file && !(file->is_close_due && file->users == 1))
-        file = file->next;
-    if (!file)
-        return false;
-    if (file->is_own) {
-        kz_close_if_due(file);
-        return true;
-    }
-    file->is_close_due = false;
-    run((KazdrinEvent){.event = KZE_CLOSE, .handle = file->handle}, "", 0, NULL);
-    return true;
-}
-
-static KzAnswer begin_create(void *unused, KazdrinEvent asked, const char *path)
-{
-    (void)unused;
-    return run(asked, path, strlen(path), path);
-}
-
-static void carry_resumed(void)
-{
-    KzOp *op = kz.resumed;
-    kz.resumed = op->next_resumed;
-    if (!kz.resumed)
-        kz.resumed_end = &kz.resumed;
     Turn made;
-    KzPlace before = kz_me->place;
     op->runner = kz_me;
-    if (op->own.is_own)
-        kz_me->place.worker = op->own.worker; /* what a filter began stays with the worker that it has */
     do {
         op->stage = KZ_GOES_ON;
         made = carry(op);
     } while (made == HELD && is_resumed(op));
     op->runner = NULL;
-    kz_me->place = before;
-    if (made != DONE)
-        return;
-    if (op->own.is_own) {
-        kz_end_below(op);
-        return;
-    }
-    kz_say(KZ_SAID_REPLY, KZ_OPERATION ": ", (unsigned long long)op->id);
-    put_answer(kz_follow(kz_collect(op), NULL, begin_create));
-}
-
-/* What was let go on, what is due, and what waits for its turn, until nothing of it is left. */
-void kz_settle(void)
-{
-    do {
-        while (kz.resumed)
-            carry_resumed();
-        kz_clean_up();
-    } while (close_due() || kz_let_others() || kz.resumed);
-}
-
-/* A driver's own handle is no client's, nor is one before its create is over. */
-static bool may_ask(const KazdrinEvent *asked)
-{
-    bool is_on_volume = asked->event == KZE_CREATE || asked->event == KZE_LIST;
-    for (const KzFile *file = kz.files; !is_on_volume && file; file = file->next)
-        if ((file->has_handle || file->is_opening) && file->handle == asked->handle)
-            return file->has_handle && !file->is_own;
-    return true;
-}
-
-/* Begins an operation and carries it on. Refused, it has no reply but the status. */
-static KzAnswer run(KazdrinEvent asked, const void *bytes, size_t length, const char *path)
-{
-    if (!may_ask(&asked))
-        return refused(KZS_NO_HANDLE);
-    KzTold begun = kz_event_with(kz_worker(), asked, bytes, length);
-    if (begun.status != KZS_OK)
-        return refused(begun.status);
-    uint64_t id = begun.told.operation;
-    bool is_on_volume = asked.event == KZE_CREATE || asked.event == KZE_LIST;
-    KzFile *file = is_on_volume ? kz_new_file(kz.volumes[asked.volume], asked.event == KZE_LIST ? "" : path, asked.event == KZE_LIST) : kz_file_of(asked.handle);
-    KzOp *op = kz_new_op(id, asked, file, file->volume);
-    if (carry_to_end(op) == DONE)
-        return kz_collect(op);
-    return (KzAnswer){.reply = {.held = 1, .operation = id}};
-}
-
-KzReply kz_perform(KazdrinEvent asked, const void *bytes, size_t length, const char *path)
-{
-    KzAnswer answer = kz_follow(run(asked, bytes, length, path), NULL, begin_create);
-    put_answer(answer);
-    kz_settle();
-    return answer.reply;
-}
-
-/* A cleanup and then the close; the close alone if the cleanup was made before. */
-KzReply kz_close_file(uint64_t handle)
-{
-    KzAnswer answer = run((KazdrinEvent){.event = KZE_CLEANUP, .handle = handle}, "", 0, NULL);
-    KzReply reply = answer.reply;
-    KzFile *file = !reply.held && reply.status == KZS_OK ? kz_file_of(handle) : NULL;
-    if (file && file->users > 1 && (kz_has_others() || kz_is_referenced(&file->object)))
-        file->is_close_due = true; /* as in the kit: whoever ends the last operation of a file object closes it */
-    else if (!reply.held && (reply.status == KZS_OK || reply.status == KZS_WRONG_STEP))
-        answer = run((KazdrinEvent){.event = KZE_CLOSE, .handle = handle}, "", 0, NULL);
-    answer.length = 0;
-    put_answer(answer);
-    kz_settle();
-    return answer.reply;
+    return made == DONE;
 }
 
 void kz_tell_held(void)
@@ -707,11 +552,12 @@ void kz_free_ops(void)
     kz.resumed = NULL;
     while (kz.ops) {
         kz.ops->users = 0;
-        free_op(kz.ops);
+        kz_forget_op(kz.ops);
     }
     while (kz.files) {
         KzFile *file = kz.files;
         kz.files = file->next;
+        kz_let_go_name(file->name);
         if (kz_piece_of(file->object.FileName.Buffer))
             kz_give_back(file->object.FileName.Buffer);
         free(file);

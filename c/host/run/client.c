@@ -22,6 +22,7 @@ void kz_new_client(KzClient *client, const char *name, unsigned number)
     client->busy = (KazdrinEvent){0};
     client->busy_number = 0;
     client->names_count = 0;
+    client->says[0] = 0;
     client->waits[0] = 0;
     client->beside = NULL;
     client->request = NULL;

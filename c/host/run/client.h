@@ -33,6 +33,7 @@ struct KzClient {
     KzThread *beside; /* the thread that it is, beside the requests; NULL for those of requests and of work items */
     KzWaits why;      /* it waits, and for what */
     char waits[160];
+    char says[4096]; /* its last answer as text, up to its reply */
     char reparsed[320]; /* the name that its last create was answered with, and how that is to be opened */
     uint8_t reparsed_mode;
     const char *request; /* what it asks for, in words, for what is told; NULL if that isn't known */

@@ -6,6 +6,8 @@
 static unsigned line, request_line, unmet;
 static char command[256], callbacks[2048];
 static KzReply reply;
+static NTSTATUS other; /* of the reply: the kit's own, where it is another one */
+static char says[4096];
 static uint8_t bytes[KZ_BYTES];
 static size_t length;
 static struct {
@@ -62,6 +64,8 @@ void kz_note_request(const char *words)
     request_line = line;
     callbacks[0] = 0;
     reply = (KzReply){0};
+    other = STATUS_SUCCESS;
+    says[0] = 0;
     told_count = length = 0;
 }
 
@@ -113,21 +117,33 @@ void kz_note_again(const KzSaid *said)
         note_message(said, true);
 }
 
-void kz_note_reply(KzReply answer, const uint8_t *from, size_t size)
+static void report_reply(void)
 {
-    char members[256];
+    char members[5200], text[4800];
+    if (reply.held)
+        snprintf(members, sizeof members, "\"operation\": %llu", (unsigned long long)reply.operation);
+    else
+        snprintf(members, sizeof members, "\"status\": %u, \"information\": %llu, \"length\": %zu", reply.status, (unsigned long long)reply.information, length);
+    size_t used = strlen(members);
+    if (*says && !reply.held) {
+        kz_json_text(text, sizeof text, says);
+        snprintf(members + used, sizeof members - used, ", \"says\": %s", text);
+    }
+    kz_report_event(reply.held ? "Held" : "Reply", members);
+}
+
+void kz_note_reply(KzReply answer, NTSTATUS status, const uint8_t *from, size_t size, const char *text)
+{
     if (!is_watched())
         return;
     reply = answer;
+    other = status;
+    snprintf(says, sizeof says, "%s", text);
     length = size < sizeof bytes ? size : sizeof bytes;
     if (length)
         memcpy(bytes, from, length);
-    if (!kz_is_json())
-        return;
-    snprintf(members, sizeof members, "\"status\": %u, \"information\": %llu, \"length\": %zu", answer.status, (unsigned long long)answer.information, length);
-    if (answer.held)
-        snprintf(members, sizeof members, "\"operation\": %llu", (unsigned long long)answer.operation);
-    kz_report_event(answer.held ? "Held" : "Reply", members);
+    if (kz_is_json())
+        report_reply();
 }
 
 const uint8_t *kz_reply_bytes(size_t *size)
@@ -177,13 +193,29 @@ static bool is_told(const char *id, char *now, size_t size)
     return is_nothing && !told_count;
 }
 
+/* A number of the manager's, or the kit's own status by its name or as 0xc0000022. */
+static bool is_status(const char *value, char *now, size_t size)
+{
+    char *end;
+    NTSTATUS status = other ? other : kz_ntstatus(reply.status);
+    int64_t wanted = strncmp(value, "0x", 2) == 0 ? (int64_t)strtoul(value, &end, 16) : kz_status_named(value);
+    if (wanted < 0 || reply.held) {
+        snprintf(now, size, reply.held ? "held" : "status %u", reply.status);
+        return !reply.held && strtoul(value, &end, 10) == reply.status && !*end;
+    }
+    snprintf(now, size, "status 0x%08x", (unsigned)status);
+    return (uint32_t)wanted == (uint32_t)status;
+}
+
 /* Whether it is met; `now` is what there is instead. */
 static bool is_met(const char *kind, const char *value, char *now, size_t size)
 {
     char *end;
-    if (strcmp(kind, "status") == 0) {
-        snprintf(now, size, reply.held ? "held" : "status %u", reply.status);
-        return !reply.held && strtoul(value, &end, 10) == reply.status && !*end;
+    if (strcmp(kind, "status") == 0)
+        return is_status(value, now, size);
+    if (strcmp(kind, "says") == 0) {
+        snprintf(now, size, "says %s", *says ? says : "nothing");
+        return strcmp(now + 5, value) == 0;
     }
     if (strcmp(kind, "info") == 0) {
         snprintf(now, size, "info %llu", (unsigned long long)reply.information);
@@ -202,7 +234,7 @@ static bool is_met(const char *kind, const char *value, char *now, size_t size)
 
 static bool is_kind(const char *kind)
 {
-    static const char *const kinds[] = {"status", "info", "bytes", "callbacks", "told"};
+    static const char *const kinds[] = {"status", "info", "bytes", "says", "callbacks", "told"};
     for (size_t at = 0; at < sizeof kinds / sizeof kinds[0]; at++)
         if (strcmp(kinds[at], kind) == 0)
             return true;

@@ -10,7 +10,7 @@ void kz_note_callback(KzCallback callback, PFLT_FILTER filter);
 void kz_note_told(const KzSaid *said, bool is_counted);
 /* One that is no line of its own. */
 void kz_note_again(const KzSaid *said);
-void kz_note_reply(KzReply reply, const uint8_t *bytes, size_t length);
+void kz_note_reply(KzReply reply, NTSTATUS other, const uint8_t *bytes, size_t length, const char *says);
 bool kz_fails_now(KzChoice what);
 /* A run begins with no call that is to fail. */
 void kz_forget_fails(void);
@@ -26,6 +26,12 @@ unsigned kz_line(void);
 unsigned kz_request_line(void);
 const char *kz_command(void);
 const char *kz_callback_word(KzCallback callback);
+
+/* statusnames.c; -1: it is none. */
+int64_t kz_status_named(const char *name);
+
+/* says.c: the text of an answer, into the client's room for it. */
+void kz_say_answer(const KzCarried *carried, size_t length);
 
 /* report.c */
 bool kz_is_json(void);

@@ -132,6 +132,8 @@ static const Meaning meanings[] = {
     {KZM_CACHE, "the cache manager", "files are cached", "nothing: that part can't be tried"},
     {KZM_ECP, "extra create parameters of lookaside lists, and the calls of FsRtl on them", "they are there", "use the calls of the filter manager"},
     {KZM_CRYPTO, "cryptography: the routines of bcrypt.h", "it is done", "nothing: that part can't be tried"},
+    {KZM_MARK_STAYS, "a deletion by FileDispositionInformation that is taken back: creates of the file are refused until its handles are closed; then it stays", "it can be opened again at once",
+     "mark it by FileDispositionInformationEx in the test, which is taken back as there"},
 };
 
 enum { COUNT = sizeof meanings / sizeof meanings[0] };

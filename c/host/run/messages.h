@@ -132,6 +132,8 @@ typedef enum {
     KZM_CACHE = 253,
     KZM_ECP = 254,
     KZM_CRYPTO = 255,
+    /* Names. */
+    KZM_MARK_STAYS = 256,
     KZM_MESSAGES = 300
 } KzMessage;
 

@@ -97,7 +97,7 @@ static void add_place(Members *members, const KzSaid *said)
         add(members, ", \"instance\": %u", place->instance->id);
     add_text(members, "callback", kz_callback_word(place->callback));
     if (place->op)
-        add(members, ", \"operation\": %llu, \"major\": \"%s\"", (unsigned long long)place->op_id, FltGetIrpName(kz_major(place->event)));
+        add(members, ", \"operation\": %llu, \"major\": \"%s\"", (unsigned long long)place->op_id, FltGetIrpName(place->major));
     add_text(members, "request", place->request);
     if (place->line)
         add(members, ", \"request_line\": %u", place->line);

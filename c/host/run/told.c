@@ -49,7 +49,7 @@ KzPlace kz_enter(KzCallback callback, uint8_t worker, PFLT_FILTER filter, PFLT_I
                              .instance = instance,
                              .op = op,
                              .op_id = op ? op->id : 0,
-                             .event = op ? op->event : 0,
+                             .major = op ? kz_major_of(op) : 0,
                              .data = data,
                              .number = ++kz_me->places,
                              .depth = before.depth + 1,
@@ -109,7 +109,7 @@ size_t kz_place_text(char *room, size_t size)
         add(room, size, &used, ", instance %u", place->instance->id);
     add(room, size, &used, ", %s", callbacks[place->callback]);
     if (place->op)
-        add(room, size, &used, ", " KZ_OPERATION ", %s", (unsigned long long)place->op_id, FltGetIrpName(kz_major(place->event)));
+        add(room, size, &used, ", " KZ_OPERATION ", %s", (unsigned long long)place->op_id, FltGetIrpName(place->major));
     return used;
 }
 

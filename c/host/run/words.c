@@ -1,13 +1,14 @@
 /* Requests in words, one a line, and runs of them. */
 #include "run/expect.h"
+#include "run/words.h"
 #include "user/program.h"
 
 #include <stdlib.h>
 
-#define WORDS 8
+#define WORDS 9
 
 /* ---- Single words. */
-static bool read_number(const char *word, uint64_t limit, uint64_t *number)
+bool kz_read_number(const char *word, uint64_t limit, uint64_t *number)
 {
     *number = 0;
     if (!*word)
@@ -26,7 +27,7 @@ static int digit(char letter)
     return found ? (int)(found - digits) : -1;
 }
 
-static bool read_hex(const char *word, uint8_t *bytes, size_t *length)
+bool kz_read_hex(const char *word, uint8_t *bytes, size_t *length)
 {
     for (*length = 0; *word; word += 2) {
         int high = digit(word[0]), low = high < 0 ? -1 : digit(word[1]);
@@ -45,17 +46,17 @@ static bool read_filter(const char *word, uint64_t *number)
             *number = at;
             return true;
         }
-    return read_number(word, 256, number);
+    return kz_read_number(word, 256, number);
 }
 
-static bool read_volume(const char *word, uint64_t *number)
+bool kz_read_volume(const char *word, uint64_t *number)
 {
     for (size_t at = kz.volumes_count; at-- > 0;)
         if (strcmp(kz.volumes[at]->name, word) == 0) {
             *number = at;
             return true;
         }
-    return read_number(word, 256, number);
+    return kz_read_number(word, 256, number);
 }
 
 static bool read_instance(const char *word, uint64_t *number)
@@ -65,10 +66,10 @@ static bool read_instance(const char *word, uint64_t *number)
             *number = at;
             return true;
         }
-    return read_number(word, 65536, number);
+    return kz_read_number(word, 65536, number);
 }
 
-static bool read_handle(const char *word, uint64_t *number)
+bool kz_read_handle(const char *word, uint64_t *number)
 {
     const KzClient *clients[] = {kz_me, &kz_first};
     for (int who = 0; who < 2; who++)
@@ -77,15 +78,15 @@ static bool read_handle(const char *word, uint64_t *number)
                 *number = clients[who]->names[at].handle;
                 return true;
             }
-    return read_number(word, UINT64_MAX, number);
+    return kz_read_number(word, UINT64_MAX, number);
 }
 
-static bool is_name(const char *word)
+bool kz_is_name(const char *word)
 {
     return !(*word >= '0' && *word <= '9') && strlen(word) < sizeof kz_me->names[0].name;
 }
 
-static void name_handle(const char *word, uint64_t handle)
+void kz_name_handle(const char *word, uint64_t handle)
 {
     size_t at = 0;
     while (at < kz_me->names_count && strcmp(kz_me->names[at].name, word) != 0)
@@ -136,7 +137,7 @@ static KzReply said(KzReply reply)
     return reply;
 }
 
-static KzReply wrong(void)
+KzReply kz_wrong(void)
 {
     __atomic_store_n(&is_wrong, true, __ATOMIC_RELAXED);
     return said(bad);
@@ -173,7 +174,7 @@ static KzReply ask_mount(char **words)
     struct _FLT_VOLUME tried;
     kz_new_volume(&tried);
     if (!set_volume(&tried, words + 2))
-        return wrong();
+        return kz_wrong();
     uint32_t status = kz_mount(words[1], &number);
     note_refused(status);
     if (status != KZS_OK)
@@ -187,8 +188,8 @@ static KzReply ask_mount(char **words)
 static KzReply ask_volume(char **words)
 {
     uint64_t at;
-    if (!read_volume(words[1], &at) || at >= kz.volumes_count || !set_volume(kz.volumes[at], words + 2))
-        return wrong();
+    if (!kz_read_volume(words[1], &at) || at >= kz.volumes_count || !set_volume(kz.volumes[at], words + 2))
+        return kz_wrong();
     return outcome(KZS_OK, 0);
 }
 
@@ -197,10 +198,10 @@ static KzReply ask_as(char **words)
 {
     uint64_t process, thread;
     bool has_thread = words[3] && strcmp(words[3], "thread") == 0, has_user = words[3] && strcmp(words[3], "user") == 0;
-    if (strcmp(words[1], "process") != 0 || !read_number(words[2], UINT32_MAX, &process) || (words[3] && (!words[4] || !(has_thread || has_user))))
-        return wrong();
-    if ((has_user && !kz_is_sid(words[4])) || !read_number(has_thread ? words[4] : "0", UINT32_MAX, &thread))
-        return wrong();
+    if (strcmp(words[1], "process") != 0 || !kz_read_number(words[2], UINT32_MAX, &process) || (words[3] && (!words[4] || !(has_thread || has_user))))
+        return kz_wrong();
+    if ((has_user && !kz_is_sid(words[4])) || !kz_read_number(has_thread ? words[4] : "0", UINT32_MAX, &thread))
+        return kz_wrong();
     kz_me->process = process;
     kz_me->thread = has_thread ? thread : process + 4;
     if (has_user)
@@ -214,10 +215,10 @@ static KzReply ask_process(char **words)
     uint64_t id, parent;
     NTSTATUS other = STATUS_SUCCESS;
     bool is_start = strcmp(words[1], "start") == 0;
-    if ((!is_start && strcmp(words[1], "end") != 0) || !read_number(words[2], UINT32_MAX, &id) || (words[3] != NULL) != is_start)
-        return wrong();
-    if (is_start && (!words[4] || !read_number(words[3], UINT32_MAX, &parent)))
-        return wrong();
+    if ((!is_start && strcmp(words[1], "end") != 0) || !kz_read_number(words[2], UINT32_MAX, &id) || (words[3] != NULL) != is_start)
+        return kz_wrong();
+    if (is_start && (!words[4] || !kz_read_number(words[3], UINT32_MAX, &parent)))
+        return kz_wrong();
     uint32_t status = is_start ? kz_begin_process(id, parent, words[4], &other) : kz_end_process(id);
     KzReply reply = {.status = status};
     kz_print_reply(reply, other, NULL, 0);
@@ -228,8 +229,8 @@ static KzReply ask_process(char **words)
 static KzReply ask_time(char **words)
 {
     uint64_t milliseconds;
-    if (!read_number(words[1], (uint64_t)1 << 40, &milliseconds))
-        return wrong();
+    if (!kz_read_number(words[1], (uint64_t)1 << 40, &milliseconds))
+        return kz_wrong();
     kz_pass(milliseconds);
     kz_settle();
     return outcome(KZS_OK, 0);
@@ -260,8 +261,8 @@ static KzReply ask_cancel(char **words)
 {
     uint64_t number = 0;
     bool is_first = strcmp(words[1], "held") == 0;
-    if (!is_first && !read_number(words[1], UINT64_MAX, &number))
-        return wrong();
+    if (!is_first && !kz_read_number(words[1], UINT64_MAX, &number))
+        return kz_wrong();
     KzReply reply = outcome(kz_cancel(is_first, number), 0);
     kz_settle();
     return reply;
@@ -269,22 +270,22 @@ static KzReply ask_cancel(char **words)
 
 static KzReply ask_registry(char **words)
 {
-    return kz_read_registry(words[1]) ? outcome(KZS_OK, 0) : wrong();
+    return kz_read_registry(words[1]) ? outcome(KZS_OK, 0) : kz_wrong();
 }
 
 /* The Nth call of a kind from here on fails: `fail device 3`. */
 static KzReply ask_fail(char **words)
 {
-    return kz_fail(words) ? outcome(KZS_OK, 0) : wrong();
+    return kz_fail(words) ? outcome(KZS_OK, 0) : kz_wrong();
 }
 
 static KzReply ask_attach(char **words)
 {
     uint64_t filter, volume, number = 0;
-    if (!read_filter(words[1], &filter) || !read_volume(words[2], &volume))
-        return wrong();
-    if (words[5] && (strcmp(words[4], "as") != 0 || !is_name(words[5])))
-        return wrong();
+    if (!read_filter(words[1], &filter) || !kz_read_volume(words[2], &volume))
+        return kz_wrong();
+    if (words[5] && (strcmp(words[4], "as") != 0 || !kz_is_name(words[5])))
+        return kz_wrong();
     const char *altitude = words[5] ? words[3] : words[4], *name = words[5] ? words[5] : words[3];
     note_refused(KZS_NO_FILTER); /* until it is attached */
     if (filter >= kz.filters_count)
@@ -309,7 +310,7 @@ static KzReply ask_detach(char **words)
 {
     uint64_t at;
     if (!read_instance(words[1], &at))
-        return wrong();
+        return kz_wrong();
     return ended(at < kz.instances_count ? kz_detach(kz.instances[at]) : KZS_NO_INSTANCE);
 }
 
@@ -317,15 +318,15 @@ static KzReply ask_unload(char **words)
 {
     uint64_t at;
     if (!read_filter(words[1], &at))
-        return wrong();
+        return kz_wrong();
     return ended(at < kz.filters_count ? kz_unload(kz.filters[at]) : KZS_NO_FILTER);
 }
 
 static KzReply ask_dismount(char **words)
 {
     uint64_t at;
-    if (!read_volume(words[1], &at))
-        return wrong();
+    if (!kz_read_volume(words[1], &at))
+        return kz_wrong();
     return ended(at < kz.volumes_count ? kz_dismount(kz.volumes[at]) : KZS_NO_VOLUME);
 }
 
@@ -336,27 +337,27 @@ static KzReply ask_create(char **words)
     uint8_t mode = 0;
     while (mode < 3 && strcmp(modes[mode], words[2]) != 0)
         mode++;
-    if (mode == 3 || !read_volume(words[1], &volume) || (words[4] && (strcmp(words[4], "as") != 0 || !words[5] || !is_name(words[5]))))
-        return wrong();
+    if (mode == 3 || !kz_read_volume(words[1], &volume) || (words[4] && (strcmp(words[4], "as") != 0 || !words[5] || !kz_is_name(words[5]))))
+        return kz_wrong();
     KzReply reply = kz_perform((KazdrinEvent){.event = KZE_CREATE, .volume = (uint8_t)volume, .mode = mode}, words[3], strlen(words[3]), words[3]);
     if (words[4] && !reply.status && !reply.held)
-        name_handle(words[5], reply.information);
+        kz_name_handle(words[5], reply.information);
     return reply;
 }
 
 static KzReply ask_list(char **words)
 {
     uint64_t volume;
-    if (!read_volume(words[1], &volume))
-        return wrong();
+    if (!kz_read_volume(words[1], &volume))
+        return kz_wrong();
     return kz_perform((KazdrinEvent){.event = KZE_LIST, .volume = (uint8_t)volume}, "", 0, NULL);
 }
 
 static KzReply ask_read(char **words)
 {
     uint64_t handle, offset, length;
-    if (!read_handle(words[1], &handle) || !read_number(words[2], UINT64_MAX, &offset) || !read_number(words[3], KZ_BYTES + 1, &length))
-        return wrong();
+    if (!kz_read_handle(words[1], &handle) || !kz_read_number(words[2], UINT64_MAX, &offset) || !kz_read_number(words[3], KZ_BYTES + 1, &length))
+        return kz_wrong();
     return kz_perform((KazdrinEvent){.event = KZE_READ, .handle = handle, .offset = offset, .len = (uint32_t)length}, "", 0, NULL);
 }
 
@@ -365,24 +366,24 @@ static KzReply ask_write(char **words)
     uint8_t *bytes = kz_me->bytes;
     uint64_t handle, offset;
     size_t length;
-    if (!read_handle(words[1], &handle) || !read_number(words[2], UINT64_MAX, &offset) || !read_hex(words[3], bytes, &length))
-        return wrong();
+    if (!kz_read_handle(words[1], &handle) || !kz_read_number(words[2], UINT64_MAX, &offset) || !kz_read_hex(words[3], bytes, &length))
+        return kz_wrong();
     return kz_perform((KazdrinEvent){.event = KZE_WRITE, .handle = handle, .offset = offset}, bytes, length, NULL);
 }
 
 static KzReply ask_set_size(char **words)
 {
     uint64_t handle, size;
-    if (!read_handle(words[1], &handle) || !read_number(words[2], UINT64_MAX, &size))
-        return wrong();
+    if (!kz_read_handle(words[1], &handle) || !kz_read_number(words[2], UINT64_MAX, &size))
+        return kz_wrong();
     return kz_perform((KazdrinEvent){.event = KZE_SET_SIZE, .handle = handle, .offset = size}, "", 0, NULL);
 }
 
 static KzReply on_handle(char **words, uint32_t event)
 {
     uint64_t handle;
-    if (!read_handle(words[1], &handle))
-        return wrong();
+    if (!kz_read_handle(words[1], &handle))
+        return kz_wrong();
     return kz_perform((KazdrinEvent){.event = event, .handle = handle}, "", 0, NULL);
 }
 
@@ -396,24 +397,27 @@ static KzReply ask_flush(char **words)
     return on_handle(words, KZE_FLUSH);
 }
 
+/* The mark is the manager's; where the file system has a word in it, it is asked. */
 static KzReply ask_set_delete(char **words)
 {
-    return on_handle(words, KZE_SET_DELETE);
+    uint64_t handle;
+    const FILE_DISPOSITION_INFORMATION gone = {TRUE};
+    if (!kz_read_handle(words[1], &handle))
+        return kz_wrong();
+    if (kz_marks_by_itself(kz_file_of(handle)))
+        return on_handle(words, KZE_SET_DELETE);
+    return kz_set_file(handle, FileDispositionInformation, &gone, sizeof gone);
 }
 
 static KzReply ask_close(char **words)
 {
     uint64_t handle;
-    return read_handle(words[1], &handle) ? kz_close_file(handle) : wrong();
+    return kz_read_handle(words[1], &handle) ? kz_close_file(handle) : kz_wrong();
 }
 
 /* How many words each has, with its name: at least, and at most. */
-static const struct {
-    const char *name;
-    size_t least, most;
-    KzReply (*ask)(char **words);
-} requests[] = {
-    {"load", 2, 3, ask_load},         {"mount", 2, 6, ask_mount},         {"volume", 3, 7, ask_volume},         {"attach", 5, 6, ask_attach},
+static const KzRequest requests[] = {
+    {"load", 2, 3, ask_load},         {"mount", 2, 7, ask_mount},         {"volume", 3, 8, ask_volume},         {"attach", 5, 6, ask_attach},
     {"detach", 2, 2, ask_detach},     {"unload", 2, 2, ask_unload},       {"dismount", 2, 2, ask_dismount},     {"create", 4, 6, ask_create},
     {"list", 2, 2, ask_list},         {"read", 4, 4, ask_read},           {"write", 4, 4, ask_write},           {"setsize", 3, 3, ask_set_size},
     {"querysize", 2, 2, ask_query_size}, {"flush", 2, 2, ask_flush},      {"setdelete", 2, 2, ask_set_delete},  {"close", 2, 2, ask_close},
@@ -421,6 +425,17 @@ static const struct {
     {"fail", 3, 3, ask_fail},         {"start", 2, WORDS, ask_start},     {"type", 3, WORDS, ask_type},
     {"cancel", 2, 2, ask_cancel},     {"process", 3, 5, ask_process},
 };
+
+static const KzRequest *request_of(const char *word)
+{
+    for (size_t at = 0; at < sizeof requests / sizeof requests[0]; at++)
+        if (strcmp(requests[at].name, word) == 0)
+            return &requests[at];
+    const KzRequest *one = kz_major_requests;
+    while (one->name && strcmp(one->name, word) != 0)
+        one++;
+    return one->name ? one : NULL;
+}
 
 /* ---- Lines. */
 static size_t split(char *line, char **words)
@@ -438,11 +453,11 @@ KzReply kz_request_as(const char *line, const char *asked)
     char *words[WORDS + 1];
     const char *expected = line + strspn(line, " \t");
     if (strlen(line) >= sizeof kz_me->line)
-        return wrong();
+        return kz_wrong();
     if (strncmp(expected, "expect ", 7) == 0) {
         kz_say(KZ_SAID_REQUEST, "> %.900s%s", expected, strchr(expected, '\n') ? "" : "\n");
         seen.is_refused = false;
-        return kz_expect(expected + 7) ? (KzReply){0} : wrong();
+        return kz_expect(expected + 7) ? (KzReply){0} : kz_wrong();
     }
     strcpy(kz_me->line, line);
     size_t count = split(kz_me->line, words);
@@ -461,10 +476,8 @@ KzReply kz_request_as(const char *line, const char *asked)
     for (size_t at = 0; at < count; at++)
         kz_say(KZ_SAID_REQUEST, " %s", words[at]);
     kz_say(KZ_SAID_REQUEST, "\n");
-    for (size_t at = 0; at < sizeof requests / sizeof requests[0]; at++)
-        if (strcmp(requests[at].name, words[0]) == 0)
-            return count >= requests[at].least && count <= requests[at].most ? requests[at].ask(words) : wrong();
-    return wrong();
+    const KzRequest *one = request_of(words[0]);
+    return one && count >= one->least && count <= one->most ? one->ask(words) : kz_wrong();
 }
 
 KzReply kz_request(const char *line)

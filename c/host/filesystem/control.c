@@ -1,0 +1,167 @@
+/* What the file system makes of the other operations: extended attributes, security, quotas, locks of bytes, control codes, sections, and what has no file. */
+#include "filesystem/answers.h"
+
+#include "filesystem/ranges.h"
+#include "manager/carrier.h"
+
+/* ---- Extended attributes: a chain, as it was set. */
+static bool is_chain(const uint8_t *bytes, size_t length, size_t *wrong)
+{
+    const size_t head = offsetof(FILE_FULL_EA_INFORMATION, EaName);
+    for (*wrong = 0; *wrong + head <= length;) {
+        const FILE_FULL_EA_INFORMATION *one = (const void *)(bytes + *wrong);
+        size_t size = head + one->EaNameLength + 1u + one->EaValueLength;
+        if (!one->EaNameLength || *wrong + size > length || one->EaName[one->EaNameLength])
+            return false;
+        if (!one->NextEntryOffset)
+            return true;
+        if (one->NextEntryOffset < size || one->NextEntryOffset % 4)
+            return false;
+        *wrong += one->NextEntryOffset;
+    }
+    return false;
+}
+
+static NTSTATUS set_ea(KzOp *op, const FLT_PARAMETERS *now)
+{
+    size_t wrong;
+    KzName *name = op->file->name;
+    if (now->SetEa.Length && !is_chain(now->SetEa.EaBuffer, now->SetEa.Length, &wrong)) {
+        op->carried->information = wrong;
+        return STATUS_EA_LIST_INCONSISTENT;
+    }
+    kz_keep_bytes(&name->node->ea, now->SetEa.EaBuffer, now->SetEa.Length);
+    kz_notify(name, FILE_NOTIFY_CHANGE_EA, FILE_ACTION_MODIFIED);
+    return STATUS_SUCCESS;
+}
+
+static NTSTATUS query_ea(KzOp *op, const FLT_PARAMETERS *now)
+{
+    const KzBytes *kept = &op->file->name->node->ea;
+    if (!kept->length)
+        return STATUS_NO_EAS_ON_FILE;
+    if (now->QueryEa.Length < kept->length)
+        return STATUS_BUFFER_OVERFLOW;
+    memcpy(now->QueryEa.EaBuffer, kept->bytes, op->carried->information = kept->length);
+    return STATUS_SUCCESS;
+}
+
+/* ---- Security: a descriptor that stands in one piece, as it was set; where none was, one of nobody's, with no lists. */
+static const uint8_t no_descriptor[20] = {1, 0, 0, 0x80};
+
+static NTSTATUS set_security(KzOp *op, const FLT_PARAMETERS *now)
+{
+    size_t length = op->carried->input_size;
+    const uint8_t *bytes = now->SetSecurity.SecurityDescriptor;
+    if (length < sizeof no_descriptor || bytes[0] != 1 || !(bytes[3] & 0x80))
+        return STATUS_INVALID_SECURITY_DESCR;
+    kz_keep_bytes(&op->file->name->node->security, bytes, length);
+    kz_notify(op->file->name, FILE_NOTIFY_CHANGE_SECURITY, FILE_ACTION_MODIFIED);
+    return STATUS_SUCCESS;
+}
+
+static NTSTATUS query_security(KzOp *op, const FLT_PARAMETERS *now)
+{
+    const KzBytes *kept = &op->file->name->node->security;
+    const KzBytes none = {(uint8_t *)no_descriptor, sizeof no_descriptor};
+    if (!kept->length)
+        kept = &none;
+    op->carried->information = kept->length; /* also of what has no room */
+    if (now->QuerySecurity.Length < kept->length)
+        return STATUS_BUFFER_OVERFLOW;
+    memcpy(now->QuerySecurity.SecurityBuffer, kept->bytes, kept->length);
+    return STATUS_SUCCESS;
+}
+
+/* ---- Locks of bytes. */
+static NTSTATUS lock(KzOp *op, const FLT_PARAMETERS *now)
+{
+    const KzRange range = {(uint64_t)now->LockControl.ByteOffset.QuadPart, now->LockControl.Length ? (uint64_t)now->LockControl.Length->QuadPart : 0, now->LockControl.ExclusiveLock, now->LockControl.Key};
+    if (op->file->is_directory)
+        return STATUS_INVALID_PARAMETER;
+    switch (op->carried->minor) {
+    case IRP_MN_LOCK:
+        return kz_lock_range(op->file, &range);
+    case IRP_MN_UNLOCK_SINGLE:
+        return kz_unlock_range(op->file, &range);
+    case IRP_MN_UNLOCK_ALL:
+        return kz_unlock_ranges(op->file, NULL);
+    default:
+        return kz_unlock_ranges(op->file, &range.key);
+    }
+}
+
+/* ---- Control codes: those that a file system here knows. */
+static NTSTATUS control(KzOp *op, const FLT_PARAMETERS *now)
+{
+    USHORT *compressed = now->FileSystemControl.Buffered.SystemBuffer;
+    switch (now->FileSystemControl.Common.FsControlCode) {
+    case FSCTL_GET_REPARSE_POINT:
+    case FSCTL_DELETE_REPARSE_POINT:
+        return STATUS_NOT_A_REPARSE_POINT;
+    case FSCTL_IS_VOLUME_MOUNTED:
+    case FSCTL_LOCK_VOLUME:
+    case FSCTL_UNLOCK_VOLUME:
+    case FSCTL_SET_COMPRESSION:
+    case FSCTL_SET_SPARSE:
+        return STATUS_SUCCESS;
+    case FSCTL_GET_COMPRESSION:
+        if (now->FileSystemControl.Common.OutputBufferLength < sizeof *compressed)
+            return STATUS_INVALID_PARAMETER;
+        *compressed = 0;
+        op->carried->information = sizeof *compressed;
+        return STATUS_SUCCESS;
+    default:
+        return STATUS_INVALID_DEVICE_REQUEST;
+    }
+}
+
+static NTSTATUS network_open(KzOp *op, const FLT_PARAMETERS *now)
+{
+    KzName *name = op->file->name;
+    if (!name || !kz_is_there(name))
+        return STATUS_OBJECT_NAME_NOT_FOUND;
+    kz_show_network(name->node, now->NetworkQueryOpen.NetworkInformation);
+    op->carried->information = sizeof(FILE_NETWORK_OPEN_INFORMATION);
+    return STATUS_SUCCESS;
+}
+
+/* What is of a file that has a name here. */
+static NTSTATUS of_file(KzOp *op, const FLT_PARAMETERS *now)
+{
+    switch (op->carried->major) {
+    case IRP_MJ_QUERY_EA:
+        return query_ea(op, now);
+    case IRP_MJ_SET_EA:
+        return set_ea(op, now);
+    case IRP_MJ_QUERY_SECURITY:
+        return query_security(op, now);
+    case IRP_MJ_SET_SECURITY:
+        return set_security(op, now);
+    default:
+        return lock(op, now);
+    }
+}
+
+NTSTATUS kz_answer_other(KzOp *op, const FLT_PARAMETERS *now)
+{
+    switch (op->carried->major) {
+    case IRP_MJ_QUERY_EA:
+    case IRP_MJ_SET_EA:
+    case IRP_MJ_QUERY_SECURITY:
+    case IRP_MJ_SET_SECURITY:
+    case IRP_MJ_LOCK_CONTROL:
+        return op->file->name ? of_file(op, now) : STATUS_INVALID_PARAMETER;
+    case IRP_MJ_FILE_SYSTEM_CONTROL:
+        return control(op, now);
+    case IRP_MJ_NETWORK_QUERY_OPEN:
+        return network_open(op, now);
+    case IRP_MJ_SHUTDOWN:
+    case IRP_MJ_PNP:
+    case IRP_MJ_ACQUIRE_FOR_SECTION_SYNCHRONIZATION:
+    case IRP_MJ_RELEASE_FOR_SECTION_SYNCHRONIZATION:
+        return STATUS_SUCCESS;
+    default: /* a device's own codes, and quotas, which nobody set up */
+        return STATUS_INVALID_DEVICE_REQUEST;
+    }
+}

@@ -1,0 +1,169 @@
+/* The entries of a directory, by the kit's classes. */
+#include "filesystem/answers.h"
+
+#include "manager/carrier.h"
+#include "manager/base.h"
+
+/* Where a class has what it says of a file: all but plain names begin as FILE_DIRECTORY_INFORMATION does. */
+typedef struct {
+    int class;
+    size_t name, length, ea, id, id_size;
+} Shape;
+
+#define SHAPE(class, type, ea, id, id_size) {class, offsetof(type, FileName), offsetof(type, FileNameLength), ea, id, id_size}
+static const Shape shapes[] = {
+    SHAPE(FileDirectoryInformation, FILE_DIRECTORY_INFORMATION, 0, 0, 0),
+    SHAPE(FileFullDirectoryInformation, FILE_FULL_DIR_INFORMATION, offsetof(FILE_FULL_DIR_INFORMATION, EaSize), 0, 0),
+    SHAPE(FileBothDirectoryInformation, FILE_BOTH_DIR_INFORMATION, offsetof(FILE_BOTH_DIR_INFORMATION, EaSize), 0, 0),
+    SHAPE(FileNamesInformation, FILE_NAMES_INFORMATION, 0, 0, 0),
+    SHAPE(FileIdBothDirectoryInformation, FILE_ID_BOTH_DIR_INFORMATION, offsetof(FILE_ID_BOTH_DIR_INFORMATION, EaSize), offsetof(FILE_ID_BOTH_DIR_INFORMATION, FileId), 8),
+    SHAPE(FileIdFullDirectoryInformation, FILE_ID_FULL_DIR_INFORMATION, offsetof(FILE_ID_FULL_DIR_INFORMATION, EaSize), offsetof(FILE_ID_FULL_DIR_INFORMATION, FileId), 8),
+    SHAPE(FileIdExtdDirectoryInformation, FILE_ID_EXTD_DIR_INFORMATION, offsetof(FILE_ID_EXTD_DIR_INFORMATION, EaSize), offsetof(FILE_ID_EXTD_DIR_INFORMATION, FileId), 16),
+};
+
+static const Shape *shape_of(int class)
+{
+    for (size_t at = 0; at < sizeof shapes / sizeof shapes[0]; at++)
+        if (shapes[at].class == class)
+            return &shapes[at];
+    return NULL;
+}
+
+/* ---- The scan of a handle: its pattern stays, and so does the last name that it answered. */
+typedef struct {
+    const char *name;
+    const KzNode *node;
+} Entry;
+
+static const char *part_of(const KzName *name, const char *directory)
+{
+    const char *rest = name->text + (*directory ? strlen(directory) + 1 : 0);
+    return strpbrk(rest, "/:") ? NULL : rest;
+}
+
+/* As the kit's file systems have them in order: without case, and then by it. */
+static int compare(const char *a, const char *b)
+{
+    int by_letters = KzStricmp(a, b);
+    return by_letters ? by_letters : strcmp(a, b);
+}
+
+static bool fits(const KzFile *file, const char *text)
+{
+    WCHAR pattern[256], name[300];
+    UNICODE_STRING wide = {0, 0, pattern}, own = {0, 0, name};
+    wide.Length = wide.MaximumLength = (USHORT)kz_widen(pattern, file->scan.pattern);
+    own.Length = own.MaximumLength = (USHORT)kz_widen(name, text);
+    return FsRtlIsNameInExpression(&wide, &own, !file->volume->is_case_sensitive, NULL);
+}
+
+/* Those of the directory itself and of the one above come first, but at the root. */
+static bool dots(const KzFile *file, Entry *found)
+{
+    static const char *const names[] = {".", ".."};
+    for (unsigned at = file->scan.dots; *file->name->text && at < 2; at++)
+        if (fits(file, names[at])) {
+            *found = (Entry){names[at], file->name->node};
+            return true;
+        }
+    return false;
+}
+
+static bool next_entry(const KzFile *file, Entry *found)
+{
+    *found = (Entry){NULL, NULL};
+    if (dots(file, found))
+        return true;
+    for (const KzName *one = kz_first_name(); one; one = one->next) {
+        if (!kz_is_below(one, file->volume, file->name->text) || !one->node->exists)
+            continue;
+        const char *part = part_of(one, file->name->text);
+        bool is_behind = part && (!file->scan.is_begun || compare(part, file->scan.last) > 0);
+        if (is_behind && (!found->name || compare(part, found->name) < 0) && fits(file, part))
+            *found = (Entry){part, one->node};
+    }
+    return found->name != NULL;
+}
+
+static void pass(KzFile *file, const Entry *entry)
+{
+    if (strcmp(entry->name, ".") == 0 || strcmp(entry->name, "..") == 0) {
+        file->scan.dots = entry->name[1] ? 2 : 1;
+        return;
+    }
+    file->scan.dots = 2;
+    file->scan.is_begun = true;
+    snprintf(file->scan.last, sizeof file->scan.last, "%s", entry->name);
+}
+
+static void show(uint8_t *to, const Shape *shape, const Entry *entry)
+{
+    ULONG length = kz_widen((WCHAR *)(to + shape->name), entry->name);
+    memcpy(to + shape->length, &length, sizeof length);
+    if (shape->class == FileNamesInformation)
+        return;
+    FILE_NETWORK_OPEN_INFORMATION said;
+    kz_show_network(entry->node, &said);
+    FILE_DIRECTORY_INFORMATION head = {0, 0, said.CreationTime, said.LastAccessTime, said.LastWriteTime, said.ChangeTime, said.EndOfFile, said.AllocationSize, said.FileAttributes, length, {0}};
+    memcpy(to, &head, offsetof(FILE_DIRECTORY_INFORMATION, FileName));
+    ULONG ea = (ULONG)entry->node->ea.length;
+    if (shape->ea)
+        memcpy(to + shape->ea, &ea, sizeof ea);
+    if (shape->id)
+        memcpy(to + shape->id, &entry->node->id, sizeof entry->node->id);
+}
+
+static void begin_scan(KzFile *file, const FLT_PARAMETERS *now, bool is_restart)
+{
+    PUNICODE_STRING pattern = now->DirectoryControl.QueryDirectory.FileName;
+    if (file->scan.pattern[0] && !is_restart)
+        return;
+    if (is_restart || !file->scan.pattern[0]) {
+        file->scan.is_begun = false;
+        file->scan.dots = 0;
+    }
+    if (pattern && pattern->Length)
+        kz_narrow(file->scan.pattern, sizeof file->scan.pattern, pattern);
+    else if (!file->scan.pattern[0])
+        strcpy(file->scan.pattern, "*");
+    kz_enter_folder(file->volume, file->name->text);
+}
+
+static NTSTATUS list(KzOp *op, const FLT_PARAMETERS *now, const Shape *shape)
+{
+    KzFile *file = op->file;
+    uint8_t *buffer = now->DirectoryControl.QueryDirectory.DirectoryBuffer, *before = NULL;
+    size_t room = now->DirectoryControl.QueryDirectory.Length, place = 0;
+    bool is_first = !file->scan.pattern[0] || op->carried->operation_flags & SL_RESTART_SCAN;
+    Entry entry;
+    begin_scan(file, now, op->carried->operation_flags & SL_RESTART_SCAN);
+    while (next_entry(file, &entry)) {
+        size_t size = shape->name + strlen(entry.name) * sizeof(WCHAR);
+        if (place + size > room) {
+            if (!before)
+                return room < shape->name ? STATUS_INFO_LENGTH_MISMATCH : STATUS_BUFFER_OVERFLOW;
+            break;
+        }
+        memset(buffer + place, 0, size);
+        show(buffer + place, shape, &entry);
+        if (before)
+            *(ULONG *)before = (ULONG)(buffer + place - before);
+        before = buffer + place;
+        op->carried->information = place + size;
+        place = (place + size + 7) & ~(size_t)7;
+        pass(file, &entry);
+        if (op->carried->operation_flags & SL_RETURN_SINGLE_ENTRY)
+            break;
+    }
+    return before ? STATUS_SUCCESS : is_first ? STATUS_NO_SUCH_FILE : STATUS_NO_MORE_FILES;
+}
+
+NTSTATUS kz_answer_directory(KzOp *op, const FLT_PARAMETERS *now)
+{
+    if (!op->file->name || !op->file->is_directory)
+        return STATUS_INVALID_PARAMETER;
+    if (op->carried->minor != IRP_MN_QUERY_DIRECTORY)
+        return kz_wait_for_change(op);
+    const Shape *shape = shape_of((int)now->DirectoryControl.QueryDirectory.FileInformationClass);
+    return shape ? list(op, now, shape) : STATUS_INVALID_INFO_CLASS;
+}

@@ -1,0 +1,99 @@
+/* Files by their keys. */
+#include "filesystem/tree.h"
+
+#include <stdlib.h>
+
+static KzNode *nodes;
+enum { RECORDS = 1024 };
+static uint16_t sequences[RECORDS]; /* how many files there were of each record, as far as their IDs say */
+
+LONGLONG kz_system_time(void)
+{
+    LARGE_INTEGER time;
+    KeQuerySystemTime(&time);
+    return time.QuadPart;
+}
+
+uint64_t kz_allocated(PFLT_VOLUME volume, uint64_t size)
+{
+    return (size + volume->sector - 1) / volume->sector * volume->sector;
+}
+
+void kz_keep_bytes(KzBytes *kept, const void *bytes, size_t length)
+{
+    free(kept->bytes);
+    *kept = (KzBytes){length ? kz_memory(length) : NULL, length};
+    if (length)
+        memcpy(kept->bytes, bytes, length);
+}
+
+static bool is_key(PFLT_VOLUME volume, const char *key)
+{
+    for (const KzNode *one = nodes; one; one = one->next)
+        if (one->volume == volume && strcmp(one->key, key) == 0)
+            return true;
+    return false;
+}
+
+/* The first file of a name has it as its key; another one, while that is there under another name, has a number behind it. */
+static void choose_key(KzNode *node, const char *text)
+{
+    const char *first = *text ? text : "$root"; /* a path isn't empty */
+    snprintf(node->key, sizeof node->key, "%s", first);
+    for (unsigned number = 1; is_key(node->volume, node->key); number++)
+        snprintf(node->key, sizeof node->key, "%.240s#%u", first, number);
+}
+
+KzNode *kz_new_node(PFLT_VOLUME volume, const char *text)
+{
+    KzNode *made = kz_memory(sizeof *made);
+    made->volume = volume;
+    choose_key(made, text);
+    made->links = 1;
+    made->attributes = FILE_ATTRIBUTE_NORMAL;
+    made->next = nodes;
+    return nodes = made;
+}
+
+void kz_free_node(KzNode *node)
+{
+    KzNode **at = &nodes;
+    while (*at && *at != node)
+        at = &(*at)->next;
+    if (*at)
+        *at = node->next;
+    free(node->ea.bytes);
+    free(node->security.bytes);
+    free(node);
+}
+
+/* As the kit's file systems have it: a record of the file, and how often that was used before. */
+static uint64_t new_id(const KzNode *node)
+{
+    uint64_t number = 0xcbf29ce484222325ULL + node->volume->id;
+    for (const char *at = node->key; *at; at++)
+        number = (number ^ (uint8_t)*at) * 0x100000001b3ULL;
+    uint64_t used = sequences[number % RECORDS]++;
+    return (number ^ used << 48) & INT64_MAX;
+}
+
+void kz_begin_node(KzNode *node, bool is_directory)
+{
+    node->exists = true;
+    node->is_directory = is_directory;
+    node->is_marked = node->is_marked_there = node->is_kept = false;
+    node->id = new_id(node);
+    node->size = node->allocation = 0;
+    node->created = node->accessed = node->written = node->changed = kz_system_time();
+    node->attributes = is_directory ? FILE_ATTRIBUTE_DIRECTORY : FILE_ATTRIBUTE_NORMAL;
+    kz_keep_bytes(&node->ea, NULL, 0);
+    kz_keep_bytes(&node->security, NULL, 0);
+}
+
+void kz_free_nodes(void);
+void kz_free_nodes(void)
+{
+    while (nodes)
+        kz_free_node(nodes);
+    memset(sequences, 0, sizeof sequences);
+}

@@ -1,0 +1,103 @@
+/* Who waits for a change in a directory. Such an operation stays in the file system, until something changes, its handle's cleanup is over, it is cancelled, or the volume goes; then whoever
+ * comes to it carries it on. A change tells one entry: none is kept between two of them. */
+#include "filesystem/answers.h"
+
+#include "manager/carrier.h"
+
+#include <stdlib.h>
+
+typedef struct Notice {
+    struct Notice *next;
+    KzOp *op;
+    bool is_due;
+    NTSTATUS status;
+} Notice;
+
+static Notice *notices;
+
+NTSTATUS kz_wait_for_change(KzOp *op)
+{
+    Notice *made = kz_memory(sizeof *made), **end = &notices;
+    made->op = op;
+    while (*end)
+        end = &(*end)->next;
+    *end = made;
+    return STATUS_PENDING;
+}
+
+static void make_due(Notice *notice, NTSTATUS status)
+{
+    notice->is_due = true;
+    notice->status = status;
+    kz_scheduler->touch(notice->op, 0, KZT_GIVES);
+    kz.changes++;
+}
+
+static void tell(Notice *notice, const char *rest, ULONG action)
+{
+    const FLT_PARAMETERS *now = &notice->op->carried->now;
+    struct {
+        ULONG next, action, length;
+        WCHAR name[260];
+    } change = {.action = action};
+    change.length = kz_widen(change.name, rest);
+    size_t size = offsetof(FILE_NOTIFY_INFORMATION, FileName) + change.length;
+    bool has_room = size <= now->DirectoryControl.NotifyDirectory.Length;
+    notice->op->carried->information = has_room ? size : 0;
+    if (has_room)
+        memcpy(now->DirectoryControl.NotifyDirectory.DirectoryBuffer, &change, size);
+    make_due(notice, has_room ? STATUS_SUCCESS : STATUS_NOTIFY_ENUM_DIR);
+}
+
+void kz_notify(const KzName *name, ULONG filter, ULONG action)
+{
+    for (Notice *one = notices; one; one = one->next) {
+        const KzFile *file = one->op->file;
+        const char *directory = kz_name_now(file);
+        if (one->is_due || !kz_is_below(name, file->volume, directory) || !(one->op->carried->now.DirectoryControl.NotifyDirectory.CompletionFilter & filter))
+            continue;
+        const char *rest = name->text + (*directory ? strlen(directory) + 1 : 0);
+        if (!strchr(rest, '/') || one->op->carried->operation_flags & SL_WATCH_TREE)
+            tell(one, rest, action);
+    }
+}
+
+void kz_end_notices(const KzFile *file, PFLT_VOLUME volume)
+{
+    for (Notice *one = notices; one; one = one->next)
+        if (!one->is_due && (file ? one->op->file == file : one->op->volume == volume))
+            make_due(one, file ? STATUS_NOTIFY_CLEANUP : STATUS_VOLUME_DISMOUNTED);
+}
+
+bool kz_cancel_notice(const KzOp *op)
+{
+    for (Notice *one = notices; one; one = one->next)
+        if (one->op == op && !one->is_due) {
+            make_due(one, STATUS_CANCELLED);
+            return true;
+        }
+    return false;
+}
+
+bool kz_run_notice(void)
+{
+    Notice **at = &notices;
+    while (*at && !(*at)->is_due)
+        at = &(*at)->next;
+    if (!*at)
+        return false;
+    Notice *gone = *at;
+    *at = gone->next;
+    kz_go_on_from_base(gone->op, gone->status);
+    free(gone);
+    return true;
+}
+
+void kz_free_notices(void)
+{
+    while (notices) {
+        Notice *gone = notices;
+        notices = gone->next;
+        free(gone);
+    }
+}

@@ -1,0 +1,215 @@
+/* What the file system knows of a file, by the kit's classes. */
+#include "filesystem/answers.h"
+
+/* The fields that several classes have. What lies between two fields is zeros. */
+static void show_basic(const KzNode *node, FILE_BASIC_INFORMATION *to)
+{
+    memset(to, 0, sizeof *to);
+    to->CreationTime.QuadPart = node->created;
+    to->LastAccessTime.QuadPart = node->accessed;
+    to->LastWriteTime.QuadPart = node->written;
+    to->ChangeTime.QuadPart = node->changed;
+    to->FileAttributes = node->attributes;
+}
+
+uint64_t kz_allocation_of(const KzNode *node)
+{
+    uint64_t size = node->allocation > node->size ? node->allocation : node->size;
+    return node->is_directory ? 0 : kz_allocated(node->volume, size);
+}
+
+void kz_show_standard(const KzFile *file, FILE_STANDARD_INFORMATION *to)
+{
+    const KzNode *node = file->name->node;
+    bool is_pending = kz_is_pending(node);
+    memset(to, 0, sizeof *to);
+    to->AllocationSize.QuadPart = (LONGLONG)kz_allocation_of(node);
+    to->EndOfFile.QuadPart = node->is_directory ? 0 : (LONGLONG)node->size;
+    to->NumberOfLinks = node->links - (is_pending && node->links > 0);
+    to->DeletePending = is_pending;
+    to->Directory = node->is_directory;
+}
+
+void kz_show_network(const KzNode *node, FILE_NETWORK_OPEN_INFORMATION *to)
+{
+    memset(to, 0, sizeof *to);
+    to->CreationTime.QuadPart = node->created;
+    to->LastAccessTime.QuadPart = node->accessed;
+    to->LastWriteTime.QuadPart = node->written;
+    to->ChangeTime.QuadPart = node->changed;
+    to->AllocationSize.QuadPart = (LONGLONG)kz_allocation_of(node);
+    to->EndOfFile.QuadPart = node->is_directory ? 0 : (LONGLONG)node->size;
+    to->FileAttributes = node->attributes;
+}
+
+/* As much as there is room for; the status says whether that is all. */
+NTSTATUS kz_put_answer(const KzRoom *room, const void *bytes, size_t size, size_t least)
+{
+    if (room->size < least)
+        return STATUS_INFO_LENGTH_MISMATCH;
+    size_t fits = size < room->size ? size : room->size;
+    memcpy(room->bytes, bytes, fits);
+    *room->used = fits;
+    return size <= room->size ? STATUS_SUCCESS : STATUS_BUFFER_OVERFLOW;
+}
+
+/* ---- Names. That below the volume, with the backslash in front of it. */
+static ULONG wide_name(const KzFile *file, WCHAR *room)
+{
+    char text[300];
+    snprintf(text, sizeof text, "/%s", kz_name_now(file));
+    return kz_widen(room, text);
+}
+
+static NTSTATUS query_name(const KzFile *file, const KzRoom *room)
+{
+    struct {
+        ULONG length;
+        WCHAR name[300];
+    } name;
+    name.length = wide_name(file, name.name);
+    return kz_put_answer(room, &name, offsetof(FILE_NAME_INFORMATION, FileName) + name.length, sizeof(FILE_NAME_INFORMATION));
+}
+
+static NTSTATUS query_all(const KzFile *file, const KzRoom *room)
+{
+    union {
+        FILE_ALL_INFORMATION all;
+        uint8_t bytes[sizeof(FILE_ALL_INFORMATION) + 600];
+    } said;
+    const KzNode *node = file->name->node;
+    WCHAR name[300];
+    memset(&said, 0, sizeof said);
+    show_basic(node, &said.all.BasicInformation);
+    kz_show_standard(file, &said.all.StandardInformation);
+    said.all.InternalInformation.IndexNumber.QuadPart = (LONGLONG)node->id;
+    said.all.EaInformation.EaSize = (ULONG)node->ea.length;
+    said.all.AccessInformation.AccessFlags = FILE_GENERIC_READ | FILE_GENERIC_WRITE | DELETE;
+    said.all.PositionInformation.CurrentByteOffset = file->object.CurrentByteOffset;
+    said.all.ModeInformation.Mode = FILE_SYNCHRONOUS_IO_NONALERT;
+    said.all.NameInformation.FileNameLength = wide_name(file, name);
+    memcpy(said.bytes + offsetof(FILE_ALL_INFORMATION, NameInformation.FileName), name, said.all.NameInformation.FileNameLength);
+    return kz_put_answer(room, &said, offsetof(FILE_ALL_INFORMATION, NameInformation.FileName) + said.all.NameInformation.FileNameLength, sizeof said.all);
+}
+
+/* ---- The streams of a file: its own bytes first, then those that have a name. */
+typedef struct {
+    const KzRoom *room;
+    PFILE_STREAM_INFORMATION before;
+    size_t place;
+} Streams;
+
+static bool put_stream(Streams *streams, const KzNode *node, const char *name)
+{
+    WCHAR wide[300];
+    char text[300];
+    snprintf(text, sizeof text, "%s:$DATA", *name ? name : ":");
+    ULONG length = kz_widen(wide, text);
+    size_t size = offsetof(FILE_STREAM_INFORMATION, StreamName) + length;
+    if (streams->place + size > streams->room->size)
+        return false;
+    PFILE_STREAM_INFORMATION entry = (PFILE_STREAM_INFORMATION)(streams->room->bytes + streams->place);
+    FILE_STREAM_INFORMATION head = {.StreamNameLength = length, .StreamSize.QuadPart = (LONGLONG)node->size, .StreamAllocationSize.QuadPart = (LONGLONG)kz_allocation_of(node)};
+    memcpy(entry, &head, offsetof(FILE_STREAM_INFORMATION, StreamName));
+    memcpy(entry->StreamName, wide, length);
+    if (streams->before)
+        streams->before->NextEntryOffset = (ULONG)((uint8_t *)entry - (uint8_t *)streams->before);
+    streams->before = entry;
+    *streams->room->used = streams->place + size;
+    streams->place = (streams->place + size + 7) & ~(size_t)7;
+    return true;
+}
+
+static NTSTATUS query_streams(const KzFile *file, const KzRoom *room)
+{
+    Streams streams = {.room = room};
+    KzName own = *file->name;
+    own.text[strcspn(own.text, ":")] = 0;
+    size_t length = strlen(own.text);
+    for (const KzName *one = kz_first_name(); one; one = one->next) {
+        bool is_own = !one->is_gone && one->volume == own.volume && kz_is_same_name(own.volume, one->text, own.text, sizeof own.text);
+        if (!one->node->exists || one->node->is_directory || !(is_own || kz_is_stream_of(one, &own)))
+            continue;
+        if (!put_stream(&streams, one->node, one->text + length))
+            return STATUS_BUFFER_OVERFLOW;
+    }
+    return STATUS_SUCCESS;
+}
+
+/* Classes of one size, which are made in zeroed memory. */
+typedef union {
+    FILE_BASIC_INFORMATION basic;
+    FILE_STANDARD_INFORMATION standard;
+    FILE_NETWORK_OPEN_INFORMATION network;
+    FILE_INTERNAL_INFORMATION internal;
+    FILE_EA_INFORMATION ea;
+    FILE_ACCESS_INFORMATION access;
+    FILE_POSITION_INFORMATION position;
+    FILE_MODE_INFORMATION mode;
+    FILE_ALIGNMENT_INFORMATION alignment;
+    FILE_ATTRIBUTE_TAG_INFORMATION tag;
+    FILE_ID_INFORMATION id;
+} Fixed;
+
+/* How large it is; 0: it is none of these. */
+static size_t show_fixed(const KzFile *file, int class, Fixed *said)
+{
+    const KzNode *node = file->name->node;
+    memset(said, 0, sizeof *said);
+    switch (class) {
+    case FileBasicInformation:
+        show_basic(node, &said->basic);
+        return sizeof said->basic;
+    case FileStandardInformation:
+        kz_show_standard(file, &said->standard);
+        return sizeof said->standard;
+    case FileNetworkOpenInformation:
+        kz_show_network(node, &said->network);
+        return sizeof said->network;
+    case FileInternalInformation:
+        said->internal.IndexNumber.QuadPart = (LONGLONG)node->id;
+        return sizeof said->internal;
+    case FileEaInformation:
+        said->ea.EaSize = (ULONG)node->ea.length;
+        return sizeof said->ea;
+    case FileAccessInformation:
+        said->access.AccessFlags = FILE_GENERIC_READ | FILE_GENERIC_WRITE | DELETE;
+        return sizeof said->access;
+    case FilePositionInformation:
+        said->position.CurrentByteOffset = file->object.CurrentByteOffset;
+        return sizeof said->position;
+    case FileModeInformation:
+        said->mode.Mode = FILE_SYNCHRONOUS_IO_NONALERT;
+        return sizeof said->mode;
+    case FileAlignmentInformation:
+        return sizeof said->alignment;
+    case FileAttributeTagInformation:
+        said->tag.FileAttributes = node->attributes;
+        return sizeof said->tag;
+    case FileIdInformation:
+        said->id.VolumeSerialNumber = node->volume->id + 1u;
+        memcpy(said->id.FileId.Identifier, &node->id, sizeof node->id);
+        return sizeof said->id;
+    default:
+        return 0;
+    }
+}
+
+NTSTATUS kz_query_file(const KzFile *file, int class, const KzRoom *room)
+{
+    Fixed said;
+    size_t size = show_fixed(file, class, &said);
+    if (size)
+        return kz_put_answer(room, &said, size, size);
+    switch (class) {
+    case FileNameInformation:
+    case FileNormalizedNameInformation:
+        return query_name(file, room);
+    case FileAllInformation:
+        return query_all(file, room);
+    case FileStreamInformation:
+        return query_streams(file, room);
+    default:
+        return STATUS_INVALID_INFO_CLASS;
+    }
+}

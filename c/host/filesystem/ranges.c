@@ -1,0 +1,86 @@
+/* Locks of ranges of bytes. One that can't be had is refused at once: none waits. */
+#include "filesystem/ranges.h"
+
+#include "filesystem/tree.h"
+
+#include <stdlib.h>
+
+typedef struct Lock {
+    struct Lock *next;
+    KzFile *file;
+    KzRange range;
+} Lock;
+
+static Lock *locks;
+
+static bool meets(const Lock *one, const KzFile *file, uint64_t from, uint64_t length)
+{
+    const KzRange *held = &one->range;
+    bool is_apart = !length || !held->length || from >= held->from + held->length || held->from >= from + length;
+    return one->file->name->node == file->name->node && !is_apart;
+}
+
+NTSTATUS kz_lock_range(KzFile *file, const KzRange *range)
+{
+    if (range->length && range->from > UINT64_MAX - range->length)
+        return STATUS_INVALID_LOCK_RANGE;
+    for (const Lock *one = locks; one; one = one->next)
+        if (meets(one, file, range->from, range->length) && (range->is_exclusive || one->range.is_exclusive))
+            return STATUS_LOCK_NOT_GRANTED;
+    Lock *made = kz_memory(sizeof *made);
+    *made = (Lock){locks, file, *range};
+    locks = made;
+    return STATUS_SUCCESS;
+}
+
+static bool is_the_one(const Lock *one, const KzFile *file, const KzRange *range)
+{
+    return one->file == file && one->range.from == range->from && one->range.length == range->length && one->range.key == range->key;
+}
+
+NTSTATUS kz_unlock_range(KzFile *file, const KzRange *range)
+{
+    for (Lock **at = &locks; *at; at = &(*at)->next) {
+        Lock *one = *at;
+        if (!is_the_one(one, file, range))
+            continue;
+        *at = one->next;
+        free(one);
+        return STATUS_SUCCESS;
+    }
+    return STATUS_RANGE_NOT_LOCKED;
+}
+
+NTSTATUS kz_unlock_ranges(KzFile *file, const ULONG *key)
+{
+    for (Lock **at = &locks; *at;) {
+        Lock *one = *at;
+        if (one->file == file && (!key || one->range.key == *key)) {
+            *at = one->next;
+            free(one);
+        } else {
+            at = &one->next;
+        }
+    }
+    return STATUS_SUCCESS;
+}
+
+/* Reads meet the exclusive locks of others; writes meet shared ones too, also the file object's own. */
+bool kz_is_locked(const KzFile *file, uint64_t from, uint64_t length, bool is_write)
+{
+    for (const Lock *one = locks; file->name && one; one = one->next) {
+        bool is_against = one->range.is_exclusive ? one->file != file : is_write;
+        if (is_against && meets(one, file, from, length))
+            return true;
+    }
+    return false;
+}
+
+void kz_free_ranges(void)
+{
+    while (locks) {
+        Lock *gone = locks;
+        locks = gone->next;
+        free(gone);
+    }
+}

@@ -1,0 +1,21 @@
+/* Locks of ranges of bytes, each a file object's. */
+#ifndef KZ_RANGES_H
+#define KZ_RANGES_H
+
+#include "host.h"
+
+typedef struct {
+    uint64_t from, length;
+    bool is_exclusive;
+    ULONG key;
+} KzRange;
+
+NTSTATUS kz_lock_range(KzFile *file, const KzRange *range);
+NTSTATUS kz_unlock_range(KzFile *file, const KzRange *range);
+/* All of the file object's, or those with that key. */
+NTSTATUS kz_unlock_ranges(KzFile *file, const ULONG *key);
+/* Whether a read or a write by that file object meets a lock of another one. */
+bool kz_is_locked(const KzFile *file, uint64_t from, uint64_t length, bool is_write);
+void kz_free_ranges(void);
+
+#endif

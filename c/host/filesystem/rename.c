@@ -1,0 +1,194 @@
+/* Renames and hard links: where they lead to, what stands in their way, and what of the names moves. */
+#include "filesystem/tree.h"
+
+#include "manager/base.h"
+#include "wire/frame.h"
+
+/* ---- Where to. */
+/* A name below the volume's device or its letter; NULL: it is one of another volume. */
+static const char *below_device(PFLT_VOLUME volume, const char *text)
+{
+    const char *rest;
+    PFLT_VOLUME named = kz_volume_named(text, &rest);
+    if (named)
+        return named == volume && *rest == '/' ? rest + 1 : NULL;
+    return *text == '/' ? text + 1 : text;
+}
+
+static KzFile *root_of(HANDLE root)
+{
+    KzFile *own = kz_own_file(root);
+    return own ? own : kz_file_of_client(root);
+}
+
+bool kz_destination(const KzFile *file, HANDLE root, const WCHAR *name, ULONG length, char *text, size_t size)
+{
+    char said[300];
+    UNICODE_STRING given = {(USHORT)length, (USHORT)length, (PWSTR)name};
+    const char *own = kz_name_now(file), *slash = strrchr(own, '/'), *colon = strchr(slash ? slash : own, ':');
+    if (!length || length > 600 || kz_narrow(said, sizeof said, &given) >= sizeof said)
+        return false;
+    int put;
+    if (root) {
+        KzFile *directory = root_of(root);
+        if (!directory || !directory->name || directory->volume != file->volume)
+            return false;
+        put = snprintf(text, size, "%s%s%s", directory->name->text, *directory->name->text ? "/" : "", said);
+    } else if (*said == ':') { /* another stream of the same file */
+        put = snprintf(text, size, "%.*s%s", (int)(colon ? colon - own : (long)strlen(own)), own, said);
+    } else if (!strchr(said, '/')) { /* a simple name: in the same directory */
+        put = snprintf(text, size, "%.*s%s", slash ? (int)(slash - own + 1) : 0, own, said);
+    } else {
+        const char *rest = below_device(file->volume, said);
+        put = rest ? snprintf(text, size, "%s", rest) : -1;
+    }
+    return put > 0 && (size_t)put < size && put <= LONGEST_PATH;
+}
+
+/* ---- What stands in the way: the refusals in the order of the kit's file systems. */
+static bool has_open_below(PFLT_VOLUME volume, const char *text)
+{
+    for (const KzName *one = kz_first_name(); one; one = one->next)
+        if (kz_is_below(one, volume, text) && one->node->opens)
+            return true;
+    return false;
+}
+
+static NTSTATUS source_status(const KzName *from, bool is_link)
+{
+    if (from->is_gone || kz_is_pending(from->node))
+        return STATUS_ACCESS_DENIED;
+    if (!*from->text)
+        return STATUS_INVALID_PARAMETER;
+    if (is_link && from->node->is_directory)
+        return STATUS_FILE_IS_A_DIRECTORY;
+    return !is_link && from->node->is_directory && has_open_below(from->volume, from->text) ? STATUS_ACCESS_DENIED : STATUS_SUCCESS;
+}
+
+static bool is_over_memory(PFLT_VOLUME volume)
+{
+    KzFound found;
+    return !kz_look_in_folder(volume->id, "", &found);
+}
+
+static NTSTATUS target_status(const KzName *from, KzName *to, ULONG flags, bool is_link)
+{
+    bool is_posix = flags & FILE_RENAME_POSIX_SEMANTICS && !is_link;
+    if (!kz_is_there(to) || (to == from && !is_link))
+        return STATUS_SUCCESS;
+    if (!(flags & FILE_RENAME_REPLACE_IF_EXISTS))
+        return STATUS_OBJECT_NAME_COLLISION;
+    if (to->node->is_directory || to->node->attributes & FILE_ATTRIBUTE_READONLY)
+        return STATUS_ACCESS_DENIED;
+    if (to->node == from->node)
+        return STATUS_SUCCESS;
+    if (kz_is_pending(to->node))
+        return STATUS_DELETE_PENDING;
+    if (!to->node->opens)
+        return STATUS_SUCCESS;
+    if (is_posix && !is_over_memory(to->volume))
+        return STATUS_NOT_SUPPORTED; /* the machine's folder would lose the bytes that handles still read */
+    return is_posix ? STATUS_SUCCESS : STATUS_ACCESS_DENIED;
+}
+
+/* ---- What moves. */
+static bool has_file_above(PFLT_VOLUME volume, const char *text)
+{
+    char above[256];
+    bool has_file = false;
+    for (const char *slash = strchr(text, '/'); slash && !has_file; slash = strchr(slash + 1, '/')) {
+        snprintf(above, sizeof above, "%.*s", (int)(slash - text), text);
+        KzName *name = kz_take_name(volume, above);
+        has_file = name && kz_is_there(name) && !name->node->is_directory;
+        kz_let_go_name(name);
+    }
+    return has_file;
+}
+
+void kz_make_above(PFLT_VOLUME volume, const char *text)
+{
+    char above[256];
+    for (const char *slash = is_over_memory(volume) ? strchr(text, '/') : NULL; slash; slash = strchr(slash + 1, '/')) {
+        snprintf(above, sizeof above, "%.*s", (int)(slash - text), text);
+        KzName *name = kz_take_name(volume, above);
+        if (name && !kz_is_there(name))
+            kz_begin_node(name->node, true);
+        kz_let_go_name(name);
+    }
+}
+
+/* The names below a folder, and those of a file's streams: first all are marked, since one that was moved may be below the old name too. */
+void kz_move_with(PFLT_VOLUME volume, const char *from, const char *to)
+{
+    char text[600];
+    size_t length = strlen(from);
+    for (KzName *one = kz_first_name(); one; one = one->next)
+        one->is_to_move = !one->is_gone && one->volume == volume && kz_is_same_name(volume, one->text, from, length) && (one->text[length] == ':' || one->text[length] == '/');
+    for (KzName *one = kz_first_name(), *next; one; one = next) {
+        next = one->next;
+        if (!one->is_to_move)
+            continue;
+        one->is_to_move = false;
+        if (snprintf(text, sizeof text, "%s%s", to, one->text + length) > LONGEST_PATH)
+            continue;
+        kz_move_name(one, text);
+        next = kz_first_name();
+    }
+}
+
+static NTSTATUS link_to(KzName *from, const char *text)
+{
+    from->node->links++;
+    kz_notify(kz_add_name(from->volume, text, from->node), FILE_NOTIFY_CHANGE_FILE_NAME, FILE_ACTION_ADDED);
+    return STATUS_SUCCESS;
+}
+
+static NTSTATUS move_to(KzName *from, const char *text)
+{
+    char old[256];
+    ULONG filter = from->node->is_directory ? FILE_NOTIFY_CHANGE_DIR_NAME : FILE_NOTIFY_CHANGE_FILE_NAME;
+    memcpy(old, from->text, sizeof old);
+    kz_notify(from, filter, FILE_ACTION_RENAMED_OLD_NAME);
+    kz_put_in_tunnel(from);
+    kz_move_name(from, text);
+    kz_move_with(from->volume, old, text);
+    kz_notify(from, filter, FILE_ACTION_RENAMED_NEW_NAME);
+    return STATUS_SUCCESS;
+}
+
+/* The new name is nobody's, or that of a file that goes for it. */
+static NTSTATUS put_in_place(KzName *from, KzName *to, const char *text, bool is_link)
+{
+    NTSTATUS status = kz_rename_in_folder(from->volume->id, from->text, text, is_link);
+    if (!NT_SUCCESS(status))
+        return status;
+    kz_names_moved(from->volume);
+    kz_make_above(from->volume, text);
+    if (to != from) {
+        if (to->node->exists && to->node != from->node)
+            kz_notify(to, FILE_NOTIFY_CHANGE_FILE_NAME, FILE_ACTION_REMOVED);
+        kz_take_away(to);
+    }
+    from->node->changed = kz_system_time();
+    return is_link ? link_to(from, text) : move_to(from, text);
+}
+
+NTSTATUS kz_rename(KzFile *file, const char *text, bool is_link, ULONG flags)
+{
+    KzName *from = file->name;
+    NTSTATUS status = from ? source_status(from, is_link) : STATUS_INVALID_PARAMETER;
+    if (!NT_SUCCESS(status))
+        return status;
+    KzName *to = *text ? kz_take_name(from->volume, text) : NULL;
+    if (!to)
+        return STATUS_OBJECT_NAME_INVALID;
+    if (from->node->is_directory && kz_is_below(to, from->volume, from->text))
+        status = STATUS_ACCESS_DENIED;
+    else
+        status = has_file_above(from->volume, text) ? STATUS_OBJECT_PATH_NOT_FOUND : target_status(from, to, flags, is_link);
+    bool is_as_it_was = to == from && (is_link || strcmp(from->text, text) == 0);
+    if (NT_SUCCESS(status) && !is_as_it_was)
+        status = put_in_place(from, to, text, is_link);
+    kz_let_go_name(to);
+    return status;
+}

@@ -1,0 +1,125 @@
+/* What the file system is told of a file, by the kit's classes. */
+#include "filesystem/answers.h"
+
+#include "manager/carrier.h"
+
+NTSTATUS kz_answer_query(KzOp *op, const FLT_PARAMETERS *now)
+{
+    const KzRoom room = {now->QueryFileInformation.InfoBuffer, now->QueryFileInformation.Length, &op->carried->information};
+    if (!op->file->name)
+        return STATUS_INVALID_PARAMETER;
+    kz_is_there(op->file->name);
+    return kz_query_file(op->file, now->QueryFileInformation.FileInformationClass, &room);
+}
+
+/* A time of 0 or less stays, and so do attributes of 0. */
+static NTSTATUS set_basic(KzName *name, const FILE_BASIC_INFORMATION *said)
+{
+    KzNode *node = name->node;
+    const struct {
+        LONGLONG said, *kept;
+    } times[] = {{said->CreationTime.QuadPart, &node->created},
+                 {said->LastAccessTime.QuadPart, &node->accessed},
+                 {said->LastWriteTime.QuadPart, &node->written},
+                 {said->ChangeTime.QuadPart, &node->changed}};
+    if (said->FileAttributes & FILE_ATTRIBUTE_DIRECTORY && !node->is_directory)
+        return STATUS_INVALID_PARAMETER;
+    for (size_t at = 0; at < sizeof times / sizeof times[0]; at++)
+        if (times[at].said > 0)
+            *times[at].kept = times[at].said;
+    if (said->FileAttributes)
+        node->attributes = (said->FileAttributes & ~(ULONG)FILE_ATTRIBUTE_DIRECTORY) | (node->is_directory ? FILE_ATTRIBUTE_DIRECTORY : 0);
+    kz_notify(name, FILE_NOTIFY_CHANGE_ATTRIBUTES, FILE_ACTION_MODIFIED);
+    return STATUS_SUCCESS;
+}
+
+/* A rename or a link; in the extended classes the first field has flags. */
+static NTSTATUS set_name(KzFile *file, const FLT_PARAMETERS *now, bool is_link, bool is_extended)
+{
+    char text[600];
+    const FILE_RENAME_INFORMATION *said = now->SetFileInformation.InfoBuffer;
+    size_t head = offsetof(FILE_RENAME_INFORMATION, FileName);
+    if (now->SetFileInformation.Length < head || now->SetFileInformation.Length - head < said->FileNameLength)
+        return STATUS_INFO_LENGTH_MISMATCH;
+    if (!kz_destination(file, said->RootDirectory, said->FileName, said->FileNameLength, text, sizeof text))
+        return STATUS_OBJECT_NAME_INVALID;
+    return kz_rename(file, text, is_link, is_extended ? said->Flags : said->ReplaceIfExists ? FILE_RENAME_REPLACE_IF_EXISTS : 0);
+}
+
+/* The bytes aren't here: what cuts a file goes to the file system that has them, by an operation that no instance hears. */
+static NTSTATUS set_end(KzFile *file, LONGLONG size)
+{
+    if (size < 0)
+        return STATUS_INVALID_PARAMETER;
+    return file->name->node->is_directory ? STATUS_INVALID_PARAMETER : kz_cut_unheard(file, (uint64_t)size);
+}
+
+static NTSTATUS set_allocation(KzFile *file, LONGLONG size)
+{
+    KzNode *node = file->name->node;
+    if (size < 0 || node->is_directory)
+        return STATUS_INVALID_PARAMETER;
+    node->allocation = (uint64_t)size;
+    return (uint64_t)size < node->size ? kz_cut_unheard(file, (uint64_t)size) : STATUS_SUCCESS;
+}
+
+static NTSTATUS set_position(KzFile *file, LARGE_INTEGER place)
+{
+    file->object.CurrentByteOffset = place;
+    return STATUS_SUCCESS;
+}
+
+static size_t least_of(int class)
+{
+    switch (class) {
+    case FileBasicInformation:
+        return sizeof(FILE_BASIC_INFORMATION);
+    case FileDispositionInformation:
+        return sizeof(FILE_DISPOSITION_INFORMATION);
+    case FileDispositionInformationEx:
+        return sizeof(FILE_DISPOSITION_INFORMATION_EX);
+    case FileRenameInformation:
+    case FileRenameInformationEx:
+    case FileLinkInformation:
+    case FileLinkInformationEx:
+        return offsetof(FILE_RENAME_INFORMATION, FileName);
+    default:
+        return sizeof(LARGE_INTEGER);
+    }
+}
+
+NTSTATUS kz_answer_set(KzOp *op, const FLT_PARAMETERS *now)
+{
+    KzFile *file = op->file;
+    const void *said = now->SetFileInformation.InfoBuffer;
+    int class = (int)now->SetFileInformation.FileInformationClass;
+    if (!file->name)
+        return STATUS_INVALID_PARAMETER;
+    if (now->SetFileInformation.Length < least_of(class))
+        return STATUS_INFO_LENGTH_MISMATCH;
+    kz_is_there(file->name);
+    switch (class) {
+    case FileBasicInformation:
+        return set_basic(file->name, said);
+    case FileRenameInformation:
+    case FileLinkInformation:
+        return set_name(file, now, class == FileLinkInformation, false);
+    case FileRenameInformationEx:
+    case FileLinkInformationEx:
+        return set_name(file, now, class == FileLinkInformationEx, true);
+    case FileAllocationInformation:
+        return set_allocation(file, ((const FILE_ALLOCATION_INFORMATION *)said)->AllocationSize.QuadPart);
+    case FileEndOfFileInformation:
+        return set_end(file, ((const FILE_END_OF_FILE_INFORMATION *)said)->EndOfFile.QuadPart);
+    case FileValidDataLengthInformation:
+        return (uint64_t)((const FILE_VALID_DATA_LENGTH_INFORMATION *)said)->ValidDataLength.QuadPart > file->name->node->size ? STATUS_INVALID_PARAMETER : STATUS_SUCCESS;
+    case FileDispositionInformation:
+        return kz_dispose(file, ((const FILE_DISPOSITION_INFORMATION *)said)->DeleteFile ? FILE_DISPOSITION_DELETE : 0);
+    case FileDispositionInformationEx:
+        return kz_dispose(file, ((const FILE_DISPOSITION_INFORMATION_EX *)said)->Flags);
+    case FilePositionInformation:
+        return set_position(file, ((const FILE_POSITION_INFORMATION *)said)->CurrentByteOffset);
+    default:
+        return STATUS_INVALID_INFO_CLASS;
+    }
+}

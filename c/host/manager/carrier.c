@@ -1,0 +1,215 @@
+/* Operations that ride on another one of the manager's. Each instance sees the parameters that are in force above it, and those below see what it left in them, if it marked them dirty. In its
+ * postoperation it sees what it received. */
+#include "manager/carrier.h"
+
+#include "filesystem/answers.h"
+
+#include <stdlib.h>
+
+void kz_begin_carried(KzOp *op, const KzAsked *asked)
+{
+    op->carried = kz_memory(sizeof *op->carried);
+    *op->carried = (KzCarried){.major = asked->major,
+                               .minor = asked->minor,
+                               .operation_flags = asked->flags,
+                               .irp_flags = IRP_SYNCHRONOUS_API | asked->irp_flags,
+                               .data_flags = asked->data_flags ? asked->data_flags : FLTFL_CALLBACK_DATA_IRP_OPERATION,
+                               .has_no_file = asked->has_no_file,
+                               .input_size = asked->input_size};
+    if (op->carried->irp_flags & IRP_BUFFERED_IO)
+        op->carried->data_flags |= FLTFL_CALLBACK_DATA_SYSTEM_BUFFER;
+    kz_fill_carried(op, asked);
+}
+
+static void leave_step(KzCarried *carried)
+{
+    KzStep *gone = carried->steps;
+    carried->steps = gone->above;
+    free(gone);
+}
+
+void kz_free_carried(KzOp *op)
+{
+    while (op->carried && op->carried->steps)
+        leave_step(op->carried);
+    free(op->carried);
+    op->carried = NULL;
+}
+
+/* ---- What a callback is shown. */
+static void fill(KzOp *op, PFLT_INSTANCE instance, const FLT_PARAMETERS *parameters)
+{
+    const KzCarried *carried = op->carried;
+    kazdrin_lent(&kz.manager, &(KazdrinEvent){.flag = 1, .worker = kz_worker()}, &op->lent, kz_me->room, sizeof kz_me->room);
+    memset(op->iopb, 0, sizeof *op->iopb);
+    *op->iopb = (FLT_IO_PARAMETER_BLOCK){.IrpFlags = carried->irp_flags,
+                                         .MajorFunction = carried->major,
+                                         .MinorFunction = carried->minor,
+                                         .OperationFlags = carried->operation_flags,
+                                         .TargetFileObject = carried->has_no_file ? NULL : &op->file->object,
+                                         .TargetInstance = instance,
+                                         .Parameters = *parameters};
+    op->shown.asked = NULL;
+    op->shown.asked_length = 0;
+    op->shown.parameters = *op->iopb;
+    op->data->Flags = (kz_data_flags(op) & ~(ULONG)FLTFL_CALLBACK_DATA_IRP_OPERATION) | carried->data_flags;
+    op->data->RequestorMode = op->own.is_own && !op->own.is_user ? KernelMode : UserMode;
+}
+
+void kz_show_carried(KzOp *op, PFLT_INSTANCE instance, bool is_post)
+{
+    KzCarried *carried = op->carried;
+    while (is_post && carried->steps && carried->steps->instance != instance)
+        leave_step(carried);
+    if (!is_post) {
+        KzStep *made = kz_memory(sizeof *made);
+        *made = (KzStep){carried->steps, instance, carried->now};
+        carried->steps = made;
+    }
+    fill(op, instance, carried->steps ? &carried->steps->received : &carried->now);
+    op->data->IoStatus = (IO_STATUS_BLOCK){.Status = STATUS_SUCCESS};
+    if (is_post) {
+        op->data->Flags |= FLTFL_CALLBACK_DATA_POST_OPERATION;
+        op->data->IoStatus = (IO_STATUS_BLOCK){.Status = op->other ? op->other : kz_ntstatus(op->lent.status), .Information = carried->information};
+    }
+    op->shown.status = op->data->IoStatus;
+}
+
+/* ---- What it left. Its buffer, if its operation has one. */
+static PVOID *buffer_in(PFLT_IO_PARAMETER_BLOCK block, ULONG **length)
+{
+    FLT_CALLBACK_DATA data = {.Iopb = block};
+    PVOID *buffer = NULL;
+    PMDL *mdl;
+    return NT_SUCCESS(FltDecodeParameters(&data, &mdl, &buffer, length, NULL)) ? buffer : NULL;
+}
+
+static void check_swap(KzOp *op, bool has_post)
+{
+    ULONG *length;
+    PVOID *now = buffer_in(op->iopb, &length), *before = buffer_in(&op->shown.parameters, &length);
+    if (op->carried->output && !has_post && now && before && *now != *before)
+        kz_tell(KZM_LOST_SWAP, "FltSetCallbackDataDirty", "a buffer was swapped and no postoperation is asked for: what comes into it never comes to the caller's");
+}
+
+void kz_take_carried_pre(KzOp *op, bool has_post, bool is_completed)
+{
+    KzCarried *carried = op->carried;
+    if (!(op->data->Flags & FLTFL_CALLBACK_DATA_DIRTY)) {
+        if (kz_is_touched(op) && !is_completed)
+            kz_tell(KZM_NOT_DIRTY, "FltSetCallbackDataDirty", "never called, though parameters were changed: they don't count");
+        *op->iopb = op->shown.parameters;
+        return;
+    }
+    if (op->iopb->MajorFunction != carried->major || op->iopb->MinorFunction != carried->minor) {
+        kz_tell(KZM_OTHER_PARAMETERS, "FltSetCallbackDataDirty", "parameters of another operation: they don't count");
+        *op->iopb = op->shown.parameters;
+        return;
+    }
+    check_swap(op, has_post);
+    carried->now = op->iopb->Parameters;
+    carried->operation_flags = op->iopb->OperationFlags;
+    op->shown.parameters = *op->iopb;
+}
+
+/* How much its buffer holds, as the callback was shown it; without one there is no limit. */
+static uint64_t most_of(KzOp *op)
+{
+    ULONG *length = NULL;
+    return op->carried->output && buffer_in(&op->shown.parameters, &length) && length ? *length : UINT64_MAX;
+}
+
+static void keep_information(KzOp *op, const char *call)
+{
+    uint64_t said = op->data->IoStatus.Information, most = most_of(op);
+    bool has_room = op->carried->major != IRP_MJ_QUERY_SECURITY; /* there it may be how much is needed */
+    if (has_room && said > most)
+        kz_tell(KZM_PAST_LENGTH, call, "IoStatus.Information %llu is past the %llu bytes that were asked for", (unsigned long long)said, (unsigned long long)most);
+    op->carried->information = said;
+}
+
+void kz_serve_carried(KzOp *op)
+{
+    keep_information(op, "FLT_PREOP_COMPLETE");
+}
+
+/* The status is the manager's; the number beside it, and the bytes, are here. */
+void kz_take_carried_post(KzOp *op)
+{
+    bool is_exact;
+    IO_STATUS_BLOCK said = op->data->IoStatus;
+    if (kz_is_touched(op) && op->data->Flags & FLTFL_CALLBACK_DATA_DIRTY)
+        kz_tell(KZM_DIRTY_POST, "FltSetCallbackDataDirty", "parameters that a postoperation changes don't count");
+    if (said.Status == STATUS_PENDING) {
+        kz_tell(KZM_COMPLETED_PENDING, "FLT_CALLBACK_DATA", "IoStatus.Status is STATUS_PENDING: it doesn't count");
+        return;
+    }
+    keep_information(op, "FLT_CALLBACK_DATA");
+    if (said.Status == op->shown.status.Status)
+        return;
+    uint32_t number = kz_number(said.Status, &is_exact);
+    op->other = is_exact ? STATUS_SUCCESS : said.Status;
+    KazdrinEvent put = {.worker = kz_worker(), .status = (uint8_t)number, .number = op->lent.number, .offset = op->lent.information};
+    if (op->stage == KZ_HELD_BY_POST)
+        op->served = (KzServed){.is_there = true, .has_status = true, .status = (uint8_t)number};
+    else if (kazdrin_answer(&kz.manager, &put, (const uint8_t *)"", 0) != KZS_OK)
+        kz_tell(KZM_LONG_ANSWER, "FLT_CALLBACK_DATA", "an answer past a limit of the manager: it doesn't count");
+}
+
+/* ---- A drain. */
+static void replace(FLT_PARAMETERS *parameters, KzOp *op, PVOID gone, PVOID fresh)
+{
+    ULONG *length;
+    FLT_IO_PARAMETER_BLOCK block = {.MajorFunction = op->carried->major, .MinorFunction = op->carried->minor, .Parameters = *parameters};
+    PVOID *buffer = buffer_in(&block, &length);
+    if (!buffer || *buffer != gone)
+        return;
+    *buffer = fresh;
+    *parameters = block.Parameters;
+}
+
+static PVOID buffer_of(const KzOp *op, const FLT_PARAMETERS *parameters, ULONG *length)
+{
+    ULONG *size = NULL;
+    FLT_IO_PARAMETER_BLOCK block = {.MajorFunction = op->carried->major, .MinorFunction = op->carried->minor, .Parameters = *parameters};
+    PVOID *buffer = buffer_in(&block, &size);
+    *length = size ? *size : 0;
+    return buffer ? *buffer : NULL;
+}
+
+void kz_forget_carried_swap(KzOp *op, PFLT_INSTANCE instance)
+{
+    FLT_PARAMETERS *left = &op->carried->now;
+    KzStep *step = op->carried->steps;
+    for (; step && step->instance != instance; step = step->above)
+        left = &step->received;
+    ULONG length, received_length;
+    PVOID gone = step ? buffer_of(op, left, &length) : NULL;
+    if (!gone || gone == buffer_of(op, &step->received, &received_length))
+        return;
+    PVOID fresh = kz_block(op, length);
+    replace(&op->carried->now, op, gone, fresh);
+    for (KzStep *lower = op->carried->steps; lower != step; lower = lower->above)
+        replace(&lower->received, op, gone, fresh);
+    replace(&op->iopb->Parameters, op, gone, fresh);
+    op->shown.parameters = *op->iopb;
+}
+
+/* ---- The file system's answer. */
+NTSTATUS kz_answer_carried(KzOp *op)
+{
+    op->carried->information = 0;
+    switch (op->carried->major) {
+    case IRP_MJ_QUERY_INFORMATION:
+        return kz_answer_query(op, &op->carried->now);
+    case IRP_MJ_SET_INFORMATION:
+        return kz_answer_set(op, &op->carried->now);
+    case IRP_MJ_DIRECTORY_CONTROL:
+        return kz_answer_directory(op, &op->carried->now);
+    case IRP_MJ_QUERY_VOLUME_INFORMATION:
+    case IRP_MJ_SET_VOLUME_INFORMATION:
+        return kz_answer_volume(op, &op->carried->now);
+    default:
+        return kz_answer_other(op, &op->carried->now);
+    }
+}

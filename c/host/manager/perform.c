@@ -1,0 +1,330 @@
+/* Requests, from their beginning to their reply; and what goes on behind them: operations that were let go, closes that are due, what waits for its turn. */
+#include "manager/carrier.h"
+
+#include "filesystem/answers.h"
+#include "filesystem/ranges.h"
+#include "run/expect.h"
+
+#include <stdlib.h>
+
+/* ---- Replies. The kit's own status stands behind a number that stands for another. */
+void kz_print_reply(KzReply reply, NTSTATUS other, const uint8_t *bytes, size_t length)
+{
+    kz_pass_reply(reply, bytes, length);
+    kz_note_reply(reply, other, bytes, length, kz_me->says);
+    if (reply.held) {
+        kz_say(KZ_SAID_REPLY, "held %llu\n", (unsigned long long)reply.operation);
+        return;
+    }
+    kz_say(KZ_SAID_REPLY, "status %u", reply.status);
+    if (other)
+        kz_say(KZ_SAID_REPLY, " (0x%08x)", (unsigned)other);
+    kz_say(reply.is_handle ? KZ_SAID_HANDLE : KZ_SAID_REPLY, " info %llu bytes ", (unsigned long long)reply.information);
+    for (size_t at = 0; at < length; at++)
+        kz_say(KZ_SAID_REPLY, "%02x", bytes[at]);
+    kz_say(KZ_SAID_REPLY, length ? "\n" : "-\n");
+    if (*kz_me->says)
+        kz_say(KZ_SAID_REPLY, "says %.1000s\n", kz_me->says);
+    kz_me->says[0] = 0;
+}
+
+static KzAnswer refused(uint32_t status)
+{
+    return (KzAnswer){.reply.status = status};
+}
+
+/* ---- What comes of an operation that is over. */
+static void put_served(const KzOp *op, KzAnswer *answer)
+{
+    if (op->served.has_status)
+        answer->reply.status = op->served.status;
+    if (op->carried)
+        return;
+    answer->reply.information = op->served.number;
+    answer->length = op->served.bytes ? op->served.length : 0;
+    memcpy(kz_me->room, op->served.bytes ? op->served.bytes : (const uint8_t *)"", answer->length);
+}
+
+/* Its bytes are those of the requestor's own buffer. */
+static void put_carried(const KzOp *op, KzAnswer *answer)
+{
+    NTSTATUS status = answer->other ? answer->other : kz_ntstatus(answer->reply.status);
+    const KzCarried *carried = op->carried;
+    size_t there = carried->information < carried->output_size ? carried->information : carried->output_size;
+    bool has_bytes = carried->output && (NT_SUCCESS(status) || status == STATUS_BUFFER_OVERFLOW);
+    answer->reply.information = carried->information;
+    answer->length = !has_bytes ? 0 : there < sizeof kz_me->room ? there : sizeof kz_me->room;
+    if (answer->length)
+        memcpy(kz_me->room, carried->output, answer->length);
+    if (!op->own.is_own)
+        kz_say_answer(carried, answer->length);
+}
+
+static void open_handle(KzOp *op, KzReply *reply)
+{
+    kz_file_answered(op->file, reply->information);
+    op->file->is_opening = false;
+    reply->is_handle = 1;
+    op->file->has_handle = true;
+    op->file->users++;
+    if (!op->own.is_unheard)
+        kz_count_open(op->file);
+    kz_scheduler->touch(&op->file->handle, 0, KZT_GIVES);
+}
+
+void kz_cleanup_over(KzFile *file)
+{
+    file->object.Flags |= FO_CLEANUP_COMPLETE;
+    kz_end_notices(file, NULL);
+    kz_unlock_ranges(file, NULL);
+    kz_end_cleanup(file);
+}
+
+static void note_end(KzOp *op, KzReply *reply)
+{
+    bool is_right = reply->status == KZS_OK;
+    if (op->event == KZE_CREATE && is_right)
+        open_handle(op, reply);
+    else if (op->event == KZE_CREATE)
+        kz_count_no_open(op->file);
+    else if (op->event == KZE_SET_DELETE && is_right)
+        kz_note_mark(op->file);
+    else if (op->event == KZE_CLEANUP && is_right)
+        kz_cleanup_over(op->file);
+    else if (op->event == KZE_CLOSE && is_right)
+        kz_drop_file(op->file->handle);
+}
+
+/* Of a done operation, which is forgotten. */
+KzAnswer kz_collect(KzOp *op)
+{
+    kz_pause("collect");
+    kz_clean_up(); /* a close is over, and with it the contexts of its handle: the caller is told behind that */
+    KazdrinTold told = kz_event_into(kz_worker(), (KazdrinEvent){.event = KZE_COLLECT, .operation = op->id}, kz_me->room, sizeof kz_me->room).told;
+    KzAnswer answer = {.reply = {.status = told.status, .information = told.information, .operation = op->id}, .other = op->other, .length = told.length};
+    if (op->served.is_there)
+        put_served(op, &answer);
+    if (op->carried)
+        put_carried(op, &answer);
+    kz_scheduler->touch(op->file, 0, KZT_GIVES);
+    if (op->other == STATUS_REPARSE)
+        kz_note_reparse(op);
+    if (op->is_cancelled && answer.reply.status == KZS_OK)
+        answer.reply = kz_cancelled(op, &answer.other);
+    else
+        note_end(op, &answer.reply);
+    kz_forget_op(op);
+    return answer;
+}
+
+static KzAnswer run(const KzBegin *asked);
+
+static void put_answer(KzAnswer answer)
+{
+    kz_print_reply(answer.reply, answer.other, kz_me->room, answer.length);
+}
+
+/* The close of a file whose handle was closed while operations on it went on; false if none is due. */
+static bool close_due(void)
+{
+    KzFile *file = kz.files;
+    while (file && !(file->is_close_due && file->users == 1))
+        file = file->next;
+    if (!file)
+        return false;
+    if (file->is_own) {
+        kz_close_if_due(file);
+        return true;
+    }
+    file->is_close_due = false;
+    run(&(KzBegin){.event = {.event = KZE_CLOSE, .handle = file->handle}, .bytes = ""});
+    return true;
+}
+
+static KzAnswer begin_create(void *unused, KazdrinEvent asked, const char *path)
+{
+    (void)unused;
+    return run(&(KzBegin){.event = asked, .bytes = path, .length = strlen(path), .path = path});
+}
+
+/* Of an operation that nobody waits for any more. */
+static void tell_end(KzOp *op)
+{
+    kz_say(KZ_SAID_REPLY, KZ_OPERATION ": ", (unsigned long long)op->id);
+    put_answer(kz_follow(kz_collect(op), NULL, begin_create));
+}
+
+/* By whoever comes to it. What a filter began, and what waits in the file system, stays with the worker that it has. */
+void kz_go_on(KzOp *op)
+{
+    KzPlace before = kz_me->place;
+    bool is_own = op->own.is_own, has_worker = is_own || op->own.has_worker;
+    uint8_t worker = op->own.worker;
+    if (has_worker)
+        kz_me->place.worker = worker;
+    bool is_over = kz_carry(op);
+    if (!is_own && is_over)
+        tell_end(op);
+    kz_me->place = before;
+    if (is_own && is_over)
+        kz_end_below(op);
+    else if (has_worker && is_over)
+        kz_helped(worker);
+}
+
+static void carry_resumed(void)
+{
+    KzOp *op = kz.resumed;
+    kz.resumed = op->next_resumed;
+    if (!kz.resumed)
+        kz.resumed_end = &kz.resumed;
+    kz_go_on(op);
+}
+
+/* What was let go on, what is due, and what waits for its turn, until nothing of it is left. */
+void kz_settle(void)
+{
+    do {
+        while (kz.resumed)
+            carry_resumed();
+        kz_clean_up();
+    } while (kz_run_notice() || close_due() || kz_let_others() || kz.resumed);
+}
+
+/* A driver's own handle is no client's, nor is one before its create is over. */
+static bool may_ask(const KazdrinEvent *asked)
+{
+    bool is_on_volume = asked->event == KZE_CREATE || asked->event == KZE_LIST;
+    for (const KzFile *file = kz.files; !is_on_volume && file; file = file->next)
+        if ((file->has_handle || file->is_opening) && file->handle == asked->handle)
+            return file->has_handle && !file->is_own;
+    return true;
+}
+
+/* The name of a create's file, and in the path's place the file's key. */
+static KzName *name_of(KzBegin *asked)
+{
+    PFLT_VOLUME volume = asked->event.event == KZE_CREATE && asked->event.volume < kz.volumes_count ? kz.volumes[asked->event.volume] : NULL;
+    KzName *name = volume ? kz_take_name(volume, asked->path) : NULL;
+    if (name) {
+        asked->bytes = name->node->key;
+        asked->length = strlen(name->node->key);
+    }
+    return name;
+}
+
+static KzFile *file_of(const KzBegin *asked, KzName *name)
+{
+    bool is_list = asked->event.event == KZE_LIST;
+    if (asked->event.event != KZE_CREATE && !is_list)
+        return kz_file_of(asked->event.handle);
+    bool is_directory = asked->is_directory || (is_list && !asked->path);
+    KzFile *made = kz_new_file(kz.volumes[asked->event.volume], asked->path ? asked->path : "", is_directory);
+    if (is_list && asked->path)
+        name = kz_take_name(made->volume, asked->path); /* of what rides on it */
+    made->name = name;
+    return made;
+}
+
+/* One that may wait in the file system has a worker of its own from its beginning. */
+static KzAnswer carry_on(KzOp *op)
+{
+    bool is_over = op->own.has_worker ? kz_carry(op) : kz_carry_to_end(op);
+    if (!is_over)
+        return (KzAnswer){.reply = {.held = 1, .operation = op->id}};
+    return kz_collect(op);
+}
+
+/* Begins an operation and carries it on. Refused, it has no reply but the status. */
+static KzAnswer begin(const KzBegin *begun)
+{
+    KzBegin asked = *begun;
+    if (!may_ask(&asked.event))
+        return refused(KZS_NO_HANDLE);
+    KzName *name = name_of(&asked);
+    KzFile *closing = asked.event.event == KZE_CLEANUP ? kz_file_of(asked.event.handle) : NULL;
+    if (closing)
+        kz_begin_cleanup(closing);
+    KzTold told = kz_event_with(kz_worker(), asked.event, asked.bytes, asked.length);
+    if (told.status != KZS_OK) {
+        kz_let_go_name(name);
+        return refused(told.status);
+    }
+    KzFile *file = file_of(&asked, name);
+    KzOp *op = kz_new_op(told.told.operation, asked.event, file, file->volume);
+    op->own.irp_flags = asked.irp_flags;
+    op->own.worker = kz_worker();
+    op->own.has_worker = asked.carried && asked.carried->waits;
+    if (asked.carried)
+        kz_begin_carried(op, asked.carried);
+    return carry_on(op);
+}
+
+static KzAnswer run(const KzBegin *asked)
+{
+    if (!asked->carried || !asked->carried->waits)
+        return begin(asked);
+    if (!kz_has_helpers())
+        return refused(KZS_TOO_MANY);
+    KzPlace before = kz_me->place;
+    uint8_t worker = kz_helper();
+    kz_me->place.worker = worker;
+    KzAnswer answer = begin(asked);
+    kz_me->place = before;
+    if (!answer.reply.held)
+        kz_helped(worker);
+    return answer;
+}
+
+KzReply kz_perform_as(const KzBegin *asked)
+{
+    KzAnswer answer = kz_follow(run(asked), NULL, begin_create);
+    put_answer(answer);
+    kz_settle();
+    return answer.reply;
+}
+
+KzReply kz_perform(KazdrinEvent asked, const void *bytes, size_t length, const char *path)
+{
+    return kz_perform_as(&(KzBegin){.event = asked, .bytes = bytes, .length = length, .path = path});
+}
+
+KzReply kz_ask_file(uint64_t handle, const KzAsked *asked)
+{
+    return kz_perform_as(&(KzBegin){.event = {.event = KZE_FLUSH, .handle = handle}, .bytes = "", .carried = asked});
+}
+
+KzReply kz_ask_file_twice(uint64_t handle, const KzAsked *first, const KzAsked *second)
+{
+    KzBegin asked = {.event = {.event = KZE_FLUSH, .handle = handle}, .bytes = "", .carried = first};
+    KzAnswer answer = run(&asked);
+    asked.carried = second;
+    if (!answer.reply.held && answer.reply.status == KZS_OK)
+        run(&asked);
+    answer.length = 0;
+    put_answer(answer);
+    kz_settle();
+    return answer.reply;
+}
+
+KzReply kz_ask_volume(PFLT_VOLUME volume, const char *path, const KzAsked *asked)
+{
+    return kz_perform_as(&(KzBegin){.event = {.event = KZE_LIST, .volume = volume->id}, .bytes = "", .path = path ? path : "", .carried = asked});
+}
+
+/* A cleanup and then the close; the close alone if the cleanup was made before. */
+KzReply kz_close_file(uint64_t handle)
+{
+    KzAnswer answer = run(&(KzBegin){.event = {.event = KZE_CLEANUP, .handle = handle}, .bytes = ""});
+    KzReply reply = answer.reply;
+    KzFile *file = !reply.held && reply.status == KZS_OK ? kz_file_of(handle) : NULL;
+    if (file && file->users > 1 && (kz_has_others() || kz_is_referenced(&file->object)))
+        file->is_close_due = true; /* as in the kit: whoever ends the last operation of a file object closes it */
+    else if (!reply.held && (reply.status == KZS_OK || reply.status == KZS_WRONG_STEP))
+        answer = run(&(KzBegin){.event = {.event = KZE_CLOSE, .handle = handle}, .bytes = ""});
+    answer.length = 0;
+    put_answer(answer);
+    kz_settle();
+    return answer.reply;
+}
+

@@ -1,0 +1,17 @@
+/* The kit's statuses by their names: those of ntstatus.h, as the Makefile lists them. */
+#include "run/expect.h"
+
+static const struct {
+    const char *name;
+    uint32_t status;
+} names[] = {
+#include "statuses.inc"
+};
+
+int64_t kz_status_named(const char *name)
+{
+    for (size_t at = 0; at < sizeof names / sizeof names[0]; at++)
+        if (strcmp(names[at].name, name) == 0)
+            return names[at].status;
+    return -1;
+}

@@ -134,20 +134,29 @@ int call_measure(Call *call, uint64_t handle, uint64_t *size)
     return error;
 }
 
+int call_send_all(Call *call, const Request *requests, unsigned count)
+{
+    call->code = requests[count - 1].code;
+    return answered(call, connection_send_all(&call->line->connection, requests, count));
+}
+
+int call_receive(Call *call, Reply *reply)
+{
+    return answered(call, receive(call, reply));
+}
+
 int call_measure_and_close(Call *call, uint64_t *size)
 {
     Reply measured = {0}, closed;
-    Request query = request_handle(FRAME_QUERY_SIZE, call->handle), close = request_handle(FRAME_CLOSE, call->handle);
-    call->code = close.code;
+    Request requests[2] = {request_handle(FRAME_QUERY_SIZE, call->handle), request_handle(FRAME_CLOSE, call->handle)};
     call->has_handle = false;
-    int error = connection_send_both(&call->line->connection, &query, &close);
+    int error = call_send_all(call, requests, 2);
     if (error == 0)
-        error = receive(call, &measured);
+        error = call_receive(call, &measured);
     uint8_t status = measured.status;
     *size = measured.information;
     if (error == 0)
-        error = receive(call, &closed);
-    error = answered(call, error);
+        error = call_receive(call, &closed);
     return error != 0 ? error : errno_of(status);
 }
 

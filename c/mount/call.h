@@ -33,6 +33,9 @@ int call_take_name(Call *call, Want want, const char *path, Passage passage);
 int call_enter(Call *call, const char *path, Passage passage);
 /* The reply, whatever its status. */
 int call_ask(Call *call, Request request, Reply *reply);
+/* Requests without bytes go out together; their replies are received one by one. */
+int call_send_all(Call *call, const Request *requests, unsigned count);
+int call_receive(Call *call, Reply *reply);
 /* The reply of a success, or the errno of its status. */
 int call_do(Call *call, Request request, Reply *reply);
 /* Goes in at the gate and opens the file: the handle is the call's, which closes it. ENOENT where a deleted file of that name is still open. */

@@ -97,12 +97,13 @@ int connection_send(Connection *connection, const Request *request)
     return send_parts(connection, parts, 2, 1);
 }
 
-int connection_send_both(Connection *connection, const Request *first, const Request *second)
+int connection_send_all(Connection *connection, const Request *requests, unsigned count)
 {
-    uint8_t heads[2][LONGEST_REQUEST_HEAD];
-    size_t length = request_head(first, ++connection->number, heads[0]), other = request_head(second, ++connection->number, heads[1]);
-    struct iovec parts[2] = {{heads[0], length}, {heads[1], other}};
-    return send_parts(connection, parts, 2, 2);
+    uint8_t heads[MOST_AT_ONCE][LONGEST_REQUEST_HEAD];
+    struct iovec parts[MOST_AT_ONCE];
+    for (unsigned at = 0; at < count; at++)
+        parts[at] = (struct iovec){heads[at], request_head(&requests[at], ++connection->number, heads[at])};
+    return send_parts(connection, parts, count, count);
 }
 
 /* How many bytes the frame at the front of the room has with its length: 0 where that hasn't come whole, or no frame has so many. */

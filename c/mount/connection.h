@@ -7,6 +7,9 @@
 
 #include <sys/types.h>
 
+/* So many requests go out together at most. */
+#define MOST_AT_ONCE 8
+
 /* The server's process, as it was when the first connection was made. */
 typedef struct {
     pid_t pid;
@@ -28,8 +31,8 @@ int connection_dial(Connection *connection, const char *path, Server *server);
 int connection_greet(Connection *connection);
 /* ENOTCONN: the server is gone */
 int connection_send(Connection *connection, const Request *request);
-/* Two requests without bytes, which go out together. Their replies come in their order. */
-int connection_send_both(Connection *connection, const Request *first, const Request *second);
+/* Requests without bytes, which go out together. Their replies come in their order, and each has to be received. */
+int connection_send_all(Connection *connection, const Request *requests, unsigned count);
 /* EAGAIN: nothing came for a tick; EIO: the server is gone; EPROTO: what came is no reply */
 int connection_receive(Connection *connection, Reply *reply);
 bool connection_is_alive(const Connection *connection);

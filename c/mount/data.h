@@ -4,6 +4,9 @@
 
 #include "call.h"
 
+/* The largest read or write of the kernel's: several frames. */
+#define LARGEST_REQUEST (MOST_AT_ONCE * LONGEST_TRANSFER)
+
 void data_open(fuse_req_t request, fuse_ino_t number, struct fuse_file_info *info);
 void data_create(fuse_req_t request, fuse_ino_t folder, const char *name, mode_t mode, struct fuse_file_info *info);
 void data_read(fuse_req_t request, fuse_ino_t number, size_t size, off_t offset, struct fuse_file_info *info);

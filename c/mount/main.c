@@ -27,8 +27,8 @@ static void begin(void *data, struct fuse_conn_info *kernel)
     (void)data;
     kernel->want |= kernel->capable & FUSE_CAP_ATOMIC_O_TRUNC;
     kernel->want &= ~(unsigned)(FUSE_CAP_WRITEBACK_CACHE | FUSE_CAP_AUTO_INVAL_DATA | FUSE_CAP_READDIRPLUS | FUSE_CAP_SPLICE_READ | FUSE_CAP_SPLICE_WRITE | FUSE_CAP_SPLICE_MOVE);
-    kernel->max_read = LONGEST_TRANSFER;
-    kernel->max_write = LONGEST_TRANSFER;
+    kernel->max_read = LARGEST_REQUEST;
+    kernel->max_write = LARGEST_REQUEST;
 }
 
 static const struct fuse_lowlevel_ops operations = {
@@ -93,9 +93,11 @@ static int cannot_reach(const char *what, int error)
 /* What libfuse is told beside the words. */
 static bool add_words(struct fuse_args *words, const Options *options)
 {
+    char most[64];
+    snprintf(most, sizeof most, "-omax_read=%u,subtype=kazdrin", LARGEST_REQUEST);
     if (options->is_for_others && fuse_opt_add_arg(words, "-oallow_other,default_permissions") != 0)
         return false;
-    return fuse_opt_add_arg(words, "-omax_read=32768,subtype=kazdrin") == 0;
+    return fuse_opt_add_arg(words, most) == 0;
 }
 
 static int serve_with_pool(Mount *mount, struct fuse_args *words, const struct fuse_cmdline_opts *line)

@@ -224,6 +224,41 @@ def others(ground, call, is_cached):
     os.close(copy)
     os.unlink(at("o2"))
     call("run a file that is no program", "EACCES", os.execv, at("o"), ["o"])
+    large(ground, call)
+
+
+def large(ground, call):
+    """Reads and writes of several frames."""
+    data = os.urandom(700_001)
+    file = make(ground.at("large"))
+    call("a large write", len(data), write_all, file, data)
+    for start, length in ((0, 700_001), (0, 262_144), (1, 32_769), (32_767, 262_145), (600_000, 200_000), (700_001, 40_000), (655_360, 262_144)):
+        call(f"a read of {length} from {start}", data[start:start + length], read_all, file, length, start)
+    call("a large write inside", 300_000, os.pwrite, file, bytes(300_000), 100_001)
+    call("and all of it", data[:100_001] + bytes(300_000) + data[400_001:], whole, ground.at("large"))
+    other = os.open(ground.at("large"), os.O_WRONLY | APPEND)
+    call("a large append", 100_000, write_all, other, data[:100_000])
+    call("it stands at the end", data[:100_000], read_all, file, 200_000, 700_001)
+    call("as much as fits below the largest size", 65_536, os.pwrite, file, bytes(100_000), LARGEST - 65_536)
+    os.close(file)
+    os.close(other)
+    os.unlink(ground.at("large"))
+
+
+def write_all(file, data):
+    """How many bytes were written, by as many calls as that takes."""
+    done = 0
+    while done < len(data):
+        done += os.write(file, data[done:])
+    return done
+
+
+def read_all(file, length, start):
+    """The bytes up to that length, or to the file's end."""
+    found = b""
+    while len(found) < length and (more := os.pread(file, length - len(found), start + len(found))):
+        found += more
+    return found
 
 
 def send(target, source, length):

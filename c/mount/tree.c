@@ -46,13 +46,26 @@ void tree_make_folder(fuse_req_t request, fuse_ino_t folder, const char *name, m
         nodes_forget(&mount->nodes, node, 1);
 }
 
+/* So often it is looked whether files in it are closed, a fifth of a second each time. */
+#define PATIENCE 5
+
+/* The last close of a deleted file in it may be on its way: the kernel makes it after reads that go on. */
+static int remove_folder(Mount *mount, const char *path)
+{
+    int error = below_remove_folder(mount, path);
+    for (unsigned look = 0; error == ENOTEMPTY && look < PATIENCE; look++)
+        if (!stays_open(&mount->nodes, path, nodes_is_open_in))
+            return below_remove_folder(mount, path);
+    return error;
+}
+
 void tree_remove_folder(fuse_req_t request, fuse_ino_t folder, const char *name)
 {
     Mount *mount = fuse_req_userdata(request);
     char path[LONGEST_PATH + 1];
     int error = path_of(mount, folder, name, path);
     if (error == 0)
-        error = below_remove_folder(mount, path);
+        error = remove_folder(mount, path);
     if (error == 0)
         nodes_delete(&mount->nodes, path);
     fuse_reply_err(request, error);

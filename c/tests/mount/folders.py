@@ -30,9 +30,21 @@ def made(tally, tools):
         call("the file goes", None, os.unlink, at("d/e/f"))
         call("and the folder", None, os.rmdir, at("d/e"))
         call("it is gone below", False, os.path.exists, ground.below("d/e"))
+        call("folders whose last file was deleted while it was open", 20, emptied, at)
         call("and here", "ENOENT", os.stat, at("d/e"))
         call("a file of its name", 4, put, at("d/e"), b"file")
         call("is a file", b"file", whole, at("d/e"))
+
+
+def emptied(at):
+    """A file is deleted while it is open, and closed; then its folder goes: how often that is so."""
+    for _ in range(20):
+        os.mkdir(at("emptied"))
+        file = os.open(at("emptied/f"), os.O_CREAT | os.O_RDWR)
+        os.unlink(at("emptied/f"))
+        os.close(file)
+        os.rmdir(at("emptied"))
+    return 20
 
 
 def outside(tally, tools):

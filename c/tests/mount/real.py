@@ -1,8 +1,8 @@
 #!/usr/bin/env python3
 """Real programs above the mount: real.py --server SERVER --mount FLTMOUNT [--filters NAME@ALTITUDE,..] [--denies] [NAME ..]
 
-Some seventy programs, or those that are named, each in a folder of its own of one mount with `cached`, `keep`, `mode=0755` and the folder below. With --denies a filter denies each deletion: then programs that
-delete, or rename, have to fail, and what they made has to be whole. Programs that aren't here are left out, and named. The last line is 'real: N passed, M failed'."""
+Some seventy programs, or those that are named, each in a folder of its own of one mount with `cached`, `keep`, `mode=0755` and the folder below. With --denies a filter denies each deletion: then programs
+that delete or rename have to fail, and stress-ng is left out. Programs that aren't here are left out, and named. The last line is 'real: N passed, M failed'."""
 import argparse
 import os
 import shlex
@@ -42,10 +42,13 @@ KEEPING = {
     "flock": ("flock", "touch l; flock l flock -n l true && exit 1; flock l true"),
     "mkdir -p": ("mkdir", "mkdir -p a/b/c && [ -d a/b/c ] && rmdir a/b/c && [ ! -e a/b/c ]"),
     "tail -f": ("tail", "touch t; timeout 3 tail -f t > $O/tail & sleep 0.7; echo line >> t; wait; grep -q line $O/tail"),
-    "python, dbm": ("python3", "python3 -c \"import dbm.dumb as d; x=d.open('q','c'); x['a']='b'; x._commit = lambda: None; assert x['a']==b'b'\""),
     "many names": ("ls", "for i in $(seq 1500); do : > nam$i; done; [ $(ls | wc -l) = 1500 ]"),
     "find and wc": ("find", "cp -r $S t && [ $(find t -type f | wc -l) = $(find $S -type f | wc -l) ] && [ \"$(cat t/*/f* | wc -c)\" = \"$(cat $S/*/f* | wc -c)\" ]"),
-    "a file without a name left": ("python3", "python3 -c \"import mmap; f=open('m','wb+'); f.write(b'x'*10000); f.flush(); m=mmap.mmap(f.fileno(),0); m[5:6]=b'R'; m.flush(); f.seek(5); assert f.read(1)==b'R'\""),
+    "a shared mapping": ("python3", "python3 -c \"import mmap; f=open('m','wb+'); f.write(b'x'*10000); f.flush(); m=mmap.mmap(f.fileno(),0); m[5:6]=b'R'; m.flush(); f.seek(5); assert f.read(1)==b'R'\""),
+    "cc, a build": ("cc", "cp $T/mount/*.c $T/mount/*.h . && cp -r $T/wire . && for f in *.c wire/client.c wire/frame.c; do cc -std=gnu11 -I. -c $f $(pkg-config fuse3 --cflags) || exit 1; done && cc *.o -o m -pthread $(pkg-config fuse3 --libs) && ./m --help | grep -q usage"),
+    "make": ("make", "printf '#include <stdio.h>\\nint main(void){puts(\"hi\");}' > a.c; printf 'a: a.o\\n\\tcc a.o -o a\\na.o: a.c\\n\\tcc -c a.c\\n' > Makefile; make -s && [ $(./a) = hi ] && make | grep -q 'up to date'"),
+    "ar and ranlib": ("ar", "printf 'int f(void){return 3;}' > f.c; printf 'int f(void); int main(void){return f() - 3;}' > g.c; cc -c f.c && ar rcs l.a f.o && cc g.c l.a -o g && ./g"),
+    "python, dbm": ("python3", "python3 -c \"import dbm.dumb as d; x=d.open('q','c'); x['a']='b'; x.close(); x=d.open('q'); assert x['a']==b'b'; x['c']='d'; x.close()\""),
 }
 # Those that delete or rename.
 DELETING = {
@@ -60,9 +63,6 @@ DELETING = {
     "git, a rebase": ("git", "git init -q -b main && for i in 1 2 3; do echo $i > f$i; git add .; git commit -qm $i; done; git checkout -q -b other HEAD~2 && echo o > o && git add . && git commit -qm o && git rebase -q main && [ $(git log --oneline | wc -l) = 4 ]"),
     "git, its folder elsewhere": ("git", "git init -q --separate-git-dir $O/elsewhere . && cp $S/a/* . && git add . && git commit -qm x && echo hi >> f1 && git checkout -q . && git fsck"),
     "git clone": ("git", "git init -q -b main one && cd one && echo a > a && git add . && git commit -qm a && cd .. && git clone -q one two && cmp one/a two/a"),
-    "cc, a build": ("cc", "cp $T/mount/*.c $T/mount/*.h . && cp -r $T/wire . && for f in *.c wire/client.c wire/frame.c; do cc -std=gnu11 -I. -c $f $(pkg-config fuse3 --cflags) || exit 1; done && cc *.o -o m -pthread $(pkg-config fuse3 --libs) && ./m --help | grep -q usage"),
-    "make": ("make", "printf '#include <stdio.h>\\nint main(void){puts(\"hi\");}' > a.c; printf 'a: a.o\\n\\tcc a.o -o a\\na.o: a.c\\n\\tcc -c a.c\\n' > Makefile; make -s && [ $(./a) = hi ] && make | grep -q 'up to date'"),
-    "ar and ranlib": ("ar", "printf 'int f(void){return 3;}' > f.c; printf 'int f(void); int main(void){return f() - 3;}' > g.c; cc -c f.c && ar rcs l.a f.o && cc g.c l.a -o g && ./g"),
     "compileall": ("python3", "cp $(python3 -c 'import os; print(os.path.dirname(os.__file__))')/a*.py . && python3 -m compileall -q . && ls __pycache__/*.pyc > /dev/null"),
     "sed -i": ("sed", "echo a > s; sed -i s/a/b/ s && grep -qx b s"),
     "mv": ("mv", "echo a > one; mv one two && [ $(cat two) = a ] && [ ! -e one ] && mkdir d && mv two d && cat d/two > /dev/null"),
@@ -70,7 +70,6 @@ DELETING = {
     "os.rename": ("python3", "python3 -c \"import os; open('a','w').write('x'); os.rename('a','b'); assert open('b').read()=='x' and not os.path.exists('a')\""),
     "vi": ("vi", "echo one > v; printf 'Atwo\\033:wq\\n' | TERM=dumb vi v > /dev/null 2>&1; grep -q two v"),
     "a temporary file": ("python3", "python3 -c \"import tempfile; f=tempfile.TemporaryFile(dir='.'); f.write(b'x'*10000); f.seek(0); assert len(f.read())==10000; g=tempfile.NamedTemporaryFile(dir='.'); g.write(b'y'); g.flush()\""),
-    "python, dbm of several": ("python3", "python3 -c \"import dbm.dumb as d; x=d.open('q','c'); x['a']='b'; x.close(); x=d.open('q'); assert x['a']==b'b'; x['c']='d'; x.close()\""),
     "gzip": ("gzip", "cp $S/a/f9 z && gzip z && gunzip -c z.gz | cmp - $S/a/f9"),
     "rm -r": ("rm", "cp -r $S t && rm -r t && [ ! -e t ]"),
     "mktemp": ("mktemp", "d=$(mktemp -d ./tmp.XXXXXX) && f=$(mktemp $d/XXXXXX) && echo x > $f && rm -r $d && [ ! -e $d ]"),
@@ -81,7 +80,7 @@ DELETING = {
 }
 # Classes of stress-ng, with those that need folders, modes, times and renames.
 CLASSES = "flock dentry rename readahead hdd fallocate dir seek utime chmod copy-file sendfile lockf mmap open fstat getdent".split()
-DELETING.update({f"stress-ng {name}": ("stress-ng", f"! stress-ng --{name} 1 --timeout 3 --temp-path . 2>&1 | grep -E ' fail|unsuccessful'") for name in CLASSES})
+STRESS = {f"stress-ng {name}": ("stress-ng", f"! stress-ng --{name} 1 --timeout 3 --temp-path . 2>&1 | grep -E ' fail|unsuccessful'") for name in CLASSES}
 
 
 def source_of(room):
@@ -118,7 +117,7 @@ def all_of(tally, tools, ground):
     """Each program, by what it is to come to."""
     source = source_of(ground.room)
     missing = set()
-    for name, (program, script) in {**KEEPING, **DELETING}.items():
+    for name, (program, script) in {**KEEPING, **DELETING, **({} if tools.denies else STRESS)}.items():
         if tools.names and not any(word in name for word in tools.names):
             continue
         if not shutil.which(program) or (name == "postgres" and (os.geteuid() != 0 or not os.path.isdir(POSTGRES))):

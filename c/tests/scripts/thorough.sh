@@ -6,6 +6,7 @@
 #   threads     each sample for ten seconds with eight threads
 #   programs    samples with programs of their own, as both
 #   libfuzzer   libFuzzer over a driver with a mistake, which it must find, and over one without
+#   real        some seventy real programs above the mount of each server: four filters of fltd, the filter of own_server, which denies deletions, and four drivers in C: ten minutes
 #   mount       the mount: COUNT random operations (100000), what of it shows races under the thread sanitizer, and some under valgrind: half an hour
 #
 # KAZDRIN_LIB is the manager's archive, as for c/build.sh, FLTD the server below the mount. The exit status says whether anything failed.
@@ -61,6 +62,22 @@ libfuzzer() {
     cd "$top"
 }
 
+real() {
+    local fltd own run=$tests/mount/real.py
+    "$here/needs.sh"
+    fltd=$(server_of_mount)
+    own=$PWD/crates/own_server/out/own_server
+    [ -x "$own" ] || own=$(tools/unproved own_server)
+    make -s -C c fltmount PROGRAM="$room/fltmount" || return
+    c/build.sh --serve "$room/served" c/samples/nullfilter.c c/samples/swapbuffers.c c/samples/passthrough.c c/samples/minispy.c
+    $run --server "$fltd" --mount "$room/fltmount" --filters shift@100,carry@200,guard@300,meter@400
+    tell $? "real programs above fltd"
+    $run --server "$own" --mount "$room/fltmount" --filters audit@100 --denies
+    tell $? "real programs above own_server"
+    $run --server "$room/served" --mount "$room/fltmount" --filters nullfilter@50,swapbuffers@100,passthrough@200,minispy@300
+    tell $? "real programs above drivers in C"
+}
+
 mount() {
     local count=${COUNT:-100000} program=$room/fltmount.threads
     export FLTD=${FLTD:-$(server_of_mount)}
@@ -77,10 +94,10 @@ mount() {
     fi
 }
 
-[ $# -gt 0 ] || set -- explore lines threads programs libfuzzer mount
+[ $# -gt 0 ] || set -- explore lines threads programs libfuzzer real mount
 for part in "$@"; do
     case $part in
-    explore | lines | threads | programs | libfuzzer | mount) "$part" ;;
+    explore | lines | threads | programs | libfuzzer | real | mount) "$part" ;;
     *)
         echo "there is no part $part" >&2
         exit 2

@@ -4,7 +4,7 @@
     .ci/objects.py --program FLTVIEW [--trial PROGRAM] [--random COUNT [SEED]] [SCRIPT ..]     of these scripts; else of all stored ones
 
 With --random it checks so many random scripts too (.ci/scripts.py), from that seed on or from 1.
-With --trial it checks a trial too, of the program trial_rows: its stored scenario, and one of what that one lacks. The lines that the trial prints say the same.
+With --trial it checks a trial too, of the program test_trial: its stored scenario, and one of what that one lacks. The lines that the trial prints say the same.
 It ends with status 1 if an object isn't as the tables say, if an event of a table never came, or if the page has other objects.
 """
 import json
@@ -51,7 +51,7 @@ STEPS = {"Pre": "pre", "Base": "base", "Post": "post", "PostHeld": "post", "Drai
 
 TOP = pathlib.Path(__file__).resolve().parent.parent
 DATA = TOP / "crates" / "examples" / "data"
-TRIAL = TOP / "crates" / "trial_rows" / "data" / "mistakes.txt"
+TRIAL = TOP / "crates" / "test_trial" / "data" / "mistakes.txt"
 MOST = 2**64 - 1
 
 

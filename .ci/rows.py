@@ -15,15 +15,15 @@ TOP = pathlib.Path(__file__).resolve().parent.parent
 
 # Which crates are asked first, of those whose tests stand above the crate: what is nearest shows most.
 FIRST = {
-    "fm_base": ["leaf_rows", "local_rows"],
-    "fm_data": ["local_rows", "fm_rows"],
-    "fm_exec": ["server_rows"],
-    "fm_local": ["local_rows"],
-    "fm_samples": ["local_rows", "worker_rows"],
-    "fm_script": ["script_rows", "examples"],
-    "fm_words": ["server_rows", "front_rows"],
-    "fm_worker": ["worker_rows", "front_rows"],
-    "fm_world": ["fm_rows", "local_rows"],
+    "fm_base": ["test_leaves", "test_local"],
+    "fm_data": ["test_local", "test_core"],
+    "fm_exec": ["test_server"],
+    "fm_local": ["test_local"],
+    "fm_samples": ["test_local", "test_worker"],
+    "fm_script": ["test_script", "examples"],
+    "fm_cli": ["test_server", "test_front"],
+    "fm_worker": ["test_worker", "test_front"],
+    "fm_world": ["test_core", "test_local"],
 }
 
 

@@ -1,4 +1,4 @@
-/* A filter that says what it sees, one line a callback, for the lists of crates/recorder/src/order.rt. What it answers it knows by its own name, so that c/order.sh builds it
+/* A filter that says what it sees, one line a callback, for the lists of crates/test_recorder/src/order.rt. What it answers it knows by its own name, so that c/order.sh builds it
  * under several: with and none ask for every postoperation, or for none; hold pends reads and changes of a size, and late lets only the first read go at a teardown; keep holds the postoperations of reads;
  * carry sends a context along, meter sets two; deny completes creates, and sync has reads synchronized. Its instances are named in the order in which they are set up. */
 #include <fltKernel.h>

@@ -1,5 +1,5 @@
 #!/usr/bin/env bash
-# The lists of crates/recorder/src/order.rt through the host: c/tests/drivers/recorder.c under each name that a list loads plays each list, and what the filters see, request by
+# The lists of crates/test_recorder/src/order.rt through the host: c/tests/drivers/recorder.c under each name that a list loads plays each list, and what the filters see, request by
 # request, is compared with what stands there.
 set -u
 . "$(dirname "$0")/tally.sh" order
@@ -7,7 +7,7 @@ awk -v room="$room" '
     /^pub const ORDER/ { on = 1; next }
     /^";/ { on = 0 }
     on && /^# / { file = sprintf("%s/%02d.list", room, ++count) }
-    on && NF { print > file }' crates/recorder/src/order.rt
+    on && NF { print > file }' crates/test_recorder/src/order.rt
 drivers=()
 for name in $(sed -n 's/^load //p' "$room"/*.list | sort -u); do
     cp $tests/drivers/recorder.c "$room/$name.c"

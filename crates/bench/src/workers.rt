@@ -15,7 +15,7 @@ use fm_queue::{JobPass, JobQueue};
 use fm_samples::Meter;
 use fm_types::limits::PARTS;
 use fm_types::{CreateMode, HandleId, Name, OpId, RelPath, SharedPath, Status, VolumeId};
-use fm_worker::{OpenGate, Worker};
+use fm_worker::{NoHook, Worker};
 use std::alloc::Global;
 use std::marker::Brand;
 use std::sync::Wait;
@@ -34,7 +34,7 @@ const BATCH: u64 = 128;
 const ROUNDS: u64 = 10_000;
 
 /// That of a client or of a worker.
-type MemoryWorker<'a, F, L, R> = Worker<'a, F, L, R, OpenGate, Bases<MemoryBase>>;
+type MemoryWorker<'a, F, L, R> = Worker<'a, F, L, R, NoHook, Bases<MemoryBase>>;
 
 fn folder(alloc: Global) -> Result<Bases<MemoryBase>, Status> {
     let mut bases = Bases::new(alloc)?;
@@ -117,7 +117,7 @@ fn new_worker<'a, F: Minifilter, L: Ledger, R: Wait>(
     alloc: Global,
     manager: &'a Manager<F, L>,
     queue: &'a JobQueue,
-    gate: &'a OpenGate,
+    gate: &'a NoHook,
     passes: &mut Vec<JobPass>,
 ) -> Result<MemoryWorker<'a, F, L, R>, Status>
     requires { All (λ pass. IsPassOf queue.now pass) passes.old.items }
@@ -141,7 +141,7 @@ fn make_workers<'a, F: Minifilter, L: Ledger, R: Wait>(
     alloc: Global,
     manager: &'a Manager<F, L>,
     queue: &'a JobQueue,
-    gate: &'a OpenGate,
+    gate: &'a NoHook,
     passes: &mut Vec<JobPass>,
 ) -> Result<Workers<'a, F, L, R>, Status>
     requires { All (λ pass. IsPassOf queue.now pass) passes.old.items }
@@ -198,7 +198,7 @@ fn shared<F: Minifilter, L: Ledger + Send + Sync, R: Threads + Wait + Sync>(
     let manager = Manager::<F, L>::new(alloc, filters, blank)?;
     manager.mount(rt, Name::read(b"v")?)?;
     let (queue, mut passes) = JobQueue::new(alloc, 272, 5)?;
-    let gate = OpenGate;
+    let gate = NoHook;
     let workers = make_workers(rt, alloc, &manager, &queue, &gate, &mut passes)?;
     ask_beside(rt, alloc, &manager, workers, load)
 }

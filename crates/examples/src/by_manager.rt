@@ -6,11 +6,11 @@ use fm_core::{Hold, Step, StepReply};
 use fm_script::ScriptEnd;
 use fm_types::limits::PARTS;
 use fm_types::{FilterId, OpId, Status, VolumeId, WorkerId};
-use lock_rows::Rows;
 use std::alloc::Global;
 use std::marker::Brand;
 use std::sync::Wait;
 use std::sync::ledger::{Blank, Ledger};
+use test_lock::Rows;
 
 // How many parts a manager's ledger has.
 // How a manager ends after a script: contexts allocated and cleaned up, and references left behind.

@@ -7,7 +7,7 @@ mod by_manager;
 
 use crate::by_manager::{Stored, is_same};
 use fm_script::{ScriptEnd, script};
-use fm_view::{Manner, Shown, show_script};
+use fm_view::{Shown, ViewFormat, show_script};
 use std::alloc::{AllocError, Global};
 use std::io::Read;
 use std::sync::Wait;
@@ -174,7 +174,7 @@ fn check_all(rt: &HostRuntime, folder: &str) -> io::Result<bool> {
         let mut bytes = Vec::new(alloc);
         let status = show_script(
             alloc,
-            Shown::new(Manner::Check),
+            Shown::new(ViewFormat::Check),
             input.as_slice(),
             &mut bytes,
         );
@@ -192,18 +192,18 @@ fn is_nothing(alloc: Global) -> bool {
 }
 
 // Shows a script, and tells whether that is what its file of that ending has.
-fn is_shown(rt: &HostRuntime, name: &str, manner: Manner, ending: &str) -> io::Result<bool> {
+fn is_shown(rt: &HostRuntime, name: &str, format: ViewFormat, ending: &str) -> io::Result<bool> {
     let alloc = rt.alloc();
     let input = fs::read(rt, format!(in alloc; "{name}.flt")?)?;
     let wanted = fs::read(rt, format!(in alloc; "{name}.{ending}")?)?;
     let mut bytes = Vec::new(alloc);
-    let _ = show_script(alloc, Shown::new(manner), input.as_slice(), &mut bytes);
+    let _ = show_script(alloc, Shown::new(format), input.as_slice(), &mut bytes);
     Ok(bytes.as_slice() == wanted.as_slice())
 }
 
 // Tells whether a script is shown so as it should be.
-fn show(rt: &HostRuntime, name: &str, manner: Manner, ending: &str) -> io::Result<()> {
-    let verb = if is_shown(rt, name, manner, ending)? {
+fn show(rt: &HostRuntime, name: &str, format: ViewFormat, ending: &str) -> io::Result<()> {
+    let verb = if is_shown(rt, name, format, ending)? {
         "is"
     } else {
         "isn't"
@@ -214,11 +214,11 @@ fn show(rt: &HostRuntime, name: &str, manner: Manner, ending: &str) -> io::Resul
 // Tells of each script that is shown whether that is as it should be.
 fn show_all(rt: &HostRuntime) -> io::Result<()> {
     for name in SHOWN {
-        show(rt, name, Manner::Words, "txt")?;
-        show(rt, name, Manner::Picture, "svg")?;
+        show(rt, name, ViewFormat::Words, "txt")?;
+        show(rt, name, ViewFormat::Picture, "svg")?;
     }
     for name in SAID {
-        show(rt, name, Manner::Words, "txt")?;
+        show(rt, name, ViewFormat::Words, "txt")?;
     }
     Ok(())
 }

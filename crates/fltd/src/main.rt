@@ -2,7 +2,7 @@
 //! no memory or something couldn't be closed, with 2 if the words are none of its own, and with 3 if the folder, the socket or a write fails.
 #![tactic(auto)]
 
-use fm_front::{Asked, endpoint_of, front};
+use fm_front::{Invocation, endpoint_of, front};
 use std::io;
 use std::process::ExitCode;
 
@@ -12,8 +12,8 @@ const USAGE: &str = "usage: fltd FOLDER SOCKET [--workers N]";
 fn main(rt: HostRuntime) -> io::Result<ExitCode> {
     let mut out = io::writer(&rt);
     let status = match endpoint_of(&rt, USAGE, &mut out)? {
-        Asked::Serve(endpoint) => front(&rt, rt.alloc(), endpoint, out),
-        Asked::End(status) => status,
+        Invocation::Serve(endpoint) => front(&rt, rt.alloc(), endpoint, out),
+        Invocation::End(status) => status,
     };
     Ok(ExitCode::from(status))
 }

@@ -7,7 +7,7 @@
 #![tactic(auto)]
 
 use clap::{Arg, ArgAction, ArgMatches, Command, value_parser};
-use fm_view::{Manner, Shown, Strictness, check_scripts, show_script};
+use fm_view::{Shown, Strictness, ViewFormat, check_scripts, show_script};
 use std::alloc::{AllocError, Global};
 use std::process::ExitCode;
 
@@ -100,16 +100,16 @@ fn main(rt: HostRuntime) -> anyhow::Result<ExitCode> {
     if let Some(files) = matches.get_strs("FILE") {
         return check(&rt, &matches, files);
     }
-    let manner = if matches.get_flag("picture") {
-        Manner::Picture
+    let format = if matches.get_flag("picture") {
+        ViewFormat::Picture
     } else if matches.get_flag("json") {
-        Manner::Json
+        ViewFormat::Json
     } else if matches.get_flag("page") {
-        Manner::Page
+        ViewFormat::Page
     } else if matches.get_flag("check") {
-        Manner::Check
+        ViewFormat::Check
     } else {
-        Manner::Words
+        ViewFormat::Words
     };
     let shown = Shown {
         is_strict: matches.get_flag("strict"),
@@ -118,7 +118,7 @@ fn main(rt: HostRuntime) -> anyhow::Result<ExitCode> {
             matches.get_one::<u32>("from").unwrap_or(0),
             matches.get_one::<u32>("to").unwrap_or(u32::MAX),
         ),
-        ..Shown::new(manner)
+        ..Shown::new(format)
     };
     Ok(ExitCode::from(show_script(alloc, shown, rt.stdin(), rt.stdout())))
 }

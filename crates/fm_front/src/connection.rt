@@ -6,7 +6,7 @@ ghost use Rattle.fm_front.specs.Answering.{IsDone};
 use crate::exec::{ManagerExec, is_foreign};
 use crate::gate_seat::{ServerWorker, VolumeSeat};
 use crate::leftovers::Leftovers;
-use crate::line::Line;
+use crate::line::ClientLine;
 use fm_data::{Reply, Request};
 use fm_device::Device;
 use fm_filter::Callbacks;
@@ -56,7 +56,7 @@ impl<'a, F: Callbacks, L: Ledger, R: Wait, D: Device> Connection<'a, F, L, R, D>
     }
 
     /// A connection begins: its client is at the end of that line.
-    pub(crate) fn begin(&mut self, line: Line) {
+    pub(crate) fn begin(&mut self, line: ClientLine) {
         self.exec.begin(line);
     }
 

@@ -1,7 +1,7 @@
 //! The connections of a server: how they come in, are served and end.
 
 use crate::connection::Connection;
-use crate::line::Line;
+use crate::line::ClientLine;
 use crossbeam_channel::{Receiver, Sender, bounded};
 use fm_device::Device;
 use fm_filter::Callbacks;
@@ -117,7 +117,7 @@ impl<R: Wait + Clock> Connections<'_, R> {
         connection: &mut Connection<'_, F, L, R, D>,
     ) {
         if let Ok(own) = Arc::try_clone(&stream) {
-            connection.begin(Line::along(own));
+            connection.begin(ClientLine::along(own));
             self.serve_frames(&stream, connection);
         }
         connection.end();

@@ -1,11 +1,11 @@
 //! What a server stands on.
 
 use crate::faults::{fault_of, outside};
+use fm_cli::{Fault, Front};
 use fm_device::Bases;
 use fm_host::HostBase;
 use fm_types::Status;
 use fm_types::limits::CONNECTIONS;
-use fm_words::{Fault, Front};
 use std::alloc::Global;
 use std::io;
 use std::net::Net;

@@ -8,7 +8,7 @@ ghost use Rattle.fm_data.specs.declared.request.Reply.TheVariants as reply;
 
 use crate::gate_seat::ServerWorker;
 use crate::leftovers::Leftovers;
-use crate::line::Line;
+use crate::line::ClientLine;
 use crate::waiting::{Unanswered, ask, close};
 use fm_data::{Answer, FileRequest, Reply, Request};
 use fm_device::Device;
@@ -30,7 +30,7 @@ pub(crate) struct ManagerExec<'a, F: Drop, L: Ledger, R: Wait, D: Device> {
     alloc: Global,
     worker: ServerWorker<'a, F, L, R, D>,
     leftovers: &'a Leftovers,
-    line: Line,
+    line: ClientLine,
     handles: Vec<HandleId>,
 }
 
@@ -109,7 +109,7 @@ impl<'a, F: Callbacks, L: Ledger, R: Wait, D: Device> ManagerExec<'a, F, L, R, D
             alloc,
             worker,
             leftovers,
-            line: Line::cut(),
+            line: ClientLine::cut(),
             handles: Vec::new(alloc),
         }
     }
@@ -122,7 +122,7 @@ impl<'a, F: Callbacks, L: Ledger, R: Wait, D: Device> ManagerExec<'a, F, L, R, D
     }
 
     /// A connection begins: its client is at the end of that line.
-    pub(crate) fn begin(&mut self, line: Line) {
+    pub(crate) fn begin(&mut self, line: ClientLine) {
         self.line = line;
     }
 
@@ -155,7 +155,7 @@ impl<'a, F: Callbacks, L: Ledger, R: Wait, D: Device> ManagerExec<'a, F, L, R, D
 impl<F: Callbacks, L: Ledger, R: Wait + Clock, D: Device> ManagerExec<'_, F, L, R, D> {
     /// The connection ends: its line is cut, its handles are closed, and operations whose clients are gone are looked at.
     pub(crate) fn end(&mut self) {
-        self.line = Line::cut();
+        self.line = ClientLine::cut();
         let handles = mem::replace(&mut self.handles, Vec::new(self.alloc));
         self.leftovers.close_all(&mut self.worker, handles);
         self.leftovers.collect_orphans(&mut self.worker);

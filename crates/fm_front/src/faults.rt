@@ -1,7 +1,7 @@
 //! Statuses and errors as faults of a program.
 
+use fm_cli::Fault;
 use fm_types::Status;
-use fm_words::Fault;
 use std::alloc::AllocError;
 use std::io;
 

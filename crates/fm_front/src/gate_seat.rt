@@ -3,10 +3,10 @@
 ghost use Rattle.fm_rundown.specs.Seats.{IsSeatOf};
 
 use fm_rundown::{GateSeat, RundownGate};
-use fm_worker::{OpenGate, Worker};
+use fm_worker::{NoHook, Worker};
 
 /// A thread's worker at the server's manager.
-pub(crate) type ServerWorker<'a, F, L, R, D> = Worker<'a, F, L, R, OpenGate, D>;
+pub(crate) type ServerWorker<'a, F, L, R, D> = Worker<'a, F, L, R, NoHook, D>;
 
 /// A seat at the rundown gate of the volumes, with its gate.
 #[derive(Drop)]

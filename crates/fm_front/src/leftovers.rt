@@ -2,7 +2,7 @@
 
 use crate::gate_seat::ServerWorker;
 use crate::limits::ABANDONED;
-use crate::line::Line;
+use crate::line::ClientLine;
 use crate::waiting::{Orphan, Unanswered, close};
 use fm_device::Device;
 use fm_filter::Callbacks;
@@ -70,7 +70,7 @@ impl Leftovers {
         handle: HandleId,
     ) {
         let rt = worker.rt();
-        match close(worker, &Line::cut(), handle) {
+        match close(worker, &ClientLine::cut(), handle) {
             Ok(_) => {}
             Err(Unanswered::Refused(status)) => {
                 if stays_open(status) {

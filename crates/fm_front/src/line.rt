@@ -6,21 +6,21 @@ use std::sync::Arc;
 
 /// The line to a client, or that to one that is gone for certain.
 #[derive(Drop)]
-pub(crate) struct Line {
+pub(crate) struct ClientLine {
     stream: Option<Arc<UnixStream>>,
 }
 
-impl Line {
+impl ClientLine {
     /// The line along that stream.
-    pub(crate) fn along(stream: Arc<UnixStream>) -> Line {
-        Line {
+    pub(crate) fn along(stream: Arc<UnixStream>) -> ClientLine {
+        ClientLine {
             stream: Some(stream),
         }
     }
 
     /// A line at which nobody waits.
-    pub(crate) fn cut() -> Line {
-        Line { stream: None }
+    pub(crate) fn cut() -> ClientLine {
+        ClientLine { stream: None }
     }
 
     /// Whether nobody waits at its other end. A write of no bytes fails then; it waits for nothing, and what the client sent stays to be read. A client that

@@ -6,11 +6,11 @@ use crate::endpoint::Endpoint;
 use crate::faults::{fault_of, outside};
 use crate::samples::samples;
 use crate::server::run_server;
+use fm_cli::Fault;
 use fm_device::Device;
 use fm_filter::{Callbacks, Minifilter};
 use fm_types::limits::PARTS;
 use fm_types::{Name, Status};
-use fm_words::Fault;
 use std::alloc::Global;
 use std::io::{self, Write};
 use std::marker::Brand;
@@ -21,7 +21,7 @@ use std::time::Clock;
 
 /// What a server says at its end.
 #[derive(Clone, Copy, Drop)]
-pub(crate) struct Tally {
+pub(crate) struct ServerSummary {
     pub(crate) born: u64,
     pub(crate) cleaned: u64,
     pub(crate) leaks: u64,
@@ -35,7 +35,7 @@ fn serve<F, R, D, W>(
     filters: Vec<(Name, F)>,
     endpoint: Endpoint<D>,
     out: W,
-) -> (Result<Tally, Fault>, W)
+) -> (Result<ServerSummary, Fault>, W)
 where
     F: Callbacks + Send + Sync,
     R: Threads + Wait + Sync + Clock,
@@ -46,7 +46,7 @@ where
 }
 
 // Says what became of contexts.
-fn say<W: Write>(alloc: Global, tally: &Tally, out: &mut W) -> io::Result<()> {
+fn say<W: Write>(alloc: Global, tally: &ServerSummary, out: &mut W) -> io::Result<()> {
     let line = format!(in alloc;
         "born {} cleaned {} leaks {}\n",
         tally.born, tally.cleaned, tally.leaks
@@ -56,7 +56,7 @@ fn say<W: Write>(alloc: Global, tally: &Tally, out: &mut W) -> io::Result<()> {
 }
 
 // The exit status of a server that ended so, once it has said what became of contexts, or that something failed.
-fn finish<W: Write>(alloc: Global, served: Result<Tally, Fault>, out: &mut W) -> u8 {
+fn finish<W: Write>(alloc: Global, served: Result<ServerSummary, Fault>, out: &mut W) -> u8 {
     let told = match served {
         Ok(tally) => match say(alloc, &tally, out) {
             Ok(()) if tally.is_clean => return 0,

@@ -2,11 +2,11 @@
 
 use crate::faults::{fault_of, outside};
 use crate::program::{show_usage, tell};
+use fm_cli::{Fault, request_of};
 use fm_data::Reply;
 use fm_text::write_hex;
 use fm_types::Status;
 use fm_wire::{Body, Decoder, Frame, encode};
-use fm_words::{Fault, request_of};
 use std::alloc::{AllocError, Global};
 use std::io::{Read, Write};
 use std::net::{Net, TcpListener, TcpStream};

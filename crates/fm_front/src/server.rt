@@ -10,7 +10,8 @@ use crate::endpoint::Endpoint;
 use crate::faults::{fault_of, outside};
 use crate::gate_seat::{ServerWorker, VolumeSeat};
 use crate::leftovers::Leftovers;
-use crate::program::Tally;
+use crate::program::ServerSummary;
+use fm_cli::Fault;
 use fm_device::Device;
 use fm_filter::Callbacks;
 use fm_lock::{Hand, Manager};
@@ -18,8 +19,7 @@ use fm_queue::{JobPass, JobQueue};
 use fm_rundown::{GateSeat, RundownGate};
 use fm_types::limits::{CONNECTIONS, JOBS, WORKERS};
 use fm_types::{FilterId, Name, Status};
-use fm_words::Fault;
-use fm_worker::{OpenGate, Worker};
+use fm_worker::{NoHook, Worker};
 use std::alloc::{AllocError, Global};
 use std::io::Write;
 use std::os::unix::net::UnixListener;
@@ -40,13 +40,13 @@ const PAUSE: u64 = 10;
 
 /// What all threads of a server share.
 #[derive(Drop)]
-struct Shared<'a, F: Drop, L: Ledger, R: Wait> {
+struct ServerShared<'a, F: Drop, L: Ledger, R: Wait> {
     rt: &'a R,
     alloc: Global,
     manager: &'a Manager<F, L>,
     queue: &'a JobQueue,
     rundown: &'a RundownGate,
-    gate: &'a OpenGate,
+    gate: &'a NoHook,
     leftovers: &'a Leftovers,
 }
 
@@ -59,7 +59,7 @@ fn take_seat(rundown: &RundownGate, seats: &mut Vec<GateSeat>) -> Option<GateSea
     seats.pop()
 }
 
-impl<'a, F: Callbacks, L: Ledger, R: Wait> Shared<'a, F, L, R> {
+impl<'a, F: Callbacks, L: Ledger, R: Wait> ServerShared<'a, F, L, R> {
     // The worker of a thread, over those devices.
     fn worker<D: Device>(
         &self,
@@ -136,7 +136,7 @@ impl<'a, F: Callbacks, L: Ledger, R: Wait> Shared<'a, F, L, R> {
     }
 }
 
-impl<'a, F: Callbacks, L: Ledger, R: Wait> Shared<'a, F, L, R> {
+impl<'a, F: Callbacks, L: Ledger, R: Wait> ServerShared<'a, F, L, R> {
     // What the threads own.
     fn parts<D: Device>(
         &self,
@@ -144,13 +144,13 @@ impl<'a, F: Callbacks, L: Ledger, R: Wait> Shared<'a, F, L, R> {
         seats: &mut Vec<GateSeat>,
         workers: Vec<D>,
         connections: Vec<D>,
-    ) -> Result<Parts<'a, F, L, R, D>, Status>
+    ) -> Result<ThreadParts<'a, F, L, R, D>, Status>
         requires passes { All (λ pass. IsPassOf self.now.queue.now pass) passes.old.items }
         requires seats { All (λ seat. IsSeatOf self.now.rundown.now seat) seats.old.items }
     {
         let workers = self.workers(passes, workers)?;
         let connections = self.connections(passes, seats, connections)?;
-        Ok(Parts {
+        Ok(ThreadParts {
             workers,
             connections,
         })
@@ -242,10 +242,10 @@ fn end_filters<F: Callbacks, L: Ledger, R: Wait, D: Device>(
 
 // The hands of these threads. There is room for them.
 fn gather_hands<F: Callbacks, L: Ledger, R: Wait, D: Device>(
-    parts: Parts<'_, F, L, R, D>,
+    parts: ThreadParts<'_, F, L, R, D>,
     hands: &mut Vec<Hand<L>>,
 ) {
-    let Parts {
+    let ThreadParts {
         workers,
         connections,
     } = parts;
@@ -274,7 +274,7 @@ struct Outcome {
 
 /// What the threads of a server own: workers, and places for connections.
 #[derive(Drop)]
-struct Parts<'a, F: Drop, L: Ledger, R: Wait, D: Device> {
+struct ThreadParts<'a, F: Drop, L: Ledger, R: Wait, D: Device> {
     workers: Vec<ServerWorker<'a, F, L, R, D>>,
     connections: Vec<Connection<'a, F, L, R, D>>,
 }
@@ -411,11 +411,11 @@ fn serve_beside<'a, F, L, R, D, W>(
     connections: &Connections<'_, R>,
     leftovers: &Leftovers,
     manager: &Manager<F, L>,
-    parts: Parts<'a, F, L, R, D>,
+    parts: ThreadParts<'a, F, L, R, D>,
     listener: UnixListener,
     incoming: Incoming,
     out: W,
-) -> (Outcome, Parts<'a, F, L, R, D>, W)
+) -> (Outcome, ThreadParts<'a, F, L, R, D>, W)
 where
     F: Callbacks + Send + Sync,
     L: Ledger + Send + Sync,
@@ -423,7 +423,7 @@ where
     D: Device + Send,
     W: Write + Drop,
 {
-    let Parts {
+    let ThreadParts {
         mut workers,
         connections: mut all,
     } = parts;
@@ -445,7 +445,7 @@ where
     end_filters(&mut all, manager.filters(rt));
     (
         outcome,
-        Parts {
+        ThreadParts {
             workers,
             connections: all,
         },
@@ -486,8 +486,8 @@ where
         Ok(leftovers) => leftovers,
         Err(status) => return (Err(status), out),
     };
-    let gate = OpenGate;
-    let shared = Shared {
+    let gate = NoHook;
+    let shared = ServerShared {
         rt,
         alloc,
         manager,
@@ -530,7 +530,7 @@ pub(crate) fn run_server<F, L, R, D, W>(
     blank: Blank,
     endpoint: Endpoint<D>,
     out: W,
-) -> (Result<Tally, Fault>, W)
+) -> (Result<ServerSummary, Fault>, W)
 where
     F: Callbacks + Send + Sync,
     L: Ledger + Send + Sync,
@@ -591,17 +591,17 @@ fn end<F: Callbacks, L: Ledger, R: Wait>(
     manager: Manager<F, L>,
     hands: Vec<Hand<L>>,
     is_clean: bool,
-) -> Tally
+) -> ServerSummary
     requires { L.parts ≡ 49 }
 {
     match manager.shutdown(hands) {
-        Ok(report) => Tally {
+        Ok(report) => ServerSummary {
             born: report.born,
             cleaned: report.cleaned,
             leaks: report.leaks,
             is_clean,
         },
-        Err((manager, _hands, _status)) => Tally {
+        Err((manager, _hands, _status)) => ServerSummary {
             born: manager.born(rt),
             cleaned: manager.cleaned_count(rt),
             leaks: manager.leaks(rt),

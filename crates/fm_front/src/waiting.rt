@@ -1,7 +1,7 @@
 //! Waiting for the answers of operations, as long as somebody wants them.
 
 use crate::gate_seat::ServerWorker;
-use crate::line::Line;
+use crate::line::ClientLine;
 use fm_data::{Answer, FileRequest, Request};
 use fm_device::Device;
 use fm_filter::Callbacks;
@@ -34,7 +34,7 @@ pub(crate) enum Unanswered {
 /// Begins an operation, and waits for its answer as long as its client is there.
 pub(crate) fn ask<F: Callbacks, L: Ledger, R: Wait + Clock, D: Device>(
     worker: &mut ServerWorker<'_, F, L, R, D>,
-    line: &Line,
+    line: &ClientLine,
     request: Request,
 ) -> Result<Answer, Unanswered> {
     let is_create = matches!(request, Request::Create { .. });
@@ -62,7 +62,7 @@ pub(crate) fn ask<F: Callbacks, L: Ledger, R: Wait + Clock, D: Device>(
 /// still there then.
 pub(crate) fn close<F: Callbacks, L: Ledger, R: Wait + Clock, D: Device>(
     worker: &mut ServerWorker<'_, F, L, R, D>,
-    line: &Line,
+    line: &ClientLine,
     handle: HandleId,
 ) -> Result<Answer, Unanswered> {
     let request = FileRequest::Cleanup;

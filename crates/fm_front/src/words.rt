@@ -2,8 +2,8 @@
 
 use crate::endpoint::{Endpoint, Folder, prepare};
 use crate::program::show_usage;
+use fm_cli::{Fault, front_of};
 use fm_types::Status;
-use fm_words::{Fault, front_of};
 use std::alloc::Global;
 use std::env::{self, Env};
 use std::io::{self, Write};
@@ -30,7 +30,7 @@ pub fn texts<'a>(alloc: Global, words: &'a [String]) -> io::Result<Vec<&'a str>>
 
 /// What the words of a server program ask for.
 #[derive(Drop)]
-pub enum Asked<D: Drop> {
+pub enum Invocation<D: Drop> {
     /// To serve there, or what is in the way.
     Serve(Result<Endpoint<D>, Fault>),
     /// Nothing: the program ends with that exit status.
@@ -39,21 +39,21 @@ pub enum Asked<D: Drop> {
 
 /// What the program is asked for by its words, `FOLDER SOCKET [--workers N]`: with them the folder and the socket are made ready (`prepare`). Without words the
 /// usage is printed, and the exit status is 0; it is 2 where the words are others, or not UTF-8, and 1 if memory is refused. Fails if the words can't be read.
-pub fn endpoint_of<R, W>(rt: &R, usage: &str, out: &mut W) -> io::Result<Asked<Folder<R>>>
+pub fn endpoint_of<R, W>(rt: &R, usage: &str, out: &mut W) -> io::Result<Invocation<Folder<R>>>
 where
     R: Env + Files + Net + AllocGlobal + Clone + Drop,
     W: Write,
 {
     let Some(words) = words_of(rt)? else {
-        return Ok(Asked::End(show_usage(usage, 2, out)));
+        return Ok(Invocation::End(show_usage(usage, 2, out)));
     };
     if words.is_empty() {
-        return Ok(Asked::End(show_usage(usage, 0, out)));
+        return Ok(Invocation::End(show_usage(usage, 0, out)));
     }
     let words = texts(rt.alloc(), words.as_slice())?;
     Ok(match front_of(rt.alloc(), words.as_slice()) {
-        Ok(front) => Asked::Serve(prepare(rt, rt.alloc(), &front)),
-        Err(Status::NoMemory) => Asked::End(1),
-        Err(_) => Asked::End(show_usage(usage, 2, out)),
+        Ok(front) => Invocation::Serve(prepare(rt, rt.alloc(), &front)),
+        Err(Status::NoMemory) => Invocation::End(1),
+        Err(_) => Invocation::End(show_usage(usage, 2, out)),
     })
 }

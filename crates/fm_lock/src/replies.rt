@@ -9,16 +9,16 @@ use fm_types::{Bytes, CtxId, HandleId, InstanceId, OpId, Status, VolumeId};
 use fm_world::{Refused, SetAnswer, Step, StepReply};
 
 /// What an event by the lock answers.
-type Given = Result<StepReply, Refused<Step>>;
+type StepResult = Result<StepReply, Refused<Step>>;
 
 // No answer of the kind that is asked for.
-fn wrong<T>(_given: Given) -> Result<T, Status>
+fn wrong<T>(_given: StepResult) -> Result<T, Status>
     ensures { result ≡ Err Status.WrongStep }
 {
     Err(Status::WrongStep)
 }
 
-pub(crate) fn volume_in(given: Given) -> Result<VolumeId, Status>
+pub(crate) fn volume_in(given: StepResult) -> Result<VolumeId, Status>
     ensures { result ≡ volume_in given }
 {
     match given {
@@ -27,7 +27,7 @@ pub(crate) fn volume_in(given: Given) -> Result<VolumeId, Status>
     }
 }
 
-pub(crate) fn instance_in(given: Given) -> Result<InstanceId, Status>
+pub(crate) fn instance_in(given: StepResult) -> Result<InstanceId, Status>
     ensures { result ≡ instance_in given }
 {
     match given {
@@ -36,7 +36,7 @@ pub(crate) fn instance_in(given: Given) -> Result<InstanceId, Status>
     }
 }
 
-pub(crate) fn operation_in(given: Given) -> Result<OpId, Status>
+pub(crate) fn operation_in(given: StepResult) -> Result<OpId, Status>
     ensures { result ≡ operation_in given }
 {
     match given {
@@ -45,7 +45,7 @@ pub(crate) fn operation_in(given: Given) -> Result<OpId, Status>
     }
 }
 
-pub(crate) fn done_in(given: Given) -> Result<(), Status>
+pub(crate) fn done_in(given: StepResult) -> Result<(), Status>
     ensures { result ≡ done_in given }
 {
     match given {
@@ -54,7 +54,7 @@ pub(crate) fn done_in(given: Given) -> Result<(), Status>
     }
 }
 
-pub(crate) fn held_in(given: Given) -> Result<Option<OpId>, Status>
+pub(crate) fn held_in(given: StepResult) -> Result<Option<OpId>, Status>
     ensures { result ≡ held_in given }
 {
     match given {
@@ -63,7 +63,7 @@ pub(crate) fn held_in(given: Given) -> Result<Option<OpId>, Status>
     }
 }
 
-pub(crate) fn drained_in(given: Given) -> Result<Option<(OpId, Completion)>, Status>
+pub(crate) fn drained_in(given: StepResult) -> Result<Option<(OpId, Completion)>, Status>
     ensures { result ≡ drained_in given }
 {
     match given {
@@ -72,7 +72,7 @@ pub(crate) fn drained_in(given: Given) -> Result<Option<(OpId, Completion)>, Sta
     }
 }
 
-pub(crate) fn dropped_in(given: Given) -> Result<Option<HandleId>, Status>
+pub(crate) fn dropped_in(given: StepResult) -> Result<Option<HandleId>, Status>
     ensures { result ≡ dropped_in given }
 {
     match given {
@@ -81,7 +81,7 @@ pub(crate) fn dropped_in(given: Given) -> Result<Option<HandleId>, Status>
     }
 }
 
-pub(crate) fn context_in(given: Given) -> Result<CtxId, Status>
+pub(crate) fn context_in(given: StepResult) -> Result<CtxId, Status>
     ensures { result ≡ context_in given }
 {
     match given {
@@ -90,7 +90,7 @@ pub(crate) fn context_in(given: Given) -> Result<CtxId, Status>
     }
 }
 
-pub(crate) fn old_in(given: Given) -> Result<Option<CtxId>, Status>
+pub(crate) fn old_in(given: StepResult) -> Result<Option<CtxId>, Status>
     ensures { result ≡ old_in given }
 {
     match given {
@@ -99,7 +99,7 @@ pub(crate) fn old_in(given: Given) -> Result<Option<CtxId>, Status>
     }
 }
 
-pub(crate) fn body_in(given: Given) -> Result<Bytes, Status>
+pub(crate) fn body_in(given: StepResult) -> Result<Bytes, Status>
     ensures { result ≡ body_in given }
 {
     match given {
@@ -108,7 +108,7 @@ pub(crate) fn body_in(given: Given) -> Result<Bytes, Status>
     }
 }
 
-pub(crate) fn number_in(given: Given) -> Result<u64, Status>
+pub(crate) fn number_in(given: StepResult) -> Result<u64, Status>
     ensures { result ≡ number_in given }
 {
     match given {
@@ -117,7 +117,7 @@ pub(crate) fn number_in(given: Given) -> Result<u64, Status>
     }
 }
 
-pub(crate) fn due_in(given: Given) -> Result<Option<Due>, Status>
+pub(crate) fn due_in(given: StepResult) -> Result<Option<Due>, Status>
     ensures { result ≡ due_in given }
 {
     match given {
@@ -126,7 +126,7 @@ pub(crate) fn due_in(given: Given) -> Result<Option<Due>, Status>
     }
 }
 
-pub(crate) fn set_in(given: Given) -> SetAnswer
+pub(crate) fn set_in(given: StepResult) -> SetAnswer
     ensures { result ≡ set_in given }
 {
     match given {

@@ -17,15 +17,15 @@ const PAUSE: usize = 3_000;
 
 /// A condition that clients wait by.
 #[derive(Drop)]
-pub(crate) struct Place {
+pub(crate) struct WaitPlace {
     pub(crate) changed: Condvar,
     // The number of the operation that was last told done here. It is a hint alone.
     told: AtomicU64,
 }
 
-impl Place {
-    fn new() -> Place {
-        Place {
+impl WaitPlace {
+    fn new() -> WaitPlace {
+        WaitPlace {
             changed: Condvar::new(),
             told: AtomicU64::new(u64::MAX),
         }
@@ -45,7 +45,7 @@ impl Place {
 /// The places where clients wait: each at that of its operation's number. So the end of an operation wakes its own client, and few others.
 #[derive(Drop)]
 pub(crate) struct Waiting {
-    places: [Place; PLACES],
+    places: [WaitPlace; PLACES],
     // How many clients wait.
     clients: AtomicU64,
     // How long the next clients look.
@@ -68,7 +68,7 @@ fn place_of(operation: OpId) -> usize
 impl Waiting {
     pub(crate) fn new() -> Waiting {
         Waiting {
-            places: array::from_fn(|_| Place::new()),
+            places: array::from_fn(|_| WaitPlace::new()),
             clients: AtomicU64::new(0),
             looks: Looks::new(),
             workers: AtomicU64::new(0),
@@ -76,7 +76,7 @@ impl Waiting {
     }
 
     /// The place of an operation.
-    pub(crate) fn place(&self, operation: OpId) -> &Place {
+    pub(crate) fn place(&self, operation: OpId) -> &WaitPlace {
         &self.places[place_of(operation)]
     }
 

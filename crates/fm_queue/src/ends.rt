@@ -4,14 +4,14 @@ ghost use Rattle.std.specs.Prelude.{◌≡◌};
 ghost use Rattle.crossbeam_channel.specs.Ends.{sends_on, receives_on};
 
 use crate::job::Job;
-use crate::kept::Kept;
-use crate::tally::Tally;
+use crate::kept::JobsKept;
+use crate::tally::PassTally;
 use crossbeam_channel::{RuledReceiver, RuledSender};
 
 /// Both ends of one channel.
 #[derive(Drop)]
 pub struct Ends {
-    pub sender: RuledSender<Job, Tally, Kept>,
-    pub receiver: RuledReceiver<Job, Tally, Kept>,
+    pub sender: RuledSender<Job, PassTally, JobsKept>,
+    pub receiver: RuledReceiver<Job, PassTally, JobsKept>,
     ghost one_channel: { receives_on receiver ≡ sends_on sender },
 }

@@ -1,13 +1,13 @@
 //! The queue's rule, and what each step of a pass tells the pass.
 
 use crate::job::Job;
-use crate::tally::Tally;
+use crate::tally::PassTally;
 use crossbeam_channel::protocol::{Join, Lesson, Outcome, Protocol, Split};
 
 /// The rule that jobs are kept.
-pub struct Kept;
+pub struct JobsKept;
 
-impl Protocol<Job, Tally> for Kept {
+impl Protocol<Job, PassTally> for JobsKept {
     ghost use Rattle.fm_queue.specs.Tallies.{first_tally, JobsAreKept};
 
     ghost holds = { JobsAreKept };
@@ -18,14 +18,14 @@ impl Protocol<Job, Tally> for Kept {
 /// A job put: the pass has put it, last.
 pub struct Put;
 
-impl Outcome<Job, Tally> for Put {
+impl Outcome<Job, PassTally> for Put {
     ghost use Rattle.std.specs.Prelude.{◌≡◌};
     ghost use Rattle.fm_queue.specs.Tallies.{after_put};
 
     ghost then = { λ before job after. after ≡ after_put before job };
 }
 
-impl Lesson<Job, Tally> for Put {
+impl Lesson<Job, PassTally> for Put {
     ghost use Rattle.fm_queue.specs.Tallies.{KnowsAll};
 
     ghost fact = { KnowsAll };
@@ -34,14 +34,14 @@ impl Lesson<Job, Tally> for Put {
 /// A job taken: the pass has taken it, last.
 pub struct Take;
 
-impl Outcome<Job, Tally> for Take {
+impl Outcome<Job, PassTally> for Take {
     ghost use Rattle.std.specs.Prelude.{◌≡◌};
     ghost use Rattle.fm_queue.specs.Tallies.{after_take};
 
     ghost then = { λ before job after. after ≡ after_take before job };
 }
 
-impl Lesson<Job, Tally> for Take {
+impl Lesson<Job, PassTally> for Take {
     ghost use Rattle.fm_queue.specs.Tallies.{KnowsAll};
 
     ghost fact = { KnowsAll };
@@ -50,7 +50,7 @@ impl Lesson<Job, Tally> for Take {
 /// A pass made of another: it gets one part and an empty past.
 pub struct Cut;
 
-impl Split<Tally> for Cut {
+impl Split<PassTally> for Cut {
     ghost use Rattle.fm_queue.specs.Tallies.{cut_tally, new_tally};
 
     ghost left = { cut_tally };
@@ -61,7 +61,7 @@ impl Split<Tally> for Cut {
 /// A pass that takes in another: its parts and its past.
 pub struct Whole;
 
-impl Join<Tally> for Whole {
+impl Join<PassTally> for Whole {
     ghost use Rattle.fm_queue.specs.Tallies.{joined, spent_tally};
 
     ghost both = { joined };

@@ -12,4 +12,4 @@ mod tally;
 
 pub use crate::job::Job;
 pub use crate::queue::{JobPass, JobQueue};
-pub use crate::tally::Tally;
+pub use crate::tally::PassTally;

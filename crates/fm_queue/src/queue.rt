@@ -8,8 +8,8 @@ ghost use Rattle.fm_queue.specs.Calls.{NewRefused, Puts, IsFull, KeepsJobs, MayT
 use crate::bell::Bell;
 use crate::ends::Ends;
 use crate::job::Job;
-use crate::kept::{Cut, Kept, Put, Take, Whole};
-use crate::tally::Tally;
+use crate::kept::{Cut, JobsKept, Put, Take, Whole};
+use crate::tally::PassTally;
 use crossbeam_channel::{Pass, TrySendError, bounded_with};
 use fm_types::Status;
 use std::alloc::{AllocError, Global};
@@ -17,7 +17,7 @@ use std::sync::Wait;
 
 /// The right to put and take, for one thread at a time, of the queue that it was made with. It has no bytes. In contracts it knows what was put
 /// and taken with it (`tally_of`).
-pub type JobPass = Pass<Job, Tally>;
+pub type JobPass = Pass<Job, PassTally>;
 
 /// A bounded queue of jobs, shared by reference among threads.
 #[derive(Drop)]
@@ -56,7 +56,9 @@ impl JobQueue {
         ensures own { IfOk result (λ made. IsPassOf made.0 made.1) }
         ensures idle { IfOk result (λ made. tally_of made.1 ≡ empty_tally every_part) }
     {
-        let (sender, receiver, first) = bounded_with::<Job, Tally, Kept, Global>(alloc, capacity)?;
+        let (sender, receiver, first) = bounded_with::<Job, PassTally, JobsKept, Global>(
+            alloc, capacity,
+        )?;
         let queue = JobQueue {
             ends: Ends { sender, receiver },
             bell: Bell::new(),

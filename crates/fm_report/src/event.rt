@@ -8,7 +8,7 @@ use fm_types::{InstanceId, OpId, Status};
 
 /// A worker's visit of an instance for an operation.
 #[derive(Clone, Copy)]
-pub struct Visit {
+pub struct InstanceVisit {
     /// The worker.
     pub worker: u64,
     /// The operation.
@@ -61,7 +61,7 @@ impl Event {
     }
 
     /// What a worker did on its visit.
-    pub fn on(kind: Kind, visit: Visit) -> Event {
+    pub fn on(kind: Kind, visit: InstanceVisit) -> Event {
         let facts = Facts {
             worker: Some(visit.worker),
             operation: Some(visit.operation),
@@ -72,7 +72,12 @@ impl Event {
     }
 
     /// The verdict of a preoperation, given there or as it is resumed, and the context that it sent along.
-    pub fn verdict(kind: Kind, visit: Visit, verdict: PreVerdict, context: Option<u64>) -> Event {
+    pub fn verdict(
+        kind: Kind,
+        visit: InstanceVisit,
+        verdict: PreVerdict,
+        context: Option<u64>,
+    ) -> Event {
         let facts = Facts {
             worker: Some(visit.worker),
             operation: Some(visit.operation),

@@ -5,8 +5,8 @@ use crate::facts::Facts;
 use crate::kind::Kind;
 use crate::named::{kind_word, mode_word};
 use crate::notes::{Change, LeakNote, Notes, What};
-use crate::object::Object;
-use crate::tally::Tally;
+use crate::object::JsonObject;
+use crate::tally::Summary;
 use crate::text::Text;
 use fm_core::{Phase, Place};
 use fm_data::PreVerdict;
@@ -18,7 +18,7 @@ pub const FORMAT: u64 = 1;
 
 /// What an object says beside its event.
 #[derive(Clone, Copy)]
-pub struct Told<'a> {
+pub struct ObjectDetail<'a> {
     /// The number of the line.
     pub line: u32,
     /// The line.
@@ -66,21 +66,27 @@ impl<'a> Detail<'a> {
 
 /// Appends the first object: the number of the schema.
 pub fn say_begin_json(alloc: Global, text: &mut Text) {
-    let mut object = Object::new(alloc, 0, "Run");
+    let mut object = JsonObject::new(alloc, 0, "Run");
     object.number("format", FORMAT);
     object.finish(text)
 }
 
 /// Appends a line that asks for nothing.
 pub fn say_comment_json(alloc: Global, text: &mut Text, line: u32, comment: &[u8]) {
-    let mut object = Object::new(alloc, line, "Comment");
+    let mut object = JsonObject::new(alloc, line, "Comment");
     object.written("command", "raw", comment);
     object.finish(text)
 }
 
 /// Appends what happened.
-pub fn say_json(alloc: Global, text: &mut Text, notes: &Notes, event: &Event, told: &Told<'_>) {
-    let mut object = Object::new(alloc, told.line, event.kind.name());
+pub fn say_json(
+    alloc: Global,
+    text: &mut Text,
+    notes: &Notes,
+    event: &Event,
+    told: &ObjectDetail<'_>,
+) {
+    let mut object = JsonObject::new(alloc, told.line, event.kind.name());
     object.written("command", "raw", told.command);
     object.text("words", told.words);
     put_facts(&mut object, &event.facts);
@@ -90,7 +96,7 @@ pub fn say_json(alloc: Global, text: &mut Text, notes: &Notes, event: &Event, to
 }
 
 // The ids of an event, its status, its verdict, its kind and its phase, where it has them.
-fn put_facts(object: &mut Object, facts: &Facts) {
+fn put_facts(object: &mut JsonObject, facts: &Facts) {
     put_ids(object, facts);
     if let Some(status) = facts.status {
         put_status(object, status);
@@ -107,7 +113,7 @@ fn put_facts(object: &mut Object, facts: &Facts) {
     }
 }
 
-fn put_ids(object: &mut Object, facts: &Facts) {
+fn put_ids(object: &mut JsonObject, facts: &Facts) {
     object.maybe("worker", 'w', facts.worker);
     object.maybe("filter", 'f', facts.filter);
     object.maybe("volume", 'v', facts.volume);
@@ -119,7 +125,7 @@ fn put_ids(object: &mut Object, facts: &Facts) {
 }
 
 // What an event has beside: what is noted of what it names, its number under its name, and why it was refused.
-fn put_more(object: &mut Object, notes: &Notes, event: &Event, reason: &str) {
+fn put_more(object: &mut JsonObject, notes: &Notes, event: &Event, reason: &str) {
     if event.kind.is_of_context() {
         put_context(object, notes, event.facts.context);
     }
@@ -135,7 +141,7 @@ fn put_more(object: &mut Object, notes: &Notes, event: &Event, reason: &str) {
 }
 
 // The number of an event, under its name.
-fn put_number(object: &mut Object, kind: Kind, number: u64) {
+fn put_number(object: &mut JsonObject, kind: Kind, number: u64) {
     match kind {
         Kind::Bumped => object.number("number", number),
         Kind::Leaks | Kind::Failures | Kind::Flight | Kind::Counted => {
@@ -150,7 +156,7 @@ fn put_number(object: &mut Object, kind: Kind, number: u64) {
 }
 
 // What an event doesn't have itself, but for why it was refused.
-fn put_detail(object: &mut Object, detail: &Detail<'_>) {
+fn put_detail(object: &mut JsonObject, detail: &Detail<'_>) {
     if let Some(counted) = detail.counted {
         put_counted(object, counted);
     }
@@ -164,7 +170,7 @@ fn put_detail(object: &mut Object, detail: &Detail<'_>) {
 }
 
 // The verdict that counts.
-fn put_counted(object: &mut Object, counted: PreVerdict) {
+fn put_counted(object: &mut JsonObject, counted: PreVerdict) {
     object.text("counted", verdict_word(counted));
     match counted {
         PreVerdict::Complete(status) => {
@@ -175,7 +181,7 @@ fn put_counted(object: &mut Object, counted: PreVerdict) {
 }
 
 // The names of a filter, of a volume or of an instance that came.
-fn put_names(object: &mut Object, notes: &Notes, facts: &Facts) {
+fn put_names(object: &mut JsonObject, notes: &Notes, facts: &Facts) {
     match (facts.filter, facts.volume, facts.instance) {
         (_, _, Some(instance)) => put_instance(object, notes, instance),
         (Some(filter), _, None) => match notes.filter(filter) {
@@ -190,12 +196,12 @@ fn put_names(object: &mut Object, notes: &Notes, facts: &Facts) {
     }
 }
 
-fn put_name(object: &mut Object, name: &[u8]) {
+fn put_name(object: &mut JsonObject, name: &[u8]) {
     object.written("name", "raw_name", name)
 }
 
 // The filter and the volume of an instance, its name and its altitude.
-fn put_instance(object: &mut Object, notes: &Notes, instance: u64) {
+fn put_instance(object: &mut JsonObject, notes: &Notes, instance: u64) {
     let Some(note) = notes.instance(instance) else {
         return;
     };
@@ -206,7 +212,7 @@ fn put_instance(object: &mut Object, notes: &Notes, instance: u64) {
 }
 
 // A status with its name; behind Busy stands how many things are in the way.
-fn put_status(object: &mut Object, status: Status) {
+fn put_status(object: &mut JsonObject, status: Status) {
     object.number("status", u64::from(status.number()));
     object.text("status_name", status.name());
     match status {
@@ -215,7 +221,7 @@ fn put_status(object: &mut Object, status: Status) {
     }
 }
 
-fn put_verdict(object: &mut Object, verdict: PreVerdict) {
+fn put_verdict(object: &mut JsonObject, verdict: PreVerdict) {
     object.text("verdict", verdict_word(verdict));
     match verdict {
         PreVerdict::Complete(status) => put_status(object, status),
@@ -234,7 +240,7 @@ fn verdict_word(verdict: PreVerdict) -> &'static str {
 }
 
 // What the number of a reply is.
-fn put_reply(object: &mut Object, notes: &Notes, facts: &Facts) {
+fn put_reply(object: &mut JsonObject, notes: &Notes, facts: &Facts) {
     match (notes.what(facts.operation), facts.status) {
         (Some(What::Create(..)), Some(Status::Success)) => object.id("handle", 'h', facts.number),
         (Some(What::Size(_)), Some(Status::Success)) => object.number("size", facts.number),
@@ -243,7 +249,7 @@ fn put_reply(object: &mut Object, notes: &Notes, facts: &Facts) {
 }
 
 // What an operation does, and on which volume.
-fn put_request(object: &mut Object, notes: &Notes, operation: Option<u64>) {
+fn put_request(object: &mut JsonObject, notes: &Notes, operation: Option<u64>) {
     let Some(what) = notes.what(operation) else {
         return;
     };
@@ -265,7 +271,7 @@ fn put_request(object: &mut Object, notes: &Notes, operation: Option<u64>) {
 }
 
 // The kind of a context, and whose it is.
-fn put_context(object: &mut Object, notes: &Notes, context: Option<u64>) {
+fn put_context(object: &mut JsonObject, notes: &Notes, context: Option<u64>) {
     let Some(note) = context.and_then(|context| notes.context(context)) else {
         return;
     };
@@ -275,14 +281,14 @@ fn put_context(object: &mut Object, notes: &Notes, context: Option<u64>) {
 
 /// Appends how far the life of an instance came on a line.
 pub fn say_change_json(alloc: Global, text: &mut Text, change: &Change) {
-    let mut object = Object::new(alloc, change.line, "Became");
+    let mut object = JsonObject::new(alloc, change.line, "Became");
     object.id("instance", 'i', u64::from(change.instance));
     object.text("phase", phase_name(change.phase));
     object.finish(text)
 }
 
 /// Puts which callback it is, of which instance, and for which operation.
-pub(crate) fn put_place(object: &mut Object, place: Place) {
+pub(crate) fn put_place(object: &mut JsonObject, place: Place) {
     object.text("callback", callback_of(place));
     object.maybe("instance", 'i', instance_in(place));
     object.maybe("operation", 'o', operation_in(place))
@@ -290,7 +296,7 @@ pub(crate) fn put_place(object: &mut Object, place: Place) {
 
 /// Appends that a callback left a reference behind.
 pub fn say_leak_json(alloc: Global, text: &mut Text, notes: &Notes, leak: &LeakNote, words: &str) {
-    let mut object = Object::new(alloc, leak.line, "Leaked");
+    let mut object = JsonObject::new(alloc, leak.line, "Leaked");
     object.text("words", words);
     object.id("context", 'c', leak.context);
     put_context(&mut object, notes, Some(leak.context));
@@ -306,7 +312,7 @@ pub fn say_expectation_json(
     expected: &[u8],
     (is_met, printed): (bool, &[u8]),
 ) {
-    let mut object = Object::new(alloc, line, if is_met { "Met" } else { "Unmet" });
+    let mut object = JsonObject::new(alloc, line, if is_met { "Met" } else { "Unmet" });
     object.written("expected", "raw", expected);
     if !is_met {
         object.lines("answered", printed);
@@ -315,8 +321,8 @@ pub fn say_expectation_json(
 }
 
 /// Appends what is left at the end, and the exit status.
-pub fn say_end_json(alloc: Global, text: &mut Text, tally: &Tally, words: &str) {
-    let mut object = Object::new(alloc, tally.lines, "End");
+pub fn say_end_json(alloc: Global, text: &mut Text, tally: &Summary, words: &str) {
+    let mut object = JsonObject::new(alloc, tally.lines, "End");
     object.text("words", words);
     object.text("verdict", tally.verdict());
     object.number("status", u64::from(tally.status));
@@ -326,7 +332,7 @@ pub fn say_end_json(alloc: Global, text: &mut Text, tally: &Tally, words: &str) 
 }
 
 // The figures of each run.
-fn put_figures(object: &mut Object, tally: &Tally) {
+fn put_figures(object: &mut JsonObject, tally: &Summary) {
     object.number("refused", tally.refused);
     object.number("born", tally.born);
     object.number("cleaned", tally.cleaned);
@@ -337,7 +343,7 @@ fn put_figures(object: &mut Object, tally: &Tally) {
 }
 
 // Those of a trial.
-fn put_trial(object: &mut Object, tally: &Tally) {
+fn put_trial(object: &mut JsonObject, tally: &Summary) {
     if let Some(told) = tally.told {
         object.number("told", told);
     }

@@ -21,10 +21,10 @@ mod verbs;
 mod words;
 
 pub use crate::counted::{counted_for, held_at, stands_at};
-pub use crate::event::{Event, Moment, Visit, callback_of, instance_in, operation_in};
+pub use crate::event::{Event, InstanceVisit, Moment, callback_of, instance_in, operation_in};
 pub use crate::facts::Facts;
 pub use crate::json::{
-    Detail, Told, say_begin_json, say_change_json, say_comment_json, say_end_json,
+    Detail, ObjectDetail, say_begin_json, say_change_json, say_comment_json, say_end_json,
     say_expectation_json, say_json, say_leak_json,
 };
 pub use crate::kind::{Kind, Tone};
@@ -38,8 +38,8 @@ pub use crate::notes::{
 pub use crate::pattern::fill;
 pub use crate::push::{push_ascii, push_count, push_number};
 pub use crate::status::sentence;
-pub use crate::tally::{Fault, Tally};
-pub use crate::teller::{Teller, Telling};
+pub use crate::tally::{RunFault, Summary};
+pub use crate::teller::{CallbackDetail, Teller};
 pub use crate::text::Text;
 pub use crate::verbs::{push_those, push_verb};
 pub use crate::words::{say_detail, say_leak};

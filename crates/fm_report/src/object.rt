@@ -7,16 +7,16 @@ use std::alloc::{AllocError, Global};
 
 /// An object that is being made. Where memory is refused it notes that, and the text to which it is appended is told.
 #[derive(Drop)]
-pub struct Object {
+pub struct JsonObject {
     alloc: Global,
     members: Map<String, Value>,
     is_full: bool,
 }
 
-impl Object {
+impl JsonObject {
     /// What happened on that line, under its name.
-    pub fn new(alloc: Global, line: u32, event: &str) -> Object {
-        let mut object = Object {
+    pub fn new(alloc: Global, line: u32, event: &str) -> JsonObject {
+        let mut object = JsonObject {
             alloc,
             members: Map::new(alloc),
             is_full: false,
@@ -103,7 +103,7 @@ impl Object {
 
     /// Appends it, as a line.
     pub fn finish(self, text: &mut Text) {
-        let Object {
+        let JsonObject {
             alloc,
             members,
             is_full,

@@ -2,7 +2,7 @@
 
 /// What cut a run off.
 #[derive(Clone, Copy, PartialEq, Eq)]
-pub enum Fault {
+pub enum RunFault {
     /// There was no memory.
     NoMemory,
     /// It couldn't be read to its end.
@@ -13,9 +13,9 @@ pub enum Fault {
 
 /// What a run left, and how it ended.
 #[derive(Clone, Copy)]
-pub struct Tally {
+pub struct Summary {
     /// What cut it off, if something did.
-    pub fault: Option<Fault>,
+    pub fault: Option<RunFault>,
     /// Its exit status.
     pub status: u8,
     /// How many lines it has.
@@ -39,13 +39,13 @@ pub struct Tally {
     pub dropped: Option<u64>,
 }
 
-impl Tally {
+impl Summary {
     /// The verdict in a word.
     pub fn verdict(&self) -> &'static str {
         match (self.fault, self.status) {
-            (Some(Fault::NoMemory), _) => "NoMemory",
-            (Some(Fault::Read), _) => "ReadFault",
-            (Some(Fault::Write), _) => "WriteFault",
+            (Some(RunFault::NoMemory), _) => "NoMemory",
+            (Some(RunFault::Read), _) => "ReadFault",
+            (Some(RunFault::Write), _) => "WriteFault",
             (None, 0) => "Well",
             (None, 2) => "WrongLine",
             (None, 5) => "Left",

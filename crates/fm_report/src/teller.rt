@@ -3,15 +3,16 @@
 use crate::event::Event;
 use crate::facts::Facts;
 use crate::json::{
-    Detail, FORMAT, Told, put_place, say_change_json, say_comment_json, say_end_json, say_json,
+    Detail, FORMAT, ObjectDetail, put_place, say_change_json, say_comment_json, say_end_json,
+    say_json,
 };
 use crate::kind::Kind;
 use crate::named::{kind_word, push_place};
 use crate::notes::{Notes, What, what_of};
-use crate::object::Object;
+use crate::object::JsonObject;
 use crate::push::push_id;
 use crate::status::sentence;
-use crate::tally::Tally;
+use crate::tally::Summary;
 use crate::text::Text;
 use crate::words::say_detail;
 use fm_core::{Phase, Place, State};
@@ -21,7 +22,7 @@ use std::alloc::{AllocError, Global};
 
 /// What is told of a callback.
 #[derive(Clone, Copy)]
-pub struct Telling<'a> {
+pub struct CallbackDetail<'a> {
     /// Its number, which stays.
     pub id: &'a str,
     /// Whether it is a limit of the model, and no mistake.
@@ -36,7 +37,7 @@ pub struct Telling<'a> {
 
 // What a request does, and what it brings.
 #[derive(Drop)]
-struct Asked {
+struct NotedRequest {
     what: What,
     bytes: Option<Vec<u8>>,
 }
@@ -49,7 +50,7 @@ pub struct Teller {
     notes: Notes,
     line: u32,
     command: String,
-    asked: Option<Asked>,
+    asked: Option<NotedRequest>,
     contexts: Vec<CtxId>,
     changes: usize,
 }
@@ -85,7 +86,7 @@ impl Teller {
 
     /// Appends the first object: the number of the schema, that this is a trial, and of which file.
     pub fn begin(&self, text: &mut String, file: Option<&str>) -> Result<(), AllocError> {
-        let mut object = Object::new(self.alloc, 0, "Run");
+        let mut object = JsonObject::new(self.alloc, 0, "Run");
         object.number("format", FORMAT);
         object.text("origin", "trial");
         if let Some(file) = file {
@@ -95,7 +96,7 @@ impl Teller {
     }
 
     // Appends an object.
-    fn append(&self, text: &mut String, object: Object) -> Result<(), AllocError> {
+    fn append(&self, text: &mut String, object: JsonObject) -> Result<(), AllocError> {
         let mut made = Text::new(self.alloc);
         object.finish(&mut made);
         push_made(text, made)
@@ -132,7 +133,7 @@ impl Teller {
         let mut words = Text::new(self.alloc);
         say_detail(&mut words, &self.notes, event, detail);
         words.check()?;
-        let told = Told {
+        let told = ObjectDetail {
             line: self.line,
             command: self.command.as_bytes(),
             words: words.as_str(),
@@ -197,7 +198,7 @@ impl Teller {
 
     /// Appends that the line asks for an end, which a trial passes over.
     pub fn say_stopped(&self, text: &mut String) -> Result<(), AllocError> {
-        let mut object = Object::new(self.alloc, self.line, "Stopped");
+        let mut object = JsonObject::new(self.alloc, self.line, "Stopped");
         object.written("command", "raw", self.command.as_bytes());
         object.text("words", "a trial ends with its file, and goes on here");
         self.append(text, object)
@@ -213,7 +214,7 @@ impl Teller {
         {
             bytes = Some(Vec::from_slice(self.alloc, given.as_slice())?);
         }
-        self.asked = Some(Asked {
+        self.asked = Some(NotedRequest {
             what: what_of(request)?,
             bytes,
         });
@@ -227,7 +228,7 @@ impl Teller {
 
     /// Appends that an operation of the line's request began; nothing where no request was noted. Operations are numbered in that order.
     pub fn say_began(&mut self, text: &mut String, operation: u64) -> Result<(), AllocError> {
-        let Some(Asked { what, bytes }) = self.next_asked() else {
+        let Some(NotedRequest { what, bytes }) = self.next_asked() else {
             return Ok(());
         };
         self.notes.begin(self.line, what)?;
@@ -240,9 +241,9 @@ impl Teller {
     }
 
     // What of the request begins next. A close is a cleanup first, unless that began before.
-    fn next_asked(&mut self) -> Option<Asked> {
+    fn next_asked(&mut self) -> Option<NotedRequest> {
         if let Some(
-            Asked {
+            NotedRequest {
                 what: What::Close(handle),
                 ..
             },
@@ -250,7 +251,7 @@ impl Teller {
         {
             let handle = *handle;
             if !self.is_cleaned(handle) {
-                return Some(Asked {
+                return Some(NotedRequest {
                     what: What::Cleanup(handle),
                     bytes: None,
                 });
@@ -324,7 +325,7 @@ impl Teller {
         let kind = kind.map(kind_word);
         let words = self.leak_words(number, kind, place);
         words.check()?;
-        let mut object = Object::new(self.alloc, self.line, "Leaked");
+        let mut object = JsonObject::new(self.alloc, self.line, "Leaked");
         object.text("words", words.as_str());
         object.id("context", 'c', number);
         if let Some(kind) = kind {
@@ -361,9 +362,13 @@ impl Teller {
     }
 
     /// Appends what is told of a callback.
-    pub fn say_told(&mut self, text: &mut String, telling: &Telling<'_>) -> Result<(), AllocError> {
+    pub fn say_told(
+        &mut self,
+        text: &mut String,
+        telling: &CallbackDetail<'_>,
+    ) -> Result<(), AllocError> {
         let kind = if telling.is_limit { "limit" } else { "mistake" };
-        let mut object = Object::new(self.alloc, self.line, "Told");
+        let mut object = JsonObject::new(self.alloc, self.line, "Told");
         object.text("id", telling.id);
         object.text("telling", kind);
         object.text("words", telling.words);
@@ -385,7 +390,7 @@ impl Teller {
         answered: &str,
     ) -> Result<(), AllocError> {
         let event = if is_met { "Met" } else { "Unmet" };
-        let mut object = Object::new(self.alloc, self.line, event);
+        let mut object = JsonObject::new(self.alloc, self.line, event);
         object.written("command", "raw", self.command.as_bytes());
         object.text("expected", expected);
         if !is_met {
@@ -395,7 +400,12 @@ impl Teller {
     }
 
     /// Appends the last object: what is left, in figures and in words, and the exit status.
-    pub fn say_end(&self, text: &mut String, tally: &Tally, words: &str) -> Result<(), AllocError> {
+    pub fn say_end(
+        &self,
+        text: &mut String,
+        tally: &Summary,
+        words: &str,
+    ) -> Result<(), AllocError> {
         let mut made = Text::new(self.alloc);
         say_end_json(self.alloc, &mut made, tally, words);
         push_made(text, made)

@@ -1,6 +1,6 @@
 //! What a scenario expects of a request.
 
-use crate::told::Told;
+use crate::mistake::Mistake;
 use fm_data::Reply;
 use fm_text::{read_hex, read_number};
 use std::alloc::{AllocError, Global};
@@ -15,7 +15,7 @@ pub(crate) enum Expectation {
     /// A filter holds it.
     Held,
     /// That was told while it was carried out.
-    Told(Told),
+    Mistake(Mistake),
 }
 
 /// The words behind `expect` on a line, with one space between them. Fails if memory is refused.
@@ -35,7 +35,7 @@ fn read_plain(words: &[&str]) -> Option<Expectation> {
     match words {
         ["held"] => Some(Expectation::Held),
         ["status", number] | [number] => Some(Expectation::Status(read_number(number.as_bytes())?)),
-        ["told", id] => Some(Expectation::Told(Told::read(id)?)),
+        ["told", id] => Some(Expectation::Told(Mistake::read(id)?)),
         _ => None,
     }
 }

@@ -4,16 +4,16 @@
 //! callbacks did, and what they did wrong, is printed between a request and its reply; or it is told in the objects of `fltview`, alone or in a page.
 #![tactic(auto)]
 
-mod asked;
 mod expectation;
 mod line;
-mod manner;
+mod line_request;
+mod mistake;
 mod objects;
 mod program;
 mod report;
+mod reporter;
 mod scenario;
-mod told;
-mod voice;
+mod trial_format;
 mod words;
 
 pub use crate::program::trial;

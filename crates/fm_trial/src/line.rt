@@ -1,14 +1,14 @@
 //! One line of a scenario.
 
 use crate::expectation::Expectation;
+use fm_cli::request_of;
 use fm_types::Status;
 use fm_wire::Body;
-use fm_words::request_of;
 use std::alloc::{AllocError, Global};
 
 /// What a line says.
 #[derive(Drop)]
-pub(crate) enum Line {
+pub(crate) enum ScenarioLine {
     /// Nothing: it is empty, or a remark.
     Nothing,
     /// A request.
@@ -29,27 +29,27 @@ fn words_of(alloc: Global, text: &str) -> Result<Vec<&str>, AllocError> {
 }
 
 // The line of these words, which are no remark.
-fn read_words(alloc: Global, words: &[&str]) -> Result<Line, Status> {
+fn read_words(alloc: Global, words: &[&str]) -> Result<ScenarioLine, Status> {
     if let ["expect", expected @ ..] = words {
         return Ok(match Expectation::read(alloc, expected)? {
-            Some(expectation) => Line::Expect(expectation),
-            None => Line::Unknown,
+            Some(expectation) => ScenarioLine::Expect(expectation),
+            None => ScenarioLine::Unknown,
         });
     }
     match request_of(alloc, words) {
-        Ok(frame) => Ok(Line::Request(frame.body)),
+        Ok(frame) => Ok(ScenarioLine::Request(frame.body)),
         Err(Status::NoMemory) => Err(Status::NoMemory),
-        Err(_) => Ok(Line::Unknown),
+        Err(_) => Ok(ScenarioLine::Unknown),
     }
 }
 
-impl Line {
+impl ScenarioLine {
     /// Reads a line. Refused with 1, if memory is refused.
-    pub(crate) fn read(alloc: Global, text: &str) -> Result<Line, Status> {
+    pub(crate) fn read(alloc: Global, text: &str) -> Result<ScenarioLine, Status> {
         let words = words_of(alloc, text)?;
         match words.as_slice() {
-            [] => Ok(Line::Nothing),
-            [first, ..] if first.as_bytes().first() == Some(&b'#') => Ok(Line::Nothing),
+            [] => Ok(ScenarioLine::Nothing),
+            [first, ..] if first.as_bytes().first() == Some(&b'#') => Ok(ScenarioLine::Nothing),
             words => read_words(alloc, words),
         }
     }

@@ -1,18 +1,18 @@
 //! What is told of a request as objects.
 
-use crate::asked::Asked;
-use crate::report::Manager;
+use crate::line_request::LineRequest;
+use crate::report::TrialManager;
 use fm_data::{PostVerdict, PreVerdict, Reply};
 use fm_filter::Minifilter;
 use fm_local::{PostAnswer, PreAnswer, Traced, Visit};
-use fm_report::{Detail, Event, Facts, Kind, Teller, Visit as At, counted_for};
+use fm_report::{Detail, Event, Facts, InstanceVisit, Kind, Teller, counted_for};
 use fm_types::{FilterId, InstanceId, OpId, Status};
 use fm_wire::Control;
 use std::alloc::AllocError;
 
 // Where in the trace the reply of the request was handed out. None where the request didn't begin, isn't over, or was refused amid its way, as a close behind its
 // cleanup.
-fn reply_place<F: Minifilter>(manager: &Manager<F>, reply: &Reply) -> Option<usize> {
+fn reply_place<F: Minifilter>(manager: &TrialManager<F>, reply: &Reply) -> Option<usize> {
     let Reply::Done { status, .. } = reply else {
         return None;
     };
@@ -31,8 +31,8 @@ fn reply_place<F: Minifilter>(manager: &Manager<F>, reply: &Reply) -> Option<usi
 pub(crate) fn say_request<F: Minifilter>(
     teller: &mut Teller,
     text: &mut String,
-    manager: &Manager<F>,
-    asked: Asked,
+    manager: &TrialManager<F>,
+    asked: LineRequest,
     reply: &Reply,
 ) -> Result<(), AllocError> {
     let answered = reply_place(manager, reply);
@@ -87,8 +87,8 @@ fn say_step(
 }
 
 // The only worker at an instance.
-fn at(operation: OpId, instance: InstanceId) -> At {
-    At {
+fn at(operation: OpId, instance: InstanceId) -> InstanceVisit {
+    InstanceVisit {
         worker: 0,
         operation: operation.0,
         instance: u64::from(instance.0),
@@ -99,7 +99,7 @@ fn at(operation: OpId, instance: InstanceId) -> At {
 fn say_pre(
     teller: &mut Teller,
     text: &mut String,
-    visit: At,
+    visit: InstanceVisit,
     answer: &PreAnswer,
 ) -> Result<(), AllocError> {
     let pre = Event::verdict(Kind::Pre, visit, answer.given, None);
@@ -119,7 +119,7 @@ fn counted_of(answer: &PreAnswer) -> Option<PreVerdict> {
 fn say_post(
     teller: &mut Teller,
     text: &mut String,
-    visit: At,
+    visit: InstanceVisit,
     answer: &PostAnswer,
 ) -> Result<(), AllocError> {
     let kind = match answer.given {
@@ -171,7 +171,7 @@ fn say_answer(
 fn say_plain(
     teller: &mut Teller,
     text: &mut String,
-    asked: Asked,
+    asked: LineRequest,
     reply: &Reply,
 ) -> Result<(), AllocError> {
     match (reply, asked) {
@@ -181,7 +181,7 @@ fn say_plain(
                 information,
                 ..
             },
-            Asked::Control(control),
+            LineRequest::Control(control),
         ) => say_control(teller, text, control, *information),
         (Reply::Done { status, .. }, _) => {
             teller.say_refused(text, *status, asked.reason(), asked.subject())

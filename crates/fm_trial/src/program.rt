@@ -3,12 +3,12 @@
 ghost use Rattle.std.specs.Prelude.{◌≡◌};
 ghost use Rattle.fm_trial.specs.Verdicts.{worse};
 
-use crate::manner::Manner;
+use crate::reporter::Reporter;
 use crate::scenario::{Scenario, WRONG_FILE};
-use crate::voice::Voice;
+use crate::trial_format::TrialFormat;
 use crate::words::Words;
 use fm_filter::Minifilter;
-use fm_report::{Fault, Tally, Teller};
+use fm_report::{RunFault, Summary, Teller};
 use fm_types::{Name, Status};
 use std::alloc::{AllocError, Global};
 use std::env::{self, Env};
@@ -42,7 +42,7 @@ fn worse(one: u8, other: u8) -> u8
 // Takes the lines one after the other. Whether all say something.
 fn take_all<F: Minifilter, W: Write>(
     alloc: Global,
-    manner: Manner,
+    format: TrialFormat,
     scenario: &mut Scenario<F>,
     text: &str,
     out: &mut W,
@@ -52,7 +52,7 @@ fn take_all<F: Minifilter, W: Write>(
         let is_known = scenario
             .take(place.saturating_add(1), line, &mut said)
             .map_err(failed)?;
-        manner.write(alloc, said.as_str(), out)?;
+        format.write(alloc, said.as_str(), out)?;
         if !is_known {
             return Ok(false);
         }
@@ -61,55 +61,60 @@ fn take_all<F: Minifilter, W: Write>(
 }
 
 // How a scenario is told that is shown so.
-fn voice_of(alloc: Global, manner: Manner) -> Voice {
-    match manner {
-        Manner::Lines => Voice::Lines,
-        Manner::Json | Manner::Page => Voice::Objects(Teller::new(alloc)),
+fn reporter_of(alloc: Global, format: TrialFormat) -> Reporter {
+    match format {
+        TrialFormat::Lines => Reporter::Lines,
+        TrialFormat::Json | TrialFormat::Page => Reporter::Objects(Teller::new(alloc)),
     }
 }
 
 // Tells a scenario from its beginning to its end: its exit status.
 fn tell<F: Minifilter, W: Write>(
     alloc: Global,
-    manner: Manner,
+    format: TrialFormat,
     file: Option<&str>,
     filters: Vec<(Name, F)>,
     text: &str,
     out: &mut W,
 ) -> io::Result<u8> {
-    let voice = voice_of(alloc, manner);
-    let mut scenario = Scenario::new(alloc, filters, voice).map_err(failed)?;
+    let reporter = reporter_of(alloc, format);
+    let mut scenario = Scenario::new(alloc, filters, reporter).map_err(failed)?;
     let mut said = String::new(alloc);
     scenario.begin(file, &mut said).map_err(failed)?;
-    manner.write(alloc, said.as_str(), out)?;
+    format.write(alloc, said.as_str(), out)?;
     said.clear();
-    let status = if take_all(alloc, manner, &mut scenario, text, out)? {
+    let status = if take_all(alloc, format, &mut scenario, text, out)? {
         scenario.end(&mut said).map_err(failed)?
     } else {
         scenario.break_off(&mut said).map_err(failed)?
     };
-    manner.write(alloc, said.as_str(), out)?;
+    format.write(alloc, said.as_str(), out)?;
     Ok(status)
 }
 
 // Runs a scenario: its exit status. A page that is cut off ends as one, so that it shows what came before.
 fn run<F: Minifilter, W: Write>(
     alloc: Global,
-    manner: Manner,
+    format: TrialFormat,
     file: Option<&str>,
     filters: Vec<(Name, F)>,
     text: &str,
     out: &mut W,
 ) -> io::Result<u8> {
-    manner.begin(out)?;
-    let told = tell(alloc, manner, file, filters, text, out);
-    manner.end(out)?;
+    format.begin(out)?;
+    let told = tell(alloc, format, file, filters, text, out);
+    format.end(out)?;
     told
 }
 
 // Says which file comes now. In objects the first one does.
-fn say_file<W: Write>(alloc: Global, manner: Manner, name: &str, out: &mut W) -> io::Result<()> {
-    if manner != Manner::Lines {
+fn say_file<W: Write>(
+    alloc: Global,
+    format: TrialFormat,
+    name: &str,
+    out: &mut W,
+) -> io::Result<()> {
+    if format != TrialFormat::Lines {
         return Ok(());
     }
     let line = format!(in alloc; "== {name}\n")?;
@@ -119,20 +124,20 @@ fn say_file<W: Write>(alloc: Global, manner: Manner, name: &str, out: &mut W) ->
 // Says that a file can't be read.
 fn say_unread<W: Write>(
     alloc: Global,
-    manner: Manner,
+    format: TrialFormat,
     file: &str,
     error: &io::Error,
     out: &mut W,
 ) -> io::Result<()> {
     let words = format!(in alloc; "it can't be read: {error}\n")?;
-    if manner == Manner::Lines {
+    if format == TrialFormat::Lines {
         out.write_all(words.as_bytes())?;
         return out.flush();
     }
     let objects = unread_objects(alloc, file, words.as_str())?;
-    manner.begin(out)?;
-    manner.write(alloc, objects.as_str(), out)?;
-    manner.end(out)
+    format.begin(out)?;
+    format.write(alloc, objects.as_str(), out)?;
+    format.end(out)
 }
 
 // The objects of a file that can't be read: the first and the last.
@@ -140,8 +145,8 @@ fn unread_objects(alloc: Global, file: &str, words: &str) -> Result<String, Allo
     let mut text = String::new(alloc);
     let teller = Teller::new(alloc);
     teller.begin(&mut text, Some(file))?;
-    let tally = Tally {
-        fault: Some(Fault::Read),
+    let tally = Summary {
+        fault: Some(RunFault::Read),
         status: WRONG_FILE,
         lines: 0,
         refused: 0,
@@ -159,7 +164,13 @@ fn unread_objects(alloc: Global, file: &str, words: &str) -> Result<String, Allo
 }
 
 // Runs the scenario of a file: its exit status.
-fn run_file<R, F, E, W>(rt: &R, manner: Manner, file: &str, make: &E, out: &mut W) -> io::Result<u8>
+fn run_file<R, F, E, W>(
+    rt: &R,
+    format: TrialFormat,
+    file: &str,
+    make: &E,
+    out: &mut W,
+) -> io::Result<u8>
 where
     R: Files + AllocGlobal,
     F: Minifilter,
@@ -168,14 +179,14 @@ where
     requires { E.IsAlwaysCallable make.now }
 {
     let alloc = rt.alloc();
-    say_file(alloc, manner, file, out)?;
+    say_file(alloc, format, file, out)?;
     match fs::read_to_string(rt, file) {
         Ok(text) => {
             let filters = make(alloc).map_err(failed)?;
-            run(alloc, manner, Some(file), filters, text.as_str(), out)
+            run(alloc, format, Some(file), filters, text.as_str(), out)
         }
         Err(error) => {
-            say_unread(alloc, manner, file, &error, out)?;
+            say_unread(alloc, format, file, &error, out)?;
             Ok(WRONG_FILE)
         }
     }
@@ -199,7 +210,7 @@ where
 {
     let alloc = rt.alloc();
     let words: Vec<String> = env::args(rt)?.skip(1).collect(alloc)?;
-    let Words { manner, files } = match Words::read(alloc, words)? {
+    let Words { format, files } = match Words::read(alloc, words)? {
         Ok(words) => words,
         Err(refused) => {
             eprintln!(rt; "{refused}")?;
@@ -209,11 +220,11 @@ where
     if files.is_empty() {
         let text = io::read_to_string(alloc, input)?;
         let filters = make(alloc).map_err(failed)?;
-        return run(alloc, manner, None, filters, text.as_str(), out);
+        return run(alloc, format, None, filters, text.as_str(), out);
     }
     let mut worst = 0;
     for file in &files {
-        let status = run_file(rt, manner, file.as_str(), &make, out)?;
+        let status = run_file(rt, format, file.as_str(), &make, out)?;
         worst = worse(worst, status);
     }
     Ok(worst)

@@ -1,6 +1,6 @@
 //! What is printed of a scenario.
 
-use crate::told::Told;
+use crate::mistake::Mistake;
 use fm_base::MemoryBase;
 use fm_core::{Hold, Phase, Place};
 use fm_data::Reply;
@@ -12,7 +12,7 @@ use std::alloc::AllocError;
 use std::fmt::Write;
 
 /// The only file system of a trial.
-pub(crate) type Manager<F> = LocalManager<F, MemoryBase>;
+pub(crate) type TrialManager<F> = LocalManager<F, MemoryBase>;
 
 // The bytes as two digits each, or a dash.
 fn write_bytes(text: &mut String, bytes: &[u8]) -> Result<(), AllocError> {
@@ -49,7 +49,7 @@ pub(crate) fn write_reply(text: &mut String, reply: &Reply) -> Result<(), AllocE
 /// Appends the steps of operations since the last report.
 pub(crate) fn write_steps<F: Minifilter>(
     text: &mut String,
-    manager: &Manager<F>,
+    manager: &TrialManager<F>,
 ) -> Result<(), AllocError> {
     for place in 0..manager.traced() {
         if let Some(step) = manager.trace(place) {
@@ -70,7 +70,7 @@ fn write_name(text: &mut String, name: &[u8]) -> Result<(), AllocError> {
 /// Appends of an instance its name, whose it is, and where it stands. Nothing, where it isn't attached.
 pub(crate) fn write_attached<F: Minifilter>(
     text: &mut String,
-    manager: &Manager<F>,
+    manager: &TrialManager<F>,
     instance: InstanceId,
 ) -> Result<(), AllocError> {
     let state = manager.state();
@@ -103,7 +103,7 @@ pub(crate) fn write_attached<F: Minifilter>(
 // Appends whose instance it is.
 fn write_instance<F: Minifilter>(
     text: &mut String,
-    manager: &Manager<F>,
+    manager: &TrialManager<F>,
     instance: InstanceId,
 ) -> Result<(), AllocError> {
     let state = manager.state();
@@ -120,7 +120,7 @@ fn write_instance<F: Minifilter>(
 // Appends who did what is told: whose instance, which callback, and for which operation. Nothing where no callback of an instance is named.
 fn write_place<F: Minifilter>(
     text: &mut String,
-    manager: &Manager<F>,
+    manager: &TrialManager<F>,
     place: Place,
 ) -> Result<(), AllocError> {
     if let Some(instance) = instance_of(place) {
@@ -157,16 +157,16 @@ fn callback_word(place: Place) -> &'static str {
 /// Appends that a callback left a reference behind.
 pub(crate) fn write_leak<F: Minifilter>(
     text: &mut String,
-    manager: &Manager<F>,
+    manager: &TrialManager<F>,
     leak: &Leak,
 ) -> Result<(), AllocError> {
-    write!(text, "{} ({leak})", Told::Leak)?;
+    write!(text, "{} ({leak})", Mistake::Leak)?;
     write_place(text, manager, leak.place)
 }
 
 // The status that the next step of an operation found, behind that place.
 fn next_status<F: Minifilter>(
-    manager: &Manager<F>,
+    manager: &TrialManager<F>,
     operation: OpId,
     after: usize,
 ) -> Option<Status> {
@@ -182,16 +182,19 @@ fn next_status<F: Minifilter>(
 }
 
 /// What is told of the step at a place, and of which callback. None where nothing is.
-pub(crate) fn told_at<F: Minifilter>(manager: &Manager<F>, place: usize) -> Option<(Told, Place)> {
+pub(crate) fn told_at<F: Minifilter>(
+    manager: &TrialManager<F>,
+    place: usize,
+) -> Option<(Mistake, Place)> {
     let step = manager.trace(place)?;
     match step.visit {
         Visit::Pre(instance, answer) => {
-            let told = Told::of_pre(&answer)?;
+            let told = Mistake::of_pre(&answer)?;
             Some((told, Place::Pre(step.operation, instance)))
         }
         Visit::Post(instance, answer) => {
             let next = next_status(manager, step.operation, place.saturating_add(1))?;
-            let told = Told::of_post(&answer, next)?;
+            let told = Mistake::of_post(&answer, next)?;
             Some((told, Place::Post(step.operation, instance)))
         }
         Visit::Base(_) | Visit::Drain(_) | Visit::Replied(_) => None,
@@ -201,8 +204,8 @@ pub(crate) fn told_at<F: Minifilter>(manager: &Manager<F>, place: usize) -> Opti
 /// Appends what is told of a callback.
 pub(crate) fn write_told<F: Minifilter>(
     text: &mut String,
-    manager: &Manager<F>,
-    told: Told,
+    manager: &TrialManager<F>,
+    told: Mistake,
     place: Place,
 ) -> Result<(), AllocError> {
     write!(text, "{told}")?;
@@ -210,7 +213,7 @@ pub(crate) fn write_told<F: Minifilter>(
 }
 
 /// The callback that holds an operation.
-pub(crate) fn holder_of<F: Minifilter>(manager: &Manager<F>, operation: OpId) -> Place {
+pub(crate) fn holder_of<F: Minifilter>(manager: &TrialManager<F>, operation: OpId) -> Place {
     match held_at(manager.state(), operation) {
         Some((instance, Hold::Pre)) => Place::Pre(operation, instance),
         Some((instance, Hold::Post)) => Place::Post(operation, instance),
@@ -221,8 +224,8 @@ pub(crate) fn holder_of<F: Minifilter>(manager: &Manager<F>, operation: OpId) ->
 /// Appends that a call of a port was a mistake.
 pub(crate) fn write_refusal<F: Minifilter>(
     text: &mut String,
-    manager: &Manager<F>,
-    told: Told,
+    manager: &TrialManager<F>,
+    told: Mistake,
     refusal: &Refusal,
 ) -> Result<(), AllocError> {
     write!(

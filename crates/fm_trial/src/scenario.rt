@@ -3,21 +3,22 @@
 ghost use Rattle.std.specs.Prelude.{◌≡◌};
 ghost use Rattle.fm_trial.specs.Verdicts.{status_of};
 
-use crate::asked::Asked;
 use crate::expectation::{Expectation, expected_words};
-use crate::line::Line;
+use crate::line::ScenarioLine;
+use crate::line_request::LineRequest;
+use crate::mistake::Mistake;
 use crate::report::{
-    Manager, holder_of, told_at, write_attached, write_leak, write_refusal, write_reply, write_told,
+    TrialManager, holder_of, told_at, write_attached, write_leak, write_refusal, write_reply,
+    write_told,
 };
-use crate::told::Told;
-use crate::voice::Voice;
+use crate::reporter::Reporter;
 use fm_base::MemoryBase;
 use fm_core::Place;
 use fm_data::Reply;
 use fm_exec::LocalExec;
 use fm_filter::Minifilter;
 use fm_local::PortCall;
-use fm_report::Tally;
+use fm_report::Summary;
 use fm_server::status_reply;
 use fm_types::limits::OPERATIONS;
 use fm_types::{CtxId, InstanceId, Name, OpId, Status, VolumeId};
@@ -30,7 +31,7 @@ pub(crate) const WRONG_FILE: u8 = 2;
 
 /// What a scenario came to so far.
 #[derive(Clone, Copy, Drop)]
-struct Count {
+struct Counts {
     /// How many expectations weren't met.
     failed: u64,
     /// How many mistakes were told that no line expects.
@@ -42,7 +43,7 @@ struct Count {
 }
 
 /// Nothing came to anything.
-const NOTHING: Count = Count {
+const NOTHING: Counts = Counts {
     failed: 0,
     told: 0,
     misuses: 0,
@@ -51,12 +52,12 @@ const NOTHING: Count = Count {
 
 // What was told of the last request, and whether a line expects it.
 #[derive(Clone, Copy)]
-struct Telling {
-    told: Told,
+struct ToldMistake {
+    told: Mistake,
     is_expected: bool,
 }
 
-impl Count {
+impl Counts {
     // The exit status of a scenario that came to that.
     fn status(self) -> u8
         ensures { result ≡ status_of self.failed self.told self.dropped }
@@ -76,16 +77,16 @@ impl Count {
 pub(crate) struct Scenario<F> {
     alloc: Global,
     exec: LocalExec<F, MemoryBase>,
-    voice: Voice,
+    reporter: Reporter,
     last: Option<Reply>,
-    told: Vec<Telling>,
+    told: Vec<ToldMistake>,
     /// How many instances were told.
     instances: usize,
     /// The operations that filters hold.
     held: Vec<OpId>,
     /// The last line that isn't empty.
     lines: usize,
-    count: Count,
+    count: Counts,
 }
 
 impl<F: Minifilter> Scenario<F> {
@@ -93,14 +94,14 @@ impl<F: Minifilter> Scenario<F> {
     pub(crate) fn new(
         alloc: Global,
         filters: Vec<(Name, F)>,
-        voice: Voice,
+        reporter: Reporter,
     ) -> Result<Scenario<F>, Status> {
-        let mut manager: Manager<F> = Manager::new(alloc, filters)?;
+        let mut manager: TrialManager<F> = TrialManager::new(alloc, filters)?;
         manager.mount(Name::read(b"v0")?, MemoryBase::new(alloc))?;
         Ok(Scenario {
             alloc,
             exec: LocalExec::new(alloc, manager),
-            voice,
+            reporter,
             last: None,
             told: Vec::new(alloc),
             instances: 0,
@@ -114,7 +115,7 @@ impl<F: Minifilter> Scenario<F> {
     pub(crate) fn begin(&mut self, file: Option<&str>, text: &mut String) -> Result<(), Status> {
         let volume = VolumeId(0);
         if let Some(name) = self.exec.manager().state().volume_name(volume) {
-            self.voice.begin(text, file, (volume, name))?;
+            self.reporter.begin(text, file, (volume, name))?;
         }
         Ok(())
     }
@@ -126,16 +127,16 @@ impl<F: Minifilter> Scenario<F> {
         line: &str,
         text: &mut String,
     ) -> Result<bool, Status> {
-        self.voice.take_line(number, line)?;
+        self.reporter.take_line(number, line)?;
         if !line.is_empty() {
             self.lines = number;
         }
-        match Line::read(self.alloc, line)? {
-            Line::Nothing => self.voice.say_nothing(text, line)?,
-            Line::Request(body) => self.ask(line, body, text)?,
-            Line::Expect(expected) => self.expect(number, line, &expected, text)?,
-            Line::Unknown => {
-                self.voice.say_unknown(text, number, line)?;
+        match ScenarioLine::read(self.alloc, line)? {
+            ScenarioLine::Nothing => self.reporter.say_nothing(text, line)?,
+            ScenarioLine::Request(body) => self.ask(line, body, text)?,
+            ScenarioLine::Expect(expected) => self.expect(number, line, &expected, text)?,
+            ScenarioLine::Unknown => {
+                self.reporter.say_unknown(text, number, line)?;
                 return Ok(false);
             }
         }
@@ -154,9 +155,9 @@ impl<F: Minifilter> Scenario<F> {
 
     // Makes a request.
     fn ask(&mut self, line: &str, body: Body, text: &mut String) -> Result<(), Status> {
-        self.voice.ask(text, line, &body)?;
+        self.reporter.ask(text, line, &body)?;
         self.told.clear();
-        let asked = Asked::of(&body);
+        let asked = LineRequest::of(&body);
         let reply = self.reply_to(body);
         self.report(asked, &reply, text)?;
         if let Reply::Held(operation) = &reply {
@@ -167,14 +168,19 @@ impl<F: Minifilter> Scenario<F> {
     }
 
     // Appends what callbacks did since the last request, which mistakes they made, and the reply.
-    fn report(&mut self, asked: Asked, reply: &Reply, text: &mut String) -> Result<(), Status> {
-        self.voice
+    fn report(
+        &mut self,
+        asked: LineRequest,
+        reply: &Reply,
+        text: &mut String,
+    ) -> Result<(), Status> {
+        self.reporter
             .say_steps(text, self.exec.manager(), asked, reply)?;
         self.tell_steps(text)?;
         self.tell_leaks(text)?;
         self.tell_refusals(text)?;
         self.forget_report();
-        if let Voice::Lines = self.voice {
+        if let Reporter::Lines = self.reporter {
             self.tell_instances(text)?;
             write_reply(text, reply)?;
         }
@@ -204,13 +210,13 @@ impl<F: Minifilter> Scenario<F> {
     // Appends what is told, and counts it. A limit of the model is no mistake.
     fn tell(
         &mut self,
-        told: Told,
+        told: Mistake,
         words: &str,
         about: (Place, Option<CtxId>),
         text: &mut String,
     ) -> Result<(), Status> {
-        self.voice.tell(text, told, words, about)?;
-        self.told.push(Telling {
+        self.reporter.tell(text, told, words, about)?;
+        self.told.push(ToldMistake {
             told,
             is_expected: false,
         })?;
@@ -245,11 +251,11 @@ impl<F: Minifilter> Scenario<F> {
             };
             let mut words = String::new(self.alloc);
             write_leak(&mut words, manager, &leak)?;
-            if let Voice::Objects(teller) = &mut self.voice {
+            if let Reporter::Objects(teller) = &mut self.reporter {
                 teller.say_leaked(text, leak.context, leak.kind, leak.place)?;
             }
             let about = (leak.place, Some(leak.context));
-            self.tell(Told::Leak, words.as_str(), about, text)?;
+            self.tell(Mistake::Leak, words.as_str(), about, text)?;
         }
         Ok(())
     }
@@ -260,7 +266,7 @@ impl<F: Minifilter> Scenario<F> {
             let Some(refusal) = manager.refused_call(at) else {
                 continue;
             };
-            if let Some(told) = Told::of(&refusal) {
+            if let Some(told) = Mistake::of(&refusal) {
                 let mut words = String::new(self.alloc);
                 write_refusal(&mut words, manager, told, &refusal)?;
                 let about = (refusal.place, context_of(refusal.call));
@@ -276,17 +282,17 @@ impl<F: Minifilter> Scenario<F> {
             let Some((operation, reply)) = self.exec.finished() else {
                 break;
             };
-            self.voice.say_finished(text, operation, &reply)?;
+            self.reporter.say_finished(text, operation, &reply)?;
             self.held.retain(|other| *other != operation);
         }
-        if let Voice::Objects(_) = self.voice {
+        if let Reporter::Objects(_) = self.reporter {
             self.forget_report();
         }
         Ok(())
     }
 
     // Looks whether that was told of the last request, and no line before this one expects it: it is expected then, and doesn't count as a mistake any more.
-    fn expect_told(&mut self, wanted: Told) -> bool {
+    fn expect_told(&mut self, wanted: Mistake) -> bool {
         for telling in self.told.iter_mut() {
             if telling.told == wanted && !telling.is_expected {
                 telling.is_expected = true;
@@ -323,7 +329,7 @@ impl<F: Minifilter> Scenario<F> {
         let words = expected_words(self.alloc, line)?;
         let answered = self.answered()?;
         let (words, answered) = (words.as_str(), answered.as_str());
-        self.voice
+        self.reporter
             .say_expectation(text, (number, line), words, is_met, answered)?;
         Ok(())
     }
@@ -347,16 +353,17 @@ impl<F: Minifilter> Scenario<F> {
         let mut words = String::new(self.alloc);
         self.write_left(&mut words)?;
         let status = self.count.status();
-        self.voice.end(text, &self.tally(status), words.as_str())?;
+        self.reporter
+            .end(text, &self.tally(status), words.as_str())?;
         Ok(status)
     }
 
     /// The end behind a line that says nothing: its exit status, 2. In lines nothing is appended. Refused with 1, if memory is refused.
     pub(crate) fn break_off(&mut self, text: &mut String) -> Result<u8, Status> {
-        if let Voice::Objects(_) = self.voice {
+        if let Reporter::Objects(_) = self.reporter {
             let mut words = String::new(self.alloc);
             self.write_left(&mut words)?;
-            self.voice
+            self.reporter
                 .end(text, &self.tally(WRONG_FILE), words.as_str())?;
         }
         Ok(WRONG_FILE)
@@ -368,18 +375,19 @@ impl<F: Minifilter> Scenario<F> {
             return Ok(());
         }
         self.count.told = self.count.told.saturating_add(1);
-        let told = Told::HeldToTheEnd;
-        if let Voice::Lines = self.voice {
+        let told = Mistake::HeldToTheEnd;
+        if let Reporter::Lines = self.reporter {
             writeln!(text, "{told}: {} of them", self.held.len())?;
             return Ok(());
         }
-        self.voice.take_line(self.lines, "")?;
+        self.reporter.take_line(self.lines, "")?;
         for operation in &self.held {
             let mut words = String::new(self.alloc);
             let manager = self.exec.manager();
             let place = holder_of(manager, *operation);
             write_told(&mut words, manager, told, place)?;
-            self.voice.tell(text, told, words.as_str(), (place, None))?;
+            self.reporter
+                .tell(text, told, words.as_str(), (place, None))?;
         }
         Ok(())
     }
@@ -417,13 +425,13 @@ impl<F: Minifilter> Scenario<F> {
     }
 
     // The figures of an end with that exit status.
-    fn tally(&self, status: u8) -> Tally {
+    fn tally(&self, status: u8) -> Summary {
         let state = self.exec.manager().state();
-        Tally {
+        Summary {
             fault: None,
             status,
             lines: u32::try_from(self.lines).unwrap_or(u32::MAX),
-            refused: self.voice.refused(),
+            refused: self.reporter.refused(),
             born: state.born(),
             cleaned: state.cleaned_count(),
             leaks: state.leaks(),

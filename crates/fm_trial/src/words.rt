@@ -1,6 +1,6 @@
 //! The words of a trial program.
 
-use crate::manner::Manner;
+use crate::trial_format::TrialFormat;
 use std::alloc::{AllocError, Global};
 use std::fmt;
 
@@ -8,14 +8,14 @@ use std::fmt;
 #[derive(Drop)]
 pub(crate) struct Words {
     /// How the trial is shown.
-    pub(crate) manner: Manner,
+    pub(crate) format: TrialFormat,
     /// The files.
     pub(crate) files: Vec<String>,
 }
 
 /// Why words are refused.
 #[derive(Debug, Drop)]
-pub(crate) enum Refused {
+pub(crate) enum WordsRefused {
     /// A word that begins with `--` is none that is known.
     Unknown(String),
     /// Both JSON and a page are asked for.
@@ -30,48 +30,50 @@ impl Words {
     pub(crate) fn read(
         alloc: Global,
         words: Vec<String>,
-    ) -> Result<Result<Words, Refused>, AllocError> {
-        let mut manner = Manner::Lines;
+    ) -> Result<Result<Words, WordsRefused>, AllocError> {
+        let mut format = TrialFormat::Lines;
         let mut files = Vec::new(alloc);
         for word in words {
-            match manner_of(word.as_str()) {
-                Some(other) if manner != Manner::Lines && manner != other => {
-                    return Ok(Err(Refused::Both));
+            match format_of(word.as_str()) {
+                Some(other) if format != TrialFormat::Lines && format != other => {
+                    return Ok(Err(WordsRefused::Both));
                 }
-                Some(other) => manner = other,
-                None if word.as_str().starts_with("--") => return Ok(Err(Refused::Unknown(word))),
+                Some(other) => format = other,
+                None if word.as_str().starts_with("--") => return Ok(Err(WordsRefused::Unknown(
+                    word,
+                ))),
                 None => files.push(word)?,
             }
         }
-        if manner == Manner::Page && files.len() > 1 {
-            return Ok(Err(Refused::Pages));
+        if format == TrialFormat::Page && files.len() > 1 {
+            return Ok(Err(WordsRefused::Pages));
         }
-        Ok(Ok(Words { manner, files }))
+        Ok(Ok(Words { format, files }))
     }
 }
 
-// The manner that a word asks for.
-fn manner_of(word: &str) -> Option<Manner> {
+// The format that a word asks for.
+fn format_of(word: &str) -> Option<TrialFormat> {
     match word {
-        "--json" => Some(Manner::Json),
-        "--page" => Some(Manner::Page),
+        "--json" => Some(TrialFormat::Json),
+        "--page" => Some(TrialFormat::Page),
         _ => None,
     }
 }
 
 /// The sentence that says so.
-impl fmt::Display for Refused {
+impl fmt::Display for WordsRefused {
     fn fmt<W: fmt::Write>(&self, f: &mut fmt::Formatter<W>) -> fmt::Result {
         match self {
-            Refused::Unknown(word) => {
+            WordsRefused::Unknown(word) => {
                 write!(
                     f,
                     "there are --json, --page and files, and no {}",
                     word.as_str()
                 )
             }
-            Refused::Both => f.write_str("one of --json and --page at a time"),
-            Refused::Pages => f.write_str("a page shows one file"),
+            WordsRefused::Both => f.write_str("one of --json and --page at a time"),
+            WordsRefused::Pages => f.write_str("a page shows one file"),
         }
     }
 }

@@ -1,6 +1,6 @@
 //! Scripts as tests: each is run, and whether it is as its lines expect is told in the words of TAP.
 
-use crate::view::{Manner, Shown, run_shown};
+use crate::view::{Shown, ViewFormat, run_shown};
 use fm_report::{Text, push_ascii};
 use std::alloc::Global;
 use std::fs;
@@ -28,7 +28,7 @@ struct Run {
 fn run_script(alloc: Global, strictness: Strictness, script: &[u8]) -> Run {
     let shown = Shown {
         is_strict: strictness.is_strict,
-        ..Shown::new(Manner::Check)
+        ..Shown::new(ViewFormat::Check)
     };
     let mut said = Vec::new(alloc);
     let (status, expected) = run_shown(alloc, shown, script, &mut said);

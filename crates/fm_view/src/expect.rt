@@ -29,7 +29,7 @@ pub enum Expected<'a> {
 
 /// Whether an expectation is met.
 #[derive(Clone, Copy, PartialEq, Eq)]
-pub enum Outcome {
+pub enum ExpectOutcome {
     /// It is. That on the status is seen at the end.
     Met,
     /// It isn't.
@@ -158,32 +158,32 @@ impl Expectations {
     }
 
     /// Whether an expectation is met: the last line printed it, behind what earlier expectations of the line found. One status alone can be expected.
-    pub fn meet(&mut self, expected: Expected<'_>) -> Outcome {
+    pub fn meet(&mut self, expected: Expected<'_>) -> ExpectOutcome {
         self.count = count_up(self.count, true);
         let outcome = match expected {
             Expected::Text(text) => self.meet_text(text),
             Expected::Status(status) => self.expect_status(status),
-            Expected::Wrong(why) => Outcome::Wrong(why),
+            Expected::Wrong(why) => ExpectOutcome::Wrong(why),
         };
-        self.unmet = count_up(self.unmet, outcome == Outcome::Unmet);
-        self.wrong = count_up(self.wrong, matches!(outcome, Outcome::Wrong(_)));
+        self.unmet = count_up(self.unmet, outcome == ExpectOutcome::Unmet);
+        self.wrong = count_up(self.wrong, matches!(outcome, ExpectOutcome::Wrong(_)));
         outcome
     }
 
-    fn meet_text(&mut self, text: &[u8]) -> Outcome {
+    fn meet_text(&mut self, text: &[u8]) -> ExpectOutcome {
         if self.find(text) {
-            Outcome::Met
+            ExpectOutcome::Met
         } else {
-            Outcome::Unmet
+            ExpectOutcome::Unmet
         }
     }
 
-    fn expect_status(&mut self, status: u8) -> Outcome {
+    fn expect_status(&mut self, status: u8) -> ExpectOutcome {
         if self.status.is_some() {
-            return Outcome::Wrong("a line before it says with which status the run ends");
+            return ExpectOutcome::Wrong("a line before it says with which status the run ends");
         }
         self.status = Some(status);
-        Outcome::Met
+        ExpectOutcome::Met
     }
 
     fn find(&mut self, expected: &[u8]) -> bool {

@@ -2,13 +2,13 @@
 
 use fm_core::{Entry, Place, PreState, State, Step};
 use fm_data::{PostVerdict, PreVerdict};
-use fm_report::{Event, Facts, Kind, Visit, held_at, instance_in, operation_in, stands_at};
+use fm_report::{Event, Facts, InstanceVisit, Kind, held_at, instance_in, operation_in, stands_at};
 use fm_script::{ContextList, Said, Task, Word};
 use fm_types::{ContextKind, CtxId, InstanceId, OpId, Status, WorkerId};
 
 /// What a line asked for.
 #[derive(Clone, Copy)]
-pub struct Asked<'a> {
+pub struct LineContext<'a> {
     /// What it had done.
     pub task: &'a Task,
     /// Where its worker was before.
@@ -62,8 +62,8 @@ fn number_of(worker: WorkerId) -> u64 {
 }
 
 // A worker's visit, by where it is.
-fn visit_at(worker: WorkerId, place: Place) -> Visit {
-    Visit {
+fn visit_at(worker: WorkerId, place: Place) -> InstanceVisit {
+    InstanceVisit {
         worker: number_of(worker),
         operation: operation_in(place).unwrap_or(0),
         instance: instance_in(place).unwrap_or(0),
@@ -111,7 +111,7 @@ fn life_of(context: u64, said: &Said) -> Event {
     Event::of(kind, facts)
 }
 
-impl Asked<'_> {
+impl LineContext<'_> {
     /// What a line of its answer says.
     pub fn event(&self, said: &Said) -> Event {
         if let Some(refusal) = refusal_in(said, self.subject) {
@@ -162,7 +162,7 @@ impl Asked<'_> {
     }
 
     // A preoperation gave its verdict.
-    fn pre(&self, visit: Visit, verdict: PreVerdict) -> Event {
+    fn pre(&self, visit: InstanceVisit, verdict: PreVerdict) -> Event {
         Event::verdict(Kind::Pre, visit, verdict, self.sent(visit))
     }
 
@@ -180,14 +180,14 @@ impl Asked<'_> {
 
     // What a worker did in a turn of `go`.
     fn go(&self, worker: WorkerId, operation: OpId, said: &Said) -> Event {
-        let visit = Visit {
+        let visit = InstanceVisit {
             worker: number_of(worker),
             operation: operation.0,
             instance: number_in(said),
         };
         match said {
             Said::Answered(instance, verdict) => {
-                let visit = Visit {
+                let visit = InstanceVisit {
                     instance: *instance,
                     ..visit
                 };
@@ -256,7 +256,7 @@ impl Asked<'_> {
     }
 
     // The context that a preoperation sent along, by its number: it counts only where the postoperation does, and the context was in the hand.
-    fn sent(&self, visit: Visit) -> Option<u64> {
+    fn sent(&self, visit: InstanceVisit) -> Option<u64> {
         match stands_at(self.state, OpId(visit.operation), visit.instance)? {
             PreState::Asked(completion) | PreState::Synchronized(completion) => {
                 Some(self.number(completion.context?))
@@ -300,8 +300,8 @@ impl Asked<'_> {
     }
 
     // The visit at which an operation is resumed.
-    fn resumed(&self, worker: WorkerId, operation: OpId) -> Visit {
-        Visit {
+    fn resumed(&self, worker: WorkerId, operation: OpId) -> InstanceVisit {
+        InstanceVisit {
             operation: operation.0,
             ..visit_at(worker, self.place)
         }

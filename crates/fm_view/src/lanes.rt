@@ -68,14 +68,14 @@ fn x_of(column: u32) -> u32 {
 
 /// The rows in which the names of the operations on a volume stand, from the top: none runs into another one, or into another one's stalk.
 #[derive(Drop)]
-pub struct Rows {
+pub struct NameRows {
     ends: Vec<u32>,
 }
 
-impl Rows {
+impl NameRows {
     /// No name stands anywhere.
-    pub fn new(alloc: Global) -> Rows {
-        Rows {
+    pub fn new(alloc: Global) -> NameRows {
+        NameRows {
             ends: Vec::new(alloc),
         }
     }
@@ -107,7 +107,7 @@ impl Rows {
 
 /// What a lane is for.
 #[derive(Clone, Copy, PartialEq, Eq)]
-pub enum Owner {
+pub enum LaneOwner {
     /// The heads of the operations on a volume.
     Client(u8),
     /// An instance.
@@ -119,7 +119,7 @@ pub enum Owner {
 /// A lane.
 #[derive(Clone, Copy)]
 pub struct Lane {
-    pub owner: Owner,
+    pub owner: LaneOwner,
     pub top: u32,
     pub height: u32,
 }
@@ -128,7 +128,7 @@ impl Lane {
     /// Where its line is.
     pub fn y(&self) -> u32 {
         match self.owner {
-            Owner::Client(_) => self.top.saturating_add(self.height).saturating_sub(6),
+            LaneOwner::Client(_) => self.top.saturating_add(self.height).saturating_sub(6),
             _ => self.top.saturating_add(LANE / 2),
         }
     }
@@ -145,19 +145,19 @@ pub fn lanes(alloc: Global, notes: &Notes, rows: &[u32]) -> Result<Vec<Lane>, Al
         };
         let rows = rows.get(number).copied().unwrap_or(0);
         let head = rows.saturating_mul(ROW).saturating_add(30);
-        top = add(&mut lanes, Owner::Client(volume), top, head)?;
+        top = add(&mut lanes, LaneOwner::Client(volume), top, head)?;
         for instance in by_altitude(alloc, notes, volume)? {
             let height = LANE.saturating_add(bars_of(notes, instance).saturating_mul(BAR));
-            top = add(&mut lanes, Owner::Instance(instance), top, height)?;
+            top = add(&mut lanes, LaneOwner::Instance(instance), top, height)?;
         }
-        top = add(&mut lanes, Owner::Base(volume), top, LANE)?;
+        top = add(&mut lanes, LaneOwner::Base(volume), top, LANE)?;
         top = top.saturating_add(14);
     }
     Ok(lanes)
 }
 
 // A lane more: where the next one begins.
-fn add(lanes: &mut Vec<Lane>, owner: Owner, top: u32, height: u32) -> Result<u32, AllocError> {
+fn add(lanes: &mut Vec<Lane>, owner: LaneOwner, top: u32, height: u32) -> Result<u32, AllocError> {
     lanes.push(Lane { owner, top, height })?;
     Ok(top.saturating_add(height))
 }
@@ -210,7 +210,7 @@ fn is_higher(notes: &Notes, instance: u16, other: u16) -> bool {
 }
 
 /// Where the line of an owner is, if it has a lane.
-pub fn y_of(lanes: &[Lane], owner: Owner) -> Option<u32> {
+pub fn y_of(lanes: &[Lane], owner: LaneOwner) -> Option<u32> {
     let lane = lanes.iter().find(|lane| lane.owner == owner)?;
     Some(lane.y())
 }

@@ -19,5 +19,5 @@ mod ways;
 
 pub use crate::check::{Strictness, check_scripts};
 pub use crate::verdict::exit_status;
-pub use crate::view::{Manner, Shown, show_script};
+pub use crate::view::{Shown, ViewFormat, show_script};
 pub use fm_script::ScriptEnd;

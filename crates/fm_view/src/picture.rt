@@ -1,6 +1,6 @@
 //! A run as a picture (SVG): a lane for each instance, time to the right.
 
-use crate::lanes::{BAR, Columns, LANE, LEFT, Lane, Owner, Rows, lanes, y_of};
+use crate::lanes::{BAR, Columns, LANE, LEFT, Lane, LaneOwner, NameRows, lanes, y_of};
 use fm_core::Phase;
 use fm_page::Label;
 use fm_report::{Event, Facts, Kind, Moment, Notes, Text, fill, push_operation};
@@ -81,7 +81,7 @@ fn place_names(
     volume: usize,
     rows: &mut [Option<u32>],
 ) -> Result<u32, AllocError> {
-    let mut used = Rows::new(alloc);
+    let mut used = NameRows::new(alloc);
     for (at, moment) in moments.iter().enumerate() {
         if let Some((operation, number)) = begun_on(notes, &moment.event, volume) {
             let row = used.place(columns.x(at), width_of(alloc, notes, operation)?)?;
@@ -214,7 +214,7 @@ impl Picture<'_> {
         let y = lane.y();
         let text_y = y.saturating_add(4);
         match lane.owner {
-            Owner::Client(volume) => {
+            LaneOwner::Client(volume) => {
                 let label = self.label(&Facts::volume_since(u64::from(volume), 0), "%v", 28);
                 self.put(
                     "<line x1=\"10\" y1=\"%\" x2=\"%\" y2=\"%\" stroke=\"#222\" stroke-width=\"1.5\"/>\n",
@@ -223,7 +223,7 @@ impl Picture<'_> {
                 );
                 self.write_text((10, y.saturating_sub(6)), "font-weight=\"bold\"", &label)
             }
-            Owner::Instance(instance) => {
+            LaneOwner::Instance(instance) => {
                 let x = self.attached_at(instance);
                 let label = self.label(&Facts::instance(u64::from(instance)), "%i", 28);
                 self.put(
@@ -233,7 +233,7 @@ impl Picture<'_> {
                 );
                 self.write_text((10, text_y), "", &label)
             }
-            Owner::Base(volume) => {
+            LaneOwner::Base(volume) => {
                 let facts = Facts::number(u64::from(volume));
                 let label = self.label(&facts, "file system of v%n", 28);
                 let top = lane.top.saturating_add(4);
@@ -282,7 +282,7 @@ impl Picture<'_> {
             Some(later) => self.columns.x_of_line(self.moments, later.line),
             None => self.columns.right(),
         };
-        let owner = Owner::Instance(change.instance);
+        let owner = LaneOwner::Instance(change.instance);
         let Some(lane) = self.lanes.iter().find(|lane| lane.owner == owner).copied() else {
             return;
         };
@@ -307,7 +307,7 @@ impl Picture<'_> {
         let Some(note) = self.notes.contexts.get(number).copied() else {
             return;
         };
-        let Some(lane_y) = y_of(&self.lanes, Owner::Instance(note.instance)) else {
+        let Some(lane_y) = y_of(&self.lanes, LaneOwner::Instance(note.instance)) else {
             return;
         };
         let mut row = 0u32;

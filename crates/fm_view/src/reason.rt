@@ -20,7 +20,7 @@ use strsim::osa_distance;
 
 /// A line that was refused, beside what is known.
 #[derive(Clone, Copy)]
-pub struct Refusal<'a> {
+pub struct RefusedLine<'a> {
     /// What the lines before it named.
     pub notes: &'a Notes,
     /// The manager's state.
@@ -37,7 +37,7 @@ pub struct Refusal<'a> {
     pub context: Option<u64>,
 }
 
-impl Refusal<'_> {
+impl RefusedLine<'_> {
     // Appends words with these facts.
     fn fill(&self, text: &mut Text, facts: &Facts, pattern: &str) {
         fill(text, self.notes, facts, pattern)
@@ -50,7 +50,7 @@ fn say_sentence(text: &mut Text, status: Status) {
 }
 
 /// Appends why a line was refused.
-pub fn say_refusal(alloc: Global, text: &mut Text, refusal: &Refusal<'_>, status: Status) {
+pub fn say_refusal(alloc: Global, text: &mut Text, refusal: &RefusedLine<'_>, status: Status) {
     match refusal.task {
         Some(task) => say_asked(text, refusal, task, status),
         None => say_unasked(alloc, text, refusal, status),
@@ -58,7 +58,7 @@ pub fn say_refusal(alloc: Global, text: &mut Text, refusal: &Refusal<'_>, status
 }
 
 // A line that asked for something.
-fn say_asked(text: &mut Text, refusal: &Refusal<'_>, task: &Task, status: Status) {
+fn say_asked(text: &mut Text, refusal: &RefusedLine<'_>, task: &Task, status: Status) {
     match status {
         Status::WrongStep => say_wrong_step(text, refusal, task),
         Status::DeletingObject | Status::NoInstance => say_going(text, refusal, task),
@@ -77,7 +77,7 @@ fn say_asked(text: &mut Text, refusal: &Refusal<'_>, task: &Task, status: Status
 }
 
 // A line that was refused before any event.
-fn say_unasked(alloc: Global, text: &mut Text, refusal: &Refusal<'_>, status: Status) {
+fn say_unasked(alloc: Global, text: &mut Text, refusal: &RefusedLine<'_>, status: Status) {
     match status {
         Status::BadRequest => say_unread(alloc, text, refusal.line),
         Status::WrongStep => say_unknown(text, refusal),
@@ -100,7 +100,7 @@ fn past_a_limit(task: &Task) -> &'static str {
 }
 
 // Which number of a line was never given.
-fn say_unknown(text: &mut Text, refusal: &Refusal<'_>) {
+fn say_unknown(text: &mut Text, refusal: &RefusedLine<'_>) {
     for word in refusal.line.split(|byte| *byte == b' ') {
         match unknown_in(refusal.state, word) {
             Some(facts) if facts.operation.is_some() => {
@@ -130,7 +130,7 @@ fn unknown_in(state: &State, word: &[u8]) -> Option<Facts> {
 }
 
 // Why a handle isn't open for it.
-fn say_no_handle(text: &mut Text, refusal: &Refusal<'_>, task: &Task) {
+fn say_no_handle(text: &mut Text, refusal: &RefusedLine<'_>, task: &Task) {
     let Some(handle) = handle_of(task) else {
         return say_sentence(text, Status::NoHandle);
     };
@@ -174,7 +174,7 @@ fn end_words(what: &What, handle: u64) -> Option<&'static str> {
 }
 
 // Whether a filter was asked at all.
-fn say_unwilling(text: &mut Text, refusal: &Refusal<'_>, task: &Task) {
+fn say_unwilling(text: &mut Text, refusal: &RefusedLine<'_>, task: &Task) {
     let (asks, words) = match task {
         Task::Event(Step::AskDetach { instance, .. }) => (
             refusal.state.filter_of(*instance),
@@ -193,7 +193,7 @@ fn say_unwilling(text: &mut Text, refusal: &Refusal<'_>, task: &Task) {
 }
 
 // Which context is set there already, and whether a reference to it came into the hand.
-fn say_defined(text: &mut Text, refusal: &Refusal<'_>, task: &Task) {
+fn say_defined(text: &mut Text, refusal: &RefusedLine<'_>, task: &Task) {
     let (context, words) = match refusal.context {
         Some(context) => (
             Some(context),
@@ -208,7 +208,7 @@ fn say_defined(text: &mut Text, refusal: &Refusal<'_>, task: &Task) {
 }
 
 // The context of the same owner and kind as that of the line, if no more than one was ever set: then it is the one that is there.
-fn only_other(refusal: &Refusal<'_>, task: &Task) -> Option<u64> {
+fn only_other(refusal: &RefusedLine<'_>, task: &Task) -> Option<u64> {
     let Task::Event(Step::Set { context, .. }) = task else {
         return None;
     };
@@ -249,7 +249,7 @@ fn filter_at(notes: &Notes, instance: u16) -> Option<u8> {
 }
 
 // Where a context is set already.
-fn say_linked(text: &mut Text, refusal: &Refusal<'_>, task: &Task) {
+fn say_linked(text: &mut Text, refusal: &RefusedLine<'_>, task: &Task) {
     let Some(number) = context_in(refusal, task) else {
         return say_sentence(text, Status::AlreadyLinked);
     };
@@ -266,7 +266,7 @@ fn say_linked(text: &mut Text, refusal: &Refusal<'_>, task: &Task) {
 }
 
 // The number of the context that a line sets.
-fn context_in(refusal: &Refusal<'_>, task: &Task) -> Option<u64> {
+fn context_in(refusal: &RefusedLine<'_>, task: &Task) -> Option<u64> {
     match task {
         Task::Event(Step::Set { context, .. }) => {
             Some(refusal.contexts.number_of(*context)? as u64)
@@ -276,7 +276,7 @@ fn context_in(refusal: &Refusal<'_>, task: &Task) -> Option<u64> {
 }
 
 // Which instance has the name or the altitude.
-fn say_collision(text: &mut Text, refusal: &Refusal<'_>, task: &Task, status: Status) {
+fn say_collision(text: &mut Text, refusal: &RefusedLine<'_>, task: &Task, status: Status) {
     say_sentence(text, status);
     let Some(volume) = volume_of(task) else {
         return;
@@ -392,7 +392,7 @@ fn nearest(alloc: Global, word: &[u8]) -> Result<Option<Keyword>, AllocError> {
 }
 
 // Something out of order: where the worker is, or what else is in the way.
-fn say_wrong_step(text: &mut Text, refusal: &Refusal<'_>, task: &Task) {
+fn say_wrong_step(text: &mut Text, refusal: &RefusedLine<'_>, task: &Task) {
     let worker = worker_of(task);
     if let (Some(worker), true) = (worker, refusal.place != Place::Idle) {
         return say_where(text, refusal.notes, worker, refusal.place);
@@ -421,7 +421,7 @@ fn torn(task: &Task) -> Option<InstanceId> {
 }
 
 // Why an operation doesn't go on.
-fn say_operation(text: &mut Text, refusal: &Refusal<'_>, operation: OpId) {
+fn say_operation(text: &mut Text, refusal: &RefusedLine<'_>, operation: OpId) {
     if let Some((worker, place)) = worker_in(refusal.state, operation) {
         return say_where(text, refusal.notes, worker, place);
     }
@@ -460,7 +460,7 @@ fn is_for(place: Place, operation: OpId) -> bool {
 }
 
 // Why an instance isn't so far.
-fn say_instance(text: &mut Text, refusal: &Refusal<'_>, task: &Task, instance: u64) {
+fn say_instance(text: &mut Text, refusal: &RefusedLine<'_>, task: &Task, instance: u64) {
     let Some(note) = refusal.notes.instance(instance) else {
         return say_sentence(text, Status::WrongStep);
     };
@@ -474,7 +474,7 @@ fn say_instance(text: &mut Text, refusal: &Refusal<'_>, task: &Task, instance: u
 }
 
 // How far an instance's life is, and since when.
-fn say_phase(text: &mut Text, refusal: &Refusal<'_>, instance: u64, note: &InstanceNote) {
+fn say_phase(text: &mut Text, refusal: &RefusedLine<'_>, instance: u64, note: &InstanceNote) {
     let facts = Facts {
         phase: Some(note.phase),
         ..Facts::instance_since(instance, note.since)
@@ -513,7 +513,7 @@ fn volume_words(phase: VolumePhase) -> &'static str {
 }
 
 // How far the life of a filter or a volume is.
-fn say_object(text: &mut Text, refusal: &Refusal<'_>, task: &Task) {
+fn say_object(text: &mut Text, refusal: &RefusedLine<'_>, task: &Task) {
     if let Some((facts, words)) = volume_life(refusal.notes, task) {
         return refusal.fill(text, &facts, words);
     }
@@ -541,7 +541,7 @@ fn volume_life(notes: &Notes, task: &Task) -> Option<(Facts, &'static str)> {
 }
 
 // How far the life of the filter is that a line names.
-fn filter_life(refusal: &Refusal<'_>, task: &Task) -> Option<(Facts, &'static str)> {
+fn filter_life(refusal: &RefusedLine<'_>, task: &Task) -> Option<(Facts, &'static str)> {
     let filter = u64::from(filter_of(task, refusal.place)?.0);
     let note = refusal.notes.filter(filter)?;
     Some((
@@ -551,7 +551,7 @@ fn filter_life(refusal: &Refusal<'_>, task: &Task) -> Option<(Facts, &'static st
 }
 
 // What is going, and since when.
-fn say_going(text: &mut Text, refusal: &Refusal<'_>, task: &Task) {
+fn say_going(text: &mut Text, refusal: &RefusedLine<'_>, task: &Task) {
     if let Some(instance) = instance_of(task, refusal.place) {
         return say_going_instance(text, refusal, instance);
     }
@@ -569,7 +569,7 @@ fn say_going(text: &mut Text, refusal: &Refusal<'_>, task: &Task) {
 }
 
 // Whether an instance is going, and since when.
-fn say_going_instance(text: &mut Text, refusal: &Refusal<'_>, instance: u64) {
+fn say_going_instance(text: &mut Text, refusal: &RefusedLine<'_>, instance: u64) {
     match refusal.notes.instance(instance) {
         Some(note) if note.phase != Phase::Attached => say_phase(text, refusal, instance, &note),
         _ => refusal.fill(
@@ -581,7 +581,7 @@ fn say_going_instance(text: &mut Text, refusal: &Refusal<'_>, instance: u64) {
 }
 
 // Who holds an operation, if not the instance whose callback resumes it.
-fn say_not_held(text: &mut Text, refusal: &Refusal<'_>, task: &Task) {
+fn say_not_held(text: &mut Text, refusal: &RefusedLine<'_>, task: &Task) {
     let operation = operation_of(task, refusal.place).unwrap_or(0);
     let facts = Facts::operation(operation);
     let Some((holder, _)) = held_at(refusal.state, OpId(operation)) else {
@@ -597,7 +597,7 @@ fn say_not_held(text: &mut Text, refusal: &Refusal<'_>, task: &Task) {
 }
 
 // What is in the way.
-fn say_busy(text: &mut Text, refusal: &Refusal<'_>, task: &Task, count: u64) {
+fn say_busy(text: &mut Text, refusal: &RefusedLine<'_>, task: &Task, count: u64) {
     match task {
         Task::Event(Step::CompleteTeardown { instance, .. }) => {
             push_verb(text, count, "operation");
@@ -620,7 +620,7 @@ fn say_busy(text: &mut Text, refusal: &Refusal<'_>, task: &Task, count: u64) {
 }
 
 // What is in the way of an end.
-fn say_busy_end(text: &mut Text, refusal: &Refusal<'_>, task: &Task, count: u64) {
+fn say_busy_end(text: &mut Text, refusal: &RefusedLine<'_>, task: &Task, count: u64) {
     match task {
         Task::Event(Step::Finish { .. }) => {
             push_those(text, count, "contexts");
@@ -660,7 +660,7 @@ enum Group {
 
 impl Group {
     // Whether an operation is one of them.
-    fn has(self, refusal: &Refusal<'_>, number: u64) -> bool {
+    fn has(self, refusal: &RefusedLine<'_>, number: u64) -> bool {
         let operation = OpId(number);
         match (self, refusal.state.is_done(operation)) {
             (Group::At(instance), Some(false)) => is_visited(refusal.state, operation, instance),
@@ -670,7 +670,7 @@ impl Group {
     }
 
     // How many they are.
-    fn count(self, refusal: &Refusal<'_>) -> u64 {
+    fn count(self, refusal: &RefusedLine<'_>) -> u64 {
         let mut count = 0u64;
         for number in 0..refusal.state.operations_begun() {
             if self.has(refusal, number) {
@@ -682,7 +682,7 @@ impl Group {
 }
 
 // The operations of a group, if the notes tell all that are in the way.
-fn say_group(text: &mut Text, refusal: &Refusal<'_>, group: Group, count: u64) {
+fn say_group(text: &mut Text, refusal: &RefusedLine<'_>, group: Group, count: u64) {
     if group.count(refusal) != count {
         return;
     }
@@ -702,7 +702,7 @@ fn mark(is_first: bool) -> &'static str {
 }
 
 // The instances of a filter that aren't detached.
-fn say_attached(text: &mut Text, refusal: &Refusal<'_>, filter: FilterId) {
+fn say_attached(text: &mut Text, refusal: &RefusedLine<'_>, filter: FilterId) {
     let mut is_first = true;
     let mut number = 0u64;
     for note in &refusal.notes.instances {
@@ -716,7 +716,7 @@ fn say_attached(text: &mut Text, refusal: &Refusal<'_>, filter: FilterId) {
 }
 
 // Whether a context keeps the line's instance, filter or volume from its end.
-fn is_kept(refusal: &Refusal<'_>, task: &Task, note: &ContextNote) -> bool {
+fn is_kept(refusal: &RefusedLine<'_>, task: &Task, note: &ContextNote) -> bool {
     let owner = refusal.notes.instances.get(usize::from(note.instance));
     let is_volume = note.kind == ContextKind::Volume;
     match (task, owner) {
@@ -732,7 +732,7 @@ fn is_kept(refusal: &Refusal<'_>, task: &Task, note: &ContextNote) -> bool {
 }
 
 // The contexts that aren't cleaned up and keep it from its end.
-fn say_contexts(text: &mut Text, refusal: &Refusal<'_>, task: &Task) {
+fn say_contexts(text: &mut Text, refusal: &RefusedLine<'_>, task: &Task) {
     let mut is_first = true;
     let ids = refusal.contexts.as_slice();
     for (number, note) in refusal.notes.contexts.iter().enumerate() {
@@ -749,7 +749,7 @@ fn say_contexts(text: &mut Text, refusal: &Refusal<'_>, task: &Task) {
 }
 
 // What keeps a volume from being emptied: handles, and instances.
-fn say_left_open(text: &mut Text, refusal: &Refusal<'_>, volume: u8, count: u64) {
+fn say_left_open(text: &mut Text, refusal: &RefusedLine<'_>, volume: u8, count: u64) {
     let mut attached = 0u64;
     for note in &refusal.notes.instances {
         if note.phase != Phase::Detached && note.volume == volume {
@@ -777,7 +777,7 @@ fn say_left_open(text: &mut Text, refusal: &Refusal<'_>, volume: u8, count: u64)
 }
 
 // The instances on a volume that aren't detached.
-fn say_left_instances(text: &mut Text, refusal: &Refusal<'_>, volume: u8) {
+fn say_left_instances(text: &mut Text, refusal: &RefusedLine<'_>, volume: u8) {
     let mut is_first = true;
     let mut number = 0u64;
     for note in &refusal.notes.instances {

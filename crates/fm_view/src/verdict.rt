@@ -7,8 +7,8 @@ use crate::expect::Expectations;
 use fm_core::{Hold, Phase, Place, State};
 use fm_data::PreVerdict;
 use fm_report::{
-    Event, Facts, Fault, Kind, Notes, Text, counted_for, fill, held_at, push_count, push_instance,
-    push_place, say_leak, stands_at,
+    Event, Facts, Kind, Notes, RunFault, Text, counted_for, fill, held_at, push_count,
+    push_instance, push_place, say_leak, stands_at,
 };
 use fm_script::ScriptEnd;
 use fm_types::{OpId, Status, WorkerId};
@@ -282,11 +282,11 @@ pub fn say_fault(text: &mut Text, end: ScriptEnd) {
 }
 
 /// What cut a script off, if something did.
-pub fn fault_of(end: ScriptEnd) -> Option<Fault> {
+pub fn fault_of(end: ScriptEnd) -> Option<RunFault> {
     match end {
         ScriptEnd::Ended => None,
-        ScriptEnd::NoMemory => Some(Fault::NoMemory),
-        ScriptEnd::ReadFault => Some(Fault::Read),
-        ScriptEnd::WriteFault => Some(Fault::Write),
+        ScriptEnd::NoMemory => Some(RunFault::NoMemory),
+        ScriptEnd::ReadFault => Some(RunFault::Read),
+        ScriptEnd::WriteFault => Some(RunFault::Write),
     }
 }

@@ -2,11 +2,11 @@
 
 use crate::answer::printed;
 use crate::colour::{Colour, colour_of};
-use crate::expect::{Expectations, Expected, LineNote, Outcome, behind_mark, expected_in};
-use crate::happened::{Asked, refusal_in};
+use crate::expect::{ExpectOutcome, Expectations, Expected, LineNote, behind_mark, expected_in};
+use crate::happened::{LineContext, refusal_in};
 use crate::learn::{bytes_in, learn};
 use crate::picture::draw;
-use crate::reason::{Refusal, say_refusal};
+use crate::reason::{RefusedLine, say_refusal};
 use crate::subject::{facts_of, worker_of};
 use crate::verdict::{
     counted_at, exit_status, fault_of, held, say_end, say_expectations, say_fault, say_held,
@@ -16,9 +16,9 @@ use fm_core::{Place, State, Step};
 use fm_data::PreVerdict;
 use fm_page::{Inert, Label, PAGE_BEGIN, PAGE_END};
 use fm_report::{
-    Detail, Event, Facts, Kind, Moment, Notes, Tally, Text, Told, push_ascii, say_begin_json,
-    say_change_json, say_comment_json, say_detail, say_end_json, say_expectation_json, say_json,
-    say_leak, say_leak_json,
+    Detail, Event, Facts, Kind, Moment, Notes, ObjectDetail, Summary, Text, push_ascii,
+    say_begin_json, say_change_json, say_comment_json, say_detail, say_end_json,
+    say_expectation_json, say_json, say_leak, say_leak_json,
 };
 use fm_script::{Interpreter, Listener, Said, ScriptEnd, Task, is_silent, read_lines};
 use fm_types::limits::{LINE, TURNS};
@@ -32,7 +32,7 @@ const COMMAND: usize = 27;
 
 /// How a run is shown.
 #[derive(Clone, Copy, PartialEq, Eq)]
-pub enum Manner {
+pub enum ViewFormat {
     /// In words, line by line.
     Words,
     /// As JSON, one object for each answer.
@@ -49,7 +49,7 @@ pub enum Manner {
 #[derive(Clone, Copy)]
 pub struct Shown {
     /// How it is shown.
-    pub manner: Manner,
+    pub format: ViewFormat,
     /// Whether a refusal that no line expects counts as an expectation that isn't met.
     pub is_strict: bool,
     /// Whether words have colours, as a terminal knows them.
@@ -59,10 +59,10 @@ pub struct Shown {
 }
 
 impl Shown {
-    /// The whole run in that manner, judged as its lines expect it.
-    pub fn new(manner: Manner) -> Shown {
+    /// The whole run in that format, judged as its lines expect it.
+    pub fn new(format: ViewFormat) -> Shown {
         Shown {
-            manner,
+            format,
             is_strict: false,
             is_coloured: false,
             lines: (0, u32::MAX),
@@ -72,7 +72,7 @@ impl Shown {
 
 // A line as it was read, or a turn of a `go`: where its worker is before it, how many references were left behind so far, and how many devices were called.
 #[derive(Clone, Copy)]
-struct Line<'a> {
+struct ScriptLine<'a> {
     text: &'a [u8],
     task: Option<&'a Task>,
     worker: Option<WorkerId>,
@@ -126,7 +126,7 @@ impl<W: Write + Drop> View<W> {
 
     // Writes what stands before all lines.
     fn begin(&mut self) -> Result<(), ScriptEnd> {
-        if self.shown.manner == Manner::Page {
+        if self.shown.format == ViewFormat::Page {
             self.write_raw(PAGE_BEGIN)?;
         }
         if !self.is_json() {
@@ -139,13 +139,13 @@ impl<W: Write + Drop> View<W> {
 
     // Whether objects are written.
     fn is_json(&self) -> bool {
-        matches!(self.shown.manner, Manner::Json | Manner::Page)
+        matches!(self.shown.format, ViewFormat::Json | ViewFormat::Page)
     }
 
     // Whether the line is shown in words.
     fn is_said(&self) -> bool {
         let (first, last) = self.shown.lines;
-        self.shown.manner == Manner::Words && first <= self.line && self.line <= last
+        self.shown.format == ViewFormat::Words && first <= self.line && self.line <= last
     }
 
     // Runs a line that isn't silent, and shows what it answered.
@@ -238,7 +238,7 @@ impl<W: Write + Drop> View<W> {
         self.expectations.settle();
         let mut surprise = Text::new(self.alloc);
         mem::swap(&mut surprise, &mut self.surprise);
-        if is_told && self.shown.manner == Manner::Check {
+        if is_told && self.shown.format == ViewFormat::Check {
             return self.write_made(surprise);
         }
         Ok(())
@@ -247,8 +247,8 @@ impl<W: Write + Drop> View<W> {
     // A line says what the line before printed, or how the run ends. It is told if that isn't so.
     fn expect(&mut self, line: &[u8], expected: Expected<'_>) -> Result<(), ScriptEnd> {
         let text = match self.expectations.meet(expected) {
-            Outcome::Wrong(why) => self.wrong_line(line, why),
-            outcome => self.expectation(line, behind_mark(line), outcome == Outcome::Met),
+            ExpectOutcome::Wrong(why) => self.wrong_line(line, why),
+            outcome => self.expectation(line, behind_mark(line), outcome == ExpectOutcome::Met),
         };
         self.write_made(text)
     }
@@ -264,10 +264,10 @@ impl<W: Write + Drop> View<W> {
         let mut words = Text::new(self.alloc);
         say_detail(&mut words, &self.notes, &refused, &detail);
         let mut text = Text::new(self.alloc);
-        if self.shown.manner == Manner::Check {
+        if self.shown.format == ViewFormat::Check {
             self.say_surprise(&mut text, line, words.as_str());
         } else if self.is_json() {
-            let told = Told {
+            let told = ObjectDetail {
                 line: self.line,
                 command: line,
                 words: words.as_str(),
@@ -304,7 +304,7 @@ impl<W: Write + Drop> View<W> {
         if self.is_said() {
             self.say_comment(&mut text, line);
         }
-        if !is_met && matches!(self.shown.manner, Manner::Words | Manner::Check) {
+        if !is_met && matches!(self.shown.format, ViewFormat::Words | ViewFormat::Check) {
             self.say_unmet(&mut text, expected);
         }
         text
@@ -360,7 +360,7 @@ impl<W: Write + Drop> View<W> {
     // Shows what a line or a turn answered, and notes it.
     fn show_all(
         &mut self,
-        line: &Line<'_>,
+        line: &ScriptLine<'_>,
         told: &[Said],
         answered: &mut Answered,
     ) -> Result<(), AllocError> {
@@ -398,13 +398,13 @@ impl<W: Write + Drop> View<W> {
     }
 
     // How things are before a line, or before a turn of it.
-    fn before<'a>(&self, text: &'a [u8], task: &'a Result<Task, Status>) -> Line<'a> {
+    fn before<'a>(&self, text: &'a [u8], task: &'a Result<Task, Status>) -> ScriptLine<'a> {
         let state = self.interpreter.state();
         let (task, worker) = match task {
             Ok(task) => (Some(task), worker_of(task)),
             Err(_) => (None, None),
         };
-        Line {
+        ScriptLine {
             text,
             task,
             worker,
@@ -415,7 +415,7 @@ impl<W: Write + Drop> View<W> {
     }
 
     // Notes the references that the callback left behind that returned on a line, or in a turn of it.
-    fn note_leaks(&mut self, line: &Line<'_>) -> Result<(), AllocError> {
+    fn note_leaks(&mut self, line: &ScriptLine<'_>) -> Result<(), AllocError> {
         let is_more = self.interpreter.state().leaks() != line.leaks;
         let (Some(worker), true) = (line.worker, is_more) else {
             return Ok(());
@@ -431,7 +431,7 @@ impl<W: Write + Drop> View<W> {
     }
 
     // The callback that returned on a line: the one that its worker was in, or the one that a turn came to.
-    fn returned_from(&self, line: &Line<'_>) -> Place {
+    fn returned_from(&self, line: &ScriptLine<'_>) -> Place {
         match (line.place, self.moments.last()) {
             (Place::Idle, Some(moment)) => moment.event.callback(),
             (place, _) => place,
@@ -449,12 +449,12 @@ impl<W: Write + Drop> View<W> {
     }
 
     // The event of one line of an answer.
-    fn event(&self, line: &Line<'_>, said: &Said) -> Option<Event> {
+    fn event(&self, line: &ScriptLine<'_>, said: &Said) -> Option<Event> {
         let Some(task) = line.task else {
             return refusal_in(said, Facts::none());
         };
         let interpreter = &self.interpreter;
-        let asked = Asked {
+        let asked = LineContext {
             task,
             place: line.place,
             has_called: interpreter.calls() != line.calls,
@@ -466,7 +466,7 @@ impl<W: Write + Drop> View<W> {
     }
 
     // Notes what happened.
-    fn note(&mut self, line: &Line<'_>, event: &Event) -> Result<(), AllocError> {
+    fn note(&mut self, line: &ScriptLine<'_>, event: &Event) -> Result<(), AllocError> {
         let state = self.interpreter.state();
         match line.task {
             Some(task) => learn(&mut self.notes, self.line, event, task, state)?,
@@ -483,7 +483,7 @@ impl<W: Write + Drop> View<W> {
     fn show(
         &mut self,
         text: &mut Text,
-        line: &Line<'_>,
+        line: &ScriptLine<'_>,
         said: &Said,
         is_first: bool,
     ) -> Result<(), AllocError> {
@@ -499,19 +499,19 @@ impl<W: Write + Drop> View<W> {
         let words = self.words(line, said, &event, reason.as_str());
         words.check()?;
         let words = words.as_str();
-        match self.shown.manner {
-            Manner::Check => self.note_surprise(line, words),
-            Manner::Words => self.show_words(text, line.text, &event, words, is_first),
-            Manner::Json | Manner::Page => {
+        match self.shown.format {
+            ViewFormat::Check => self.note_surprise(line, words),
+            ViewFormat::Words => self.show_words(text, line.text, &event, words, is_first),
+            ViewFormat::Json | ViewFormat::Page => {
                 self.show_object(text, line, said, &event, (words, reason.as_str()))
             }
-            Manner::Picture => return self.title(line, words),
+            ViewFormat::Picture => return self.title(line, words),
         }
         Ok(())
     }
 
     // What happened, in words.
-    fn words(&self, line: &Line<'_>, said: &Said, event: &Event, reason: &str) -> Text {
+    fn words(&self, line: &ScriptLine<'_>, said: &Said, event: &Event, reason: &str) -> Text {
         let mut words = Text::new(self.alloc);
         let counted = counted_at(self.interpreter.state(), event);
         let bytes = bytes_of(line.task, said).unwrap_or(b"");
@@ -523,7 +523,7 @@ impl<W: Write + Drop> View<W> {
     fn show_object(
         &self,
         text: &mut Text,
-        line: &Line<'_>,
+        line: &ScriptLine<'_>,
         said: &Said,
         event: &Event,
         (words, reason): (&str, &str),
@@ -543,22 +543,22 @@ impl<W: Write + Drop> View<W> {
 
     // Whether an event is told: a check tells refusals alone, and words may be of a part of the lines.
     fn is_told(&self, event: &Event) -> bool {
-        match self.shown.manner {
-            Manner::Check => event.kind == Kind::Refused,
-            Manner::Words => self.is_said(),
-            Manner::Json | Manner::Page | Manner::Picture => true,
+        match self.shown.format {
+            ViewFormat::Check => event.kind == Kind::Refused,
+            ViewFormat::Words => self.is_said(),
+            ViewFormat::Json | ViewFormat::Page | ViewFormat::Picture => true,
         }
     }
 
     // Keeps what a check tells of a line that was refused, if no line expects it.
-    fn note_surprise(&mut self, line: &Line<'_>, words: &str) {
+    fn note_surprise(&mut self, line: &ScriptLine<'_>, words: &str) {
         let mut surprise = Text::new(self.alloc);
         self.say_surprise(&mut surprise, line.text, words);
         self.surprise = surprise;
     }
 
     // Keeps what is told of an event in a picture.
-    fn title(&mut self, line: &Line<'_>, words: &str) -> Result<(), AllocError> {
+    fn title(&mut self, line: &ScriptLine<'_>, words: &str) -> Result<(), AllocError> {
         let mut title = Text::new(self.alloc);
         title.push_str("line ");
         title.push_number(u64::from(self.line));
@@ -573,13 +573,13 @@ impl<W: Write + Drop> View<W> {
     }
 
     // Why a line was refused; nothing if it wasn't.
-    fn reason(&self, line: &Line<'_>, event: &Event) -> Text {
+    fn reason(&self, line: &ScriptLine<'_>, event: &Event) -> Text {
         let mut reason = Text::new(self.alloc);
         let (Kind::Refused, Some(status)) = (event.kind, event.facts.status) else {
             return reason;
         };
         let interpreter = &self.interpreter;
-        let refusal = Refusal {
+        let refusal = RefusedLine {
             notes: &self.notes,
             state: interpreter.state(),
             contexts: interpreter.contexts(),
@@ -639,13 +639,13 @@ impl<W: Write + Drop> View<W> {
 
     // Writes the last text, and hands all out.
     fn end(&mut self, end: ScriptEnd) -> Result<(), ScriptEnd> {
-        if self.shown.manner == Manner::Picture {
+        if self.shown.format == ViewFormat::Picture {
             self.write_picture()?;
         } else {
             let text = self.last_text(end);
             self.write_made(text)?;
         }
-        if self.shown.manner == Manner::Page {
+        if self.shown.format == ViewFormat::Page {
             self.write_raw(PAGE_END)?;
         }
         self.pause()
@@ -660,13 +660,13 @@ impl<W: Write + Drop> View<W> {
     }
 
     // The figures of a run that ended so.
-    fn tally(&self, end: ScriptEnd) -> Tally {
+    fn tally(&self, end: ScriptEnd) -> Summary {
         let state = self.interpreter.state();
         let (leaks, held) = (state.leaks(), held(state));
         let (unmet, misuses) = (self.unmet(), self.expectations.misuses);
         let wrong = self.expectations.wrong;
         let status = exit_status(end, wrong, unmet, leaks, held, misuses);
-        Tally {
+        Summary {
             fault: fault_of(end),
             status: self.expectations.status(status),
             lines: self.last,
@@ -690,7 +690,7 @@ impl<W: Write + Drop> View<W> {
                 ..
             } => self.expectations.surprises,
             Shown {
-                manner: Manner::Check,
+                format: ViewFormat::Check,
                 ..
             } => self.expectations.unread,
             _ => 0,
@@ -701,14 +701,14 @@ impl<W: Write + Drop> View<W> {
     // What is written at the end, if it isn't a picture.
     fn last_text(&self, end: ScriptEnd) -> Text {
         let mut text = Text::new(self.alloc);
-        match self.shown.manner {
-            Manner::Words => {
+        match self.shown.format {
+            ViewFormat::Words => {
                 text.push('\n');
                 self.say_verdict(&mut text, end);
             }
-            Manner::Check => self.say_causes(&mut text, end),
-            Manner::Json | Manner::Page => self.say_end_object(&mut text, end),
-            Manner::Picture => {}
+            ViewFormat::Check => self.say_causes(&mut text, end),
+            ViewFormat::Json | ViewFormat::Page => self.say_end_object(&mut text, end),
+            ViewFormat::Picture => {}
         }
         text
     }
@@ -747,7 +747,7 @@ impl<W: Write + Drop> View<W> {
 
     // Writes a text out: in a page as data, that can't break out of its place.
     fn write(&mut self, text: &str) -> Result<(), ScriptEnd> {
-        if self.shown.manner != Manner::Page {
+        if self.shown.format != ViewFormat::Page {
             return self.write_raw(text);
         }
         let inert = Inert::new(self.alloc, text.as_bytes()).map_err(|_| ScriptEnd::NoMemory)?;
@@ -798,7 +798,7 @@ fn say_object<'x>(
     (bytes, counted): (Option<&'x [u8]>, Option<PreVerdict>),
     (line, command, words, reason): (u32, &'x [u8], &'x str, &'x str),
 ) {
-    let told = Told {
+    let told = ObjectDetail {
         line,
         command,
         words,

@@ -1,6 +1,6 @@
 //! The ways of operations in a picture: lines that go right, then down or up, with a mark for each thing that happens on them.
 
-use crate::lanes::{Owner, ROW, y_of};
+use crate::lanes::{LaneOwner, ROW, y_of};
 use crate::picture::{NAME, Picture};
 use fm_data::PreVerdict;
 use fm_report::{Event, Facts, Kind};
@@ -33,7 +33,7 @@ impl Picture<'_> {
     // An operation: its name above the lanes, and its way through those that it visits.
     fn draw_way(&mut self, number: u64) {
         let volume = self.notes.volume_of(number).unwrap_or(0);
-        let Some(top) = y_of(&self.lanes, Owner::Client(volume)) else {
+        let Some(top) = y_of(&self.lanes, LaneOwner::Client(volume)) else {
             return;
         };
         let colour = COLOURS[(number % 8) as usize];
@@ -62,8 +62,8 @@ impl Picture<'_> {
         }
         let y = match event.kind {
             Kind::Began | Kind::Replied => top,
-            Kind::Base | Kind::InBase => y_of(&self.lanes, Owner::Base(volume))?,
-            Kind::Known => y_of(&self.lanes, Owner::Base(volume))?.saturating_sub(17),
+            Kind::Base | Kind::InBase => y_of(&self.lanes, LaneOwner::Base(volume))?,
+            Kind::Known => y_of(&self.lanes, LaneOwner::Base(volume))?.saturating_sub(17),
             Kind::InPre
             | Kind::InPost
             | Kind::InDrain
@@ -81,7 +81,7 @@ impl Picture<'_> {
     // How far down the lane of an event's instance is.
     fn y_of_instance(&self, event: &Event) -> Option<u32> {
         let instance = u16::try_from(event.facts.instance?).ok()?;
-        y_of(&self.lanes, Owner::Instance(instance))
+        y_of(&self.lanes, LaneOwner::Instance(instance))
     }
 
     // A part of a way: right, then down or up.
@@ -144,7 +144,7 @@ impl Picture<'_> {
             return;
         };
         let volume = self.notes.volume_of(number).unwrap_or(0);
-        let owner = Owner::Client(volume);
+        let owner = LaneOwner::Client(volume);
         let Some(lane) = self.lanes.iter().find(|lane| lane.owner == owner).copied() else {
             return;
         };

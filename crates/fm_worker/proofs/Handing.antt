@@ -4,7 +4,7 @@ use Rattle.std.proofs.lemmas.List.{append-nil, append_assoc, map-append}
 use Rattle.std.proofs.lemmas.Option.{none-some, same_Some}
 use Rattle.fm_queue.specs.declared.job.Job.{Job}
 use Rattle.fm_queue.specs.declared.job.Job.TheVariants.{Run}
-use Rattle.fm_queue.specs.declared.tally.Tally.{Tally}
+use Rattle.fm_queue.specs.declared.tally.PassTally.{PassTally}
 use Rattle.fm_queue.specs.Tallies.{after_put}
 use Rattle.fm_types.specs.declared.ids.OpId.{OpId}
 use Rattle.fm_worker.specs.Jobs.{HandsOn}
@@ -27,7 +27,7 @@ hands_more puts after waiting (x ∷ left) o on first =
     }
 
 -- the same of a pass that put it, and of those that it was taken from
-pub put_on : (puts : List Job) (waiting left now next : List OpId) (o : OpId) (found : Option OpId) (was is : Tally) (is_put : Bool)
+pub put_on : (puts : List Job) (waiting left now next : List OpId) (o : OpId) (found : Option OpId) (was is : PassTally) (is_put : Bool)
     → HandsOn puts waiting was.puts left → found ≡ slice_get left 0 → found ≡ Some o → is ≡ cond is_put (after_put was (Run o)) was → is_put ≡ true
     → now ≡ left → next ≡ drop 1 now → HandsOn puts waiting is.puts next
 put_on puts waiting left now next o found was is is_put on first some put done same rest =

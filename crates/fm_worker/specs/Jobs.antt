@@ -2,7 +2,7 @@
 use Rattle.std.specs.Prelude.{◌≡◌, ◌==◌, ◌⊎◌, ◌++◌, [], Bool, false, not, List, map, Option, Some, None}
 use Rattle.fm_queue.specs.declared.job.Job.{Job}
 use Rattle.fm_queue.specs.declared.job.Job.TheVariants.{Run}
-use Rattle.fm_queue.specs.declared.tally.Tally.{Tally}
+use Rattle.fm_queue.specs.declared.tally.PassTally.{PassTally}
 use Rattle.fm_queue.specs.Tallies.{after_put}
 use Rattle.fm_types.specs.declared.ids.OpId.{OpId}
 use Rattle.fm_types.specs.declared.ids.WorkerId.{WorkerId}
@@ -14,7 +14,7 @@ is_for_another own None = false
 is_for_another own (Some worker) = not (worker.0 == own.0)
 
 -- an operation became a job, or was set aside
-abbrev pub IsKept : OpId → Tally → List OpId → Tally → List OpId → Type 0
+abbrev pub IsKept : OpId → PassTally → List OpId → PassTally → List OpId → Type 0
 IsKept o tally aside after left = ((after ≡ after_put tally (Run o)) × (left ≡ aside)) ⊎ ((after ≡ tally) × (left ≡ put_in o aside))
 
 -- the first operations that waited became jobs, in their order, and the others wait on

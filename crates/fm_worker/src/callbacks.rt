@@ -4,9 +4,9 @@ ghost use Rattle.std.specs.Prelude.{◌≡◌};
 ghost use Rattle.fm_queue.specs.Passes.{IsPassOf};
 ghost use Rattle.fm_worker.specs.Between.{IsFree};
 
-use crate::gate::Gate;
+use crate::hook::CallbackHook;
 use crate::own::Own;
-use crate::shared::Shared;
+use crate::shared::WorkerShared;
 use fm_data::{CallbackData, Completion, PostVerdict};
 use fm_device::Device;
 use fm_filter::{
@@ -17,7 +17,7 @@ use std::sync::Wait;
 use std::sync::ledger::Ledger;
 
 // The thread is in the callback when it ends it, so that a 30 there can't be: the thread waits for ever then. Other refusals are passed on.
-impl<'a, F: Callbacks, L: Ledger, R: Wait, G: Gate> Shared<'a, F, L, R, G> {
+impl<'a, F: Callbacks, L: Ledger, R: Wait, G: CallbackHook> WorkerShared<'a, F, L, R, G> {
     /// Calls the setup callback of a new instance. Refused as the end of that callback is.
     pub(crate) fn setup<D: Device>(
         &self,

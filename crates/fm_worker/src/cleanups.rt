@@ -2,8 +2,8 @@
 
 ghost use Rattle.std.specs.Prelude.{◌≡◌};
 
-use crate::gate::Gate;
-use crate::shared::Shared;
+use crate::hook::CallbackHook;
+use crate::shared::WorkerShared;
 use crate::worker::Worker;
 use fm_ctx::{Due, Owner};
 use fm_device::Device;
@@ -11,7 +11,7 @@ use fm_filter::Callbacks;
 use std::sync::Wait;
 use std::sync::ledger::Ledger;
 
-impl<'a, F: Callbacks, L: Ledger, R: Wait, G: Gate> Shared<'a, F, L, R, G> {
+impl<'a, F: Callbacks, L: Ledger, R: Wait, G: CallbackHook> WorkerShared<'a, F, L, R, G> {
     // The cleanup callback of a context's filter: what it returns for its total.
     fn cleanup(&self, due: &Due) -> u64 {
         let filter = match due.owner {
@@ -25,7 +25,7 @@ impl<'a, F: Callbacks, L: Ledger, R: Wait, G: Gate> Shared<'a, F, L, R, G> {
     }
 }
 
-impl<'a, F: Callbacks, L: Ledger, R: Wait, G: Gate, D: Device> Worker<'a, F, L, R, G, D> {
+impl<'a, F: Callbacks, L: Ledger, R: Wait, G: CallbackHook, D: Device> Worker<'a, F, L, R, G, D> {
     /// Cleans up every context that is due.
     pub(crate) fn clean_up(&mut self)
         ensures kept { self.new.own.port.resumed ≡ self.old.own.port.resumed }

@@ -2,7 +2,7 @@
 
 ghost use Rattle.fm_worker.specs.Jobs.{LeavesNone};
 
-use crate::gate::Gate;
+use crate::hook::CallbackHook;
 use crate::worker::Worker;
 use fm_altitude::Altitude;
 use fm_device::Device;
@@ -12,7 +12,7 @@ use fm_types::{FilterId, InstanceId, Name, Status, VolumeId};
 use std::sync::Wait;
 use std::sync::ledger::Ledger;
 
-impl<'a, F: Callbacks, L: Ledger, R: Wait, G: Gate, D: Device> Worker<'a, F, L, R, G, D> {
+impl<'a, F: Callbacks, L: Ledger, R: Wait, G: CallbackHook, D: Device> Worker<'a, F, L, R, G, D> {
     /// Loads the filter of that name (`FltRegisterFilter`). Refused as `Manager::register`.
     pub fn load(&mut self, name: &Name) -> Result<FilterId, Status> {
         self.shared.manager.register(self.shared.rt, name)

@@ -6,10 +6,10 @@ ghost use Rattle.fm_queue.specs.Tallies.{after_put};
 ghost use Rattle.fm_worker.specs.Between.{IsFree};
 ghost use Rattle.fm_worker.specs.Jobs.{HandsOn, IsKept, LeavesNone, is_for_another};
 
-use crate::gate::Gate;
+use crate::hook::CallbackHook;
 use crate::op_queue::OpQueue;
 use crate::own::Own;
-use crate::shared::Shared;
+use crate::shared::WorkerShared;
 use crate::worker::Worker;
 use fm_device::Device;
 use fm_filter::Callbacks;
@@ -29,7 +29,7 @@ fn is_for_another(own: WorkerId, turn: Option<WorkerId>) -> bool
     }
 }
 
-impl<'a, F: Callbacks, L: Ledger, R: Wait, G: Gate> Shared<'a, F, L, R, G> {
+impl<'a, F: Callbacks, L: Ledger, R: Wait, G: CallbackHook> WorkerShared<'a, F, L, R, G> {
     // Puts a job for an operation; false if the queue is full.
     fn put<D: Device>(&self, own: &mut Own<'a, F, L, R, D>, operation: OpId) -> bool
         requires free { IsFree self.now.queue.now own.old.port.hand.held own.old.pass }
@@ -98,7 +98,7 @@ impl<'a, F: Callbacks, L: Ledger, R: Wait, G: Gate> Shared<'a, F, L, R, G> {
     }
 }
 
-impl<'a, F: Callbacks, L: Ledger, R: Wait, G: Gate, D: Device> Worker<'a, F, L, R, G, D> {
+impl<'a, F: Callbacks, L: Ledger, R: Wait, G: CallbackHook, D: Device> Worker<'a, F, L, R, G, D> {
     /// What a worker does until it takes a Stop: it takes jobs and carries their operations on, as far as they go. What callbacks resume becomes a job for any
     /// worker, or is carried on here if the queue is full; contexts that are due are cleaned up after each job. An operation that only another worker may
     /// carry on becomes a job again, or, if the queue is full, waits until it has room. From the first time on to the Stop operations that are its turn alone come

@@ -6,7 +6,7 @@
 
 mod callbacks;
 mod cleanups;
-mod gate;
+mod hook;
 mod instances;
 mod jobs;
 mod op_queue;
@@ -18,7 +18,7 @@ mod turns;
 mod volumes;
 mod worker;
 
-pub use crate::gate::{Gate, OpenGate};
+pub use crate::hook::{CallbackHook, NoHook};
 pub use crate::op_queue::OpQueue;
 pub use crate::port::HandPort;
 pub use crate::worker::Worker;

@@ -19,12 +19,12 @@ pub(crate) struct Own<'a, F: Drop, L: Ledger, R: Wait, D: Device> {
     pub(crate) port: HandPort<'a, F, L, R>,
     pub(crate) pass: JobPass,
     pub(crate) devices: D,
-    pub(crate) waiting: Waiting,
+    pub(crate) waiting: WaitingOperations,
 }
 
 /// Operations that wait at a thread, beside those that its callbacks resumed.
 #[derive(Drop)]
-pub(crate) struct Waiting {
+pub(crate) struct WaitingOperations {
     // Jobs that were set aside while the queue was full.
     pub(crate) aside: OpQueue,
     // Operations that went no further here and may become this thread's turn alone.
@@ -60,7 +60,7 @@ impl<'a, F: Drop, L: Ledger, R: Wait, D: Device> Own<'a, F, L, R, D> {
             },
             pass,
             devices,
-            waiting: Waiting { aside, bound },
+            waiting: WaitingOperations { aside, bound },
         }
     }
 

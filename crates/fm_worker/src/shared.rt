@@ -1,6 +1,6 @@
 //! What all threads share.
 
-use crate::gate::Gate;
+use crate::hook::CallbackHook;
 use fm_filter::Callbacks;
 use fm_lock::Manager;
 use fm_queue::JobQueue;
@@ -8,17 +8,17 @@ use fm_types::{InstanceId, WorkerId};
 use std::sync::Wait;
 use std::sync::ledger::Ledger;
 
-/// What the threads that carry operations on share: the manager, the queue of jobs, and the gate before callbacks. Each thread has references to the same
+/// What the threads that carry operations on share: the manager, the queue of jobs, and the hook before callbacks. Each thread has references to the same
 /// three.
 #[derive(Drop)]
-pub(crate) struct Shared<'a, F: Drop, L: Ledger, R: Wait, G: Gate> {
+pub(crate) struct WorkerShared<'a, F: Drop, L: Ledger, R: Wait, G: CallbackHook> {
     pub(crate) rt: &'a R,
     pub(crate) manager: &'a Manager<F, L>,
     pub(crate) queue: &'a JobQueue,
-    pub(crate) gate: &'a G,
+    pub(crate) hook: &'a G,
 }
 
-impl<'a, F: Callbacks, L: Ledger, R: Wait, G: Gate> Shared<'a, F, L, R, G> {
+impl<'a, F: Callbacks, L: Ledger, R: Wait, G: CallbackHook> WorkerShared<'a, F, L, R, G> {
     // The filter of an instance.
     pub(crate) fn filter_of(&self, instance: InstanceId) -> Option<&F> {
         self.manager.filter_of_instance(self.rt, instance)

@@ -3,7 +3,7 @@
 ghost use Rattle.std.specs.Prelude.{◌≡◌, []};
 ghost use Rattle.fm_worker.specs.Jobs.{LeavesNone};
 
-use crate::gate::Gate;
+use crate::hook::CallbackHook;
 use crate::worker::Worker;
 use fm_device::Device;
 use fm_filter::Callbacks;
@@ -13,7 +13,7 @@ use fm_types::{InstanceId, Status};
 use std::sync::Wait;
 use std::sync::ledger::Ledger;
 
-impl<'a, F: Callbacks, L: Ledger, R: Wait, G: Gate, D: Device> Worker<'a, F, L, R, G, D> {
+impl<'a, F: Callbacks, L: Ledger, R: Wait, G: CallbackHook, D: Device> Worker<'a, F, L, R, G, D> {
     /// How many instances were attached: their numbers are those below.
     pub(crate) fn instances(&self) -> u16 {
         u16::try_from(self.shared.manager.instances(self.shared.rt)).unwrap_or(u16::MAX)
@@ -105,7 +105,7 @@ impl<'a, F: Callbacks, L: Ledger, R: Wait, G: Gate, D: Device> Worker<'a, F, L, 
         match shared.manager.drain_take(shared.rt, hand, instance) {
             Ok(Some((operation, completion))) => {
                 let action = FlowAction::Drain(instance, completion);
-                shared.gate.before(hand.worker(), &action);
+                shared.hook.before(hand.worker(), &action);
                 shared.drain_early(&mut self.own, instance, completion);
                 self.own.let_go(operation);
                 true

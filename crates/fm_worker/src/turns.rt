@@ -5,9 +5,9 @@ ghost use Rattle.fm_queue.specs.Passes.{IsPassOf};
 ghost use Rattle.fm_world.specs.Hands.{given_by_next};
 ghost use Rattle.fm_worker.specs.Between.{IsFree};
 
-use crate::gate::Gate;
+use crate::hook::CallbackHook;
 use crate::own::Own;
-use crate::shared::Shared;
+use crate::shared::WorkerShared;
 use crate::worker::Worker;
 use fm_data::BaseCall;
 use fm_device::Device;
@@ -26,7 +26,7 @@ fn is_callback(action: &FlowAction) -> bool {
     )
 }
 
-impl<'a, F: Callbacks, L: Ledger, R: Wait, G: Gate> Shared<'a, F, L, R, G> {
+impl<'a, F: Callbacks, L: Ledger, R: Wait, G: CallbackHook> WorkerShared<'a, F, L, R, G> {
     // Makes the callback, which is that filter's, or the call of an action. True if the operation can go on.
     fn act<D: Device>(
         &self,
@@ -40,7 +40,7 @@ impl<'a, F: Callbacks, L: Ledger, R: Wait, G: Gate> Shared<'a, F, L, R, G> {
         ensures free { IsFree self.now.queue.now own.new.port.hand.held own.new.pass }
     {
         if is_callback(&action) {
-            self.gate.before(own.port.hand.worker(), &action);
+            self.hook.before(own.port.hand.worker(), &action);
         }
         match action {
             FlowAction::Pre(_, lent) => self.pre(own, filter, lent),
@@ -74,7 +74,7 @@ impl<'a, F: Callbacks, L: Ledger, R: Wait, G: Gate> Shared<'a, F, L, R, G> {
     }
 }
 
-impl<'a, F: Callbacks, L: Ledger, R: Wait, G: Gate, D: Device> Worker<'a, F, L, R, G, D> {
+impl<'a, F: Callbacks, L: Ledger, R: Wait, G: CallbackHook, D: Device> Worker<'a, F, L, R, G, D> {
     /// Carries an operation on, until it is done, a filter holds it, or another thread has it. After each turn what the turn resumed is handed on. True if a
     /// context is due then.
     pub(crate) fn carry(&mut self, operation: OpId) -> bool {

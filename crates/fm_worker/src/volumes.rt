@@ -5,7 +5,7 @@ ghost use Rattle.fm_rundown.specs.Seats.{IsSeatOf, view_of};
 ghost use Rattle.fm_rundown.specs.Views.{volume_of};
 ghost use Rattle.fm_worker.specs.Jobs.{LeavesNone};
 
-use crate::gate::Gate;
+use crate::hook::CallbackHook;
 use crate::worker::Worker;
 use fm_device::Device;
 use fm_filter::Callbacks;
@@ -15,7 +15,7 @@ use fm_types::{InstanceId, Status, VolumeId};
 use std::sync::Wait;
 use std::sync::ledger::Ledger;
 
-impl<'a, F: Callbacks, L: Ledger, R: Wait, G: Gate, D: Device> Worker<'a, F, L, R, G, D> {
+impl<'a, F: Callbacks, L: Ledger, R: Wait, G: CallbackHook, D: Device> Worker<'a, F, L, R, G, D> {
     /// Dismounts a volume: closes it at the rundown gate, and once that is drained tears down its instances one after the other, closes the handles that are left,
     /// and cleans up its contexts. Refused with 34 and number 0 while passes of the volume are out, and else as the manager's events are: with 34 and their number
     /// while operations are there or in flight, or contexts aren't cleaned; with 33 if the volume was dismounted before. Called again, it goes on where

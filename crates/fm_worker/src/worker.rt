@@ -4,10 +4,10 @@ ghost use Rattle.std.specs.Prelude.{◌≡◌, All, IfSome};
 ghost use Rattle.fm_queue.specs.Passes.{IsPassOf};
 ghost use Rattle.fm_worker.specs.Between.{IsFree};
 
-use crate::gate::Gate;
+use crate::hook::CallbackHook;
 use crate::op_queue::OpQueue;
 use crate::own::Own;
-use crate::shared::Shared;
+use crate::shared::WorkerShared;
 use fm_data::{Answer, Request};
 use fm_device::Device;
 use fm_filter::Callbacks;
@@ -22,8 +22,8 @@ use std::time::{Clock, Duration};
 /// A thread that is between two callbacks, with all that it needs: what it shares with others, and its own. It can be moved into a closure as it is, since it
 /// says itself that its hand holds nothing and that its pass is of its queue: no clause of a closure has to, and none of the calls here.
 #[derive(Drop)]
-pub struct Worker<'a, F: Drop, L: Ledger, R: Wait, G: Gate, D: Device> {
-    pub(crate) shared: Shared<'a, F, L, R, G>,
+pub struct Worker<'a, F: Drop, L: Ledger, R: Wait, G: CallbackHook, D: Device> {
+    pub(crate) shared: WorkerShared<'a, F, L, R, G>,
     pub(crate) own: Own<'a, F, L, R, D>,
     ghost free: { IsFree shared.queue.now own.port.hand.held own.pass },
 }
@@ -37,15 +37,15 @@ fn take_pass(queue: &JobQueue, passes: &mut Vec<JobPass>) -> Option<JobPass>
     passes.pop()
 }
 
-impl<'a, F: Callbacks, L: Ledger, R: Wait, G: Gate, D: Device> Worker<'a, F, L, R, G, D> {
-    /// A worker at a manager, its queue and the gate before callbacks: with a hand that is hired for it, the last of those passes, these devices, and memory
+impl<'a, F: Callbacks, L: Ledger, R: Wait, G: CallbackHook, D: Device> Worker<'a, F, L, R, G, D> {
+    /// A worker at a manager, its queue and the hook before callbacks: with a hand that is hired for it, the last of those passes, these devices, and memory
     /// for operations that wait at it. Refused with 29 if no pass is left or all hands are out, and with 1 if memory is refused; a pass that was taken by then
     /// is dropped.
     pub fn new(
         rt: &'a R,
         manager: &'a Manager<F, L>,
         queue: &'a JobQueue,
-        gate: &'a G,
+        hook: &'a G,
         alloc: Global,
         passes: &mut Vec<JobPass>,
         devices: D,
@@ -61,11 +61,11 @@ impl<'a, F: Callbacks, L: Ledger, R: Wait, G: Gate, D: Device> Worker<'a, F, L, 
         };
         let hand = manager.hire(rt)?;
         Ok(Worker {
-            shared: Shared {
+            shared: WorkerShared {
                 rt,
                 manager,
                 queue,
-                gate,
+                hook,
             },
             own: Own::new(rt, manager, hand, pass, devices, resumed, aside, bound),
         })
@@ -113,7 +113,14 @@ impl<'a, F: Callbacks, L: Ledger, R: Wait, G: Gate, D: Device> Worker<'a, F, L, 
     }
 }
 
-impl<'a, F: Callbacks, L: Ledger, R: Wait + Clock, G: Gate, D: Device> Worker<'a, F, L, R, G, D> {
+impl<'a, F: Callbacks, L: Ledger, R: Wait + Clock, G: CallbackHook, D: Device> Worker<
+    'a,
+    F,
+    L,
+    R,
+    G,
+    D,
+> {
     /// Waits for the answer of an operation that was begun and submitted, but no longer than that time: none then, and it can be waited for again. What of it
     /// is this thread's turn alone is done here. Refused with 30, if the operation isn't there or its answer was handed out.
     pub fn wait_for(&mut self, operation: OpId, time: Duration) -> Result<Option<Answer>, Status> {

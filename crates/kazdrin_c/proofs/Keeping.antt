@@ -27,10 +27,10 @@ use Rattle.std_alloc.proofs.ResultValues.{and_tt}
 use Rattle.std_heap.specs.contracts.Global as heap
 use Rattle.std_heap.proofs.Global.TheLaws as heap_laws
 use Rattle.std_heap.specs.contracts.GlobalAllocator.TheImpl.{ghosts}
-use Rattle.kazdrin_c.specs.declared.face.Face.{Face}
-use Rattle.kazdrin_c.specs.contracts.face.Face as face
-use Rattle.kazdrin_c.specs.contracts.handle.Kept as kept
-use Rattle.kazdrin_c.specs.contracts.loose.Loose as loose
+use Rattle.kazdrin_c.specs.declared.host.SessionHost.{SessionHost}
+use Rattle.kazdrin_c.specs.contracts.host.SessionHost as host
+use Rattle.kazdrin_c.specs.contracts.handle.SessionPointer as kept
+use Rattle.kazdrin_c.specs.contracts.raw_box.RawBox as raw_box
 use Rattle.kazdrin_c.specs.Handles.{held_at}
 
 -- the machine value of such a struct, and its type's
@@ -50,14 +50,14 @@ pub pair_is : (vs ps hs : List Val) (p q : Ptr) (h : Val) → vs ≡ vstruct (of
 pair_is vs ps hs p q h whole pointer handle same =
     whole ∙ (λ j. vstruct (of_list (pointer j ++ (handle j ++ []))) ∷ []) ∙ ap (λ (r : Ptr). pair r h ∷ []) same
 
-pub some_of : (held : Option Face) → IsSome held → (x : Face) × (held ≡ Some x)
+pub some_of : (held : Option SessionHost) → IsSome held → (x : SessionHost) × (held ≡ Some x)
 some_of (Some x) is = (x, refl)
 some_of None is = absurd (cc)
 
 -- a box that was taken apart
 module _ (R Z : RattleType) (L : Laws Z) (g : Ghosts Z.Denot) where
   abbrev pub Row : RattleType
-  Row = loose.the_row R Z g
+  Row = raw_box.the_row R Z g
 
   abbrev its : Al
   its = record { row = Z; laws = L; g = g; d = impl [] tnil dnil; drops = impl [] tnil dnil }
@@ -79,35 +79,35 @@ module _ (R Z : RattleType) (L : Laws Z) (g : Ghosts Z.Denot) where
         (‵ (box_owns (g.dealloc_token a) R p x) ∷ ‵ (Z.own_val a (h ∷ [])) ∷ Γ) G
     loose_whole t p h a x = step (λ rest.
         nothing t $ move t (2 ∷ 0 ∷ []) $ fjoin t $ feq_i t (List Val) (ptr_val p ∷ []) _ refl $ fjoin t $ feq_i t (List Val) (pair p h ∷ []) _ refl $ fjoin t $
-        fpack t (Valss (RawPtr ∷ Z ∷ [])) (within (shape (loose.the_type R Z g)) (p, (a, tt)) (pair p h ∷ [])) (ptr_val p ∷ [], (h ∷ [], tt)) $ fjoin t $ rest)
+        fpack t (Valss (RawPtr ∷ Z ∷ [])) (within (shape (raw_box.the_type R Z g)) (p, (a, tt)) (pair p h ∷ [])) (ptr_val p ∷ [], (h ∷ [], tt)) $ fjoin t $ rest)
 
 -- what a handle keeps
 abbrev pub Boxed : RattleType
-Boxed = face.the_row
+Boxed = host.the_row
 
 abbrev pub Heap : RattleType
 Heap = heap.the_row
 
-abbrev pub Kept : RattleType
-Kept = kept.the_row
+abbrev pub SessionPointer : RattleType
+SessionPointer = kept.the_row
 
 abbrev pub handles : Al
 handles = record { row = Heap; laws = heap_laws.the_row_laws; g = ghosts; d = impl [] tnil dnil; drops = impl [] tnil dnil }
 
 module _ {M : Type 1} {𝓤 : Ura M} {𝓛 : Logic 𝓤} {K : Type 0} {Γ : List (Item 𝓤)} {G : Goal 𝓤 𝓛.H} where
-  pub kept_apart : K → (d : Kept.Denot) (x : Face) → d.face ≡ Some x → (vs : List Val)
+  pub kept_apart : K → (d : SessionPointer.Denot) (x : SessionHost) → d.host ≡ Some x → (vs : List Val)
       → ((b o : ℕ) (h : Val) → vs ≡ pair (block_ptr b o) h ∷ [] → Good (layout Heap) h
       → Seq K 𝓛 (‵ (box_owns chunk Boxed (block_ptr b o) x) ∷ ‵ (Heap.own_val d.alloc (h ∷ [])) ∷ Γ) G)
-      → Seq K 𝓛 (‵ (Kept.own_val d vs) ∷ Γ) G
+      → Seq K 𝓛 (‵ (SessionPointer.own_val d vs) ∷ Γ) G
   kept_apart t d x is vs next =
       fsplit t $ fpick t (λ fields. fsplit t $ feq_l t (λ whole. fsplit t $ feq_l t (λ pointer. fsplit t $
       handle_tells handles t d.alloc fields.1.0 (λ h handle fits. move t (1 ∷ []) $ drop t $ move t (1 ∷ []) $
-      rewrite t 0 (λ (held : Option Face). ‵ (held_at d.at held)) is refl $
+      rewrite t 0 (λ (held : Option SessionHost). ‵ (held_at d.at held)) is refl $
       in_a_block t d.at (λ p. box_owns chunk Boxed p x) (fst∗ 𝓤 (never 𝓤) (sem 𝓛 (chunk (bare (lone Boxed.mir)) null_ptr))) (λ b o same.
       next b o h (pair_is vs fields.0 fields.1.0 d.at (block_ptr b o) h whole pointer handle same) fits)))))
 
-  pub kept_whole : K → (p : Ptr) (h : Val) (a : Heap.Denot) (held : Option Face)
-      → Step K 𝓛 (‵ (Kept.own_val (record { at = p; alloc = a; face = held }) (pair p h ∷ [])) ∷ Γ) G (‵ (held_at p held) ∷ ‵ (Heap.own_val a (h ∷ [])) ∷ Γ) G
+  pub kept_whole : K → (p : Ptr) (h : Val) (a : Heap.Denot) (held : Option SessionHost)
+      → Step K 𝓛 (‵ (SessionPointer.own_val (record { at = p; alloc = a; host = held }) (pair p h ∷ [])) ∷ Γ) G (‵ (held_at p held) ∷ ‵ (Heap.own_val a (h ∷ [])) ∷ Γ) G
   kept_whole t p h a held = step (λ rest.
       nothing t $ move t (2 ∷ 0 ∷ []) $ fjoin t $ feq_i t (List Val) (ptr_val p ∷ []) _ refl $ fjoin t $ feq_i t (List Val) (pair p h ∷ []) _ refl $ fjoin t $
       fpack t (Valss (RawPtr ∷ Heap ∷ [])) (within (shape kept.the_type) (p, (((tt, tt), tt), tt)) (pair p h ∷ [])) (ptr_val p ∷ [], (h ∷ [], tt)) $ fjoin t $ rest)

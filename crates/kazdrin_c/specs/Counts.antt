@@ -5,7 +5,7 @@ use Rattle.fm_ctx.specs.Counting.{born, cleaned_count}
 use Rattle.fm_world.specs.World.{World}
 use Rattle.kazdrin_c.specs.declared.counts.KazdrinCounts.{KazdrinCounts}
 use Rattle.kazdrin_c.specs.declared.event.KazdrinEvent.{KazdrinEvent}
-use Rattle.kazdrin_c.specs.declared.face.Face.{Face}
+use Rattle.kazdrin_c.specs.declared.host.SessionHost.{SessionHost}
 use Rattle.kazdrin_c.specs.declared.told.KazdrinTold.{KazdrinTold}
 use Rattle.kazdrin_c.specs.Told.{old_told}
 
@@ -27,11 +27,11 @@ abbrev pub left_told : World → ℕ → ℕ → KazdrinTold
 left_told w worker place = old_told (slice_get (left_of w.contexts.left worker) place)
 
 -- kazdrin_counts, kazdrin_held_at and kazdrin_left: nothing changes but what is told
-abbrev pub CountsTold : KazdrinEvent → Face → ℕ → Face → KazdrinCounts → Type 0
+abbrev pub CountsTold : KazdrinEvent → SessionHost → ℕ → SessionHost → KazdrinCounts → Type 0
 CountsTold e old result new told = (result ≡ 0) × (new ≡ old) × (told ≡ counts_of old.session.world e.worker)
 
-abbrev pub HeldTold : KazdrinEvent → Face → ℕ → Face → KazdrinTold → Type 0
+abbrev pub HeldTold : KazdrinEvent → SessionHost → ℕ → SessionHost → KazdrinTold → Type 0
 HeldTold e old result new told = (result ≡ 0) × (new ≡ old) × (told ≡ held_told old.session.world e.worker e.len)
 
-abbrev pub LeftTold : KazdrinEvent → Face → ℕ → Face → KazdrinTold → Type 0
+abbrev pub LeftTold : KazdrinEvent → SessionHost → ℕ → SessionHost → KazdrinTold → Type 0
 LeftTold e old result new told = (result ≡ 0) × (new ≡ old) × (told ≡ left_told old.session.world e.worker e.len)

@@ -11,7 +11,7 @@ use Rattle.fm_stack.specs.declared.volume.VolumePhase.{VolumePhase}
 use Rattle.fm_stack.specs.declared.volume.VolumePhase.TheVariants as volume
 use Rattle.fm_world.specs.World.{World}
 use Rattle.kazdrin_c.specs.declared.event.KazdrinEvent.{KazdrinEvent}
-use Rattle.kazdrin_c.specs.declared.face.Face.{Face}
+use Rattle.kazdrin_c.specs.declared.host.SessionHost.{SessionHost}
 use Rattle.kazdrin_c.specs.declared.told.KazdrinTold.{KazdrinTold}
 use Rattle.kazdrin_c.specs.Told.{nothing_told}
 
@@ -47,5 +47,5 @@ phase_named w e mode =
     (cond (mode == 2) (option_map (λ (row : Volume). volume_code row.phase) (slice_get w.stack.volumes e.volume)) None))
 
 -- kazdrin_phase: nothing changes but what is told
-abbrev pub PhaseTold : KazdrinEvent → Face → ℕ → Face → KazdrinTold → Type 0
+abbrev pub PhaseTold : KazdrinEvent → SessionHost → ℕ → SessionHost → KazdrinTold → Type 0
 PhaseTold e old result new told = (result ≡ 0) × (new ≡ old) × (told ≡ phase_told (phase_named old.session.world e e.mode))

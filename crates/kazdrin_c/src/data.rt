@@ -32,7 +32,7 @@ pub struct KazdrinData {
 
 /// A status for an answer, and bytes, if C gives some.
 #[derive(Drop)]
-pub struct Given {
+pub struct DataGiven {
     pub status: Status,
     pub bytes: Option<Bytes>,
 }
@@ -213,19 +213,19 @@ impl KazdrinEvent {
 
     /// The status that the event names, and the bytes, if the flag says that there are some. Refused with 32 for a number that is no status's, and with 1 where
     /// memory was refused.
-    pub fn answer(&self, alloc: Global, bytes: &[u8]) -> Result<Given, Status>
+    pub fn answer(&self, alloc: Global, bytes: &[u8]) -> Result<DataGiven, Status>
         ensures status { IfOk result (λ given. status_at self.now.status self.now.number ≡ Some given.status) }
         ensures bytes { IfOk result (λ given. given.bytes ≡ bytes_given self.now bytes.now) }
         ensures refused { IfErr result (λ status. Unnamed (flag_in self.now) (status_at self.now.status self.now.number) status) }
     {
         let status = named(status_of(self.status, self.number))?;
         if self.flag == 0 {
-            return Ok(Given {
+            return Ok(DataGiven {
                 status,
                 bytes: None,
             });
         }
-        Ok(Given {
+        Ok(DataGiven {
             status,
             bytes: Some(Bytes::copy_of(alloc, bytes)?),
         })

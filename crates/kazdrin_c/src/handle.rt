@@ -2,12 +2,12 @@
 
 ghost use Rattle.std.specs.Prelude.{◌≡◌, ◌↔◌, Some, None, IsSome, IfSome, IfNone, Option};
 ghost use Rattle.std.specs.Coded.{coded_option};
-ghost use Rattle.kazdrin_c.specs.contracts.face.Face.{the_row as face_row};
-ghost use Rattle.kazdrin_c.specs.declared.face.Face.{Face};
+ghost use Rattle.kazdrin_c.specs.contracts.host.SessionHost.{the_row as host_row};
+ghost use Rattle.kazdrin_c.specs.declared.host.SessionHost.{SessionHost};
 ghost use Rattle.kazdrin_c.specs.Handles.{HasSession};
 
-use crate::face::Face;
-use crate::loose::Loose;
+use crate::host::SessionHost;
+use crate::raw_box::RawBox;
 use std::alloc::Global;
 use std::marker::Model;
 use std::{mem, ptr};
@@ -15,42 +15,42 @@ use std::{mem, ptr};
 /// A pointer to a session, or to nothing. C has no use of it but to hand it back.
 #[repr(C)]
 #[derive(Drop)]
-pub struct Kept {
+pub struct SessionPointer {
     at: *mut u8,
     alloc: Global,
-    pub ghost face: { Option Face } by { coded_option (face_row).coded },
+    pub ghost host: { Option SessionHost } by { coded_option (host_row).coded },
 }
 
-impl Model for Kept {
+impl Model for SessionPointer {
     ghost use Rattle.kazdrin_c.specs.Handles.{held_at};
 
-    ghost also_owns = { λ k. held_at k.at k.face };
+    ghost also_owns = { λ k. held_at k.at k.host };
 }
 
-impl Kept {
-    fn at(at: *mut u8, alloc: Global) -> Kept
-        ensures { result.face ≡ None }
+impl SessionPointer {
+    fn at(at: *mut u8, alloc: Global) -> SessionPointer
+        ensures { result.host ≡ None }
     {
-        Kept { at, alloc }
+        SessionPointer { at, alloc }
     }
 
-    fn of(loose: Loose<Face, Global>) -> Kept
-        ensures { result.face ≡ Some loose.value }
+    fn of(raw_box: RawBox<SessionHost, Global>) -> SessionPointer
+        ensures { result.host ≡ Some raw_box.value }
     {
-        let Loose { at, alloc } = loose;
-        Kept {
+        let RawBox { at, alloc } = raw_box;
+        SessionPointer {
             at: at as *mut u8,
             alloc,
         }
     }
 
-    fn loose(self) -> Loose<Face, Global>
-        requires { IsSome self.face }
-        ensures { self.face ≡ Some result.value }
+    fn raw_box(self) -> RawBox<SessionHost, Global>
+        requires { IsSome self.host }
+        ensures { self.host ≡ Some result.value }
     {
-        let Kept { at, alloc } = self;
-        Loose {
-            at: at as *mut Face,
+        let SessionPointer { at, alloc } = self;
+        RawBox {
+            at: at as *mut SessionHost,
             alloc,
         }
     }
@@ -60,19 +60,19 @@ impl Kept {
 #[repr(C)]
 #[derive(Drop)]
 pub struct Kazdrin {
-    pub kept: Kept,
+    pub kept: SessionPointer,
     pub is_open: u8,
-    ghost told: { HasSession is_open kept.face },
+    ghost told: { HasSession is_open kept.host },
 }
 
 fn null() -> *mut u8 {
     ptr::null_mut()
 }
 
-fn nothing(at: *mut u8, alloc: Global) -> Kept
-    ensures { result.face ≡ None }
+fn nothing(at: *mut u8, alloc: Global) -> SessionPointer
+    ensures { result.host ≡ None }
 {
-    Kept::at(at, alloc)
+    SessionPointer::at(at, alloc)
 }
 
 fn closed(alloc: Global) -> Kazdrin
@@ -86,9 +86,9 @@ fn closed(alloc: Global) -> Kazdrin
 
 impl Kazdrin {
     /// Takes the session out of an open handle, which then is closed; none, and nothing changed, if it isn't open.
-    pub fn take(&mut self, alloc: Global) -> Option<Box<Face, Global>>
+    pub fn take(&mut self, alloc: Global) -> Option<Box<SessionHost, Global>>
         ensures open { IsSome result ↔ (self.old.is_open ≡ 1) }
-        ensures some { IfSome result (λ face. self.old.kept.face ≡ Some face.value) }
+        ensures some { IfSome result (λ host. self.old.kept.host ≡ Some host.value) }
         ensures after { IfSome result (λ _. self.new.is_open ≡ 0) }
         ensures none { IfNone result (self.new ≡ self.old) }
     {
@@ -96,16 +96,16 @@ impl Kazdrin {
             return None;
         }
         let Kazdrin { kept, is_open: _ } = mem::replace(self, closed(alloc));
-        Some(kept.loose().into_box())
+        Some(kept.raw_box().into_box())
     }
 
     /// Puts a session into a handle, which then is open.
-    pub fn put(&mut self, face: Box<Face, Global>)
+    pub fn put(&mut self, host: Box<SessionHost, Global>)
         ensures open { self.new.is_open ≡ 1 }
-        ensures face { self.new.kept.face ≡ Some face.value }
+        ensures host { self.new.kept.host ≡ Some host.value }
     {
         *self = Kazdrin {
-            kept: Kept::of(Loose::of(face)),
+            kept: SessionPointer::of(RawBox::of(host)),
             is_open: 1,
         };
     }

@@ -11,17 +11,17 @@ ghost use Rattle.kazdrin_c.specs.Named.{post_named, verdict_named};
 mod counts;
 mod data;
 mod event;
-mod face;
 mod handle;
-mod loose;
+mod host;
 mod phase;
+mod raw_box;
 mod told;
 
 pub use crate::counts::KazdrinCounts;
 pub use crate::data::KazdrinData;
 pub use crate::event::KazdrinEvent;
-use crate::face::Face;
 pub use crate::handle::Kazdrin;
+use crate::host::SessionHost;
 pub use crate::told::KazdrinTold;
 use std::alloc::Global;
 
@@ -32,15 +32,15 @@ const CLOSED: u32 = 35;
 #[unsafe(no_mangle)]
 pub extern "C" fn kazdrin_open(alloc: Global, kazdrin: &mut Kazdrin) -> u32
     ensures open { kazdrin.old.is_open ≡ 1 → (result ≡ 30) × (kazdrin.new ≡ kazdrin.old) }
-    ensures new { kazdrin.old.is_open ≢ 1 → result ≡ 0 → (kazdrin.new.is_open ≡ 1) × HasFresh kazdrin.new.kept.face }
+    ensures new { kazdrin.old.is_open ≢ 1 → result ≡ 0 → (kazdrin.new.is_open ≡ 1) × HasFresh kazdrin.new.kept.host }
     ensures refused { kazdrin.old.is_open ≢ 1 → result ≢ 0 → (result ≡ 1) × (kazdrin.new ≡ kazdrin.old) }
 {
     if kazdrin.is_open == 1 {
         return 30;
     }
     match boxed(alloc) {
-        Some(face) => {
-            kazdrin.put(face);
+        Some(host) => {
+            kazdrin.put(host);
             0
         }
         None => 1,
@@ -48,12 +48,12 @@ pub extern "C" fn kazdrin_open(alloc: Global, kazdrin: &mut Kazdrin) -> u32
 }
 
 // A new session on the heap, if there is memory for it.
-fn boxed(alloc: Global) -> Option<Box<Face>>
-    ensures { IfSome result (λ face. IsFresh face.value) }
+fn boxed(alloc: Global) -> Option<Box<SessionHost>>
+    ensures { IfSome result (λ host. IsFresh host.value) }
 {
-    match Face::new(alloc) {
-        Ok(face) => match Box::new(alloc, face) {
-            Ok(face) => Some(face),
+    match SessionHost::new(alloc) {
+        Ok(host) => match Box::new(alloc, host) {
+            Ok(host) => Some(host),
             Err(_) => None,
         },
         Err(_) => None,
@@ -81,11 +81,11 @@ pub extern "C" fn kazdrin_step(
 ) -> u32
     ensures { CallsOn kazdrin.old result kazdrin.new (λ old new. StepTold event.now bytes.now old told.old room.old result new told.new room.new) }
 {
-    let Some(mut face) = kazdrin.take(alloc) else {
+    let Some(mut host) = kazdrin.take(alloc) else {
         return CLOSED;
     };
-    let result = face.step(event, bytes, told, room);
-    kazdrin.put(face);
+    let result = host.step(event, bytes, told, room);
+    kazdrin.put(host);
     result
 }
 
@@ -102,11 +102,11 @@ pub extern "C" fn kazdrin_attach(
 ) -> u32
     ensures { CallsOn kazdrin.old result kazdrin.new (λ old new. AttachTold event.now name.now altitude.now old told.old room.old result new told.new room.new) }
 {
-    let Some(mut face) = kazdrin.take(alloc) else {
+    let Some(mut host) = kazdrin.take(alloc) else {
         return CLOSED;
     };
-    let result = face.attach(event, name, altitude, told, room);
-    kazdrin.put(face);
+    let result = host.attach(event, name, altitude, told, room);
+    kazdrin.put(host);
     result
 }
 
@@ -120,11 +120,11 @@ pub extern "C" fn kazdrin_next(
 ) -> u32
     ensures { CallsOn kazdrin.old result kazdrin.new (λ old new. NextTold event.now old told.old result new told.new) }
 {
-    let Some(mut face) = kazdrin.take(alloc) else {
+    let Some(mut host) = kazdrin.take(alloc) else {
         return CLOSED;
     };
-    let result = face.next(event, told);
-    kazdrin.put(face);
+    let result = host.next(event, told);
+    kazdrin.put(host);
     result
 }
 
@@ -137,11 +137,11 @@ pub extern "C" fn kazdrin_pre_returned(
 ) -> u32
     ensures { CallsOn kazdrin.old result kazdrin.new (λ old new. PreTold event.now old result new (verdict_named event.now)) }
 {
-    let Some(mut face) = kazdrin.take(alloc) else {
+    let Some(mut host) = kazdrin.take(alloc) else {
         return CLOSED;
     };
-    let result = face.pre_returned(event);
-    kazdrin.put(face);
+    let result = host.pre_returned(event);
+    kazdrin.put(host);
     result
 }
 
@@ -154,11 +154,11 @@ pub extern "C" fn kazdrin_post_returned(
 ) -> u32
     ensures { CallsOn kazdrin.old result kazdrin.new (λ old new. PostTold event.now old result new (post_named event.now.mode)) }
 {
-    let Some(mut face) = kazdrin.take(alloc) else {
+    let Some(mut host) = kazdrin.take(alloc) else {
         return CLOSED;
     };
-    let result = face.post_returned(event);
-    kazdrin.put(face);
+    let result = host.post_returned(event);
+    kazdrin.put(host);
     result
 }
 
@@ -167,11 +167,11 @@ pub extern "C" fn kazdrin_post_returned(
 pub extern "C" fn kazdrin_base(alloc: Global, kazdrin: &mut Kazdrin, event: &KazdrinEvent) -> u32
     ensures { CallsOn kazdrin.old result kazdrin.new (λ old new. BaseTold event.now old result new) }
 {
-    let Some(mut face) = kazdrin.take(alloc) else {
+    let Some(mut host) = kazdrin.take(alloc) else {
         return CLOSED;
     };
-    let result = face.base(event);
-    kazdrin.put(face);
+    let result = host.base(event);
+    kazdrin.put(host);
     result
 }
 
@@ -186,11 +186,11 @@ pub extern "C" fn kazdrin_based(
 ) -> u32
     ensures { CallsOn kazdrin.old result kazdrin.new (λ old new. BasedTold event.now bytes.now old result new) }
 {
-    let Some(mut face) = kazdrin.take(alloc) else {
+    let Some(mut host) = kazdrin.take(alloc) else {
         return CLOSED;
     };
-    let result = face.based(event, bytes);
-    kazdrin.put(face);
+    let result = host.based(event, bytes);
+    kazdrin.put(host);
     result
 }
 
@@ -206,11 +206,11 @@ pub extern "C" fn kazdrin_lent(
 ) -> u32
     ensures { CallsOn kazdrin.old result kazdrin.new (λ old new. LentTold event.now old told.old room.old result new told.new room.new (slice_get old.session.lent event.now.worker)) }
 {
-    let Some(face) = kazdrin.take(alloc) else {
+    let Some(host) = kazdrin.take(alloc) else {
         return CLOSED;
     };
-    let result = face.lent(event, told, room);
-    kazdrin.put(face);
+    let result = host.lent(event, told, room);
+    kazdrin.put(host);
     result
 }
 
@@ -225,11 +225,11 @@ pub extern "C" fn kazdrin_change(
 ) -> u32
     ensures { CallsOn kazdrin.old result kazdrin.new (λ old new. ChangeTold event.now bytes.now old result new) }
 {
-    let Some(mut face) = kazdrin.take(alloc) else {
+    let Some(mut host) = kazdrin.take(alloc) else {
         return CLOSED;
     };
-    let result = face.change(event, bytes);
-    kazdrin.put(face);
+    let result = host.change(event, bytes);
+    kazdrin.put(host);
     result
 }
 
@@ -243,11 +243,11 @@ pub extern "C" fn kazdrin_answer(
 ) -> u32
     ensures { CallsOn kazdrin.old result kazdrin.new (λ old new. AnswerPut event.now bytes.now old result new) }
 {
-    let Some(mut face) = kazdrin.take(alloc) else {
+    let Some(mut host) = kazdrin.take(alloc) else {
         return CLOSED;
     };
-    let result = face.answer(event, bytes);
-    kazdrin.put(face);
+    let result = host.answer(event, bytes);
+    kazdrin.put(host);
     result
 }
 
@@ -261,11 +261,11 @@ pub extern "C" fn kazdrin_counts(
 ) -> u32
     ensures { CallsOn kazdrin.old result kazdrin.new (λ old new. CountsTold event.now old result new counts.new) }
 {
-    let Some(face) = kazdrin.take(alloc) else {
+    let Some(host) = kazdrin.take(alloc) else {
         return CLOSED;
     };
-    *counts = face.counts(event);
-    kazdrin.put(face);
+    *counts = host.counts(event);
+    kazdrin.put(host);
     0
 }
 
@@ -279,11 +279,11 @@ pub extern "C" fn kazdrin_held_at(
 ) -> u32
     ensures { CallsOn kazdrin.old result kazdrin.new (λ old new. HeldTold event.now old result new told.new) }
 {
-    let Some(face) = kazdrin.take(alloc) else {
+    let Some(host) = kazdrin.take(alloc) else {
         return CLOSED;
     };
-    *told = face.held_at(event);
-    kazdrin.put(face);
+    *told = host.held_at(event);
+    kazdrin.put(host);
     0
 }
 
@@ -297,11 +297,11 @@ pub extern "C" fn kazdrin_phase(
 ) -> u32
     ensures { CallsOn kazdrin.old result kazdrin.new (λ old new. PhaseTold event.now old result new told.new) }
 {
-    let Some(face) = kazdrin.take(alloc) else {
+    let Some(host) = kazdrin.take(alloc) else {
         return CLOSED;
     };
-    *told = face.phase(event);
-    kazdrin.put(face);
+    *told = host.phase(event);
+    kazdrin.put(host);
     0
 }
 
@@ -315,10 +315,10 @@ pub extern "C" fn kazdrin_left(
 ) -> u32
     ensures { CallsOn kazdrin.old result kazdrin.new (λ old new. LeftTold event.now old result new told.new) }
 {
-    let Some(face) = kazdrin.take(alloc) else {
+    let Some(host) = kazdrin.take(alloc) else {
         return CLOSED;
     };
-    *told = face.left(event);
-    kazdrin.put(face);
+    *told = host.left(event);
+    kazdrin.put(host);
     0
 }

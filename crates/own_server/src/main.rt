@@ -2,7 +2,7 @@
 //! samples, and ends as it does.
 #![tactic(auto)]
 
-use fm_front::{Asked, endpoint_of, front_with};
+use fm_front::{Invocation, endpoint_of, front_with};
 use own_filter::filters;
 use std::io;
 use std::process::ExitCode;
@@ -13,8 +13,14 @@ const USAGE: &str = "usage: own_server FOLDER SOCKET [--workers N]";
 fn main(rt: HostRuntime) -> io::Result<ExitCode> {
     let mut out = io::writer(&rt);
     let status = match endpoint_of(&rt, USAGE, &mut out)? {
-        Asked::Serve(endpoint) => front_with(&rt, rt.alloc(), filters(rt.alloc()), endpoint, out),
-        Asked::End(status) => status,
+        Invocation::Serve(endpoint) => front_with(
+            &rt,
+            rt.alloc(),
+            filters(rt.alloc()),
+            endpoint,
+            out,
+        ),
+        Invocation::End(status) => status,
     };
     Ok(ExitCode::from(status))
 }

@@ -1,0 +1,154 @@
+//! Mistakes of filters, by the numbers under which the host for drivers in C tells them.
+
+ghost use Rattle.std.specs.Prelude.{◌≡◌};
+ghost use Rattle.fm_trial.specs.Mistakes.{is_limit, is_misuse, mistake_of};
+
+use fm_core::PreState;
+use fm_data::PreVerdict;
+use fm_local::{PortCall, PostAnswer, PreAnswer, Refusal};
+use fm_types::Status;
+use std::fmt;
+
+/// A mistake, by its number.
+#[derive(Clone, Copy, Debug, PartialEq, Eq)]
+pub(crate) enum Mistake {
+    /// A reference to a context was never released.
+    Leak,
+    /// A context was released to which no reference is held.
+    ReleasedTwice,
+    /// A context was used to which no reference is held.
+    NotReferenced,
+    /// A context was set to which no reference is held.
+    SetNotReferenced,
+    /// An operation is held to the end.
+    HeldToTheEnd,
+    /// A held operation was let go on that isn't held.
+    NotHeld,
+    /// A preoperation asked for a postoperation that isn't registered.
+    NoPost,
+    /// A preoperation that doesn't complete its operation set a status.
+    StatusNotCompleted,
+    /// A preoperation completed a create with success.
+    CreateCompleted,
+    /// A preoperation completed a cleanup or a close.
+    CloseCompleted,
+    /// A postoperation changed the status of an operation whose answer it can't change.
+    FixedAnswer,
+}
+
+/// All of them.
+const ALL: [Mistake; 11] = [
+    Mistake::Leak,
+    Mistake::ReleasedTwice,
+    Mistake::NotReferenced,
+    Mistake::SetNotReferenced,
+    Mistake::HeldToTheEnd,
+    Mistake::NotHeld,
+    Mistake::NoPost,
+    Mistake::StatusNotCompleted,
+    Mistake::CreateCompleted,
+    Mistake::CloseCompleted,
+    Mistake::FixedAnswer,
+];
+
+impl Mistake {
+    /// Its number, which stays.
+    pub(crate) fn id(self) -> &'static str {
+        match self {
+            Mistake::Leak => "KZ0101",
+            Mistake::ReleasedTwice => "KZ0102",
+            Mistake::NotReferenced => "KZ0103",
+            Mistake::SetNotReferenced => "KZ0110",
+            Mistake::HeldToTheEnd => "KZ0111",
+            Mistake::NotHeld => "KZ0113",
+            Mistake::NoPost => "KZ0124",
+            Mistake::StatusNotCompleted => "KZ0125",
+            Mistake::CreateCompleted => "KZ0221",
+            Mistake::CloseCompleted => "KZ0222",
+            Mistake::FixedAnswer => "KZ0223",
+        }
+    }
+
+    /// Whether it is a limit of the model, and no mistake of the filter.
+    pub(crate) fn is_limit(self) -> bool
+        ensures { result ≡ is_limit self }
+    {
+        matches!(
+            self,
+            Mistake::CreateCompleted | Mistake::CloseCompleted | Mistake::FixedAnswer
+        )
+    }
+
+    /// Whether something was given back or let go on that isn't held.
+    pub(crate) fn is_misuse(self) -> bool
+        ensures { result ≡ is_misuse self }
+    {
+        matches!(self, Mistake::ReleasedTwice | Mistake::NotHeld)
+    }
+
+    /// The mistake of that number.
+    pub(crate) fn read(id: &str) -> Option<Mistake> {
+        ALL.into_iter().find(|told| told.id() == id)
+    }
+
+    /// Which mistake a refused call of a port is; none where a filter may meet that refusal.
+    pub(crate) fn of(refusal: &Refusal) -> Option<Mistake>
+        ensures { result ≡ mistake_of refusal.now.status refusal.now.call }
+    {
+        match (refusal.status, refusal.call) {
+            (Status::NotHeld, PortCall::Release(_)) => Some(Mistake::ReleasedTwice),
+            (Status::NotHeld, PortCall::Set(_)) => Some(Mistake::SetNotReferenced),
+            (Status::NotHeld, _) => Some(Mistake::NotReferenced),
+            (Status::NotPended, _) => Some(Mistake::NotHeld),
+            _ => None,
+        }
+    }
+
+    /// Which mistake a preoperation made whose verdict doesn't count as it was given, or that set a status for nothing; none where it made none.
+    pub(crate) fn of_pre(answer: &PreAnswer) -> Option<Mistake> {
+        match (answer.given, answer.counted) {
+            (PreVerdict::WithCallback(_) | PreVerdict::Synchronize(_), Some(PreState::Passed)) => {
+                Some(Mistake::NoPost)
+            }
+            (PreVerdict::Complete(_), Some(PreState::Passed)) => Some(Mistake::CloseCompleted),
+            (PreVerdict::Complete(given), Some(PreState::Completed(counted))) => {
+                (given != counted).then_some(Mistake::CreateCompleted)
+            }
+            (PreVerdict::Pending, _) => None,
+            _ => (answer.found != answer.left).then_some(Mistake::StatusNotCompleted),
+        }
+    }
+
+    /// Which limit a postoperation met that left a status, where the next step of the operation found that one; none where it counted.
+    pub(crate) fn of_post(answer: &PostAnswer, next: Status) -> Option<Mistake> {
+        (answer.found != answer.left && answer.left != next).then_some(Mistake::FixedAnswer)
+    }
+}
+
+/// The number, and what was done.
+impl fmt::Display for Mistake {
+    fn fmt<W: fmt::Write>(&self, f: &mut fmt::Formatter<W>) -> fmt::Result {
+        let words = match self {
+            Mistake::Leak => "a reference to a context was never released",
+            Mistake::ReleasedTwice => "a context was released to which no reference is held",
+            Mistake::NotReferenced => "a context was used to which no reference is held",
+            Mistake::SetNotReferenced => "a context was set to which no reference is held",
+            Mistake::HeldToTheEnd => "an operation is held to the end",
+            Mistake::NotHeld => "an operation was let go on that isn't held there",
+            Mistake::NoPost => "a postoperation was asked for that isn't registered",
+            Mistake::StatusNotCompleted => {
+                "a preoperation set a status, and doesn't complete the operation"
+            }
+            Mistake::CreateCompleted => {
+                "a create that is completed with success counts as denied"
+            }
+            Mistake::CloseCompleted =>
+                "a cleanup or a close that is completed goes down all the same",
+            Mistake::FixedAnswer => {
+                "the status that a postoperation set of this operation doesn't count"
+            }
+        };
+        let kind = if self.is_limit() { "LIMIT" } else { "TOLD" };
+        write!(f, "{kind} {} {words}", self.id())
+    }
+}

@@ -1,5 +1,0 @@
-use Rattle.std.proofs.Common.{Some, ap}
-use Rattle.kazdrin_c.proofs.face.Face.attach.Goals as goal
-
-pub returns-in-Ok : goal.returns-in-Ok
-returns-in-Ok c = (Some c.in-Ok.step, (ap Some c.in-Ok.ensures.named, c.make.ensures))

@@ -1,5 +1,0 @@
-use Rattle.std.proofs.Common.{Some}
-use Rattle.kazdrin_c.proofs.face.Face.step.Goals as goal
-
-pub returns-in-Ok : goal.returns-in-Ok
-returns-in-Ok c = (Some c.in-Ok.step, (c.in-Ok.ensures.named, c.make.ensures))

@@ -1,5 +1,0 @@
-use Rattle.fm_rundown.specs.Seats.{IsSeatOf}
-use Rattle.leaf_rows.proofs.rundown_tests.other_line.Given as goal
-
-abbrev pub invariant-lines : goal.invariant-lines
-invariant-lines l = IsSeatOf l.gate l.seat

@@ -1,5 +1,0 @@
-use Rattle.fm_rundown.specs.Seats.{IsSeatOf}
-use Rattle.leaf_rows.proofs.rundown_tests.visit.Given as goal
-
-abbrev pub invariant-loop : goal.invariant-loop
-invariant-loop g l = IsSeatOf l.gate l.seat

@@ -1,0 +1,6 @@
+use Rattle.std.proofs.Common.{◌≡◌}
+use Rattle.fm_queue.specs.Passes.{parts_of, IsPassOf}
+use Rattle.test_leaves.proofs.queue_tests.put_all.Given as goal
+
+abbrev pub invariant-loop-number : goal.invariant-loop-number
+invariant-loop-number g l = IsPassOf l.queue l.pass × (parts_of l.pass ≡ parts_of l.fn.pass)

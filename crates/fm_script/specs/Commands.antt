@@ -80,6 +80,8 @@ spelling keyword.Dismount = codes "dismount"
 spelling keyword.Drop = codes "drop"
 spelling keyword.EmptyV = codes "emptyv"
 spelling keyword.FinishV = codes "finishv"
+spelling keyword.QuerySize = codes "querysize"
+spelling keyword.SetDelete = codes "setdelete"
 
 abbrev pub all_keywords : List Keyword
 all_keywords =
@@ -90,7 +92,7 @@ all_keywords =
     keyword.Delete ∷ keyword.Cleanup ∷ keyword.Close ∷ keyword.Fail ∷ keyword.Failures ∷ keyword.Resume ∷ keyword.ResPost ∷
     keyword.Query ∷ keyword.Queried ∷ keyword.Start ∷ keyword.Started ∷ keyword.Complete ∷ keyword.Completed ∷ keyword.Unload ∷
     keyword.Unloaded ∷ keyword.EmptyF ∷ keyword.FinishF ∷ keyword.Flight ∷ keyword.Drain ∷ keyword.Drained ∷
-    keyword.Dismount ∷ keyword.Drop ∷ keyword.EmptyV ∷ keyword.FinishV ∷ []
+    keyword.Dismount ∷ keyword.Drop ∷ keyword.EmptyV ∷ keyword.FinishV ∷ keyword.QuerySize ∷ keyword.SetDelete ∷ []
 
 -- the keyword that a word is
 unfoldable pub keyword_read : List ℕ → Option Keyword

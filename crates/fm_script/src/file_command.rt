@@ -21,10 +21,10 @@ pub(crate) fn read_file_command(
 {
     match keyword {
         Keyword::Read => read_read(state, words),
-        Keyword::Size => only_asked(state, words, FileRequest::QuerySize),
+        Keyword::Size | Keyword::QuerySize => { only_asked(state, words, FileRequest::QuerySize) }
         Keyword::SetSize => read_set_size(state, words),
         Keyword::Flush => only_asked(state, words, FileRequest::Flush),
-        Keyword::Delete => only_asked(state, words, FileRequest::SetDelete),
+        Keyword::Delete | Keyword::SetDelete => { only_asked(state, words, FileRequest::SetDelete) }
         Keyword::Cleanup => only_asked(state, words, FileRequest::Cleanup),
         Keyword::Close => only_asked(state, words, FileRequest::Close),
         Keyword::Fail => read_fail(words),

@@ -64,6 +64,10 @@ pub enum Keyword {
     Drop,
     EmptyV,
     FinishV,
+    /// `size` by the word of requests.
+    QuerySize,
+    /// `delete` by the word of requests.
+    SetDelete,
 }
 
 // The keywords that begin with that letter.
@@ -97,6 +101,7 @@ fn beginning_with(letter: u8) -> &'static [Keyword]
             Keyword::SetSize,
             Keyword::Start,
             Keyword::Started,
+            Keyword::SetDelete,
         ],
         b'f' => &[
             Keyword::Finish,
@@ -124,7 +129,7 @@ fn beginning_with(letter: u8) -> &'static [Keyword]
             Keyword::ResPost,
         ],
         b'w' => &[Keyword::WBody, Keyword::Write],
-        b'q' => &[Keyword::Query, Keyword::Queried],
+        b'q' => &[Keyword::Query, Keyword::Queried, Keyword::QuerySize],
         b'u' => &[Keyword::Unload, Keyword::Unloaded],
         b'e' => &[Keyword::EmptyF, Keyword::EmptyV],
         _ => &[],
@@ -143,7 +148,7 @@ fn spelled(keywords: &[Keyword], word: &[u8]) -> Option<Keyword>
 
 impl Keyword {
     /// All of them.
-    pub const ALL: [Keyword; 58] = [
+    pub const ALL: [Keyword; 60] = [
         Keyword::Load,
         Keyword::Mount,
         Keyword::Attach,
@@ -202,6 +207,8 @@ impl Keyword {
         Keyword::Drop,
         Keyword::EmptyV,
         Keyword::FinishV,
+        Keyword::QuerySize,
+        Keyword::SetDelete,
     ];
 
     /// The keyword that a word is, if it is one.
@@ -286,6 +293,8 @@ impl Keyword {
             Keyword::Drop => b"drop",
             Keyword::EmptyV => b"emptyv",
             Keyword::FinishV => b"finishv",
+            Keyword::QuerySize => b"querysize",
+            Keyword::SetDelete => b"setdelete",
         }
     }
 }

@@ -15,7 +15,7 @@ pub(crate) enum Expectation {
     /// A filter holds it.
     Held,
     /// That was told while it was carried out.
-    Mistake(Mistake),
+    Told(Mistake),
 }
 
 /// The words behind `expect` on a line, with one space between them. Fails if memory is refused.

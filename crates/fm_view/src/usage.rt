@@ -22,7 +22,9 @@ pub fn usage(keyword: Keyword) -> &'static str {
         Keyword::Read => "H OFFSET LEN",
         Keyword::Write => "H OFFSET HEX",
         Keyword::SetSize => "H N",
-        Keyword::Size | Keyword::Flush | Keyword::Delete | Keyword::Cleanup | Keyword::Close => "H",
+        Keyword::Size | Keyword::QuerySize | Keyword::Flush | Keyword::Cleanup | Keyword::Close =>
+            "H",
+        Keyword::Delete | Keyword::SetDelete => "H",
         Keyword::Alloc => "W KIND HEX",
         Keyword::Set => "W C keep or replace [old]",
         Keyword::Get => "W KIND",

@@ -1,2 +1,1 @@
-pub mod Mistakes
 pub mod Verdicts

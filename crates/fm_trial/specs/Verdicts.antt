@@ -1,9 +1,5 @@
--- The exit status of a trial.
-use Rattle.std.specs.Prelude.{ℕ, nat_eq, nat_lt, ◌||◌, cond}
-
--- 1 if an expectation wasn't met, else 5 if a mistake was told that no line expects, or something wasn't kept of which one could have been told, and else 0
-abbrev pub status_of : ℕ → ℕ → ℕ → ℕ
-status_of failed told dropped = cond (nat_lt 0 failed) 1 (cond (nat_lt 0 told || nat_lt 0 dropped) 5 0)
+-- The exit status of a trial of several files.
+use Rattle.std.specs.Prelude.{ℕ, nat_eq, ◌||◌, cond}
 
 -- of two files: 2 before 1, 1 before any other, and any before 0
 abbrev pub worse : ℕ → ℕ → ℕ

@@ -1,7 +1,7 @@
 //! What a scenario expects of a request.
 
-use crate::mistake::Mistake;
 use fm_data::Reply;
+use fm_mistakes::Mistake;
 use fm_text::{read_hex, read_number};
 use std::alloc::{AllocError, Global};
 

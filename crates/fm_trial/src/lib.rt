@@ -7,7 +7,6 @@
 mod expectation;
 mod line;
 mod line_request;
-mod mistake;
 mod objects;
 mod program;
 mod report;

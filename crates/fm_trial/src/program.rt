@@ -48,6 +48,7 @@ fn take_all<F: Minifilter, W: Write>(
     out: &mut W,
 ) -> io::Result<bool> {
     for (place, line) in text.split('\n').enumerate() {
+        let line = line.strip_suffix('\r').unwrap_or(line);
         let mut said = String::new(alloc);
         let is_known = scenario
             .take(place.saturating_add(1), line, &mut said)

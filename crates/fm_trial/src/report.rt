@@ -1,13 +1,13 @@
 //! What is printed of a scenario.
 
-use crate::mistake::Mistake;
 use fm_base::MemoryBase;
 use fm_core::{Hold, Phase, Place};
 use fm_data::Reply;
 use fm_filter::Minifilter;
-use fm_local::{Leak, LocalManager, Refusal, Visit};
+use fm_local::{Leak, LocalManager, Refusal};
+use fm_mistakes::{Finding, Mistake};
 use fm_report::{callback_of, held_at, instance_in, operation_in};
-use fm_types::{InstanceId, OpId, Status};
+use fm_types::{InstanceId, OpId};
 use std::alloc::AllocError;
 use std::fmt::Write;
 
@@ -154,8 +154,8 @@ fn callback_word(place: Place) -> &'static str {
     }
 }
 
-/// Appends that a callback left a reference behind.
-pub(crate) fn write_leak<F: Minifilter>(
+// Appends what is told of a leak, with its context.
+fn write_leak<F: Minifilter>(
     text: &mut String,
     manager: &TrialManager<F>,
     leak: &Leak,
@@ -164,40 +164,16 @@ pub(crate) fn write_leak<F: Minifilter>(
     write_place(text, manager, leak.place)
 }
 
-// The status that the next step of an operation found, behind that place.
-fn next_status<F: Minifilter>(
+/// Appends what is told of what a manager noted, as one line.
+pub(crate) fn write_finding<F: Minifilter>(
+    text: &mut String,
     manager: &TrialManager<F>,
-    operation: OpId,
-    after: usize,
-) -> Option<Status> {
-    for place in after..manager.traced() {
-        let step = manager.trace(place)?;
-        match step.visit {
-            Visit::Post(_, answer) if step.operation == operation => return Some(answer.found),
-            Visit::Replied(status) if step.operation == operation => return Some(status),
-            _ => {}
-        }
-    }
-    None
-}
-
-/// What is told of the step at a place, and of which callback. None where nothing is.
-pub(crate) fn told_at<F: Minifilter>(
-    manager: &TrialManager<F>,
-    place: usize,
-) -> Option<(Mistake, Place)> {
-    let step = manager.trace(place)?;
-    match step.visit {
-        Visit::Pre(instance, answer) => {
-            let told = Mistake::of_pre(&answer)?;
-            Some((told, Place::Pre(step.operation, instance)))
-        }
-        Visit::Post(instance, answer) => {
-            let next = next_status(manager, step.operation, place.saturating_add(1))?;
-            let told = Mistake::of_post(&answer, next)?;
-            Some((told, Place::Post(step.operation, instance)))
-        }
-        Visit::Base(_) | Visit::Drain(_) | Visit::Replied(_) => None,
+    finding: &Finding,
+) -> Result<(), AllocError> {
+    match finding {
+        Finding::Answer(mistake, place) => write_told(text, manager, *mistake, *place),
+        Finding::Leak(leak) => write_leak(text, manager, leak),
+        Finding::Call(mistake, refusal) => write_refusal(text, manager, *mistake, refusal),
     }
 }
 
@@ -221,8 +197,8 @@ pub(crate) fn holder_of<F: Minifilter>(manager: &TrialManager<F>, operation: OpI
     }
 }
 
-/// Appends that a call of a port was a mistake.
-pub(crate) fn write_refusal<F: Minifilter>(
+// Appends that a call of a port was a mistake.
+fn write_refusal<F: Minifilter>(
     text: &mut String,
     manager: &TrialManager<F>,
     told: Mistake,

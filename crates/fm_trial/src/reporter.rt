@@ -1,12 +1,13 @@
 //! How a scenario is told as it goes: in lines of text, or in objects.
 
 use crate::line_request::LineRequest;
-use crate::mistake::Mistake;
 use crate::objects::{say_reply, say_request};
 use crate::report::{TrialManager, write_reply, write_steps};
 use fm_core::Place;
 use fm_data::Reply;
 use fm_filter::Minifilter;
+use fm_local::Leak;
+use fm_mistakes::Mistake;
 use fm_report::{CallbackDetail, Facts, Summary, Teller};
 use fm_types::{CtxId, Name, OpId, Status, VolumeId};
 use fm_wire::Body;
@@ -119,6 +120,16 @@ impl Reporter {
                 write_reply(text, reply)
             }
             Reporter::Objects(teller) => say_reply(teller, text, operation, reply),
+        }
+    }
+
+    /// Appends that a reference was left behind. In lines what is told of it says so.
+    pub(crate) fn say_leaked(&mut self, text: &mut String, leak: &Leak) -> Result<(), AllocError> {
+        match self {
+            Reporter::Lines => Ok(()),
+            Reporter::Objects(teller) => {
+                teller.say_leaked(text, leak.context, leak.kind, leak.place)
+            }
         }
     }
 

@@ -1,15 +1,10 @@
 //! A scenario under way.
 
-ghost use Rattle.std.specs.Prelude.{◌≡◌};
-ghost use Rattle.fm_trial.specs.Verdicts.{status_of};
-
 use crate::expectation::{Expectation, expected_words};
 use crate::line::ScenarioLine;
 use crate::line_request::LineRequest;
-use crate::mistake::Mistake;
 use crate::report::{
-    TrialManager, holder_of, told_at, write_attached, write_leak, write_refusal, write_reply,
-    write_told,
+    TrialManager, holder_of, write_attached, write_finding, write_reply, write_told,
 };
 use crate::reporter::Reporter;
 use fm_base::MemoryBase;
@@ -18,59 +13,17 @@ use fm_data::Reply;
 use fm_exec::LocalExec;
 use fm_filter::Minifilter;
 use fm_local::PortCall;
+use fm_mistakes::{Account, Finding, Mistake, findings};
 use fm_report::Summary;
 use fm_server::status_reply;
 use fm_types::limits::OPERATIONS;
 use fm_types::{CtxId, InstanceId, Name, OpId, Status, VolumeId};
 use fm_wire::Body;
-use std::alloc::Global;
+use std::alloc::{AllocError, Global};
 use std::fmt::Write;
 
 /// The exit status of a scenario of which a line says nothing.
 pub(crate) const WRONG_FILE: u8 = 2;
-
-/// What a scenario came to so far.
-#[derive(Clone, Copy, Drop)]
-struct Counts {
-    /// How many expectations weren't met.
-    failed: u64,
-    /// How many mistakes were told that no line expects.
-    told: u64,
-    /// How often something was given back or let go on that wasn't held.
-    misuses: u64,
-    /// How many steps, leaks and refused calls the manager didn't keep, so that nothing is told of them.
-    dropped: u64,
-}
-
-/// Nothing came to anything.
-const NOTHING: Counts = Counts {
-    failed: 0,
-    told: 0,
-    misuses: 0,
-    dropped: 0,
-};
-
-// What was told of the last request, and whether a line expects it.
-#[derive(Clone, Copy)]
-struct ToldMistake {
-    told: Mistake,
-    is_expected: bool,
-}
-
-impl Counts {
-    // The exit status of a scenario that came to that.
-    fn status(self) -> u8
-        ensures { result ≡ status_of self.failed self.told self.dropped }
-    {
-        if self.failed > 0 {
-            1
-        } else if self.told > 0 || self.dropped > 0 {
-            5
-        } else {
-            0
-        }
-    }
-}
 
 /// A manager of the filters, with the volume 0 in memory, and what the last request came to.
 #[derive(Drop)]
@@ -79,14 +32,13 @@ pub(crate) struct Scenario<F> {
     exec: LocalExec<F, MemoryBase>,
     reporter: Reporter,
     last: Option<Reply>,
-    told: Vec<ToldMistake>,
+    account: Account,
     /// How many instances were told.
     instances: usize,
     /// The operations that filters hold.
     held: Vec<OpId>,
     /// The last line that isn't empty.
     lines: usize,
-    count: Counts,
 }
 
 impl<F: Minifilter> Scenario<F> {
@@ -103,11 +55,10 @@ impl<F: Minifilter> Scenario<F> {
             exec: LocalExec::new(alloc, manager),
             reporter,
             last: None,
-            told: Vec::new(alloc),
+            account: Account::new(alloc),
             instances: 0,
             held: Vec::new(alloc),
             lines: 0,
-            count: NOTHING,
         })
     }
 
@@ -156,7 +107,7 @@ impl<F: Minifilter> Scenario<F> {
     // Makes a request.
     fn ask(&mut self, line: &str, body: Body, text: &mut String) -> Result<(), Status> {
         self.reporter.ask(text, line, &body)?;
-        self.told.clear();
+        self.account.begin_request();
         let asked = LineRequest::of(&body);
         let reply = self.reply_to(body);
         self.report(asked, &reply, text)?;
@@ -176,9 +127,7 @@ impl<F: Minifilter> Scenario<F> {
     ) -> Result<(), Status> {
         self.reporter
             .say_steps(text, self.exec.manager(), asked, reply)?;
-        self.tell_steps(text)?;
-        self.tell_leaks(text)?;
-        self.tell_refusals(text)?;
+        self.tell_findings(text)?;
         self.forget_report();
         if let Reporter::Lines = self.reporter {
             self.tell_instances(text)?;
@@ -190,7 +139,7 @@ impl<F: Minifilter> Scenario<F> {
     // Forgets what was told of, and counts what couldn't be.
     fn forget_report(&mut self) {
         let dropped = self.exec.manager().dropped();
-        self.count.dropped = self.count.dropped.saturating_add(dropped);
+        self.account.drop_more(dropped);
         self.exec.forget_report();
     }
 
@@ -207,72 +156,18 @@ impl<F: Minifilter> Scenario<F> {
         Ok(())
     }
 
-    // Appends what is told, and counts it. A limit of the model is no mistake.
-    fn tell(
-        &mut self,
-        told: Mistake,
-        words: &str,
-        about: (Place, Option<CtxId>),
-        text: &mut String,
-    ) -> Result<(), Status> {
-        self.reporter.tell(text, told, words, about)?;
-        self.told.push(ToldMistake {
-            told,
-            is_expected: false,
-        })?;
-        if !told.is_limit() {
-            self.count.told = self.count.told.saturating_add(1);
-        }
-        if told.is_misuse() {
-            self.count.misuses = self.count.misuses.saturating_add(1);
-        }
-        Ok(())
-    }
-
-    // Appends what is told of verdicts and statuses that don't count.
-    fn tell_steps(&mut self, text: &mut String) -> Result<(), Status> {
-        for place in 0..self.exec.manager().traced() {
-            let manager = self.exec.manager();
-            let Some((told, callback)) = told_at(manager, place) else {
-                continue;
-            };
-            let mut words = String::new(self.alloc);
-            write_told(&mut words, manager, told, callback)?;
-            self.tell(told, words.as_str(), (callback, None), text)?;
-        }
-        Ok(())
-    }
-
-    fn tell_leaks(&mut self, text: &mut String) -> Result<(), Status> {
-        for at in 0..self.exec.manager().leaked() {
-            let manager = self.exec.manager();
-            let Some(leak) = manager.leak(at) else {
-                continue;
-            };
-            let mut words = String::new(self.alloc);
-            write_leak(&mut words, manager, &leak)?;
-            if let Reporter::Objects(teller) = &mut self.reporter {
-                teller.say_leaked(text, leak.context, leak.kind, leak.place)?;
-            }
-            let about = (leak.place, Some(leak.context));
-            self.tell(Mistake::Leak, words.as_str(), about, text)?;
-        }
-        Ok(())
-    }
-
-    fn tell_refusals(&mut self, text: &mut String) -> Result<(), Status> {
-        for at in 0..self.exec.manager().refused_calls() {
-            let manager = self.exec.manager();
-            let Some(refusal) = manager.refused_call(at) else {
-                continue;
-            };
-            if let Some(told) = Mistake::of(&refusal) {
-                let mut words = String::new(self.alloc);
-                write_refusal(&mut words, manager, told, &refusal)?;
-                let about = (refusal.place, context_of(refusal.call));
-                self.tell(told, words.as_str(), about, text)?;
-            }
-        }
+    // Appends what is told of what the manager noted, and keeps it for the lines that expect it.
+    fn tell_findings(&mut self, text: &mut String) -> Result<(), Status> {
+        let manager = self.exec.manager();
+        let found = findings(self.alloc, manager)?;
+        say_findings(
+            self.alloc,
+            &mut self.reporter,
+            manager,
+            found.as_slice(),
+            text,
+        )?;
+        self.account.tell_all(found.as_slice())?;
         Ok(())
     }
 
@@ -291,24 +186,10 @@ impl<F: Minifilter> Scenario<F> {
         Ok(())
     }
 
-    // Looks whether that was told of the last request, and no line before this one expects it: it is expected then, and doesn't count as a mistake any more.
-    fn expect_told(&mut self, wanted: Mistake) -> bool {
-        for telling in self.told.iter_mut() {
-            if telling.told == wanted && !telling.is_expected {
-                telling.is_expected = true;
-                if !wanted.is_limit() {
-                    self.count.told = self.count.told.saturating_sub(1);
-                }
-                return true;
-            }
-        }
-        false
-    }
-
     // Whether the last request came to what is expected.
     fn is_met(&mut self, expected: &Expectation) -> bool {
         match (expected, &self.last) {
-            (Expectation::Told(wanted), Some(_)) => self.expect_told(*wanted),
+            (Expectation::Told(wanted), Some(_)) => self.account.expect(*wanted),
             (_, Some(reply)) => expected.is_met(reply),
             (_, None) => false,
         }
@@ -324,7 +205,7 @@ impl<F: Minifilter> Scenario<F> {
     ) -> Result<(), Status> {
         let is_met = self.is_met(expected);
         if !is_met {
-            self.count.failed = self.count.failed.saturating_add(1);
+            self.account.miss();
         }
         let words = expected_words(self.alloc, line)?;
         let answered = self.answered()?;
@@ -340,8 +221,10 @@ impl<F: Minifilter> Scenario<F> {
         if let Some(reply) = &self.last {
             write_reply(&mut text, reply)?;
         }
-        for telling in &self.told {
-            writeln!(text, "told {}", telling.told.id())?;
+        for told in self.account.told() {
+            if self.account.is_of_last(told) {
+                writeln!(text, "told {}", told.mistake.id())?;
+            }
         }
         Ok(text)
     }
@@ -352,7 +235,7 @@ impl<F: Minifilter> Scenario<F> {
         self.tell_held(text)?;
         let mut words = String::new(self.alloc);
         self.write_left(&mut words)?;
-        let status = self.count.status();
+        let status = self.account.status();
         self.reporter
             .end(text, &self.tally(status), words.as_str())?;
         Ok(status)
@@ -374,8 +257,9 @@ impl<F: Minifilter> Scenario<F> {
         if self.held.is_empty() {
             return Ok(());
         }
-        self.count.told = self.count.told.saturating_add(1);
         let told = Mistake::HeldToTheEnd;
+        self.account.begin_request();
+        self.account.tell(told)?;
         if let Reporter::Lines = self.reporter {
             writeln!(text, "{told}: {} of them", self.held.len())?;
             return Ok(());
@@ -405,11 +289,11 @@ impl<F: Minifilter> Scenario<F> {
                 "alive: {alive} contexts, since what they are set on is still there"
             )?;
         }
-        if self.count.dropped > 0 {
+        if self.account.dropped() > 0 {
             writeln!(
                 text,
                 "{} steps, leaks or refused calls weren't kept, so mistakes may be missing",
-                self.count.dropped
+                self.account.dropped()
             )?;
         }
         writeln!(
@@ -418,8 +302,8 @@ impl<F: Minifilter> Scenario<F> {
             state.born(),
             state.cleaned_count(),
             state.leaks(),
-            self.count.told,
-            self.count.failed
+            self.account.mistakes(),
+            self.account.unmet()
         )?;
         Ok(())
     }
@@ -436,11 +320,40 @@ impl<F: Minifilter> Scenario<F> {
             cleaned: state.cleaned_count(),
             leaks: state.leaks(),
             held: self.held.len() as u64,
-            misuses: self.count.misuses,
-            unmet: self.count.failed,
-            told: Some(self.count.told),
-            dropped: Some(self.count.dropped),
+            misuses: self.account.misuses() as u64,
+            unmet: self.account.unmet(),
+            told: Some(self.account.mistakes() as u64),
+            dropped: Some(self.account.dropped()),
         }
+    }
+}
+
+// Appends what is told of these findings. Fails if memory is refused.
+fn say_findings<F: Minifilter>(
+    alloc: Global,
+    reporter: &mut Reporter,
+    manager: &TrialManager<F>,
+    found: &[Finding],
+    text: &mut String,
+) -> Result<(), AllocError> {
+    for finding in found {
+        let mut words = String::new(alloc);
+        write_finding(&mut words, manager, finding)?;
+        if let Finding::Leak(leak) = finding {
+            reporter.say_leaked(text, leak)?;
+        }
+        let about = (finding.place(), context_in(finding));
+        reporter.tell(text, finding.mistake(), words.as_str(), about)?;
+    }
+    Ok(())
+}
+
+// The context that something is told of.
+fn context_in(finding: &Finding) -> Option<CtxId> {
+    match finding {
+        Finding::Answer(..) => None,
+        Finding::Leak(leak) => Some(leak.context),
+        Finding::Call(_, refusal) => context_of(refusal.call),
     }
 }
 

@@ -1,7 +1,7 @@
 //! Mistakes of filters, by the numbers under which the host for drivers in C tells them.
 
 ghost use Rattle.std.specs.Prelude.{◌≡◌};
-ghost use Rattle.fm_trial.specs.Mistakes.{is_limit, is_misuse, mistake_of};
+ghost use Rattle.fm_mistakes.specs.Mistakes.{is_limit, is_misuse, is_same_status, mistake_of, number_of, post_mistake, pre_mistake, unless};
 
 use fm_core::PreState;
 use fm_data::PreVerdict;
@@ -11,7 +11,7 @@ use std::fmt;
 
 /// A mistake, by its number.
 #[derive(Clone, Copy, Debug, PartialEq, Eq)]
-pub(crate) enum Mistake {
+pub enum Mistake {
     /// A reference to a context was never released.
     Leak,
     /// A context was released to which no reference is held.
@@ -53,7 +53,26 @@ const ALL: [Mistake; 11] = [
 
 impl Mistake {
     /// Its number, which stays.
-    pub(crate) fn id(self) -> &'static str {
+    pub fn number(self) -> u16
+        ensures { result ≡ number_of self }
+    {
+        match self {
+            Mistake::Leak => 101,
+            Mistake::ReleasedTwice => 102,
+            Mistake::NotReferenced => 103,
+            Mistake::SetNotReferenced => 110,
+            Mistake::HeldToTheEnd => 111,
+            Mistake::NotHeld => 113,
+            Mistake::NoPost => 124,
+            Mistake::StatusNotCompleted => 125,
+            Mistake::CreateCompleted => 221,
+            Mistake::CloseCompleted => 222,
+            Mistake::FixedAnswer => 223,
+        }
+    }
+
+    /// Its number as it is told.
+    pub fn id(self) -> &'static str {
         match self {
             Mistake::Leak => "KZ0101",
             Mistake::ReleasedTwice => "KZ0102",
@@ -70,7 +89,7 @@ impl Mistake {
     }
 
     /// Whether it is a limit of the model, and no mistake of the filter.
-    pub(crate) fn is_limit(self) -> bool
+    pub fn is_limit(self) -> bool
         ensures { result ≡ is_limit self }
     {
         matches!(
@@ -80,19 +99,19 @@ impl Mistake {
     }
 
     /// Whether something was given back or let go on that isn't held.
-    pub(crate) fn is_misuse(self) -> bool
+    pub fn is_misuse(self) -> bool
         ensures { result ≡ is_misuse self }
     {
         matches!(self, Mistake::ReleasedTwice | Mistake::NotHeld)
     }
 
     /// The mistake of that number.
-    pub(crate) fn read(id: &str) -> Option<Mistake> {
+    pub fn read(id: &str) -> Option<Mistake> {
         ALL.into_iter().find(|told| told.id() == id)
     }
 
     /// Which mistake a refused call of a port is; none where a filter may meet that refusal.
-    pub(crate) fn of(refusal: &Refusal) -> Option<Mistake>
+    pub fn of(refusal: &Refusal) -> Option<Mistake>
         ensures { result ≡ mistake_of refusal.now.status refusal.now.call }
     {
         match (refusal.status, refusal.call) {
@@ -105,24 +124,47 @@ impl Mistake {
     }
 
     /// Which mistake a preoperation made whose verdict doesn't count as it was given, or that set a status for nothing; none where it made none.
-    pub(crate) fn of_pre(answer: &PreAnswer) -> Option<Mistake> {
+    pub fn of_pre(answer: &PreAnswer) -> Option<Mistake>
+        ensures { result ≡ pre_mistake answer.now.given answer.now.counted (is_same_status answer.now.found answer.now.left) }
+    {
         match (answer.given, answer.counted) {
             (PreVerdict::WithCallback(_) | PreVerdict::Synchronize(_), Some(PreState::Passed)) => {
                 Some(Mistake::NoPost)
             }
             (PreVerdict::Complete(_), Some(PreState::Passed)) => Some(Mistake::CloseCompleted),
             (PreVerdict::Complete(given), Some(PreState::Completed(counted))) => {
-                (given != counted).then_some(Mistake::CreateCompleted)
+                unless(is_same_status(given, counted), Mistake::CreateCompleted)
             }
             (PreVerdict::Pending, _) => None,
-            _ => (answer.found != answer.left).then_some(Mistake::StatusNotCompleted),
+            _ => unless(
+                is_same_status(answer.found, answer.left),
+                Mistake::StatusNotCompleted,
+            ),
         }
     }
 
     /// Which limit a postoperation met that left a status, where the next step of the operation found that one; none where it counted.
-    pub(crate) fn of_post(answer: &PostAnswer, next: Status) -> Option<Mistake> {
-        (answer.found != answer.left && answer.left != next).then_some(Mistake::FixedAnswer)
+    pub fn of_post(answer: &PostAnswer, next: Status) -> Option<Mistake>
+        ensures { result ≡ post_mistake (is_same_status answer.now.found answer.now.left) (is_same_status answer.now.left next) }
+    {
+        let is_unchanged = is_same_status(answer.found, answer.left);
+        let counts = is_same_status(answer.left, next);
+        unless(is_unchanged || counts, Mistake::FixedAnswer)
     }
+}
+
+// Whether two statuses are the same.
+fn is_same_status(one: Status, other: Status) -> bool
+    ensures { result ≡ is_same_status one other }
+{
+    one.number() == other.number() && one.information() == other.information()
+}
+
+// That mistake, but where that is so.
+fn unless(is_so: bool, mistake: Mistake) -> Option<Mistake>
+    ensures { result ≡ unless is_so mistake }
+{
+    if is_so { None } else { Some(mistake) }
 }
 
 /// The number, and what was done.

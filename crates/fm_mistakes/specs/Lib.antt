@@ -1,0 +1,3 @@
+pub mod Accounts
+pub mod Findings
+pub mod Mistakes

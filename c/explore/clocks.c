@@ -4,7 +4,7 @@
 
 #include <sys/mman.h>
 
-enum { CELLS = 1 << 16, OBJECTS = 1 << 12, FREED = 4096 };
+enum { CELLS = 1 << 16, OBJECTS = 1 << 12, FREED = 4096, LEARNED = 1 << 14 };
 
 /* What a client did with eight bytes: which of them, when, and where from. */
 typedef struct {
@@ -16,7 +16,9 @@ typedef struct {
 typedef struct {
     uintptr_t tag;
     uint32_t run;
-    Access reads[RUNNERS + 1], writes[RUNNERS + 1];
+    struct {
+        Access read, write;
+    } by[RUNNERS + 1];
 } Cell;
 
 typedef struct {
@@ -37,6 +39,8 @@ static struct {
     size_t freed_count;
     uintptr_t least, most;
     uint64_t hash; /* of what the cells and the objects of this run say */
+    uintptr_t learned[LEARNED]; /* cells that are met by interlocked or volatile accesses */
+    bool is_learning;
 } *shadow;
 
 void ex_open_shadow(void)
@@ -58,7 +62,7 @@ void ex_start_clocks(void)
 /* ---- What two states differ by. */
 static uint64_t access_hash(const Cell *cell, unsigned client, bool is_write)
 {
-    const Access *one = is_write ? &cell->writes[client] : &cell->reads[client];
+    const Access *one = is_write ? &cell->by[client].write : &cell->by[client].read;
     if (!ex->is_reduced || !one->when)
         return 0;
     return ex_mixed(ex_mixed(cell->tag << 6 | client << 1 | is_write) + ex_mixed((uint64_t)one->when << 32 | one->from) * 3 + one->bytes * 2u + one->is_atomic);
@@ -99,7 +103,7 @@ static Cell *cell_of(uintptr_t tag, bool is_made)
             continue;
         if (!is_made)
             return NULL;
-        memset(cell, 0, sizeof *cell);
+        memset(cell->by, 0, sizeof cell->by[0] * ((size_t)ex->most_runners + 1));
         cell->run = ex->run;
         cell->tag = tag;
         return cell;
@@ -154,10 +158,10 @@ static void look(Cell *cell, uint8_t bytes, bool is_write, bool is_atomic, const
         if (client == (int)me)
             continue;
         uint32_t known = shadow->clock[me][client];
-        if (is_race(&cell->writes[client], bytes, known, true, is_write, is_atomic))
-            tell(&cell->writes[client], true, client, from, now);
-        else if (is_race(&cell->reads[client], bytes, known, false, is_write, is_atomic))
-            tell(&cell->reads[client], false, client, from, now);
+        if (is_race(&cell->by[client].write, bytes, known, true, is_write, is_atomic))
+            tell(&cell->by[client].write, true, client, from, now);
+        else if (is_race(&cell->by[client].read, bytes, known, false, is_write, is_atomic))
+            tell(&cell->by[client].read, false, client, from, now);
     }
 }
 
@@ -184,15 +188,55 @@ static bool is_watched(void)
     return ex && ex->is_running && !ex->is_alone && kz_me != &kz_first;
 }
 
+/* ---- Cells that are met by interlocked or volatile accesses. */
+void ex_learn_cells(bool is)
+{
+    shadow->is_learning = is;
+}
+
+static uintptr_t *place_of(uintptr_t tag)
+{
+    size_t at = hashed(tag, LEARNED), tries = 0;
+    while (shadow->learned[at] && shadow->learned[at] != tag && tries++ < 64)
+        at = (at + 1) & (LEARNED - 1);
+    return &shadow->learned[at];
+}
+
+static void learn(const void *address)
+{
+    uintptr_t tag = (uintptr_t)address >> 3, *place = place_of(tag);
+    if (!*place)
+        *place = tag;
+}
+
+static bool is_met_by_others(const Cell *cell)
+{
+    for (int client = 1; cell && client <= ex->runners_count; client++)
+        if (client != (int)kz_me->number && (cell->by[client].write.is_atomic || cell->by[client].read.is_atomic))
+            return true;
+    return false;
+}
+
+/* Whether it is met by others in this run, or was in the runs before the search: then a plain access is a point as well. */
+static bool is_shared(uintptr_t tag)
+{
+    return *place_of(tag) == tag || is_met_by_others(cell_of(tag, false));
+}
+
+static bool is_point(uintptr_t start, uintptr_t end, bool is_atomic)
+{
+    return is_atomic || (!ex->is_coarse && (is_shared(start >> 3) || ((end - 1) >> 3 != start >> 3 && is_shared((end - 1) >> 3))));
+}
+
 void ex_access(const void *address, size_t size, bool is_write, bool is_atomic, const void *from)
 {
-    if (!is_watched())
-        return;
-    if (is_atomic)
-        ex_note_spin();
     uintptr_t start = (uintptr_t)address, end = start + size;
-    if (ex_is_stack(address))
+    if (is_atomic && shadow && (shadow->is_learning || !ex->is_running) && !ex_is_stack(address))
+        learn(address);
+    if (!is_watched() || ex_is_stack(address))
         return;
+    if (is_point(start, end, is_atomic))
+        ex_memory_point(address, size, from);
     look_at_freed(start, from, is_write);
     for (uintptr_t tag = start >> 3; tag << 3 < end; tag++) {
         uintptr_t first = tag << 3 < start ? start - (tag << 3) : 0, last = (tag << 3) + 8 > end ? end - (tag << 3) : 8;
@@ -202,7 +246,7 @@ void ex_access(const void *address, size_t size, bool is_write, bool is_atomic, 
             continue;
         look(cell, bytes, is_write, is_atomic, from, words[is_atomic][is_write]);
         unsigned me = kz_me->number;
-        Access *mine = is_write ? &cell->writes[me] : &cell->reads[me];
+        Access *mine = is_write ? &cell->by[me].write : &cell->by[me].read;
         bool is_same = mine->when == shadow->clock[me][me] && mine->is_atomic == is_atomic;
         shadow->hash -= access_hash(cell, me, is_write);
         *mine = (Access){shadow->clock[me][me], (uint32_t)(uintptr_t)from, is_same ? mine->bytes | bytes : bytes, is_atomic};

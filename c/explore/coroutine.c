@@ -4,6 +4,8 @@
 #include <sys/mman.h>
 
 enum { STACK = 1 << 18, BELOW = 1 << 12 };
+/* Of a client that goes on and on: after so many steps of its own others go first; so many accesses between two calls of the kit; so often in vain where nobody else can go on. */
+enum { IN_A_ROW = 400, ACCESSES = 200, ALONE = 300 };
 #define STACKS 0x20000000000UL
 
 Runner ex_runners[RUNNERS + 1];
@@ -95,7 +97,19 @@ static Options options_of(Runner *me)
             ex_runners[at].timed_out = true;
             add(&options, &ex_runners[at]);
         }
+    for (int at = 1; at <= ex->runners_count && !options.count; at++)
+        if (ex_runners[at].state == WAITING && ex_runners[at].yields && ex->patience[at].alone < ALONE) {
+            ex->patience[at].alone++;
+            add(&options, &ex_runners[at]);
+        }
     return options;
+}
+
+static void forget_looks(int at)
+{
+    if (ex->patience[at].has_looked)
+        memset(ex->patience[at].looks, 0, sizeof ex->patience[at].looks);
+    ex->patience[at].has_looked = false;
 }
 
 static void note_step(int client)
@@ -105,6 +119,15 @@ static void note_step(int client)
         siglongjmp(ex->out, 1);
     }
     ex->schedule[ex->schedule_length++] = (uint8_t)client;
+    ex->patience[client].in_a_row++;
+    for (int at = 1; at <= ex->runners_count; at++) {
+        if (at == client)
+            continue;
+        ex_runners[at].owes &= ~(1U << client);
+        ex_runners[at].has_moved = true;
+        ex->patience[at].in_a_row = ex->patience[at].alone = 0;
+        forget_looks(at);
+    }
 }
 
 /* The number of the client that goes on; 0 if none can. */
@@ -113,10 +136,13 @@ static int choose(Runner *me)
     Options options = options_of(me);
     if (!options.count)
         return 0;
+    ex->able = 0;
+    for (unsigned at = 0; at < options.count; at++)
+        ex->able |= 1U << options.clients[at];
     bool is_bound = options.may_stay && ex->preemptions >= ex->bound && !ex->replay;
-    unsigned taken = options.count > 1 && !is_bound ? ex_decide(options.count, true, options.clients, options.may_stay) : 0;
+    unsigned taken = options.count > 1 && !is_bound ? ex_decide(options.count, SWITCH, options.clients, options.may_stay) : 0;
     if (ex->replay && options.count == 1)
-        taken = ex_decide(1, true, options.clients, options.may_stay);
+        taken = ex_decide(1, SWITCH, options.clients, options.may_stay);
     int client = options.clients[taken];
     bool is_preemption = options.may_stay && taken > 0;
     ex->preemptions += is_preemption;
@@ -142,22 +168,28 @@ static void go_on(Runner *me)
     ex_switch(&me->stands, client ? ex_runners[client].stands : ex->back);
 }
 
-/* ---- The scheduler's calls. */
-static void point(const char *name, const void *from)
+/* ---- Who looks for something again and again lets each of the others go first that can, or that could since: so nobody looks for ever while the one that would change it stands. */
+static bool may_go_first(const Runner *me, int at)
 {
-    if (is_set_up() || !ex->is_running || ex->is_alone || !name)
-        return;
-    Runner *me = mine();
-    if (me->is_fresh) {
-        me->is_fresh = false;
-        return;
-    }
-    me->at = name;
-    me->from = from;
-    me->state = READY;
-    me->spins = 0;
-    go_on(me);
-    me->state = RUNNING;
+    Runner *one = &ex_runners[at];
+    return one != me && !one->yields && !is_finally(one) && one->state != ENDED && can_go_on(one) && !is_behind_like(one);
+}
+
+static bool has_let_others(void *what)
+{
+    const Runner *me = what;
+    for (int at = 1; at <= ex->runners_count; at++)
+        if (me->owes >> at & 1 && may_go_first(me, at))
+            return false;
+    return me->has_moved;
+}
+
+static bool can_others(const Runner *me)
+{
+    for (int at = 1; at <= ex->runners_count; at++)
+        if (may_go_first(me, at))
+            return true;
+    return false;
 }
 
 static bool wait(KzCan *can, void *what, KzWaits why, const char *text)
@@ -174,37 +206,127 @@ static bool wait(KzCan *can, void *what, KzWaits why, const char *text)
     return !me->timed_out;
 }
 
-static bool has_moved(void *steps)
+static void owe_all(Runner *me)
 {
-    return ex->steps != *(unsigned *)steps;
+    me->owes = 0;
+    for (int at = 1; at <= ex->runners_count; at++)
+        if (&ex_runners[at] != me && ex_runners[at].state != ENDED && !is_finally(&ex_runners[at]))
+            me->owes |= 1U << at;
 }
 
-/* Code that looks at interlocked or volatile memory again and again waits for another client to change it. */
-void ex_note_spin(void)
+static void yield(Runner *me, const void *from)
+{
+    me->from = from;
+    me->yields = true;
+    me->has_moved = false;
+    wait(has_let_others, me, KZ_WAITS_AS_THERE, "what it looks at again and again");
+    me->yields = false;
+}
+
+/* Whether the place has looked often enough, and found the same each time. */
+static bool is_in_vain(const void *from, uintptr_t at, uint64_t value)
+{
+    Patience *mine_own = &ex->patience[kz_me->number];
+    unsigned place = (unsigned)(((uintptr_t)from >> 2 ^ (uintptr_t)from >> 6) % LOOKS);
+    bool is_same = mine_own->looks[place].from == from && mine_own->looks[place].at == at && mine_own->looks[place].value == value;
+    mine_own->has_looked = true;
+    mine_own->looks[place].from = from;
+    mine_own->looks[place].at = at;
+    mine_own->looks[place].value = value;
+    mine_own->looks[place].count = is_same ? mine_own->looks[place].count + 1 : 1;
+    if (mine_own->looks[place].count < LOOKS_ENOUGH)
+        return false;
+    mine_own->looks[place].count = 0;
+    return true;
+}
+
+void ex_note_change(void)
+{
+    if (is_set_up() || !ex || !ex->is_running)
+        return;
+    forget_looks((int)kz_me->number);
+    mine()->owes = 0;
+}
+
+/* What a client has seen twice decides how soon it lets others go first. */
+uint64_t ex_patience_hash(void)
+{
+    uint64_t hash = 0;
+    for (int at = 1; at <= ex->runners_count; at++)
+        for (unsigned place = 0; ex->patience[at].has_looked && place < LOOKS; place++)
+            if (ex->patience[at].looks[place].count > 1)
+                hash += ex_mixed((uintptr_t)ex->patience[at].looks[place].from * 64 + (unsigned)at + ex->patience[at].looks[place].value * 3 + ex->patience[at].looks[place].at * 5);
+    return hash;
+}
+
+/* ---- The scheduler's calls. */
+static void stand(Runner *me, const char *name, const void *from)
+{
+    me->is_fresh = false;
+    me->at = name;
+    me->from = from;
+    if (++ex->patience[me->client->number].in_a_row % IN_A_ROW == 0)
+        owe_all(me);
+    if (me->owes && (!has_let_others(me) || !can_others(me))) {
+        yield(me, from);
+        return;
+    }
+    me->state = READY;
+    go_on(me);
+    me->state = RUNNING;
+}
+
+static void point(const char *name, const void *from)
+{
+    if (is_set_up() || !ex->is_running || ex->is_alone || !name)
+        return;
+    Runner *me = mine();
+    if (me->is_fresh) {
+        me->is_fresh = false;
+        return;
+    }
+    ex->patience[me->client->number].accesses = 0;
+    stand(me, name, from);
+}
+
+/* It tried for a lock in vain, or looked whether something is there: where it does so again and again the next points let others go. */
+static void looked(const void *from)
+{
+    if (!is_set_up() && ex->is_running && !ex->is_alone && is_in_vain(from, 0, 0))
+        owe_all(mine());
+}
+
+void ex_memory_point(const void *address, size_t size, const void *from)
 {
     Runner *me = mine();
-    if (ex->is_alone || me->state != RUNNING || me->client->inside || ++me->spins < 200)
+    uint64_t value = 0;
+    if (ex->is_alone || me->state != RUNNING || me->client->inside || !ex->is_running)
         return;
-    unsigned steps = ex->steps;
-    me->spins = 0;
-    wait(has_moved, &steps, KZ_WAITS_AS_THERE, "memory that it looks at again and again");
+    if (ex_is_heap(address) || ex_is_program(address))
+        memcpy(&value, address, size < sizeof value ? size : sizeof value);
+    if (is_in_vain(from, (uintptr_t)address, value) || ++ex->patience[kz_me->number].accesses % ACCESSES == 0)
+        owe_all(me);
+    if (!ex->is_coarse)
+        stand(me, "memory", from);
+    else if (me->owes && (!has_let_others(me) || !can_others(me)))
+        yield(me, from);
 }
 
 static unsigned choose_answer(unsigned count, KzChoice what, const char *name)
 {
     if (is_set_up() || !ex->is_running || ex->is_alone)
         return 0;
-    bool is_time = what == KZ_CHOICE_TIME;
-    if (is_time ? ex->timeouts > 0 : ex->fails_used >= ex->fails && !ex->replay)
-        return 0;
-    unsigned taken = ex_decide(count, false, NULL, false);
+    bool is_time = what == KZ_CHOICE_TIME, is_inside = what == KZ_CHOICE_INSIDE;
+    bool is_asked = is_inside ? ex->has_inside || ex->replay : is_time ? !ex->timeouts : ex->fails_used < ex->fails || ex->replay;
+    unsigned taken = is_asked ? ex_decide(count, is_inside ? ANSWER_INSIDE : ANSWER_FAIL, NULL, false) : 0;
     if (!taken)
         return 0;
-    *(is_time ? &ex->timeouts : &ex->fails_used) += 1;
-    ex->schedule[ex->schedule_length++] = FAIL;
+    ex->fails_used += !is_time && !is_inside;
+    ex->timeouts += is_time;
+    ex->schedule[ex->schedule_length++] = is_inside ? INSIDE : FAIL;
     if (ex->is_traced) {
         char text[TEXT];
-        snprintf(text, sizeof text, "  %s   %s: %s\n", mine()->name, name, is_time ? "yes" : "refused");
+        snprintf(text, sizeof text, "  %s   %s: %s\n", mine()->name, name, is_time ? "yes" : is_inside ? "goes on inside" : "refused");
         ex_trace_text(text);
     }
     return taken;
@@ -278,6 +400,8 @@ static void make(Runner *one, int number, void (*life)(void))
     one->state = one->is_worker && life == live ? WAITING : READY;
     one->can = has_work;
     one->at = "the start";
+    one->owes = 0;
+    one->yields = false;
 }
 
 /* ---- Threads beside the clients. Those that began in the set-up have a stack by then, which isn't in the image. */
@@ -285,7 +409,7 @@ static char *kept[RUNNERS + 1];
 
 void ex_keep_stacks(void)
 {
-    ex->usual_count = ex->runners_count;
+    ex->usual_count = ex->most_runners = ex->runners_count;
     for (int at = KZ_FIRST_THREAD; at <= ex->runners_count; at++) {
         Runner *one = &ex_runners[at];
         one->kept_size = one->state == ENDED ? 0 : (size_t)(top_of(at) - (char *)one->stands);
@@ -310,6 +434,7 @@ static void begin(KzThread *thread)
     *one = (Runner){.client = &thread->client, .thread = thread, .name = thread->name, .is_worker = true, .like = number};
     make(one, number, live_beside);
     ex->runners_count = number > ex->runners_count ? number : ex->runners_count;
+    ex->most_runners = number > ex->most_runners ? number : ex->most_runners;
 }
 
 /* Before a run and behind it. */
@@ -328,7 +453,7 @@ static bool let(KzThread *thread)
     return true;
 }
 
-const KzScheduler ex_scheduler = {point, wait, ex_touch, choose_answer, begin, let, nothing, nothing, ex_say, true, false};
+const KzScheduler ex_scheduler = {point, wait, ex_touch, looked, choose_answer, begin, let, nothing, nothing, ex_say, true, false};
 
 /* What a client left on its stack below where it stands: two states aren't to differ by that. */
 static void tidy(Runner *one)

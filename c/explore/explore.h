@@ -26,7 +26,8 @@ typedef struct {
     void *stands; /* where its stack ends, while another runs */
     State state;
     bool has_begun, is_worker, timed_out;
-    unsigned spins;               /* interlocked and volatile accesses since its last point */
+    uint32_t owes;                /* clients that go first, where it has looked again and again: a bit for each */
+    bool yields, has_moved;       /* it lets them go; another went since */
     bool is_fresh;                /* it has begun, and done nothing yet */
     int like;                     /* the first client with the same lines */
     KzThread *thread;             /* of a thread beside the clients */
@@ -40,10 +41,27 @@ typedef struct {
     uint64_t handle;              /* that of its last create, for $ */
 } Runner;
 
+/* How often a place of the driver's code found the same where it looked, since another client went or it changed something itself. */
+enum { LOOKS = 8, LOOKS_ENOUGH = 3 };
+typedef struct {
+    struct {
+        const void *from;
+        uintptr_t at;
+        uint64_t value;
+        unsigned count;
+    } looks[LOOKS];
+    bool has_looked;
+    unsigned accesses; /* points at memory since its last call of the kit */
+    unsigned in_a_row; /* steps since another's */
+    unsigned alone;    /* how often it went on in vain, since nobody else could */
+} Patience;
+
 typedef struct {
     uint8_t count, taken;
     bool is_switch;
     uint64_t key; /* of the state, where states are told apart */
+    uint32_t able; /* who could go on, a bit for each */
+    uint32_t place; /* in the schedule */
 } Node;
 
 /* ---- What was found: of each kind the schedule with the fewest preemptions, then switches, then steps. */
@@ -69,10 +87,12 @@ typedef struct {
 typedef struct {
     /* The scenario, and how it is searched. */
     KzScenario scenario;
-    int runners_count, usual_count; /* up to the last one; and as a run begins */
+    int runners_count, usual_count, most_runners; /* up to the last one; as a run begins; and in any run so far */
     bool is_alone; /* a thread goes on until it waits, and nobody else */
     unsigned bound, fails, shard, shards;
     bool wants_ends, is_traced, is_quiet;
+    bool is_coarse; /* no points at memory */
+    bool has_inside; /* the rest of an operation may run inside its completion */
     bool is_reduced; /* a run that comes to a known state is given up */
     bool has_no_bound;
     size_t memory; /* that the explorer's own tables may take */
@@ -104,11 +124,16 @@ typedef struct {
     int current;
     bool is_given_up;
     const char *full; /* what the explorer's memory is full of: then the search ends */
+    const char *unknown; /* a wait that isn't modelled: then the search ends */
+    Patience patience[RUNNERS + 1]; /* of each client */
+    uint32_t able;
     /* What was found. */
     Kind kinds[KINDS];
     int kinds_count;
     uint64_t schedules, given_up, counts[LIMITED + 1];
     unsigned longest;
+    double shown; /* when progress was shown last */
+    uint64_t ticked[3]; /* of the clock of endless code: the run and the step at its last tick, and for how many it stands there */
     char trace[1 << 20];
     size_t trace_length;
     char *room; /* for what is kept of kinds: never freed */
@@ -118,7 +143,7 @@ typedef struct {
 extern Explorer *ex;
 extern Runner ex_runners[RUNNERS + 1]; /* by the client's number: from 1 on */
 #define ROOM (1UL << 30)
-enum { FAIL = 255 };                   /* in a schedule: the call was refused */
+enum { FAIL = 255, INSIDE = 254 };     /* in a schedule: the call was refused; the operation went on inside the call */
 
 /* scenario.c: 0, or what is wrong was said. */
 int ex_read(const char *path);
@@ -130,6 +155,7 @@ void ex_take_image(void);
 void ex_put_back(void);
 bool ex_opens_page(const void *address);
 bool ex_is_heap(const void *address);
+bool ex_is_program(const void *address);
 
 uint64_t ex_memory_hash(void);
 
@@ -148,6 +174,8 @@ void ex_start_clocks(void);
 void ex_touch(const void *object, size_t size, KzTouch how);
 void ex_access(const void *address, size_t size, bool is_write, bool is_atomic, const void *from);
 void ex_in_order(const void *object);
+/* Cells that interlocked or volatile accesses meet in the set-up, and in runs before the search: plain accesses to them are points too. */
+void ex_learn_cells(bool is);
 
 /* coroutine.c */
 extern const KzScheduler ex_scheduler;
@@ -157,10 +185,15 @@ bool ex_is_stack(const void *address);
 uint64_t ex_stacks_hash(void);
 void ex_run(void);
 bool ex_is_stuck(void);
-void ex_note_spin(void);
+/* Before an access of the driver's code: another client may go on first. */
+void ex_memory_point(const void *address, size_t size, const void *from);
+/* It has changed shared memory: it doesn't look in vain. */
+void ex_note_change(void);
+uint64_t ex_patience_hash(void);
 
 /* path.c: which of so many is taken. */
-unsigned ex_decide(unsigned count, bool is_switch, const int *clients, bool may_stay);
+typedef enum { SWITCH, ANSWER_FAIL, ANSWER_INSIDE } Asks;
+unsigned ex_decide(unsigned count, Asks asks, const int *clients, bool may_stay);
 bool ex_advance(void);
 void ex_draw_priorities(void);
 bool ex_is_own(void);
@@ -168,6 +201,7 @@ const char *ex_schedule_text(size_t length);
 
 /* found.c */
 void ex_end_search(const char *full);
+void ex_stop_at(const char *unknown);
 void ex_found(KindOf of, const char *text);
 void ex_say(const KzSaid *said);
 void ex_keep_found(void);

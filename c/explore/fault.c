@@ -50,10 +50,8 @@ static void handle(int signal, siginfo_t *information, void *context)
 static void tick(int signal, siginfo_t *information, void *context)
 {
     const ucontext_t *machine = context;
-    static uint64_t *last;
+    uint64_t *last = ex->ticked;
     (void)signal, (void)information;
-    if (!last)
-        last = ex_map(3 * sizeof *last);
     bool is_same = ex->is_running && last[0] == ex->runs && last[1] == ex->steps;
     last[2] = is_same ? last[2] + 1 : 0;
     last[0] = ex->runs;

@@ -1,6 +1,8 @@
 /* What was found, by kinds: two runs that differ only by the numbers of operations found the same. */
 #include "explore.h"
 
+static char *kept(const char *text);
+
 /* ---- Of the run that goes on. */
 void ex_found(KindOf of, const char *text)
 {
@@ -55,7 +57,9 @@ void ex_say(const KzSaid *said)
         ex_trace_text(said->text);
     if (said->kind == KZ_SAID_TOLD)
         ex_found(TOLD, said->text);
-    else if (said->kind == KZ_SAID_LIMIT) {
+    else if (said->kind == KZ_SAID_LIMIT && said->message == KZM_UNKNOWN_WAIT && kz_me != &kz_first) {
+        ex_stop_at(said->text);
+    } else if (said->kind == KZ_SAID_LIMIT) {
         ex->is_limited |= said->message == KZM_NOWHERE_TO_RESUME || said->message == KZM_LEFT_OUT;
         ex_found(LIMITED, said->text);
     }
@@ -66,6 +70,15 @@ void ex_say(const KzSaid *said)
 void ex_end_search(const char *full)
 {
     ex->full = full;
+}
+
+/* A wait that isn't modelled: what comes after it isn't so on Windows. So neither this run nor another tells anything of it. */
+void ex_stop_at(const char *unknown)
+{
+    ex->found_count = 0;
+    ex_found(LIMITED, unknown);
+    ex->unknown = kept(unknown);
+    siglongjmp(ex->out, 1);
 }
 
 static char *kept(const char *text)
@@ -171,7 +184,7 @@ void ex_report_kind(const Kind *kind)
     printf("\n%llu schedules:\n", (unsigned long long)kind->count);
     put_indented(kind->text);
     printf("  the shortest: %u preemptions, %u switches, %u steps\n", kind->preemptions, kind->switches, kind->steps);
-    printf("  --replay '%s'\n", kind->schedule);
+    printf("  --replay '%s'%s\n", kind->schedule, ex->is_coarse ? " --coarse" : "");
     if (kind->seed && ex->pct)
         printf("  --seed %llu --runs 1 --pct %u\n", (unsigned long long)kind->seed, ex->pct);
     else if (kind->seed)

@@ -65,6 +65,7 @@ void __tsan_vptr_read(void **at)
     {                                                      \
         ex_access(at, size, true, true, FROM);             \
         ex_touch(at, 0, KZT_GIVES);                         \
+        ex_note_change();                                     \
     }                                                      \
     void __tsan_unaligned_volatile_read##size(void *at);   \
     void __tsan_unaligned_volatile_read##size(void *at)    \
@@ -77,6 +78,7 @@ void __tsan_vptr_read(void **at)
     {                                                      \
         ex_access(at, size, true, true, FROM);             \
         ex_touch(at, 0, KZT_GIVES);                         \
+        ex_note_change();                                     \
     }
 ACCESSES(1)
 ACCESSES(2)
@@ -104,7 +106,10 @@ void __tsan_write_range(void *at, long size)
         (void)order;                                                                                          \
         ex_access((const void *)at, bits / 8, true, true, FROM);                                              \
         ex_in_order((const void *)at);                                                                        \
-        return builtin(at, by, __ATOMIC_SEQ_CST);                                                             \
+        uint##bits##_t before = builtin(at, by, __ATOMIC_SEQ_CST);                                            \
+        if (*at != before)                                                                                    \
+            ex_note_change();                                                                                 \
+        return before;                                                                                        \
     }
 #define ATOMICS(bits)                                                                                                             \
     uint##bits##_t __tsan_atomic##bits##_load(const volatile uint##bits##_t *at, int order);                                      \
@@ -122,6 +127,7 @@ void __tsan_write_range(void *at, long size)
         ex_access((const void *)at, bits / 8, true, true, FROM);                                                                  \
         ex_in_order((const void *)at);                                                                                            \
         *at = to;                                                                                                                 \
+        ex_note_change();                                                                                                         \
     }                                                                                                                             \
     CHANGE(bits, exchange, __atomic_exchange_n)                                                                                   \
     CHANGE(bits, fetch_add, __atomic_fetch_add)                                                                                   \
@@ -136,7 +142,10 @@ void __tsan_write_range(void *at, long size)
         (void)order, (void)other;                                                                                                 \
         ex_access((const void *)at, bits / 8, true, true, FROM);                                                                  \
         ex_in_order((const void *)at);                                                                                            \
-        return __atomic_compare_exchange_n(at, from, to, 0, __ATOMIC_SEQ_CST, __ATOMIC_SEQ_CST);                                  \
+        int is_done = __atomic_compare_exchange_n(at, from, to, 0, __ATOMIC_SEQ_CST, __ATOMIC_SEQ_CST);                           \
+        if (is_done && to != *from)                                                                                               \
+            ex_note_change();                                                                                                     \
+        return is_done;                                                                                                           \
     }                                                                                                                             \
     int __tsan_atomic##bits##_compare_exchange_weak(volatile uint##bits##_t *at, uint##bits##_t *from, uint##bits##_t to, int, int);        \
     int __tsan_atomic##bits##_compare_exchange_weak(volatile uint##bits##_t *at, uint##bits##_t *from, uint##bits##_t to, int order, int other)   \

@@ -63,6 +63,11 @@ bool ex_is_heap(const void *address)
     return (uintptr_t)address >= BASE && (uintptr_t)address < BASE + ARENA * (RUNNERS + 2);
 }
 
+bool ex_is_program(const void *address)
+{
+    return (const char *)address >= __data_start && (const char *)address < _end;
+}
+
 /* ---- The C library's calls. */
 void *malloc(size_t size)
 {

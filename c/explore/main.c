@@ -8,6 +8,7 @@
 
 extern const KzDriver kz_drivers[];
 extern const size_t kz_drivers_count;
+enum { WARM_UP = 200 };
 
 Explorer *ex;
 
@@ -20,6 +21,7 @@ static void start_run(void)
     ex->hash = 0;
     ex->is_limited = ex->is_given_up = ex->is_alone = false;
     ex->runners_count = ex->usual_count;
+    memset(ex->patience, 0, sizeof ex->patience[0] * ((size_t)ex->most_runners + 1));
     ex->run++;
     ex->runs++;
     ex_start_clocks();
@@ -72,7 +74,7 @@ static void finish_run(void)
 static void run_once(void)
 {
     start_run();
-    if (sigsetjmp(ex->out, 1) == 0) {
+    if (sigsetjmp(ex->out, 0) == 0) {
         ex_run();
         finish_run();
     }
@@ -97,18 +99,17 @@ static void put_counts(double since)
         printf("%llu given up, %llu states, ", (unsigned long long)ex->given_up, (unsigned long long)ex_states_count());
     printf("%.2f s, longest %u; told %llu, races %llu, stuck %llu, crashed %llu\n", seconds() - since, ex->longest, (unsigned long long)ex->counts[TOLD], (unsigned long long)ex->counts[RACE],
            (unsigned long long)ex->counts[STUCK], (unsigned long long)ex->counts[CRASH]);
+    if (ex->unknown)
+        printf("the search ends here, since a wait isn't modelled: what is after it can't be told\n");
     if (ex->full)
         printf("the memory for %s is full: the search ends here, and isn't whole (--memory)\n", ex->full);
 }
 
 static void show_progress(double since)
 {
-    static double *shown;
-    if (!shown)
-        shown = ex_map(sizeof *shown);
-    if (ex->runs % 4096 || !isatty(STDERR_FILENO) || seconds() - *shown < 5)
+    if (ex->runs % 4096 || !isatty(STDERR_FILENO) || seconds() - ex->shown < 5)
         return;
-    *shown = seconds();
+    ex->shown = seconds();
     fprintf(stderr, "bound %u: %llu schedules, %.0f s; a path of %zu choices, the first %u/%u %u/%u\n", ex->bound, (unsigned long long)ex->schedules, seconds() - since,
             ex->length, ex->path[0].taken + 1, ex->path[0].count, ex->path[1].taken + 1, ex->path[1].count);
 }
@@ -125,7 +126,7 @@ static void search_bound(void)
     do {
         run_once();
         show_progress(since);
-    } while (!ex->full && ex_advance());
+    } while (!ex->full && !ex->unknown && ex_advance());
     put_counts(since);
 }
 
@@ -136,29 +137,39 @@ static void search(unsigned bound)
         search_bound();
         return;
     }
-    for (ex->bound = 0; ex->bound <= bound && !ex->full; ex->bound++)
+    for (ex->bound = 0; ex->bound <= bound && !ex->full && !ex->unknown; ex->bound++)
         search_bound();
 }
 
-/* How long a run in order is: nothing of it is told. */
-static void measure(void)
+/* Before the search, and before a schedule that is played again: runs without a preemption say how long one is, and which memory is shared by more than locks. Nothing of them is told. */
+static void warm_up(void)
 {
-    ex->bound = 0;
-    run_once();
-    ex->usual_steps = ex->steps ? ex->steps : 1;
+    bool is_reduced = ex->is_reduced, has_no_bound = ex->has_no_bound, is_coarse = ex->is_coarse, is_traced = ex->is_traced, wants_ends = ex->wants_ends;
+    unsigned fails = ex->fails, shards = ex->shards, runs = 0;
+    ex->is_reduced = ex->has_no_bound = ex->is_traced = ex->wants_ends = false;
+    ex->is_coarse = true;
+    ex->bound = ex->fails = ex->shards = 0;
+    ex_learn_cells(true);
+    do {
+        run_once();
+        if (!runs)
+            ex->usual_steps = ex->steps ? ex->steps : 1;
+    } while (++runs < WARM_UP && !ex->unknown && ex_advance());
+    ex_learn_cells(false);
+    ex->is_reduced = is_reduced, ex->has_no_bound = has_no_bound, ex->is_coarse = is_coarse, ex->is_traced = is_traced, ex->wants_ends = wants_ends;
+    ex->fails = fails, ex->shards = shards;
     ex->kinds_count = 0;
-    ex->schedules = 0;
+    ex->schedules = ex->length = 0;
     ex->longest = 0;
+    ex->unknown = ex->full = NULL;
     memset(ex->counts, 0, sizeof ex->counts);
 }
 
 static void draw_runs(uint64_t seed, uint64_t runs)
 {
     double since = seconds();
-    if (ex->pct)
-        measure();
     ex->bound = UINT32_MAX;
-    for (uint64_t at = 0; at < runs; at++) {
+    for (uint64_t at = 0; at < runs && !ex->unknown; at++) {
         ex->seed = seed + at;
         ex->random = (seed + at) * 0x9e3779b97f4a7c15ULL | 1;
         if (ex->pct)
@@ -174,7 +185,7 @@ static void draw_runs(uint64_t seed, uint64_t runs)
 static int usage(const char *name)
 {
     fprintf(stderr,
-            "usage: %s [--bound N [--reduce] | --states] [--memory MB] [--fails N] [--fail-each] [--ends | --learn FILE | --expect-ends FILE] [--shard K/N] [--seed N [--runs N] [--pct N]] [--replay SCHEDULE [--trace]] [--dispatch none|data|all] [--allow KZ0000] [--quiet] SCENARIO\n",
+            "usage: %s [--bound N [--reduce] | --states] [--coarse] [--inline] [--memory MB] [--fails N] [--fail-each] [--ends | --learn FILE | --expect-ends FILE] [--shard K/N] [--seed N [--runs N] [--pct N]] [--replay SCHEDULE [--trace]] [--dispatch none|data|all] [--allow KZ0000] [--quiet] SCENARIO\n",
             name);
     return 2;
 }
@@ -232,6 +243,10 @@ static bool read_words(int count, char **words, Asked *asked)
             ex->is_quiet = true;
         else if (strcmp(words[at], "--strict") == 0)
             kz_be_strict(true);
+        else if (strcmp(words[at], "--coarse") == 0)
+            ex->is_coarse = true;
+        else if (strcmp(words[at], "--inline") == 0)
+            ex->has_inside = true;
         else if (strcmp(words[at], "--reduce") == 0)
             ex->is_reduced = true;
         else if (strcmp(words[at], "--states") == 0)
@@ -271,7 +286,7 @@ static int status(void)
         return 6;
     if (ex->counts[TOLD] || ex->counts[RACE])
         return 5;
-    return ex->full ? 4 : 0;
+    return ex->full || ex->unknown ? 4 : 0;
 }
 
 static int play(const char *replay)
@@ -316,8 +331,10 @@ int main(int count, char **words)
         ex->is_reduced = ex->has_no_bound = false;
     if (ex->is_reduced)
         ex_open_states();
+    kz_is_deaf = !ex->wants_ends && !ex->is_traced;
     ex_keep_stacks();
     ex_take_image();
+    warm_up();
     if (asked.replay)
         return play(asked.replay);
     if (asked.seed)

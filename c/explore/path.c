@@ -33,7 +33,7 @@ static unsigned follow(unsigned count, bool is_switch, int stays)
         siglongjmp(ex->out, 1);
     }
     if (ex->depth == ex->length) {
-        *node = (Node){(uint8_t)count, 0, is_switch, is_switch && ex->is_reduced ? node->key : 0};
+        *node = (Node){.count = (uint8_t)count, .is_switch = is_switch, .key = is_switch && ex->is_reduced ? node->key : 0, .able = ex->able, .place = (uint32_t)ex->schedule_length};
         ex->length++;
     } else if (node->count != count) {
         ex_found(CRASH, "NOT REPEATABLE: the same schedule came to another choice");
@@ -83,18 +83,18 @@ static void take_word(const char *word)
     ex->replay = word + strcspn(word, " ");
 }
 
-static unsigned play_again(unsigned count, bool is_switch, const int *clients)
+static unsigned play_again(unsigned count, Asks asks, const int *clients)
 {
     size_t length;
     unsigned times;
     const char *word = word_now(&length, &times);
-    bool is_fail = word_is(word, length, "fail");
     if (!*word)
         return 0;
-    if (!is_switch) {
-        if (is_fail)
+    if (asks != SWITCH) {
+        bool is_it = word_is(word, length, asks == ANSWER_INSIDE ? "inside" : "fail");
+        if (is_it)
             take_word(word);
-        return is_fail;
+        return is_it;
     }
     for (unsigned at = 0; at < count; at++)
         if (word_is(word, length, ex_runners[clients[at]].name)) {
@@ -143,10 +143,11 @@ static unsigned by_priority(unsigned count, const int *clients)
     return best;
 }
 
-unsigned ex_decide(unsigned count, bool is_switch, const int *clients, bool may_stay)
+unsigned ex_decide(unsigned count, Asks asks, const int *clients, bool may_stay)
 {
+    bool is_switch = asks == SWITCH;
     if (ex->replay)
-        return play_again(count, is_switch, clients);
+        return play_again(count, asks, clients);
     if (ex->seed && is_switch && ex->pct)
         return by_priority(count, clients);
     if (ex->seed)
@@ -158,7 +159,7 @@ unsigned ex_decide(unsigned count, bool is_switch, const int *clients, bool may_
 static size_t in_a_row(size_t at, size_t length)
 {
     size_t end = at + 1;
-    while (end < length && ex->schedule[end] == ex->schedule[at] && ex->schedule[at] != FAIL)
+    while (end < length && ex->schedule[end] == ex->schedule[at] && ex->schedule[at] < INSIDE)
         end++;
     return end - at;
 }
@@ -171,7 +172,7 @@ const char *ex_schedule_text(size_t length)
     for (size_t at = 0; at < length && used + 64 < size; at += count) {
         uint8_t client = ex->schedule[at];
         count = in_a_row(at, length);
-        used += (size_t)snprintf(text + used, size - used, at ? " %s" : "%s", client == FAIL ? "fail" : ex_runners[client].name);
+        used += (size_t)snprintf(text + used, size - used, at ? " %s" : "%s", client == FAIL ? "fail" : client == INSIDE ? "inside" : ex_runners[client].name);
         if (count > 1)
             used += (size_t)snprintf(text + used, size - used, "*%zu", count);
     }

@@ -15,7 +15,6 @@ static struct {
 } *states;
 
 /* As many as there is memory for; a table that is nearly full is slow. */
-
 void ex_open_states(void)
 {
     states = ex_map(sizeof *states);
@@ -83,7 +82,7 @@ static uint64_t said(void)
 static uint64_t key(int stays)
 {
     uint64_t rest = (uint64_t)ex->fails_used << 32 | (uint64_t)ex->timeouts << 8 | ex->is_limited;
-    uint64_t hash = ex_memory_hash() + 3 * ex_stacks_hash() + 5 * ex_clocks_hash() + 7 * said();
+    uint64_t hash = ex_memory_hash() + 3 * ex_stacks_hash() + 5 * ex_clocks_hash() + 7 * said() + 11 * ex_patience_hash();
     return ex_mixed(hash) + ex_mixed(rest + 1) + (ex->has_no_bound ? 0 : ex_mixed((uint64_t)stays + 2) * 3);
 }
 
@@ -95,12 +94,19 @@ static Known *find(uint64_t wanted)
     return &states->table[at];
 }
 
-/* The run comes back to where it was, and only by going on as it does where nothing else is chosen: it never ends. */
+/* The run comes back to where it was, only by going on as it does where nothing else is chosen, and each client that could go on all the time did: it never ends. */
 static bool is_loop(uint64_t wanted)
 {
-    for (size_t at = ex->depth; at > 0 && !ex->path[at - 1].taken; at--)
-        if (ex->path[at - 1].key == wanted)
-            return true;
+    uint32_t able = ex->able;
+    for (size_t at = ex->depth; at > 0 && !ex->path[at - 1].taken; at--) {
+        able &= ex->path[at - 1].able;
+        if (ex->path[at - 1].key != wanted)
+            continue;
+        for (size_t step = ex->path[at - 1].place; step < ex->schedule_length; step++)
+            if (ex->schedule[step] < INSIDE)
+                able &= ~(1U << ex->schedule[step]);
+        return !able;
+    }
     return false;
 }
 

@@ -290,6 +290,7 @@ typedef struct {
 } KzHost;
 
 extern KzHost kz;
+extern bool kz_is_deaf; /* nobody reads what requests and drivers say */
 
 /* host.c: events of a worker, and memory that must be there. */
 typedef struct {

@@ -677,8 +677,8 @@ typedef struct _KLOCK_QUEUE_HANDLE {
 } KLOCK_QUEUE_HANDLE, *PKLOCK_QUEUE_HANDLE;
 KZ_ASSERT(sizeof(FAST_MUTEX) == 0x38 && sizeof(ERESOURCE) == 0x68 && sizeof(KLOCK_QUEUE_HANDLE) == 0x18, "layout");
 
-/* How a lock is held: alone, shared, or alone again by the same owner. */
-enum { KZ_ALONE, KZ_SHARED, KZ_AGAIN, KZ_SHARED_AGAIN };
+/* How a lock is held: alone, shared, alone or shared again by the same owner; shared whoever waits for it alone, and shared only after those who do. */
+enum { KZ_ALONE, KZ_SHARED, KZ_AGAIN, KZ_SHARED_AGAIN, KZ_SHARED_FIRST, KZ_SHARED_LAST };
 VOID KzTake(PVOID Lock, int How, KIRQL Irql, PCSTR Call);
 VOID KzLetGo(PVOID Lock, PCSTR Call);
 VOID KzLetGoTo(PVOID Lock, KIRQL Irql, PCSTR Call);
@@ -782,6 +782,14 @@ BOOLEAN ExAcquireRundownProtection(PEX_RUNDOWN_REF RunRef);
 VOID ExReleaseRundownProtection(PEX_RUNDOWN_REF RunRef);
 VOID ExWaitForRundownProtectionRelease(PEX_RUNDOWN_REF RunRef);
 VOID ExRundownCompleted(PEX_RUNDOWN_REF RunRef);
+typedef struct _EX_RUNDOWN_REF_CACHE_AWARE *PEX_RUNDOWN_REF_CACHE_AWARE;
+PEX_RUNDOWN_REF_CACHE_AWARE ExAllocateCacheAwareRundownProtection(POOL_TYPE PoolType, ULONG PoolTag);
+VOID ExFreeCacheAwareRundownProtection(PEX_RUNDOWN_REF_CACHE_AWARE RunRefCacheAware);
+VOID ExReInitializeRundownProtectionCacheAware(PEX_RUNDOWN_REF_CACHE_AWARE RunRefCacheAware);
+BOOLEAN ExAcquireRundownProtectionCacheAware(PEX_RUNDOWN_REF_CACHE_AWARE RunRefCacheAware);
+VOID ExReleaseRundownProtectionCacheAware(PEX_RUNDOWN_REF_CACHE_AWARE RunRefCacheAware);
+VOID ExWaitForRundownProtectionReleaseCacheAware(PEX_RUNDOWN_REF_CACHE_AWARE RunRefCacheAware);
+VOID ExRundownCompletedCacheAware(PEX_RUNDOWN_REF_CACHE_AWARE RunRefCacheAware);
 
 /* ---- Memory descriptions. */
 typedef struct _EPROCESS *PEPROCESS, *PKPROCESS;

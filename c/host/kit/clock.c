@@ -15,6 +15,8 @@ static size_t timers_count;
 static unsigned waiters, fires_left;
 static PRKDPC dpcs[64];
 static size_t dpcs_count;
+static unsigned dpcs_running;
+static const int dpcs_ended; /* stands for what ended of them: whoever waits for it comes after */
 
 LONGLONG kz_first_time(void)
 {
@@ -140,6 +142,7 @@ BOOLEAN KeInsertQueueDpc(PRKDPC Dpc, PVOID SystemArgument1, PVOID SystemArgument
         kz_tell_of(Dpc, KZM_NEVER_MADE, __func__, "a DPC that was never initialized");
         return FALSE;
     }
+    kz_scheduler->touch(Dpc, 0, KZT_GIVES); /* also for one that is queued already: it runs after this call */
     if (Dpc->DpcData || dpcs_count == sizeof dpcs / sizeof dpcs[0])
         return FALSE;
     Dpc->SystemArgument1 = SystemArgument1;
@@ -148,7 +151,6 @@ BOOLEAN KeInsertQueueDpc(PRKDPC Dpc, PVOID SystemArgument1, PVOID SystemArgument
     if (!Dpc->DpcData)
         Dpc->DpcData = Dpc;
     dpcs[dpcs_count++] = Dpc;
-    kz_scheduler->touch(Dpc, 0, KZT_GIVES);
     return TRUE;
 }
 
@@ -159,6 +161,7 @@ BOOLEAN KeRemoveQueueDpc(PRKDPC Dpc)
         if (dpcs[at] == Dpc) {
             memmove(dpcs + at, dpcs + at + 1, (--dpcs_count - at) * sizeof dpcs[0]);
             Dpc->DpcData = NULL;
+            kz_scheduler->touch(Dpc, 0, KZT_TAKES);
             return TRUE;
         }
     return FALSE;
@@ -181,21 +184,40 @@ bool kz_run_dpc(void)
     PRKDPC dpc = dpcs[0];
     PFLT_FILTER filter = dpc->DpcData == dpc ? NULL : dpc->DpcData;
     KeRemoveQueueDpc(dpc);
+    dpcs_running++;
     KzPlace before = kz_enter(KZ_IN_TIMER, kz_worker(), filter, NULL, NULL, NULL);
     kz_call_at(DISPATCH_LEVEL);
-    kz_scheduler->touch(dpc, 0, KZT_TAKES);
     unsigned depth = kz_let_driver("timer", dpc->DeferredRoutine);
     dpc->DeferredRoutine(dpc, dpc->DeferredContext, dpc->SystemArgument1, dpc->SystemArgument2);
     kz_driver_returned(depth, "timer returns");
     kz_leave(before);
+    dpcs_running--;
+    kz.changes++;
+    kz_scheduler->touch(&dpcs_ended, 0, KZT_GIVES);
     return true;
 }
 
-VOID KeFlushQueuedDpcs(VOID)
+static void run_dpcs(void)
 {
-    KZ_INSIDE();
     while (kz_run_dpc())
         ;
+}
+
+static bool are_dpcs_over(void *unused)
+{
+    (void)unused;
+    return !dpcs_count && !dpcs_running;
+}
+
+/* Beside others it waits for those that are queued, and for those that run. */
+VOID KeFlushQueuedDpcs(VOID)
+{
+    KZ_CALL();
+    if (kz_has_others())
+        kz_wait(are_dpcs_over, NULL, "KeFlushQueuedDpcs, for what is queued or runs");
+    else
+        run_dpcs();
+    kz_scheduler->touch(&dpcs_ended, 0, KZT_TAKES);
 }
 
 /* ---- Timers. */
@@ -228,6 +250,7 @@ BOOLEAN KeCancelTimer(PKTIMER Timer)
 {
     KZ_CALL();
     check_made(&Timer->Header, "a timer", "KeCancelTimer");
+    kz_scheduler->touch(Timer, 0, KZT_TAKES);
     for (size_t at = 0; at < timers_count; at++)
         if (timers[at].timer == Timer) {
             memmove(timers + at, timers + at + 1, (--timers_count - at) * sizeof timers[0]);
@@ -257,6 +280,7 @@ BOOLEAN KeSetTimerEx(PKTIMER Timer, LARGE_INTEGER DueTime, LONG Period, PKDPC Dp
     Timer->Header.SignalState = 0;
     Timer->TimerListEntry.Flink = (PLIST_ENTRY)kz_me->place.filter;
     set_timer(Timer, &kz_me->place);
+    kz_scheduler->touch(Timer, 0, KZT_GIVES);
     return was_set;
 }
 
@@ -268,7 +292,8 @@ BOOLEAN KeSetTimer(PKTIMER Timer, LARGE_INTEGER DueTime, PKDPC Dpc)
 
 BOOLEAN KeReadStateTimer(PKTIMER Timer)
 {
-    KZ_INSIDE();
+    KZ_CALL();
+    kz_scheduler->touch(Timer, 0, KZT_TAKES);
     return Timer->Header.SignalState != 0;
 }
 
@@ -293,10 +318,11 @@ static void fire(PKTIMER timer)
 {
     PFLT_FILTER filter = (PFLT_FILTER)timer->TimerListEntry.Flink;
     KzPlace place = place_of(timer);
-    KeCancelTimer(timer);
+    KeCancelTimer(timer); /* after whoever set it */
     if ((LONGLONG)timer->DueTime.QuadPart > passed)
         passed = (LONGLONG)timer->DueTime.QuadPart;
     timer->Header.SignalState = 1;
+    kz_scheduler->touch(timer, 0, KZT_GIVES);
     if (timer->Period) {
         timer->DueTime.QuadPart += (ULONGLONG)timer->Period * MILLISECOND;
         set_timer(timer, &place);
@@ -323,7 +349,7 @@ static bool pass_to_next(LONGLONG until)
     if (!timer)
         return false;
     fire(timer);
-    KeFlushQueuedDpcs();
+    run_dpcs();
     return true;
 }
 
@@ -386,6 +412,7 @@ void kz_free_clock(void)
 {
     passed = 0;
     timers_count = dpcs_count = 0;
+    dpcs_running = 0;
     waiters = fires_left = 0;
 }
 
@@ -472,22 +499,19 @@ LONG KeReleaseMutex(PRKMUTEX Mutex, BOOLEAN Wait)
     return before;
 }
 
-/* Whether it doesn't have to be waited for; then it is taken. */
-static bool is_there(PDISPATCHER_HEADER object)
+/* It is signalled, and is taken. */
+static void take(PDISPATCHER_HEADER object, const char *call)
 {
     if (object->Type == MUTANT) {
-        KzTake(object, KZ_AGAIN, PASSIVE_LEVEL, "KeWaitForSingleObject");
+        KzTake(object, KZ_AGAIN, PASSIVE_LEVEL, call);
         object->SignalState = 0;
-        return true;
+        return;
     }
-    if (object->SignalState <= 0)
-        return false;
     kz_scheduler->touch(object, 0, KZT_TAKES);
     if (object->Type == SEMAPHORE)
         object->SignalState--;
     else if (object->Type == EVENT_RESETS || object->Type == TIMER_RESETS)
         object->SignalState = 0;
-    return true;
 }
 
 static LONGLONG units_of(PLARGE_INTEGER timeout)
@@ -495,10 +519,53 @@ static LONGLONG units_of(PLARGE_INTEGER timeout)
     return timeout->QuadPart <= 0 ? -timeout->QuadPart : timeout->QuadPart - BEGINS - passed;
 }
 
-static bool is_signalled(void *object)
+static bool is_signalled(const DISPATCHER_HEADER *object)
 {
-    PDISPATCHER_HEADER header = object;
-    return header->Type == MUTANT ? !kz_is_taken(object) : header->SignalState > 0;
+    return object->Type == MUTANT ? !kz_is_taken(object) : object->SignalState > 0;
+}
+
+/* What a client waits for: one of several objects, or all of them at once. */
+typedef struct {
+    ULONG count;
+    PVOID *objects;
+    bool is_all;
+    KzOp *op; /* whose cancelling ends the wait */
+    const char *call;
+} Awaited;
+
+static ULONG first_signalled(const Awaited *one)
+{
+    ULONG at = 0;
+    while (at < one->count && !is_signalled(one->objects[at]))
+        at++;
+    return at;
+}
+
+static bool are_signalled(const Awaited *one)
+{
+    ULONG signalled = 0;
+    for (ULONG at = 0; at < one->count; at++)
+        signalled += is_signalled(one->objects[at]);
+    return one->is_all ? signalled == one->count : signalled > 0;
+}
+
+static bool is_wait_over(void *awaited)
+{
+    const Awaited *one = awaited;
+    return (one->op && one->op->cancel.is_asked) || are_signalled(one);
+}
+
+/* Of several the first that is signalled, or all; a wait that was cancelled takes none. */
+static NTSTATUS take_awaited(const Awaited *one)
+{
+    if (one->op && one->op->cancel.is_asked) {
+        kz_scheduler->touch(&one->op->cancel, 0, KZT_TAKES);
+        return STATUS_CANCELLED;
+    }
+    ULONG first = one->is_all ? 0 : first_signalled(one), last = one->is_all ? one->count : first + 1;
+    for (ULONG at = first; at < last; at++)
+        take(one->objects[at], one->call);
+    return (NTSTATUS)first;
 }
 
 /* Timers fire while somebody waits: so many of them, since one that fires again and again need not end the wait. */
@@ -519,17 +586,16 @@ void kz_fire(void)
 }
 
 /* Beside other clients it waits for one of them, or for as long as it is to. */
-static NTSTATUS wait_for(PDISPATCHER_HEADER object, LONGLONG units)
+static NTSTATUS wait_beside(Awaited *one, LONGLONG units)
 {
     kz_me->timeout = units > 0 ? (uint64_t)(units / MILLISECOND) + 1 : 0;
     waiters++;
     fires_left = FIRES;
-    bool is_over = (kz_me->timeout && kz_scheduler->choose(2, KZ_CHOICE_TIME, "the time is over")) || !kz_wait(is_signalled, object, "KeWaitForSingleObject");
+    const char *which = one->count < 2 ? "" : one->is_all ? ", of all its objects" : ", of any of its objects";
+    bool is_late = (kz_me->timeout && kz_scheduler->choose(2, KZ_CHOICE_TIME, "the time is over")) || !kz_wait(is_wait_over, one, "%s%s", one->call, which);
     kz_me->timeout = 0;
     waiters--;
-    if (is_over)
-        return STATUS_TIMEOUT;
-    return is_there(object) ? STATUS_SUCCESS : STATUS_TIMEOUT;
+    return is_late ? STATUS_TIMEOUT : take_awaited(one);
 }
 
 /* Of these the kit's initialization is known; memory that was never initialized looks like one of them, or like nothing. */
@@ -557,55 +623,76 @@ static void tell_endless(const char *call)
     filter->gave_up = true; /* what it does behind it, it never does */
 }
 
-/* What else runs here, work items and timers, goes on meanwhile. */
+/* Alone it has what else is here go on, work items and timers, until it may go on itself. */
+static NTSTATUS wait_alone(Awaited *one, PLARGE_INTEGER timeout)
+{
+    while (kz_let_others())
+        if (is_wait_over(one))
+            return take_awaited(one);
+    for (LONGLONG until = timeout ? passed + units_of(timeout) : passed + 3600 * 1000 * MILLISECOND; pass_to_next(until);) {
+        while (kz_let_others())
+            ;
+        if (is_wait_over(one))
+            return take_awaited(one);
+    }
+    if (timeout)
+        pass(units_of(timeout));
+    else
+        tell_endless(one->call);
+    return STATUS_TIMEOUT;
+}
+
+static NTSTATUS wait_for(Awaited *one, PLARGE_INTEGER timeout)
+{
+    for (ULONG at = 0; at < one->count; at++)
+        if (is_known(one->objects[at]))
+            check_made(one->objects[at], "an object", one->call);
+    if (is_wait_over(one))
+        return take_awaited(one);
+    if (timeout && units_of(timeout) <= 0) {
+        kz_scheduler->looked(kz_me->place.from);
+        return STATUS_TIMEOUT;
+    }
+    if (KeGetCurrentIrql() > APC_LEVEL)
+        kz_tell(KZM_IRQL, one->call, "a wait at IRQL %u", KeGetCurrentIrql());
+    return kz_has_others() ? wait_beside(one, timeout ? units_of(timeout) : 0) : wait_alone(one, timeout);
+}
+
 NTSTATUS KeWaitForSingleObject(PVOID Object, KWAIT_REASON WaitReason, KPROCESSOR_MODE WaitMode, BOOLEAN Alertable, PLARGE_INTEGER Timeout)
 {
     KZ_CALL();
     (void)WaitReason, (void)WaitMode, (void)Alertable;
-    if (is_known(Object))
-        check_made(Object, "an object", __func__);
-    if (is_signalled(Object) && is_there(Object))
-        return STATUS_SUCCESS;
-    if (Timeout && units_of(Timeout) <= 0)
-        return STATUS_TIMEOUT;
-    if (KeGetCurrentIrql() > APC_LEVEL)
-        kz_tell(KZM_IRQL, __func__, "a wait at IRQL %u", KeGetCurrentIrql());
-    if (kz_has_others())
-        return wait_for(Object, Timeout ? units_of(Timeout) : 0);
-    while (kz_let_others())
-        if (is_there(Object))
-            return STATUS_SUCCESS;
-    for (LONGLONG until = Timeout ? passed + units_of(Timeout) : passed + 3600 * 1000 * MILLISECOND; pass_to_next(until);) {
-        while (kz_let_others())
-            ;
-        if (is_there(Object))
-            return STATUS_SUCCESS;
-    }
-    if (Timeout)
-        pass(units_of(Timeout));
-    else
-        tell_endless(__func__);
-    return STATUS_TIMEOUT;
+    return wait_for(&(Awaited){1, &Object, false, NULL, __func__}, Timeout);
+}
+
+/* The same, which the cancelling of the callback's operation ends. */
+NTSTATUS FltCancellableWaitForSingleObject(PVOID Object, PLARGE_INTEGER Timeout, PFLT_CALLBACK_DATA CallbackData)
+{
+    KZ_CALL();
+    return wait_for(&(Awaited){1, &Object, false, CallbackData ? kz_op_with(CallbackData) : NULL, __func__}, Timeout);
+}
+
+static NTSTATUS wait_for_several(ULONG count, PVOID *objects, WAIT_TYPE type, PLARGE_INTEGER timeout, KzOp *op, const char *call)
+{
+    if (!count || count > MAXIMUM_WAIT_OBJECTS)
+        return STATUS_INVALID_PARAMETER;
+    return wait_for(&(Awaited){count, objects, type != WaitAny, op, call}, timeout);
 }
 
 NTSTATUS KeWaitForMultipleObjects(ULONG Count, PVOID Object[], WAIT_TYPE WaitType, KWAIT_REASON WaitReason, KPROCESSOR_MODE WaitMode, BOOLEAN Alertable,
                                   PLARGE_INTEGER Timeout, PVOID WaitBlockArray)
 {
     KZ_CALL();
+    (void)WaitReason, (void)WaitMode, (void)Alertable, (void)WaitBlockArray;
+    return wait_for_several(Count, Object, WaitType, Timeout, NULL, __func__);
+}
+
+NTSTATUS FltCancellableWaitForMultipleObjects(ULONG Count, PVOID ObjectArray[], WAIT_TYPE WaitType, PLARGE_INTEGER Timeout, PVOID WaitBlockArray,
+                                              PFLT_CALLBACK_DATA CallbackData)
+{
+    KZ_CALL();
     (void)WaitBlockArray;
-    LARGE_INTEGER now = {.QuadPart = 0};
-    if (WaitType == WaitAny) {
-        for (ULONG at = 0; at < Count; at++)
-            if (KeWaitForSingleObject(Object[at], WaitReason, WaitMode, Alertable, &now) == STATUS_SUCCESS)
-                return (NTSTATUS)at;
-        return Count ? KeWaitForSingleObject(Object[0], WaitReason, WaitMode, Alertable, Timeout) : STATUS_INVALID_PARAMETER;
-    }
-    for (ULONG at = 0; at < Count; at++) {
-        NTSTATUS status = KeWaitForSingleObject(Object[at], WaitReason, WaitMode, Alertable, Timeout);
-        if (status != STATUS_SUCCESS)
-            return status;
-    }
-    return STATUS_SUCCESS;
+    return wait_for_several(Count, ObjectArray, WaitType, Timeout, CallbackData ? kz_op_with(CallbackData) : NULL, __func__);
 }
 
 static bool never(void *unused)

@@ -17,12 +17,17 @@ typedef struct {
 static Held *held;
 static size_t held_count, held_room;
 
-static Held *find(const void *lock)
+static Held *find_of(const void *lock, const KzClient *client)
 {
     for (size_t at = 0; at < held_count; at++)
-        if (held[at].lock == lock && held[at].client == kz_me)
+        if (held[at].lock == lock && held[at].client == client)
             return &held[at];
     return NULL;
+}
+
+static Held *find(const void *lock)
+{
+    return find_of(lock, kz_me);
 }
 
 /* Whether another client is in the way. */
@@ -34,18 +39,70 @@ static Held *other(const void *lock, KzClient *client, bool is_shared)
     return NULL;
 }
 
+/* Whether its owner may ask for it again. */
 static bool may_share(const Held *one, int how)
 {
-    if (how == KZ_SHARED_AGAIN)
-        return true;
-    if (how == KZ_AGAIN)
-        return !one->is_shared;
-    return how == KZ_SHARED && one->is_shared;
+    if (how == KZ_SHARED)
+        return one->is_shared;
+    return how == KZ_AGAIN ? !one->is_shared : how != KZ_ALONE;
 }
 
 static bool is_shared(int how)
 {
-    return how == KZ_SHARED || how == KZ_SHARED_AGAIN;
+    return how != KZ_ALONE && how != KZ_AGAIN;
+}
+
+/* ---- Who waits for a lock, in the order in which they came. */
+typedef struct Wanted {
+    struct Wanted *next;
+    PVOID lock;
+    KzClient *client;
+    int how;
+} Wanted;
+
+static Wanted *wanted;
+
+/* Whoever waits for the lock alone, and came before: no new reader goes past. An owner of a resource does, and who starves the others on purpose. */
+static const Wanted *before(const Wanted *reader)
+{
+    const Held *own = find_of(reader->lock, reader->client);
+    bool goes_first = reader->how == KZ_SHARED_FIRST || (own && reader->how == KZ_SHARED_AGAIN) || (own && !own->is_shared);
+    if (!is_shared(reader->how) || goes_first)
+        return NULL;
+    for (const Wanted *one = wanted; one && one != reader; one = one->next)
+        if (one->lock == reader->lock && !is_shared(one->how) && one->client != reader->client)
+            return one;
+    return NULL;
+}
+
+static bool is_free(void *asked)
+{
+    const Wanted *one = asked;
+    return !other(one->lock, one->client, is_shared(one->how)) && !before(one);
+}
+
+static void leave_line(Wanted *one)
+{
+    Wanted **at = &wanted;
+    while (*at && *at != one)
+        at = &(*at)->next;
+    if (*at)
+        *at = one->next;
+}
+
+static void wait_in_line(Wanted *one, const char *call)
+{
+    Wanted **at = &wanted;
+    while (*at)
+        at = &(*at)->next;
+    *at = one;
+    const Held *owner = other(one->lock, one->client, is_shared(one->how));
+    const Wanted *writer = before(one);
+    if (owner)
+        kz_wait(is_free, one, "%s of a lock that %s holds", call, owner->client->name);
+    else
+        kz_wait(is_free, one, "%s of a lock that %s waits for exclusively", call, writer->client->name);
+    leave_line(one);
 }
 
 static void add(Held one)
@@ -76,34 +133,23 @@ BOOLEAN KzTryTake(PVOID Lock, int How, KIRQL Irql, PCSTR Call)
 {
     KZ_CALL_OF(Call);
     Held *one = find(Lock);
-    if ((one && !may_share(one, How)) || other(Lock, kz_me, is_shared(How)))
+    if ((one && !may_share(one, How)) || !is_free(&(Wanted){.lock = Lock, .client = kz_me, .how = How})) {
+        kz_scheduler->looked(__builtin_return_address(0));
         return FALSE;
+    }
     note(Lock, How, Irql, Call);
     return TRUE;
-}
-
-typedef struct {
-    PVOID lock;
-    KzClient *client;
-    bool is_shared;
-} Wanted;
-
-static bool is_free(void *wanted)
-{
-    Wanted *one = wanted;
-    return !other(one->lock, one->client, one->is_shared);
 }
 
 VOID KzTake(PVOID Lock, int How, KIRQL Irql, PCSTR Call)
 {
     KZ_CALL_OF(Call);
     Held *one = find(Lock);
-    Wanted wanted = {Lock, kz_me, is_shared(How)};
-    if (one && !may_share(one, How)) {
+    Wanted asked = {.lock = Lock, .client = kz_me, .how = How};
+    if (one && !may_share(one, How))
         kz_tell(KZM_WAITS_FOR_EVER, Call, "the lock is held already, and by the same thread: it would wait for ever");
-    } else if (!is_free(&wanted)) {
-        kz_wait(is_free, &wanted, "%s of a lock that %s holds", Call, other(Lock, kz_me, wanted.is_shared)->client->name);
-    }
+    else if (!is_free(&asked))
+        wait_in_line(&asked, Call);
     note(Lock, How, Irql, Call);
 }
 
@@ -197,6 +243,7 @@ void kz_free_locks(void)
 {
     free(held);
     held = NULL;
+    wanted = NULL;
     held_count = held_room = 0;
 }
 
@@ -283,31 +330,32 @@ BOOLEAN ExAcquireResourceExclusiveLite(PERESOURCE Resource, BOOLEAN Wait)
     return TRUE;
 }
 
-static BOOLEAN take_shared(PERESOURCE Resource, BOOLEAN Wait, const char *call)
+/* One that isn't waited for is taken where the same call with a wait would be there at once. */
+static BOOLEAN take_shared(PERESOURCE Resource, BOOLEAN Wait, int how, const char *call)
 {
     check_resource(Resource, call);
     if (!Wait)
-        return KzTryTake(Resource, KZ_SHARED_AGAIN, PASSIVE_LEVEL, call);
-    KzTake(Resource, KZ_SHARED_AGAIN, PASSIVE_LEVEL, call);
+        return KzTryTake(Resource, how, PASSIVE_LEVEL, call);
+    KzTake(Resource, how, PASSIVE_LEVEL, call);
     return TRUE;
 }
 
 BOOLEAN ExAcquireResourceSharedLite(PERESOURCE Resource, BOOLEAN Wait)
 {
     KZ_CALL();
-    return take_shared(Resource, Wait, __func__);
+    return take_shared(Resource, Wait, KZ_SHARED_AGAIN, __func__);
 }
 
 BOOLEAN ExAcquireSharedStarveExclusive(PERESOURCE Resource, BOOLEAN Wait)
 {
     KZ_CALL();
-    return take_shared(Resource, Wait, __func__);
+    return take_shared(Resource, Wait, KZ_SHARED_FIRST, __func__);
 }
 
 BOOLEAN ExAcquireSharedWaitForExclusive(PERESOURCE Resource, BOOLEAN Wait)
 {
     KZ_CALL();
-    return take_shared(Resource, Wait, __func__);
+    return take_shared(Resource, Wait, KZ_SHARED_LAST, __func__);
 }
 
 VOID ExReleaseResourceLite(PERESOURCE Resource)
@@ -532,4 +580,45 @@ VOID ExRundownCompleted(PEX_RUNDOWN_REF RunRef)
 {
     KZ_CALL();
     RunRef->Count = 1;
+}
+
+/* The kit spreads the count of these over its processors: who is inside is the same. */
+PEX_RUNDOWN_REF_CACHE_AWARE ExAllocateCacheAwareRundownProtection(POOL_TYPE PoolType, ULONG PoolTag)
+{
+    KZ_CALL();
+    return ExAllocatePoolZero(PoolType, sizeof(EX_RUNDOWN_REF), PoolTag);
+}
+
+VOID ExFreeCacheAwareRundownProtection(PEX_RUNDOWN_REF_CACHE_AWARE RunRefCacheAware)
+{
+    KZ_CALL();
+    ExFreePool(RunRefCacheAware);
+}
+
+VOID ExReInitializeRundownProtectionCacheAware(PEX_RUNDOWN_REF_CACHE_AWARE RunRefCacheAware)
+{
+    ExReInitializeRundownProtection((PEX_RUNDOWN_REF)RunRefCacheAware);
+}
+
+BOOLEAN ExAcquireRundownProtectionCacheAware(PEX_RUNDOWN_REF_CACHE_AWARE RunRefCacheAware)
+{
+    KZ_CALL();
+    return ExAcquireRundownProtection((PEX_RUNDOWN_REF)RunRefCacheAware);
+}
+
+VOID ExReleaseRundownProtectionCacheAware(PEX_RUNDOWN_REF_CACHE_AWARE RunRefCacheAware)
+{
+    KZ_CALL();
+    ExReleaseRundownProtection((PEX_RUNDOWN_REF)RunRefCacheAware);
+}
+
+VOID ExWaitForRundownProtectionReleaseCacheAware(PEX_RUNDOWN_REF_CACHE_AWARE RunRefCacheAware)
+{
+    KZ_CALL();
+    ExWaitForRundownProtectionRelease((PEX_RUNDOWN_REF)RunRefCacheAware);
+}
+
+VOID ExRundownCompletedCacheAware(PEX_RUNDOWN_REF_CACHE_AWARE RunRefCacheAware)
+{
+    ExRundownCompleted((PEX_RUNDOWN_REF)RunRefCacheAware);
 }

@@ -1,4 +1,5 @@
 /* Operations that a filter holds go on: it completes what it pended, in any order and from anywhere. */
+#include "manager/below.h"
 #include "run/expect.h"
 
 void kz_resume(KzOp *op)
@@ -52,6 +53,23 @@ static bool resume_from(const char *call, KzOp *op, KazdrinEvent event)
     return status == KZS_OK;
 }
 
+/* As the kit may do it: the rest of an operation runs inside the call that completes it, and its own client has its answer. Where it goes on otherwise, that client carries it on. */
+static void carry_inside(KzOp *op)
+{
+    KzPlace before = kz_me->place;
+    uint8_t worker = kz_helper();
+    KzClient *runner = op->runner;
+    kz_me->place.worker = worker;
+    kz_carry(op);
+    op->runner = runner;
+    if (op->stage == KZ_GOES_ON)
+        op->stage = KZ_RESUMED;
+    kz.changes++;
+    kz_scheduler->touch(op, 0, KZT_GIVES);
+    kz_me->place = before;
+    kz_helped(worker);
+}
+
 VOID FltCompletePendedPreOperation(PFLT_CALLBACK_DATA CallbackData, FLT_PREOP_CALLBACK_STATUS CallbackStatus, PVOID Context)
 {
     KZ_CALL();
@@ -86,11 +104,13 @@ VOID FltCompletePendedPreOperation(PFLT_CALLBACK_DATA CallbackData, FLT_PREOP_CA
     kz_me->place = before;
     verdict.event = KZE_RESUME_PRE;
     PFLT_INSTANCE holder = op->holder;
-    if (resume_from(__func__, op, verdict)) {
-        resume(op);
-        if (!kz_owes(op, holder, &verdict))
-            kz_leave_flight(op, holder);
-    }
+    if (!resume_from(__func__, op, verdict))
+        return;
+    resume(op);
+    if (!kz_owes(op, holder, &verdict))
+        kz_leave_flight(op, holder);
+    if (op->runner && kz_scheduler->choose(2, KZ_CHOICE_INSIDE, __func__))
+        carry_inside(op);
 }
 
 VOID FltCompletePendedPostOperation(PFLT_CALLBACK_DATA CallbackData)

@@ -5,8 +5,20 @@
 
 #pragma GCC diagnostic ignored "-Wunused-parameter"
 
+/* Those that wait in the kit, or that end a wait: what follows comes in another order there. */
+static bool is_wait(const char *call)
+{
+    static const char *const waits[] = {"KePulseEvent", "KeInsertQueue", "KeRemoveQueue", "KeRundownQueue", "FsRtlProcessFileLock", "FltProcessFileLock", "FltOplockBreakH", "FltOplockBreakToNone"};
+    for (size_t at = 0; at < sizeof waits / sizeof waits[0]; at++)
+        if (strcmp(call, waits[at]) == 0)
+            return true;
+    return strstr(call, "Wait") != NULL;
+}
+
 static void tell(KzMessage message, const char *call, const char *answer)
 {
+    if (is_wait(call) && kz_has_others())
+        kz_tell(KZM_UNKNOWN_WAIT, call, "isn't modelled, and others may go on where it waits: what comes after it isn't told rightly");
     if (*answer)
         kz_tell(message, call, "isn't modelled: it answers %s", answer);
     else

@@ -155,30 +155,6 @@ NTSTATUS ObOpenObjectByPointer(PVOID Object, ULONG HandleAttributes, PVOID Passe
     return STATUS_NOT_SUPPORTED;
 }
 
-/* A wait of an operation's callback, which its cancelling ends. */
-typedef struct {
-    KzOp *op;
-    PDISPATCHER_HEADER object;
-} Wait;
-
-static bool is_over(void *given)
-{
-    const Wait *wait = given;
-    return (wait->op && wait->op->cancel.is_asked) || wait->object->SignalState > 0;
-}
-
-NTSTATUS FltCancellableWaitForSingleObject(PVOID Object, PLARGE_INTEGER Timeout, PFLT_CALLBACK_DATA CallbackData)
-{
-    KZ_CALL();
-    Wait wait = {CallbackData ? kz_op_with(CallbackData) : NULL, Object};
-    LARGE_INTEGER now = {.QuadPart = 0};
-    if (!Timeout && wait.op && kz_has_others())
-        kz_wait(is_over, &wait, "FltCancellableWaitForSingleObject");
-    if (wait.op && wait.op->cancel.is_asked)
-        return STATUS_CANCELLED;
-    return KeWaitForSingleObject(Object, Executive, KernelMode, FALSE, !Timeout && wait.op && kz_has_others() ? &now : Timeout);
-}
-
 void kz_free_sections(void)
 {
     while (sections) {

@@ -11,6 +11,7 @@
 
 KzHost kz;
 int kz_is_quiet;
+bool kz_is_deaf;
 
 uint8_t kz_worker(void)
 {
@@ -114,7 +115,7 @@ void *kz_memory(size_t size)
 void kz_say(KzKind kind, const char *format, ...)
 {
     char text[1024];
-    if (kz_is_quiet)
+    if (kz_is_quiet || kz_is_deaf)
         return;
     va_list arguments;
     va_start(arguments, format);

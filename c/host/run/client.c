@@ -191,6 +191,11 @@ static void touch_nothing(const void *object, size_t size, KzTouch how)
     (void)object, (void)size, (void)how;
 }
 
+static void look_at_nothing(const void *from)
+{
+    (void)from;
+}
+
 static unsigned choose_as_asked(unsigned count, KzChoice what, const char *name)
 {
     (void)count, (void)name;
@@ -225,4 +230,4 @@ void kz_print(const KzSaid *said)
     }
 }
 
-const KzScheduler kz_in_order = {pass_point, wait_in_order, touch_nothing, choose_as_asked, kz_begin_thread, kz_let_thread, nothing, nothing, kz_print, false, true};
+const KzScheduler kz_in_order = {pass_point, wait_in_order, touch_nothing, look_at_nothing, choose_as_asked, kz_begin_thread, kz_let_thread, nothing, nothing, kz_print, false, true};

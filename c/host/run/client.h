@@ -62,6 +62,8 @@ typedef struct {
     /* It can't go on, and waits for what is named until it can. False: nobody brings that about, or its time is over. */
     bool (*wait)(KzCan *can, void *what, KzWaits why, const char *text);
     void (*touch)(const void *object, size_t size, KzTouch how);
+    /* It tried for something in vain, and doesn't wait: code that does so again and again lets others go first. */
+    void (*looked)(const void *from);
     /* Which of so many answers the call gets; 0 is the usual one. The name is for people. */
     unsigned (*choose)(unsigned count, KzChoice what, const char *name);
     /* A thread beside the requests begins; one goes on until it waits, where it can, beside a client that waits for nobody: in order, and before and behind a run of the explorer. */

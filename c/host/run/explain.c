@@ -126,6 +126,7 @@ static const Meaning meanings[] = {
     {KZM_ATTACH, "attaching, detaching, loading and information by a driver's own call", "it is done", "use the requests `attach`, `detach` and `load`"},
     {KZM_DEVICE, "a driver has the IRPs of its own device alone: it makes none, sends none on, and queues none", "it may", "nothing: that part can't be tried"},
     {KZM_LEFT_OUT, "a `return`, a `goto` or a `break` left a `try` block, and its `finally` block isn't run", "it is run", "use `leave`, which the kit advises too"},
+    {KZM_UNKNOWN_WAIT, "a routine that isn't modelled waits in the kit, and others may go on meanwhile: a search ends here", "it waits", "wait for an event, or leave that part out of the scenario"},
     {KZM_MARKED_CLEANUP, "a file that is marked to be deleted is gone for its filters once a cleanup of it begins: it answers STATUS_FILE_DELETED", "so once the file system has done the last cleanup", "read it before its cleanup"},
     {KZM_NOT_MODELLED, "another routine that isn't modelled; the line says which, and what it answers", "it is done", "nothing: that part can't be tried"},
     {KZM_FILE_LOCK, "locks on ranges of files", "they are there", "nothing: that part can't be tried"},

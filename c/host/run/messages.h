@@ -124,6 +124,7 @@ typedef enum {
     KZM_ATTACH = 244,
     KZM_DEVICE = 245,
     KZM_LEFT_OUT = 246,
+    KZM_UNKNOWN_WAIT = 247,
     /* A driver's own input and output, its programs and threads. */
     KZM_MARKED_CLEANUP = 250,
     /* What isn't modelled. */

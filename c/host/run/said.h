@@ -33,7 +33,7 @@ typedef struct {
 #define KZ_OPERATION "operation " KZ_MARK "%llu" KZ_MARK
 
 /* Of what a call asks how it is answered. */
-typedef enum { KZ_CHOICE_DEVICE, KZ_CHOICE_POOL, KZ_CHOICE_CONTEXT, KZ_CHOICE_NAME, KZ_CHOICE_TIME } KzChoice;
+typedef enum { KZ_CHOICE_DEVICE, KZ_CHOICE_POOL, KZ_CHOICE_CONTEXT, KZ_CHOICE_NAME, KZ_CHOICE_TIME, KZ_CHOICE_INSIDE } KzChoice;
 
 /* Why a client waits: as it would in the kit, or since our teardown doesn't go on beside a work item. Who is stuck by that isn't so on Windows. */
 typedef enum { KZ_WAITS_AS_THERE, KZ_WAITS_FOR_US } KzWaits;

@@ -134,6 +134,11 @@ static unsigned choose(unsigned count, KzChoice what, const char *name)
     return 0;
 }
 
+static void looked(const void *from)
+{
+    (void)from;
+}
+
 /* It doesn't begin before it is given the turn: there all have it. */
 static bool let(KzThread *thread)
 {
@@ -141,7 +146,7 @@ static bool let(KzThread *thread)
     return false;
 }
 
-const KzScheduler kz_threads = {point, wait, touch, choose, kz_begin_thread, let, lock, unlock, kz_print, true, true};
+const KzScheduler kz_threads = {point, wait, touch, looked, choose, kz_begin_thread, let, lock, unlock, kz_print, true, true};
 
 void kz_use_threads(uint64_t number)
 {

@@ -12,14 +12,22 @@ timeless() {
     sed 's/, [0-9.]* s, /, /'
 }
 
+# The words of a scenario, but for those of its search.
+words_of() {
+    sed -n 's/^# words: //p' "$1"
+}
+other_words_of() {
+    words_of "$1" | sed -E 's/--bound [0-9]+//; s/--fail-each//; s/--ends//'
+}
+
 # Plays each schedule that is named in a report again: it ends as the search did, and shows the same.
 play() {
     local schedule count=0
     while read -r schedule; do
-        "$room/$1" --trace --replay "$schedule" "$scenarios/$1.txt" > "$room/played" 2>&1
+        "$room/$1" $(other_words_of "$scenarios/$1.txt") --trace --replay "$schedule" "$scenarios/$1.txt" > "$room/played" 2>&1
         [ $? = "$2" ] || { echo "$1: '$schedule' ends otherwise"; return 1; }
         count=$((count + 1))
-    done < <(sed -n "s/^  --replay '\(.*\)'/\1/p" "$room/$1.out")
+    done < <(sed -n "s/^  --replay '\([^']*\)'.*/\1/p" "$room/$1.out")
     [ "$count" -gt 0 ]
 }
 # What a search found, each kind in a line, without the numbers and names in which two schedules differ.
@@ -44,7 +52,7 @@ for scenario in $scenarios/*.txt; do
     [ -f "$schedules/$name.c" ] || continue
     status=$(cat "$tests/expected/explore-$name.status" 2> /dev/null || sed -n 's/^# status: //p' "$scenario" | grep . || echo 0)
     build "$name" --explore "$room/$name" "$schedules/$name.c"
-    "$room/$name" $(sed -n 's/^# words: //p' "$scenario") "$scenario" 2>&1 > "$room/$name.whole"
+    "$room/$name" $(words_of "$scenario") "$scenario" 2>&1 > "$room/$name.whole"
     ended=$?
     timeless < "$room/$name.whole" > "$room/$name.out"
     # Where nothing is stored, the scenario says what is found.
@@ -54,8 +62,9 @@ for scenario in $scenarios/*.txt; do
         [ $ended = "$status" ] && grep -q "^    $(sed -n 's/^# finds: //p' "$scenario")" "$room/$name.out" || { cat "$room/$name.out"; false; }
     fi
     tell $? "$name"
+    [ "$status" != 4 ] || continue
     case "$name" in polls) ways="--reduce" ;; *) ways="--reduce --states" ;; esac
-    words="--bound 3 $(sed -n 's/^# words: --fail-each/--fails 1/p' "$scenario")"
+    words="--bound 3 $(other_words_of "$scenario") $(words_of "$scenario" | grep -q -e --fail-each && echo --fails 1)"
     "$room/$name" --ends $words "$scenario" > "$room/plain"
     kinds "$room/plain" > "$room/kinds"
     reduce "$name" "$words" "$scenario" $ways
@@ -63,6 +72,14 @@ for scenario in $scenarios/*.txt; do
     grep -q -e --replay "$room/$name.out" || continue
     play "$name" "$status"
     tell $? "$name, played again,"
+    # The points at memory find more, and nothing less.
+    grep -q -e --coarse "$scenario" || continue
+    words=$(words_of "$scenario" | sed 's/--coarse//')
+    "$room/$name" $words "$scenario" > "$room/fine"
+    kinds "$room/fine" > "$room/fine.kinds"
+    kinds "$room/$name.out" | comm -23 - "$room/fine.kinds" | grep . && false
+    [ $? = 1 ]
+    tell $? "$name with points at memory"
 done
 
 # Whatever a driver prints: what happened is no text. The same ends are found under each of these words, and nothing is told.
@@ -75,7 +92,7 @@ sed "s/settwice/says/" $scenarios/settwice.txt > "$room/says.txt"
 for words in 'stream: > %d' 'contexts born %d' 'TOLD KZ0999 %d' 'LIMIT KZ0211 %d' ' info %d bytes ' 'CRASH %d'; do
     sed "s/a stream had %d creates/$words/" "$schedules/settwice.c" > "$room/says.c"
     build "a driver that prints '$words'" --explore "$room/says" "$room/says.c"
-    "$room/says" --ends "$room/says.txt" > "$room/says.out" && [ "$(grep -c "^    END" "$room/says.out")" = 5 ] && schedules_of "$room/says.out" | diff "$room/counts" - &&
+    "$room/says" --coarse --ends "$room/says.txt" > "$room/says.out" && [ "$(grep -c "^    END" "$room/says.out")" = 5 ] && schedules_of "$room/says.out" | diff "$room/counts" - &&
         diff <(grep '^bound' "$room/settwice.out") <(timeless < "$room/says.out" | grep '^bound')
     tell $? "a driver that prints '$words'"
 done

@@ -1,6 +1,7 @@
 #!/usr/bin/env bash
-# Right drivers: nothing is told of those in c/tests/legal, in order, under every schedule of a scenario with at most one preemption, and by threads. Requests and a scenario of a driver's own
-# stand beside it (NAME.txt, NAME.scenario); else it gets those of all samples.
+# Right drivers: nothing is told of those in c/tests/legal by any scheduler: in order, by threads, under every schedule of a scenario with at most one preemption, with operations that go on inside
+# their completion, and under schedules that are drawn by a coin and by priorities. Those with a scenario of their own are searched without a bound too. Requests and a scenario of a driver's own stand beside it (NAME.txt, NAME.scenario); else it
+# gets those of all samples.
 set -u
 . "$(dirname "$0")/tally.sh" legal
 for driver in $tests/legal/*.c; do
@@ -22,5 +23,11 @@ for driver in $tests/legal/*.c; do
     build "$name" --explore "$room/$name.explore" "$driver"
     "$room/$name.explore" --bound 1 "$room/scenario" > "$room/out" || { cat "$room/out"; false; }
     tell $? "$name under every schedule"
+    ways=("--inline --bound 1" "--seed 1 --runs 300" "--seed 1 --runs 300 --pct 3")
+    [ ! -f "$tests/legal/$name.scenario" ] || ways+=("--states")
+    for way in "${ways[@]}"; do
+        timeout 10 "$room/$name.explore" $way "$room/scenario" > "$room/out" || [ $? = 124 ] || { cat "$room/out"; false; }
+        tell $? "$name under $way"
+    done
 done
 finish

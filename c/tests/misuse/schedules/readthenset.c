@@ -1,0 +1,31 @@
+/* A counter is read, and one more is set by an interlocked exchange: that is no increment. */
+#include "small.h"
+
+static volatile LONG gReads;
+static LONG gChecked;
+
+static FLT_PREOP_CALLBACK_STATUS PreRead(PFLT_CALLBACK_DATA Data, PCFLT_RELATED_OBJECTS FltObjects, PVOID *CompletionContext)
+{
+    UNREFERENCED_PARAMETER(Data);
+    UNREFERENCED_PARAMETER(FltObjects);
+    UNREFERENCED_PARAMETER(CompletionContext);
+    InterlockedIncrement(&gChecked);
+    InterlockedExchange(&gReads, gReads + 1);
+    return FLT_PREOP_SUCCESS_NO_CALLBACK;
+}
+
+static VOID TeardownStart(PCFLT_RELATED_OBJECTS FltObjects, FLT_INSTANCE_TEARDOWN_FLAGS Reason)
+{
+    UNREFERENCED_PARAMETER(FltObjects);
+    UNREFERENCED_PARAMETER(Reason);
+    NT_ASSERT(gReads == gChecked);
+}
+
+static const FLT_OPERATION_REGISTRATION Operations[] = {{IRP_MJ_READ, 0, PreRead}, {IRP_MJ_OPERATION_END}};
+
+NTSTATUS DriverEntry(PDRIVER_OBJECT DriverObject, PUNICODE_STRING RegistryPath)
+{
+    UNREFERENCED_PARAMETER(RegistryPath);
+    gReads = gChecked = 0;
+    return Register(DriverObject, Operations, NULL, TeardownStart);
+}

@@ -61,8 +61,6 @@ KZ_ROUTINE(NTSTATUS, STATUS_NOT_SUPPORTED, OWN_IO, FltFastIoPrepareMdlWrite, PFL
 KZ_ROUTINE(NTSTATUS, STATUS_NOT_SUPPORTED, OWN_IO, FltFastIoMdlWriteComplete, PFLT_INSTANCE InitiatingInstance, PFILE_OBJECT FileObject, PLARGE_INTEGER FileOffset, PMDL MdlChain)
 KZ_ROUTINE(NTSTATUS, STATUS_NOT_SUPPORTED, OWN_IO, FltQueryInformationByName, PFLT_FILTER Filter, PFLT_INSTANCE Instance, POBJECT_ATTRIBUTES ObjectAttributes, PIO_STATUS_BLOCK IoStatusBlock,
            PVOID FileInformation, ULONG Length, FILE_INFORMATION_CLASS FileInformationClass, PIO_DRIVER_CREATE_CONTEXT DriverContext)
-KZ_ROUTINE(NTSTATUS, STATUS_NOT_SUPPORTED, OWN_IO, FltQueryDirectoryFileEx, PFLT_INSTANCE Instance, PFILE_OBJECT FileObject, PVOID FileInformation, ULONG Length,
-           FILE_INFORMATION_CLASS FileInformationClass, ULONG QueryFlags, PUNICODE_STRING FileName, PULONG LengthReturned)
 KZ_ROUTINE(NTSTATUS, STATUS_NOT_SUPPORTED, OWN_IO, FltQueryQuotaInformationFile, PFLT_INSTANCE Instance, PFILE_OBJECT FileObject, PIO_STATUS_BLOCK IoStatusBlock, PVOID Buffer, ULONG Length,
            BOOLEAN ReturnSingleEntry, PVOID SidList, ULONG SidListLength, PSID StartSid, BOOLEAN RestartScan, PULONG LengthReturned)
 KZ_ROUTINE(NTSTATUS, STATUS_NOT_SUPPORTED, OWN_IO, FltSetQuotaInformationFile, PFLT_INSTANCE Instance, PFILE_OBJECT FileObject, PVOID Buffer, ULONG Length)

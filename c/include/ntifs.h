@@ -551,6 +551,7 @@ typedef enum _TOKEN_INFORMATION_CLASS {
 } TOKEN_INFORMATION_CLASS, *PTOKEN_INFORMATION_CLASS;
 BOOLEAN RtlValidSid(PSID Sid);
 ULONG RtlLengthSid(PSID Sid);
+ULONG RtlLengthSecurityDescriptor(PSECURITY_DESCRIPTOR SecurityDescriptor);
 BOOLEAN RtlEqualSid(PSID Sid1, PSID Sid2);
 NTSTATUS RtlCopySid(ULONG DestinationSidLength, PSID DestinationSid, PSID SourceSid);
 NTSTATUS RtlConvertSidToUnicodeString(PUNICODE_STRING UnicodeString, PSID Sid, BOOLEAN AllocateDestinationString);

@@ -20,6 +20,12 @@ bool kz_is_pending(const KzNode *node)
     return node->is_marked || (node->is_marked_there && !node->is_kept);
 }
 
+bool kz_marks_by_itself(const KzFile *file)
+{
+    const KzNode *node = file && file->name ? file->name->node : NULL;
+    return !node || (!node->is_directory && node->links == 1 && !file->name->is_gone && !(node->attributes & FILE_ATTRIBUTE_READONLY));
+}
+
 static NTSTATUS keep(KzFile *file)
 {
     KzNode *node = file->name->node;

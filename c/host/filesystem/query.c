@@ -30,6 +30,18 @@ void kz_show_standard(const KzFile *file, FILE_STANDARD_INFORMATION *to)
     to->Directory = node->is_directory;
 }
 
+/* The size is the manager's. */
+void kz_show_size(const KzFile *file, uint64_t size, FILE_STANDARD_INFORMATION *to)
+{
+    memset(to, 0, sizeof *to);
+    to->NumberOfLinks = 1;
+    if (file->name)
+        kz_show_standard(file, to);
+    to->EndOfFile.QuadPart = (LONGLONG)size;
+    if (!file->name || to->AllocationSize.QuadPart < (LONGLONG)size)
+        to->AllocationSize.QuadPart = (LONGLONG)kz_allocated(file->volume, size);
+}
+
 void kz_show_network(const KzNode *node, FILE_NETWORK_OPEN_INFORMATION *to)
 {
     memset(to, 0, sizeof *to);

@@ -96,6 +96,8 @@ void kz_count_no_open(KzFile *file); /* it failed after all, or its handle was d
 void kz_begin_cleanup(KzFile *file);
 void kz_end_cleanup(KzFile *file);
 void kz_note_mark(KzFile *file);
+/* Whether a deletion of the file is the manager's alone: the file system here has no word in it. */
+bool kz_marks_by_itself(const KzFile *file);
 /* Whether it is marked to go. */
 bool kz_is_pending(const KzNode *node);
 

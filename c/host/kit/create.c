@@ -1,6 +1,8 @@
 /* Files that a driver opens by itself, and its handles of them and of other objects. */
 #include "manager/below.h"
 
+#include "filesystem/tree.h"
+
 #include <stdlib.h>
 
 typedef struct Handle {
@@ -100,7 +102,7 @@ static NTSTATUS name_of(POBJECT_ATTRIBUTES attributes, Named *named)
         *named = (Named){.volume = kz_volume_named(name, &rest)};
     if (!named->volume)
         return STATUS_OBJECT_PATH_NOT_FOUND;
-    const char *begins = root && *root->path ? root->path : "";
+    const char *begins = root ? kz_name_now(root) : "";
     rest += *rest == '/';
     int length = snprintf(named->path, sizeof named->path, "%s%s%s", begins, *begins && *rest ? "/" : "", rest);
     return length < (int)sizeof named->path ? STATUS_SUCCESS : STATUS_OBJECT_NAME_INVALID;
@@ -113,6 +115,7 @@ typedef struct {
     ULONG disposition, options;
     const char *call, *closed_by;
     PECP_LIST ecps;
+    bool is_directory;
 } Wanted;
 
 static bool is_emptied(ULONG disposition)
@@ -140,8 +143,10 @@ static void finish_create(KzFile *file, const Wanted *wanted)
     const KzOwn unheard = {.is_unheard = true, .is_waited_for = true};
     if (is_emptied(wanted->disposition))
         kz_below(&unheard, file, (KazdrinEvent){.event = KZE_SET_SIZE, .handle = file->handle}, "", 0);
-    if (wanted->options & FILE_DELETE_ON_CLOSE)
+    if (wanted->options & FILE_DELETE_ON_CLOSE && kz_marks_by_itself(file))
         kz_below(&unheard, file, (KazdrinEvent){.event = KZE_SET_DELETE, .handle = file->handle}, "", 0);
+    else if (wanted->options & FILE_DELETE_ON_CLOSE)
+        kz_dispose(file, FILE_DISPOSITION_DELETE);
 }
 
 /* A create that is begun for the driver, and the file that it opened, which has one user more. */
@@ -155,9 +160,10 @@ static KzAnswer begin(void *given, KazdrinEvent asked, const char *path)
     Opening *opening = given;
     PFLT_INSTANCE instance = opening->wanted->instance;
     const KzOwn own = {.initiator = instance, .is_waited_for = true, .ecps = opening->wanted->ecps};
+    bool is_directory = opening->wanted->is_directory;
     if (instance && instance->volume->id != asked.volume)
         return (KzAnswer){.reply.status = KZS_BAD_PATH, .other = STATUS_MOUNT_POINT_NOT_RESOLVED};
-    KzFile *file = kz_new_file(kz.volumes[asked.volume], path, false);
+    KzFile *file = kz_new_file(kz.volumes[asked.volume], path, is_directory);
     file->users++;
     file->is_own = true;
     file->opener = instance;
@@ -168,23 +174,54 @@ static KzAnswer begin(void *given, KazdrinEvent asked, const char *path)
     return answer;
 }
 
-static NTSTATUS create(const Wanted *wanted, KzFile **made)
+/* A create that doesn't say what it opens opens a directory where there is one. */
+static bool opens_directory(const Wanted *wanted, const Named *named)
+{
+    if (wanted->options & (FILE_DIRECTORY_FILE | FILE_NON_DIRECTORY_FILE))
+        return wanted->options & FILE_DIRECTORY_FILE;
+    KzName *name = kz_take_name(named->volume, named->path);
+    bool is_directory = name && kz_is_there(name) && name->node->is_directory;
+    kz_let_go_name(name);
+    return is_directory;
+}
+
+/* By its number, which is what stands in the place of its name. */
+static NTSTATUS name_by_id(const Wanted *wanted, Named *named)
+{
+    ULONGLONG id;
+    PCUNICODE_STRING said = wanted->attributes ? wanted->attributes->ObjectName : NULL;
+    if (!said || said->Length != sizeof id || !wanted->instance)
+        return STATUS_INVALID_PARAMETER;
+    memcpy(&id, said->Buffer, sizeof id);
+    for (const KzName *one = kz_first_name(); one; one = one->next)
+        if (!one->is_gone && one->volume == wanted->instance->volume && one->node->exists && one->node->id == id) {
+            named->volume = one->volume;
+            memcpy(named->path, one->text, sizeof named->path);
+            return STATUS_SUCCESS;
+        }
+    return STATUS_INVALID_PARAMETER;
+}
+
+static NTSTATUS create(const Wanted *asked, KzFile **made)
 {
     Named named;
-    NTSTATUS status = name_of(wanted->attributes, &named);
+    Wanted one = *asked;
+    const Wanted *wanted = &one;
+    NTSTATUS status = wanted->options & FILE_OPEN_BY_FILE_ID ? name_by_id(wanted, &named) : name_of(wanted->attributes, &named);
     if (!NT_SUCCESS(status))
         return status;
+    one.is_directory = opens_directory(wanted, &named);
     if (wanted->instance && wanted->instance->volume != named.volume)
         return STATUS_INVALID_DEVICE_OBJECT_PARAMETER;
     if (wanted->disposition > FILE_OVERWRITE_IF)
         return STATUS_INVALID_PARAMETER;
-    if (wanted->options & (FILE_DIRECTORY_FILE | FILE_OPEN_BY_FILE_ID) || !*named.path) {
-        kz_tell(KZM_OWN_IO, wanted->call, "a directory, a volume, or a file by its number: it answers STATUS_NOT_SUPPORTED");
+    if (!*named.path && !one.is_directory) {
+        kz_tell(KZM_OWN_IO, wanted->call, "a volume: it answers STATUS_NOT_SUPPORTED");
         return STATUS_NOT_SUPPORTED;
     }
     Opening opening = {wanted, NULL};
-    KazdrinEvent asked = {.event = KZE_CREATE, .volume = named.volume->id, .mode = mode_of(wanted->disposition)};
-    status = kz_status_of(kz_follow(begin(&opening, asked, named.path), &opening, begin));
+    KazdrinEvent event = {.event = KZE_CREATE, .volume = named.volume->id, .mode = mode_of(wanted->disposition)};
+    status = kz_status_of(kz_follow(begin(&opening, event, named.path), &opening, begin));
     if (NT_SUCCESS(status)) {
         finish_create(opening.file, wanted);
         *made = opening.file;
@@ -222,7 +259,7 @@ NTSTATUS FltCreateFileEx2(PFLT_FILTER Filter, PFLT_INSTANCE Instance, PHANDLE Fi
     KZ_CALL();
     (void)Filter, (void)DesiredAccess, (void)AllocationSize, (void)FileAttributes, (void)ShareAccess, (void)EaBuffer, (void)EaLength, (void)Flags;
     PECP_LIST ecps = DriverContext ? DriverContext->ExtraCreateParameter : NULL;
-    const Wanted wanted = {Instance, ObjectAttributes, CreateDisposition, CreateOptions, __func__, "FltClose", ecps};
+    const Wanted wanted = {Instance, ObjectAttributes, CreateDisposition, CreateOptions, __func__, "FltClose", ecps, false};
     return open_file(&wanted, FileHandle, FileObject, IoStatusBlock);
 }
 
@@ -232,7 +269,7 @@ NTSTATUS FltCreateFileEx(PFLT_FILTER Filter, PFLT_INSTANCE Instance, PHANDLE Fil
 {
     KZ_CALL();
     (void)Filter, (void)DesiredAccess, (void)AllocationSize, (void)FileAttributes, (void)ShareAccess, (void)EaBuffer, (void)EaLength, (void)Flags;
-    const Wanted wanted = {Instance, ObjectAttributes, CreateDisposition, CreateOptions, __func__, "FltClose", NULL};
+    const Wanted wanted = {Instance, ObjectAttributes, CreateDisposition, CreateOptions, __func__, "FltClose", NULL, false};
     return open_file(&wanted, FileHandle, FileObject, IoStatusBlock);
 }
 
@@ -242,7 +279,7 @@ NTSTATUS FltCreateFile(PFLT_FILTER Filter, PFLT_INSTANCE Instance, PHANDLE FileH
 {
     KZ_CALL();
     (void)Filter, (void)DesiredAccess, (void)AllocationSize, (void)FileAttributes, (void)ShareAccess, (void)EaBuffer, (void)EaLength, (void)Flags;
-    const Wanted wanted = {Instance, ObjectAttributes, CreateDisposition, CreateOptions, __func__, "FltClose", NULL};
+    const Wanted wanted = {Instance, ObjectAttributes, CreateDisposition, CreateOptions, __func__, "FltClose", NULL, false};
     return open_file(&wanted, FileHandle, NULL, IoStatusBlock);
 }
 
@@ -252,7 +289,7 @@ NTSTATUS ZwCreateFile(PHANDLE FileHandle, ACCESS_MASK DesiredAccess, POBJECT_ATT
 {
     KZ_CALL();
     (void)DesiredAccess, (void)AllocationSize, (void)FileAttributes, (void)ShareAccess, (void)EaBuffer, (void)EaLength;
-    const Wanted wanted = {NULL, ObjectAttributes, CreateDisposition, CreateOptions, __func__, "ZwClose", NULL};
+    const Wanted wanted = {NULL, ObjectAttributes, CreateDisposition, CreateOptions, __func__, "ZwClose", NULL, false};
     return open_file(&wanted, FileHandle, NULL, IoStatusBlock);
 }
 
@@ -261,14 +298,14 @@ NTSTATUS ZwOpenFile(PHANDLE FileHandle, ACCESS_MASK DesiredAccess, POBJECT_ATTRI
 {
     KZ_CALL();
     (void)DesiredAccess, (void)ShareAccess;
-    const Wanted wanted = {NULL, ObjectAttributes, FILE_OPEN, OpenOptions, __func__, "ZwClose", NULL};
+    const Wanted wanted = {NULL, ObjectAttributes, FILE_OPEN, OpenOptions, __func__, "ZwClose", NULL, false};
     return open_file(&wanted, FileHandle, NULL, IoStatusBlock);
 }
 
 NTSTATUS ZwDeleteFile(POBJECT_ATTRIBUTES ObjectAttributes)
 {
     KZ_CALL();
-    const Wanted wanted = {NULL, ObjectAttributes, FILE_OPEN, FILE_DELETE_ON_CLOSE, __func__, "ZwClose", NULL};
+    const Wanted wanted = {NULL, ObjectAttributes, FILE_OPEN, FILE_DELETE_ON_CLOSE, __func__, "ZwClose", NULL, false};
     KzFile *file;
     NTSTATUS status = create(&wanted, &file);
     if (!NT_SUCCESS(status))

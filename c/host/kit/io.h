@@ -21,6 +21,8 @@ typedef struct {
 
 NTSTATUS kz_transfer(const KzTransfer *asked, bool is_write);
 NTSTATUS kz_flush_below(PFLT_INSTANCE instance, PFILE_OBJECT object, const char *call);
+/* control.c: of another major function, as its parameters say it. */
+NTSTATUS kz_ask_as(PFLT_INSTANCE instance, PFLT_IO_PARAMETER_BLOCK iopb, PULONG done, const char *call);
 /* information.c */
 NTSTATUS kz_query_below(PFLT_INSTANCE instance, PFILE_OBJECT object, PVOID to, ULONG room, FILE_INFORMATION_CLASS class, PULONG used, const char *call);
 NTSTATUS kz_set_below(PFLT_INSTANCE instance, PFILE_OBJECT object, PVOID from, ULONG length, FILE_INFORMATION_CLASS class, const char *call);

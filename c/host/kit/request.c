@@ -106,8 +106,7 @@ static NTSTATUS carry_out(PFLT_INSTANCE instance, PFLT_IO_PARAMETER_BLOCK iopb, 
     case IRP_MJ_SET_INFORMATION:
         return kz_set_below(instance, object, now->SetFileInformation.InfoBuffer, now->SetFileInformation.Length, now->SetFileInformation.FileInformationClass, call);
     default:
-        kz_tell(KZM_OWN_IO, call, "%s isn't modelled: it answers STATUS_NOT_SUPPORTED", FltGetIrpName(iopb->MajorFunction));
-        return STATUS_NOT_SUPPORTED;
+        return kz_ask_as(instance, iopb, done, call);
     }
 }
 

@@ -39,27 +39,8 @@ NTSTATUS FltOpenVolume(PFLT_INSTANCE Instance, PHANDLE VolumeHandle, PFILE_OBJEC
     return none(KZM_OWN_IO, __func__);
 }
 
-NONE(KZM_OWN_IO, FltQueryDirectoryFile, PFLT_INSTANCE Instance, PFILE_OBJECT FileObject, PVOID FileInformation, ULONG Length,
-     FILE_INFORMATION_CLASS FileInformationClass, BOOLEAN ReturnSingleEntry, PUNICODE_STRING FileName, BOOLEAN RestartScan, PULONG LengthReturned)
-NONE(KZM_OWN_IO, FltQueryVolumeInformation, PFLT_INSTANCE Instance, PIO_STATUS_BLOCK Iosb, PVOID FsInformation, ULONG Length,
-     FS_INFORMATION_CLASS FsInformationClass)
-NONE(KZM_OWN_IO, FltSetVolumeInformation, PFLT_INSTANCE Instance, PIO_STATUS_BLOCK Iosb, PVOID FsInformation, ULONG Length,
-     FS_INFORMATION_CLASS FsInformationClass)
-NONE(KZM_OWN_IO, FltQueryVolumeInformationFile, PFLT_INSTANCE Instance, PFILE_OBJECT FileObject, PVOID FsInformation, ULONG Length,
-     FS_INFORMATION_CLASS FsInformationClass, PULONG LengthReturned)
-NONE(KZM_OWN_IO, FltQueryEaFile, PFLT_INSTANCE Instance, PFILE_OBJECT FileObject, PVOID ReturnedEaData, ULONG Length, BOOLEAN ReturnSingleEntry, PVOID EaList,
-     ULONG EaListLength, PULONG EaIndex, BOOLEAN RestartScan, PULONG LengthReturned)
-NONE(KZM_OWN_IO, FltSetEaFile, PFLT_INSTANCE Instance, PFILE_OBJECT FileObject, PVOID EaBuffer, ULONG Length)
-NONE(KZM_SECURITY, FltQuerySecurityObject, PFLT_INSTANCE Instance, PFILE_OBJECT FileObject, SECURITY_INFORMATION SecurityInformation,
-     PSECURITY_DESCRIPTOR SecurityDescriptor, ULONG Length, PULONG LengthNeeded)
-NONE(KZM_SECURITY, FltSetSecurityObject, PFLT_INSTANCE Instance, PFILE_OBJECT FileObject, SECURITY_INFORMATION SecurityInformation,
-     PSECURITY_DESCRIPTOR SecurityDescriptor)
 NONE(KZM_OWN_IO, FltNotifyFilterChangeDirectory, PVOID NotifySync, PLIST_ENTRY NotifyList, PVOID FsContext, PVOID FullDirectoryName, BOOLEAN WatchTree,
      BOOLEAN IgnoreBuffer, ULONG CompletionFilter, PFLT_CALLBACK_DATA NotifyCallbackData, PVOID TraverseCallback, PVOID SubjectContext, PVOID FilterCallback)
-NONE(KZM_OWN_IO, FltFsControlFile, PFLT_INSTANCE Instance, PFILE_OBJECT FileObject, ULONG FsControlCode, PVOID InputBuffer, ULONG InputBufferLength,
-     PVOID OutputBuffer, ULONG OutputBufferLength, PULONG LengthReturned)
-NONE(KZM_OWN_IO, FltDeviceIoControlFile, PFLT_INSTANCE Instance, PFILE_OBJECT FileObject, ULONG IoControlCode, PVOID InputBuffer, ULONG InputBufferLength,
-     PVOID OutputBuffer, ULONG OutputBufferLength, PULONG LengthReturned)
 NONE(KZM_REPARSE, FltTagFile, PFLT_INSTANCE InitiatingInstance, PFILE_OBJECT FileObject, ULONG FileTag, GUID *Guid, PVOID DataBuffer, USHORT DataBufferLength)
 NONE(KZM_REPARSE, FltUntagFile, PFLT_INSTANCE InitiatingInstance, PFILE_OBJECT FileObject, ULONG FileTag, GUID *Guid)
 

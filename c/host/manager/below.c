@@ -204,6 +204,20 @@ NTSTATUS kz_ask_below(PFLT_INSTANCE initiator, KzFile *file, const KzAsked *aske
     return kz_status_of(answer);
 }
 
+NTSTATUS kz_ask_volume_below(PFLT_INSTANCE initiator, const KzAsked *asked, void *to, uint64_t *information)
+{
+    const KzOwn own = {.initiator = initiator, .is_waited_for = true, .carried = asked};
+    KzFile *root = kz_new_file(initiator->volume, "", true);
+    root->users++;
+    KzAnswer answer = kz_below(&own, root, (KazdrinEvent){.event = KZE_LIST, .volume = initiator->volume->id}, "", 0);
+    size_t there = answer.length < asked->room ? answer.length : asked->room;
+    *information = answer.reply.information;
+    if (to && there)
+        memcpy(to, kz_me->room, there);
+    kz_let_go_file(root);
+    return kz_status_of(answer);
+}
+
 /* Its cleanup and its close. */
 void kz_close_below(PFLT_INSTANCE initiator, KzFile *file)
 {

@@ -60,6 +60,8 @@ KzReply kz_ask_volume(PFLT_VOLUME volume, const char *path, const KzAsked *asked
 
 /* below.c: one of a driver's own. What is answered comes into `to`. */
 NTSTATUS kz_ask_below(PFLT_INSTANCE initiator, KzFile *file, const KzAsked *asked, void *to, uint64_t *information);
+/* On the instance's volume, with no file that anybody opened. */
+NTSTATUS kz_ask_volume_below(PFLT_INSTANCE initiator, const KzAsked *asked, void *to, uint64_t *information);
 /* The file has that size, by an operation that no instance hears. */
 NTSTATUS kz_cut_unheard(KzFile *file, uint64_t size);
 

@@ -448,17 +448,6 @@ static size_t names_in(const uint8_t *chain, size_t size, uint8_t *room, size_t 
     return length;
 }
 
-/* The size is the manager's. */
-static void show_size(const KzOp *op, PFILE_STANDARD_INFORMATION info, uint64_t size)
-{
-    *info = (FILE_STANDARD_INFORMATION){.NumberOfLinks = 1};
-    if (op->file->name)
-        kz_show_standard(op->file, info);
-    info->EndOfFile.QuadPart = (LONGLONG)size;
-    if (!op->file->name || info->AllocationSize.QuadPart < (LONGLONG)size)
-        info->AllocationSize.QuadPart = (LONGLONG)kz_allocated(op->volume, size);
-}
-
 static void show_answer(KzOp *op)
 {
     KzVisit *visited = op->visits;
@@ -475,7 +464,7 @@ static void show_answer(KzOp *op)
     case KZE_QUERY_SIZE:
         op->data->IoStatus.Information = 0;
         if (op->lent.status == KZS_OK && room >= sizeof(FILE_STANDARD_INFORMATION)) {
-            show_size(op, (PFILE_STANDARD_INFORMATION)below, op->lent.information);
+            kz_show_size(op->file, op->lent.information, (PFILE_STANDARD_INFORMATION)below);
             op->data->IoStatus.Information = sizeof(FILE_STANDARD_INFORMATION);
         }
         break;

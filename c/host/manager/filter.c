@@ -50,6 +50,9 @@ static uint16_t mask_of(UCHAR major)
         return KZ_MASK_SET_SIZE | KZ_MASK_SET_DELETE | KZ_MASK_FLUSH;
     case IRP_MJ_DIRECTORY_CONTROL:
         return KZ_MASK_LIST | KZ_MASK_FLUSH;
+    case IRP_MJ_QUERY_VOLUME_INFORMATION:
+    case IRP_MJ_SET_VOLUME_INFORMATION:
+        return KZ_MASK_LIST | KZ_MASK_FLUSH; /* a filter's own has no handle */
     case IRP_MJ_SHUTDOWN:
     case IRP_MJ_PNP:
     case IRP_MJ_NETWORK_QUERY_OPEN:

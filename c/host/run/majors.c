@@ -7,12 +7,6 @@
 
 #define BUFFERED (IRP_BUFFERED_IO)
 
-bool kz_marks_by_itself(const KzFile *file)
-{
-    const KzNode *node = file && file->name ? file->name->node : NULL;
-    return !node || (!node->is_directory && node->links == 1 && !file->name->is_gone && !(node->attributes & FILE_ATTRIBUTE_READONLY));
-}
-
 static KzReply on_handle(const char *word, const KzAsked *asked)
 {
     uint64_t handle;

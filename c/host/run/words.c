@@ -1,6 +1,8 @@
 /* Requests in words, one a line, and runs of them. */
 #include "run/expect.h"
 #include "run/words.h"
+
+#include "filesystem/tree.h"
 #include "user/program.h"
 
 #include <stdlib.h>

@@ -24,7 +24,5 @@ KzReply kz_wrong(void);
 /* majors.c: up to one without a name. */
 extern const KzRequest kz_major_requests[];
 KzReply kz_set_file(uint64_t handle, ULONG class, const void *bytes, size_t length);
-/* Whether a deletion of the file is the manager's alone. */
-bool kz_marks_by_itself(const KzFile *file);
 
 #endif

@@ -8,14 +8,13 @@ static FLT_POSTOP_CALLBACK_STATUS PostCreate(PFLT_CALLBACK_DATA Data, PCFLT_RELA
 {
     PFLT_CONTEXT context;
     HANDLE handle;
-    ULONG done;
     UCHAR room[16];
 
     UNREFERENCED_PARAMETER(CompletionContext);
     UNREFERENCED_PARAMETER(Flags);
     SHOW(FltOpenVolume(FltObjects->Instance, &handle, NULL));
-    SHOW(FltFsControlFile(FltObjects->Instance, FltObjects->FileObject, FSCTL_GET_REPARSE_POINT, NULL, 0, room, sizeof(room), &done));
-    SHOW(FltQueryEaFile(FltObjects->Instance, FltObjects->FileObject, room, sizeof(room), FALSE, NULL, 0, NULL, TRUE, &done));
+    SHOW(FltSetQuotaInformationFile(FltObjects->Instance, FltObjects->FileObject, room, sizeof(room)));
+    SHOW(FltPrefetchFile(FltObjects->Instance, FltObjects->FileObject, NULL));
     SHOW(FltAllocateContext(gFilterHandle, FLT_FILE_CONTEXT, 8, PagedPool, &context));
     SHOW(FltGetFileContext(FltObjects->Instance, FltObjects->FileObject, &context));
     SHOW(FltGetTransactionContext(FltObjects->Instance, FltObjects->Transaction, &context));

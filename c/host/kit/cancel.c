@@ -1,5 +1,5 @@
 /* Cancelling: a request's own, or that of a process that ends. Of an operation that a filter holds the queue's routine is called, or the one that the filter has set; who set none isn't told. */
-#include "host.h"
+#include "filesystem/answers.h"
 
 BOOLEAN FltIsIoCanceled(PFLT_CALLBACK_DATA CallbackData)
 {
@@ -90,6 +90,8 @@ void kz_cancel_op(KzOp *op)
     op->cancel.is_asked = true;
     if (op->cancel.queue || op->cancel.routine)
         call_routine(op);
+    else if (op->is_waiting)
+        kz_cancel_notice(op);
 }
 
 /* A filter cancels what it began by itself. */
@@ -104,11 +106,16 @@ BOOLEAN FltCancelIo(PFLT_CALLBACK_DATA CallbackData)
     return is_held;
 }
 
-/* ---- By requests. `held` is the first one that a filter holds. */
+/* ---- By requests. `held` is the first one that a filter holds, or that waits in the file system. */
+static bool is_stopped(const KzOp *op)
+{
+    return kz_is_held(op) || op->is_waiting;
+}
+
 uint32_t kz_cancel(bool is_first, uint64_t number)
 {
     for (KzOp *op = kz.ops; op; op = op->next)
-        if (kz_is_held(op) && (is_first || op->id == number)) {
+        if (is_stopped(op) && (is_first || op->id == number)) {
             kz_cancel_op(op);
             return KZS_OK;
         }
@@ -118,7 +125,7 @@ uint32_t kz_cancel(bool is_first, uint64_t number)
 static KzOp *held_of(uint64_t process)
 {
     for (KzOp *op = kz.ops; op; op = op->next)
-        if (kz_is_held(op) && !op->cancel.is_asked && HandleToULong(PsGetThreadProcessId(op->thread)) == process)
+        if (is_stopped(op) && !op->cancel.is_asked && HandleToULong(PsGetThreadProcessId(op->thread)) == process)
             return op;
     return NULL;
 }

@@ -1,6 +1,8 @@
 /* Names of files and volumes. */
 #include "filesystem/tree.h"
 
+#include "manager/carrier.h"
+
 #include <stdio.h>
 #include <stdlib.h>
 
@@ -63,7 +65,7 @@ static void free_named(Named *one)
 
 static NTSTATUS name_of(PFLT_VOLUME volume, const char *path, FLT_FILE_NAME_OPTIONS options, PFLT_FILE_NAME_INFORMATION *shown)
 {
-    char text[320];
+    char text[400];
     Named *made = kz_refuses(KZ_CHOICE_NAME, "FltGetFileNameInformation") ? NULL : kz_take_memory(KZK_NAME, sizeof *made, 0, 0);
     if (!made)
         return STATUS_INSUFFICIENT_RESOURCES;
@@ -87,6 +89,54 @@ static NTSTATUS name_of(PFLT_VOLUME volume, const char *path, FLT_FILE_NAME_OPTI
     return STATUS_SUCCESS;
 }
 
+/* ---- Which name. That of a file that is open is the one that it has now; before that, as its create says it, or normalized: each part that is there as that is spelt. */
+static void normalize(PFLT_VOLUME volume, const char *path, char *text, size_t size)
+{
+    char part[256];
+    size_t used = 0;
+    for (const char *end = path;; end++) {
+        if (*end && *end != '/')
+            continue;
+        snprintf(part, sizeof part, "%.*s", (int)(end - path), path);
+        const KzName *found = kz_find_name(volume, part);
+        if (found && found->node->exists)
+            used = (size_t)snprintf(text, size, "%s", found->text);
+        else
+            used += (size_t)snprintf(text + used, size - used, "%s", part + (used < strlen(part) ? used : strlen(part)));
+        if (!*end)
+            return;
+    }
+}
+
+static bool is_opening(const KzOp *op)
+{
+    return op->event == KZE_CREATE && !op->file->has_handle && !op->file->is_opening;
+}
+
+static void spell(const KzOp *op, FLT_FILE_NAME_OPTIONS format, char *text, size_t size)
+{
+    if (!is_opening(op))
+        snprintf(text, size, "%s", kz_name_now(op->file));
+    else if (format == FLT_FILE_NAME_NORMALIZED)
+        normalize(op->volume, op->file->path, text, size);
+    else
+        snprintf(text, size, "%s", op->file->path);
+}
+
+/* Where the file system may wait for what the caller's own thread holds, the kit doesn't ask it. What its cache has may be asked for anywhere; in a close it has a file's name, so that
+ * only who wants the file system's word, or asks by a file object, is wrong there. */
+static bool is_unsafe(const KzOp *op, FLT_FILE_NAME_OPTIONS options, bool is_checked, const char *call)
+{
+    FLT_FILE_NAME_OPTIONS method = FltGetFileNameQueryMethod(options);
+    bool asks_cache = method == FLT_FILE_NAME_QUERY_CACHE_ONLY || method == FLT_FILE_NAME_QUERY_ALWAYS_ALLOW_CACHE_LOOKUP;
+    bool is_paging = op->own.irp_flags & IRP_PAGING_IO;
+    bool is_closing = op->event == KZE_CLOSE && (!is_checked || method == FLT_FILE_NAME_QUERY_FILESYSTEM_ONLY);
+    if (asks_cache || !(is_closing || is_paging))
+        return false;
+    kz_tell(KZM_NAME_QUERY, call, "asks the file system for a name %s: it may deadlock there", is_closing ? "in a close" : "in paging I/O");
+    return true;
+}
+
 NTSTATUS FltGetFileNameInformation(PFLT_CALLBACK_DATA CallbackData, FLT_FILE_NAME_OPTIONS NameOptions, PFLT_FILE_NAME_INFORMATION *FileNameInformation)
 {
     KZ_INSIDE();
@@ -98,7 +148,13 @@ NTSTATUS FltGetFileNameInformation(PFLT_CALLBACK_DATA CallbackData, FLT_FILE_NAM
     }
     if (FltGetFileNameFormat(NameOptions) < FLT_FILE_NAME_NORMALIZED || FltGetFileNameFormat(NameOptions) > FLT_FILE_NAME_SHORT)
         return STATUS_INVALID_PARAMETER;
-    return name_of(op->volume, op->file->path, NameOptions, FileNameInformation);
+    if (is_unsafe(op, NameOptions, true, __func__))
+        return STATUS_FLT_INVALID_NAME_REQUEST;
+    if (op->carried && op->carried->has_no_file)
+        return STATUS_INVALID_PARAMETER;
+    char text[300];
+    spell(op, FltGetFileNameFormat(NameOptions), text, sizeof text);
+    return name_of(op->volume, text, NameOptions, FileNameInformation);
 }
 
 NTSTATUS FltGetFileNameInformationUnsafe(PFILE_OBJECT FileObject, PFLT_INSTANCE Instance, FLT_FILE_NAME_OPTIONS NameOptions,
@@ -109,17 +165,27 @@ NTSTATUS FltGetFileNameInformationUnsafe(PFILE_OBJECT FileObject, PFLT_INSTANCE 
     if (!kz_may_use(__func__, Instance))
         return STATUS_INVALID_PARAMETER;
     KzFile *file = kz_file_with(FileObject);
-    return file ? name_of(file->volume, file->path, NameOptions, FileNameInformation) : STATUS_INVALID_PARAMETER;
+    const KzOp *op = kz_me->place.op;
+    if (file && op && op->file == file && is_unsafe(op, NameOptions, false, __func__))
+        return STATUS_FLT_INVALID_NAME_REQUEST;
+    return file ? name_of(file->volume, kz_name_now(file), NameOptions, FileNameInformation) : STATUS_INVALID_PARAMETER;
 }
 
-/* Nothing is renamed or linked here. */
+/* Where a rename or a link leads to, by the buffer that the filter was given: so one below sees what one above put there. */
 NTSTATUS FltGetDestinationFileNameInformation(PFLT_INSTANCE Instance, PFILE_OBJECT FileObject, HANDLE RootDirectory, PWSTR FileName, ULONG FileNameLength,
                                               FLT_FILE_NAME_OPTIONS NameOptions, PFLT_FILE_NAME_INFORMATION *RetFileNameInformation)
 {
     KZ_INSIDE();
-    (void)Instance, (void)FileObject, (void)RootDirectory, (void)FileName, (void)FileNameLength, (void)NameOptions;
+    char asked[600], text[600];
     *RetFileNameInformation = NULL;
-    return STATUS_INVALID_PARAMETER;
+    KzFile *file = kz_may_use(__func__, Instance) ? kz_file_with(FileObject) : NULL;
+    if (!file || !FileName || !kz_destination(file, RootDirectory, FileName, FileNameLength, asked, sizeof asked))
+        return STATUS_INVALID_PARAMETER;
+    if (FltGetFileNameFormat(NameOptions) == FLT_FILE_NAME_NORMALIZED)
+        normalize(file->volume, asked, text, sizeof text);
+    else
+        memcpy(text, asked, sizeof text);
+    return name_of(file->volume, text, NameOptions, RetFileNameInformation);
 }
 
 /* No name is a short one, so that none is tunneled. */

@@ -18,6 +18,40 @@ BOOLEAN FltIsCallbackDataDirty(PFLT_CALLBACK_DATA Data)
     return (Data->Flags & FLTFL_CALLBACK_DATA_DIRTY) != 0;
 }
 
+/* What a file and a volume have beside bytes. One of a security descriptor that is set has no length. */
+static bool decode_beside(FLT_PARAMETERS *now, UCHAR major, PMDL **mdl, PVOID **buffer, ULONG **length, LOCK_OPERATION *access)
+{
+    *access = major == IRP_MJ_SET_EA || major == IRP_MJ_SET_QUOTA || major == IRP_MJ_SET_VOLUME_INFORMATION ? IoReadAccess : IoWriteAccess;
+    switch (major) {
+    case IRP_MJ_QUERY_EA:
+        *mdl = &now->QueryEa.MdlAddress, *buffer = &now->QueryEa.EaBuffer, *length = &now->QueryEa.Length;
+        return true;
+    case IRP_MJ_SET_EA:
+        *mdl = &now->SetEa.MdlAddress, *buffer = &now->SetEa.EaBuffer, *length = &now->SetEa.Length;
+        return true;
+    case IRP_MJ_QUERY_VOLUME_INFORMATION:
+    case IRP_MJ_SET_VOLUME_INFORMATION:
+        *buffer = &now->QueryVolumeInformation.VolumeBuffer, *length = &now->QueryVolumeInformation.Length;
+        return true;
+    case IRP_MJ_QUERY_SECURITY:
+        *mdl = &now->QuerySecurity.MdlAddress, *buffer = &now->QuerySecurity.SecurityBuffer, *length = &now->QuerySecurity.Length;
+        return true;
+    case IRP_MJ_QUERY_QUOTA:
+        *mdl = &now->QueryQuota.MdlAddress, *buffer = &now->QueryQuota.QuotaBuffer, *length = &now->QueryQuota.Length;
+        return true;
+    case IRP_MJ_SET_QUOTA:
+        *mdl = &now->SetQuota.MdlAddress, *buffer = &now->SetQuota.QuotaBuffer, *length = &now->SetQuota.Length;
+        return true;
+    case IRP_MJ_FILE_SYSTEM_CONTROL:
+    case IRP_MJ_DEVICE_CONTROL:
+    case IRP_MJ_INTERNAL_DEVICE_CONTROL:
+        *buffer = &now->FileSystemControl.Buffered.SystemBuffer, *length = &now->FileSystemControl.Buffered.OutputBufferLength;
+        return true;
+    default:
+        return false;
+    }
+}
+
 /* The buffer of an operation, as the kit hands out pointers to its fields. */
 NTSTATUS FltDecodeParameters(PFLT_CALLBACK_DATA CallbackData, PMDL **MdlAddressPointer, PVOID **Buffer, PULONG *Length, LOCK_OPERATION *DesiredAccess)
 {
@@ -27,6 +61,7 @@ NTSTATUS FltDecodeParameters(PFLT_CALLBACK_DATA CallbackData, PMDL **MdlAddressP
     PVOID *buffer;
     ULONG *length;
     LOCK_OPERATION access = IoWriteAccess;
+    bool is_notice;
     switch (CallbackData->Iopb->MajorFunction) {
     case IRP_MJ_READ:
         mdl = &now->Read.MdlAddress;
@@ -40,9 +75,10 @@ NTSTATUS FltDecodeParameters(PFLT_CALLBACK_DATA CallbackData, PMDL **MdlAddressP
         access = IoReadAccess;
         break;
     case IRP_MJ_DIRECTORY_CONTROL:
-        mdl = &now->DirectoryControl.QueryDirectory.MdlAddress;
-        buffer = &now->DirectoryControl.QueryDirectory.DirectoryBuffer;
-        length = &now->DirectoryControl.QueryDirectory.Length;
+        is_notice = CallbackData->Iopb->MinorFunction != IRP_MN_QUERY_DIRECTORY;
+        mdl = is_notice ? &now->DirectoryControl.NotifyDirectory.MdlAddress : &now->DirectoryControl.QueryDirectory.MdlAddress;
+        buffer = is_notice ? &now->DirectoryControl.NotifyDirectory.DirectoryBuffer : &now->DirectoryControl.QueryDirectory.DirectoryBuffer;
+        length = is_notice ? &now->DirectoryControl.NotifyDirectory.Length : &now->DirectoryControl.QueryDirectory.Length;
         break;
     case IRP_MJ_QUERY_INFORMATION:
         buffer = &now->QueryFileInformation.InfoBuffer;
@@ -54,7 +90,8 @@ NTSTATUS FltDecodeParameters(PFLT_CALLBACK_DATA CallbackData, PMDL **MdlAddressP
         access = IoReadAccess;
         break;
     default:
-        return STATUS_INVALID_PARAMETER;
+        if (!decode_beside(now, CallbackData->Iopb->MajorFunction, &mdl, &buffer, &length, &access))
+            return STATUS_INVALID_PARAMETER;
     }
     if (MdlAddressPointer)
         *MdlAddressPointer = mdl;
@@ -205,5 +242,12 @@ PCHAR FltGetIrpName(UCHAR IrpMajorCode)
                                         "IRP_MJ_FILE_SYSTEM_CONTROL", "IRP_MJ_DEVICE_CONTROL", "IRP_MJ_INTERNAL_DEVICE_CONTROL", "IRP_MJ_SHUTDOWN",
                                         "IRP_MJ_LOCK_CONTROL", "IRP_MJ_CLEANUP", "IRP_MJ_CREATE_MAILSLOT", "IRP_MJ_QUERY_SECURITY", "IRP_MJ_SET_SECURITY",
                                         "IRP_MJ_POWER", "IRP_MJ_SYSTEM_CONTROL", "IRP_MJ_DEVICE_CHANGE", "IRP_MJ_QUERY_QUOTA", "IRP_MJ_SET_QUOTA", "IRP_MJ_PNP"};
+    static const char *const above[] = {"IRP_MJ_ACQUIRE_FOR_SECTION_SYNCHRONIZATION", "IRP_MJ_RELEASE_FOR_SECTION_SYNCHRONIZATION", "IRP_MJ_ACQUIRE_FOR_MOD_WRITE", "IRP_MJ_RELEASE_FOR_MOD_WRITE",
+                                        "IRP_MJ_ACQUIRE_FOR_CC_FLUSH", "IRP_MJ_RELEASE_FOR_CC_FLUSH", "IRP_MJ_QUERY_OPEN"};
+    UCHAR down = (UCHAR)(0xff - IrpMajorCode);
+    if (IrpMajorCode == IRP_MJ_NETWORK_QUERY_OPEN)
+        return (PCHAR) "IRP_MJ_NETWORK_QUERY_OPEN";
+    if (down < sizeof above / sizeof above[0])
+        return (PCHAR)above[down];
     return (PCHAR)(IrpMajorCode < sizeof names / sizeof names[0] ? names[IrpMajorCode] : "IRP_MJ_OTHER");
 }

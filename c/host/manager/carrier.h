@@ -52,11 +52,14 @@ void kz_fill_carried(KzOp *op, const KzAsked *asked);
 /* base.c: what the file system kept goes on. */
 void kz_go_on_from_base(KzOp *op, NTSTATUS status);
 
-/* operation.c: a client's, by a handle, or on a volume with the name of a file or none. The reply is passed on. */
+/* perform.c: a client's, by a handle, or on a volume. The reply is passed on. */
 KzReply kz_ask_file(uint64_t handle, const KzAsked *asked);
 /* After a success the second one follows, whose reply isn't passed on. */
 KzReply kz_ask_file_twice(uint64_t handle, const KzAsked *first, const KzAsked *second);
-KzReply kz_ask_volume(PFLT_VOLUME volume, const char *path, const KzAsked *asked);
+KzReply kz_ask_volume(PFLT_VOLUME volume, const KzAsked *asked);
+
+/* A fast query by a name; where a filter disallows it, a create, a query and a close. */
+KzReply kz_open_network(PFLT_VOLUME volume, const char *path);
 
 /* below.c: one of a driver's own. What is answered comes into `to`. */
 NTSTATUS kz_ask_below(PFLT_INSTANCE initiator, KzFile *file, const KzAsked *asked, void *to, uint64_t *information);

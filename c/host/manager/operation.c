@@ -134,6 +134,11 @@ static void complete(KzOp *op, KazdrinEvent *verdict)
     }
 }
 
+static bool is_fast(const KzOp *op)
+{
+    return op->carried && op->carried->data_flags & FLTFL_CALLBACK_DATA_FAST_IO_OPERATION;
+}
+
 KazdrinEvent kz_verdict_of(KzOp *op, PFLT_INSTANCE instance, FLT_PREOP_CALLBACK_STATUS said, PVOID completion)
 {
     KazdrinEvent verdict = {.mode = KZV_NO_CALLBACK, .operation = op->id, .worker = kz_worker()};
@@ -148,11 +153,21 @@ KazdrinEvent kz_verdict_of(KzOp *op, PFLT_INSTANCE instance, FLT_PREOP_CALLBACK_
     case FLT_PREOP_SUCCESS_NO_CALLBACK:
         break;
     case FLT_PREOP_PENDING:
-        verdict.mode = KZV_PENDING;
+        if (op->carried && !(op->carried->data_flags & FLTFL_CALLBACK_DATA_IRP_OPERATION))
+            kz_tell(KZM_NO_VERDICT, "FLT_PREOP_PENDING", "of what is no IRP, and can't be held: it counts as FLT_PREOP_SUCCESS_NO_CALLBACK");
+        else
+            verdict.mode = KZV_PENDING;
         break;
     case FLT_PREOP_COMPLETE:
         complete(op, &verdict);
         break;
+    case FLT_PREOP_DISALLOW_FASTIO:
+        if (is_fast(op)) {
+            verdict.mode = KZV_COMPLETE;
+            verdict.status = KZS_DEVICE_FAULT;
+            op->other = STATUS_FLT_DISALLOW_FAST_IO;
+            break;
+        } /* fall through */
     default:
         kz_tell(KZM_NO_VERDICT, "PFLT_PRE_OPERATION_CALLBACK", "%d is no verdict for an IRP: it counts as FLT_PREOP_SUCCESS_NO_CALLBACK", (int)said);
     }
@@ -236,7 +251,7 @@ static void pre(KzOp *op, PFLT_INSTANCE instance)
     kz_leave(before);
     instance->running--;
     kz.changes++;
-    if (kazdrin_pre_returned(&kz.manager, &verdict) == KZS_OK && said == FLT_PREOP_PENDING) {
+    if (kazdrin_pre_returned(&kz.manager, &verdict) == KZS_OK && verdict.mode == KZV_PENDING) {
         op->stage = KZ_HELD_BY_PRE;
         op->holder = instance;
         op->holder_function = kz_registered(instance->filter, kz_major_of(op))->PreOperation;

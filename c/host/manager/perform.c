@@ -307,9 +307,40 @@ KzReply kz_ask_file_twice(uint64_t handle, const KzAsked *first, const KzAsked *
     return answer.reply;
 }
 
-KzReply kz_ask_volume(PFLT_VOLUME volume, const char *path, const KzAsked *asked)
+/* The file is opened for the query, and closed. */
+static KzAnswer query_opened(PFLT_VOLUME volume, const char *path)
 {
-    return kz_perform_as(&(KzBegin){.event = {.event = KZE_LIST, .volume = volume->id}, .bytes = "", .path = path ? path : "", .carried = asked});
+    const KzAsked query = {.major = IRP_MJ_QUERY_INFORMATION, .code = FileNetworkOpenInformation, .room = sizeof(FILE_NETWORK_OPEN_INFORMATION), .irp_flags = IRP_BUFFERED_IO};
+    uint8_t bytes[sizeof(FILE_NETWORK_OPEN_INFORMATION)];
+    char says[200];
+    KzAnswer opened = kz_follow(run(&(KzBegin){.event = {.event = KZE_CREATE, .volume = volume->id}, .bytes = path, .length = strlen(path), .path = path}), NULL, begin_create);
+    if (opened.reply.held || opened.reply.status != KZS_OK)
+        return opened;
+    uint64_t handle = opened.reply.information;
+    KzAnswer answer = run(&(KzBegin){.event = {.event = KZE_FLUSH, .handle = handle}, .bytes = "", .carried = &query});
+    memcpy(bytes, kz_me->room, sizeof bytes);
+    snprintf(says, sizeof says, "%.199s", kz_me->says);
+    run(&(KzBegin){.event = {.event = KZE_CLEANUP, .handle = handle}, .bytes = ""});
+    run(&(KzBegin){.event = {.event = KZE_CLOSE, .handle = handle}, .bytes = ""});
+    memcpy(kz_me->room, bytes, sizeof bytes);
+    strcpy(kz_me->says, says);
+    return answer;
+}
+
+KzReply kz_open_network(PFLT_VOLUME volume, const char *path)
+{
+    const KzAsked asked = {.major = IRP_MJ_NETWORK_QUERY_OPEN, .room = sizeof(FILE_NETWORK_OPEN_INFORMATION), .data_flags = FLTFL_CALLBACK_DATA_FAST_IO_OPERATION};
+    KzAnswer answer = run(&(KzBegin){.event = {.event = KZE_LIST, .volume = volume->id}, .bytes = "", .path = path, .carried = &asked});
+    if (answer.other == STATUS_FLT_DISALLOW_FAST_IO)
+        answer = query_opened(volume, path);
+    put_answer(answer);
+    kz_settle();
+    return answer.reply;
+}
+
+KzReply kz_ask_volume(PFLT_VOLUME volume, const KzAsked *asked)
+{
+    return kz_perform_as(&(KzBegin){.event = {.event = KZE_LIST, .volume = volume->id}, .bytes = "", .carried = asked});
 }
 
 /* A cleanup and then the close; the close alone if the cleanup was made before. */

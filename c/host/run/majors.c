@@ -359,7 +359,7 @@ static PFLT_VOLUME volume_of(const char *word)
 static KzReply on_volume(const char *word, const KzAsked *asked)
 {
     PFLT_VOLUME volume = volume_of(word);
-    return volume ? kz_ask_volume(volume, NULL, asked) : kz_wrong();
+    return volume ? kz_ask_volume(volume, asked) : kz_wrong();
 }
 
 static KzReply ask_shutdown(char **words)
@@ -370,6 +370,12 @@ static KzReply ask_shutdown(char **words)
 static KzReply ask_query_remove(char **words)
 {
     return on_volume(words[1], &(KzAsked){.major = IRP_MJ_PNP, .minor = IRP_MN_QUERY_REMOVE_DEVICE, .has_no_file = true});
+}
+
+static KzReply ask_network_open(char **words)
+{
+    PFLT_VOLUME volume = volume_of(words[1]);
+    return volume ? kz_open_network(volume, words[2]) : kz_wrong();
 }
 
 /* ---- Sections: `map H [execute]` has the file system let one be made, which acquires its file for it and releases it. Then `pagein H OFFSET LEN` and `pageout H OFFSET HEX` are what the
@@ -429,6 +435,7 @@ const KzRequest kz_major_requests[] = {
     {"internal", 3, 5, ask_internal},
     {"shutdown", 2, 2, ask_shutdown},
     {"queryremove", 2, 2, ask_query_remove},
+    {"networkopen", 3, 3, ask_network_open},
     {"map", 2, 3, ask_map},
     {"pagein", 4, 4, ask_page_in},
     {"pageout", 4, 4, ask_page_out},

@@ -84,6 +84,7 @@ typedef enum {
     KZM_CANCEL_LEFT = 185,
     KZM_ROUTINE_LEFT = 186,
     KZM_IRP = 187,
+    KZM_NAME_QUERY = 188,
     /* The driver's own. */
     KZM_ASSERT = 191,
     KZM_BUG_CHECK = 192,

@@ -71,6 +71,9 @@ static bool answers_create(KzOp *op, const KazdrinData *call, NTSTATUS *status)
     *status = STATUS_DELETE_PENDING;
     if (name->node->is_marked)
         return true;
+    *status = STATUS_OBJECT_PATH_NOT_FOUND;
+    if (kz_has_file_above(name->volume, name->text))
+        return true;
     if (op->file->is_directory) {
         *status = open_directory(name, call->mode);
         return true;
@@ -79,26 +82,20 @@ static bool answers_create(KzOp *op, const KazdrinData *call, NTSTATUS *status)
     return kz_is_there(name) && name->node->is_directory;
 }
 
-/* ---- Closes that would take the bytes away. */
+/* ---- Closes that would take the bytes away. They stay where the mark was taken back, or where the file has another name; below a folder they went with the name. */
 static bool answers_close(KzName *name)
 {
     KzFound found;
     KzNode *node = name->node;
-    bool is_kept = node->is_kept, is_taken = name->is_gone && kz_look_in_folder(name->volume->id, "", &found);
-    if (node->links > 1 && !is_kept && node->marked) { /* the file is there by another name */
-        KzName *gone = node->marked;
-        kz_unlink_in_folder(gone->volume->id, gone->text);
-        kz_names_moved(gone->volume);
-        kz_notify(gone, FILE_NOTIFY_CHANGE_FILE_NAME, FILE_ACTION_REMOVED);
-        kz_put_in_tunnel(gone);
-        kz_take_away(gone);
-        is_kept = true;
-    }
-    if (is_kept || is_taken || node->is_directory) {
-        node->is_marked_there = node->is_kept = false;
-        node->marked = NULL;
-    }
-    return is_kept || is_taken || node->is_directory;
+    bool is_taken = name->is_gone && kz_look_in_folder(name->volume->id, "", &found);
+    bool has_other = node->links > 1 || node->is_directory;
+    if (node->marked && !node->marked->is_gone && has_other)
+        kz_delete_name(node->marked);
+    else if (!is_taken && (node->marked || !node->links) && !node->is_directory)
+        return false;
+    node->is_marked_there = node->is_kept = false;
+    node->marked = NULL;
+    return true;
 }
 
 bool kz_answers_call(KzOp *op, const KazdrinData *call, NTSTATUS *status)

@@ -108,7 +108,7 @@ static void end_streams(KzName *name)
     while (other && (other->is_gone || other->node != name->node))
         other = other->next;
     if (other)
-        kz_move_with(name->volume, name->text, other->text);
+        kz_move_with(name->volume, name->text, other->text, true);
     else
         take_streams(name);
 }
@@ -159,7 +159,7 @@ void kz_begin_cleanup(KzFile *file)
         node->is_marked_there = true;
 }
 
-static void delete_name(KzName *name)
+void kz_delete_name(KzName *name)
 {
     KzNode *node = name->node;
     kz_notify(name, node->is_directory ? FILE_NOTIFY_CHANGE_DIR_NAME : FILE_NOTIFY_CHANGE_FILE_NAME, FILE_ACTION_REMOVED);
@@ -180,8 +180,9 @@ void kz_end_cleanup(KzFile *file)
     bool is_last = !node->opens;
     if (node->is_marked && !gone->is_gone && (is_last || file->is_posix)) {
         node->is_marked = !is_last && node->links == 1; /* its bytes stay until the last one */
-        delete_name(gone);
+        kz_delete_name(gone);
         node->marked = NULL;
+        node->is_kept |= node->is_marked_there && node->links > 0;
     }
     if (is_last && !node->links)
         node->exists = false;

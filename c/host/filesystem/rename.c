@@ -92,7 +92,7 @@ static NTSTATUS target_status(const KzName *from, KzName *to, ULONG flags, bool 
 }
 
 /* ---- What moves. */
-static bool has_file_above(PFLT_VOLUME volume, const char *text)
+bool kz_has_file_above(PFLT_VOLUME volume, const char *text)
 {
     char above[256];
     bool has_file = false;
@@ -118,12 +118,12 @@ void kz_make_above(PFLT_VOLUME volume, const char *text)
 }
 
 /* The names below a folder, and those of a file's streams: first all are marked, since one that was moved may be below the old name too. */
-void kz_move_with(PFLT_VOLUME volume, const char *from, const char *to)
+void kz_move_with(PFLT_VOLUME volume, const char *from, const char *to, bool is_streams)
 {
     char text[600];
     size_t length = strlen(from);
     for (KzName *one = kz_first_name(); one; one = one->next)
-        one->is_to_move = !one->is_gone && one->volume == volume && kz_is_same_name(volume, one->text, from, length) && (one->text[length] == ':' || one->text[length] == '/');
+        one->is_to_move = !one->is_gone && one->volume == volume && kz_is_same_name(volume, one->text, from, length) && (one->text[length] == ':' || (one->text[length] == '/' && !is_streams));
     for (KzName *one = kz_first_name(), *next; one; one = next) {
         next = one->next;
         if (!one->is_to_move)
@@ -151,7 +151,7 @@ static NTSTATUS move_to(KzName *from, const char *text)
     kz_notify(from, filter, FILE_ACTION_RENAMED_OLD_NAME);
     kz_put_in_tunnel(from);
     kz_move_name(from, text);
-    kz_move_with(from->volume, old, text);
+    kz_move_with(from->volume, old, text, false);
     kz_notify(from, filter, FILE_ACTION_RENAMED_NEW_NAME);
     return STATUS_SUCCESS;
 }
@@ -185,7 +185,7 @@ NTSTATUS kz_rename(KzFile *file, const char *text, bool is_link, ULONG flags)
     if (from->node->is_directory && kz_is_below(to, from->volume, from->text))
         status = STATUS_ACCESS_DENIED;
     else
-        status = has_file_above(from->volume, text) ? STATUS_OBJECT_PATH_NOT_FOUND : target_status(from, to, flags, is_link);
+        status = kz_has_file_above(from->volume, text) ? STATUS_OBJECT_PATH_NOT_FOUND : target_status(from, to, flags, is_link);
     bool is_as_it_was = to == from && (is_link || strcmp(from->text, text) == 0);
     if (NT_SUCCESS(status) && !is_as_it_was)
         status = put_in_place(from, to, text, is_link);

@@ -81,8 +81,9 @@ void kz_keep_bytes(KzBytes *kept, const void *bytes, size_t length);
 /* Where a rename or a link leads to, as the kit's three fields say it; false if that is no name. */
 bool kz_destination(const KzFile *file, HANDLE root, const WCHAR *name, ULONG length, char *text, size_t size);
 NTSTATUS kz_rename(KzFile *file, const char *text, bool is_link, ULONG flags);
-/* What lies below a name, and its streams, go along. */
-void kz_move_with(PFLT_VOLUME volume, const char *from, const char *to);
+/* What lies below a name, and its streams, go along; or the streams alone. */
+void kz_move_with(PFLT_VOLUME volume, const char *from, const char *to, bool is_streams);
+bool kz_has_file_above(PFLT_VOLUME volume, const char *text);
 /* The folders above a name are there. */
 void kz_make_above(PFLT_VOLUME volume, const char *text);
 
@@ -90,6 +91,8 @@ void kz_make_above(PFLT_VOLUME volume, const char *text);
 NTSTATUS kz_dispose(KzFile *file, ULONG flags);
 /* Nobody finds the file by that name any more; with its last one it goes itself. */
 void kz_take_away(KzName *name);
+/* The same with what comes of it: the notice, the tunnel, a folder of the host machine. */
+void kz_delete_name(KzName *name);
 /* A create gives the file a handle; the cleanup of one begins, and has come to the file system; a file was marked in the manager. */
 void kz_count_open(KzFile *file);
 void kz_count_no_open(KzFile *file); /* it failed after all, or its handle was dropped */

@@ -81,6 +81,8 @@ class Model:
         found = self.find(text)
         if found and (found.file.is_pending() or found.file.by_manager):
             return MARKED, None, None
+        if self.has_file_above(text):
+            return DEVICE, NO_PATH, None
         if found and found.file.is_directory != is_directory:
             return DEVICE, NOT_DIRECTORY if is_directory else IS_DIRECTORY, None
         if found and mode == "new":

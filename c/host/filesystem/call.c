@@ -51,10 +51,10 @@ static NTSTATUS open_directory(KzName *name, uint8_t mode)
 {
     NTSTATUS status = STATUS_SUCCESS;
     bool is_there = kz_is_there(name);
-    if (is_there && !name->node->is_directory)
-        return STATUS_NOT_A_DIRECTORY;
+    if (is_there && mode == 1)
+        return STATUS_OBJECT_NAME_COLLISION;
     if (is_there)
-        return mode == 1 ? STATUS_OBJECT_NAME_COLLISION : STATUS_SUCCESS;
+        return name->node->is_directory ? STATUS_SUCCESS : STATUS_NOT_A_DIRECTORY;
     if (mode == 0)
         return STATUS_OBJECT_NAME_NOT_FOUND;
     make_directory(name, &status);
@@ -78,7 +78,7 @@ static bool answers_create(KzOp *op, const KazdrinData *call, NTSTATUS *status)
         *status = open_directory(name, call->mode);
         return true;
     }
-    *status = STATUS_FILE_IS_A_DIRECTORY;
+    *status = call->mode == 1 ? STATUS_OBJECT_NAME_COLLISION : STATUS_FILE_IS_A_DIRECTORY;
     return kz_is_there(name) && name->node->is_directory;
 }
 

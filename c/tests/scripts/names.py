@@ -83,10 +83,10 @@ class Model:
             return MARKED, None, None
         if self.has_file_above(text):
             return DEVICE, NO_PATH, None
-        if found and found.file.is_directory != is_directory:
-            return DEVICE, NOT_DIRECTORY if is_directory else IS_DIRECTORY, None
         if found and mode == "new":
             return THERE, None, None
+        if found and found.file.is_directory != is_directory:
+            return DEVICE, NOT_DIRECTORY if is_directory else IS_DIRECTORY, None
         if not found and mode == "existing":
             return MISSING, None, None
         if not found:

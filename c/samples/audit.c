@@ -54,7 +54,7 @@ static PAUDIT_RECORD AuditNewRecord(_In_ PFLT_CALLBACK_DATA Data)
     record->Name.Length = 0;
     record->Name.MaximumLength = sizeof(record->NameBuffer);
     record->Name.Buffer = record->NameBuffer;
-    if (NT_SUCCESS(FltGetFileNameInformation(Data, FLT_FILE_NAME_NORMALIZED | FLT_FILE_NAME_QUERY_DEFAULT, &nameInfo))) {
+    if (NT_SUCCESS(FltGetFileNameInformation(Data, FLT_FILE_NAME_NORMALIZED | FLT_FILE_NAME_QUERY_ALWAYS_ALLOW_CACHE_LOOKUP, &nameInfo))) {
         RtlCopyUnicodeString(&record->Name, &nameInfo->Name);
         FltReleaseFileNameInformation(nameInfo);
     }

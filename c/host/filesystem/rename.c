@@ -96,7 +96,7 @@ bool kz_has_file_above(PFLT_VOLUME volume, const char *text)
 {
     char above[256];
     bool has_file = false;
-    for (const char *slash = strchr(text, '/'); slash && !has_file; slash = strchr(slash + 1, '/')) {
+    for (const char *slash = is_over_memory(volume) ? strchr(text, '/') : NULL; slash && !has_file; slash = strchr(slash + 1, '/')) {
         snprintf(above, sizeof above, "%.*s", (int)(slash - text), text);
         KzName *name = kz_take_name(volume, above);
         has_file = name && kz_is_there(name) && !name->node->is_directory;

@@ -152,7 +152,7 @@ tell $? "an installed tree"
 
 # Random requests find a call that may be refused; what is left of the session ends as it did.
 build fuzzer --fuzz "$room/fuzzer" $tests/misuse/schedules/refusal.c
-"$room/fuzzer" 50 1 "$room/failure.txt" > "$room/fuzzer.out"
+"$room/fuzzer" 50 2 "$room/failure.txt" > "$room/fuzzer.out"
 [ $? = 139 ] && [ "$(wc -l < "$room/failure.txt")" -le 6 ]
 tell $? "random requests"
 build refused "$room/refused" $tests/misuse/schedules/refusal.c

@@ -1,0 +1,451 @@
+/* An encryption layer: each file whose name ends in .doc has a header of 512 bytes before its own, which nobody above sees, and its bytes are turned by a key from that header. The header is
+ * hidden in reads and writes, also those of the virtual memory, in every size that is asked for or set, in directories' entries, and in locks of bytes. */
+#include <fltKernel.h>
+
+#define CIPHER_HEADER 512
+#define CIPHER_SIGNATURE 0x72687043 /* Cphr */
+#define CIPHER_BUFFER_TAG 'fBpC'
+#define CIPHER_CONTEXT_TAG 'xCpC'
+
+typedef struct _CIPHER_FILE_HEADER {
+    ULONG Signature;
+    ULONG Key;
+    UCHAR Rest[CIPHER_HEADER - 8];
+} CIPHER_FILE_HEADER, *PCIPHER_FILE_HEADER;
+C_ASSERT(sizeof(CIPHER_FILE_HEADER) == CIPHER_HEADER);
+
+typedef struct _CIPHER_CONTEXT {
+    ULONG Key;
+} CIPHER_CONTEXT, *PCIPHER_CONTEXT;
+
+/* What goes from a preoperation to its postoperation. */
+typedef struct _CIPHER_SWAP {
+    PCIPHER_CONTEXT Context; /* has a reference */
+    PVOID Original;          /* the caller's own buffer, where that isn't in the parameters */
+    LONGLONG Offset;         /* as the caller has it */
+    UCHAR Buffer[ANYSIZE_ARRAY];
+} CIPHER_SWAP, *PCIPHER_SWAP;
+
+PFLT_FILTER gFilterHandle;
+static const UNICODE_STRING gExtension = RTL_CONSTANT_STRING(L"doc");
+
+static VOID CipherTurn(_Out_ PUCHAR To, _In_ const UCHAR *From, _In_ SIZE_T Length, _In_ LONGLONG Offset, _In_ ULONG Key)
+{
+    SIZE_T i;
+
+    for (i = 0; i < Length; i++) {
+        To[i] = From[i] ^ (UCHAR)(Key >> 8 * ((Offset + i) % 4)) ^ (UCHAR)(Offset + i);
+    }
+}
+
+static BOOLEAN CipherIsName(_In_ PCUNICODE_STRING Name)
+{
+    UNICODE_STRING extension;
+
+    return NT_SUCCESS(FltParseFileName(Name, &extension, NULL, NULL)) && RtlEqualUnicodeString(&extension, &gExtension, TRUE);
+}
+
+/* ---- The header of a file, read or written below the filter. */
+static NTSTATUS CipherReadHeader(_In_ PCFLT_RELATED_OBJECTS FltObjects, _Out_ PCIPHER_FILE_HEADER Header)
+{
+    LARGE_INTEGER offset = {0};
+    ULONG done = 0;
+    NTSTATUS status = FltReadFile(FltObjects->Instance, FltObjects->FileObject, &offset, sizeof(*Header), Header, FLTFL_IO_OPERATION_DO_NOT_UPDATE_BYTE_OFFSET, &done, NULL, NULL);
+
+    if (!NT_SUCCESS(status)) {
+        return status;
+    }
+    return done == sizeof(*Header) && Header->Signature == CIPHER_SIGNATURE ? STATUS_SUCCESS : STATUS_FILE_CORRUPT_ERROR;
+}
+
+static NTSTATUS CipherWriteHeader(_In_ PCFLT_RELATED_OBJECTS FltObjects, _Inout_ PCIPHER_FILE_HEADER Header)
+{
+    LARGE_INTEGER offset = {0};
+
+    RtlZeroMemory(Header, sizeof(*Header));
+    Header->Signature = CIPHER_SIGNATURE;
+    Header->Key = 0x5a17c33e;
+    return FltWriteFile(FltObjects->Instance, FltObjects->FileObject, &offset, sizeof(*Header), Header, FLTFL_IO_OPERATION_DO_NOT_UPDATE_BYTE_OFFSET, NULL, NULL, NULL);
+}
+
+static NTSTATUS CipherOpen(_In_ PCFLT_RELATED_OBJECTS FltObjects, _Out_ PULONG Key)
+{
+    FILE_STANDARD_INFORMATION standard;
+    PCIPHER_FILE_HEADER header;
+    NTSTATUS status = FltQueryInformationFile(FltObjects->Instance, FltObjects->FileObject, &standard, sizeof(standard), FileStandardInformation, NULL);
+
+    if (!NT_SUCCESS(status)) {
+        return status;
+    }
+    header = ExAllocatePoolWithTag(NonPagedPool, sizeof(*header), CIPHER_BUFFER_TAG);
+    if (header == NULL) {
+        return STATUS_INSUFFICIENT_RESOURCES;
+    }
+    status = standard.EndOfFile.QuadPart == 0 ? CipherWriteHeader(FltObjects, header) : CipherReadHeader(FltObjects, header);
+    *Key = header->Key;
+    ExFreePoolWithTag(header, CIPHER_BUFFER_TAG);
+    return status;
+}
+
+static NTSTATUS CipherSetContext(_In_ PCFLT_RELATED_OBJECTS FltObjects)
+{
+    PCIPHER_CONTEXT context;
+    ULONG key;
+    NTSTATUS status = FltGetStreamContext(FltObjects->Instance, FltObjects->FileObject, (PFLT_CONTEXT *)&context);
+
+    if (status != STATUS_NOT_FOUND) {
+        if (NT_SUCCESS(status)) {
+            FltReleaseContext(context);
+        }
+        return status;
+    }
+    status = CipherOpen(FltObjects, &key);
+    if (NT_SUCCESS(status)) {
+        status = FltAllocateContext(FltObjects->Filter, FLT_STREAM_CONTEXT, sizeof(CIPHER_CONTEXT), NonPagedPool, (PFLT_CONTEXT *)&context);
+    }
+    if (!NT_SUCCESS(status)) {
+        return status;
+    }
+    context->Key = key;
+    status = FltSetStreamContext(FltObjects->Instance, FltObjects->FileObject, FLT_SET_CONTEXT_KEEP_IF_EXISTS, context, NULL);
+    FltReleaseContext(context);
+    return status == STATUS_FLT_CONTEXT_ALREADY_DEFINED ? STATUS_SUCCESS : status;
+}
+
+/* A file whose header can't be had isn't opened. */
+static FLT_POSTOP_CALLBACK_STATUS CipherPostCreate(_Inout_ PFLT_CALLBACK_DATA Data, _In_ PCFLT_RELATED_OBJECTS FltObjects, _In_opt_ PVOID CompletionContext,
+                                                   _In_ FLT_POST_OPERATION_FLAGS Flags)
+{
+    BOOLEAN isDirectory = FALSE;
+    NTSTATUS status;
+
+    UNREFERENCED_PARAMETER(CompletionContext);
+    if (FlagOn(Flags, FLTFL_POST_OPERATION_DRAINING) || !NT_SUCCESS(Data->IoStatus.Status) || Data->IoStatus.Status == STATUS_REPARSE || !CipherIsName(&FltObjects->FileObject->FileName)) {
+        return FLT_POSTOP_FINISHED_PROCESSING;
+    }
+    status = FltIsDirectory(FltObjects->FileObject, FltObjects->Instance, &isDirectory);
+    if (NT_SUCCESS(status) && !isDirectory) {
+        status = CipherSetContext(FltObjects);
+    }
+    if (!NT_SUCCESS(status)) {
+        FltCancelFileOpen(FltObjects->Instance, FltObjects->FileObject);
+        Data->IoStatus.Status = status;
+        Data->IoStatus.Information = 0;
+    }
+    return FLT_POSTOP_FINISHED_PROCESSING;
+}
+
+/* ---- Buffers of the filter's own. */
+static PCIPHER_CONTEXT CipherGetContext(_In_ PCFLT_RELATED_OBJECTS FltObjects)
+{
+    PCIPHER_CONTEXT context;
+
+    return NT_SUCCESS(FltGetStreamContext(FltObjects->Instance, FltObjects->FileObject, (PFLT_CONTEXT *)&context)) ? context : NULL;
+}
+
+static PCIPHER_SWAP CipherNewSwap(_In_ PCIPHER_CONTEXT Context, _In_ ULONG Length)
+{
+    PCIPHER_SWAP swap = ExAllocatePoolWithTag(NonPagedPool, FIELD_OFFSET(CIPHER_SWAP, Buffer) + Length, CIPHER_BUFFER_TAG);
+
+    if (swap != NULL) {
+        RtlZeroMemory(swap, FIELD_OFFSET(CIPHER_SWAP, Buffer));
+        swap->Context = Context;
+    }
+    return swap;
+}
+
+static VOID CipherFreeSwap(_In_ PCIPHER_SWAP Swap)
+{
+    FltReleaseContext(Swap->Context);
+    ExFreePoolWithTag(Swap, CIPHER_BUFFER_TAG);
+}
+
+static FLT_PREOP_CALLBACK_STATUS CipherFail(_Inout_ PFLT_CALLBACK_DATA Data, _In_ PCIPHER_CONTEXT Context)
+{
+    FltReleaseContext(Context);
+    Data->IoStatus.Status = STATUS_INSUFFICIENT_RESOURCES;
+    Data->IoStatus.Information = 0;
+    return FLT_PREOP_COMPLETE;
+}
+
+/* ---- Reads and writes: 512 bytes farther, and by another buffer. */
+static FLT_PREOP_CALLBACK_STATUS CipherPreRead(_Inout_ PFLT_CALLBACK_DATA Data, _In_ PCFLT_RELATED_OBJECTS FltObjects, _Flt_CompletionContext_Outptr_ PVOID *CompletionContext)
+{
+    PFLT_IO_PARAMETER_BLOCK iopb = Data->Iopb;
+    PCIPHER_CONTEXT context = CipherGetContext(FltObjects);
+    PCIPHER_SWAP swap;
+
+    if (context == NULL) {
+        return FLT_PREOP_SUCCESS_NO_CALLBACK;
+    }
+    swap = CipherNewSwap(context, max(iopb->Parameters.Read.Length, 1));
+    if (swap == NULL) {
+        return CipherFail(Data, context);
+    }
+    swap->Offset = iopb->Parameters.Read.ByteOffset.QuadPart;
+    iopb->Parameters.Read.ByteOffset.QuadPart += CIPHER_HEADER;
+    iopb->Parameters.Read.ReadBuffer = swap->Buffer;
+    iopb->Parameters.Read.MdlAddress = NULL;
+    FltSetCallbackDataDirty(Data);
+    *CompletionContext = swap;
+    return FLT_PREOP_SUCCESS_WITH_CALLBACK;
+}
+
+static FLT_POSTOP_CALLBACK_STATUS CipherPostRead(_Inout_ PFLT_CALLBACK_DATA Data, _In_ PCFLT_RELATED_OBJECTS FltObjects, _In_opt_ PVOID CompletionContext,
+                                                 _In_ FLT_POST_OPERATION_FLAGS Flags)
+{
+    PCIPHER_SWAP swap = CompletionContext;
+    PFLT_IO_PARAMETER_BLOCK iopb = Data->Iopb;
+    PVOID original;
+
+    UNREFERENCED_PARAMETER(FltObjects);
+    if (!FlagOn(Flags, FLTFL_POST_OPERATION_DRAINING) && NT_SUCCESS(Data->IoStatus.Status) && Data->IoStatus.Information != 0) {
+        original = iopb->Parameters.Read.MdlAddress != NULL ? MmGetSystemAddressForMdlSafe(iopb->Parameters.Read.MdlAddress, NormalPagePriority) : iopb->Parameters.Read.ReadBuffer;
+        CipherTurn(original, swap->Buffer, Data->IoStatus.Information, swap->Offset, swap->Context->Key);
+    }
+    CipherFreeSwap(swap);
+    return FLT_POSTOP_FINISHED_PROCESSING;
+}
+
+static FLT_PREOP_CALLBACK_STATUS CipherPreWrite(_Inout_ PFLT_CALLBACK_DATA Data, _In_ PCFLT_RELATED_OBJECTS FltObjects, _Flt_CompletionContext_Outptr_ PVOID *CompletionContext)
+{
+    PFLT_IO_PARAMETER_BLOCK iopb = Data->Iopb;
+    ULONG length = iopb->Parameters.Write.Length;
+    PCIPHER_CONTEXT context = CipherGetContext(FltObjects);
+    PCIPHER_SWAP swap;
+    PVOID original;
+
+    if (context == NULL) {
+        return FLT_PREOP_SUCCESS_NO_CALLBACK;
+    }
+    swap = CipherNewSwap(context, max(length, 1));
+    if (swap == NULL) {
+        return CipherFail(Data, context);
+    }
+    swap->Offset = iopb->Parameters.Write.ByteOffset.QuadPart;
+    original = iopb->Parameters.Write.MdlAddress != NULL ? MmGetSystemAddressForMdlSafe(iopb->Parameters.Write.MdlAddress, NormalPagePriority) : iopb->Parameters.Write.WriteBuffer;
+    CipherTurn(swap->Buffer, original, length, swap->Offset, context->Key);
+    iopb->Parameters.Write.ByteOffset.QuadPart += CIPHER_HEADER;
+    iopb->Parameters.Write.WriteBuffer = swap->Buffer;
+    iopb->Parameters.Write.MdlAddress = NULL;
+    FltSetCallbackDataDirty(Data);
+    *CompletionContext = swap;
+    return FLT_PREOP_SUCCESS_WITH_CALLBACK;
+}
+
+static FLT_POSTOP_CALLBACK_STATUS CipherPostFree(_Inout_ PFLT_CALLBACK_DATA Data, _In_ PCFLT_RELATED_OBJECTS FltObjects, _In_opt_ PVOID CompletionContext,
+                                                 _In_ FLT_POST_OPERATION_FLAGS Flags)
+{
+    UNREFERENCED_PARAMETER(Data);
+    UNREFERENCED_PARAMETER(FltObjects);
+    UNREFERENCED_PARAMETER(Flags);
+    CipherFreeSwap(CompletionContext);
+    return FLT_POSTOP_FINISHED_PROCESSING;
+}
+
+/* ---- Sizes that are asked for. */
+static VOID CipherShorten(_Inout_ PLARGE_INTEGER Size)
+{
+    Size->QuadPart = max(Size->QuadPart - CIPHER_HEADER, 0);
+}
+
+static FLT_PREOP_CALLBACK_STATUS CipherPreQuery(_Inout_ PFLT_CALLBACK_DATA Data, _In_ PCFLT_RELATED_OBJECTS FltObjects, _Flt_CompletionContext_Outptr_ PVOID *CompletionContext)
+{
+    PCIPHER_CONTEXT context = CipherGetContext(FltObjects);
+
+    UNREFERENCED_PARAMETER(CompletionContext);
+    UNREFERENCED_PARAMETER(Data);
+    if (context == NULL) {
+        return FLT_PREOP_SUCCESS_NO_CALLBACK;
+    }
+    FltReleaseContext(context);
+    return FLT_PREOP_SYNCHRONIZE;
+}
+
+static FLT_POSTOP_CALLBACK_STATUS CipherPostQuery(_Inout_ PFLT_CALLBACK_DATA Data, _In_ PCFLT_RELATED_OBJECTS FltObjects, _In_opt_ PVOID CompletionContext,
+                                                  _In_ FLT_POST_OPERATION_FLAGS Flags)
+{
+    PVOID buffer = Data->Iopb->Parameters.QueryFileInformation.InfoBuffer;
+    BOOLEAN isAnswered = NT_SUCCESS(Data->IoStatus.Status) || Data->IoStatus.Status == STATUS_BUFFER_OVERFLOW;
+
+    UNREFERENCED_PARAMETER(FltObjects);
+    UNREFERENCED_PARAMETER(CompletionContext);
+    if (FlagOn(Flags, FLTFL_POST_OPERATION_DRAINING) || !isAnswered) {
+        return FLT_POSTOP_FINISHED_PROCESSING;
+    }
+    switch (Data->Iopb->Parameters.QueryFileInformation.FileInformationClass) {
+    case FileStandardInformation:
+        CipherShorten(&((PFILE_STANDARD_INFORMATION)buffer)->EndOfFile);
+        CipherShorten(&((PFILE_STANDARD_INFORMATION)buffer)->AllocationSize);
+        break;
+    case FileAllInformation:
+        CipherShorten(&((PFILE_ALL_INFORMATION)buffer)->StandardInformation.EndOfFile);
+        CipherShorten(&((PFILE_ALL_INFORMATION)buffer)->StandardInformation.AllocationSize);
+        break;
+    case FileNetworkOpenInformation:
+        CipherShorten(&((PFILE_NETWORK_OPEN_INFORMATION)buffer)->EndOfFile);
+        CipherShorten(&((PFILE_NETWORK_OPEN_INFORMATION)buffer)->AllocationSize);
+        break;
+    case FileStreamInformation:
+        CipherShorten(&((PFILE_STREAM_INFORMATION)buffer)->StreamSize); /* the first one is the file's own */
+        CipherShorten(&((PFILE_STREAM_INFORMATION)buffer)->StreamAllocationSize);
+        break;
+    default:
+        break;
+    }
+    return FLT_POSTOP_FINISHED_PROCESSING;
+}
+
+/* A fast query has no file object that a context is found by: it comes again as a create, a query and a close. */
+static FLT_PREOP_CALLBACK_STATUS CipherPreNetworkOpen(_Inout_ PFLT_CALLBACK_DATA Data, _In_ PCFLT_RELATED_OBJECTS FltObjects,
+                                                      _Flt_CompletionContext_Outptr_ PVOID *CompletionContext)
+{
+    UNREFERENCED_PARAMETER(Data);
+    UNREFERENCED_PARAMETER(CompletionContext);
+    return CipherIsName(&FltObjects->FileObject->FileName) ? FLT_PREOP_DISALLOW_FASTIO : FLT_PREOP_SUCCESS_NO_CALLBACK;
+}
+
+/* ---- Sizes that are set: by a buffer of the filter's own. All three have the one number. */
+static FLT_PREOP_CALLBACK_STATUS CipherPreSet(_Inout_ PFLT_CALLBACK_DATA Data, _In_ PCFLT_RELATED_OBJECTS FltObjects, _Flt_CompletionContext_Outptr_ PVOID *CompletionContext)
+{
+    PFLT_IO_PARAMETER_BLOCK iopb = Data->Iopb;
+    FILE_INFORMATION_CLASS class = iopb->Parameters.SetFileInformation.FileInformationClass;
+    PCIPHER_CONTEXT context;
+    PCIPHER_SWAP swap;
+    LARGE_INTEGER size;
+
+    if (class != FileEndOfFileInformation && class != FileAllocationInformation && class != FileValidDataLengthInformation) {
+        return FLT_PREOP_SUCCESS_NO_CALLBACK;
+    }
+    context = CipherGetContext(FltObjects);
+    if (context == NULL) {
+        return FLT_PREOP_SUCCESS_NO_CALLBACK;
+    }
+    swap = CipherNewSwap(context, sizeof(LARGE_INTEGER));
+    if (swap == NULL) {
+        return CipherFail(Data, context);
+    }
+    size = *(PLARGE_INTEGER)iopb->Parameters.SetFileInformation.InfoBuffer;
+    size.QuadPart += CIPHER_HEADER;
+    RtlCopyMemory(swap->Buffer, &size, sizeof(size));
+    iopb->Parameters.SetFileInformation.InfoBuffer = swap->Buffer;
+    FltSetCallbackDataDirty(Data);
+    *CompletionContext = swap;
+    return FLT_PREOP_SUCCESS_WITH_CALLBACK;
+}
+
+/* ---- Entries of directories. */
+static ULONG CipherNamePlace(_In_ FILE_INFORMATION_CLASS Class)
+{
+    switch (Class) {
+    case FileDirectoryInformation:
+        return FIELD_OFFSET(FILE_DIRECTORY_INFORMATION, FileName);
+    case FileFullDirectoryInformation:
+        return FIELD_OFFSET(FILE_FULL_DIR_INFORMATION, FileName);
+    case FileBothDirectoryInformation:
+        return FIELD_OFFSET(FILE_BOTH_DIR_INFORMATION, FileName);
+    case FileIdBothDirectoryInformation:
+        return FIELD_OFFSET(FILE_ID_BOTH_DIR_INFORMATION, FileName);
+    case FileIdFullDirectoryInformation:
+        return FIELD_OFFSET(FILE_ID_FULL_DIR_INFORMATION, FileName);
+    case FileIdExtdDirectoryInformation:
+        return FIELD_OFFSET(FILE_ID_EXTD_DIR_INFORMATION, FileName);
+    default:
+        return 0; /* it has no sizes */
+    }
+}
+
+static FLT_PREOP_CALLBACK_STATUS CipherPreDirectory(_Inout_ PFLT_CALLBACK_DATA Data, _In_ PCFLT_RELATED_OBJECTS FltObjects, _Flt_CompletionContext_Outptr_ PVOID *CompletionContext)
+{
+    UNREFERENCED_PARAMETER(FltObjects);
+    UNREFERENCED_PARAMETER(CompletionContext);
+    if (Data->Iopb->MinorFunction != IRP_MN_QUERY_DIRECTORY || CipherNamePlace(Data->Iopb->Parameters.DirectoryControl.QueryDirectory.FileInformationClass) == 0) {
+        return FLT_PREOP_SUCCESS_NO_CALLBACK;
+    }
+    return FLT_PREOP_SYNCHRONIZE;
+}
+
+static FLT_POSTOP_CALLBACK_STATUS CipherPostDirectory(_Inout_ PFLT_CALLBACK_DATA Data, _In_ PCFLT_RELATED_OBJECTS FltObjects, _In_opt_ PVOID CompletionContext,
+                                                      _In_ FLT_POST_OPERATION_FLAGS Flags)
+{
+    PFLT_PARAMETERS now = &Data->Iopb->Parameters;
+    PUCHAR at = now->DirectoryControl.QueryDirectory.DirectoryBuffer;
+    ULONG place = CipherNamePlace(now->DirectoryControl.QueryDirectory.FileInformationClass);
+
+    UNREFERENCED_PARAMETER(FltObjects);
+    UNREFERENCED_PARAMETER(CompletionContext);
+    if (FlagOn(Flags, FLTFL_POST_OPERATION_DRAINING) || !NT_SUCCESS(Data->IoStatus.Status) || Data->IoStatus.Information == 0) {
+        return FLT_POSTOP_FINISHED_PROCESSING;
+    }
+    for (;;) {
+        PFILE_DIRECTORY_INFORMATION entry = (PFILE_DIRECTORY_INFORMATION)at;
+        UNICODE_STRING name = {(USHORT)entry->FileNameLength, (USHORT)entry->FileNameLength, (PWSTR)(at + place)};
+
+        if (!FlagOn(entry->FileAttributes, FILE_ATTRIBUTE_DIRECTORY) && CipherIsName(&name)) {
+            CipherShorten(&entry->EndOfFile);
+            CipherShorten(&entry->AllocationSize);
+        }
+        if (entry->NextEntryOffset == 0) {
+            return FLT_POSTOP_FINISHED_PROCESSING;
+        }
+        at += entry->NextEntryOffset;
+    }
+}
+
+/* ---- Locks of bytes. */
+static FLT_PREOP_CALLBACK_STATUS CipherPreLock(_Inout_ PFLT_CALLBACK_DATA Data, _In_ PCFLT_RELATED_OBJECTS FltObjects, _Flt_CompletionContext_Outptr_ PVOID *CompletionContext)
+{
+    PCIPHER_CONTEXT context = CipherGetContext(FltObjects);
+
+    UNREFERENCED_PARAMETER(CompletionContext);
+    if (context == NULL) {
+        return FLT_PREOP_SUCCESS_NO_CALLBACK;
+    }
+    if (Data->Iopb->MinorFunction == IRP_MN_LOCK || Data->Iopb->MinorFunction == IRP_MN_UNLOCK_SINGLE) {
+        Data->Iopb->Parameters.LockControl.ByteOffset.QuadPart += CIPHER_HEADER;
+        FltSetCallbackDataDirty(Data);
+    }
+    FltReleaseContext(context);
+    return FLT_PREOP_SUCCESS_NO_CALLBACK;
+}
+
+/* ---- The filter. */
+static NTSTATUS CipherQueryTeardown(_In_ PCFLT_RELATED_OBJECTS FltObjects, _In_ FLT_INSTANCE_QUERY_TEARDOWN_FLAGS Flags)
+{
+    UNREFERENCED_PARAMETER(FltObjects);
+    UNREFERENCED_PARAMETER(Flags);
+    return STATUS_SUCCESS;
+}
+
+static NTSTATUS CipherUnload(_In_ FLT_FILTER_UNLOAD_FLAGS Flags)
+{
+    UNREFERENCED_PARAMETER(Flags);
+    FltUnregisterFilter(gFilterHandle);
+    return STATUS_SUCCESS;
+}
+
+CONST FLT_OPERATION_REGISTRATION Callbacks[] = {{IRP_MJ_CREATE, 0, NULL, CipherPostCreate},
+                                                {IRP_MJ_READ, 0, CipherPreRead, CipherPostRead},
+                                                {IRP_MJ_WRITE, 0, CipherPreWrite, CipherPostFree},
+                                                {IRP_MJ_QUERY_INFORMATION, 0, CipherPreQuery, CipherPostQuery},
+                                                {IRP_MJ_SET_INFORMATION, 0, CipherPreSet, CipherPostFree},
+                                                {IRP_MJ_DIRECTORY_CONTROL, 0, CipherPreDirectory, CipherPostDirectory},
+                                                {IRP_MJ_LOCK_CONTROL, 0, CipherPreLock, NULL},
+                                                {IRP_MJ_NETWORK_QUERY_OPEN, 0, CipherPreNetworkOpen, NULL},
+                                                {IRP_MJ_OPERATION_END}};
+CONST FLT_CONTEXT_REGISTRATION Contexts[] = {{FLT_STREAM_CONTEXT, 0, NULL, sizeof(CIPHER_CONTEXT), CIPHER_CONTEXT_TAG}, {FLT_CONTEXT_END}};
+CONST FLT_REGISTRATION FilterRegistration = {sizeof(FLT_REGISTRATION), FLT_REGISTRATION_VERSION, 0, Contexts, Callbacks, CipherUnload, NULL, CipherQueryTeardown};
+
+NTSTATUS DriverEntry(_In_ PDRIVER_OBJECT DriverObject, _In_ PUNICODE_STRING RegistryPath)
+{
+    NTSTATUS status = FltRegisterFilter(DriverObject, &FilterRegistration, &gFilterHandle);
+
+    UNREFERENCED_PARAMETER(RegistryPath);
+    if (NT_SUCCESS(status)) {
+        status = FltStartFiltering(gFilterHandle);
+        if (!NT_SUCCESS(status)) {
+            FltUnregisterFilter(gFilterHandle);
+        }
+    }
+    return status;
+}

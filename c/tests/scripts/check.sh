@@ -6,6 +6,7 @@
 #   misuse    drivers with mistakes, under threads and schedules
 #   explore   schedules
 #   threads   drivers under real threads
+#   names     names, and the majors that ride on the manager's operations: beside a model, under schedules and refusals, by threads
 #   programs  samples with programs, threads, processes: schedules, refusals, threads
 #   order     the lists that all managers are held to
 #   headers   constants, structures and prototypes beside those of mingw-w64, where its headers are there: by its name alone, and in thorough.sh
@@ -27,7 +28,7 @@ if [ -z "${KAZDRIN_LIB:-}" ]; then
     [ -f "$KAZDRIN_LIB" ] || KAZDRIN_LIB=$("$here/../../archive.sh" --unproved) || exit 1
     export KAZDRIN_LIB
 fi
-[ $# -gt 0 ] || set -- host legal misuse explore threads programs order mount serve
+[ $# -gt 0 ] || set -- host legal misuse explore threads names programs order mount serve
 passed=0
 failed=0
 report=$(mktemp)

@@ -43,9 +43,9 @@ def main():
     compare(f"messages.h and {TOLD}", sorted(numbers), sorted(told))
     if len(set(told)) != len(told):
         wrong.append(f"{TOLD}: a number has two rows")
-    trials = [int(it) for it in re.findall(r'=> "KZ(\d{4})"', read("crates/fm_trial/src/told.rt"))]
-    compare("told.rt beyond messages.h", sorted(set(trials) - set(numbers)), [])
-    compare("told.rt and docs/AUTHORS.md", sorted(trials), sorted(rows("docs/AUTHORS.md")))
+    trials = [int(it) for it in re.findall(r'=> "KZ(\d{4})"', read("crates/fm_mistakes/src/mistake.rt"))]
+    compare("mistake.rt beyond messages.h", sorted(set(trials) - set(numbers)), [])
+    compare("mistake.rt and docs/AUTHORS.md", sorted(trials), sorted(rows("docs/AUTHORS.md")))
     statuses = re.findall(r"^    KZS_(\w+)", read("c/wire/status.h"), re.M)[:-1]
     types = [name for name, _ in sorted(re.findall(r"Status::(\w+)(?:\(_\))? => (\d+),", read("crates/fm_types/src/status.rt")), key=lambda it: int(it[1]))]
     spelled = [re.sub(r"(?<!^)(?=[A-Z])", "_", name).upper() for name in types]

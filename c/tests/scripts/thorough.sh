@@ -4,6 +4,7 @@
 #   explore     each sample with four clients, under every schedule with at most two preemptions
 #   lines       lines of drivers by gcc and clang at several optimizations, and the headers beside those of mingw-w64
 #   threads     each sample for ten seconds with eight threads
+#   names       3,000 random sessions of names beside a model of their own
 #   programs    samples with programs of their own, as both
 #   libfuzzer   libFuzzer over a driver with a mistake, which it must find, and over one without
 #   real        some seventy real programs above the mount of each server: four filters of fltd, the filter of own_server, which denies deletions, and four drivers in C: ten minutes
@@ -36,6 +37,11 @@ lines() {
 threads() {
     "$here/threads.sh" --whole
     tell $? threads
+}
+
+names() {
+    "$here/names.sh" --whole
+    tell $? names
 }
 
 programs() {
@@ -94,10 +100,10 @@ mount() {
     fi
 }
 
-[ $# -gt 0 ] || set -- explore lines threads programs libfuzzer real mount
+[ $# -gt 0 ] || set -- explore lines threads names programs libfuzzer real mount
 for part in "$@"; do
     case $part in
-    explore | lines | threads | programs | libfuzzer | real | mount) "$part" ;;
+    explore | lines | threads | names | programs | libfuzzer | real | mount) "$part" ;;
     *)
         echo "there is no part $part" >&2
         exit 2

@@ -147,7 +147,10 @@ def program(folder, kept, seed):
     """A program: its exit status."""
     chance, model, steps = random.Random(seed), Model(kept), 0
     try:
-        os.makedirs(folder, exist_ok=True)
+        try:
+            os.mkdir(folder)
+        except FileExistsError:
+            pass
         if not settle(model, folder):
             return WRONG
         while True:

@@ -8,6 +8,7 @@
 #   programs    samples with programs of their own, as both
 #   libfuzzer   libFuzzer over a driver with a mistake, which it must find, and over one without
 #   real        some seventy real programs above the mount of each server: four filters of fltd, the filter of own_server, which denies deletions, and four drivers in C: ten minutes
+#   release     a release, installed in a room where neither this checkout nor the kit is: a driver is built, explored and tested there
 #   mount       the mount: COUNT random operations (100000), what of it shows races under the thread sanitizer, and some under valgrind: half an hour
 #
 # KAZDRIN_LIB is the manager's archive, as for c/build.sh, FLTD the server below the mount. The exit status says whether anything failed.
@@ -84,6 +85,11 @@ real() {
     tell $? "real programs above drivers in C"
 }
 
+release() {
+    "$here/release.sh"
+    tell $? release
+}
+
 mount() {
     local count=${COUNT:-100000} program=$room/fltmount.threads
     export FLTD=${FLTD:-$(server_of_mount)}
@@ -100,10 +106,10 @@ mount() {
     fi
 }
 
-[ $# -gt 0 ] || set -- explore lines threads names programs libfuzzer real mount
+[ $# -gt 0 ] || set -- explore lines threads names programs libfuzzer real release mount
 for part in "$@"; do
     case $part in
-    explore | lines | threads | names | programs | libfuzzer | real | mount) "$part" ;;
+    explore | lines | threads | names | programs | libfuzzer | real | release | mount) "$part" ;;
     *)
         echo "there is no part $part" >&2
         exit 2

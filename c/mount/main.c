@@ -13,6 +13,7 @@
 #include <stdio.h>
 #include <stdlib.h>
 #include <string.h>
+#include <sys/stat.h>
 
 /* Each program that waits for a held read has a thread; beside those that wait some are left. */
 #define THREADS 96
@@ -118,6 +119,27 @@ static int serve_with_pool(Mount *mount, struct fuse_args *words, const struct f
     return status;
 }
 
+/* The mount point among libfuse's words, or NULL. */
+static const char *mount_point_of(const struct fuse_args *words)
+{
+    for (int at = 1; at < words->argc; at++) {
+        if (strcmp(words->argv[at], "-o") == 0)
+            at++;
+        else if (words->argv[at][0] != '-')
+            return words->argv[at];
+    }
+    return NULL;
+}
+
+/* 0, or the errno of what is no folder to mount on: libfuse takes that for wrong words. */
+static int look_at_mount_point(const char *path)
+{
+    struct stat is;
+    if (path && stat(path, &is) != 0)
+        return errno;
+    return !path || S_ISDIR(is.st_mode) ? 0 : ENOTDIR;
+}
+
 static bool is_help(int count, char **texts)
 {
     return count == 2 && (strcmp(texts[1], "-h") == 0 || strcmp(texts[1], "--help") == 0);
@@ -126,9 +148,13 @@ static bool is_help(int count, char **texts)
 static int mount_with(Mount *mount, struct fuse_args *words)
 {
     struct fuse_cmdline_opts line = {0};
-    if (!options_read(words, &mount->options) || fuse_parse_cmdline(words, &line) != 0)
+    if (!options_read(words, &mount->options))
         return WRONG_WORDS;
-    int status = WRONG_WORDS;
+    int status = WRONG_WORDS, error = look_at_mount_point(mount_point_of(words));
+    if (error != 0)
+        return cannot_reach(mount_point_of(words), error);
+    if (fuse_parse_cmdline(words, &line) != 0)
+        return WRONG_WORDS;
     if (!line.mountpoint)
         options_usage(stderr);
     else if (!below_open(mount))

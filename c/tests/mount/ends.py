@@ -201,6 +201,8 @@ def refused(tally, tools):
     for option in ("connections=3", "connections=32", "volume=256", "attr=-1", "mode=1777", "nosuchoption"):
         with Ground(tally, tools) as ground:
             tally.note(f"option {option}", start(tools, "-o", option, ground.socket)[0], 2)
+    done = subprocess.run(tools.mount + ["/nowhere/s", "/nowhere/m"], capture_output=True, text=True, timeout=30)
+    tally.note("no mount point", (done.returncode, done.stderr), (3, "fltmount: /nowhere/m: No such file or directory\n"))
     done = subprocess.run(tools.mount, capture_output=True, text=True, timeout=30)
     tally.note("no words", (done.returncode, "usage" in done.stderr), (2, True))
     done = subprocess.run(tools.mount + ["--help"], capture_output=True, text=True, timeout=30)

@@ -281,4 +281,9 @@ kit=("$support/liblibc_c.a")
 [ ! -f "$support/libos_c.a" ] || kit=("$support/libos_c.a" "${kit[@]}")
 others=()
 [ "$programs" = 0 ] || others=("$room"/program_*.o)
-$cc $link -o "$program" "$room/drivers.c" "$room"/driver_*.o "${others[@]}" "${libraries[@]}" "$library" "${kit[@]}" -pthread
+status=0
+$cc $link -o "$program" "$room/drivers.c" "$room"/driver_*.o "${others[@]}" "${libraries[@]}" "$library" "${kit[@]}" -pthread 2> "$room/said" || status=$?
+cat "$room/said" >&2
+missing=$(sed -n "s/.*undefined reference to [\`']\([A-Za-z_0-9]*\)'.*/\1/p" "$room/said" | sort -u | tr '\n' ' ')
+[ -z "$missing" ] || say "neither in your sources nor in this kit: $missing(docs/PROFILE.md has what is)"
+exit "$status"

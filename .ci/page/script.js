@@ -1,11 +1,14 @@
 'use strict';
 // A run is drawn from its objects: columns are what happened, in order; lanes are clients, instances by altitude, and file systems.
-const STEP = 15, LANE = 30, ROW = 13, ROWS = 12, BAR = 12, NAMES = 210, SVG = 'http://www.w3.org/2000/svg';
+const STEP = 15, LANE = 30, ROW = 13, ROWS = 12, BAR = 12, SVG = 'http://www.w3.org/2000/svg';
 const HUES = [210, 22, 135, 280, 330, 45, 181, 90];
 const SILENT = new Set(['Run', 'End', 'Comment', 'Became', 'Leaked', 'Told', 'Met', 'Unmet']);
 const RETURNS = { preoperation: ['Pre'], postoperation: ['Post', 'PostHeld'], drain: ['Drained'] };
 const PHASES = ['setup', 'stopping', 'completing', 'emptying', 'detached'];
 const byId = (id) => document.getElementById(id);
+
+// How wide the names of lanes are: less on a narrow screen.
+const namesWidth = () => matchMedia('(max-width: 600px)').matches ? 110 : 210;
 
 function readRun() {
   const all = [];
@@ -200,6 +203,7 @@ function drawWindow(svg, run, from, until, chosen) {
   if (chosen !== null) add(svg, 'rect', { class: 'here', x: xOf(chosen) - STEP / 2, y: 0, width: STEP, height: run.height });
   for (const context of run.contexts.values()) drawContext(svg, run, context, from, until, right);
   for (const operation of run.operations.values()) drawWay(svg, run, operation, from, until);
+  for (const context of run.contexts.values()) nameContext(svg, run, context, from, until);
   for (let column = from; column < until && column < run.columns.length; column += 1) drawOwn(svg, run, run.columns[column]);
   for (const leak of run.leaks) if (leak.at >= from && leak.at <= until) drawLeak(svg, run, leak);
   for (const mistake of run.mistakes) if (mistake.at >= from && mistake.at <= until) drawTold(svg, run, mistake);
@@ -228,13 +232,21 @@ function drawContext(svg, run, context, from, until, right) {
   if (context.y === undefined || end < from || context.from > until) return;
   const x = xOf(Math.max(context.from, from - 1));
   add(svg, 'rect', { class: 'bar', x, y: context.y, width: Math.max(Math.min(xOf(end), right) - x, 2), height: 8, rx: 3, 'data-context': context.id });
-  const dot = context.links.find((link) => link.event === 'Set' && link.at < context.from + 5);
-  if (context.from >= from - 8) add(svg, 'text', { class: 'small', x: dot ? xOf(dot.at) + 6 : xOf(context.from) + 4, y: context.y + 7.5 }, context.id + ' ' + context.kind);
   for (const link of context.links) {
     if (link.at < from || link.at > until) continue;
     add(svg, 'line', { class: 'thread', x1: xOf(link.at), x2: xOf(link.at), y1: context.laneY, y2: context.y + 4 });
     if (link.event === 'Set') add(svg, 'circle', { class: 'link', cx: xOf(link.at), cy: context.y + 4, r: 3.5 });
   }
+}
+
+// The name of a context, above the ways that cross its bar.
+function nameContext(svg, run, context, from, until) {
+  if (context.y === undefined || context.from < from - 8 || context.from > until) return;
+  const dot = context.links.find((link) => link.event === 'Set' && link.at < context.from + 5);
+  const x = dot ? xOf(dot.at) + 6 : xOf(context.from) + 4;
+  // A leak that stands there names it too.
+  if (run.leaks.some((leak) => leak.context === context.id && Math.abs(xOf(leak.at) - x) < 70)) return;
+  add(svg, 'text', { class: 'small', x, y: context.y + 7.5 }, context.id + ' ' + context.kind);
 }
 
 function drawWay(svg, run, operation, from, until) {
@@ -373,9 +385,16 @@ function drawView(force) {
     const svg = document.createElementNS(SVG, 'svg');
     svg.setAttribute('width', run.columns.length * STEP + 110);
     svg.setAttribute('height', height);
+    svg.setAttribute('role', 'img');
+    svg.setAttribute('aria-label', id === 'axis' ? 'The numbers of lines' : chartWords());
     draw(svg);
     byId(id).replaceChildren(svg);
   }
+}
+
+// What the chart shows, for who can't see it: the list below has the same.
+function chartWords() {
+  return run.operations.size + ' operations through ' + run.instances.size + ' instances on ' + run.volumes.size + ' volumes; the list below tells the same line by line';
 }
 
 function fillNames(parent) {
@@ -408,6 +427,7 @@ function fillList() {
   for (const told of run.rows) {
     const row = document.createElement('div');
     row.className = told.event + (told.event === 'Base' && told.status === 18 ? ' fault' : '') + (told.telling === 'limit' ? ' limit' : '');
+    row.setAttribute('role', 'listitem');
     row.told = told;
     told.row = row;
     cell(row, 'line', told.line === line || told.event === 'End' ? '' : String(told.line));
@@ -433,7 +453,7 @@ function choose(told, fromList) {
   if (told.row) told.row.classList.add('here');
   chosen = told.column !== undefined ? told.column : told.near;
   const chart = byId('chart');
-  const x = xOf(chosen || 0), view = chart.clientWidth - NAMES;
+  const x = xOf(chosen || 0), view = chart.clientWidth - namesWidth();
   if (x < chart.scrollLeft + 40 || x > chart.scrollLeft + view - 60) chart.scrollLeft = Math.max(x - view / 2, 0);
   drawView(true);
   if (!fromList && told.row) told.row.scrollIntoView({ block: 'center' });
@@ -495,9 +515,11 @@ function fillLegend() {
   const marks = [
     ['circle', { cx: 9, cy: 8, r: 4.5, style: 'fill:var(--quiet)' }, 'preoperation, asks to come back'],
     ['circle', { cx: 9, cy: 8, r: 4.5, stroke: 'var(--quiet)', style: 'fill:var(--paper)' }, 'passes it on'],
-    ['path', { class: 'hold', d: 'M9 8m-3 -7v14m6 -14v14' }, 'holds it; dots until it goes on'],
+    ['path', { class: 'hold', d: 'M9 8m-3 -7v14m6 -14v14' }, 'holds it; dots until it is let go on, by a circle'],
     ['path', { d: 'M9 8m-5 4l5 -9l5 9z', style: 'fill:var(--quiet)' }, 'postoperation'],
     ['path', { class: 'red', d: 'M9 8m-5 -5l10 10m0 -10l-10 10' }, 'drained'],
+    ['circle', { class: 'red', cx: 9, cy: 8, r: 3 }, 'a drain of a teardown begins'],
+    ['path', { d: 'M6 5h6v6h-6z', style: 'fill:var(--quiet)' }, 'the answer of the file system, or the reply'],
     ['path', { class: 'red-fill', d: 'M4 3h10v10h-10z' }, 'ended or failed, with its status'],
     ['path', { d: 'M5 4h8v8h-8z', stroke: 'var(--quiet)', style: 'fill:var(--paper)' }, 'answered without the file system'],
     ['path', { class: 'red-fill', d: 'M11 0l-8 11h5l-2 8l8 -12h-5z' }, 'device fault'],
@@ -506,7 +528,10 @@ function fillLegend() {
     ['path', { class: 'told', d: 'M9 14l7 -12h-14z' }, 'a mistake of a filter, with its number'],
     ['path', { class: 'told limit', d: 'M9 14l7 -12h-14z' }, 'a limit of the model, with its number'],
     ['path', { class: 'callback', d: 'M6 0h-4v16h4m6 -16h4v16h-4' }, 'a callback of a setup or a teardown, from entry to return'],
-    ['rect', { class: 'bar', x: 0, y: 4, width: 18, height: 8, rx: 3 }, 'a context; a dot where it is set'],
+    ['path', { class: 'callback', d: 'M9 1v14' }, 'a dismount, or a handle that it closes'],
+    ['rect', { class: 'bar', x: 0, y: 4, width: 18, height: 8, rx: 3 }, 'a context, until its cleanup; a dot where it is set'],
+    ['path', { class: 'thread', d: 'M9 0v16' }, 'a callback takes a reference, or gives one back'],
+    ['rect', { class: 'here', x: 2, y: 0, width: 14, height: 16 }, 'the line that is chosen'],
   ];
   for (const [name, attributes, text] of marks) {
     const span = document.createElement('span');
@@ -525,14 +550,51 @@ function fillLegend() {
   }
 }
 
+// So many of something, in words.
+function many(count, one, more) {
+  return count === 1 ? one : count + ' ' + more;
+}
+
+// Why the run didn't end well, by its figures.
+function causesOf(end) {
+  const causes = [];
+  if (end.told > 0) causes.push(many(end.told, 'a mistake was told', 'mistakes were told'));
+  if (end.dropped > 0) causes.push('not all was kept of what could be told');
+  if (!isTrial() && end.leaks > 0) causes.push(many(end.leaks, 'a reference was left behind', 'references were left behind'));
+  if (!isTrial() && end.held > 0) causes.push(many(end.held, 'an operation is held', 'operations are held'));
+  if (!isTrial() && end.misuses > 0) causes.push(many(end.misuses, "a line gave back or let go on what it didn't have", "lines gave back or let go on what they didn't have"));
+  return causes.join(', ');
+}
+
+// What the run came to, in words.
+function verdictOf(end) {
+  const words = { WrongLine: "a line says nothing that can be read", NoMemory: 'no memory', ReadFault: 'not read to its end', WriteFault: 'not written' };
+  const causes = causesOf(end);
+  if (end.verdict === 'Well' && run.columns.length === 0) return 'nothing happened';
+  if (end.verdict === 'Well') return causes === '' ? 'well' : 'as expected: ' + causes;
+  if (end.verdict === 'Left') return causes || 'something is left behind';
+  if (end.verdict === 'Unexpected') return many(end.unmet, "one thing isn't as expected", "things aren't as expected");
+  return words[end.verdict];
+}
+
+// The figures of a run. Where there is no trouble it says so.
+function figuresOf(end) {
+  if (run.columns.length === 0) return 'no line did anything, so there is nothing to show';
+  const told = isTrial() ? many(end.told, '1 mistake told, ', 'mistakes told, ') : '';
+  const left = many(end.leaks, '1 reference', 'references') + ' left behind, ' + many(end.held, '1 operation', 'operations') + ' held, ';
+  const figures = many(end.line, '1 line', 'lines') + ', ' + end.refused + ' refused, ' + left + told + 'status ' + end.status;
+  return run.trouble.length === 0 ? figures + ': no trouble' : figures;
+}
+
 function fillHeader() {
   const end = run.end, verdict = byId('verdict');
-  if (isTrial()) document.title = document.querySelector('h1').textContent = 'Kazdrin: a trial' + (run.told.file ? ' of ' + run.told.file : '');
+  const file = run.told && run.told.file ? ' of ' + run.told.file : '';
+  document.title = document.querySelector('h1').textContent = 'Kazdrin: a ' + (isTrial() ? 'trial' : 'run') + file;
+  byId('trouble').disabled = run.trouble.length === 0;
   if (!end) { verdict.textContent = 'cut off'; verdict.className = 'bad'; return; }
-  const words = { Well: 'well', Left: isTrial() ? 'a mistake was told' : 'something is left behind', Unexpected: 'not as expected', WrongLine: 'a line says nothing', NoMemory: 'no memory', ReadFault: 'not read to its end', WriteFault: 'not written' };
-  verdict.textContent = words[end.verdict];
+  verdict.textContent = verdictOf(end);
   verdict.className = end.status === 0 ? '' : 'bad';
-  byId('figures').textContent = end.line + ' lines, ' + end.refused + ' refused, ' + end.leaks + ' references left behind, ' + end.held + ' operations held, ' + (isTrial() ? end.told + ' mistakes told, ' : '') + 'status ' + end.status;
+  byId('figures').textContent = figuresOf(end);
 }
 
 function isTrial() {
@@ -541,7 +603,7 @@ function isTrial() {
 
 // On paper the chart stands in bands, one below the other.
 function fillPaper() {
-  const paper = byId('paper'), bands = Math.ceil(run.columns.length / 66), columns = Math.ceil(run.columns.length / bands), width = NAMES + columns * STEP + 90;
+  const paper = byId('paper'), bands = Math.ceil(run.columns.length / 66), columns = Math.ceil(run.columns.length / bands), names = 210, width = names + columns * STEP + 90;
   paper.replaceChildren();
   for (let from = 0; from < run.columns.length; from += columns) {
     const svg = document.createElementNS(SVG, 'svg');
@@ -549,9 +611,9 @@ function fillPaper() {
     svg.setAttribute('width', width);
     for (const lane of run.lanes) add(svg, 'text', { x: 2, y: lane.y + 26, 'font-size': 11 }, (lane.text + ' ' + (lane.altitude || '')).slice(0, 40));
     const clip = add(add(svg, 'clipPath', { id: 'band' + from }), 'rect', { x: from * STEP, y: -30, width: columns * STEP + (from + columns >= run.columns.length ? 90 : 0), height: run.height + 60 });
-    const shift = add(svg, 'g', { transform: 'translate(' + (NAMES - from * STEP) + ' 22)', 'clip-path': 'url(#band' + from + ')' });
+    const shift = add(svg, 'g', { transform: 'translate(' + (names - from * STEP) + ' 22)', 'clip-path': 'url(#band' + from + ')' });
     drawWindow(shift, run, from, from + columns, null);
-    const axis = add(svg, 'g', { transform: 'translate(' + (NAMES - from * STEP) + ' 0)' });
+    const axis = add(svg, 'g', { transform: 'translate(' + (names - from * STEP) + ' 0)' });
     drawAxis(axis, run, from, from + columns);
     paper.appendChild(svg);
   }

@@ -175,6 +175,7 @@ fn check_all(rt: &HostRuntime, folder: &str) -> io::Result<bool> {
         let status = show_script(
             alloc,
             Shown::new(ViewFormat::Check),
+            None,
             input.as_slice(),
             &mut bytes,
         );
@@ -197,7 +198,13 @@ fn is_shown(rt: &HostRuntime, name: &str, format: ViewFormat, ending: &str) -> i
     let input = fs::read(rt, format!(in alloc; "{name}.flt")?)?;
     let wanted = fs::read(rt, format!(in alloc; "{name}.{ending}")?)?;
     let mut bytes = Vec::new(alloc);
-    let _ = show_script(alloc, Shown::new(format), input.as_slice(), &mut bytes);
+    let _ = show_script(
+        alloc,
+        Shown::new(format),
+        None,
+        input.as_slice(),
+        &mut bytes,
+    );
     Ok(bytes.as_slice() == wanted.as_slice())
 }
 

@@ -65,6 +65,13 @@ fn command<'a>(alloc: Global) -> Result<Command<'a>, AllocError> {
         .arg(flag(alloc, "skip", skip))?
         .arg(files)?
         .arg(flag(alloc, "colour", "Words have colours"))?
+        .arg(
+            Arg::new(alloc, "name")
+                .long("name")
+                .value_name("NAME")
+                .help("Of which file the script is, for objects and pages")
+                .action(ArgAction::Set),
+        )?
         .arg(line_number(
             alloc,
             "from",
@@ -120,5 +127,6 @@ fn main(rt: HostRuntime) -> anyhow::Result<ExitCode> {
         ),
         ..Shown::new(format)
     };
-    Ok(ExitCode::from(show_script(alloc, shown, rt.stdin(), rt.stdout())))
+    let file = matches.get_str("name");
+    Ok(ExitCode::from(show_script(alloc, shown, file, rt.stdin(), rt.stdout())))
 }

@@ -64,10 +64,13 @@ impl<'a> Detail<'a> {
     }
 }
 
-/// Appends the first object: the number of the schema.
-pub fn say_begin_json(alloc: Global, text: &mut Text) {
+/// Appends the first object: the number of the schema, and of which file the script is, where that is known.
+pub fn say_begin_json(alloc: Global, text: &mut Text, file: Option<&str>) {
     let mut object = JsonObject::new(alloc, 0, "Run");
     object.number("format", FORMAT);
+    if let Some(file) = file {
+        object.written("file", "raw", file.as_bytes());
+    }
     object.finish(text)
 }
 

@@ -31,7 +31,7 @@ fn run_script(alloc: Global, strictness: Strictness, script: &[u8]) -> Run {
         ..Shown::new(ViewFormat::Check)
     };
     let mut said = Vec::new(alloc);
-    let (status, expected) = run_shown(alloc, shown, script, &mut said);
+    let (status, expected) = run_shown(alloc, shown, None, script, &mut said);
     Run {
         status,
         expected,

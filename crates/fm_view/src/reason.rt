@@ -44,6 +44,10 @@ impl RefusedLine<'_> {
     }
 }
 
+// Why a line of a file with lines of another system can't be read.
+const CARRIAGE_RETURN: &str =
+    "the line ends in a carriage return, which is a byte of its last word: lines of a script end in a line feed alone";
+
 // Appends the sentence of a status.
 fn say_sentence(text: &mut Text, status: Status) {
     text.push_str(sentence(status))
@@ -78,6 +82,9 @@ fn say_asked(text: &mut Text, refusal: &RefusedLine<'_>, task: &Task, status: St
 
 // A line that was refused before any event.
 fn say_unasked(alloc: Global, text: &mut Text, refusal: &RefusedLine<'_>, status: Status) {
+    if refusal.line.ends_with(b"\r") {
+        return text.push_str(CARRIAGE_RETURN);
+    }
     match status {
         Status::BadRequest => say_unread(alloc, text, refusal.line),
         Status::WrongStep => say_unknown(text, refusal),

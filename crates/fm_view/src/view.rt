@@ -124,8 +124,8 @@ impl<W: Write + Drop> View<W> {
         })
     }
 
-    // Writes what stands before all lines.
-    fn begin(&mut self) -> Result<(), ScriptEnd> {
+    // Writes what stands before all lines of a script of that file.
+    fn begin(&mut self, file: Option<&str>) -> Result<(), ScriptEnd> {
         if self.shown.format == ViewFormat::Page {
             self.write_raw(PAGE_BEGIN)?;
         }
@@ -133,7 +133,7 @@ impl<W: Write + Drop> View<W> {
             return Ok(());
         }
         let mut text = Text::new(self.alloc);
-        say_begin_json(self.alloc, &mut text);
+        say_begin_json(self.alloc, &mut text, file);
         self.write_made(text)
     }
 
@@ -883,22 +883,24 @@ fn push_line(text: &mut Text, line: u32) {
     text.push_number(u64::from(line))
 }
 
-/// Runs the script that a reader gives, and writes what happened to a writer. It gives the exit status: that of the script's end. Of one that ended well it is
+/// Runs the script that a reader gives, and writes what happened to a writer. Objects and a page name the file, if one is named. It gives the exit status: that of the script's end. Of one that ended well it is
 /// 2 if a line expects what can't be read, else 6 if something wasn't as the script expects, and else 5 if it left a reference behind or an operation that a
 /// filter holds, or if a line gave back or resumed what it didn't have; where the script expects a status, it is 0 if that one came, and 6 if not.
 pub fn show_script<R: Read + Drop, W: Write + Drop>(
     alloc: Global,
     shown: Shown,
+    file: Option<&str>,
     reader: R,
     writer: W,
 ) -> u8 {
-    run_shown(alloc, shown, reader, writer).0
+    run_shown(alloc, shown, file, reader, writer).0
 }
 
 /// The same, which gives beside the exit status how many lines expect something.
 pub(crate) fn run_shown<R: Read + Drop, W: Write + Drop>(
     alloc: Global,
     shown: Shown,
+    file: Option<&str>,
     reader: R,
     writer: W,
 ) -> (u8, u64) {
@@ -907,7 +909,7 @@ pub(crate) fn run_shown<R: Read + Drop, W: Write + Drop>(
         Err(end) => return (end.status(), 0),
     };
     let mut view = view;
-    if let Err(end) = view.begin() {
+    if let Err(end) = view.begin(file) {
         return view.finish(end);
     }
     let (view, end) = read_lines(alloc, reader, view);

@@ -1,5 +1,5 @@
 -- What is told of the three lists that a manager notes.
-use Rattle.std.specs.Prelude.{ℕ, List, Option, Some, None, Bool, true, false, ◌+◌, ◌++◌, nat_eq, is_some, drop, filter_map, find, length, map, option_and_then, slice_get, if◌then◌else◌}
+use Rattle.std.specs.Prelude.{ℕ, List, Option, Some, None, ◌+◌, ◌++◌, nat_eq, is_some, drop, filter_map, find, length, map, option_and_then, slice_get, if◌then◌else◌}
 use Rattle.std.specs.List.{range_with_len}
 use Rattle.fm_types.specs.declared.ids.OpId.{OpId}
 use Rattle.fm_types.specs.declared.ids.InstanceId.{InstanceId}
@@ -11,7 +11,6 @@ use Rattle.fm_local.specs.declared.refusal.Refusal.{Refusal}
 use Rattle.fm_local.specs.declared.trace.Traced.{Traced}
 use Rattle.fm_local.specs.declared.trace.Visit.{Visit}
 use Rattle.fm_local.specs.declared.trace.Visit.TheVariants as visit
-use Rattle.fm_local.specs.declared.trace.PreAnswer.{PreAnswer}
 use Rattle.fm_local.specs.declared.trace.PostAnswer.{PostAnswer}
 use Rattle.fm_mistakes.specs.declared.mistake.Mistake.{Mistake}
 use Rattle.fm_mistakes.specs.declared.mistake.Mistake.TheVariants as told
@@ -40,9 +39,13 @@ status_in _ = None
 abbrev pub status_found : OpId → Traced → Option Status
 status_found o step = if nat_eq step.operation.0 o.0 then status_in step.visit else None
 
--- that of the first such step
+-- the first such step
+abbrev pub next_step : OpId → List Traced → Option Traced
+next_step o steps = find (λ step. is_some (status_found o step)) steps
+
+-- its status
 abbrev pub next_status : OpId → List Traced → Option Status
-next_status o steps = option_and_then (status_found o) (find (λ step. is_some (status_found o step)) steps)
+next_status o steps = option_and_then (status_found o) (next_step o steps)
 
 -- a mistake of a callback, if it is one
 abbrev pub answered : Place → Option Mistake → Option Finding

@@ -1,5 +1,5 @@
 -- Which mistake is told of what a callback did.
-use Rattle.std.specs.Prelude.{Option, Some, None, Bool, ℕ, true, false, nat_eq, ◌&&◌, ◌||◌, if◌then◌else◌}
+use Rattle.std.specs.Prelude.{Option, Some, None, Bool, ℕ, true, false, nat_eq, ◌&&◌, ◌||◌}
 use Rattle.fm_data.specs.declared.verdict.PreVerdict.{PreVerdict}
 use Rattle.fm_data.specs.declared.verdict.PreVerdict.TheVariants as verdict
 use Rattle.fm_flow.specs.declared.entry.PreState.{PreState}

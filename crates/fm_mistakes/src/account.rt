@@ -1,7 +1,7 @@
 //! What was told of a scenario so far, what of it was expected, and how the scenario ends.
 
 ghost use Rattle.std.specs.Prelude.{◌≡◌, ◌≤◌, ◌<◌, ◌++◌, ◌∷◌, [], IfOk, OnErr, OnOk, count_by, position};
-ghost use Rattle.fm_mistakes.specs.Accounts.{Expects, TellsAll, counts_as_mistake, is_open, is_told_misuse, status_of, told_now};
+ghost use Rattle.fm_mistakes.specs.Accounts.{Expects, TellsAll, counts_as_mistake, is_open, is_told_misuse, status_of, tellings, told_now};
 
 use crate::finding::Finding;
 use crate::mistake::Mistake;
@@ -39,6 +39,20 @@ impl ToldMistake {
     {
         !self.is_expected && self.request == request && self.mistake.number() == wanted.number()
     }
+}
+
+// What is told of these findings of a request.
+fn tellings(alloc: Global, found: &[Finding], request: u64) -> Result<Vec<ToldMistake>, AllocError>
+    ensures { IfOk result (λ told. told.items ≡ tellings request found.now) }
+{
+    found
+        .iter()
+        .map(|finding| ToldMistake {
+            mistake: finding.mistake(),
+            request,
+            is_expected: false,
+        })
+        .collect(alloc)
 }
 
 /// All that was told of a scenario, in its order, and what its lines expect of it.
@@ -92,14 +106,13 @@ impl Account {
         Ok(())
     }
 
-    /// These findings are told of the last request, in their order. Fails if memory is refused; then some may have been told.
-    pub fn tell_all(&mut self, found: &[Finding]) -> Result<(), AllocError>
-        ensures { IfOk result (λ _. TellsAll found.now self.old self.new) }
+    /// These findings are told of the last request, in their order. Fails, nothing changed, if memory is refused.
+    pub fn tell_all(&mut self, alloc: Global, found: &[Finding]) -> Result<(), AllocError>
+        ensures told { IfOk result (λ _. TellsAll found.now self.old self.new) }
+        ensures refused { OnErr result (self.new.told.items ≡ self.old.told.items) }
     {
-        for finding in found {
-            self.tell(finding.mistake())?;
-        }
-        Ok(())
+        let told = tellings(alloc, found, self.request)?;
+        self.told.extend_from_slice(told.as_slice())
     }
 
     // Where the first one stands that is that mistake, told of the last request, and that no line expects yet.

@@ -1,7 +1,7 @@
 //! What is told of a callback.
 
 ghost use Rattle.std.specs.Prelude.{◌≡◌};
-ghost use Rattle.fm_mistakes.specs.Findings.{call_finding, finding_at, mistake_in, next_status, place_in, status_found};
+ghost use Rattle.fm_mistakes.specs.Findings.{call_finding, finding_at, mistake_in, next_status, next_step, place_in, status_found};
 
 use crate::mistake::Mistake;
 use fm_core::Place;
@@ -53,14 +53,21 @@ fn status_found(step: &Traced, operation: OpId) -> Option<Status>
     }
 }
 
+// The next one of these steps that is of an operation above the file system, or its reply.
+fn next_step(steps: &[Traced], operation: OpId) -> Option<Traced>
+    ensures { result ≡ next_step operation steps.now }
+{
+    steps
+        .iter()
+        .copied()
+        .find(|step| status_found(step, operation).is_some())
+}
+
 // The status that the next one of these steps of an operation found, or that its reply has.
 fn next_status(steps: &[Traced], operation: OpId) -> Option<Status>
     ensures { result ≡ next_status operation steps.now }
 {
-    let next = steps
-        .iter()
-        .find(|step| status_found(step, operation).is_some())?;
-    status_found(next, operation)
+    status_found(&next_step(steps, operation)?, operation)
 }
 
 /// What is told of the step at that place; none where it isn't one of a callback, or where nothing is told of it.

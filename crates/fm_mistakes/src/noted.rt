@@ -18,9 +18,13 @@ fn steps_of<F: Minifilter, B: Base>(
 ) -> Result<Vec<Traced>, AllocError>
     ensures { IfOk result (λ list. list.items ≡ steps manager.now) }
 {
-    (0..manager.traced())
-        .filter_map(|place| manager.trace(place))
-        .collect(alloc)
+    let mut list = Vec::new(alloc);
+    for place in 0..manager.traced() {
+        if let Some(one) = manager.trace(place) {
+            list.push(one)?;
+        }
+    }
+    Ok(list)
 }
 
 // The leaks that can be read.
@@ -30,9 +34,13 @@ fn leaks_of<F: Minifilter, B: Base>(
 ) -> Result<Vec<Leak>, AllocError>
     ensures { IfOk result (λ list. list.items ≡ leaks manager.now) }
 {
-    (0..manager.leaked())
-        .filter_map(|place| manager.leak(place))
-        .collect(alloc)
+    let mut list = Vec::new(alloc);
+    for place in 0..manager.leaked() {
+        if let Some(one) = manager.leak(place) {
+            list.push(one)?;
+        }
+    }
+    Ok(list)
 }
 
 // The refused calls that can be read.
@@ -42,9 +50,13 @@ fn refused_calls_of<F: Minifilter, B: Base>(
 ) -> Result<Vec<Refusal>, AllocError>
     ensures { IfOk result (λ list. list.items ≡ refused_calls manager.now) }
 {
-    (0..manager.refused_calls())
-        .filter_map(|place| manager.refused_call(place))
-        .collect(alloc)
+    let mut list = Vec::new(alloc);
+    for place in 0..manager.refused_calls() {
+        if let Some(one) = manager.refused_call(place) {
+            list.push(one)?;
+        }
+    }
+    Ok(list)
 }
 
 // What is told of steps.

@@ -167,7 +167,7 @@ impl<F: Minifilter> Scenario<F> {
             found.as_slice(),
             text,
         )?;
-        self.account.tell_all(found.as_slice())?;
+        self.account.tell_all(self.alloc, found.as_slice())?;
         Ok(())
     }
 

@@ -63,21 +63,21 @@ module _ (R Z : RattleType) (L : Laws Z) (g : Ghosts Z.Denot) where
   its = record { row = Z; laws = L; g = g; d = impl [] tnil dnil; drops = impl [] tnil dnil }
 
   module _ {M : Type 1} {𝓤 : Ura M} {𝓛 : Logic 𝓤} {K : Type 0} {Γ : List (Item 𝓤)} {G : Goal 𝓤 𝓛.H} where
-    pub loose_apart : K → (d : Row.Denot) (vs : List Val)
+    pub raw_box_apart : K → (d : Row.Denot) (vs : List Val)
         → ((b o : ℕ) (h : Val) → vs ≡ pair (block_ptr b o) h ∷ [] → Good (layout Z) h
         → Seq K 𝓛 (‵ (box_owns (g.dealloc_token d.alloc) R (block_ptr b o) d.value) ∷ ‵ (Z.own_val d.alloc (h ∷ [])) ∷ Γ) G)
         → Seq K 𝓛 (‵ (Row.own_val d vs) ∷ Γ) G
-    loose_apart t d vs next =
+    raw_box_apart t d vs next =
         let Owned = λ (p : Ptr). box_owns (g.dealloc_token d.alloc) R p d.value in
         fsplit t $ fpick t (λ fields. fsplit t $ feq_l t (λ whole. fsplit t $ feq_l t (λ pointer. fsplit t $
         handle_tells its t d.alloc fields.1.0 (λ h handle fits. move t (1 ∷ []) $ drop t $ move t (1 ∷ []) $
         in_a_block t d.at Owned (fst∗ 𝓤 (never 𝓤) (sem 𝓛 (g.dealloc_token d.alloc (bare (lone R.mir)) null_ptr))) (λ b o same.
         next b o h (pair_is vs fields.0 fields.1.0 d.at (block_ptr b o) h whole pointer handle same) fits)))))
 
-    pub loose_whole : K → (p : Ptr) (h : Val) (a : Z.Denot) (x : R.Denot)
+    pub raw_box_whole : K → (p : Ptr) (h : Val) (a : Z.Denot) (x : R.Denot)
         → Step K 𝓛 (‵ (Row.own_val (record { at = p; alloc = a; value = x }) (pair p h ∷ [])) ∷ Γ) G
         (‵ (box_owns (g.dealloc_token a) R p x) ∷ ‵ (Z.own_val a (h ∷ [])) ∷ Γ) G
-    loose_whole t p h a x = step (λ rest.
+    raw_box_whole t p h a x = step (λ rest.
         nothing t $ move t (2 ∷ 0 ∷ []) $ fjoin t $ feq_i t (List Val) (ptr_val p ∷ []) _ refl $ fjoin t $ feq_i t (List Val) (pair p h ∷ []) _ refl $ fjoin t $
         fpack t (Valss (RawPtr ∷ Z ∷ [])) (within (shape (raw_box.the_type R Z g)) (p, (a, tt)) (pair p h ∷ [])) (ptr_val p ∷ [], (h ∷ [], tt)) $ fjoin t $ rest)
 

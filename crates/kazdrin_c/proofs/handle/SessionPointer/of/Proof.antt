@@ -20,7 +20,7 @@ use Rattle.core.proofs.alloc.Calls.{Goes-blank}
 use Rattle.std.proofs.raw_atomic.Walks.{proved_at, leaves}
 use Rattle.std_heap.proofs.Global.TheLaws.{the_row_laws}
 use Rattle.std_heap.specs.contracts.GlobalAllocator.TheImpl.{ghosts}
-use Rattle.kazdrin_c.proofs.Keeping.{Boxed, Heap, Row, pair, pair_good, loose_apart, kept_whole}
+use Rattle.kazdrin_c.proofs.Keeping.{Boxed, Heap, Row, pair, pair_good, raw_box_apart, kept_whole}
 use Rattle.kazdrin_c.specs.contracts.handle.SessionPointer.of.{ended, clauses}
 use Rattle.kazdrin_c.specs.contracts.handle.SessionPointer.of.Key.{name as #self}
 use Rattle.kazdrin_c.proofs.handle.SessionPointer.of.Statement.{statement}
@@ -33,7 +33,7 @@ of_spec 𝓤 𝓛 𝓜 𝓡 wired =
     proved_at 𝓛 ended hs c 𝓜 𝓡 (Goes-blank 𝓛 0 (plain (λ _. L)) ended.kept.0 (λ κs x f. tt), tt) #self fn (code.unfolded 𝓤 H 𝓜 𝓡 wired) (λ z are.
     let v = z.0.3.0 in let Post : Val → SProp 𝓤 = (walk_of 𝓛 ended hs c).post z in let Run : List Val → SProp 𝓤 = λ ws. WpFn 𝓤 H 𝓣.C 𝓣.Λ fn ws Post in let Told : Type 0 = Some v.value ≡ Some v.value in
     qed 𝓛 ((raw (alive 𝓛 ended.signature z.0.0 z.0.1) ⊛ ‵ (owns (types_at ended.signature.params z.0.0) z.0.3 z.0.4)) ∷ ‵ ftrue ∷ []) ∵ move ! (1 ∷ []) $ drop ! $ split ! $ move ! (1 ∷ []) $ fsplit ! $
-    loose_apart Boxed Heap the_row_laws ghosts ! v z.0.4.0 (λ b o h ws fits. let p = block_ptr b o in let w : Val = pair p h in let typed = pair_good Heap p h fits in
+    raw_box_apart Boxed Heap the_row_laws ghosts ! v z.0.4.0 (λ b o h ws fits. let p = block_ptr b o in let w : Val = pair p h in let typed = pair_good Heap p h fits in
     suffices ! (Run (w ∷ [])) (subst (λ (us : List Val). ent 𝓤 (Run (w ∷ [])) (Run us)) (sym (λ i. ws i ++ [])) (id⊢ 𝓤 (Run (w ∷ [])))) $
     enter ! 𝓣.C 𝓣.Λ fn (w ∷ []) Post $ alloc_all ! (λ l. pass_all ! refl (typed, tt) $
     sets ! (of_opd ! (get_in ! (fld ! refl (stop !)) (sub ! 0 refl (whole !)))) refl (tt, tt) $ sets ! (of_opd ! (get_in ! (fld ! refl (stop !)) (sub ! 1 refl (whole !)))) refl fits $

@@ -19,14 +19,14 @@ use Rattle.core.proofs.alloc.Calls.{Goes-blank}
 use Rattle.std.proofs.raw_atomic.Walks.{proved_at, leaves}
 use Rattle.std_heap.proofs.Global.TheLaws.{the_row_laws}
 use Rattle.std_heap.specs.contracts.GlobalAllocator.TheImpl.{ghosts}
-use Rattle.kazdrin_c.proofs.Keeping.{Boxed, Heap, SessionPointer, pair, pair_good, kept_apart, loose_whole, some_of}
+use Rattle.kazdrin_c.proofs.Keeping.{Boxed, Heap, SessionPointer, pair, pair_good, kept_apart, raw_box_whole, some_of}
 use Rattle.kazdrin_c.specs.contracts.handle.SessionPointer.raw_box.{ended, clauses}
 use Rattle.kazdrin_c.specs.contracts.handle.SessionPointer.raw_box.Key.{name as #self}
 use Rattle.kazdrin_c.proofs.handle.SessionPointer.raw_box.Statement.{statement}
 use Rattle.kazdrin_c.proofs.handle.SessionPointer.raw_box.Code as code
 
-pub loose_spec : {M : Type 1} → statement M
-loose_spec 𝓤 𝓛 𝓜 𝓡 wired =
+pub raw_box_spec : {M : Type 1} → statement M
+raw_box_spec 𝓤 𝓛 𝓜 𝓡 wired =
     let H = 𝓛.H in let 𝓣 = tables 𝓤 H 𝓜 𝓡 𝓡.env in let c = clauses 𝓛 𝓜.mem 𝓡.returns in let fn = code.function in
     let hs : Stays ended.signature.params ended.kept = (stay_dropped (plain (λ _. SessionPointer)) ended.kept.0, tt) in
     proved_at 𝓛 ended hs c 𝓜 𝓡 (Goes-blank 𝓛 0 (plain (λ _. SessionPointer)) ended.kept.0 (λ κs x f. tt), tt) #self fn (code.unfolded 𝓤 H 𝓜 𝓡 wired) (λ z are.
@@ -37,5 +37,5 @@ loose_spec 𝓤 𝓛 𝓜 𝓡 wired =
     enter ! 𝓣.C 𝓣.Λ fn (w ∷ []) Post $ alloc_all ! (λ l. pass_all ! refl (typed, tt) $
     sets ! (of_opd ! (get_in ! (fld ! refl (stop !)) (sub ! 0 refl (whole !)))) refl (tt, tt) $ sets ! (of_opd ! (get_in ! (fld ! refl (stop !)) (sub ! 1 refl (whole !)))) refl fits $
     sets ! (of_opd ! (get ! refl)) refl (tt, tt) $ sets ! (agg ! (and_then ! (get ! refl) (and_then ! (get ! refl) (no_more !)))) refl typed $
-    loose_whole Boxed Heap the_row_laws ghosts ! p h v.alloc x $ use0 𝓛 (raw (fact 𝓤 Told)) (fact_i 𝓤 Told (emp 𝓤) is) $ nothing ! $ nothing ! $ fjoin ! $
+    raw_box_whole Boxed Heap the_row_laws ghosts ! p h v.alloc x $ use0 𝓛 (raw (fact 𝓤 Told)) (fact_i 𝓤 Told (emp 𝓤) is) $ nothing ! $ nothing ! $ fjoin ! $
     returns ! (look_at ! 0 refl) $ free_all ! refl $ keep ! (4 ∷ 0 ∷ 2 ∷ 1 ∷ []) $ by ! (leaves 𝓛 ended hs c z w (record { at = p; alloc = v.alloc; value = x }) (tt, tt) (tt, tt))))))

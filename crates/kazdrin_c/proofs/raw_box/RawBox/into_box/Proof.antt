@@ -33,7 +33,7 @@ use Rattle.std_alloc.proofs.BoxSteps.Steps.{box_out, box_in}
 use Rattle.std.proofs.raw_atomic.Walks.{proved_at, leaves}
 use Rattle.std_alloc.specs.contracts.boxed.Box.from_raw as again
 use Rattle.std_alloc.proofs.boxed.Box.from_raw.Met.{met}
-use Rattle.kazdrin_c.proofs.Keeping.{Row, loose_apart, pair, pair_good}
+use Rattle.kazdrin_c.proofs.Keeping.{Row, raw_box_apart, pair, pair_good}
 use Rattle.kazdrin_c.specs.contracts.raw_box.RawBox.into_box.{ended, clauses}
 use Rattle.kazdrin_c.specs.contracts.raw_box.RawBox.into_box.Key.{name as #self}
 use Rattle.kazdrin_c.proofs.raw_box.RawBox.into_box.Statement.{statement}
@@ -52,7 +52,7 @@ into_box_spec 𝓤 𝓛 𝓜 𝓡 wired X A LX LA g d dx dd allocator glue glued
     let Run : List Val → SProp 𝓤 = λ ws. WpFn 𝓤 H 𝓣.C 𝓣.Λ fn ws Post in
     let lives : Item 𝓤 = ‵ (flft κs.0 qs.0) ⊛ ‵ (flft κs.1.0 qs.1.0) ⊛ ‵ ftrue in let asked : Item 𝓤 = raw ((c κs z.0.3).requires z.1) in
     qed 𝓛 ((lives ⊛ ‵ (owns (types_at En.signature.params κs) z.0.3 z.0.4)) ∷ asked ∷ []) ∵ split ! $ move ! (1 ∷ []) $ fsplit ! $
-    loose_apart R Z LZ g ! v z.0.4.0 (λ b o h ws fits. let p = block_ptr b o in let w : Val = pair p h in let typed = pair_good Z p h fits in
+    raw_box_apart R Z LZ g ! v z.0.4.0 (λ b o h ws fits. let p = block_ptr b o in let w : Val = pair p h in let typed = pair_good Z p h fits in
     let k = triple_of 𝓛 (again.signature X A g d dd) (again.spec X A g d dd 𝓛 𝓜.mem 𝓡.returns) in
     let y : k.Ghost = ((κs, qs, tt, (a, (p, tt)), (h ∷ [], (vptr b o ∷ [], tt))), v.value) in
     -- what the call asks for: that its types outlive the lifetimes, what it is passed, and the value with the right to free it

@@ -34,7 +34,7 @@ use Rattle.std_alloc.proofs.BoxSteps.Steps.{box_out, box_in}
 use Rattle.std.proofs.raw_atomic.Walks.{proved_at, leaves}
 use Rattle.std_alloc.specs.contracts.boxed.Box.into_raw_with_allocator as apart
 use Rattle.std_alloc.proofs.boxed.Box.into_raw_with_allocator.Met.{met}
-use Rattle.kazdrin_c.proofs.Keeping.{loose_whole, pair, pair_good, pair_is}
+use Rattle.kazdrin_c.proofs.Keeping.{raw_box_whole, pair, pair_good, pair_is}
 use Rattle.kazdrin_c.specs.contracts.raw_box.RawBox.of.{ended, clauses}
 use Rattle.kazdrin_c.specs.contracts.raw_box.RawBox.of.Key.{name as #self}
 use Rattle.kazdrin_c.proofs.raw_box.RawBox.of.Statement.{statement}
@@ -72,6 +72,6 @@ of_spec 𝓤 𝓛 𝓜 𝓡 wired X A LX LA g d dx dd allocator glue glued =
     lands_as ! (ap only (pair_is (u ∷ []) vss.0 vss.1.0 r.0 p h' eu ep eh e')) refl made $
     sets ! (of_opd ! (get_in ! (fld ! refl (stop !)) (sub ! 0 refl (whole !)))) refl (tt, tt) $ sets ! (of_opd ! (get_in ! (fld ! refl (stop !)) (sub ! 1 refl (whole !)))) refl fits' $
     sets ! (of_opd ! (get ! refl)) refl fits' $ sets ! (agg ! (and_then ! (get ! refl) (and_then ! (get ! refl) (no_more !)))) refl made $
-    move ! (3 ∷ 0 ∷ []) $ loose_whole R Z LZ g ! p h' a v.value $ use0 𝓛 (raw (fact 𝓤 Same)) (fact_i 𝓤 Same (emp 𝓤) refl) $ nothing ! $ nothing ! $ fjoin ! $
+    move ! (3 ∷ 0 ∷ []) $ raw_box_whole R Z LZ g ! p h' a v.value $ use0 𝓛 (raw (fact 𝓤 Same)) (fact_i 𝓤 Same (emp 𝓤) refl) $ nothing ! $ nothing ! $ fjoin ! $
     returns ! (look_at ! 0 refl) $ free_all ! refl $ keep ! (4 ∷ 0 ∷ 2 ∷ 1 ∷ []) $
     by ! (leaves 𝓛 En hs c z (pair p h') (record { at = p; alloc = a; value = v.value }) ((tt, (tt, tt)), tt) (tt, tt))))))))))))))

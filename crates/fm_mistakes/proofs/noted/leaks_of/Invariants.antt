@@ -1,0 +1,6 @@
+use Rattle.std.proofs.Common.{◌≡◌, take}
+use Rattle.fm_local.specs.Offered.{leaks}
+use Rattle.fm_mistakes.proofs.noted.leaks_of.Given as goal
+
+abbrev pub invariant-loop-place : goal.invariant-loop-place
+invariant-loop-place g l = l.list.items ≡ take l.place (leaks l.fn.manager)

@@ -94,9 +94,7 @@ impl Account {
     pub fn tell(&mut self, mistake: Mistake) -> Result<(), AllocError>
         ensures told { OnOk result (self.new.told.items ≡ self.old.told.items ++ told_now mistake self.old.request ∷ []) }
         ensures refused { OnErr result (self.new.told.items ≡ self.old.told.items) }
-        ensures request { self.new.request ≡ self.old.request }
-        ensures unmet { self.new.unmet ≡ self.old.unmet }
-        ensures dropped { self.new.dropped ≡ self.old.dropped }
+        ensures same { self.new ≡ record self.old { told = self.new.told } }
     {
         self.told.push(ToldMistake {
             mistake,

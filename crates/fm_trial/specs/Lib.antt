@@ -1,2 +1,1 @@
-pub mod Scenarios
 pub mod Verdicts

@@ -187,7 +187,7 @@ void kz_forget_carried_swap(KzOp *op, PFLT_INSTANCE instance)
     PVOID gone = step ? buffer_of(op, left, &length) : NULL;
     if (!gone || gone == buffer_of(op, &step->received, &received_length))
         return;
-    PVOID fresh = kz_block(op, length);
+    PVOID fresh = memcpy(kz_block(op, length), gone, kz_there(gone, length, "swapped buffer"));
     replace(&op->carried->now, op, gone, fresh);
     for (KzStep *lower = op->carried->steps; lower != step; lower = lower->above)
         replace(&lower->received, op, gone, fresh);

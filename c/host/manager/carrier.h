@@ -42,7 +42,7 @@ void kz_show_carried(KzOp *op, PFLT_INSTANCE instance, bool is_post);
 void kz_take_carried_pre(KzOp *op, bool has_post, bool is_completed);
 void kz_take_carried_post(KzOp *op);
 void kz_serve_carried(KzOp *op);
-/* An instance that is drained frees its buffer: those below go on with one of the operation's own. */
+/* An instance that is to be drained frees its buffer: those below go on with one of the operation's own, with the same in it. */
 void kz_forget_carried_swap(KzOp *op, PFLT_INSTANCE instance);
 NTSTATUS kz_answer_carried(KzOp *op);
 

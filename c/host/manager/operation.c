@@ -374,6 +374,8 @@ static void drain(KzOp *op, PFLT_INSTANCE instance, PVOID completion)
     PFLT_POST_OPERATION_CALLBACK callback = kz_registered(instance->filter, kz_major_of(op))->PostOperation;
     op->users++;
     kz_scheduler->touch(&op->users, 0, KZT_TAKES);
+    if (op->carried)
+        kz_forget_carried_swap(op, instance); /* what goes down in its buffer is still to be read */
     unsigned depth = kz_let_driver("drain", callback);
     FLT_POSTOP_CALLBACK_STATUS said = callback(&data, &objects, completion, FLTFL_POST_OPERATION_DRAINING);
     kz_driver_returned(depth, "drain returns");

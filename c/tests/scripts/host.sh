@@ -109,6 +109,12 @@ tell $? "a file with no request"
 says 3 'is a folder' "$room"
 tell $? "a folder as a file of requests"
 
+"$room/drivers" --json $tests/requests/names.txt > "$room/names.json" && grep -q '"command": "query a name", "event": "Reply", "status": 0, "information": 8, "length": 8, "says": "name /b"' "$room/names.json"
+tell $? "what a reply says, in JSON"
+printf 'create 0 new a as a\nquery a name\nexpect says name /b\nexpect status STATUS_ACCESS_DENIED\n' > "$room/says.txt"
+"$room/drivers" --junit "$room/says.xml" "$room/says.txt" > "$room/says.out"
+[ $? = 1 ] && grep -q '^unmet: says name /a$' "$room/says.out" && grep -q '^unmet: status 0x00000000$' "$room/says.out" && grep -q 'failure message="says name /a"' "$room/says.xml"
+tell $? "what a reply says, where it isn't met"
 if command -v python3 > /dev/null; then
     "$room/drivers" --json $tests/requests/leaks.txt > "$room/leaks.json"
     python3 $tests/scripts/reports.py "$room"
@@ -127,6 +133,14 @@ mkfifo "$room/folder/base/pipe"
 timeout 60 "$room/drivers" --folder "$room/folder/base" $tests/scripts/folder.txt > "$room/folder.out" && ! grep -q unmet "$room/folder.out" &&
     [ "$(cat "$room/folder/base/old" "$room/folder/base/sub/new" "$room/folder/outside")" = "abxyasecret" ] && [ ! -e "$room/folder/base/gone" ]
 tell $? "a folder"
+# Names in it: what was renamed, linked, made and deleted stands so.
+mkdir -p "$room/named/base/sub"
+printf one > "$room/named/base/a"
+printf two > "$room/named/base/b"
+timeout 60 "$room/drivers" --folder "$room/named/base" $tests/scripts/folder-names.txt > "$room/named.out" || { cat "$room/named.out"; false; }
+[ $? = 0 ] && [ "$(cd "$room/named/base" && find . | LC_ALL=C sort | tr '\n' ' ')" = ". ./B ./made ./made/moved ./sub ./sub/linked " ] &&
+    [ "$(cd "$room/named/base" && cat B made/moved sub/linked)" = "twoONEONE" ]
+tell $? "names in a folder"
 "$room/drivers" --folder "$room/none" $tests/scripts/folder.txt > "$room/folder.out" 2>&1
 [ $? = 3 ] && [ "$(cat "$room/folder.out")" = "$room/none: No such file or directory" ]
 tell $? "a folder that isn't there"

@@ -31,6 +31,14 @@ for file in c/samples/ctx.c c/samples/trail.c c/samples/cipher.c c/samples/secti
     of "$driver" notices --bound 1
     of "$driver" names-refusals --fail-each
 done
+# What a filter asks by itself and what it pends: each schedule with no preemption, and each call refused; and a destination that one filter changed, while another one holds the rename and
+# the first is detached.
+build owner --explore "$room/owner" $tests/drivers/owner.c
+of owner names --bound 0
+of owner names-refusals --fail-each
+build "trail and owner" --explore "$room/both" c/samples/trail.c $tests/drivers/owner.c
+"$room/both" --bound 1 $scenarios/held-rename.txt > "$room/both.out" 2>&1 && grep -q "told 0, races 0, stuck 0, crashed 0" "$room/both.out" || { cat "$room/both.out"; false; }
+tell $? "a rename that is held below a filter that goes"
 if has_sanitizers thread; then
     for driver in trail cipher sectionguard; do
         build "$driver for a load" --sanitize=thread "$room/load" "c/samples/$driver.c"

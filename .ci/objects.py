@@ -2,6 +2,7 @@
 """Checks the JSON of scripts against the tables of docs/JSON.md, and each run's objects against what the run printed.
 
     .ci/objects.py --program FLTVIEW [--trial PROGRAM] [--random COUNT [SEED]] [SCRIPT ..]     of these scripts; else of all stored ones
+    .ci/objects.py --objects FILE [--objects FILE ..]     the objects that drivers' programs in C wrote to these files
 
 With --random it checks so many random scripts too (.ci/scripts.py), from that seed on or from 1.
 With --trial it checks a trial too, of the program test_trial: its stored scenario, and one of what that one lacks. The lines that the trial prints say the same.
@@ -65,7 +66,7 @@ def tables(text):
         elif rows is not None:
             found.append(rows[2:])
             rows = None
-    return found
+    return found + ([] if rows is None else [rows[2:]])
 
 
 def words_of(cell):
@@ -74,13 +75,14 @@ def words_of(cell):
 
 def schema():
     """What each member is; for each event what it has and may have, and whether a printed line is told by it; and the events that come in trials alone."""
-    members, upper, lower, trial = tables((TOP / "docs" / "JSON.md").read_text())
+    members, upper, lower, trial, driver = tables((TOP / "docs" / "JSON.md").read_text())
     kinds = {words_of(row[0])[0]: row[1] for row in members}
     events = {}
     for rows, more, is_printed in ((upper, ["command", "words"], True), (lower + trial, [], False)):
         for name, has, may, _ in rows:
             events[words_of(name)[0]] = (set(words_of(has)) | {"line", "event", *more}, set(words_of(may)), is_printed)
-    return kinds, events, {words_of(row[0])[0] for row in trial}
+    drivers = {words_of(name)[0]: (set(words_of(has)) | {"line", "event"}, set(words_of(may)), False) for name, has, may, _ in driver}
+    return kinds, events, {words_of(row[0])[0] for row in trial}, drivers
 
 
 def is_text(value, may_end=False):
@@ -243,7 +245,29 @@ def random_scripts(program, room, count, seed):
     return made
 
 
+def driver_faults(path, kinds, events):
+    """What is wrong with the objects that a driver's program wrote."""
+    all_told = [json.loads(line) for line in pathlib.Path(path).read_text(encoding="ascii").splitlines()]
+    faults = [f"object {at}: {fault}" for at, told in enumerate(all_told) for fault in faults_of(told, kinds, events)]
+    names = [told["event"] for told in all_told]
+    if names[:1] != ["Run"] or names[-1:] != ["End"] or names.count("Run") != names.count("End"):
+        faults.append("a run doesn't begin with Run and end with End")
+    return faults
+
+
+def check_drivers(paths):
+    """Checks files of objects of drivers' programs: prints what is wrong."""
+    kinds, _, _, drivers = schema()
+    faults = [f"{path}: {fault}" for path in paths for fault in driver_faults(path, kinds, drivers)]
+    print("\n".join(faults[:10]), end="\n" if faults else "")
+    sys.exit(1 if faults else 0)
+
+
 def main():
+    if sys.argv[1:2] == ["--objects"]:
+        if sys.argv[1::2] != ["--objects"] * (len(sys.argv) // 2) or len(sys.argv) % 2 == 0:
+            sys.exit(__doc__)
+        check_drivers(sys.argv[2::2])
     program, words = words_behind(sys.argv[1:], "--program")
     trial, words = words_behind(words, "--trial")
     count, seed, words = random_of(words)
@@ -255,7 +279,7 @@ def main():
     own_trial.write_bytes(OWN_TRIAL)
     scripts = [pathlib.Path(word) for word in words] or [*sorted(DATA.rglob("*.flt")), own]
     scripts += random_scripts(program, room.name, count, seed)
-    kinds, events, trial_events = schema()
+    kinds, events, trial_events, _ = schema()
     runs = [check(script, program, kinds, events, lambda told, script=script: script_faults(told, events, script)) for script in scripts]
     if trial:
         runs += [check(it, trial, kinds, events, lambda told, it=it: trial_faults(trial, told, it)) for it in (TRIAL, own_trial)]

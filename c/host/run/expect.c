@@ -85,7 +85,7 @@ void kz_note_callback(KzCallback callback, PFLT_FILTER filter)
     if (!kz_is_json())
         return;
     kz_json_text(name, sizeof name, filter->driver->name);
-    snprintf(members, sizeof members, "\"callback\": \"%s\", \"filter\": %s", kz_callback_word(callback), name);
+    snprintf(members, sizeof members, "\"callback\": \"%s\", \"name\": %s", kz_callback_name(callback), name);
     kz_report_event("Callback", members);
 }
 
@@ -121,7 +121,7 @@ static void report_reply(void)
 {
     char members[5200], text[4800];
     if (reply.held)
-        snprintf(members, sizeof members, "\"operation\": %llu", (unsigned long long)reply.operation);
+        snprintf(members, sizeof members, "\"operation\": \"o%llu\"", (unsigned long long)reply.operation);
     else
         snprintf(members, sizeof members, "\"status\": %u, \"information\": %llu, \"length\": %zu", reply.status, (unsigned long long)reply.information, length);
     size_t used = strlen(members);
@@ -129,7 +129,7 @@ static void report_reply(void)
         kz_json_text(text, sizeof text, says);
         snprintf(members + used, sizeof members - used, ", \"says\": %s", text);
     }
-    kz_report_event(reply.held ? "Held" : "Reply", members);
+    kz_report_event(reply.held ? "Waits" : "Answered", members);
 }
 
 void kz_note_reply(KzReply answer, NTSTATUS status, const uint8_t *from, size_t size, const char *text)

@@ -29,7 +29,7 @@ void kz_use_junit(const char *path)
     junit = path;
 }
 
-/* A text of JSON, with its quotes. */
+/* A text of JSON, with its quotes: what isn't from the space to `~` stands as `\x` and two digits. */
 void kz_json_text(char *room, size_t size, const char *text)
 {
     size_t used = 0;
@@ -39,7 +39,7 @@ void kz_json_text(char *room, size_t size, const char *text)
         if (letter == '"' || letter == '\\')
             used += (size_t)snprintf(room + used, size - used, "\\%c", letter);
         else if (letter < ' ' || letter > 126)
-            used += (size_t)snprintf(room + used, size - used, "\\u%04x", letter);
+            used += (size_t)snprintf(room + used, size - used, "\\\\x%02x", letter);
         else
             room[used++] = (char)letter;
     }
@@ -54,6 +54,32 @@ void kz_report_event(const char *event, const char *members)
         return;
     kz_json_text(words, sizeof words, kz_command());
     printf("{\"line\": %u, \"command\": %s, \"event\": \"%s\"%s%s}\n", kz_line(), words, event, *members ? ", " : "", members);
+}
+
+void kz_report_begin(const char *file)
+{
+    char name[600];
+    if (!is_json)
+        return;
+    kz_json_text(name, sizeof name, file);
+    printf("{\"line\": 0, \"event\": \"Run\", \"format\": 1, \"origin\": \"driver\", \"file\": %s}\n", name);
+}
+
+/* A callback in the words of docs/JSON.md. */
+const char *kz_callback_name(KzCallback callback)
+{
+    switch (callback) {
+    case KZ_IN_PRE:
+        return "preoperation";
+    case KZ_IN_POST:
+        return "postoperation";
+    case KZ_IN_START:
+        return "teardown-start";
+    case KZ_IN_COMPLETE:
+        return "teardown-complete";
+    default:
+        return kz_callback_word(callback);
+    }
 }
 
 /* ---- What is told. */
@@ -86,21 +112,21 @@ static void add_source(Members *members, const KzPlace *place)
     uintptr_t address = place->from ? kz_in_file(place->from) : place->function ? kz_in_file(place->function) + 1 : 0;
     if (address && kz_find_source(address, line, sizeof line))
         add_text(members, "source", line);
-    add_text(members, "call", place->from ? place->call : NULL);
+    add_text(members, "routine", place->from ? place->call : NULL);
 }
 
 static void add_place(Members *members, const KzSaid *said)
 {
     const KzPlace *place = said->place;
-    add_text(members, "filter", place->filter ? place->filter->driver->name : NULL);
+    add_text(members, "name", place->filter ? place->filter->driver->name : NULL);
     if (place->instance)
-        add(members, ", \"instance\": %u", place->instance->id);
-    add_text(members, "callback", kz_callback_word(place->callback));
+        add(members, ", \"instance\": \"i%u\"", place->instance->id);
+    add_text(members, "callback", kz_callback_name(place->callback));
     if (place->op)
-        add(members, ", \"operation\": %llu, \"major\": \"%s\"", (unsigned long long)place->op_id, FltGetIrpName(place->major));
-    add_text(members, "request", place->request);
+        add(members, ", \"operation\": \"o%llu\", \"major\": \"%s\"", (unsigned long long)place->op_id, FltGetIrpName(place->major));
+    add_text(members, "began", place->request);
     if (place->line)
-        add(members, ", \"request_line\": %u", place->line);
+        add(members, ", \"began_line\": %u", place->line);
     add_text(members, "path", place->path);
     add_source(members, place);
     if (said->object)
@@ -115,10 +141,10 @@ void kz_report_told(const KzSaid *said)
         return;
     kz_readable(text, sizeof text, said->text);
     text[strcspn(text, "\n")] = 0;
-    add(&members, "\"id\": \"KZ%04d\"", said->message);
-    add_text(&members, "text", text);
+    add(&members, "\"id\": \"KZ%04d\", \"telling\": \"%s\"", said->message, said->kind == KZ_SAID_LIMIT ? "limit" : "mistake");
+    add_text(&members, "words", text);
     add_place(&members, said);
-    kz_report_event(said->kind == KZ_SAID_AGAIN ? "Again" : said->kind == KZ_SAID_TOLD ? "Told" : "Limit", members.text);
+    kz_report_event(said->kind == KZ_SAID_AGAIN ? "Again" : "Told", members.text);
 }
 
 static char *copy_of(const char *text)
@@ -144,9 +170,9 @@ void kz_report_expectation(const char *words, const char *why)
     add_case(name, why);
     if (!why)
         return;
-    kz_json_text(quoted, sizeof quoted, name);
+    kz_json_text(quoted, sizeof quoted, words);
     kz_json_text(instead, sizeof instead, why);
-    snprintf(members, sizeof members, "\"expected\": %s, \"was\": %s", quoted, instead);
+    snprintf(members, sizeof members, "\"expected\": %s, \"answered\": [%s]", quoted, instead);
     kz_report_event("Unmet", members);
 }
 
@@ -203,13 +229,30 @@ static void free_cases(void)
     cases_count = 0;
 }
 
+/* How a run went, in the words of docs/JSON.md. */
+static const char *verdict_of(int status)
+{
+    switch (status) {
+    case 0:
+        return "Well";
+    case 1:
+        return "Unexpected";
+    case 2:
+        return "WrongLine";
+    case 3:
+        return "ReadFault";
+    default:
+        return "Left";
+    }
+}
+
 void kz_report_end(const char *name, int status)
 {
-    char members[300], text[64];
+    char members[400], text[64];
     snprintf(text, sizeof text, "told %llu", (unsigned long long)kz.counts.told);
     add_case("nothing is told", kz.counts.told ? text : NULL);
-    snprintf(members, sizeof members, "\"born\": %llu, \"cleaned\": %llu, \"leaks\": %llu, \"told\": %llu, \"limits\": %llu, \"unmet\": %u, \"status\": %d",
-             (unsigned long long)kz.counts.born, (unsigned long long)kz.counts.cleaned, (unsigned long long)kz.counts.leaked,
+    snprintf(members, sizeof members, "\"verdict\": \"%s\", \"born\": %llu, \"cleaned\": %llu, \"leaks\": %llu, \"told\": %llu, \"limits\": %llu, \"unmet\": %u, \"status\": %d",
+             verdict_of(status), (unsigned long long)kz.counts.born, (unsigned long long)kz.counts.cleaned, (unsigned long long)kz.counts.leaked,
              (unsigned long long)kz.counts.told, (unsigned long long)kz.counts.limits, kz_unmet(), status);
     kz_report_event("End", members);
     if (junit)

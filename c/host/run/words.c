@@ -527,6 +527,7 @@ static int run_file(const KzDriver *drivers, size_t count, FILE *file, const cha
         return 1;
     is_wrong = false;
     memset(&seen, 0, sizeof seen);
+    kz_report_begin(name);
     while (!is_wrong && fgets(line, sizeof line, file)) {
         kz_next_line();
         request_or_bad(line, file);

@@ -117,6 +117,8 @@ printf 'create 0 new a as a\nquery a name\nexpect says name /b\nexpect status ST
 tell $? "what a reply says, where it isn't met"
 if command -v python3 > /dev/null; then
     "$room/drivers" --json $tests/requests/leaks.txt > "$room/leaks.json"
+    python3 .ci/objects.py --objects "$room/expects.json" --objects "$room/leaks.json"
+    tell $? "JSON beside docs/JSON.md"
     python3 $tests/scripts/reports.py "$room"
     tell $? "JSON and JUnit, as they are read,"
     python3 $tests/scripts/numbers.py

@@ -18,11 +18,17 @@ BOOLEAN FltIsCallbackDataDirty(PFLT_CALLBACK_DATA Data)
     return (Data->Flags & FLTFL_CALLBACK_DATA_DIRTY) != 0;
 }
 
-/* What a file and a volume have beside bytes. One of a security descriptor that is set has no length. */
+/* Information, and what a file and a volume have beside bytes. One of a security descriptor that is set has no length. */
 static bool decode_beside(FLT_PARAMETERS *now, UCHAR major, PMDL **mdl, PVOID **buffer, ULONG **length, LOCK_OPERATION *access)
 {
-    *access = major == IRP_MJ_SET_EA || major == IRP_MJ_SET_QUOTA || major == IRP_MJ_SET_VOLUME_INFORMATION ? IoReadAccess : IoWriteAccess;
+    *access = major == IRP_MJ_SET_INFORMATION || major == IRP_MJ_SET_EA || major == IRP_MJ_SET_QUOTA || major == IRP_MJ_SET_VOLUME_INFORMATION ? IoReadAccess : IoWriteAccess;
     switch (major) {
+    case IRP_MJ_QUERY_INFORMATION:
+        *buffer = &now->QueryFileInformation.InfoBuffer, *length = &now->QueryFileInformation.Length;
+        return true;
+    case IRP_MJ_SET_INFORMATION:
+        *buffer = &now->SetFileInformation.InfoBuffer, *length = &now->SetFileInformation.Length;
+        return true;
     case IRP_MJ_QUERY_EA:
         *mdl = &now->QueryEa.MdlAddress, *buffer = &now->QueryEa.EaBuffer, *length = &now->QueryEa.Length;
         return true;
@@ -79,15 +85,6 @@ NTSTATUS FltDecodeParameters(PFLT_CALLBACK_DATA CallbackData, PMDL **MdlAddressP
         mdl = is_notice ? &now->DirectoryControl.NotifyDirectory.MdlAddress : &now->DirectoryControl.QueryDirectory.MdlAddress;
         buffer = is_notice ? &now->DirectoryControl.NotifyDirectory.DirectoryBuffer : &now->DirectoryControl.QueryDirectory.DirectoryBuffer;
         length = is_notice ? &now->DirectoryControl.NotifyDirectory.Length : &now->DirectoryControl.QueryDirectory.Length;
-        break;
-    case IRP_MJ_QUERY_INFORMATION:
-        buffer = &now->QueryFileInformation.InfoBuffer;
-        length = &now->QueryFileInformation.Length;
-        break;
-    case IRP_MJ_SET_INFORMATION:
-        buffer = &now->SetFileInformation.InfoBuffer;
-        length = &now->SetFileInformation.Length;
-        access = IoReadAccess;
         break;
     default:
         if (!decode_beside(now, CallbackData->Iopb->MajorFunction, &mdl, &buffer, &length, &access))

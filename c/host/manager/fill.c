@@ -63,6 +63,13 @@ static void fill_directory(KzOp *op, const KzAsked *asked, FLT_PARAMETERS *now)
     now->DirectoryControl.QueryDirectory.DirectoryBuffer = output(op, asked);
 }
 
+static void fill_query(KzOp *op, const KzAsked *asked, FLT_PARAMETERS *now)
+{
+    now->QueryFileInformation.Length = (ULONG)asked->room;
+    now->QueryFileInformation.FileInformationClass = (FILE_INFORMATION_CLASS)asked->code;
+    now->QueryFileInformation.InfoBuffer = output(op, asked);
+}
+
 static void fill_set(KzOp *op, const KzAsked *asked, FLT_PARAMETERS *now)
 {
     PFILE_RENAME_INFORMATION name = input(op, asked);
@@ -118,9 +125,7 @@ void kz_fill_carried(KzOp *op, const KzAsked *asked)
     FLT_PARAMETERS *now = &op->carried->now;
     switch (asked->major) {
     case IRP_MJ_QUERY_INFORMATION:
-        now->QueryFileInformation.Length = (ULONG)asked->room;
-        now->QueryFileInformation.FileInformationClass = (FILE_INFORMATION_CLASS)asked->code;
-        now->QueryFileInformation.InfoBuffer = output(op, asked);
+        fill_query(op, asked, now);
         break;
     case IRP_MJ_SET_INFORMATION:
         fill_set(op, asked, now);

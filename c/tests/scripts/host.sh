@@ -109,7 +109,7 @@ tell $? "a file with no request"
 says 3 'is a folder' "$room"
 tell $? "a folder as a file of requests"
 
-"$room/drivers" --json $tests/requests/names.txt > "$room/names.json" && grep -q '"command": "query a name", "event": "Reply", "status": 0, "information": 8, "length": 8, "says": "name /b"' "$room/names.json"
+"$room/drivers" --json $tests/requests/names.txt > "$room/names.json" && grep -q '"command": "query a name", "event": "Answered", "status": 0, "information": 8, "length": 8, "says": "name /b"' "$room/names.json"
 tell $? "what a reply says, in JSON"
 printf 'create 0 new a as a\nquery a name\nexpect says name /b\nexpect status STATUS_ACCESS_DENIED\n' > "$room/says.txt"
 "$room/drivers" --junit "$room/says.xml" "$room/says.txt" > "$room/says.out"

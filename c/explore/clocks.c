@@ -237,6 +237,8 @@ void ex_access(const void *address, size_t size, bool is_write, bool is_atomic, 
         return;
     if (is_point(start, end, is_atomic))
         ex_memory_point(address, size, from);
+    if (ex->is_traced)
+        ex_trace_access(address, is_write, is_atomic);
     look_at_freed(start, from, is_write);
     for (uintptr_t tag = start >> 3; tag << 3 < end; tag++) {
         uintptr_t first = tag << 3 < start ? start - (tag << 3) : 0, last = (tag << 3) + 8 > end ? end - (tag << 3) : 8;
@@ -303,6 +305,8 @@ void ex_touch(const void *object, size_t size, KzTouch how)
         return;
     }
     Object *one = object_of(object);
+    if (ex->is_traced && kz_me->place.call)
+        ex_trace_object(object, how == KZT_TAKES, kz_me->place.call);
     if (!one)
         return;
     if (how == KZT_TAKES)

@@ -1,6 +1,7 @@
 /* The clients of a run: coroutines of one thread. One that stands at a point, waits or has ended asks who goes on. */
 #include "explore.h"
 
+#include <signal.h>
 #include <sys/mman.h>
 
 enum { STACK = 1 << 18, BELOW = 1 << 12 };
@@ -141,13 +142,15 @@ static int choose(Runner *me)
         ex->able |= 1U << options.clients[at];
     bool is_bound = options.may_stay && ex->preemptions >= ex->bound && !ex->replay;
     unsigned taken = options.count > 1 && !is_bound ? ex_decide(options.count, SWITCH, options.clients, options.may_stay) : 0;
-    if (ex->replay && options.count == 1)
+    if ((ex->replay || ex->is_guided) && options.count == 1)
         taken = ex_decide(1, SWITCH, options.clients, options.may_stay);
     int client = options.clients[taken];
     bool is_preemption = options.may_stay && taken > 0;
     ex->preemptions += is_preemption;
     ex->switches += client != ex->current && ex->current;
     note_step(client);
+    if (ex->stops_at && ex->steps == ex->stops_at)
+        raise(SIGTRAP); /* a debugger stops here: the client goes on next */
     if (ex->is_traced)
         ex_trace_step(&ex_runners[client], is_preemption);
     return client;
@@ -317,7 +320,7 @@ static unsigned choose_answer(unsigned count, KzChoice what, const char *name)
     if (is_set_up() || !ex->is_running || ex->is_alone)
         return 0;
     bool is_time = what == KZ_CHOICE_TIME, is_inside = what == KZ_CHOICE_INSIDE;
-    bool is_asked = is_inside ? ex->has_inside || ex->replay : is_time ? !ex->timeouts : ex->fails_used < ex->fails || ex->replay;
+    bool is_asked = is_inside ? ex->has_inside || ex->replay || ex->is_guided : is_time ? !ex->timeouts : ex->fails_used < ex->fails || ex->replay || ex->is_guided;
     unsigned taken = is_asked ? ex_decide(count, is_inside ? ANSWER_INSIDE : ANSWER_FAIL, NULL, false) : 0;
     if (!taken)
         return 0;
@@ -343,6 +346,12 @@ static bool has_work(void *unused)
     return kz_has_dpc() || kz_has_work() || kz_may_fire();
 }
 
+/* A worker that isn't through with a work item: it waits for something else than the next one. */
+bool ex_is_busy(const Runner *one)
+{
+    return one->is_worker && !one->thread && one->has_begun && one->state == WAITING && one->can != has_work;
+}
+
 static void work(void)
 {
     for (;;) {
@@ -363,7 +372,8 @@ static void live(void)
     if (me->is_worker)
         work();
     for (size_t at = 0; at < me->script->count; at++)
-        kz_scripted_request(me->script->requests[at], &me->handle);
+        if (!(ex->left_out[me->client->number] >> at & 1))
+            kz_scripted_request(me->script->requests[at], &me->handle);
     me->state = ENDED;
     go_on(me);
 }

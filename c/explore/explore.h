@@ -15,8 +15,12 @@ enum {
     KINDS = 1024,       /* kinds of ends and of what is told */
     TEXT = 4096,
     DEPTH = 16, /* of --pct */
-    OUTPUT = 1 << 18    /* what a run says */
+    OUTPUT = 1 << 18,   /* what a run says */
+    WORKERS = 4
 };
+
+/* What a choice is of: who goes on, whether a call is refused, whether an operation goes on inside a call. */
+typedef enum { SWITCH, ANSWER_FAIL, ANSWER_INSIDE } Asks;
 
 /* ---- A client of the scenario: a coroutine of its own. */
 typedef enum { READY, RUNNING, WAITING, ENDED } State;
@@ -75,6 +79,14 @@ typedef struct {
     uint64_t seed;
 } Kind;
 
+/* What the schedules of one bound came to. */
+enum { BOUNDS = 64, NO_BOUND = 0xffffffff };
+typedef struct {
+    unsigned bound, longest;
+    uint64_t schedules, given_up, states, counts[LIMITED + 1];
+    double seconds;
+} Counted;
+
 /* What a run has found so far, until its end. */
 typedef struct {
     KindOf of;
@@ -82,6 +94,17 @@ typedef struct {
     unsigned preemptions, switches, steps;
     size_t schedule_length;
 } Found;
+
+/* What happens in a run that is traced. */
+enum { EVENTS = 1 << 17 };
+typedef enum { EVENT_STEP, EVENT_SAID, EVENT_TOUCH, EVENT_TAKES, EVENT_GIVES, EVENT_FOUND } EventKind;
+typedef struct {
+    EventKind kind;
+    unsigned client, step;
+    const char *text;
+    const void *from;
+    bool is_preemption;
+} Event;
 
 /* All that a run's beginning doesn't put back. */
 typedef struct {
@@ -91,6 +114,9 @@ typedef struct {
     bool is_alone; /* a thread goes on until it waits, and nobody else */
     unsigned bound, fails, shard, shards;
     bool wants_ends, is_traced, is_quiet;
+    unsigned asked_bound, workers, stops_at; /* the last bound; how many work items run at once; the step before which a debugger stops, or 0 */
+    uint64_t asked_seed, asked_runs;
+    bool is_independent; /* of orders that differ by steps which are independent one is searched */
     bool is_coarse; /* no points at memory */
     bool has_inside; /* the rest of an operation may run inside its completion */
     bool is_reduced; /* a run that comes to a known state is given up */
@@ -108,6 +134,10 @@ typedef struct {
     bool is_running;
     unsigned preemptions, switches, fails_used, timeouts, steps;
     bool is_limited;
+    char unmet[TEXT]; /* the first expectation that isn't met */
+    bool is_guided; /* it follows a list of steps as far as it can */
+    struct Guide *guide;
+    uint64_t left_out[RUNNERS + 1]; /* requests of each client that aren't made: a bit for each */
     uint8_t schedule[STEPS * 2];
     size_t schedule_length;
     char schedule_text[STEPS * 4];
@@ -132,15 +162,44 @@ typedef struct {
     int kinds_count;
     uint64_t schedules, given_up, counts[LIMITED + 1];
     unsigned longest;
-    double shown; /* when progress was shown last */
+    double shown, saved; /* when progress was shown last, and the search saved */
+    double since; /* when this bound began */
+    Counted counted[BOUNDS]; /* of the bounds that are done */
+    int counted_count;
+    char search[512]; /* what is searched, and by which words */
+    bool is_whole, is_silent;
+    volatile bool is_interrupted;
+    char resume_path[4200]; /* where an interrupted search is saved; empty if it isn't */
+    bool is_resumed;
+    Counted resumed; /* where it goes on */
     uint64_t ticked[3]; /* of the clock of endless code: the run and the step at its last tick, and for how many it stands there */
     char trace[1 << 20];
     size_t trace_length;
+    Event *events; /* of a run that is traced */
+    size_t events_count, touches_from;
     char *room; /* for what is kept of kinds: never freed */
     size_t room_used;
 } Explorer;
 
 extern Explorer *ex;
+
+/* What the words ask for, beside what the search itself looks at. */
+typedef struct {
+    unsigned jobs, commutes;
+    bool shrinks, is_debugged;
+    const char *replay, *scenario, *learns, *expects, *saves, *resume, *page;
+    char **merges;
+    int merges_count;
+    char search[400];
+} Asked;
+
+/* words.c: false if a sentence has said what is wrong. */
+bool ex_read_words(int count, char **words, Asked *asked);
+int ex_debug(int count, char **words);
+
+/* main.c */
+void ex_run_once(void);
+void ex_search(void);
 extern Runner ex_runners[RUNNERS + 1]; /* by the client's number: from 1 on */
 #define ROOM (1UL << 30)
 enum { FAIL = 255, INSIDE = 254 };     /* in a schedule: the call was refused; the operation went on inside the call */
@@ -185,6 +244,7 @@ bool ex_is_stack(const void *address);
 uint64_t ex_stacks_hash(void);
 void ex_run(void);
 bool ex_is_stuck(void);
+bool ex_is_busy(const Runner *one);
 /* Before an access of the driver's code: another client may go on first. */
 void ex_memory_point(const void *address, size_t size, const void *from);
 /* It has changed shared memory: it doesn't look in vain. */
@@ -192,7 +252,6 @@ void ex_note_change(void);
 uint64_t ex_patience_hash(void);
 
 /* path.c: which of so many is taken. */
-typedef enum { SWITCH, ANSWER_FAIL, ANSWER_INSIDE } Asks;
 unsigned ex_decide(unsigned count, Asks asks, const int *clients, bool may_stay);
 bool ex_advance(void);
 void ex_draw_priorities(void);
@@ -206,19 +265,49 @@ void ex_found(KindOf of, const char *text);
 void ex_say(const KzSaid *said);
 void ex_keep_found(void);
 void ex_report_kind(const Kind *kind);
+void ex_put_kind_line(const Kind *kind);
 void ex_report(void);
+
+char *ex_kept(const char *text);
+void ex_add_kind(const Kind *more);
+
+/* results.c: a search in a file. */
+void ex_name_search(const char *words, const char *scenario);
+int ex_save(const char *path);
+int ex_resume(const char *path);
+int ex_merge(char **paths, int count);
+Counted ex_count_now(void);
+
+/* jobs.c */
+int ex_search_jobs(unsigned jobs, const char *resume, void (*search)(void));
 
 /* ends.c: kinds that are stored in a file, and compared with it. 0, 1 where they differ, or 3 if the file can't be read or written. */
 int ex_learn_ends(const char *path);
 int ex_compare_ends(const char *path);
 
-/* source.c: text with places of the program, @1234, as lines of sources. */
+/* source.c: text with places of the program, @1234, as lines of sources, and variables by their names; the same with what the lines say. */
+#define EX_VARIABLE "\x1e"
 void ex_put_sources(FILE *to, const char *text);
+void ex_put_lines(FILE *to, const char *text);
+const char *ex_source_text(unsigned long address);
 
 /* trace.c */
 void ex_trace_step(const Runner *runner, bool is_preemption);
 void ex_trace_text(const char *text);
+void ex_trace_found(const char *text);
+void ex_trace_access(const void *address, bool is_write, bool is_atomic);
+void ex_trace_object(const void *object, bool is_taken, const char *call);
 void ex_trace_end(void);
+
+/* page.c: 0, or 3 if it can't be written. */
+int ex_put_page(const char *path);
+
+/* shrink.c: shorter schedules that find the same, and scenarios with fewer requests. */
+void ex_shrink(void);
+unsigned ex_guided(unsigned count, Asks asks, const int *clients);
+
+/* commute.c: whether pairs of steps that are called independent are. */
+int ex_try_pairs(unsigned runs);
 
 /* fault.c */
 void ex_watch_faults(void);

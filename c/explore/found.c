@@ -1,8 +1,6 @@
 /* What was found, by kinds: two runs that differ only by the numbers of operations found the same. */
 #include "explore.h"
 
-static char *kept(const char *text);
-
 /* ---- Of the run that goes on. */
 void ex_found(KindOf of, const char *text)
 {
@@ -14,11 +12,12 @@ void ex_found(KindOf of, const char *text)
     Found *one = &ex->found[ex->found_count++];
     *one = (Found){.of = of, .preemptions = ex->preemptions, .switches = ex->switches, .steps = ex->steps, .schedule_length = ex->schedule_length};
     snprintf(one->text, sizeof one->text, "%s", text);
-    one->text[strcspn(one->text, "\n")] = of == STUCK || of == END ? one->text[strcspn(one->text, "\n")] : 0;
+    bool has_lines = of == STUCK || of == END || strncmp(text, "LIMIT:", 6) == 0;
+    one->text[has_lines ? sizeof one->text - 1 : strcspn(one->text, "\n")] = 0;
     if (ex->is_traced && of == RACE) {
-        ex_trace_text("  ");
-        ex_trace_text(text);
-        ex_trace_text("\n");
+        char line[TEXT + 8];
+        snprintf(line, sizeof line, "  %s\n", text);
+        ex_trace_text(line);
     }
 }
 
@@ -51,6 +50,8 @@ void ex_say(const KzSaid *said)
             kz_print(said);
         return;
     }
+    if (said->kind == KZ_SAID_UNMET && !ex->unmet[0])
+        snprintf(ex->unmet, sizeof ex->unmet, "%s", said->text);
     if (ex->wants_ends)
         note_end(said);
     if (ex->is_traced)
@@ -77,11 +78,11 @@ void ex_stop_at(const char *unknown)
 {
     ex->found_count = 0;
     ex_found(LIMITED, unknown);
-    ex->unknown = kept(unknown);
+    ex->unknown = ex_kept(unknown);
     siglongjmp(ex->out, 1);
 }
 
-static char *kept(const char *text)
+char *ex_kept(const char *text)
 {
     size_t length = strlen(text) + 1;
     if (ex->room_used + length > ROOM) {
@@ -126,7 +127,7 @@ static Kind *kind_of(const Found *one, const char *key)
         return NULL;
     }
     Kind *made = &ex->kinds[ex->kinds_count++];
-    *made = (Kind){.of = one->of, .key = kept(key), .preemptions = UINT32_MAX};
+    *made = (Kind){.of = one->of, .key = ex_kept(key), .preemptions = UINT32_MAX};
     return made;
 }
 
@@ -140,12 +141,31 @@ static void keep(const Found *one)
     kind->count++;
     if (kind->text && !is_better(one, kind))
         return;
-    kind->text = kept(one->text);
-    kind->schedule = kept(ex_schedule_text(one->schedule_length));
+    kind->text = ex_kept(one->text);
+    kind->schedule = ex_kept(ex_schedule_text(one->schedule_length));
     kind->preemptions = one->preemptions;
     kind->switches = one->switches;
     kind->steps = one->steps;
     kind->seed = ex->seed;
+}
+
+static bool is_better_kind(const Kind *one, const Kind *than)
+{
+    return is_better(&(Found){.preemptions = one->preemptions, .switches = one->switches, .steps = one->steps}, than);
+}
+
+/* One that another part of the search found. */
+void ex_add_kind(const Kind *more)
+{
+    Kind *kind = kind_of(&(Found){.of = more->of}, more->key);
+    if (!kind)
+        return;
+    kind->count += more->count;
+    if (kind->text && !is_better_kind(more, kind))
+        return;
+    uint64_t count = kind->count;
+    *kind = *more;
+    kind->count = count;
 }
 
 /* At the run's end: if it is this shard's, what it found counts. */
@@ -177,6 +197,14 @@ static void put_indented(const char *marked)
         ex_put_sources(stdout, line);
         text += length + (text[length] == '\n');
     }
+}
+
+/* Its first line. */
+void ex_put_kind_line(const Kind *kind)
+{
+    char line[TEXT];
+    snprintf(line, sizeof line, "%.*s", (int)strcspn(kind->text, "\n"), kind->text);
+    put_indented(line);
 }
 
 void ex_report_kind(const Kind *kind)

@@ -1,6 +1,7 @@
 /* The explorer's program: it runs a scenario under every schedule with at most so many preemptions. */
 #include "explore.h"
 
+#include <signal.h>
 #include <stdlib.h>
 #include <sys/mman.h>
 #include <time.h>
@@ -19,6 +20,7 @@ static void start_run(void)
     ex->depth = ex->found_count = ex->schedule_length = ex->output_length = 0;
     ex->preemptions = ex->switches = ex->fails_used = ex->timeouts = ex->steps = ex->deviations = 0;
     ex->hash = 0;
+    ex->unmet[0] = 0;
     ex->is_limited = ex->is_given_up = ex->is_alone = false;
     ex->runners_count = ex->usual_count;
     memset(ex->patience, 0, sizeof ex->patience[0] * ((size_t)ex->most_runners + 1));
@@ -29,12 +31,14 @@ static void start_run(void)
 
 static void tell_stuck(void)
 {
-    char text[TEXT] = "STUCK";
-    size_t used = strlen(text);
+    char text[TEXT];
+    for (int at = 1; at <= ex->runners_count; at++)
+        ex->is_limited |= ex_runners[at].state == WAITING && ex_runners[at].client->why == KZ_WAITS_FOR_US;
+    size_t used = (size_t)snprintf(text, sizeof text, ex->is_limited ? "LIMIT: nobody goes on here, which needn't be so on Windows" : "STUCK");
     for (int at = 1; at <= ex->runners_count; at++) {
         const Runner *one = &ex_runners[at];
-        ex->is_limited |= one->state == WAITING && one->client->why == KZ_WAITS_FOR_US;
-        if (!one->is_worker && one->state != ENDED && used + 1 < sizeof text)
+        bool is_idle = one->is_worker && !ex_is_busy(one);
+        if (!is_idle && one->state != ENDED && used + 1 < sizeof text)
             used += (size_t)snprintf(text + used, sizeof text - used, "\n  %s waits for %s", one->name, one->client->waits);
     }
     ex_found(ex->is_limited ? LIMITED : STUCK, text);
@@ -67,11 +71,13 @@ static void finish_run(void)
         return;
     }
     kz_end();
+    if (ex->unmet[0])
+        ex_found(TOLD, ex->unmet);
     if (ex->wants_ends)
         tell_end();
 }
 
-static void run_once(void)
+void ex_run_once(void)
 {
     start_run();
     if (sigsetjmp(ex->out, 0) == 0) {
@@ -91,72 +97,146 @@ static double seconds(void)
     return (double)now.tv_sec + (double)now.tv_nsec / 1e9;
 }
 
-static void put_counts(double since)
+Counted ex_count_now(void)
 {
-    printf(ex->has_no_bound ? "no bound: " : "bound %u: ", ex->bound);
-    printf("%llu schedules, ", (unsigned long long)ex->schedules);
+    Counted now = {.bound = ex->has_no_bound ? NO_BOUND : ex->bound, .longest = ex->longest, .schedules = ex->schedules, .given_up = ex->given_up, .states = ex_states_count(), .seconds = seconds() - ex->since};
+    memcpy(now.counts, ex->counts, sizeof now.counts);
+    return now;
+}
+
+static void put_counts(const Counted *one)
+{
+    if (one->bound == NO_BOUND)
+        printf("no bound: ");
+    else
+        printf("bound %u: ", one->bound);
+    printf("%llu schedules, ", (unsigned long long)one->schedules);
+    if (ex->is_reduced || ex->is_independent)
+        printf("%llu given up, ", (unsigned long long)one->given_up);
     if (ex->is_reduced)
-        printf("%llu given up, %llu states, ", (unsigned long long)ex->given_up, (unsigned long long)ex_states_count());
-    printf("%.2f s, longest %u; told %llu, races %llu, stuck %llu, crashed %llu\n", seconds() - since, ex->longest, (unsigned long long)ex->counts[TOLD], (unsigned long long)ex->counts[RACE],
-           (unsigned long long)ex->counts[STUCK], (unsigned long long)ex->counts[CRASH]);
+        printf("%llu states, ", (unsigned long long)one->states);
+    printf("%.2f s, longest %u; told %llu, races %llu, stuck %llu, crashed %llu\n", one->seconds, one->longest, (unsigned long long)one->counts[TOLD], (unsigned long long)one->counts[RACE],
+           (unsigned long long)one->counts[STUCK], (unsigned long long)one->counts[CRASH]);
     if (ex->unknown)
         printf("the search ends here, since a wait isn't modelled: what is after it can't be told\n");
     if (ex->full)
         printf("the memory for %s is full: the search ends here, and isn't whole (--memory)\n", ex->full);
 }
 
-static void show_progress(double since)
+static void note_counts(void)
 {
-    if (ex->runs % 4096 || !isatty(STDERR_FILENO) || seconds() - ex->shown < 5)
-        return;
-    ex->shown = seconds();
-    fprintf(stderr, "bound %u: %llu schedules, %.0f s; a path of %zu choices, the first %u/%u %u/%u\n", ex->bound, (unsigned long long)ex->schedules, seconds() - since,
-            ex->length, ex->path[0].taken + 1, ex->path[0].count, ex->path[1].taken + 1, ex->path[1].count);
+    Counted now = ex_count_now();
+    if (ex->counted_count < BOUNDS)
+        ex->counted[ex->counted_count++] = now;
+    if (!ex->is_silent)
+        put_counts(&now);
 }
 
-static void search_bound(void)
+/* How much of the bound is behind the path, if each choice had as much below it as the others at its place. */
+static double done_part(void)
 {
-    double since = seconds();
+    double part = 0, each = 1;
+    for (size_t at = 0; at < ex->length && each > 1e-12; at++) {
+        each /= ex->path[at].count;
+        part += each * ex->path[at].taken;
+    }
+    return part;
+}
+
+static void show_progress(void)
+{
+    double now = seconds(), part;
+    if (now - ex->shown < 5)
+        return;
+    ex->shown = now;
+    part = done_part();
+    if (isatty(STDERR_FILENO) && (!ex->is_silent || !ex->shard))
+        fprintf(stderr, "bound %u: %llu schedules, %.0f s; about %.1f %% of it are done%s\n", ex->bound, (unsigned long long)ex->schedules, now - ex->since, 100 * part,
+                ex->is_silent ? ", as this part of it shows" : "");
+}
+
+/* An interrupted search is saved where it stands, and each minute. */
+static bool is_to_end(void)
+{
+    if (ex->full || ex->unknown)
+        return true;
+    if (ex->runs % 1024 && !ex->is_interrupted)
+        return false;
+    show_progress();
+    if (ex->resume_path[0] && (ex->is_interrupted || seconds() - ex->saved > 60)) {
+        ex->saved = seconds();
+        ex_save(ex->resume_path);
+    }
+    return ex->is_interrupted;
+}
+
+static void begin_bound(void)
+{
+    ex->since = seconds();
+    if (ex->is_resumed) {
+        ex->schedules = ex->resumed.schedules, ex->given_up = ex->resumed.given_up, ex->longest = ex->resumed.longest;
+        memcpy(ex->counts, ex->resumed.counts, sizeof ex->counts);
+        ex->since -= ex->resumed.seconds;
+        ex->is_resumed = false;
+        return;
+    }
     ex->length = 0;
     ex->schedules = ex->given_up = 0;
     ex_forget_states();
     memset(ex->counts, 0, sizeof ex->counts);
     for (int at = 0; at < ex->kinds_count; at++)
         ex->kinds[at].count = 0;
-    do {
-        run_once();
-        show_progress(since);
-    } while (!ex->full && !ex->unknown && ex_advance());
-    put_counts(since);
 }
 
-static void search(unsigned bound)
+/* False if it was interrupted. */
+static bool search_bound(void)
 {
+    bool is_more = true;
+    begin_bound();
+    while (is_more && !is_to_end()) {
+        ex_run_once();
+        is_more = ex_advance();
+    }
+    if (is_more && ex->is_interrupted)
+        return false;
+    note_counts();
+    return true;
+}
+
+void ex_search(void)
+{
+    unsigned last = ex->has_no_bound ? 0 : ex->asked_bound, first = ex->is_resumed ? ex->resumed.bound : (unsigned)ex->counted_count;
+    bool is_whole = true;
     if (ex->has_no_bound) {
         ex->bound = UINT32_MAX;
-        search_bound();
-        return;
+        is_whole = search_bound();
     }
-    for (ex->bound = 0; ex->bound <= bound && !ex->full && !ex->unknown; ex->bound++)
-        search_bound();
+    for (ex->bound = first; !ex->has_no_bound && ex->bound <= last && is_whole && !ex->full && !ex->unknown; ex->bound++)
+        is_whole = search_bound();
+    ex->is_whole = is_whole;
+    if (is_whole)
+        return;
+    ex->bound -= !ex->has_no_bound;
+    if (ex->resume_path[0])
+        ex_save(ex->resume_path);
 }
 
 /* Before the search, and before a schedule that is played again: runs without a preemption say how long one is, and which memory is shared by more than locks. Nothing of them is told. */
 static void warm_up(void)
 {
-    bool is_reduced = ex->is_reduced, has_no_bound = ex->has_no_bound, is_coarse = ex->is_coarse, is_traced = ex->is_traced, wants_ends = ex->wants_ends;
+    bool is_reduced = ex->is_reduced, is_independent = ex->is_independent, has_no_bound = ex->has_no_bound, is_coarse = ex->is_coarse, is_traced = ex->is_traced, wants_ends = ex->wants_ends;
     unsigned fails = ex->fails, shards = ex->shards, runs = 0;
-    ex->is_reduced = ex->has_no_bound = ex->is_traced = ex->wants_ends = false;
+    ex->is_reduced = ex->is_independent = ex->has_no_bound = ex->is_traced = ex->wants_ends = false;
     ex->is_coarse = true;
     ex->bound = ex->fails = ex->shards = 0;
     ex_learn_cells(true);
     do {
-        run_once();
+        ex_run_once();
         if (!runs)
             ex->usual_steps = ex->steps ? ex->steps : 1;
     } while (++runs < WARM_UP && !ex->unknown && ex_advance());
     ex_learn_cells(false);
-    ex->is_reduced = is_reduced, ex->has_no_bound = has_no_bound, ex->is_coarse = is_coarse, ex->is_traced = is_traced, ex->wants_ends = wants_ends;
+    ex->is_reduced = is_reduced, ex->is_independent = is_independent, ex->has_no_bound = has_no_bound, ex->is_coarse = is_coarse, ex->is_traced = is_traced, ex->wants_ends = wants_ends;
     ex->fails = fails, ex->shards = shards;
     ex->kinds_count = 0;
     ex->schedules = ex->length = 0;
@@ -165,103 +245,25 @@ static void warm_up(void)
     memset(ex->counts, 0, sizeof ex->counts);
 }
 
-static void draw_runs(uint64_t seed, uint64_t runs)
+/* Those of a part are each Nth one. */
+static void draw_runs(void)
 {
-    double since = seconds();
-    ex->bound = UINT32_MAX;
-    for (uint64_t at = 0; at < runs && !ex->unknown; at++) {
-        ex->seed = seed + at;
-        ex->random = (seed + at) * 0x9e3779b97f4a7c15ULL | 1;
+    unsigned shards = ex->shards ? ex->shards : 1, shard = ex->shard;
+    ex->since = seconds();
+    ex->shards = 0;
+    for (uint64_t at = shard; at < ex->asked_runs && !ex->unknown; at += shards) {
+        ex->bound = UINT32_MAX;
+        ex->seed = ex->asked_seed + at;
+        ex->random = ex->seed * 0x9e3779b97f4a7c15ULL | 1;
         if (ex->pct)
             ex_draw_priorities();
-        run_once();
+        ex_run_once();
     }
-    printf("seeds %llu to %llu: ", (unsigned long long)seed, (unsigned long long)(seed + runs - 1));
-    ex->bound = 0;
-    put_counts(since);
-}
-
-/* ---- Words. */
-static int usage(const char *name)
-{
-    fprintf(stderr,
-            "usage: %s [--bound N [--reduce] | --states] [--coarse] [--inline] [--memory MB] [--fails N] [--fail-each] [--ends | --learn FILE | --expect-ends FILE] [--shard K/N] [--seed N [--runs N] [--pct N]] [--replay SCHEDULE [--trace]] [--dispatch none|data|all] [--allow KZ0000] [--quiet] SCENARIO\n",
-            name);
-    return 2;
-}
-
-typedef struct {
-    unsigned bound;
-    uint64_t seed, runs;
-    const char *replay, *scenario, *learns, *expects;
-} Asked;
-
-static bool read_shard(const char *word)
-{
-    return sscanf(word, "%u/%u", &ex->shard, &ex->shards) == 2 && ex->shards > 0 && ex->shard < ex->shards;
-}
-
-/* A word that has another behind it. */
-static bool read_pair(const char *word, const char *value, Asked *asked)
-{
-    char *end = "";
-    if (strcmp(word, "--bound") == 0)
-        asked->bound = (unsigned)strtoul(value, &end, 10);
-    else if (strcmp(word, "--fails") == 0)
-        ex->fails = (unsigned)strtoul(value, &end, 10);
-    else if (strcmp(word, "--seed") == 0)
-        asked->seed = strtoull(value, &end, 10);
-    else if (strcmp(word, "--runs") == 0)
-        asked->runs = strtoull(value, &end, 10);
-    else if (strcmp(word, "--replay") == 0)
-        asked->replay = value;
-    else if (strcmp(word, "--learn") == 0)
-        asked->learns = value;
-    else if (strcmp(word, "--expect-ends") == 0)
-        asked->expects = value;
-    else if (strcmp(word, "--shard") == 0)
-        return read_shard(value);
-    else if (strcmp(word, "--pct") == 0)
-        return sscanf(value, "%u", &ex->pct) == 1 && ex->pct >= 1 && ex->pct <= DEPTH;
-    else if (strcmp(word, "--dispatch") == 0)
-        return kz_dispatch_as(value);
-    else if (strcmp(word, "--memory") == 0)
-        ex->memory = strtoull(value, &end, 10) << 20;
-    else
-        return strcmp(word, "--allow") == 0 && kz_allow(value);
-    return !*end && *value;
-}
-
-static bool read_words(int count, char **words, Asked *asked)
-{
-    for (int at = 1; at < count; at++) {
-        if (strcmp(words[at], "--ends") == 0)
-            ex->wants_ends = true;
-        else if (strcmp(words[at], "--trace") == 0)
-            ex->is_traced = true;
-        else if (strcmp(words[at], "--quiet") == 0)
-            ex->is_quiet = true;
-        else if (strcmp(words[at], "--strict") == 0)
-            kz_be_strict(true);
-        else if (strcmp(words[at], "--coarse") == 0)
-            ex->is_coarse = true;
-        else if (strcmp(words[at], "--inline") == 0)
-            ex->has_inside = true;
-        else if (strcmp(words[at], "--reduce") == 0)
-            ex->is_reduced = true;
-        else if (strcmp(words[at], "--states") == 0)
-            ex->is_reduced = ex->has_no_bound = true;
-        else if (strcmp(words[at], "--fail-each") == 0)
-            ex->fails = 1, asked->bound = 0;
-        else if (words[at][0] != '-' && !asked->scenario)
-            asked->scenario = words[at];
-        else if (at + 1 == count || !read_pair(words[at], words[at + 1], asked))
-            return false;
-        else
-            at++;
-    }
-    ex->wants_ends |= asked->learns || asked->expects;
-    return asked->scenario && !(ex->is_reduced && ex->shards > 1) && (asked->seed || !ex->pct);
+    ex->shards = shards, ex->bound = 0;
+    if (!ex->is_silent)
+        printf("seeds %llu to %llu: ", (unsigned long long)ex->asked_seed, (unsigned long long)(ex->asked_seed + ex->asked_runs - 1));
+    note_counts();
+    ex->is_whole = true;
 }
 
 /* ---- The set-up, in order. */
@@ -280,71 +282,148 @@ static bool set_up(void)
 
 static int status(void)
 {
-    if (ex->counts[CRASH])
+    const Counted *last = ex->counted_count ? &ex->counted[ex->counted_count - 1] : NULL;
+    const uint64_t *counts = last && ex->is_whole ? last->counts : ex->counts;
+    if (counts[CRASH])
         return 139;
-    if (ex->counts[STUCK])
+    if (counts[STUCK])
         return 6;
-    if (ex->counts[TOLD] || ex->counts[RACE])
+    if (counts[TOLD] || counts[RACE])
         return 5;
-    return ex->full || ex->unknown ? 4 : 0;
+    return ex->full || ex->unknown || !ex->is_whole ? 4 : 0;
 }
 
-static int play(const char *replay)
+static int play(const Asked *asked)
 {
-    ex->replay = replay;
+    ex->replay = asked->replay;
     ex->bound = UINT32_MAX;
     ex->fails = 0;
-    run_once();
+    ex_run_once();
+    ex->is_whole = true;
+    if (asked->page)
+        return ex_put_page(asked->page) ? 3 : status();
     if (ex->is_traced)
         ex_trace_end();
     else
         ex_report();
-    for (int at = 0; ex->is_traced && at < ex->kinds_count; at++) {
-        if (ex->kinds[at].of != END && ex->kinds[at].of != LIMITED) {
-            char text[TEXT];
-            kz_unmark(text, sizeof text, ex->kinds[at].text);
-            fputs("==== ", stdout);
-            ex_put_sources(stdout, text);
-            putchar('\n');
-        }
-    }
     return status();
+}
+
+/* A page of the first kind that counts. */
+static int put_page_of_first(const char *path)
+{
+    int ended = status(), at = 0;
+    while (at < ex->kinds_count && (ex->kinds[at].of == END || ex->kinds[at].of == LIMITED))
+        at++;
+    if (at == ex->kinds_count) {
+        fprintf(stderr, "nothing was found: there is no page\n");
+        return ended;
+    }
+    Asked again = {.replay = ex->kinds[at].schedule, .page = path};
+    ex->seed = 0;
+    ex->counted_count = 0;
+    ex->is_traced = true;
+    ex->is_reduced = ex->is_independent = ex->has_no_bound = false;
+    ex->kinds_count = 0;
+    memset(ex->counts, 0, sizeof ex->counts);
+    return play(&again) == 3 ? 3 : ended;
+}
+
+static int end_search(const Asked *asked)
+{
+    if (asked->saves && ex_save(asked->saves) != 0)
+        return 3;
+    if (!ex->is_whole && ex->resume_path[0])
+        printf("interrupted: the same words go on, with --resume %s\n", ex->resume_path);
+    if (asked->learns && !ex->full)
+        return ex_learn_ends(asked->learns);
+    if (asked->expects && !ex->full)
+        return ex_compare_ends(asked->expects);
+    if (asked->shrinks)
+        ex_shrink();
+    ex_report();
+    return asked->page ? put_page_of_first(asked->page) : status();
+}
+
+/* What was merged is shown as if it were searched here. */
+static void put_merged(void)
+{
+    if (ex->asked_seed && ex->counted_count)
+        printf("seeds %llu to %llu: ", (unsigned long long)ex->asked_seed, (unsigned long long)(ex->asked_seed + ex->asked_runs - 1));
+    for (int at = 0; at < ex->counted_count; at++)
+        put_counts(&ex->counted[at]);
+}
+
+static int search_and_end(const Asked *asked)
+{
+    void (*search)(void) = ex->asked_seed ? draw_runs : ex_search;
+    int ended = 0;
+    if (asked->resume)
+        snprintf(ex->resume_path, sizeof ex->resume_path, "%s", asked->resume);
+    if (asked->jobs > 1)
+        ended = ex_search_jobs(asked->jobs, asked->resume, search);
+    else if (asked->resume)
+        ended = ex_resume(asked->resume);
+    if (ended == 3)
+        return 3;
+    if (asked->jobs > 1)
+        ex->is_whole = !ended;
+    put_merged();
+    if (asked->jobs <= 1 && !ex->is_whole)
+        search();
+    return end_search(asked);
+}
+
+static int merge(const Asked *asked)
+{
+    int ended = ex_merge(asked->merges, asked->merges_count);
+    ex->is_whole = !ended;
+    ex->is_reduced = strstr(ex->search, " --reduce") || strstr(ex->search, " --states");
+    if (ended == 3)
+        return 3;
+    put_merged();
+    ex_report();
+    return ended ? ended : status();
+}
+
+static void interrupt(int signal)
+{
+    (void)signal;
+    ex->is_interrupted = true;
 }
 
 int main(int count, char **words)
 {
-    Asked asked = {.bound = 2, .runs = 1000};
+    Asked asked = {.jobs = 1};
     ex_open_memory();
     ex = ex_map(sizeof *ex);
     ex->room = ex_map(ROOM);
     setvbuf(stdout, ex_map(1 << 16), _IOLBF, 1 << 16);
     ex->is_quiet = true;
     ex->memory = 1UL << 30;
-    if (!read_words(count, words, &asked))
-        return usage(words[0]);
+    ex->asked_bound = 2;
+    ex->asked_runs = 1000;
+    if (!ex_read_words(count, words, &asked))
+        return 2;
+    if (asked.merges_count)
+        return merge(&asked);
+    if (asked.is_debugged)
+        return ex_debug(count, words);
     ex_open_stacks();
     if (ex_read(asked.scenario) != 0 || !set_up())
         return 2;
+    ex_name_search(asked.search, asked.scenario);
     ex_open_shadow();
     ex_watch_faults();
-    if (asked.replay || asked.seed)
-        ex->is_reduced = ex->has_no_bound = false;
+    if (asked.replay || ex->asked_seed)
+        ex->is_reduced = ex->is_independent = ex->has_no_bound = false;
     if (ex->is_reduced)
         ex_open_states();
-    kz_is_deaf = !ex->wants_ends && !ex->is_traced;
+    kz_is_deaf = !ex->wants_ends && !ex->is_traced && !asked.page;
     ex_keep_stacks();
     ex_take_image();
     warm_up();
-    if (asked.replay)
-        return play(asked.replay);
-    if (asked.seed)
-        draw_runs(asked.seed, asked.runs);
-    else
-        search(asked.bound);
-    if (asked.learns && !ex->full)
-        return ex_learn_ends(asked.learns);
-    if (asked.expects && !ex->full)
-        return ex_compare_ends(asked.expects);
-    ex_report();
-    return status();
+    if (asked.resume)
+        signal(SIGINT, interrupt), signal(SIGTERM, interrupt);
+    return asked.replay ? play(&asked) : asked.commutes ? ex_try_pairs(asked.commutes) : search_and_end(&asked);
 }

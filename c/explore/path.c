@@ -146,6 +146,8 @@ static unsigned by_priority(unsigned count, const int *clients)
 unsigned ex_decide(unsigned count, Asks asks, const int *clients, bool may_stay)
 {
     bool is_switch = asks == SWITCH;
+    if (ex->is_guided)
+        return ex_guided(count, asks, clients);
     if (ex->replay)
         return play_again(count, asks, clients);
     if (ex->seed && is_switch && ex->pct)

@@ -1,7 +1,7 @@
-/* One schedule, step by step: who goes on, where it stands, and what is said. */
+/* One schedule, step by step: who goes on, where it stands, what it touches and what is said. */
 #include "explore.h"
 
-void ex_trace_text(const char *text)
+static void append(const char *text)
 {
     if (ex->trace_length + strlen(text) + 1 > sizeof ex->trace)
         return;
@@ -9,19 +9,135 @@ void ex_trace_text(const char *text)
     ex->trace_length += strlen(ex->trace + ex->trace_length);
 }
 
+/* ---- Events, for the page. */
+static Event *new_event(EventKind kind, unsigned client)
+{
+    if (!ex->events)
+        ex->events = ex_map(EVENTS * sizeof *ex->events);
+    if (ex->events_count == EVENTS)
+        return NULL;
+    Event *one = &ex->events[ex->events_count++];
+    *one = (Event){.kind = kind, .client = client, .step = ex->steps};
+    return one;
+}
+
+static void note(EventKind kind, const char *text)
+{
+    char plain[TEXT];
+    Event *one = new_event(kind, kz_me == &kz_first ? 0 : kz_me->number);
+    kz_unmark(plain, sizeof plain, text);
+    if (one)
+        one->text = ex_kept(plain);
+}
+
+/* ---- What the step touches. */
+enum { TOUCHES = 24 };
+
+/* The piece of memory that the address is in; NULL if it is in none. */
+static const KzPiece *piece_with(const void *address)
+{
+    const uint8_t *at = (const uint8_t *)((uintptr_t)address & ~(uintptr_t)7);
+    for (size_t back = 0; ex_is_heap(address) && back < 4096; back += 8) {
+        const KzPiece *piece = kz_piece_of(at - back);
+        if (piece)
+            return (const uint8_t *)address < piece->body + piece->size ? piece : NULL;
+    }
+    return NULL;
+}
+
+static void describe(const void *address, char *room, size_t size)
+{
+    static const char *const kinds[] = {"a pool", "a context", "a name", "a buffer", "callback data"};
+    const KzPiece *piece = piece_with(address);
+    char tag[8];
+    if (ex_is_program(address))
+        snprintf(room, size, EX_VARIABLE "%lx", (unsigned long)(uintptr_t)address);
+    else if (!piece)
+        snprintf(room, size, "memory at %p", address);
+    else if (piece->tag)
+        snprintf(room, size, "byte %zu of %s, tag '%s'", (size_t)((const uint8_t *)address - piece->body), kinds[piece->kind], kz_tag(piece->tag, tag));
+    else
+        snprintf(room, size, "byte %zu of %s", (size_t)((const uint8_t *)address - piece->body), kinds[piece->kind]);
+}
+
+void ex_trace_access(const void *address, bool is_write, bool is_atomic)
+{
+    char name[96], text[160];
+    static const char *const words[2][2] = {{"reads", "writes"}, {"reads in order", "writes in order"}};
+    describe(address, name, sizeof name);
+    snprintf(text, sizeof text, "%s %s", words[is_atomic][is_write], name);
+    for (size_t at = ex->touches_from; at < ex->events_count; at++)
+        if (ex->events[at].kind == EVENT_TOUCH && strcmp(ex->events[at].text, text) == 0)
+            return;
+    note(EVENT_TOUCH, text);
+}
+
+/* A lock is taken or let go, an object is waited for or set. */
+void ex_trace_object(const void *object, bool is_taken, const char *call)
+{
+    char name[96], text[160];
+    describe(object, name, sizeof name);
+    snprintf(text, sizeof text, "%s: %s", call, name);
+    Event *one = new_event(is_taken ? EVENT_TAKES : EVENT_GIVES, kz_me->number);
+    if (one)
+        one->text = ex_kept(text);
+}
+
+static void put_touches(void)
+{
+    char line[TEXT];
+    size_t used = 0;
+    for (size_t at = ex->touches_from; at < ex->events_count; at++)
+        if (ex->events[at].kind == EVENT_TOUCH && used + 200 < sizeof line)
+            used += (size_t)snprintf(line + used, sizeof line - used, "%s%s", used ? ", " : "        ", ex->events[at].text);
+    if (used) {
+        append(line);
+        append("\n");
+    }
+    ex->touches_from = ex->events_count;
+}
+
+/* ---- */
+void ex_trace_text(const char *text)
+{
+    append(text);
+    note(EVENT_SAID, text);
+}
+
+void ex_trace_found(const char *text)
+{
+    note(EVENT_FOUND, text);
+}
+
 void ex_trace_step(const Runner *runner, bool is_preemption)
 {
     char text[TEXT];
-    if ((int)runner->client->number != ex->current || !ex->trace_length)
+    put_touches();
+    if ((int)runner->client->number != ex->current || !ex->trace_length) {
         snprintf(text, sizeof text, "---- %s%s\n", runner->name, is_preemption ? " (preempts)" : "");
-    else
-        text[0] = 0;
-    ex_trace_text(text);
+        append(text);
+    }
     snprintf(text, sizeof text, runner->from ? "  %s   %s   @%lx\n" : "  %s   %s\n", runner->name, runner->at, (unsigned long)(uintptr_t)runner->from);
-    ex_trace_text(text);
+    append(text);
+    Event *one = new_event(EVENT_STEP, runner->client->number);
+    if (one) {
+        one->text = runner->at;
+        one->from = runner->from;
+        one->is_preemption = is_preemption;
+    }
 }
 
 void ex_trace_end(void)
 {
-    ex_put_sources(stdout, ex->trace);
+    char text[TEXT];
+    put_touches();
+    ex_put_lines(stdout, ex->trace);
+    for (int at = 0; at < ex->kinds_count; at++) {
+        if (ex->kinds[at].of == END || ex->kinds[at].of == LIMITED)
+            continue;
+        kz_unmark(text, sizeof text, ex->kinds[at].text);
+        fputs("==== ", stdout);
+        ex_put_sources(stdout, text);
+        putchar('\n');
+    }
 }

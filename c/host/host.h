@@ -101,6 +101,7 @@ struct _FLT_INSTANCE {
     bool is_in_start;       /* and one in its teardown start: */
     uint8_t start_worker;
     unsigned running;       /* callbacks and work items of it that run */
+    unsigned items;         /* its work items that are queued, or run */
     unsigned in_flight;     /* operations that owe it a postoperation or a drain, or that it holds or looks at */
     KzClient *torn_down_by; /* who takes it through its teardown */
     char name[40], altitude[68];
@@ -462,6 +463,7 @@ bool kz_has_ports_of(PFLT_FILTER filter);
 /* work.c */
 bool kz_work(void);
 bool kz_has_work(void);
+extern bool kz_work_at_once; /* work items of one instance may run beside one another */
 bool kz_has_work_of(PFLT_FILTER filter);
 void kz_tell_work(PFLT_FILTER filter);
 void kz_free_work(void);

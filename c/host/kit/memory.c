@@ -176,6 +176,12 @@ KzPiece *kz_piece_of(const void *memory)
 
 static bool is_filled(const uint8_t *bytes, size_t size, uint8_t byte)
 {
+    uint64_t wide = byte * 0x0101010101010101ULL, part;
+    for (; size >= sizeof part; bytes += sizeof part, size -= sizeof part) {
+        memcpy(&part, bytes, sizeof part);
+        if (part != wide)
+            return false;
+    }
     return size == 0 || (bytes[0] == byte && memcmp(bytes, bytes + 1, size - 1) == 0);
 }
 

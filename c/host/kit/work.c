@@ -38,8 +38,16 @@ static void free_item(PFLT_GENERIC_WORKITEM item, const char *call)
         kz_give_back(item);
 }
 
+/* The instance that a work item is of: its teardown isn't over before the work item is. NULL if it is of none. */
+static PFLT_INSTANCE instance_of(const struct _FLT_GENERIC_WORKITEM *item)
+{
+    return item->kind <= DEFERRED && kz_is_instance(item->object) ? item->object : NULL;
+}
+
 static void enqueue(PFLT_GENERIC_WORKITEM item)
 {
+    if (instance_of(item))
+        instance_of(item)->items++;
     item->next = NULL;
     item->is_queued = true;
     *last = item;
@@ -169,7 +177,7 @@ static void call(PFLT_GENERIC_WORKITEM item)
 
 static void run(PFLT_GENERIC_WORKITEM item)
 {
-    PFLT_INSTANCE instance = item->kind <= DEFERRED && kz_is_instance(item->object) ? item->object : NULL;
+    PFLT_INSTANCE instance = instance_of(item);
     uint64_t process = kz_me->process, thread = kz_me->thread;
     uint8_t worker = kz_helper();
     KzPlace before = kz_enter(KZ_IN_WORK, worker, item->filter, instance, NULL, NULL);
@@ -183,6 +191,10 @@ static void run(PFLT_GENERIC_WORKITEM item)
     call(item);
     kz_driver_returned(depth, "work item returns");
     items_running--;
+    if (instance) {
+        instance->items--;
+        kz_scheduler->touch(&instance->items, 0, KZT_GIVES);
+    }
     kz.changes++;
     kz_keep_rest(NULL);
     kz_me->process = process;
@@ -193,11 +205,13 @@ static void run(PFLT_GENERIC_WORKITEM item)
     kz_helped(worker);
 }
 
-/* One of an instance whose work item runs already waits for that. */
+bool kz_work_at_once;
+
+/* One of an instance whose work item runs already waits for that; where several run at once it runs in no callback of the manager. */
 static PFLT_GENERIC_WORKITEM *next(void)
 {
     PFLT_GENERIC_WORKITEM *at = &first;
-    while (*at && (*at)->kind <= DEFERRED && kz_is_instance((*at)->object) && ((PFLT_INSTANCE)(*at)->object)->is_asked)
+    while (*at && !kz_work_at_once && (*at)->kind <= DEFERRED && kz_is_instance((*at)->object) && ((PFLT_INSTANCE)(*at)->object)->is_asked)
         at = &(*at)->next;
     return at;
 }

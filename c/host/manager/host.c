@@ -115,7 +115,7 @@ void *kz_memory(size_t size)
 void kz_say(KzKind kind, const char *format, ...)
 {
     char text[1024];
-    if (kz_is_quiet || kz_is_deaf)
+    if (kz_is_quiet || (kz_is_deaf && kind != KZ_SAID_UNMET))
         return;
     va_list arguments;
     va_start(arguments, format);

@@ -180,7 +180,10 @@ static void let_complete(PFLT_INSTANCE instance)
     instance->start_worker = kz_worker();
     while (!is_quiet(instance) && kz_let_others())
         ;
-    kz_wait_for_us(is_quiet, instance, "callbacks and work items of instance %u", instance->id);
+    if (instance->in_flight) /* in the kit operations that are in flight are drained meanwhile */
+        kz_wait_for_us(is_quiet, instance, "callbacks and work items of instance %u", instance->id);
+    else
+        kz_wait(is_quiet, instance, "callbacks and work items of instance %u", instance->id);
     instance->is_in_start = false;
 }
 
@@ -196,11 +199,26 @@ static void start(PFLT_INSTANCE instance, FLT_INSTANCE_TEARDOWN_FLAGS reason)
     kz_settle();
 }
 
+static bool has_no_items(void *instance)
+{
+    return !((PFLT_INSTANCE)instance)->items;
+}
+
+/* As in the kit: a teardown isn't complete before the instance's work items have ended. */
+static void wait_for_items(PFLT_INSTANCE instance)
+{
+    while (instance->items && kz_let_others())
+        ;
+    kz_wait(has_no_items, instance, "the work items of instance %u", instance->id);
+    kz_scheduler->touch(&instance->items, 0, KZT_TAKES);
+}
+
 /* Up to the cleanup of its contexts: the status that stops it, or 0. */
 static uint32_t stop(PFLT_INSTANCE instance, FLT_INSTANCE_TEARDOWN_FLAGS reason)
 {
     start(instance, reason);
     if (kz_phase(instance) == KZP_INSTANCE_STOPPING) {
+        wait_for_items(instance);
         uint32_t status = kz_until_free("complete teardown", (KazdrinEvent){.event = KZE_COMPLETE_TEARDOWN, .instance = instance->id}, instance);
         if (status != KZS_OK)
             return status;

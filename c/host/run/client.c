@@ -17,6 +17,7 @@ void kz_new_client(KzClient *client, const char *name, unsigned number)
     client->top_level = NULL;
     client->inside = 0;
     client->number = number;
+    client->is_last = false;
     client->timeout = 0;
     client->places = 0;
     client->busy = (KazdrinEvent){0};

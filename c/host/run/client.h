@@ -23,6 +23,7 @@ struct KzClient {
     int region;      /* stands for its critical region */
     unsigned inside; /* how many calls of the host it is in; 0 in a driver's code */
     unsigned number;
+    bool is_last; /* it goes on where no other can: what it expects is looked at */
     struct {
         char name[24];
         uint64_t handle;

@@ -16,6 +16,7 @@ typedef enum {
     KZ_SAID_LIMIT,
     KZ_SAID_AGAIN, /* how often what was told came up again, at the end of a run */
     KZ_SAID_COUNTS,
+    KZ_SAID_UNMET, /* an expectation that isn't met */
     KZ_SAID_ELSE
 } KzKind;
 

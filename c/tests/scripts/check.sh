@@ -5,6 +5,7 @@
 #   legal     right drivers, of which nothing is told: in order, under every schedule, by threads
 #   misuse    drivers with mistakes, under threads and schedules
 #   explore   schedules
+#   spread    a search in parts, by jobs, by GNU parallel and by shards, and one that is interrupted
 #   threads   drivers under real threads
 #   names     names, and the majors that ride on the manager's operations: beside a model, under schedules and refusals, by threads
 #   programs  samples with programs, threads, processes: schedules, refusals, threads
@@ -28,7 +29,7 @@ if [ -z "${KAZDRIN_LIB:-}" ]; then
     [ -f "$KAZDRIN_LIB" ] || KAZDRIN_LIB=$("$here/../../archive.sh" --unproved) || exit 1
     export KAZDRIN_LIB
 fi
-[ $# -gt 0 ] || set -- host legal misuse explore threads names programs order mount serve
+[ $# -gt 0 ] || set -- host legal misuse explore spread threads names programs order mount serve
 passed=0
 failed=0
 report=$(mktemp)

@@ -102,13 +102,40 @@ done
 [ $? = 6 ] && diff $tests/expected/explore-trace.out "$room/trace.out"
 tell $? "trace"
 
-# The shards of a search add up to the whole.
-sum=0
-for shard in 0 1 2; do
-    sum=$((sum + $("$room/settwice" --shard "$shard/3" $scenarios/settwice.txt | sed -n 's/^bound 2: \([0-9]*\) .*/\1/p')))
-done
-[ "$sum" = "$("$room/settwice" $scenarios/settwice.txt | sed -n 's/^bound 2: \([0-9]*\) .*/\1/p')" ]
-tell $? "shards"
+# The same as a page: a lane for each client, the lines of the driver, the locks that are held, both sides of a race.
+"$room/lockorder" --page "$room/page.html" $scenarios/lockorder.txt > "$room/out"
+[ $? = 6 ] && grep -q '<th>r</th><th>f</th>' "$room/page.html" && grep -q 'holds gFirst' "$room/page.html" && grep -q 'holds gSecond' "$room/page.html" &&
+    grep -q 'lockorder.c:26</span> <code>ExAcquireFastMutex(&amp;gFirst);</code>' "$room/page.html" && grep -q 'preempts' "$room/page.html"
+tell $? "page"
+"$room/counter" --replay 'a*7 b*7' --page "$room/page.html" $scenarios/counter.txt > "$room/out"
+[ $? = 5 ] && [ "$(grep -c 'tr class="side"' "$room/page.html")" = 2 ] && grep -q 'writes gReads' "$room/page.html"
+tell $? "page of a race"
+"$room/counter" --trace --replay 'a*7 b*7' $scenarios/counter.txt > "$room/out"
+[ $? = 5 ] && [ "$(grep -c '^        reads gReads, writes gReads$' "$room/out")" = 2 ]
+tell $? "trace of what is touched"
+
+# What a seed finds is shown by less: with one preemption, and without the requests that aren't needed.
+"$room/stuckdetach" --seed 1 --runs 500 --pct 2 --shrink $scenarios/stuckdetach-long.txt > "$room/out"
+[ $? = 6 ] && grep -q '^  the shortest: 1 preemptions' "$room/out" && grep -A 2 '^    STUCK' "$room/out" | grep -q '^    client r: read 0 0 8$' && grep -q '^    client d: detach 0$' "$room/out"
+tell $? "shrunk"
+
+# What is expected once all have ended.
+{
+    sed '/^client/d' $scenarios/counter.txt
+    echo 'client a: write 0 0 61'
+    echo 'client b: setsize 0 0'
+    echo 'finally: querysize 0; expect status 0; expect info 1'
+} > "$room/last.txt"
+"$room/counter" --bound 0 "$room/last.txt" > "$room/out"
+[ $? = 5 ] && grep -q '^    unmet: info 0$' "$room/out" && grep -q '^bound 0: 2 schedules.*; told 1,' "$room/out"
+tell $? "an expectation at the end"
+
+# A debugger stops at the last step of a schedule.
+if command -v gdb > /dev/null; then
+    KAZDRIN_GDB=$(printf 'bt\nkill\nquit') "$room/lockorder" --replay 'r*4 f*5 r' --gdb $scenarios/lockorder.txt < /dev/null > "$room/out" 2>&1
+    grep -q 'SIGTRAP' "$room/out" && grep -q 'in choose' "$room/out"
+    tell $? "gdb"
+fi
 
 # Stored ends: none differs; and where one is left out or made up, it is new or gone.
 "$room/settwice" --learn "$room/ends" $scenarios/settwice.txt > "$room/learned" && "$room/settwice" --expect-ends "$room/ends" $scenarios/settwice.txt > "$room/ended"

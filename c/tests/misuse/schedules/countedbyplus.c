@@ -18,7 +18,7 @@ static FLT_PREOP_CALLBACK_STATUS PreRead(PFLT_CALLBACK_DATA Data, PCFLT_RELATED_
     UNREFERENCED_PARAMETER(FltObjects);
     UNREFERENCED_PARAMETER(CompletionContext);
     block->References++;
-    block->Data = 1;
+    InterlockedIncrement(&block->Data);
     if (--block->References == 0) {
         ExFreePoolWithTag(block, COUNTED_TAG);
     }

@@ -1,0 +1,265 @@
+/* What a search has come to, in a file: the parts of one that was spread are added up, and one that was interrupted goes on. Each line has one thing; texts have \n for a new line. */
+#include "explore.h"
+
+#include <stdlib.h>
+
+enum { LINE = 1 << 17 };
+
+/* ---- What is searched, so that nothing else is added to it. */
+static uint64_t file_hash(const char *path)
+{
+    static uint8_t bytes[1 << 16];
+    uint64_t hash = 0;
+    size_t got;
+    FILE *file = fopen(path, "r");
+    while (file && (got = fread(bytes, 1, sizeof bytes, file)) > 0)
+        hash = ex_mixed(hash + 1) ^ ex_bytes_hash(bytes, got, 1);
+    if (file)
+        fclose(file);
+    return hash;
+}
+
+void ex_name_search(const char *words, const char *scenario)
+{
+    snprintf(ex->search, sizeof ex->search, "%.400s scenario %016llx program %016llx", words, (unsigned long long)file_hash(scenario), (unsigned long long)file_hash("/proc/self/exe"));
+}
+
+/* ---- Writing. */
+static void put_text(FILE *to, const char *name, const char *text)
+{
+    fprintf(to, "%s ", name);
+    for (; *text; text++)
+        if (*text == '\n')
+            fputs("\\n", to);
+        else if (*text == '\\')
+            fputs("\\\\", to);
+        else
+            putc(*text, to);
+    putc('\n', to);
+}
+
+static void put_numbers(FILE *to, const Counted *one)
+{
+    fprintf(to, "counted %u %llu %llu %llu %u %.3f", one->bound, (unsigned long long)one->schedules, (unsigned long long)one->given_up, (unsigned long long)one->states, one->longest, one->seconds);
+    for (int of = 0; of <= LIMITED; of++)
+        fprintf(to, " %llu", (unsigned long long)one->counts[of]);
+    putc('\n', to);
+}
+
+static void put_kind(FILE *to, const Kind *kind)
+{
+    fprintf(to, "kind %d %llu %u %u %u %llu\n", kind->of, (unsigned long long)kind->count, kind->preemptions, kind->switches, kind->steps, (unsigned long long)kind->seed);
+    put_text(to, "key", kind->key);
+    put_text(to, "text", kind->text);
+    put_text(to, "schedule", kind->schedule);
+}
+
+static void put_path(FILE *to)
+{
+    fprintf(to, "path");
+    for (size_t at = 0; at < ex->length; at++)
+        fprintf(to, " %u.%u.%d", ex->path[at].count, ex->path[at].taken, ex->path[at].is_switch);
+    putc('\n', to);
+}
+
+/* 0, or 3 if it can't be written. The file is whole at any time. */
+int ex_save(const char *path)
+{
+    char beside[4200];
+    snprintf(beside, sizeof beside, "%s.new", path);
+    FILE *to = fopen(beside, "w");
+    if (to) {
+        fprintf(to, "kazdrin search 1\n");
+        put_text(to, "search", ex->search);
+        fprintf(to, "shard %u %u\nwhole %d\n", ex->shard, ex->shards ? ex->shards : 1, ex->is_whole);
+        for (int at = 0; at < ex->counted_count; at++)
+            put_numbers(to, &ex->counted[at]);
+        for (int at = 0; at < ex->kinds_count; at++)
+            put_kind(to, &ex->kinds[at]);
+        if (!ex->is_whole) {
+            Counted now = ex_count_now();
+            fprintf(to, "at ");
+            put_numbers(to, &now);
+            put_path(to);
+        }
+    }
+    if (!to || fclose(to) != 0 || rename(beside, path) != 0) {
+        fprintf(stderr, "%s: can't be written\n", path);
+        return 3;
+    }
+    return 0;
+}
+
+/* ---- Reading. */
+static char *plain(char *text)
+{
+    char *to = text;
+    for (char *from = text; *from && *from != '\n'; from++)
+        *to++ = *from != '\\' ? *from : *++from == 'n' ? '\n' : *from;
+    *to = 0;
+    return text;
+}
+
+static bool read_numbers(const char *text, Counted *one)
+{
+    unsigned long long numbers[3], counts[LIMITED + 1];
+    int used = 0;
+    if (sscanf(text, "counted %u %llu %llu %llu %u %lf%n", &one->bound, &numbers[0], &numbers[1], &numbers[2], &one->longest, &one->seconds, &used) != 6)
+        return false;
+    one->schedules = numbers[0], one->given_up = numbers[1], one->states = numbers[2];
+    for (int of = 0; of <= LIMITED; of++) {
+        int more = 0;
+        if (sscanf(text + used, " %llu%n", &counts[of], &more) != 1)
+            return false;
+        one->counts[of] = counts[of];
+        used += more;
+    }
+    return true;
+}
+
+static void add_numbers(const Counted *more)
+{
+    int at = 0;
+    while (at < ex->counted_count && ex->counted[at].bound != more->bound)
+        at++;
+    if (at == BOUNDS)
+        return;
+    Counted *one = &ex->counted[at];
+    if (at == ex->counted_count) {
+        ex->counted_count++;
+        *one = *more;
+        return;
+    }
+    one->schedules += more->schedules;
+    one->given_up += more->given_up;
+    one->states += more->states;
+    one->longest = more->longest > one->longest ? more->longest : one->longest;
+    one->seconds = more->seconds > one->seconds ? more->seconds : one->seconds;
+    for (int of = 0; of <= LIMITED; of++)
+        one->counts[of] += more->counts[of];
+}
+
+static bool read_path(char *text)
+{
+    char *rest = NULL;
+    ex->length = 0;
+    for (char *word = strtok_r(text, " \n", &rest); word; word = strtok_r(NULL, " \n", &rest)) {
+        unsigned count, taken;
+        int is_switch;
+        if (ex->length == PATH || sscanf(word, "%u.%u.%d", &count, &taken, &is_switch) != 3)
+            return false;
+        ex->path[ex->length++] = (Node){.count = (uint8_t)count, .taken = (uint8_t)taken, .is_switch = is_switch};
+    }
+    return true;
+}
+
+typedef struct {
+    Kind kind;
+    Counted at;
+    bool is_right, is_whole, has_place;
+    unsigned shard, shards;
+} Reading;
+
+static void read_line(char *line, Reading *from)
+{
+    Counted one = {0};
+    unsigned long long count, seed;
+    int of, whole;
+    if (strncmp(line, "counted ", 8) == 0) {
+        from->is_right = read_numbers(line, &one);
+        add_numbers(&one);
+    } else if (sscanf(line, "kind %d %llu %u %u %u %llu", &of, &count, &from->kind.preemptions, &from->kind.switches, &from->kind.steps, &seed) == 6) {
+        from->kind.of = (KindOf)of;
+        from->kind.count = count;
+        from->kind.seed = seed;
+    } else if (strncmp(line, "key ", 4) == 0) {
+        from->kind.key = ex_kept(plain(line + 4));
+    } else if (strncmp(line, "text ", 5) == 0) {
+        from->kind.text = ex_kept(plain(line + 5));
+    } else if (strncmp(line, "schedule ", 9) == 0) {
+        from->kind.schedule = ex_kept(plain(line + 9));
+        ex_add_kind(&from->kind);
+    } else if (sscanf(line, "shard %u %u", &from->shard, &from->shards) == 2 || strcmp(line, "kazdrin search 1\n") == 0) {
+        return;
+    } else if (sscanf(line, "whole %d", &whole) == 1) {
+        from->is_whole = whole;
+    } else if (strncmp(line, "at ", 3) == 0) {
+        from->is_right = from->has_place = read_numbers(line + 3, &from->at);
+    } else if (strncmp(line, "path", 4) == 0) {
+        from->is_right = read_path(line + 4);
+    } else if (strncmp(line, "search ", 7) == 0) {
+        plain(line + 7);
+        if (!ex->search[0])
+            snprintf(ex->search, sizeof ex->search, "%s", line + 7);
+        from->is_right = strcmp(ex->search, line + 7) == 0;
+        if (!from->is_right)
+            fprintf(stderr, "this is another search: %s\n", line + 7);
+    } else {
+        from->is_right = false;
+    }
+}
+
+static bool read_file(const char *path, Reading *reading)
+{
+    char *line = ex_map(LINE);
+    FILE *file = fopen(path, "r");
+    if (!file) {
+        fprintf(stderr, "%s: can't be read\n", path);
+        return false;
+    }
+    reading->is_right = fgets(line, LINE, file) && strcmp(line, "kazdrin search 1\n") == 0;
+    while (reading->is_right && fgets(line, LINE, file))
+        read_line(line, reading);
+    fclose(file);
+    if (!reading->is_right)
+        fprintf(stderr, "%s: isn't of this search, or not understood\n", path);
+    return reading->is_right;
+}
+
+/* Where the file is there, the search stands where it was saved. 0, or 3. */
+int ex_resume(const char *path)
+{
+    FILE *file = fopen(path, "r");
+    Reading reading = {.is_right = true};
+    if (!file)
+        return 0;
+    fclose(file);
+    if (!read_file(path, &reading))
+        return 3;
+    if (reading.shard != ex->shard || reading.shards != (ex->shards ? ex->shards : 1)) {
+        fprintf(stderr, "%s: is part %u/%u of the search\n", path, reading.shard, reading.shards);
+        return 3;
+    }
+    ex->is_resumed = reading.has_place;
+    ex->is_whole = reading.is_whole;
+    ex->resumed = reading.at;
+    return 0;
+}
+
+/* The parts of a search are added up. 0; 3 if one can't be read or isn't of the same search; 4 where a part is missing or isn't whole. */
+int ex_merge(char **paths, int count)
+{
+    bool *is_there = ex_map(65536);
+    unsigned shards = 0, missing = 0;
+    int status = 0;
+    for (int at = 0; at < count; at++) {
+        Reading reading = {.is_right = true};
+        if (!read_file(paths[at], &reading))
+            return 3;
+        bool is_part = reading.shard < 65536 && (!shards || shards == reading.shards) && !is_there[reading.shard];
+        if (!is_part) {
+            fprintf(stderr, "%s: part %u/%u is there twice, or isn't one of %u\n", paths[at], reading.shard, reading.shards, shards);
+            return 3;
+        }
+        shards = reading.shards;
+        is_there[reading.shard] = true;
+        if (!reading.is_whole) {
+            fprintf(stderr, "%s: part %u/%u isn't whole\n", paths[at], reading.shard, reading.shards);
+            status = 4;
+        }
+    }
+    for (unsigned at = 0; at < shards; at++)
+        if (!is_there[at] && !missing++)
+            fprintf(stderr, "part %u/%u isn't there\n", at, shards);
+    return missing ? 4 : status;
+}

@@ -1,0 +1,99 @@
+#!/usr/bin/env bash
+# A search that is spread: over the processors of this machine by one word, by GNU parallel, and by shards that are merged. Each adds up to the same counts and kinds as the search in one piece. And one that is interrupted
+# goes on.
+set -u
+. "$(dirname "$0")/tally.sh" spread
+schedules=$tests/misuse/schedules
+scenarios=$tests/scenarios
+for name in settwice lockorder; do
+    build "$name" --explore "$room/$name" "$schedules/$name.c"
+    cp "$scenarios/$name.txt" "$room"
+done
+build ctx --explore "$room/ctx" c/samples/ctx.c
+sed 's/DRIVER/ctx/' $scenarios/four-clients.txt > "$room/ctx.txt"
+
+# The counts of each bound, and each kind with its number.
+seen() {
+    sed 's/, [0-9.]* s, /, /' "$1" | grep -E '^(bound|seeds)'
+    awk '/ schedules:$/ { text = $1; inside = 1; next } /^  the shortest:/ { print text; inside = 0; next } inside { text = text "|" $0 }' "$1" | sort
+}
+"$room/settwice" --ends --bound 3 "$room/settwice.txt" > "$room/whole"
+seen "$room/whole" > "$room/wanted"
+"$room/settwice" --ends --bound 3 --jobs 2 "$room/settwice.txt" > "$room/jobs" && seen "$room/jobs" | diff "$room/wanted" -
+tell $? "two jobs"
+"$room/settwice" --ends --bound 3 --jobs 5 "$room/settwice.txt" > "$room/jobs" && seen "$room/jobs" | diff "$room/wanted" -
+tell $? "five jobs"
+"$room/lockorder" "$room/lockorder.txt" > "$room/whole.lo"
+seen "$room/whole.lo" > "$room/wanted.lo"
+"$room/lockorder" --jobs 3 "$room/lockorder.txt" > "$room/jobs"
+[ $? = 6 ] && seen "$room/jobs" | diff "$room/wanted.lo" -
+tell $? "jobs that find something"
+"$room/settwice" --ends --seed 5 --runs 300 "$room/settwice.txt" > "$room/seeds" && "$room/settwice" --ends --seed 5 --runs 300 --jobs 3 "$room/settwice.txt" > "$room/jobs" &&
+    seen "$room/seeds" > "$room/wanted.seeds" && seen "$room/jobs" | diff "$room/wanted.seeds" -
+tell $? "jobs of drawn schedules"
+
+# Shards, and their sum.
+for shard in 0 1 2 3; do
+    "$room/settwice" --ends --bound 3 --shard "$shard/4" --save "$room/part.$shard" "$room/settwice.txt" > "$room/out" || { cat "$room/out"; false; }
+    tell $? "shard $shard"
+done
+"$room/settwice" --merge "$room"/part.? > "$room/merged" && seen "$room/merged" | diff "$room/wanted" -
+tell $? "merged shards"
+"$room/settwice" --merge "$room"/part.[023] > "$room/out" 2>&1
+[ $? = 4 ] && grep -q "part 1/4 isn't there" "$room/out"
+tell $? "a shard that is missing"
+"$room/settwice" --merge "$room"/part.? "$room/part.2" > "$room/out" 2>&1
+[ $? = 3 ] && grep -q "is there twice" "$room/out"
+tell $? "a shard that is there twice"
+"$room/settwice" --ends --bound 2 --shard 1/4 --save "$room/other" "$room/settwice.txt" > "$room/out"
+"$room/settwice" --merge "$room"/part.[023] "$room/other" > "$room/out" 2>&1
+[ $? = 3 ] && grep -q "another search" "$room/out"
+tell $? "a shard of another search"
+
+# GNU parallel, by the line of docs/EXPLORE.md.
+if command -v parallel > /dev/null && parallel --version 2> /dev/null | grep -q '^GNU parallel'; then
+    line=$(sed -n 's/^`\(parallel .*\)`.*/\1/p' docs/EXPLORE.md | head -n 1)
+    (cd "$room" && cp settwice lo && cp settwice.txt s.txt && rm -f part.* && eval "$line" > parallel.out 2>&1 && ./lo --merge part.* > merged) && "$room/settwice" "$room/settwice.txt" > "$room/whole2" &&
+        seen "$room/whole2" > "$room/wanted2" && seen "$room/merged" | diff "$room/wanted2" -
+    tell $? "GNU parallel: $line"
+else
+    echo "spread: there is no GNU parallel here (Debian: apt install parallel): its line wasn't run"
+fi
+
+# Interrupted, and on: what comes out is what one search in one go has.
+"$room/ctx" --bound 1 "$room/ctx.txt" > "$room/whole"
+seen "$room/whole" > "$room/wanted"
+rm -f "$room/on"
+ended=4
+rounds=0
+while [ $ended = 4 ] && [ $rounds -lt 60 ]; do
+    timeout -s INT 0.2 "$room/ctx" --bound 1 --resume "$room/on" "$room/ctx.txt" > "$room/went" 2>&1
+    ended=$?
+    [ $ended != 124 ] || ended=4
+    rounds=$((rounds + 1))
+done
+[ -f "$room/on" ] || cp "$room/went" "$room/out"
+"$room/ctx" --bound 1 --resume "$room/on" "$room/ctx.txt" > "$room/went" 2>&1
+seen "$room/went" | diff "$room/wanted" -
+tell $? "interrupted, and on"
+[ "$rounds" -gt 1 ]
+tell $? "it was interrupted"
+"$room/settwice" --resume "$room/on" "$room/settwice.txt" > "$room/out" 2>&1
+[ $? = 3 ] && grep -q "another search" "$room/out"
+tell $? "a file of another search"
+
+# What doesn't go together is refused with a sentence.
+refuse() {
+    local sentence=$1
+    shift
+    "$room/settwice" "$@" "$room/settwice.txt" > "$room/out" 2>&1
+    [ $? = 2 ] && grep -q "$sentence" "$room/out"
+    tell $? "refused: $*"
+}
+refuse "don't go with --shard and --jobs" --states --jobs 2
+refuse "don't go with --shard and --jobs" --reduce --shard 0/2
+refuse "don't go with --shard and --jobs" --independent --jobs 2
+refuse "don't go with --resume" --states --resume "$room/x"
+refuse "goes with none of" --independent --fails 1
+refuse "both spread the search" --jobs 2 --shard 0/2
+finish

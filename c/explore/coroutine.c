@@ -125,30 +125,19 @@ static void note_step(int client)
         if (at == client)
             continue;
         ex_runners[at].owes &= ~(1U << client);
-        ex_runners[at].has_moved = true;
+        ex_runners[at].has_moved |= ex_runners[at].yields;
         ex->patience[at].in_a_row = ex->patience[at].alone = 0;
         forget_looks(at);
     }
 }
 
-/* The number of the client that goes on; 0 if none can. */
-static int choose(Runner *me)
+static int begin_step(int client, bool is_preemption)
 {
-    Options options = options_of(me);
-    if (!options.count)
-        return 0;
-    ex->able = 0;
-    for (unsigned at = 0; at < options.count; at++)
-        ex->able |= 1U << options.clients[at];
-    bool is_bound = options.may_stay && ex->preemptions >= ex->bound && !ex->replay;
-    unsigned taken = options.count > 1 && !is_bound ? ex_decide(options.count, SWITCH, options.clients, options.may_stay) : 0;
-    if ((ex->replay || ex->is_guided) && options.count == 1)
-        taken = ex_decide(1, SWITCH, options.clients, options.may_stay);
-    int client = options.clients[taken];
-    bool is_preemption = options.may_stay && taken > 0;
     ex->preemptions += is_preemption;
     ex->switches += client != ex->current && ex->current;
     note_step(client);
+    if (ex->is_independent)
+        ex_begin_footprint(&ex_runners[client]);
     if (ex->stops_at && ex->steps == ex->stops_at)
         raise(SIGTRAP); /* a debugger stops here: the client goes on next */
     if (ex->is_traced)
@@ -156,10 +145,34 @@ static int choose(Runner *me)
     return client;
 }
 
+/* The number of the client that goes on; 0 if none can. */
+static int choose(Runner *me)
+{
+    if (ex->is_independent && ex->current)
+        ex_end_footprint(ex->current);
+    Options options = options_of(me);
+    if (ex->pair)
+        return begin_step(ex_choose_for_pair(options.count, options.clients), false);
+    if (!options.count)
+        return 0;
+    if (ex->is_independent && options.count == 1 && ex_all_sleep(options.clients, 1)) {
+        ex->is_given_up = true;
+        siglongjmp(ex->out, 1);
+    }
+    ex->able = 0;
+    for (unsigned at = 0; at < options.count; at++)
+        ex->able |= 1U << options.clients[at];
+    bool is_bound = options.may_stay && ex->preemptions >= ex->bound && !ex->replay;
+    unsigned taken = options.count > 1 && !is_bound ? ex_decide(options.count, SWITCH, options.clients, options.may_stay) : 0;
+    if ((ex->replay || ex->is_guided) && options.count == 1)
+        taken = ex_decide(1, SWITCH, options.clients, options.may_stay);
+    return begin_step(options.clients[taken], options.may_stay && taken > 0);
+}
+
 /* Where states are told apart another stack chooses, so that all clients stand alike. */
 static void go_on(Runner *me)
 {
-    if (ex->is_reduced || ex->is_alone) {
+    if (ex->is_reduced || ex->is_independent || ex->is_alone) {
         ex_switch(&me->stands, ex->back);
         return;
     }
@@ -198,6 +211,8 @@ static bool can_others(const Runner *me)
 static bool wait(KzCan *can, void *what, KzWaits why, const char *text)
 {
     Runner *me = mine();
+    if (ex->is_independent)
+        ex_use_all();
     me->client->why = why;
     me->can = can;
     me->what = what;
@@ -206,6 +221,8 @@ static bool wait(KzCan *can, void *what, KzWaits why, const char *text)
     me->state = WAITING;
     go_on(me);
     me->state = RUNNING;
+    if (ex->is_independent)
+        ex_use_all();
     return !me->timed_out;
 }
 
@@ -223,7 +240,7 @@ static void yield(Runner *me, const void *from)
     me->yields = true;
     me->has_moved = false;
     wait(has_let_others, me, KZ_WAITS_AS_THERE, "what it looks at again and again");
-    me->yields = false;
+    me->yields = me->has_moved = false;
 }
 
 /* Whether the place has looked often enough, and found the same each time. */
@@ -237,6 +254,8 @@ static bool is_in_vain(const void *from, uintptr_t at, uint64_t value)
     mine_own->looks[place].at = at;
     mine_own->looks[place].value = value;
     mine_own->looks[place].count = is_same ? mine_own->looks[place].count + 1 : 1;
+    if (ex->is_independent && is_same)
+        ex_use((const void *)at, false);
     if (mine_own->looks[place].count < LOOKS_ENOUGH)
         return false;
     mine_own->looks[place].count = 0;
@@ -299,19 +318,25 @@ static void looked(const void *from)
         owe_all(mine());
 }
 
-void ex_memory_point(const void *address, size_t size, const void *from)
+static void look_at(Runner *me, const void *address, size_t size, const void *from)
 {
-    Runner *me = mine();
     uint64_t value = 0;
-    if (ex->is_alone || me->state != RUNNING || me->client->inside || !ex->is_running)
-        return;
     if (ex_is_heap(address) || ex_is_program(address))
         memcpy(&value, address, size < sizeof value ? size : sizeof value);
     if (is_in_vain(from, (uintptr_t)address, value) || ++ex->patience[kz_me->number].accesses % ACCESSES == 0)
         owe_all(me);
+}
+
+/* What it sees counts once it goes on: what others do before that may change it. */
+void ex_memory_point(const void *address, size_t size, const void *from)
+{
+    Runner *me = mine();
+    if (ex->is_alone || me->state != RUNNING || me->client->inside || !ex->is_running)
+        return;
     if (!ex->is_coarse)
         stand(me, "memory", from);
-    else if (me->owes && (!has_let_others(me) || !can_others(me)))
+    look_at(me, address, size, from);
+    if (ex->is_coarse && me->owes && (!has_let_others(me) || !can_others(me)))
         yield(me, from);
 }
 
@@ -321,6 +346,10 @@ static unsigned choose_answer(unsigned count, KzChoice what, const char *name)
         return 0;
     bool is_time = what == KZ_CHOICE_TIME, is_inside = what == KZ_CHOICE_INSIDE;
     bool is_asked = is_inside ? ex->has_inside || ex->replay || ex->is_guided : is_time ? !ex->timeouts : ex->fails_used < ex->fails || ex->replay || ex->is_guided;
+    if (ex->is_independent && what == KZ_CHOICE_DEVICE)
+        ex_use_folder();
+    if (ex->is_independent && is_asked)
+        ex_use_all();
     unsigned taken = is_asked ? ex_decide(count, is_inside ? ANSWER_INSIDE : ANSWER_FAIL, NULL, false) : 0;
     if (!taken)
         return 0;
@@ -396,6 +425,13 @@ void ex_open_stacks(void)
         mprotect(stacks + (size_t)at * STACK, 4096, PROT_NONE);
 }
 
+/* What earlier runs left on them is gone: where states are told apart they aren't to differ by that. */
+void ex_clear_stacks(void)
+{
+    for (int at = 0; at <= RUNNERS; at++)
+        madvise((char *)STACKS + (size_t)at * STACK + 4096, STACK - 4096, MADV_DONTNEED);
+}
+
 bool ex_is_stack(const void *address)
 {
     return (uintptr_t)address >= STACKS && (uintptr_t)address < STACKS + (size_t)STACK * (RUNNERS + 1);
@@ -463,7 +499,7 @@ static bool let(KzThread *thread)
     return true;
 }
 
-const KzScheduler ex_scheduler = {point, wait, ex_touch, looked, choose_answer, begin, let, nothing, nothing, ex_say, true, false};
+const KzScheduler ex_scheduler = {point, wait, ex_touch, ex_called, looked, choose_answer, begin, let, nothing, nothing, ex_say, true, false};
 
 /* What a client left on its stack below where it stands: two states aren't to differ by that. */
 static void tidy(Runner *one)
@@ -498,7 +534,7 @@ void ex_run(void)
     ex->current = 0;
     ex->is_running = true;
     Runner *before = NULL;
-    for (int client = choose(NULL); client; client = ex->is_reduced ? choose(before) : 0) {
+    for (int client = choose(NULL); client; client = ex->is_reduced || ex->is_independent ? choose(before) : 0) {
         before = &ex_runners[client];
         ex->current = client;
         kz_me = before->client;

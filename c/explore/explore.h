@@ -106,6 +106,24 @@ typedef struct {
     bool is_preemption;
 } Event;
 
+/* What a step uses: eight bytes of memory each, or an object. */
+enum { USES = 48 };
+typedef struct {
+    bool is_all; /* or everything */
+    unsigned count;
+    struct {
+        uintptr_t tag;
+        bool is_written;
+    } uses[USES];
+} Footprint;
+
+/* Of a choice of the path: who slept as it came up, and what the steps use that were tried. */
+typedef struct {
+    uint32_t asleep;
+    uint8_t clients[RUNNERS];
+    Footprint tried[RUNNERS + 1];
+} Choice;
+
 /* All that a run's beginning doesn't put back. */
 typedef struct {
     /* The scenario, and how it is searched. */
@@ -145,6 +163,12 @@ typedef struct {
     size_t found_count;
     char output[OUTPUT];
     size_t output_length;
+    /* Independent steps. */
+    Footprint footprint, sleeping[RUNNERS + 1]; /* of the step that runs; of those that sleep */
+    uint32_t asleep;
+    Choice *choices; /* by depth */
+    size_t last_choice; /* its depth and one, until the step is through; 0 if there was none */
+    void *pair; /* of steps that are tried in both orders; NULL if none is */
     uint32_t run;
     uint64_t random;
     uint32_t priorities[RUNNERS + 1];
@@ -212,6 +236,7 @@ void ex_open_memory(void);
 void *ex_map(size_t size);
 void ex_take_image(void);
 void ex_put_back(void);
+void ex_clear_arenas(void);
 bool ex_opens_page(const void *address);
 bool ex_is_heap(const void *address);
 bool ex_is_program(const void *address);
@@ -223,6 +248,7 @@ void ex_open_states(void);
 void ex_forget_states(void);
 uint64_t ex_states_count(void);
 bool ex_is_known(int stays);
+uint64_t ex_state_key(void);
 uint64_t ex_mixed(uint64_t value);
 uint64_t ex_bytes_hash(const void *bytes, size_t size, uint64_t seed);
 
@@ -240,6 +266,7 @@ void ex_learn_cells(bool is);
 extern const KzScheduler ex_scheduler;
 void ex_open_stacks(void);
 void ex_keep_stacks(void);
+void ex_clear_stacks(void);
 bool ex_is_stack(const void *address);
 uint64_t ex_stacks_hash(void);
 void ex_run(void);
@@ -253,6 +280,7 @@ uint64_t ex_patience_hash(void);
 
 /* path.c: which of so many is taken. */
 unsigned ex_decide(unsigned count, Asks asks, const int *clients, bool may_stay);
+unsigned ex_draw(unsigned count);
 bool ex_advance(void);
 void ex_draw_priorities(void);
 bool ex_is_own(void);
@@ -295,7 +323,7 @@ const char *ex_source_text(unsigned long address);
 void ex_trace_step(const Runner *runner, bool is_preemption);
 void ex_trace_text(const char *text);
 void ex_trace_found(const char *text);
-void ex_trace_access(const void *address, bool is_write, bool is_atomic);
+void ex_trace_access(const void *address, bool is_write, bool is_atomic, const void *from);
 void ex_trace_object(const void *object, bool is_taken, const char *call);
 void ex_trace_end(void);
 
@@ -306,8 +334,21 @@ int ex_put_page(const char *path);
 void ex_shrink(void);
 unsigned ex_guided(unsigned count, Asks asks, const int *clients);
 
+/* independent.c */
+void ex_use(const void *what, bool is_written);
+void ex_use_all(void);
+void ex_use_folder(void);
+void ex_called(const char *name);
+void ex_begin_footprint(const Runner *one);
+void ex_end_footprint(int client);
+bool ex_depend(const Footprint *a, const Footprint *b);
+unsigned ex_first_awake(size_t depth, unsigned from, unsigned count, const int *clients);
+unsigned ex_next_awake(size_t depth, unsigned taken, unsigned count);
+bool ex_all_sleep(const int *clients, unsigned count);
+
 /* commute.c: whether pairs of steps that are called independent are. */
 int ex_try_pairs(unsigned runs);
+int ex_choose_for_pair(unsigned count, const int *clients);
 
 /* fault.c */
 void ex_watch_faults(void);

@@ -161,6 +161,13 @@ void ex_take_image(void)
     }
 }
 
+/* What earlier runs left in the clients' arenas is gone. */
+void ex_clear_arenas(void)
+{
+    for (size_t client = 1; client < RUNNERS + 2; client++)
+        madvise(arena(client), ARENA, MADV_DONTNEED);
+}
+
 static Range *range_of(const char *address)
 {
     for (int at = 0; image && image->is_taken && at < 2; at++)

@@ -21,6 +21,8 @@ static void start_run(void)
     ex->preemptions = ex->switches = ex->fails_used = ex->timeouts = ex->steps = ex->deviations = 0;
     ex->hash = 0;
     ex->unmet[0] = 0;
+    ex->asleep = 0;
+    ex->last_choice = 0;
     ex->is_limited = ex->is_given_up = ex->is_alone = false;
     ex->runners_count = ex->usual_count;
     memset(ex->patience, 0, sizeof ex->patience[0] * ((size_t)ex->most_runners + 1));
@@ -111,7 +113,7 @@ static void put_counts(const Counted *one)
     else
         printf("bound %u: ", one->bound);
     printf("%llu schedules, ", (unsigned long long)one->schedules);
-    if (ex->is_reduced || ex->is_independent)
+    if (ex->is_reduced)
         printf("%llu given up, ", (unsigned long long)one->given_up);
     if (ex->is_reduced)
         printf("%llu states, ", (unsigned long long)one->states);
@@ -236,6 +238,8 @@ static void warm_up(void)
             ex->usual_steps = ex->steps ? ex->steps : 1;
     } while (++runs < WARM_UP && !ex->unknown && ex_advance());
     ex_learn_cells(false);
+    ex_clear_stacks();
+    ex_clear_arenas();
     ex->is_reduced = is_reduced, ex->is_independent = is_independent, ex->has_no_bound = has_no_bound, ex->is_coarse = is_coarse, ex->is_traced = is_traced, ex->wants_ends = wants_ends;
     ex->fails = fails, ex->shards = shards;
     ex->kinds_count = 0;
@@ -419,6 +423,8 @@ int main(int count, char **words)
         ex->is_reduced = ex->is_independent = ex->has_no_bound = false;
     if (ex->is_reduced)
         ex_open_states();
+    if (ex->is_independent)
+        ex->choices = ex_map(PATH * sizeof *ex->choices);
     kz_is_deaf = !ex->wants_ends && !ex->is_traced && !asked.page;
     ex_keep_stacks();
     ex_take_image();

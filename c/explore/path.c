@@ -21,7 +21,18 @@ static void note_deviation(unsigned taken)
     }
 }
 
-static unsigned follow(unsigned count, bool is_switch, int stays)
+/* Of steps that are independent one order is searched: where all who could go on sleep, what follows was. */
+static void take_awake(Node *node, unsigned count, const int *clients)
+{
+    node->taken = (uint8_t)ex_first_awake(ex->depth, node->taken, count, clients);
+    if (node->taken < count)
+        return;
+    node->taken = (uint8_t)(count - 1);
+    ex->is_given_up = true;
+    siglongjmp(ex->out, 1);
+}
+
+static unsigned follow(unsigned count, bool is_switch, int stays, const int *clients)
 {
     if (ex->depth == PATH) {
         ex_found(STUCK, "ENDLESS: the run has too many choices");
@@ -39,6 +50,8 @@ static unsigned follow(unsigned count, bool is_switch, int stays)
         ex_found(CRASH, "NOT REPEATABLE: the same schedule came to another choice");
         siglongjmp(ex->out, 1);
     }
+    if (ex->is_independent && is_switch)
+        take_awake(node, count, clients);
     ex->depth++;
     note_deviation(node->taken);
     return node->taken;
@@ -49,7 +62,8 @@ bool ex_advance(void)
 {
     while (ex->length > 0) {
         Node *node = &ex->path[ex->length - 1];
-        if (++node->taken < node->count)
+        node->taken = (uint8_t)(ex->is_independent && node->is_switch ? ex_next_awake(ex->length - 1, node->taken, node->count) : node->taken + 1U);
+        if (node->taken < node->count)
             return true;
         ex->length--;
     }
@@ -106,7 +120,7 @@ static unsigned play_again(unsigned count, Asks asks, const int *clients)
 }
 
 /* ---- By a seed: a coin at each choice, or priorities. */
-static unsigned draw(unsigned count)
+unsigned ex_draw(unsigned count)
 {
     ex->random ^= ex->random << 13;
     ex->random ^= ex->random >> 7;
@@ -118,9 +132,9 @@ static unsigned draw(unsigned count)
 void ex_draw_priorities(void)
 {
     for (int client = 0; client <= RUNNERS; client++)
-        ex->priorities[client] = DEPTH + 1 + draw(1U << 30);
+        ex->priorities[client] = DEPTH + 1 + ex_draw(1U << 30);
     for (unsigned at = 0; at + 1 < ex->pct; at++)
-        ex->changes[at] = 1 + draw(ex->usual_steps);
+        ex->changes[at] = 1 + ex_draw(ex->usual_steps);
     ex->changed = 0;
 }
 
@@ -153,8 +167,8 @@ unsigned ex_decide(unsigned count, Asks asks, const int *clients, bool may_stay)
     if (ex->seed && is_switch && ex->pct)
         return by_priority(count, clients);
     if (ex->seed)
-        return is_switch ? draw(count) : draw(8) == 0;
-    return follow(count, is_switch, may_stay ? clients[0] : 0);
+        return is_switch ? ex_draw(count) : ex_draw(8) == 0;
+    return follow(count, is_switch, may_stay ? clients[0] : 0, clients);
 }
 
 /* How often the client goes on in a row; a refusal stands alone. */

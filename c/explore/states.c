@@ -7,6 +7,7 @@
 typedef struct {
     uint64_t key;
     uint32_t left; /* preemptions, and one more; 0 where there is no state */
+    uint32_t asleep; /* whose steps weren't searched from there, since another order of them was */
 } Known;
 
 static struct {
@@ -86,6 +87,11 @@ static uint64_t key(int stays)
     return ex_mixed(hash) + ex_mixed(rest + 1) + (ex->has_no_bound ? 0 : ex_mixed((uint64_t)stays + 2) * 3);
 }
 
+uint64_t ex_state_key(void)
+{
+    return key(0);
+}
+
 static Known *find(uint64_t wanted)
 {
     size_t at = (size_t)ex_mixed(wanted) & (states->size - 1);
@@ -117,13 +123,13 @@ bool ex_is_known(int stays)
     uint32_t left = ex->has_no_bound ? 1 : ex->bound - ex->preemptions + 1;
     Known *one = find(wanted);
     ex->path[ex->depth].key = wanted;
-    if (one->left >= left) {
+    if (one->left >= left && !(one->asleep & ~ex->asleep)) {
         if (is_loop(wanted))
             ex_found(STUCK, "ENDLESS: the run comes back to where it was");
         return true;
     }
     if (one->left == 0 && ++states->count > states->size / 8 * 7)
         ex_end_search("states");
-    *one = (Known){wanted, left};
+    *one = (Known){wanted, left, one->left ? one->asleep & ex->asleep : ex->asleep};
     return false;
 }

@@ -60,7 +60,7 @@ static void describe(const void *address, char *room, size_t size)
         snprintf(room, size, "byte %zu of %s", (size_t)((const uint8_t *)address - piece->body), kinds[piece->kind]);
 }
 
-void ex_trace_access(const void *address, bool is_write, bool is_atomic)
+void ex_trace_access(const void *address, bool is_write, bool is_atomic, const void *from)
 {
     char name[96], text[160];
     static const char *const words[2][2] = {{"reads", "writes"}, {"reads in order", "writes in order"}};
@@ -69,7 +69,11 @@ void ex_trace_access(const void *address, bool is_write, bool is_atomic)
     for (size_t at = ex->touches_from; at < ex->events_count; at++)
         if (ex->events[at].kind == EVENT_TOUCH && strcmp(ex->events[at].text, text) == 0)
             return;
-    note(EVENT_TOUCH, text);
+    Event *one = new_event(EVENT_TOUCH, kz_me->number);
+    if (one) {
+        one->text = ex_kept(text);
+        one->from = from;
+    }
 }
 
 /* A lock is taken or let go, an object is waited for or set. */

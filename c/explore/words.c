@@ -142,13 +142,13 @@ static void note_word(Asked *asked, const char *word, const char *value)
 /* Words that don't go together. */
 static bool are_right(const Asked *asked)
 {
-    bool knows_states = ex->is_reduced || ex->is_independent, is_spread = ex->shards > 1 || asked->jobs > 1;
+    bool knows_states = ex->is_reduced, is_spread = ex->shards > 1 || asked->jobs > 1;
     if (knows_states && is_spread)
         return refuse("--reduce, --states and --independent don't go with --shard and --jobs: a part would leave out what another has met");
     if (knows_states && asked->resume)
         return refuse("--reduce, --states and --independent don't go with --resume: what was met isn't stored");
-    if (ex->is_independent && (ex->is_reduced || ex->fails || ex->has_inside))
-        return refuse("--independent goes with none of --reduce, --states, --fails and --inline: what is refused, or runs inside a call, isn't known to be independent of other steps");
+    if (ex->is_independent && (ex->fails || ex->has_inside))
+        return refuse("--independent goes neither with --fails nor with --inline: what is refused, or runs inside a call, isn't known to be independent of other steps");
     if (asked->jobs > 1 && ex->shards > 1)
         return refuse("--jobs and --shard both spread the search: take one of them");
     if (asked->jobs > 1 && (asked->replay || asked->is_debugged))
@@ -179,8 +179,8 @@ bool ex_read_words(int count, char **words, Asked *asked)
             at++;
         }
     }
-    ex->is_reduced |= ex->has_no_bound;
     ex->has_no_bound |= ex->is_independent;
+    ex->is_reduced |= ex->has_no_bound;
     ex->wants_ends |= asked->learns || asked->expects;
     ex->is_traced |= asked->replay && asked->page;
     return asked->scenario ? are_right(asked) : usage(words[0]);

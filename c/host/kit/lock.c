@@ -116,7 +116,10 @@ static void add(Held one)
         }
         held = larger;
     }
-    held[held_count++] = one;
+    size_t place = held_count++; /* by clients: so that what is held is the same whoever took his first */
+    for (; place > 0 && held[place - 1].client->number > one.client->number; place--)
+        held[place] = held[place - 1];
+    held[place] = one;
 }
 
 static void note(PVOID lock, int how, KIRQL irql, const char *call)

@@ -14,8 +14,10 @@ typedef struct {
     uint64_t place; /* the callback's number: kz_me->place.number */
 } Held;
 
-static Held *held;
-static size_t held_count, held_room;
+/* Room for more is taken where these don't do. */
+enum { FEW = 64 };
+static Held few[FEW], *held = few;
+static size_t held_count, held_room = FEW;
 
 static Held *find_of(const void *lock, const KzClient *client)
 {
@@ -108,13 +110,12 @@ static void wait_in_line(Wanted *one, const char *call)
 static void add(Held one)
 {
     if (held_count == held_room) {
-        held_room = held_room ? held_room * 2 : 64;
-        Held *larger = realloc(held, held_room * sizeof *held);
-        if (!larger) {
-            fprintf(stderr, "no memory\n");
-            exit(1);
-        }
+        Held *larger = kz_memory(2 * held_room * sizeof *held);
+        memcpy(larger, held, held_room * sizeof *held);
+        if (held != few)
+            free(held);
         held = larger;
+        held_room *= 2;
     }
     size_t place = held_count++; /* by clients: so that what is held is the same whoever took his first */
     for (; place > 0 && held[place - 1].client->number > one.client->number; place--)
@@ -164,7 +165,7 @@ static void let_go(Held *one, PVOID lock, const char *call)
     }
     if (--one->count == 0) {
         memmove(one, one + 1, (size_t)(held + held_count - one - 1) * sizeof *one);
-        held_count--;
+        held[--held_count] = (Held){0};
     }
     kz_scheduler->touch(lock, 0, KZT_GIVES);
 }
@@ -244,10 +245,12 @@ void kz_check_locks(const void *memory, size_t size)
 
 void kz_free_locks(void)
 {
-    free(held);
-    held = NULL;
+    if (held != few)
+        free(held);
+    held = few;
     wanted = NULL;
-    held_count = held_room = 0;
+    held_count = 0;
+    held_room = FEW;
 }
 
 /* ---- IRQL: that of the locks that are held, or to which it was raised. */

@@ -211,13 +211,13 @@ def check(script, program, kinds, events, rest):
 
 
 def words_behind(words, name):
-    """The program behind an option, as a path, and the words without both."""
+    """The program behind an option, as a path, and the words without both. A link isn't followed: some programs do what they are called by."""
     if name not in words:
         return None, words
     at = words.index(name)
     if at + 1 == len(words):
         sys.exit(__doc__)
-    return str(pathlib.Path(words[at + 1]).resolve()), words[:at] + words[at + 2 :]
+    return str(pathlib.Path(words[at + 1]).absolute()), words[:at] + words[at + 2 :]
 
 
 def random_of(words):

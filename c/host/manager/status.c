@@ -2,7 +2,7 @@
 #include "host.h"
 
 /* By the manager's numbers. Some of the kit's stand for two: kz_number says which of them comes back. */
-static const NTSTATUS statuses[35] = {
+static const NTSTATUS statuses[KZS_COUNT] = {
     STATUS_SUCCESS,
     STATUS_INSUFFICIENT_RESOURCES,
     STATUS_INVALID_PARAMETER, /* no altitude */
@@ -42,7 +42,7 @@ static const NTSTATUS statuses[35] = {
 
 NTSTATUS kz_ntstatus(uint32_t number)
 {
-    return number < 35 ? statuses[number] : STATUS_IO_DEVICE_ERROR;
+    return number < KZS_COUNT ? statuses[number] : STATUS_IO_DEVICE_ERROR;
 }
 
 /* The number of a status: the last of those that it stands for, but the first if a filter isn't found. One that the manager lacks counts as success, if it is one,
@@ -52,7 +52,7 @@ uint32_t kz_number(NTSTATUS status, bool *is_exact)
     *is_exact = true;
     if (status == STATUS_FLT_FILTER_NOT_FOUND)
         return KZS_NO_FILTER;
-    for (uint32_t number = 35; number-- > 0;)
+    for (uint32_t number = KZS_COUNT; number-- > 0;)
         if (statuses[number] == status)
             return number;
     *is_exact = false;

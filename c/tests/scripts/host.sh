@@ -121,8 +121,6 @@ if command -v python3 > /dev/null; then
     tell $? "JSON beside docs/JSON.md"
     python3 $tests/scripts/reports.py "$room"
     tell $? "JSON and JUnit, as they are read,"
-    python3 $tests/scripts/numbers.py
-    tell $? "numbers and sentences of what is told"
 fi
 
 # A folder of the host machine as volume 0: regular files below it alone, and what is written stands in them.

@@ -101,7 +101,7 @@ mount() {
     export FLTD=${FLTD:-$(server_of_mount)}
     COUNT=$count "$here/mount.sh"
     tell $? mount
-    [ -c /dev/fuse ] && make -s -C c fltmount PROGRAM="$room/fltmount" || return
+    may_mount > /dev/null && make -s -C c fltmount PROGRAM="$room/fltmount" || return
     if make -s -C c fltmount PROGRAM="$program" CFLAGS="-O1 -fsanitize=thread" 2> /dev/null; then
         $tests/mount/check.py --server "$FLTD" --mount "$program" --count 6000 calls model deletions held ends
         tell $? "mount with threads"

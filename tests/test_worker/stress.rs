@@ -1,5 +1,5 @@
 //! A client's random requests beside another's attaches, detaches and unloads of all samples, while two workers carry operations on, with queues of several
-//! lengths. Each round must end, and every context must be cleaned up.
+//! lengths. Each round must end, every context must be cleaned up, and there must have been some.
 
 ghost use Rattle.std.specs.Prelude.{◌≡◌};
 
@@ -18,14 +18,14 @@ use fm_worker::NoHook;
 use std::alloc::Global;
 use std::marker::Brand;
 use std::sync::Wait;
-use std::sync::atomic::{AtomicBool, Ordering};
+use std::sync::atomic::{AtomicBool, AtomicU64, Ordering};
 use std::sync::ledger::{Blank, Ledger};
 use std::thread;
 use std::thread::Threads;
 use std::time::Clock;
 
 /// How many requests the client makes in a round.
-const REQUESTS: u64 = 80;
+const REQUESTS: u64 = 120;
 
 /// How many places the queues have, and how many rounds are made with each.
 const PLACES: [usize; 3] = [1, 8, 272];
@@ -36,6 +36,17 @@ const ROUNDS: u64 = 4;
 const NAMES: [&[u8]; 6] = [b"guard", b"meter", b"shift", b"hold", b"carry", b"stay"];
 
 const ALTITUDES: [&[u8]; 4] = [b"100", b"200", b"300.5", b"400"];
+
+/// How often the owner lets others run at most, until the client has asked for something more: a read that a filter holds is let go by the owner's next turns.
+const PATIENCE: u64 = 200;
+
+/// What the client and the owner tell each other: that the owner has begun, how many requests were made, and that there come no more.
+#[derive(Drop)]
+struct Race {
+    has_begun: AtomicBool,
+    asked: AtomicU64,
+    is_over: AtomicBool,
+}
 
 /// That of a client or of a worker.
 type OpenWorker<'a, L, R> = MemoryWorker<'a, Sample, L, R, NoHook>;
@@ -90,16 +101,25 @@ fn request_of(alloc: Global, random: &mut Random) -> Result<Request, Status> {
     Ok(Request::OnHandle { handle, request })
 }
 
-// The client's requests, each after the answer of the one before. How many were answered.
+// The client's requests from the owner's beginning on, each after the answer of the one before. How many were answered.
 fn ask_all<L: Ledger, R: Wait>(
+    rt: &R,
     alloc: Global,
     client: &mut OpenWorker<'_, L, R>,
     seed: u64,
+    race: &Race,
 ) -> Result<u64, Status> {
     let mut random = Random { state: seed };
     let mut answered = 0_u64;
     client.answer(create(alloc, b"x")?)?;
-    for _ in 0..REQUESTS {
+    'begin: for _ in rt.forever() {
+        if race.has_begun.load(Ordering::SeqCst) {
+            break 'begin;
+        }
+        thread::yield_now();
+    }
+    for asked in 0..REQUESTS {
+        race.asked.store(asked, Ordering::SeqCst);
         if client.answer(request_of(alloc, &mut random)?).is_ok() {
             answered = answered.saturating_add(1);
         }
@@ -127,8 +147,9 @@ fn ask_and_close<L: Ledger, R: Wait>(
     manager: &Manager<Sample, L>,
     client: &mut OpenWorker<'_, L, R>,
     seed: u64,
+    race: &Race,
 ) -> Result<u64, Status> {
-    let answered = ask_all(alloc, client, seed)?;
+    let answered = ask_all(rt, alloc, client, seed, race)?;
     close_all(client, manager.handles_given(rt))?;
     Ok(answered)
 }
@@ -139,10 +160,10 @@ fn ask_and_tell<L: Ledger, R: Wait>(
     manager: &Manager<Sample, L>,
     client: &mut OpenWorker<'_, L, R>,
     seed: u64,
-    is_over: &AtomicBool,
+    race: &Race,
 ) -> Result<u64, Status> {
-    let answered = ask_and_close(rt, alloc, manager, client, seed);
-    is_over.store(true, Ordering::SeqCst);
+    let answered = ask_and_close(rt, alloc, manager, client, seed, race);
+    race.is_over.store(true, Ordering::SeqCst);
     answered
 }
 
@@ -157,8 +178,9 @@ fn instance_of<L: Ledger, R: Wait>(
     InstanceId(u16::try_from(last.saturating_sub(back)).unwrap_or(0))
 }
 
+// Any filter that may have been loaded: there are at most 16 loads.
 fn filter_of(random: &mut Random) -> FilterId {
-    FilterId(u8::try_from(random.below(8)).unwrap_or(0))
+    FilterId(u8::try_from(random.below(16)).unwrap_or(0))
 }
 
 // Loads or attaches any filter.
@@ -175,24 +197,38 @@ fn attach_any<L: Ledger, R: Wait>(
     Ok(())
 }
 
-// Attaches and detaches until the client is over, and then unloads all. What is refused is asked for again later, or never.
+// Waits until the client has asked for something more, but not for ever. How many requests there are then.
+fn wait_for_more(race: &Race, seen: u64) -> u64 {
+    'waits: for _ in 0..PATIENCE {
+        if race.asked.load(Ordering::SeqCst) != seen {
+            break 'waits;
+        }
+        thread::yield_now();
+    }
+    race.asked.load(Ordering::SeqCst)
+}
+
+// Attaches and detaches until the client is over. What is refused is asked for again later, or never.
 fn manage<L: Ledger, R: Wait>(
     rt: &R,
     manager: &Manager<Sample, L>,
     owner: &mut OpenWorker<'_, L, R>,
     seed: u64,
-    is_over: &AtomicBool,
+    race: &Race,
 ) {
     let mut random = Random { state: seed };
+    let mut seen = 0;
     'turns: for _ in rt.forever() {
-        if is_over.load(Ordering::SeqCst) {
+        if race.is_over.load(Ordering::SeqCst) {
             break 'turns;
         }
-        match random.below(8) {
-            0 | 1 => {
+        seen = wait_for_more(race, seen);
+        race.has_begun.store(true, Ordering::SeqCst);
+        match random.below(16) {
+            0..=9 => {
                 let _ = attach_any(owner, &mut random);
             }
-            7 => {
+            15 => {
                 let _ = owner.unload(filter_of(&mut random));
             }
             _ => {
@@ -215,9 +251,9 @@ fn manage_and_finish<L: Ledger, R: Wait>(
     manager: &Manager<Sample, L>,
     owner: &mut OpenWorker<'_, L, R>,
     seed: u64,
-    is_over: &AtomicBool,
+    race: &Race,
 ) {
-    manage(rt, manager, owner, seed, is_over);
+    manage(rt, manager, owner, seed, race);
     unload_all(manager.filters(rt), owner);
     owner.stop_worker();
     owner.stop_worker();
@@ -260,14 +296,18 @@ fn race_and_leave<L: Ledger + Send + Sync, R: Threads + Wait + Clock + Sync>(
         mut second,
     } = workers;
     let mut owner = owner;
-    let is_over = AtomicBool::new(false);
+    let race = Race {
+        has_begun: AtomicBool::new(false),
+        asked: AtomicU64::new(0),
+        is_over: AtomicBool::new(false),
+    };
     let (answered, _) = thread::join(
         rt,
-        || ask_and_tell(rt, alloc, manager, &mut client, seed, &is_over),
+        || ask_and_tell(rt, alloc, manager, &mut client, seed, &race),
         || {
             thread::join(
                 rt,
-                || manage_and_finish(rt, manager, &mut owner, seed.wrapping_add(1), &is_over),
+                || manage_and_finish(rt, manager, &mut owner, seed.wrapping_add(1), &race),
                 || thread::join(rt, || first.work(), || second.work()),
             )
         },
@@ -304,12 +344,15 @@ fn stress_round<L: Ledger + Send + Sync, R: Threads + Wait + Clock + Sync>(
 
 #[test]
 fn stress(rt: HostRuntime) {
+    let mut all_born = 0_u64;
     for places in PLACES {
         for seed in 1..=ROUNDS {
             let seen = stress_round::<Brand, _>(&rt, rt.alloc(), Blank::new(PARTS), places, seed);
             assert!(rt;
                 matches!(seen, Ok((answered, Numbers { born, cleaned, leaks: 0 })) if born == cleaned && answered > 0)
             );
+            all_born = all_born.saturating_add(seen.map_or(0, |(_, numbers)| numbers.born));
         }
     }
+    assert!(rt; all_born > 0);
 }

@@ -173,7 +173,7 @@ typedef struct {
     uint64_t random;
     uint32_t priorities[RUNNERS + 1];
     unsigned changes[DEPTH], changed, usual_steps;
-    sigjmp_buf out;
+    sigjmp_buf out; /* to where a run ends, from wherever it is */
     void *back;
     int current;
     bool is_given_up;

@@ -21,7 +21,8 @@ static void note_deviation(unsigned taken)
     }
 }
 
-/* Of steps that are independent one order is searched: where all who could go on sleep, what follows was. */
+/* Of steps that are independent one order is searched: a client sleeps while what would follow its step was searched already (independent.c). Where all who could go on sleep, the run is
+ * given up, and the choice stays at its last option, so that ex_advance leaves it. */
 static void take_awake(Node *node, unsigned count, const int *clients)
 {
     node->taken = (uint8_t)ex_first_awake(ex->depth, node->taken, count, clients);
@@ -32,6 +33,7 @@ static void take_awake(Node *node, unsigned count, const int *clients)
     siglongjmp(ex->out, 1);
 }
 
+/* The option that the path has for this choice; a choice that it doesn't have yet is appended with its first. `stays` is the client that may go on without a preemption; 0 if none may. */
 static unsigned follow(unsigned count, bool is_switch, int stays, const int *clients)
 {
     if (ex->depth == PATH) {

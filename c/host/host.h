@@ -426,6 +426,7 @@ uint64_t kz_now(void);        /* how many milliseconds passed since */
 /* What is due next, up to then, comes: a timer, or the end of a thread's wait. False if nothing is. */
 bool kz_pass_to_next(uint64_t until);
 void kz_pass(uint64_t milliseconds);
+/* Runs a deferred procedure call; false if none waits. */
 bool kz_run_dpc(void);
 bool kz_has_dpc(void);
 bool kz_has_timer(void);

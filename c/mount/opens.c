@@ -55,6 +55,7 @@ void data_open(fuse_req_t request, fuse_ino_t number, struct fuse_file_info *inf
         file_leave((File *)(uintptr_t)info->fh);
 }
 
+/* Makes the file, or opens it where it is there already, and measures it. While a deleted file of that name is still open (hidden), the server refuses the name: EBUSY. */
 static int create(Call *call, const char *path, struct fuse_file_info *info, uint64_t *size)
 {
     if (nodes_wait_hidden(&call->mount->nodes, path, PATIENCE_MILLISECONDS))

@@ -177,6 +177,7 @@ bool kz_has_timer(void)
     return timers_count > 0;
 }
 
+/* The call that has waited longest, in the name of the filter that queued it: KeInsertQueueDpc leaves that in DpcData, or the DPC itself where it was no filter. */
 bool kz_run_dpc(void)
 {
     if (!dpcs_count)

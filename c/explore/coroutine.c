@@ -369,23 +369,17 @@ static void nothing(void)
 }
 
 /* ---- A client's life. */
-static bool has_work(void *unused)
-{
-    (void)unused;
-    return kz_has_dpc() || kz_has_work() || kz_may_fire();
-}
-
 /* A worker that isn't through with a work item: it waits for something else than the next one. */
 bool ex_is_busy(const Runner *one)
 {
-    return one->is_worker && !one->thread && one->has_begun && one->state == WAITING && one->can != has_work;
+    return one->is_worker && !one->thread && one->has_begun && one->state == WAITING && one->can != kz_can_run;
 }
 
 static void work(void)
 {
     for (;;) {
         KZ_INSIDE();
-        kz_wait(has_work, NULL, "a work item");
+        kz_wait(kz_can_run, NULL, "a work item");
         if (!kz_run_dpc() && !kz_work())
             kz_fire();
         kz_settle();
@@ -444,7 +438,7 @@ static void make(Runner *one, int number, void (*life)(void))
     stands[KEPT] = (void *)(uintptr_t)life;
     one->stands = stands;
     one->state = one->is_worker && life == live ? WAITING : READY;
-    one->can = has_work;
+    one->can = kz_can_run;
     one->at = "the start";
     one->owes = 0;
     one->yields = false;

@@ -7,22 +7,6 @@
 
 static const int signals[] = {SIGSEGV, SIGBUS, SIGABRT, SIGFPE, SIGILL, SIGTRAP};
 
-static const char *name_of(int signal)
-{
-    switch (signal) {
-    case SIGSEGV:
-        return "SIGSEGV";
-    case SIGBUS:
-        return "SIGBUS";
-    case SIGABRT:
-        return "SIGABRT";
-    case SIGFPE:
-        return "SIGFPE";
-    default:
-        return "SIGILL";
-    }
-}
-
 static void leave_run(KindOf of, const char *what, const void *at)
 {
     char text[TEXT], place[TEXT / 2];
@@ -42,7 +26,7 @@ static void handle(int signal, siginfo_t *information, void *context)
         sigaction(signal, &(struct sigaction){.sa_handler = SIG_DFL}, NULL);
         return;
     }
-    snprintf(what, sizeof what, "CRASH %s", name_of(signal));
+    snprintf(what, sizeof what, "CRASH %s", kz_signal_name(signal));
     leave_run(CRASH, what, (const char *)machine->uc_mcontext.gregs[REG_RIP] + 1);
 }
 

@@ -311,6 +311,7 @@ uint8_t kz_helper(void);
 bool kz_has_helpers(void); /* for one more operation that may stay */
 void kz_helped(uint8_t worker);
 void *kz_memory(size_t size);
+char *kz_copy_of(const char *text);
 void kz_say(KzKind kind, const char *format, ...) __attribute__((format(printf, 2, 3)));
 void kz_put(KzKind kind, const char *text);
 void kz_end(void);
@@ -350,6 +351,7 @@ void kz_free_kept_texts(void);
 
 /* crash.c */
 void kz_watch_crashes(void);
+const char *kz_signal_name(int signal);
 
 /* format.c, text.c */
 typedef void (*KzPut)(void *sink, WCHAR letter);
@@ -464,6 +466,8 @@ bool kz_has_ports_of(PFLT_FILTER filter);
 /* work.c */
 bool kz_work(void);
 bool kz_has_work(void);
+/* What somebody waits for who runs work items, DPCs and timers: that there is one. */
+bool kz_can_run(void *unused);
 extern bool kz_work_at_once; /* work items of one instance may run beside one another */
 bool kz_has_work_of(PFLT_FILTER filter);
 void kz_tell_work(PFLT_FILTER filter);

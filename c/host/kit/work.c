@@ -230,6 +230,12 @@ bool kz_has_work(void)
     return *next() != NULL;
 }
 
+bool kz_can_run(void *unused)
+{
+    (void)unused;
+    return kz_has_dpc() || kz_has_work() || kz_may_fire();
+}
+
 /* Runs the next work item; false if there is none. */
 bool kz_work(void)
 {

@@ -112,6 +112,11 @@ void *kz_memory(size_t size)
     return memory;
 }
 
+char *kz_copy_of(const char *text)
+{
+    return strcpy(kz_memory(strlen(text) + 1), text);
+}
+
 void kz_say(KzKind kind, const char *format, ...)
 {
     char text[1024];

@@ -51,7 +51,7 @@ static void tell(const char *what, const void *at)
     put("\n");
 }
 
-static const char *name_of(int signal)
+const char *kz_signal_name(int signal)
 {
     switch (signal) {
     case SIGSEGV:
@@ -62,6 +62,8 @@ static const char *name_of(int signal)
         return "SIGABRT";
     case SIGFPE:
         return "SIGFPE";
+    case SIGTRAP:
+        return "SIGTRAP";
     default:
         return "SIGILL";
     }
@@ -98,7 +100,7 @@ static void handle(int signal, siginfo_t *information, void *context)
         watch(signal);
         return;
     }
-    tell(name_of(signal), code_at(context));
+    tell(kz_signal_name(signal), code_at(context));
     for (size_t at = 0; at < sizeof signals / sizeof signals[0]; at++) {
         if (signals[at] != signal)
             continue;

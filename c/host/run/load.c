@@ -60,16 +60,10 @@ static void *live(void *given)
     return NULL;
 }
 
-static bool has_work(void *unused)
-{
-    (void)unused;
-    return kz_has_dpc() || kz_has_work() || kz_may_fire();
-}
-
 static bool work(void)
 {
     KZ_INSIDE();
-    if (!kz_wait(has_work, NULL, "a work item"))
+    if (!kz_wait(kz_can_run, NULL, "a work item"))
         return false;
     if (!kz_run_dpc() && !kz_work())
         kz_fire();

@@ -147,16 +147,11 @@ void kz_report_told(const KzSaid *said)
     kz_report_event(said->kind == KZ_SAID_AGAIN ? "Again" : "Told", members.text);
 }
 
-static char *copy_of(const char *text)
-{
-    return strcpy(kz_memory(strlen(text) + 1), text);
-}
-
 static void add_case(const char *name, const char *why)
 {
     Case *made = kz_memory(sizeof *made);
-    made->name = copy_of(name);
-    made->unmet = why ? copy_of(why) : NULL;
+    made->name = kz_copy_of(name);
+    made->unmet = why ? kz_copy_of(why) : NULL;
     *last = made;
     last = &made->next;
     cases_count++;

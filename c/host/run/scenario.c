@@ -13,11 +13,6 @@ static char *trimmed(char *text)
     return text;
 }
 
-static char *copy_of(const char *text)
-{
-    return strcpy(kz_memory(strlen(text) + 1), text);
-}
-
 static bool add_requests(KzScript *one, char *text)
 {
     char *rest = NULL;
@@ -27,7 +22,7 @@ static bool add_requests(KzScript *one, char *text)
             continue;
         if (one->count == KZ_REQUESTS)
             return false;
-        one->requests[one->count++] = copy_of(request);
+        one->requests[one->count++] = kz_copy_of(request);
     }
     return one->count > 0;
 }
@@ -78,7 +73,7 @@ static bool read_line(KzScenario *scenario, char *line)
     if (scenario->clients_count > 0)
         return false;
     scenario->setup = realloc(scenario->setup, (scenario->setup_count + 1) * sizeof *scenario->setup);
-    scenario->setup[scenario->setup_count++] = copy_of(line);
+    scenario->setup[scenario->setup_count++] = kz_copy_of(line);
     return true;
 }
 

@@ -95,11 +95,6 @@ KzUser *kz_new_user(KzProcess *process, uint32_t (*start)(void *), void *paramet
 }
 
 /* ---- Requests. */
-static char *copy_of(const char *text)
-{
-    return strcpy(kz_memory(strlen(text) + 1), text);
-}
-
 static WCHAR *wide_of(const char *text)
 {
     WCHAR *made = kz_memory((strlen(text) + 1) * sizeof *made);
@@ -113,7 +108,7 @@ static void add_word(KzProcess *process, const char *word)
     if (process->count == 15)
         return;
     process->wide[process->count] = wide_of(word);
-    process->words[process->count++] = copy_of(word);
+    process->words[process->count++] = kz_copy_of(word);
 }
 
 /* Behind the end of its threads. */

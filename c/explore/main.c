@@ -1,5 +1,6 @@
 /* The explorer's program: it runs a scenario under every schedule with at most so many preemptions. */
 #include "explore.h"
+#include "run/words.h"
 
 #include <signal.h>
 #include <stdlib.h>
@@ -270,18 +271,11 @@ static void draw_runs(void)
     ex->is_whole = true;
 }
 
-/* ---- The set-up, in order. */
-static bool set_up(void)
+/* ---- The set-up, in order: 0, or the exit status. */
+static int set_up(void)
 {
     kz_scheduler = &ex_scheduler;
-    if (kz_open(kz_drivers, kz_drivers_count) != 0)
-        return false;
-    for (size_t at = 0; at < ex->scenario.setup_count; at++)
-        if (kz_request(ex->scenario.setup[at]).status == KZS_BAD_REQUEST) {
-            fprintf(stderr, "the set-up has a line that is no request: %s\n", ex->scenario.setup[at]);
-            return false;
-        }
-    return true;
+    return kz_open(kz_drivers, kz_drivers_count) != 0 ? 2 : kz_set_up(ex->scenario.setup, ex->scenario.setup_count);
 }
 
 static int status(void)
@@ -414,8 +408,11 @@ int main(int count, char **words)
     if (asked.is_debugged)
         return ex_debug(count, words);
     ex_open_stacks();
-    if (ex_read(asked.scenario) != 0 || !set_up())
+    if (ex_read(asked.scenario) != 0)
         return 2;
+    int refused = set_up();
+    if (refused)
+        return refused;
     ex_name_search(asked.search, asked.scenario);
     ex_open_shadow();
     ex_watch_faults();

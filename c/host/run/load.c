@@ -1,5 +1,6 @@
 /* A load: threads that carry out the clients of a scenario again and again, for so many seconds, and one for work items. */
 #include "run/scenario.h"
+#include "run/words.h"
 #include "run/threads.h"
 #include "run/beside.h"
 
@@ -186,8 +187,11 @@ int kz_run_load(const KzDriver *drivers, size_t drivers_count, const char *path,
     kz_is_quiet = 1;
     if (kz_open(drivers, drivers_count) != 0)
         return 1;
-    for (size_t at = 0; at < scenario.setup_count; at++)
-        kz_request(scenario.setup[at]);
+    status = kz_set_up(scenario.setup, scenario.setup_count);
+    if (status) {
+        kz_close();
+        return status;
+    }
     kz_use_threads(seed);
     for (unsigned number = 1; number <= count; number++)
         start(number, NULL, script_of(number), live);

@@ -1,6 +1,7 @@
 /* A scenario: set-up lines, `client NAME: request; request`, and `finally: request`, for when nobody else can go on. */
 #include "host.h"
 #include "run/scenario.h"
+#include "run/words.h"
 
 #include <stdlib.h>
 
@@ -13,6 +14,9 @@ static char *trimmed(char *text)
     return text;
 }
 
+/* Why the last line isn't understood, behind a colon. */
+static char why[200];
+
 static bool add_requests(KzScript *one, char *text)
 {
     char *rest = NULL;
@@ -20,7 +24,7 @@ static bool add_requests(KzScript *one, char *text)
         request = trimmed(request);
         if (!*request)
             continue;
-        if (one->count == KZ_REQUESTS)
+        if (one->count == KZ_REQUESTS || !kz_is_request(request, why, sizeof why))
             return false;
         one->requests[one->count++] = kz_copy_of(request);
     }
@@ -70,7 +74,7 @@ static bool read_line(KzScenario *scenario, char *line)
         return true;
     if (strncmp(line, "client ", 7) == 0 || strncmp(line, "finally:", 8) == 0)
         return read_client(scenario, line);
-    if (scenario->clients_count > 0)
+    if (scenario->clients_count > 0 || !kz_is_request(line, why, sizeof why))
         return false;
     scenario->setup = realloc(scenario->setup, (scenario->setup_count + 1) * sizeof *scenario->setup);
     scenario->setup[scenario->setup_count++] = kz_copy_of(line);
@@ -89,11 +93,12 @@ int kz_read_scenario(const char *path, KzScenario *scenario)
     }
     while (is_right && fgets(line, sizeof line, file)) {
         number++;
+        *why = 0;
         is_right = read_line(scenario, line);
     }
     fclose(file);
     if (!is_right)
-        fprintf(stderr, "%s:%d: not understood\n", path, number);
+        fprintf(stderr, "%s:%d: not understood%s\n", path, number, why);
     else if (!scenario->clients_count)
         fprintf(stderr, "%s: has no client\n", path);
     return is_right && scenario->clients_count ? 0 : 2;

@@ -7,8 +7,6 @@
 
 #include <stdlib.h>
 
-#define WORDS 9
-
 /* ---- Single words. */
 bool kz_read_number(const char *word, uint64_t limit, uint64_t *number)
 {
@@ -424,27 +422,36 @@ static const KzRequest requests[] = {
     {"list", 2, 2, ask_list},         {"read", 4, 4, ask_read},           {"write", 4, 4, ask_write},           {"setsize", 3, 3, ask_set_size},
     {"querysize", 2, 2, ask_query_size}, {"flush", 2, 2, ask_flush},      {"setdelete", 2, 2, ask_set_delete},  {"close", 2, 2, ask_close},
     {"as", 3, 5, ask_as},             {"time", 2, 2, ask_time},           {"registry", 2, 2, ask_registry},
-    {"fail", 3, 3, ask_fail},         {"start", 2, WORDS, ask_start},     {"type", 3, WORDS, ask_type},
+    {"fail", 3, 3, ask_fail},         {"start", 2, KZ_WORDS, ask_start},     {"type", 3, KZ_WORDS, ask_type},
     {"cancel", 2, 2, ask_cancel},     {"process", 3, 5, ask_process},
 };
 
-static const KzRequest *request_of(const char *word)
+const KzRequest *kz_request_at(size_t at)
 {
-    for (size_t at = 0; at < sizeof requests / sizeof requests[0]; at++)
-        if (strcmp(requests[at].name, word) == 0)
-            return &requests[at];
+    size_t count = sizeof requests / sizeof requests[0];
+    if (at < count)
+        return &requests[at];
     const KzRequest *one = kz_major_requests;
-    while (one->name && strcmp(one->name, word) != 0)
+    while (one->name && at-- > count)
         one++;
     return one->name ? one : NULL;
 }
 
+const KzRequest *kz_request_of(const char *word)
+{
+    size_t at = 0;
+    const KzRequest *one;
+    while ((one = kz_request_at(at)) && strcmp(one->name, word) != 0)
+        at++;
+    return one;
+}
+
 /* ---- Lines. */
-static size_t split(char *line, char **words)
+size_t kz_split(char *line, char **words)
 {
     size_t count = 0;
     char *rest = NULL;
-    for (char *word = strtok_r(line, " \t\r\n", &rest); word && count < WORDS; word = strtok_r(NULL, " \t\r\n", &rest))
+    for (char *word = strtok_r(line, " \t\r\n", &rest); word && count < KZ_WORDS; word = strtok_r(NULL, " \t\r\n", &rest))
         words[count++] = word;
     words[count] = NULL;
     return count;
@@ -452,7 +459,7 @@ static size_t split(char *line, char **words)
 
 KzReply kz_request_as(const char *line, const char *asked)
 {
-    char *words[WORDS + 1];
+    char *words[KZ_WORDS + 1];
     const char *expected = line + strspn(line, " \t");
     if (strlen(line) >= sizeof kz_me->line)
         return kz_wrong();
@@ -462,7 +469,7 @@ KzReply kz_request_as(const char *line, const char *asked)
         return kz_expect(expected + 7) ? (KzReply){0} : kz_wrong();
     }
     strcpy(kz_me->line, line);
-    size_t count = split(kz_me->line, words);
+    size_t count = kz_split(kz_me->line, words);
     if (count == 0 || words[0][0] == '#')
         return (KzReply){0};
     KZ_CALL_OF("a request");
@@ -478,13 +485,27 @@ KzReply kz_request_as(const char *line, const char *asked)
     for (size_t at = 0; at < count; at++)
         kz_say(KZ_SAID_REQUEST, " %s", words[at]);
     kz_say(KZ_SAID_REQUEST, "\n");
-    const KzRequest *one = request_of(words[0]);
+    const KzRequest *one = kz_request_of(words[0]);
     return one && count >= one->least && count <= one->most ? one->ask(words) : kz_wrong();
 }
 
 KzReply kz_request(const char *line)
 {
     return kz_request_as(line, NULL);
+}
+
+int kz_set_up(char *const *lines, size_t count)
+{
+    for (size_t at = 0; at < count; at++) {
+        bool is_expected = at + 1 < count && strncmp(lines[at + 1], "expect ", 7) == 0;
+        seen.is_refused = false;
+        bool is_bad = kz_request(lines[at]).status == KZS_BAD_REQUEST;
+        if (is_expected || !(is_bad || seen.is_refused))
+            continue;
+        fprintf(stderr, "the set-up has a line that is %s: %s\n", seen.is_refused ? "refused" : "no request", lines[at]);
+        return seen.is_refused ? 1 : 2;
+    }
+    return 0;
 }
 
 int kz_run(const KzDriver *drivers, size_t count, const char *const *lines, size_t length)
@@ -523,6 +544,7 @@ static int judged(int status, const char *name)
 static int run_file(const KzDriver *drivers, size_t count, FILE *file, const char *name)
 {
     static char line[KZ_LINE];
+    char why[200];
     if (kz_open(drivers, count) != 0)
         return 1;
     is_wrong = false;
@@ -532,8 +554,10 @@ static int run_file(const KzDriver *drivers, size_t count, FILE *file, const cha
         kz_next_line();
         request_or_bad(line, file);
     }
-    if (is_wrong)
-        fprintf(stderr, "%s:%u: not understood\n", name, kz_line());
+    if (is_wrong) {
+        kz_is_request(line, why, sizeof why);
+        fprintf(stderr, "%s:%u: not understood%s\n", name, kz_line(), why);
+    }
     note_unexpected();
     int status = kz_close();
     status = ferror(file) ? 3 : is_wrong ? 2 : judged(status, name);

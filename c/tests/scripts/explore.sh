@@ -126,6 +126,19 @@ tell $? "trace of what is touched"
 [ $? = 6 ] && grep -q '^  the shortest: 1 preemptions' "$room/out" && grep -A 2 '^    STUCK' "$room/out" | grep -q '^    client r: read 0 0 8$' && grep -q '^    client d: detach 0$' "$room/out"
 tell $? "shrunk"
 
+# What can't be searched says why.
+refuses() {
+    printf "$3" > "$room/refused.txt"
+    "$room/counter" "$room/refused.txt" > "$room/out" 2>&1
+    [ $? = "$1" ] && grep -q "$2" "$room/out"
+}
+refuses 2 'refused.txt:3: not understood: there is no request raed; the nearest is read$' 'load counter\nattach 0 0 c 100\nclient r: raed 0 0 1\n'
+tell $? "a client that asks for what isn't there"
+refuses 1 'the set-up has a line that is refused: load none$' 'load none\nclient r: list 0\n'
+tell $? "a set-up that is refused"
+refuses 2 'the set-up has a line that is no request: create x new a$' 'load counter\ncreate x new a\nclient r: list 0\n'
+tell $? "a set-up that isn't understood"
+
 # What is expected once all have ended.
 {
     sed '/^client/d' $scenarios/counter.txt

@@ -86,8 +86,12 @@ printf 'load ctx\nexpect status 7\nexpect callbacks entry:ctx\n' > "$room/unmet.
 tell $? "an expectation that isn't met"
 printf 'load ctx\nlaod ctx\nunload 0\n' > "$room/wrong.txt"
 "$room/drivers" "$room/wrong.txt" > "$room/wrong.out" 2> "$room/wrong.err"
-[ $? = 2 ] && grep -q "wrong.txt:2: not understood" "$room/wrong.err"
+[ $? = 2 ] && grep -q "wrong.txt:2: not understood: there is no request laod; the nearest is load$" "$room/wrong.err"
 tell $? "a line that isn't understood"
+printf 'load ctx\nattach 0 0 one\n' > "$room/wrong.txt"
+"$room/drivers" "$room/wrong.txt" > "$room/wrong.out" 2> "$room/wrong.err"
+[ $? = 2 ] && grep -q "wrong.txt:2: not understood: attach has 4 to 5 words behind it$" "$room/wrong.err"
+tell $? "a line of too few words"
 # A run that tried nothing, or not what was meant, is no success, and says so.
 says() {
     "$room/drivers" "$3" > "$room/green.out" 2> "$room/green.err"
@@ -108,6 +112,17 @@ says 1 'there is no request in it' "$room/green.txt"
 tell $? "a file with no request"
 says 3 'is a folder' "$room"
 tell $? "a folder as a file of requests"
+# Nor is a load.
+loads() {
+    timeout 20 "$room/drivers" --load "$room/green.txt" --threads 1 --seconds 1 > "$room/green.out" 2> "$room/green.err"
+    [ $? = "$1" ] && grep -q "$2" "$room/green.err"
+}
+printf 'load ctx\nattach 0 0 c 100\nclient r: lst 0\n' > "$room/green.txt"
+loads 2 "green.txt:3: not understood: there is no request lst; the nearest is list"
+tell $? "a client that asks for what isn't there"
+printf 'load none\nclient r: list 0\n' > "$room/green.txt"
+loads 1 "the set-up has a line that is refused: load none"
+tell $? "a set-up that is refused"
 
 "$room/drivers" --json $tests/requests/names.txt > "$room/names.json" && grep -q '"command": "query a name", "event": "Answered", "status": 0, "information": 8, "length": 8, "says": "name /b"' "$room/names.json"
 tell $? "what a reply says, in JSON"

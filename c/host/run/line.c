@@ -1,0 +1,70 @@
+/* What is wrong with a line that is no request: there is none of its first word, or too few or too many words stand behind that. */
+#include "host.h"
+#include "run/words.h"
+
+#include <stdlib.h>
+
+enum { LONGEST = 15, NEAR = 2 };
+
+static size_t least(size_t a, size_t b)
+{
+    return a < b ? a : b;
+}
+
+/* How many letters have to be added, left out or changed to make one of two words of the other; more than NEAR for a long one. */
+static size_t distance(const char *a, const char *b)
+{
+    size_t row[LONGEST + 1], length = strlen(b);
+    if (strlen(a) > LONGEST || length > LONGEST)
+        return LONGEST;
+    for (size_t at = 0; at <= length; at++)
+        row[at] = at;
+    for (size_t line = 1; *a; line++, a++) {
+        size_t corner = row[0];
+        row[0] = line;
+        for (size_t at = 1; at <= length; at++) {
+            size_t changed = corner + (*a != b[at - 1]);
+            corner = row[at];
+            row[at] = least(changed, least(row[at], row[at - 1]) + 1);
+        }
+    }
+    return row[length];
+}
+
+static const char *nearest(const char *word)
+{
+    const char *best = NULL;
+    size_t far = NEAR + 1;
+    for (size_t at = 0; kz_request_at(at); at++) {
+        size_t own = distance(word, kz_request_at(at)->name);
+        best = own < far ? kz_request_at(at)->name : best;
+        far = least(own, far);
+    }
+    return best;
+}
+
+static void say_count(const KzRequest *one, char *why, size_t size)
+{
+    size_t from = one->least - 1, to = one->most - 1;
+    if (from == to)
+        snprintf(why, size, ": %s has %zu word%s behind it", one->name, from, from == 1 ? "" : "s");
+    else
+        snprintf(why, size, ": %s has %zu to %zu words behind it", one->name, from, to);
+}
+
+bool kz_is_request(const char *line, char *why, size_t size)
+{
+    char *copy = kz_copy_of(line), *words[KZ_WORDS + 1];
+    size_t count = kz_split(copy, words);
+    const KzRequest *one = count ? kz_request_of(words[0]) : NULL;
+    bool is_silent = count == 0 || words[0][0] == '#' || strcmp(words[0], "expect") == 0;
+    bool is_right = is_silent || (one && count >= one->least && count <= one->most);
+    const char *near = one || is_silent ? NULL : nearest(words[0]);
+    *why = 0;
+    if (!is_right && one)
+        say_count(one, why, size);
+    else if (!is_right)
+        snprintf(why, size, ": there is no request %.40s%s%s", words[0], near ? "; the nearest is " : "", near ? near : "");
+    free(copy);
+    return is_right;
+}

@@ -67,7 +67,8 @@ rm -f "$room/on"
 ended=4
 rounds=0
 while [ $ended = 4 ] && [ $rounds -lt 60 ]; do
-    timeout -s INT 0.2 "$room/ctx" --bound 1 --resume "$room/on" "$room/ctx.txt" > "$room/went" 2>&1
+    # A little longer each time, so that a slow machine comes on and a fast one is interrupted.
+    timeout -s INT "$(printf '%d.%03d' $((rounds / 25)) $((rounds % 25 * 40 + 30)))" "$room/ctx" --bound 1 --resume "$room/on" "$room/ctx.txt" > "$room/went" 2>&1
     ended=$?
     [ $ended != 124 ] || ended=4
     rounds=$((rounds + 1))

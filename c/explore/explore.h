@@ -131,7 +131,7 @@ typedef struct {
     int runners_count, usual_count, most_runners; /* up to the last one; as a run begins; and in any run so far */
     bool is_alone; /* a thread goes on until it waits, and nobody else */
     unsigned bound, fails, shard, shards;
-    bool wants_ends, is_traced, is_quiet;
+    bool wants_ends, is_traced, is_quiet, is_strict; /* is_strict: a limit counts */
     unsigned asked_bound, workers, stops_at; /* the last bound; how many work items run at once; the step before which a debugger stops, or 0 */
     uint64_t asked_seed, asked_runs;
     bool is_independent; /* of orders that differ by steps which are independent one is searched */

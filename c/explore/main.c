@@ -286,7 +286,7 @@ static int status(void)
         return 139;
     if (counts[STUCK])
         return 6;
-    if (counts[TOLD] || counts[RACE])
+    if (counts[TOLD] || counts[RACE] || (ex->is_strict && counts[LIMITED]))
         return 5;
     return ex->full || ex->unknown || !ex->is_whole ? 4 : 0;
 }

@@ -9,9 +9,10 @@ static bool usage(const char *name)
     fprintf(stderr,
             "usage: %s [WORD..] SCENARIO, or %s --merge FILE..\n"
             "  what is searched   --bound N (2), --reduce, --states, --independent, --coarse, --inline, --fails N, --fail-each, --workers N, --dispatch none|data|all\n"
+            "  orders of steps    --commute N\n"
             "  drawn schedules    --seed N [--runs N] [--pct N]\n"
             "  spread             --jobs N, --shard K/N, --save FILE, --merge FILE.., --resume FILE, --memory MB\n"
-            "  what is shown      --ends, --learn FILE, --expect-ends FILE, --shrink, --page FILE, --allow KZ0000, --quiet\n"
+            "  what is shown      --ends, --learn FILE, --expect-ends FILE, --shrink, --page FILE, --allow KZ0000, --strict\n"
             "  one schedule       --replay SCHEDULE [--trace | --page FILE | --gdb]\n",
             name, name);
     return false;
@@ -119,13 +120,13 @@ static bool read_one(const char *word, Asked *asked)
     if (strcmp(word, "--strict") != 0)
         return false;
     kz_be_strict(true);
-    return true;
+    return ex->is_strict = true;
 }
 
 /* Whether it is of what is searched, and not of how it is spread or shown. */
 static bool is_of_search(const char *word)
 {
-    static const char *const others[] = {"--jobs", "--shard", "--save", "--resume", "--memory", "--page", "--shrink", "--quiet", "--learn", "--expect-ends"};
+    static const char *const others[] = {"--jobs", "--shard", "--save", "--resume", "--memory", "--page", "--shrink", "--quiet", "--strict", "--learn", "--expect-ends"};
     for (size_t at = 0; at < sizeof others / sizeof others[0]; at++)
         if (strcmp(others[at], word) == 0)
             return false;

@@ -139,6 +139,15 @@ tell $? "a set-up that is refused"
 refuses 2 'the set-up has a line that is no request: create x new a$' 'load counter\ncreate x new a\nclient r: list 0\n'
 tell $? "a set-up that isn't understood"
 
+# A limit counts where that is asked for.
+build left --explore "$room/left" $tests/drivers/left.c
+printf 'load left\nattach 0 0 l 100\nclient r: create 0 new a\n' > "$room/left.txt"
+"$room/left" "$room/left.txt" > "$room/out" && grep -q '^    LIMIT' "$room/out"
+tell $? "limits"
+"$room/left" --strict "$room/left.txt" > "$room/out"
+[ $? = 5 ] && grep -q '^    LIMIT' "$room/out"
+tell $? "limits that count"
+
 # What is expected once all have ended.
 {
     sed '/^client/d' $scenarios/counter.txt

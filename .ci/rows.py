@@ -11,6 +11,8 @@ import subprocess
 import sys
 import tempfile
 
+from crates import above
+
 TOP = pathlib.Path(__file__).resolve().parent.parent
 
 # Which crates are asked first, of those whose tests stand above the crate: what is nearest shows most.
@@ -25,27 +27,6 @@ FIRST = {
     "fm_worker": ["test_worker", "test_front"],
     "fm_world": ["test_core", "test_local"],
 }
-
-
-def uses():
-    """What each crate of crates.txt names."""
-    found = {}
-    for line in (TOP / "crates.txt").read_text().splitlines():
-        if ":" in line:
-            name, rest = line.split(":", 1)
-            found[name.split()[0]] = rest.split()
-    return found
-
-
-def above(crate):
-    """The crates that stand on it."""
-    all_uses = uses()
-    found = {crate}
-    while True:
-        more = {name for name, below in all_uses.items() if found & set(below)} - found
-        if not more:
-            return found
-        found |= more
 
 
 def is_tested(crate):

@@ -52,6 +52,29 @@ static void say_count(const KzRequest *one, char *why, size_t size)
         snprintf(why, size, ": %s has %zu to %zu words behind it", one->name, from, to);
 }
 
+/* The word at that place of a request that takes a handle, or of one that doesn't; false if it is another request, or the word is no name. `$` is a client's last handle. */
+static bool name_in(const char *line, bool takes_handle, size_t back, char *name, size_t size)
+{
+    char *copy = kz_copy_of(line), *words[KZ_WORDS + 1];
+    size_t count = kz_split(copy, words);
+    const KzRequest *one = count ? kz_request_of(words[0]) : NULL;
+    size_t at = takes_handle ? 1 : count - back;
+    bool is_there = one && one->takes_handle == takes_handle && at < count && kz_is_name(words[at]) && words[at][0] != '$' && (takes_handle || (at > 1 && strcmp(words[at - 1], "as") == 0));
+    snprintf(name, size, "%s", is_there ? words[at] : "");
+    free(copy);
+    return is_there;
+}
+
+bool kz_takes_name(const char *request, char *name, size_t size)
+{
+    return name_in(request, true, 0, name, size);
+}
+
+bool kz_gives_name(const char *request, char *name, size_t size)
+{
+    return name_in(request, false, 1, name, size);
+}
+
 bool kz_is_request(const char *line, char *why, size_t size)
 {
     char *copy = kz_copy_of(line), *words[KZ_WORDS + 1];

@@ -81,6 +81,39 @@ static bool read_line(KzScenario *scenario, char *line)
     return true;
 }
 
+/* ---- Names of handles: each that a request asks for is given by a create, of whatever client. */
+static bool gives(const KzScenario *scenario, const char *name)
+{
+    char given[64];
+    bool is_given = false;
+    for (size_t at = 0; !is_given && at < scenario->setup_count; at++)
+        is_given = kz_gives_name(scenario->setup[at], given, sizeof given) && strcmp(given, name) == 0;
+    for (size_t at = 0; at < scenario->clients_count; at++)
+        for (size_t request = 0; !is_given && request < scenario->clients[at].count; request++)
+            is_given = kz_gives_name(scenario->clients[at].requests[request], given, sizeof given) && strcmp(given, name) == 0;
+    return is_given;
+}
+
+static bool knows(const KzScenario *scenario, const char *path, const char *request)
+{
+    char name[64];
+    bool is_known = !kz_takes_name(request, name, sizeof name) || gives(scenario, name);
+    if (!is_known)
+        fprintf(stderr, "%s: not understood: %s: no create is `as %s`\n", path, request, name);
+    return is_known;
+}
+
+static bool knows_all(const KzScenario *scenario, const char *path)
+{
+    bool is_known = true;
+    for (size_t at = 0; is_known && at < scenario->setup_count; at++)
+        is_known = knows(scenario, path, scenario->setup[at]);
+    for (size_t at = 0; at < scenario->clients_count; at++)
+        for (size_t request = 0; is_known && request < scenario->clients[at].count; request++)
+            is_known = knows(scenario, path, scenario->clients[at].requests[request]);
+    return is_known;
+}
+
 int kz_read_scenario(const char *path, KzScenario *scenario)
 {
     static char line[KZ_LINE];
@@ -101,7 +134,7 @@ int kz_read_scenario(const char *path, KzScenario *scenario)
         fprintf(stderr, "%s:%d: not understood%s\n", path, number, why);
     else if (!scenario->clients_count)
         fprintf(stderr, "%s: has no client\n", path);
-    return is_right && scenario->clients_count ? 0 : 2;
+    return is_right && scenario->clients_count && knows_all(scenario, path) ? 0 : 2;
 }
 
 void kz_free_scenario(KzScenario *scenario)

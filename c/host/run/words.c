@@ -415,15 +415,16 @@ static KzReply ask_close(char **words)
     return kz_read_handle(words[1], &handle) ? kz_close_file(handle) : kz_wrong();
 }
 
-/* How many words each has, with its name: at least, and at most. */
+/* Each with its name, how many words it has at least and at most, and whether the first behind it is a handle. */
 static const KzRequest requests[] = {
-    {"load", 2, 3, ask_load},         {"mount", 2, 7, ask_mount},         {"volume", 3, 8, ask_volume},         {"attach", 5, 6, ask_attach},
-    {"detach", 2, 2, ask_detach},     {"unload", 2, 2, ask_unload},       {"dismount", 2, 2, ask_dismount},     {"create", 4, 6, ask_create},
-    {"list", 2, 2, ask_list},         {"read", 4, 4, ask_read},           {"write", 4, 4, ask_write},           {"setsize", 3, 3, ask_set_size},
-    {"querysize", 2, 2, ask_query_size}, {"flush", 2, 2, ask_flush},      {"setdelete", 2, 2, ask_set_delete},  {"close", 2, 2, ask_close},
-    {"as", 3, 5, ask_as},             {"time", 2, 2, ask_time},           {"registry", 2, 2, ask_registry},
-    {"fail", 3, 3, ask_fail},         {"start", 2, KZ_WORDS, ask_start},     {"type", 3, KZ_WORDS, ask_type},
-    {"cancel", 2, 2, ask_cancel},     {"process", 3, 5, ask_process},
+    {"load", 2, 3, ask_load, false},           {"mount", 2, 7, ask_mount, false},         {"volume", 3, 8, ask_volume, false},
+    {"attach", 5, 6, ask_attach, false},       {"detach", 2, 2, ask_detach, false},       {"unload", 2, 2, ask_unload, false},
+    {"dismount", 2, 2, ask_dismount, false},   {"create", 4, 6, ask_create, false},       {"list", 2, 2, ask_list, false},
+    {"read", 4, 4, ask_read, true},            {"write", 4, 4, ask_write, true},          {"setsize", 3, 3, ask_set_size, true},
+    {"querysize", 2, 2, ask_query_size, true}, {"flush", 2, 2, ask_flush, true},          {"setdelete", 2, 2, ask_set_delete, true},
+    {"close", 2, 2, ask_close, true},          {"as", 3, 5, ask_as, false},               {"time", 2, 2, ask_time, false},
+    {"registry", 2, 2, ask_registry, false},   {"fail", 3, 3, ask_fail, false},           {"start", 2, KZ_WORDS, ask_start, false},
+    {"type", 3, KZ_WORDS, ask_type, false},    {"cancel", 2, 2, ask_cancel, false},       {"process", 3, 5, ask_process, false},
 };
 
 const KzRequest *kz_request_at(size_t at)
@@ -541,10 +542,19 @@ static int judged(int status, const char *name)
     return !seen.requests || seen.line ? 1 : 0;
 }
 
+/* What is wrong with a line that wasn't understood. */
+static void tell_wrong(const char *name, const char *line)
+{
+    char why[200], handle[64];
+    uint64_t number;
+    if (kz_is_request(line, why, sizeof why) && kz_takes_name(line, handle, sizeof handle) && !kz_read_handle(handle, &number))
+        snprintf(why, sizeof why, ": no handle is named %s", handle);
+    fprintf(stderr, "%s:%u: not understood%s\n", name, kz_line(), why);
+}
+
 static int run_file(const KzDriver *drivers, size_t count, FILE *file, const char *name)
 {
     static char line[KZ_LINE];
-    char why[200];
     if (kz_open(drivers, count) != 0)
         return 1;
     is_wrong = false;
@@ -554,10 +564,8 @@ static int run_file(const KzDriver *drivers, size_t count, FILE *file, const cha
         kz_next_line();
         request_or_bad(line, file);
     }
-    if (is_wrong) {
-        kz_is_request(line, why, sizeof why);
-        fprintf(stderr, "%s:%u: not understood%s\n", name, kz_line(), why);
-    }
+    if (is_wrong)
+        tell_wrong(name, line);
     note_unexpected();
     int status = kz_close();
     status = ferror(file) ? 3 : is_wrong ? 2 : judged(status, name);

@@ -4,11 +4,12 @@
 
 #include "manager/carrier.h"
 
-/* How many words one has, with its name: at least, and at most. `words` has the name first, and NULL behind the last one. */
+/* How many words one has, with its name: at least, and at most; and whether the first behind its name is a handle. `words` has the name first, and NULL behind the last one. */
 typedef struct {
     const char *name;
     size_t least, most;
     KzReply (*ask)(char **words);
+    bool takes_handle;
 } KzRequest;
 
 /* words.c */
@@ -32,6 +33,9 @@ int kz_set_up(char *const *lines, size_t count);
 
 /* line.c: whether a line is a request, an expectation or silent; else why not, behind a colon. What its words stand for isn't looked at. */
 bool kz_is_request(const char *line, char *why, size_t size);
+/* The name by which a request's handle is asked for, or that which a create gives its own; false if there is none. */
+bool kz_takes_name(const char *request, char *name, size_t size);
+bool kz_gives_name(const char *request, char *name, size_t size);
 
 /* majors.c: up to one without a name. */
 extern const KzRequest kz_major_requests[];

@@ -134,6 +134,8 @@ refuses() {
 }
 refuses 2 'refused.txt:3: not understood: there is no request raed; the nearest is read$' 'load counter\nattach 0 0 c 100\nclient r: raed 0 0 1\n'
 tell $? "a client that asks for what isn't there"
+refuses 2 'not understood: read g 0 1: no create is `as g`$' 'load counter\nattach 0 0 c 100\nclient r: create 0 new a as h; read g 0 1\nclient f: read h 0 1\n'
+tell $? "a handle that no create gives"
 refuses 1 'the set-up has a line that is refused: load none$' 'load none\nclient r: list 0\n'
 tell $? "a set-up that is refused"
 refuses 2 'the set-up has a line that is no request: create x new a$' 'load counter\ncreate x new a\nclient r: list 0\n'

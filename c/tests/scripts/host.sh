@@ -92,6 +92,10 @@ printf 'load ctx\nattach 0 0 one\n' > "$room/wrong.txt"
 "$room/drivers" "$room/wrong.txt" > "$room/wrong.out" 2> "$room/wrong.err"
 [ $? = 2 ] && grep -q "wrong.txt:2: not understood: attach has 4 to 5 words behind it$" "$room/wrong.err"
 tell $? "a line of too few words"
+printf 'load ctx\ncreate 0 new a as h\nread h 0 1\nread g 0 1\n' > "$room/wrong.txt"
+"$room/drivers" "$room/wrong.txt" > "$room/wrong.out" 2> "$room/wrong.err"
+[ $? = 2 ] && grep -q "wrong.txt:4: not understood: no handle is named g$" "$room/wrong.err"
+tell $? "a handle that isn't there"
 # A run that tried nothing, or not what was meant, is no success, and says so.
 says() {
     "$room/drivers" "$3" > "$room/green.out" 2> "$room/green.err"

@@ -92,7 +92,7 @@ static const Meaning meanings[] = {
     {KZM_CANCEL_LEFT, "a held operation goes on while its cancel routine is set", "the routine is called for an operation that is gone", "call `FltClearCancelCompletion` first"},
     {KZM_ROUTINE_LEFT, "a routine for processes or images is still registered once its driver is unloaded", "it is called in a driver that is gone", "take it off in the unload"},
     {KZM_IRP, "an IRP was completed twice, or with another status than its dispatch routine returned, or neither completed nor left pending", "a bugcheck, or a program that waits for ever", "complete each IRP once, and return its status"},
-    {KZM_NAME_QUERY, "the file system was asked for a name in a close, or in paging I/O", "STATUS_FLT_INVALID_NAME_REQUEST, or a deadlock", "ask for it in the create, and keep it in a stream context; or ask by FLT_FILE_NAME_QUERY_ALWAYS_ALLOW_CACHE_LOOKUP"},
+    {KZM_NAME_QUERY, "the file system was asked for a name in a close, or in paging I/O", "STATUS_FLT_INVALID_NAME_REQUEST, or a deadlock", "ask in the create, and keep it in a stream context; or ask by FLT_FILE_NAME_QUERY_ALWAYS_ALLOW_CACHE_LOOKUP"},
     {KZM_ASSERT, "an assertion of the driver's own doesn't hold", "the debugger, or a stop", "see what it says"},
     {KZM_BUG_CHECK, "a breakpoint or a bugcheck of the driver's own", "the debugger, or a stop", "see what led there"},
 
@@ -134,8 +134,8 @@ static const Meaning meanings[] = {
     {KZM_CACHE, "the cache manager", "files are cached", "nothing: that part can't be tried"},
     {KZM_ECP, "extra create parameters of lookaside lists, and the calls of FsRtl on them", "they are there", "use the calls of the filter manager"},
     {KZM_CRYPTO, "cryptography: the routines of bcrypt.h", "it is done", "nothing: that part can't be tried"},
-    {KZM_MARK_STAYS, "a deletion by FileDispositionInformation that is taken back: creates of the file are refused until its handles are closed; then it stays", "it can be opened again at once",
-     "mark it by FileDispositionInformationEx in the test, which is taken back as there"},
+    {KZM_MARK_STAYS, "a deletion by FileDispositionInformation that is taken back: creates are refused until the file is closed; then it stays", "it can be opened again at once",
+     "mark it by FileDispositionInformationEx, which is taken back as there"},
 };
 
 enum { COUNT = sizeof meanings / sizeof meanings[0] };

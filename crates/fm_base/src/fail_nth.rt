@@ -42,14 +42,6 @@ impl<B: Base> FailNth<B> {
         }
     }
 
-    /// The base that it is like.
-    pub fn into_base(self) -> B
-        ensures { result ≡ self.base }
-    {
-        let FailNth { base, .. } = self;
-        base
-    }
-
     // Counts a device call. Whether it is the one that fails, which is counted too.
     fn count_call(&mut self) -> bool
         ensures fails { IsTrue result ↔ (self.old.calls + 1 ≡ self.old.number) }

@@ -19,7 +19,8 @@ called : (w : World) (k : WorkerId) (x : Caller) → option_map caller_of (callb
     → (at : Callback) × (callback_of w k ≡ Some at) × (caller_of at ≡ x)
 called w k x h = at_callback (callback_of w k) refl h
   where
-    at_callback : (m : Option Callback) → callback_of w k ≡ m → option_map caller_of m ≡ Some x → (at : Callback) × (callback_of w k ≡ Some at) × (caller_of at ≡ x)
+    at_callback : (m : Option Callback) → callback_of w k ≡ m → option_map caller_of m ≡ Some x
+        → (at : Callback) × (callback_of w k ≡ Some at) × (caller_of at ≡ x)
     at_callback None is h = absurd (none-some x h)
     at_callback (Some at) is h = (at, is, same_Some (caller_of at) x h)
 
@@ -48,16 +49,19 @@ pub in_callback : {T : Type 0} (old : World) (k : WorkerId) (result : Result T S
 in_callback old k result new Event at is h = subst (InCallbackOf result old new Event) (sym is) h
 
 -- what the layer answers, the World does
-pub answers_up : {T : Type 0} (w : World) (kept after : ContextsKept) (refusal : Option Status) (result : Result T Status) (E F : T → Type 0) → ((v : T) → E v → F v)
+pub answers_up : {T : Type 0} (w : World) (kept after : ContextsKept) (refusal : Option Status) (result : Result T Status) (E F : T
+    → Type 0) → ((v : T) → E v → F v)
     → Answers refusal result kept after E → Answers refusal result (with_contexts w kept.table) (with_contexts w after.table) F
 answers_up w kept after refusal (Ok v) E F f h = (h.0, f v h.1)
 answers_up w kept after refusal (Err why) E F f h = (h.0, ap (λ (x : ContextsKept). with_contexts w x.table) h.1)
 
 -- as an event in a callback
-pub comes_up : {T : Type 0} (w : World) {now : World} (k : WorkerId) (x : Caller) (kept after : ContextsKept) (refusal : Option Status) (result : Result T Status)
+pub comes_up : {T : Type 0} (w : World) {now : World} (k : WorkerId) (x : Caller) (kept after : ContextsKept) (refusal : Option Status)
+    (result : Result T Status)
     (E F : T → Type 0) → with_contexts w kept.table ≡ now → option_map caller_of (callback_of now k) ≡ Some x → ((v : T) → E v → F v)
     → Answers refusal result kept after E
-    → InCallback (with_contexts w kept.table) k result (with_contexts w after.table) (λ _. Answers refusal result (with_contexts w kept.table) (with_contexts w after.table) F)
+    → InCallback (with_contexts w kept.table) k result (with_contexts w after.table)
+    (λ _. Answers refusal result (with_contexts w kept.table) (with_contexts w after.table) F)
 comes_up w k x kept after refusal result E F same is f h =
     let at = called_in k x same is in
     in_callback (with_contexts w kept.table) k result (with_contexts w after.table) _ at.0 at.1 (answers_up w kept after refusal result E F f h)
@@ -78,7 +82,8 @@ table_tied kept after t f there e tied = subst (λ x. IsTied x f) (sym e) (tied_
 
 -- ---- bodies
 
-pub rewritten_there : (t : ContextTable) (c : CtxId) (bytes : List ℕ) (d : CtxId) → is_some (context_at (rewritten t c bytes).slots d) ≡ is_some (context_at t.slots d)
+pub rewritten_there : (t : ContextTable) (c : CtxId) (bytes : List ℕ) (d : CtxId) → is_some (context_at (rewritten t c bytes).slots d)
+    ≡ is_some (context_at t.slots d)
 rewritten_there t c bytes d = there_changed (with_body bytes) t.slots c d
 
 -- ---- allocate
@@ -91,7 +96,8 @@ pub allocated_up : (w : World) {now : World} (k : WorkerId) (what : ContextKind)
     (kept after : ContextsKept)
     → with_contexts w kept.table ≡ now → option_map caller_of (callback_of now k) ≡ Some x
     → has_kind_at w.stack (slice_get w.stack.instances x.instance.0) what ≡ true → owner' ≡ owner_for x what
-    → AnswersOrMemory (allocate_refusal kept.table k.0 body) result kept after (λ (c : CtxId). IsNew kept.table.slots c × (after ≡ kept_allocated kept k.0 c (new_context what owner' x.volume body)))
+    → AnswersOrMemory (allocate_refusal kept.table k.0 body) result kept after (λ (c : CtxId). IsNew kept.table.slots c
+    × (after ≡ kept_allocated kept k.0 c (new_context what owner' x.volume body)))
     → Allocates now k what body result (with_contexts w after.table)
 unfolding Allocates
 allocated_up w k what body x owner' result kept after now_is is h own event =
@@ -113,7 +119,8 @@ allocated_up w k what body x owner' result kept after now_is is h own event =
     free r = ap (λ b. before (not b) Status.NotRegistered r) kind'
 
     by_result : (r : Result CtxId Status)
-        → AnswersOrMemory (allocate_refusal kept.table k.0 body) r kept after (λ (c : CtxId). IsNew kept.table.slots c × (after ≡ kept_allocated kept k.0 c (new_context what owner' x.volume body)))
+        → AnswersOrMemory (allocate_refusal kept.table k.0 body) r kept after (λ (c : CtxId). IsNew kept.table.slots c
+        × (after ≡ kept_allocated kept k.0 c (new_context what owner' x.volume body)))
         → AnswersOrMemory (allocate_refused (with_contexts w kept.table) k what body at.0) r (with_contexts w kept.table) (with_contexts w after.table)
         (λ (c : CtxId). IsNew kept.table.slots c × (with_contexts w after.table ≡ with_contexts w (allocated kept.table k.0 c (context_by at.0 what body))))
     by_result (Ok c) e = (
@@ -125,7 +132,8 @@ allocated_up w k what body x owner' result kept after now_is is h own event =
 
 pub allocate_tied : (kept after : ContextsKept) (f : FlowTable) (k : WorkerId) (refusal : Option Status) (x : Context) (result : Result CtxId Status)
     → length kept.carried ≡ length kept.table.slots
-    → AnswersOrMemory refusal result kept after (λ (c : CtxId). IsNew kept.table.slots c × (after ≡ kept_allocated kept k.0 c x)) → IsTied kept f → IsTied after f
+    → AnswersOrMemory refusal result kept after (λ (c : CtxId). IsNew kept.table.slots c × (after ≡ kept_allocated kept k.0 c x))
+    → IsTied kept f → IsTied after f
 allocate_tied kept after f k refusal x (Ok c) matched h tied =
     subst (λ y. IsTied y f) (sym h.1.1) (λ d. sym (carried_allocated kept k.0 c x h.1.0 matched d) ∙ tied d)
 allocate_tied kept after f k refusal x (Err why) matched h tied = subst (λ y. IsTied y f) (sym h.1) tied

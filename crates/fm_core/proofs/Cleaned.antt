@@ -15,7 +15,8 @@ use Rattle.fm_core.proofs.Called.{table_tied}
 -- ---- take_due
 
 -- the context that is due is there, so it is the one that is told
-pub due_told : (t : ContextTable) (m : Option CtxId) → slice_get t.due 0 ≡ m → ((c : CtxId) → slice_get t.due 0 ≡ Some c → is_some (context_at t.slots c) ≡ true)
+pub due_told : (t : ContextTable) (m : Option CtxId) → slice_get t.due 0 ≡ m
+    → ((c : CtxId) → slice_get t.due 0 ≡ Some c → is_some (context_at t.slots c) ≡ true)
     → option_map (λ (d : Due). d.id) (option_and_then (λ c. option_map (due_of c) (context_at t.slots c)) m) ≡ m
 due_told t None is there = refl
 due_told t (Some c) is there = grind (arith, there c is)

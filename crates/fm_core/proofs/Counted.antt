@@ -168,7 +168,8 @@ pub phased_counted : (h : HandleId) (to : HandlePhase) (xs : List FileStream) (h
     → gs ≡ change_first (is_handle h) (with_phase to) hs → AreCounted xs hs ns → AreCounted xs gs ns
 phased_counted h to xs hs gs ns is counted =
     counted ∙ map_same (open_on hs) (open_on gs) xs
-    (λ k d within. sym (ap (count_by (is_on (get_or xs k d).number)) is ∙ count_kept (is_on (get_or xs k d).number) (is_handle h) (with_phase to) hs (λ x. refl)))
+    (λ k d within. sym (ap (count_by (is_on (get_or xs k d).number)) is ∙ count_kept (is_on (get_or xs k d).number) (is_handle h)
+    (with_phase to) hs (λ x. refl)))
 
 pub opened_counted : (h : FileHandle) (xs : List FileStream) (hs : List FileHandle) (ns ms : List ℕ) → AllPairs IsBefore xs
     → ms ≡ changed_at (λ n. n + 1) (position (is_stream h.stream) xs) ns → AreCounted xs hs ns → AreCounted xs (hs ++ h ∷ []) ms
@@ -241,7 +242,8 @@ other_number : (a n : ℕ) → a < n → (a == n) ≡ false
 other_number a n below = grind (arith, nat_tests)
 
 -- no handle is on a stream that is still to come
-pub unused_number : (n : ℕ) (f : FileTable) → All (λ (x : FileStream). x.number.0 < n) f.streams → All (λ (h : FileHandle). has_stream f h.stream ≡ true) f.handles
+pub unused_number : (n : ℕ) (f : FileTable) → All (λ (x : FileStream). x.number.0 < n) f.streams
+    → All (λ (h : FileHandle). has_stream f h.stream ≡ true) f.handles
     → has_handle_on (record { 0 = n }) f ≡ false
 unused_number n f fresh there =
     list_any_none (is_on (record { 0 = n })) f.handles

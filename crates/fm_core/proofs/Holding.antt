@@ -38,7 +38,8 @@ slot_within slots c h = let x = slot_in (slice_get slots c.slot) c h in slice_ge
 
 -- ---- a table that changes, with all its contexts there
 
-pub tied_table : (kept : ContextsKept) (t : ContextTable) (f : FlowTable) → ((c : CtxId) → is_some (context_at t.slots c) ≡ is_some (context_at kept.table.slots c))
+pub tied_table : (kept : ContextsKept) (t : ContextTable) (f : FlowTable)
+    → ((c : CtxId) → is_some (context_at t.slots c) ≡ is_some (context_at kept.table.slots c))
     → IsTied kept f → IsTied (record kept { table = t }) f
 tied_table kept t f there tied c = sym (carried_there kept t there c) ∙ tied c
 
@@ -62,7 +63,8 @@ tied_sent kept k (Some d) f g law matched within has balance tied c =
 pub tied_ends : (mid new : ContextsKept) (w : ℕ) (f : FlowTable) → Ends mid new w → IsTied mid f → IsTied new f
 tied_ends mid new w f ends tied c = carried_equal new mid ends.leaves.slots ends.carried c ∙ tied c
 
-pub ends_leaves : (kept new : ContextsKept) (k : WorkerId) (m : Option CtxId) (f : FlowTable) → Ends (kept_sent kept k.0 m) new k.0 → IsTied (kept_sent kept k.0 m) f
+pub ends_leaves : (kept new : ContextsKept) (k : WorkerId) (m : Option CtxId) (f : FlowTable) → Ends (kept_sent kept k.0 m) new k.0
+    → IsTied (kept_sent kept k.0 m) f
     → Leaves (λ c. carried c f) (sent kept.table k m) new.table k.0
 ends_leaves kept new k m f ends tied =
     subst (λ t. Leaves (λ c. carried c f) t new.table k.0) (sent_table kept k m) (leaves_alike tied ends.leaves)
@@ -72,7 +74,8 @@ ends_leaves kept new k m f ends tied =
 brought_table : (kept : ContextsKept) (k : WorkerId) (a : FlowAction) → (kept_brought kept k.0 (back_in a)).table ≡ received kept.table k (Ok a)
 brought_table kept k a = grind arith
 
-pub next_table : (kept after : ContextsKept) (k : WorkerId) (a : FlowAction) → after ≡ kept_brought kept k.0 (back_in a) → after.table ≡ received kept.table k (Ok a)
+pub next_table : (kept after : ContextsKept) (k : WorkerId) (a : FlowAction) → after ≡ kept_brought kept k.0 (back_in a)
+    → after.table ≡ received kept.table k (Ok a)
 next_table kept after k a e = ap (λ (x : ContextsKept). x.table) e ∙ brought_table kept k a
 
 pub brought_slots : (kept : ContextsKept) (w : ℕ) (m : Option CtxId) → (kept_brought kept w m).table.slots ≡ kept.table.slots
@@ -141,7 +144,8 @@ may_send kept k (Some c) f s tied has = (has c refl, subst (λ n. n < 2 ^ 32) (s
 
 -- ---- before the first event
 
-pub empty_state : (s : StackWorld) (f : FlowTable) (kept : ContextsKept) (files : FilesKept) → s ≡ empty_world.stack → f ≡ empty_world.flow → kept ≡ nothing_kept
+pub empty_state : (s : StackWorld) (f : FlowTable) (kept : ContextsKept) (files : FilesKept) → s ≡ empty_world.stack
+    → f ≡ empty_world.flow → kept ≡ nothing_kept
     → files.table ≡ empty_files → IsState (world_of s f empty_world.workers kept empty_world.totals files) kept
 empty_state s f kept files es ef ek et =
     subst (λ (x : ContextsKept). IsState (world_of s f empty_world.workers x empty_world.totals files) x) (sym ek)

@@ -42,7 +42,8 @@ pub refused_as : (w : World) (k : WorkerId) (at : Callback) (x : Caller) (what :
 refused_as w k at x what others why is e h =
     sym (find_same w k at what others is) ∙ grind (arith, find_of w k at x what (Some why) e h)
 
-pub found_free : (w : World) (k : WorkerId) (at : Callback) (x : Caller) (what : ContextKind) (others : Option Status) → callback_of w k ≡ Some at → caller_of at ≡ x
+pub found_free : (w : World) (k : WorkerId) (at : Callback) (x : Caller) (what : ContextKind) (others : Option Status)
+    → callback_of w k ≡ Some at → caller_of at ≡ x
     → find_refusal w x what ≡ None → object_refused w what at others ≡ others
 found_free w k at x what others is e h =
     sym (find_same w k at what others is) ∙ grind (arith, find_of w k at x what None e h)
@@ -58,7 +59,8 @@ found_there w at x what o e h =
 pub get_free : (w : World) (k : WorkerId) (at : Callback) (x : Caller) (what : ContextKind) (o : Owner × Object) (others : Option Status) (b : Bool)
     → callback_of w k ≡ Some at → caller_of at ≡ x
     → IsFound w x what o → is_there w.files (Some o.1) ≡ b
-    → object_refused w what at (before (not (is_there w.files (object_by at.row at.instance at.file what))) Status.DeletingObject others) ≡ before (not b) Status.DeletingObject others
+    → object_refused w what at (before (not (is_there w.files (object_by at.row at.instance at.file what))) Status.DeletingObject
+    others) ≡ before (not b) Status.DeletingObject others
 get_free w k at x what o others b is e found here =
     let object' : object_by at.row at.instance at.file what ≡ Some o.1 = sym (object_same at what) ∙ ap (λ (y : Caller). caller.object_for y what) e ∙
     found.object in
@@ -98,7 +100,8 @@ there_with (Some x) own h = (x, refl, same_Some x.owner own h)
 
 pub set_up : (w : World) {now : World} (k : WorkerId) (c : CtxId) (mode : SetMode) (wants : Bool) (x : Caller) (o : Owner × Object) (reply : SetReply)
     (result : SetAnswer) (kept after : ContextsKept)
-    → with_contexts w kept.table ≡ now → option_map caller_of (callback_of now k) ≡ Some x → IsSettable now k c x o → IsTied kept w.flow → result ≡ set_answer reply
+    → with_contexts w kept.table ≡ now → option_map caller_of (callback_of now k) ≡ Some x → IsSettable now k c x o
+    → IsTied kept w.flow → result ≡ set_answer reply
     → reply ≡ set_reply kept.table k.0 mode wants (holder kept.table.slots o.0 o.1)
     → after ≡ record kept { table = set_after (carried_of kept) kept.table k.0 c o.1 mode wants (holder kept.table.slots o.0 o.1) }
     → Sets now k c mode wants result (with_contexts w after.table)

@@ -32,10 +32,22 @@ slots_alike p q [] h = refl
 slots_alike p q (s ∷ slots) h = grind (arith, All-head (Agrees p q) s slots h, slots_alike p q slots (All-tail (Agrees p q) s slots h))
 
 pub sweeps_as : (by : CtxId → ℕ) (p q : Context → Bool) (old new : ContextTable) → All (Agrees p q) old.slots → Sweeps by p old new → Sweeps by q old new
-sweeps_as by p q old new h s = record { slots = s.slots ∙ slots_alike p q old.slots h; hands = s.hands; cleaning = s.cleaning; leaks = s.leaks; left = s.left; settles = s.settles }
+sweeps_as by p q old new h s = record {
+  slots = s.slots ∙ slots_alike p q old.slots h;
+  hands = s.hands;
+  cleaning = s.cleaning;
+  leaks =
+      s.leaks;
+  left = s.left;
+  settles = s.settles;
+}
 
 pub sweeping_as : (p q : Context → Bool) (old new : ContextsKept) → ((x : Context) → p x ≡ q x) → Sweeping p old new → Sweeping q old new
-sweeping_as p q old new h s = record { sweeps = sweeps_as (carried_of old) p q old.table new.table (everywhere p q old.table.slots h) s.sweeps; carried = s.carried }
+sweeping_as p q old new h s = record {
+  sweeps = sweeps_as (carried_of old) p q old.table new.table
+      (everywhere p q old.table.slots h) s.sweeps;
+  carried = s.carried;
+}
 
 -- no context passes, and nothing changes
 bare_slots : (slots : List Slot) → slots ≡ map (swept_slot (λ x. false)) slots
@@ -53,7 +65,11 @@ sweeps_none by p t h = record {
 }
 
 pub sweeping_none : (p : Context → Bool) (kept : ContextsKept) → ((x : Context) → p x ≡ false) → Sweeping p kept kept
-sweeping_none p kept h = record { sweeps = sweeps_none (carried_of kept) p kept.table (everywhere (λ x. false) p kept.table.slots (λ x. sym (h x))); carried = refl }
+sweeping_none p kept h = record {
+  sweeps = sweeps_none (carried_of kept) p kept.table
+      (everywhere (λ x. false) p kept.table.slots (λ x. sym (h x)));
+  carried = refl;
+}
 
 -- one after the other
 twice_swept : (p q : Context → Bool) (x : Context) → swept q (swept p x) ≡ swept (λ y. p y || q y) x

@@ -113,7 +113,8 @@ next_leads {old} {now} {kept} k o r lies a t ws brought s now_is idle g workers 
     (nexts old k o r lies (Ok a) t ws brought.table old.files new idle g workers (next_table kept brought k a brings ∙ ap
     (λ (x : ContextTable). received x k (Ok a)) (sym same)) still.0 still.1)
   where
-    by_action : (a : FlowAction) (lies : Below) (w : World) → known_in a lies ≡ None → (old.files ≡ filed_next old o t (Ok a) lies) × LosesByKnown (Ok a) lies w w
+    by_action : (a : FlowAction) (lies : Below) (w : World) → known_in a lies ≡ None → (old.files ≡ filed_next old o t (Ok a) lies)
+        × LosesByKnown (Ok a) lies w w
     by_action FlowAction.Moved (Below.Known why) w unknown = absurd (none-some why (sym unknown))
     by_action a lies w unknown = (refl, refl)
 
@@ -172,7 +173,8 @@ next_carried old k o r lies result t s g c =
     let out = ap (handed c) (g.reply ∙ told_there (λ (x : FlowRecord). (next_of k lies (drains_at old o) x).reply) (Err Status.WrongStep) o old.flow r g.at) in
     omega (arith, balance, here, out)
 
-pub next_brings : {old : World} {kept : ContextsKept} (k : WorkerId) (o : OpId) (r : FlowRecord) (lies : Below) (a : FlowAction) (t : FlowTable) → IsState old kept
+pub next_brings : {old : World} {kept : ContextsKept} (k : WorkerId) (o : OpId) (r : FlowRecord) (lies : Below) (a : FlowAction)
+    (t : FlowTable) → IsState old kept
     → is_idle (worker_at old.workers k) ≡ true → Goes old k o r lies (Ok a) t → old.contexts ≡ kept.table → MayBring kept k.0 (back_in a)
 next_brings {old} {kept} k o r lies a t s idle g contexts =
     let at = idle_there old.workers k idle in
@@ -245,7 +247,8 @@ drain_is m p h = grind (arith, h)
 pub located : {A : Type 0} {old now : World} (read : Option Place → Option A) (to : A → Place) (k : WorkerId) (a : A)
     → ((x : Option Place) (b : A) → read x ≡ Some b → x ≡ Some (to b))
     → old ≡ now → read (worker_at now.workers k) ≡ Some a → worker_at old.workers k ≡ Some (to a)
-located {old = old} {now} read to k a is same found = subst (λ (w : World). worker_at w.workers k ≡ Some (to a)) (sym same) (is (worker_at now.workers k) a found)
+located {old = old} {now} read to k a is same found = subst (λ (w : World). worker_at w.workers k ≡ Some (to a)) (sym same)
+    (is (worker_at now.workers k) a found)
 
 pub placed : {A : Type 0} {old now : World} (read : Option Place → Option A) (to : A → Place) (k : WorkerId) (a : A) (here : Option Place) (m : Option A)
     → ((x : Option Place) (b : A) → read x ≡ Some b → x ≡ Some (to b)) → old ≡ now → here ≡ worker_at now.workers k → m ≡ read here → m ≡ Some a
@@ -293,7 +296,8 @@ there_from o t wanted h none = none-some h.0 (sym none ∙ h.1)
 -- ---- something comes back: what fits is taken, what is strange is refused
 
 -- a change that a test of the operation guards
-guarded : (t : FlowTable) (o : OpId) (r : FlowRecord) (fits : FlowRecord → Bool) (step : FlowRecord → FlowRecord) (b : Bool) → operation_at o t ≡ Some r → fits r ≡ b
+guarded : (t : FlowTable) (o : OpId) (r : FlowRecord) (fits : FlowRecord → Bool) (step : FlowRecord → FlowRecord) (b : Bool)
+    → operation_at o t ≡ Some r → fits r ≡ b
     → changed o (λ x. cond (fits x) (step x) x) t ≡ cond b (changed o step t) t
 guarded t o r fits step true at e =
     ap (λ rs. record t { operations = rs })
@@ -336,7 +340,8 @@ fits_taken old new fits Event e h =
 -- the verdict that counts
 pub pre_state : (old : World) (k : WorkerId) (o : OpId) (i : InstanceId) (r : FlowRecord) (given counted : PreVerdict) (has : Bool) (state : PreState)
     (operation : Operation) → operation_at o old.flow ≡ Some r
-    → operation ≡ r.operation → has ≡ has_post old.stack (slice_get old.stack.instances i.0) operation → counted ≡ of_hand (hand_of old.contexts.hands k.0) given
+    → operation ≡ r.operation → has ≡ has_post old.stack (slice_get old.stack.instances i.0) operation
+    → counted ≡ of_hand (hand_of old.contexts.hands k.0) given
     → state ≡ verdict_counted counted operation has → state ≡ state_at old k o i given
 pre_state old k o i r given counted has state operation at is has_is counted_is state_is =
     let hand = hand_of old.contexts.hands k.0 in
@@ -391,7 +396,8 @@ pre_returns {old} {now} {kept} k o i r given lent state m t ws left after fs x s
     old.flow r here) in
     let leaves : Leaves (carries_after old o step) (sent old.contexts k (sent_in state)) left.table k.0 =
     subst (λ z. Leaves (carries_after old o step) (sent old.contexts k z) left.table k.0) sends
-    (subst (λ u. Leaves (carries_after old o step) (sent u k m) left.table k.0) (sym contexts) (ends_leaves kept left k m (changed o step old.flow) ends tied)) in
+    (subst (λ u. Leaves (carries_after old o step) (sent u k m) left.table k.0) (sym contexts)
+    (ends_leaves kept left k m (changed o step old.flow) ends tied)) in
     let over : PreReturnsOver old k o step state new = (
       mid,
       (leaves, let mid' : mid ≡ record (returned old k o step) { contexts = left.table; files = filed_pre old o (changed o step old.flow) state } = cc in mid'),
@@ -423,7 +429,8 @@ base_returns {old} {now} {kept} k o r call given t ws after fs x s now_is at her
     ∙ sym (told_there (filed_record old.files (changed o step old.flow) given.status) old.files o old.flow r here) in
     let whole : mid ≡ base_returned old k o call given = cc in
     let lost : LosesLinks mid new =
-    loses old mid kept after x s.sound contexts (ap (λ (y : ContextTable). y.slots) (sym contexts)) tied (answer_gone old.files fs t given.status x files) sweeps in
+    loses old mid kept after x s.sound contexts (ap (λ (y : ContextTable). y.slots) (sym contexts)) tied
+    (answer_gone old.files fs t given.status x files) sweeps in
     subst (λ (w : World). BaseReturns w k call given (Ok tt) new) now_is
     (subst (BaseReturnsAt old k call given (Ok tt) new) (sym at)
     (fits_taken old new (told (base_fits call given) false o old.flow) (LosesLinks (base_returned old k o call given) new) come.0
@@ -453,7 +460,8 @@ pub post_tied : {old : World} {kept : ContextsKept} (k : WorkerId) (o : OpId) (i
     → IsTied kept (changed o (post_returned_of given lent) old.flow)
 post_tied {old} k o i given lent s at c = s.tied c ∙ sym (post_balance old k o i given lent at s.sound.under_way c)
 
-pub drain_tied : {old : World} {kept : ContextsKept} (k : WorkerId) (o : OpId) (i : InstanceId) → IsState old kept → worker_at old.workers k ≡ Some (Place.Drain o i)
+pub drain_tied : {old : World} {kept : ContextsKept} (k : WorkerId) (o : OpId) (i : InstanceId) → IsState old kept
+    → worker_at old.workers k ≡ Some (Place.Drain o i)
     → IsTied kept (changed o (drain_returned_of i) old.flow)
 drain_tied {old} k o i s at c = s.tied c ∙ sym (drain_balance old k o i at s.sound.under_way c)
 
@@ -468,13 +476,15 @@ post_returns {old} {now} {kept} k o i given lent t ws after s now_is at come wor
     let new : World = record old { flow = t; workers = ws; contexts = after.table } in
     subst (λ (w : World). PostReturns w k given (Some lent) (Ok tt) new) now_is
     (subst (PostReturnsAt old k given (Some lent) (Ok tt) new) (sym at)
-    (fits_taken old new (told (λ y. data_fits y.operation y.path lent) false o old.flow) (ReturnsFrom old k o (post_returned_of given lent) old.contexts new) come.0
+    (fits_taken old new (told (λ y. data_fits y.operation y.path lent) false o old.flow)
+    (ReturnsFrom old k o (post_returned_of given lent) old.contexts new) come.0
     (over old k o (post_returned_of given lent) t ws kept after come.1 workers contexts ends (post_tied k o i given lent s at))))
 
 -- ---- begin
 
 -- an operation began, where nothing refused it but want of memory
-pub begun_as : (old : World) (refusal : Option Status) (v : VolumeId) (stream : Option StreamId) (handle : Option HandleId) (path : Option (List ℕ)) (p : Params)
+pub begun_as : (old : World) (refusal : Option Status) (v : VolumeId) (stream : Option StreamId) (handle : Option HandleId)
+    (path : Option (List ℕ)) (p : Params)
     (result : Result OpId Status) (t : FlowTable) (f g : FileTable) → refusal ≡ None → is_full old.flow ≡ false
     → Took old.flow v stream handle old.stack.births path p result t
     → f ≡ cond (is_ok result) g old.files
@@ -512,7 +522,8 @@ creates {old} v path mode result t f same free_now h files =
     (Params.Create path mode) result t f (created v path old.flow.next old.files) free (or_parts (is_full old.flow) (has_no_handle_left old)
     (full_from _ _ (is_full old.flow || has_no_handle_left old) free)).0 h files)
 
-pub lists : {old now : World} (v : VolumeId) (result : Result OpId Status) (t : FlowTable) → old ≡ now → first_of (volume_refusals now v (is_full old.flow)) ≡ None
+pub lists : {old now : World} (v : VolumeId) (result : Result OpId Status) (t : FlowTable) → old ≡ now
+    → first_of (volume_refusals now v (is_full old.flow)) ≡ None
     → Took old.flow v None None old.stack.births None Params.List result t → Begins now (Request.List v) result (record old { flow = t })
 unfolding Begins
 lists {old} v result t same free_now h =
@@ -562,7 +573,8 @@ pub asks_begins : (old : World) (h : HandleId) (asked : FileRequest) (result : R
 unfolding Asks Begins
 asks_begins old h asked result new e = e
 
-pub asked_phase : (w : World) (h : HandleId) (p : Params) (x : FileHandle) (v : VolumeId) (why : Status) → is_within_limits p ≡ true → handle_at h w.files ≡ Some x
+pub asked_phase : (w : World) (h : HandleId) (p : Params) (x : FileHandle) (v : VolumeId) (why : Status) → is_within_limits p ≡ true
+    → handle_at h w.files ≡ Some x
     → option_map (λ (y : FileStream). y.volume) (stream_at x.stream w.files) ≡ Some v → phase_refusal w.flow (operation_of p) x.phase ≡ Some why
     → asked_refused w h p ≡ Some why
 asked_phase w h p x v why within open' there refuses =

@@ -50,7 +50,8 @@ own_params : (r : FlowRecord) (p : Params) → r.params ≡ Some p → flow.IsSo
 own_params r p has h = subst (λ m. IfSome m (λ q. fit r.operation r.path q ≡ true)) has h.params
 
 -- data that holds what it received, with a short answer
-fits_plain : (r : FlowRecord) (d : Data) → fit r.operation r.path d.received ≡ true → d.changed ≡ None → length d.out < 32769 → data_fits r.operation r.path d ≡ true
+fits_plain : (r : FlowRecord) (d : Data) → fit r.operation r.path d.received ≡ true → d.changed ≡ None → length d.out < 32769
+    → data_fits r.operation r.path d ≡ true
 fits_plain r d own same short =
     let e : nat_le (length d.out) 32768 ≡ true = grind (arith, nat_tests, short) in
     rw (own, same, e) refl
@@ -59,7 +60,8 @@ number_kept : (o : OpId) (k : WorkerId) (lies : Below) (stops : Bool) (r : FlowR
 number_kept o k lies stops r = ap (λ n. n == o.0) (next_stays k lies stops r).number
 
 -- two steps of one operation are one
-whole_change : (t : FlowTable) (o : OpId) (r : FlowRecord) (f g h : FlowRecord → FlowRecord) → operation_at o t ≡ Some r → ((x : FlowRecord) → is_number o (f x) ≡ is_number o x)
+whole_change : (t : FlowTable) (o : OpId) (r : FlowRecord) (f g h : FlowRecord → FlowRecord) → operation_at o t ≡ Some r
+    → ((x : FlowRecord) → is_number o (f x) ≡ is_number o x)
     → g (f r) ≡ h r → changed o h t ≡ changed o g (changed o f t)
 whole_change t o r f g h at same whole =
     ap (λ (rs : List FlowRecord). record t { operations = rs })
@@ -68,10 +70,12 @@ whole_change t o r f g h at same whole =
 -- ---- links
 
 -- nothing that links name is gone, so a look for what is gone changes nothing
-nothing_swept : (f : FileTable) (x : Target) (kept : ContextsKept) → All (λ (s : Slot). names_there f s.context ≡ true) kept.table.slots → Sweeping (is_lost_of f x) kept kept
+nothing_swept : (f : FileTable) (x : Target) (kept : ContextsKept)
+    → All (λ (s : Slot). names_there f s.context ≡ true) kept.table.slots → Sweeping (is_lost_of f x) kept kept
 nothing_swept f x kept links = record {
   sweeps = sweeps_none _ (is_lost_of f x) kept.table
-      (All-weaker (λ (s : Slot). names_there f s.context ≡ true) (Agrees (λ y. false) (is_lost_of f x)) (λ s there y is. here y (sym (ap (names_there f) is) ∙ there)) kept.table.slots links);
+      (All-weaker (λ (s : Slot). names_there f s.context ≡ true) (Agrees (λ y. false) (is_lost_of f x))
+      (λ s there y is. here y (sym (ap (names_there f) is) ∙ there)) kept.table.slots links);
   carried = refl;
 }
   where
@@ -92,7 +96,8 @@ record Calls (old : World) (kept : ContextsKept) (k : WorkerId) (o : OpId) (r : 
   pub brings : kept ≡ kept_brought kept k.0 (back_in a)
   pub unknown : known_in a lies ≡ None
 
-module _ {old : World} {kept : ContextsKept} {k : WorkerId} {o : OpId} {r : FlowRecord} {lies : Below} {a : FlowAction} {called : FlowRecord} (h : Calls old kept k o r lies a called) where
+module _ {old : World} {kept : ContextsKept} {k : WorkerId} {o : OpId} {r : FlowRecord} {lies : Below} {a : FlowAction}
+    {called : FlowRecord} (h : Calls old kept k o r lies a called) where
   abbrev flow_between : FlowTable
   flow_between = flow_after_next old k o lies
 
@@ -100,7 +105,8 @@ module _ {old : World} {kept : ContextsKept} {k : WorkerId} {o : OpId} {r : Flow
   goes_on = record {
     at = h.there;
     finds = h.finds;
-    reply = sym (told_there (λ (x : FlowRecord). (next_of k lies (drains_at old o) x).reply) (Err Status.WrongStep) o old.flow r h.there ∙ ap (λ (t : Turned). t.reply) h.turns);
+    reply = sym (told_there (λ (x : FlowRecord). (next_of k lies (drains_at old o) x).reply)
+        (Err Status.WrongStep) o old.flow r h.there ∙ ap (λ (t : Turned). t.reply) h.turns);
     after = refl;
   }
 
@@ -111,7 +117,11 @@ module _ {old : World} {kept : ContextsKept} {k : WorkerId} {o : OpId} {r : Flow
   nexts = next_leads k o r lies a flow_between (after_next old.workers k o (Ok a)) kept h.state refl h.idle goes_on refl h.same h.brings h.unknown
 
   state_between : IsState between kept
-  state_between = record { sound = (next_does _ _ _ _ _ nexts).0.sound h.state.sound; tied = next_tied k o r lies a flow_between kept h.state goes_on h.matched h.brings }
+  state_between = record {
+    sound = (next_does _ _ _ _ _ nexts).0.sound h.state.sound;
+    tied =
+        next_tied k o r lies a flow_between kept h.state goes_on h.matched h.brings;
+  }
 
   there_between : operation_at o flow_between ≡ Some called
   there_between =
@@ -121,7 +131,8 @@ module _ {old : World} {kept : ContextsKept} {k : WorkerId} {o : OpId} {r : Flow
   -- what the callback's return makes of the operation then, as one step from before
   flow_whole : (step whole : FlowRecord → FlowRecord) → step called ≡ whole r → changed o whole old.flow ≡ changed o step flow_between
   flow_whole step whole is =
-      whole_change old.flow o r (λ x. (next_of k lies (drains_at old o) x).after) step whole h.there (number_kept o k lies (drains_at old o)) (ap (λ (t : Turned). step t.after) h.turns ∙ is)
+      whole_change old.flow o r (λ x. (next_of k lies (drains_at old o) x).after) step whole h.there
+      (number_kept o k lies (drains_at old o)) (ap (λ (t : Turned). step t.after) h.turns ∙ is)
 
   -- where the worker is
   within : k.0 < length old.workers
@@ -174,7 +185,8 @@ module _ {old : World} {kept : ContextsKept} (k : WorkerId) (o : OpId) (i : Inst
 
   counts_down : asked_down ≡ state_at (between calls_down) k o i given_down
   counts_down =
-      sym (told_there (state_given old.stack (hand_of kept.table.hands k.0) i given_down) PreState.Passed o (flow_between calls_down) called_down (there_between calls_down)
+      sym (told_there (state_given old.stack (hand_of kept.table.hands k.0) i given_down) PreState.Passed o
+      (flow_between calls_down) called_down (there_between calls_down)
       ∙ ap (λ has. cond has asked_down PreState.Passed) d.next.asks)
 
   abbrev step_down : FlowRecord → FlowRecord
@@ -186,12 +198,14 @@ module _ {old : World} {kept : ContextsKept} (k : WorkerId) (o : OpId) (i : Inst
       ∙ fits_plain d.operation lent_down (own_params d.operation has_down.0 has_down.1 sound_down) refl (omega arith)
 
   whole_down : changed o (with_visit k i asked_down) old.flow ≡ changed o step_down (flow_between calls_down)
-  whole_down = flow_whole calls_down step_down (with_visit k i asked_down) (down_whole k i (numbered n) d.operation has_down.0 d.next.stage has_down.1 sound_down)
+  whole_down = flow_whole calls_down step_down (with_visit k i asked_down)
+      (down_whole k i (numbered n) d.operation has_down.0 d.next.stage has_down.1 sound_down)
 
   tied_down : IsTied kept (changed o step_down (flow_between calls_down))
   tied_down = pre_tied k o i given_down lent_down asked_down None (state_between calls_down) at_down counts_down refl refl matched
 
-  module _ {now : World} {t : FlowTable} {after : ContextsKept} (now_is : old ≡ now) (flow_is : t ≡ changed o (with_visit k i asked_down) old.flow) (ends : Ends kept after k.0) where
+  module _ {now : World} {t : FlowTable} {after : ContextsKept} (now_is : old ≡ now)
+      (flow_is : t ≡ changed o (with_visit k i asked_down) old.flow) (ends : Ends kept after k.0) where
     abbrev new_down : World
     new_down = record old { flow = t; contexts = after.table }
 
@@ -199,7 +213,8 @@ module _ {old : World} {kept : ContextsKept} (k : WorkerId) (o : OpId) (i : Inst
     returns_down =
         let workers = put_back old.workers k.0 Place.Idle (Place.Pre o i) (idle_there old.workers k d.idle) in
         let flow = flow_is ∙ whole_down in
-        let links = subst (λ (slots : List Slot). All (λ (x : Slot). names_there old.files x.context ≡ true) slots) (sym ends.leaves.slots) (state_between calls_down).sound.links in
+        let links = subst (λ (slots : List Slot). All (λ (x : Slot). names_there old.files x.context ≡ true) slots)
+        (sym ends.leaves.slots) (state_between calls_down).sound.links in
         let new_is : ◌≡◌ {A = World} (record (between calls_down) {
           flow = changed o step_down (flow_between calls_down);
           workers = put (between calls_down).workers k Place.Idle;
@@ -207,8 +222,10 @@ module _ {old : World} {kept : ContextsKept} (k : WorkerId) (o : OpId) (i : Inst
           files = old.files;
         }) new_down = cc in
         subst (PreReturns (between calls_down) k given_down lent_down (Ok tt)) new_is
-        (pre_returns k o i called_down given_down lent_down asked_down None (changed o step_down (flow_between calls_down)) (put (between calls_down).workers k Place.Idle) after after
-        old.files (target_in called_down) (state_between calls_down) refl at_down (there_between calls_down) counts_down refl (fits_down, refl) refl refl ends tied_down refl refl
+        (pre_returns k o i called_down given_down lent_down asked_down None (changed o step_down (flow_between calls_down))
+        (put (between calls_down).workers k Place.Idle) after after
+        old.files (target_in called_down) (state_between calls_down) refl at_down (there_between calls_down) counts_down refl
+        (fits_down, refl) refl refl ends tied_down refl refl
         (nothing_swept old.files (target_in called_down) after links))
 
     pub passes_down : PassesDown now k o i (numbered n) new_down
@@ -254,7 +271,8 @@ module _ {old : World} {kept : ContextsKept} (k : WorkerId) (o : OpId) (ask : As
       let r = d.operation in
       let stops : drains_at old o ≡ false =
       told_there (drains_next old.stack) false o old.flow r d.there ∙ ap (is_stopping_ask old.stack) d.next.owes ∙ d.next.runs in
-      ap (λ c. cond c (turn (Err Status.WrongStep) r) (next_at k Below.Call (drains_at old o) r r.stage)) (uncollected r sound_up (undone k ask r d.next.stage d.next.owes))
+      ap (λ c. cond c (turn (Err Status.WrongStep) r) (next_at k Below.Call (drains_at old o) r r.stage))
+      (uncollected r sound_up (undone k ask r d.next.stage d.next.owes))
       ∙ ap (next_at k Below.Call (drains_at old o) r) d.next.stage ∙ ap (ascend k (drains_at old o) r) d.next.owes ∙ ap (λ b. ascend k b r (Some ask)) stops
       ∙ ap (λ b. cond b (call_post k ask r) (turn (Err Status.WrongStep) r)) d.next.may ∙ ap (give_post k ask back_up) has_up.1
 
@@ -290,9 +308,11 @@ module _ {old : World} {kept : ContextsKept} (k : WorkerId) (o : OpId) (ask : As
       ∙ fits_plain back_up lent_up (own_params back_up has_up.0 has_up.1 (unwinds_up.sound sound_up)) refl short_up
 
   whole_up : changed o (passed_up k ask) old.flow ≡ changed o step_up (flow_between calls_up)
-  whole_up = flow_whole calls_up step_up (passed_up k ask) (up_whole k ask back_up has_up.0 (unwinds_up.stage ∙ d.next.stage) has_up.1 (unwinds_up.sound sound_up))
+  whole_up = flow_whole calls_up step_up (passed_up k ask) (up_whole k ask back_up has_up.0 (unwinds_up.stage ∙ d.next.stage) has_up.1
+      (unwinds_up.sound sound_up))
 
-  module _ {now : World} {t : FlowTable} {after : ContextsKept} (now_is : old ≡ now) (flow_is : t ≡ changed o (passed_up k ask) old.flow) (ends : Ends kept after k.0) where
+  module _ {now : World} {t : FlowTable} {after : ContextsKept} (now_is : old ≡ now)
+      (flow_is : t ≡ changed o (passed_up k ask) old.flow) (ends : Ends kept after k.0) where
     abbrev new_up : World
     new_up = record old { flow = t; contexts = after.table }
 
@@ -306,7 +326,8 @@ module _ {old : World} {kept : ContextsKept} (k : WorkerId) (o : OpId) (ask : As
           contexts = after.table;
         }) new_up = cc in
         subst (PostReturns (between calls_up) k over.Finished (Some lent_up) (Ok tt)) new_is
-        (post_returns k o ask.instance over.Finished lent_up (changed o step_up (flow_between calls_up)) (put (between calls_up).workers k Place.Idle) after (state_between calls_up) refl
+        (post_returns k o ask.instance over.Finished lent_up (changed o step_up (flow_between calls_up))
+        (put (between calls_up).workers k Place.Idle) after (state_between calls_up) refl
         at_up (fits_up, refl) refl refl ends)
 
     pub passes_up : PassesUp now k o ask.instance new_up
@@ -322,5 +343,6 @@ module _ {old : World} {kept : ContextsKept} (k : WorkerId) (o : OpId) (ask : As
     passed_up_state = record {
       sound = (post_does _ _ _ _ _ _ returns_up).0.sound (state_between calls_up).sound;
       tied = subst (IsTied after) (sym (flow_is ∙ whole_up))
-          (tied_ends kept after k.0 (changed o step_up (flow_between calls_up)) ends (post_tied k o ask.instance over.Finished lent_up (state_between calls_up) at_up));
+          (tied_ends kept after k.0 (changed o step_up (flow_between calls_up)) ends
+          (post_tied k o ask.instance over.Finished lent_up (state_between calls_up) at_up));
     }

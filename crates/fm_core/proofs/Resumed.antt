@@ -20,13 +20,16 @@ use Rattle.fm_flow.specs.Sound as flow
 sound_at : (t : FlowTable) (o : OpId) (r : FlowRecord) → IsFlow t → operation_at o t ≡ Some r → flow.IsSound r
 sound_at t o r s at = found_holds flow.IsSound (is_number o) t.operations r s.sound at
 
-pub stands_pre_held : (t : FlowTable) (o : OpId) (i : InstanceId) (r : FlowRecord) → IsFlow t → (operation_at o t ≡ Some r) × (is_held hold.Pre i.0 r ≡ true) → StandsAt PreHeld (operation_at o t)
+pub stands_pre_held : (t : FlowTable) (o : OpId) (i : InstanceId) (r : FlowRecord) → IsFlow t → (operation_at o t ≡ Some r)
+    × (is_held hold.Pre i.0 r ≡ true) → StandsAt PreHeld (operation_at o t)
 stands_pre_held t o i r s h = subst (StandsAt PreHeld) (sym h.0) (held_pre i.0 r (sound_at t o r s h.0) h.1).0
 
-pub stands_post_held : (t : FlowTable) (o : OpId) (i : InstanceId) (r : FlowRecord) → IsFlow t → (operation_at o t ≡ Some r) × (is_held hold.Post i.0 r ≡ true) → StandsAt PostHeld (operation_at o t)
+pub stands_post_held : (t : FlowTable) (o : OpId) (i : InstanceId) (r : FlowRecord) → IsFlow t → (operation_at o t ≡ Some r)
+    × (is_held hold.Post i.0 r ≡ true) → StandsAt PostHeld (operation_at o t)
 stands_post_held t o i r s h = subst (StandsAt PostHeld) (sym h.0) (held_post i.0 r (sound_at t o r s h.0) h.1).0
 
-pub by_that : (w : World) (kind : Hold) (o : OpId) (i : InstanceId) (r : FlowRecord) → (operation_at o w.flow ≡ Some r) × (is_held kind i.0 r ≡ true) → is_held_by w kind o i ≡ true
+pub by_that : (w : World) (kind : Hold) (o : OpId) (i : InstanceId) (r : FlowRecord) → (operation_at o w.flow ≡ Some r)
+    × (is_held kind i.0 r ≡ true) → is_held_by w kind o i ≡ true
 by_that w kind o i r h = told_there (is_held kind i.0) false o w.flow r h.0 ∙ h.1
 
 pub placed_so : {old now : World} (k : WorkerId) (i : InstanceId) (m : Option InstanceId) → old ≡ now → m ≡ place_in (worker_at now.workers k) → m ≡ Some i
@@ -36,8 +39,10 @@ placed_so {old} k i m now_is place is = subst (λ (w : World). place_in (worker_
 -- ---- a preoperation
 
 -- and completions carry it then
-pub resume_tied : {old : World} {kept : ContextsKept} (k : WorkerId) (o : OpId) (i : InstanceId) (given : PreVerdict) (state : PreState) (m : Option CtxId) → IsState old kept
-    → place_in (worker_at old.workers k) ≡ Some i → is_held_by old hold.Pre o i ≡ true → state ≡ state_at old k o i given → m ≡ sent_in state → old.contexts ≡ kept.table
+pub resume_tied : {old : World} {kept : ContextsKept} (k : WorkerId) (o : OpId) (i : InstanceId) (given : PreVerdict)
+    (state : PreState) (m : Option CtxId) → IsState old kept
+    → place_in (worker_at old.workers k) ≡ Some i → is_held_by old hold.Pre o i ≡ true → state ≡ state_at old k o i given
+    → m ≡ sent_in state → old.contexts ≡ kept.table
     → length kept.carried ≡ length kept.table.slots → IsTied (kept_sent kept k.0 m) (changed o (pre_settled state) old.flow)
 resume_tied {old} {kept} k o i given state m s place held same sends contexts matched =
     subst (λ x. IsTied (kept_sent kept k.0 x) (changed o (pre_settled state) old.flow)) (sym sends)
@@ -50,10 +55,12 @@ sent_table : (kept : ContextsKept) (k : WorkerId) (m : Option CtxId) → (kept_s
 sent_table kept k None = refl
 sent_table kept k (Some c) = refl
 
-pub pre_resumes : {old now : World} {kept : ContextsKept} (k : WorkerId) (o : OpId) (i : InstanceId) (r : FlowRecord) (given : PreVerdict) (state : PreState) (m : Option CtxId)
+pub pre_resumes : {old now : World} {kept : ContextsKept} (k : WorkerId) (o : OpId) (i : InstanceId) (r : FlowRecord)
+    (given : PreVerdict) (state : PreState) (m : Option CtxId)
     (t : FlowTable) (after : ContextsKept) (fs : FileTable) (x : Target) → IsState old kept → old ≡ now → place_in (worker_at old.workers k) ≡ Some i
     → (operation_at o old.flow ≡ Some r) × (is_held hold.Pre i.0 r ≡ true) → lets_go given ≡ true → state ≡ state_at old k o i given → m ≡ sent_in state
-    → t ≡ changed o (pre_settled state) old.flow → old.contexts ≡ kept.table → IsTied (kept_sent kept k.0 m) (changed o (pre_settled state) old.flow) → x ≡ target_in r
+    → t ≡ changed o (pre_settled state) old.flow → old.contexts ≡ kept.table
+    → IsTied (kept_sent kept k.0 m) (changed o (pre_settled state) old.flow) → x ≡ target_in r
     → fs ≡ decided t state x old.files → Sweeping (is_lost_of fs x) (kept_sent kept k.0 m) after
     → ResumesPre now k o given (Ok tt) (record old { flow = t; contexts = after.table; files = fs })
 unfolding ResumesPre
@@ -65,13 +72,16 @@ pre_resumes {old} {now} {kept} k o i r given state m t after fs x s now_is place
     let slots : left.table.slots ≡ old.contexts.slots = sent_slots kept k.0 m ∙ ap (λ (y : ContextTable). y.slots) (sym contexts) in
     let filed : fs ≡ filed_pre old o (changed o step old.flow) state =
     files ∙ ap (λ (y : Target). decided t state y old.files) is ∙ ap (λ (u : FlowTable). decided u state (target_in r) old.files) flow
-    ∙ sym (told_there (λ (y : FlowRecord). after_pre state y.operation y.stream (is_created_on y.stream (changed o step old.flow)) old.files) old.files o old.flow r held.0) in
+    ∙ sym (told_there (λ (y : FlowRecord). after_pre state y.operation y.stream (is_created_on y.stream (changed o step old.flow))
+    old.files) old.files o old.flow r held.0) in
     let table : left.table ≡ sent old.contexts k (sent_in state) =
     sent_table kept k m ∙ ap (λ (y : ContextTable). sent y k m) (sym contexts) ∙ ap (sent old.contexts k) sends in
     let whole : mid ≡ pre_resumed old k o state = cc in
-    let lost : LosesLinks mid new = loses old mid left after x s.sound refl slots (subst (IsTied left) (sym flow) tied) (verdict_gone old.files fs t state x files) sweeps in
+    let lost : LosesLinks mid new = loses old mid left after x s.sound refl slots (subst (IsTied left) (sym flow) tied)
+    (verdict_gone old.files fs t state x files) sweeps in
     let here = by_that old hold.Pre o i r held in
-    let free : first_of ((not (lets_go given), Status.BadRequest) ∷ (not (is_held_by old hold.Pre o i), Status.NotPended) ∷ []) ≡ None = grind (arith, goes, here) in
+    let free : first_of ((not (lets_go given), Status.BadRequest) ∷ (not (is_held_by old hold.Pre o i), Status.NotPended) ∷ [])
+    ≡ None = grind (arith, goes, here) in
     subst (λ (w : World). ResumesPre w k o given (Ok tt) new) now_is
     (subst (ResumesPreAt old k o given (Ok tt) new) (sym place)
     (free, subst (λ y. LosesLinks (pre_resumed old k o y) new) same (subst (λ (w : World). LosesLinks w new) whole lost)))

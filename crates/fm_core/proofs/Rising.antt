@@ -36,13 +36,15 @@ pub torn_rising : (s : StreamId) (xs ys : List FileStream) (hs : List FileHandle
 torn_rising s xs ys hs n is rises =
     with_streams hs n (subst (AllPairs IsBefore) (sym is) (pairs_without IsBefore (is_stream s) xs rises.streams)) rises
 
-pub phased_rising : (h : HandleId) (to : HandlePhase) (xs : List FileStream) (hs gs : List FileHandle) (n : ℕ) → gs ≡ change_first (is_handle h) (with_phase to) hs
+pub phased_rising : (h : HandleId) (to : HandlePhase) (xs : List FileStream) (hs gs : List FileHandle) (n : ℕ)
+    → gs ≡ change_first (is_handle h) (with_phase to) hs
     → AreRising (record { streams = xs; handles = hs; next = n }) → AreRising (record { streams = xs; handles = gs; next = n })
 phased_rising h to xs hs gs n is rises =
     record {
       streams = rises.streams;
       handles = subst (AllPairs IsOlder) (sym is) (pairs_change IsOlder (is_handle h) (with_phase to) hs (λ x y k. k) (λ x y k. k) rises.handles);
-      given = subst (All (λ (x : FileHandle). x.number.0 < n)) (sym is) (all_kept (λ (x : FileHandle). x.number.0 < n) (is_handle h) (with_phase to) hs (λ x k. k) rises.given);
+      given = subst (All (λ (x : FileHandle). x.number.0 < n)) (sym is) (all_kept (λ (x : FileHandle). x.number.0 < n) (is_handle h)
+          (with_phase to) hs (λ x k. k) rises.given);
     }
 
 pub closed_rising : (h : HandleId) (xs : List FileStream) (hs gs : List FileHandle) (n : ℕ) → gs ≡ without_first (is_handle h) hs

@@ -12,19 +12,23 @@ use Rattle.fm_stack.specs.Detaching as stack
 -- ---- an idle worker enters a callback
 
 -- a callback that is permitted is entered
-pub entered : (old : World) (k : WorkerId) (there : Place) (refusal : Option Status) (result : Result (Unit {0}) Status) (ws : List Place) → stack.Permits refusal result
+pub entered : (old : World) (k : WorkerId) (there : Place) (refusal : Option Status) (result : Result (Unit {0}) Status)
+    (ws : List Place) → stack.Permits refusal result
     → ws ≡ after_entering old.workers k there result
-    → Answers refusal result old (record old { workers = ws }) (λ done. ◌≡◌ {A = World} (record old { workers = ws }) (record old { workers = put old.workers k there }))
+    → Answers refusal result old (record old { workers = ws })
+    (λ done. ◌≡◌ {A = World} (record old { workers = ws }) (record old { workers = put old.workers k there }))
 entered old k there refusal (Ok done) ws free e = (free, ap (λ x. record old { workers = x }) e)
 entered old k there refusal (Err why) ws refused e = (refused, ap (λ x. record old { workers = x }) e)
 
 -- ---- a callback returns, and what its worker holds leaks
 
-pub left_tied : (kept left : ContextsKept) (w : ℕ) (f : FlowTable) → Leaves (carried_of kept) kept.table left.table w → left.carried ≡ kept.carried → IsTied kept f → IsTied left f
+pub left_tied : (kept left : ContextsKept) (w : ℕ) (f : FlowTable) → Leaves (carried_of kept) kept.table left.table w
+    → left.carried ≡ kept.carried → IsTied kept f → IsTied left f
 left_tied kept left w f leaves carried tied c = carried_equal left kept leaves.slots carried c ∙ tied c
 
 -- a callback's end and a sweep take nothing from completions
-pub swept_tied : (kept left after : ContextsKept) (i : InstanceId) (w : ℕ) (f : FlowTable) → Leaves (carried_of kept) kept.table left.table w → left.carried ≡ kept.carried
+pub swept_tied : (kept left after : ContextsKept) (i : InstanceId) (w : ℕ) (f : FlowTable)
+    → Leaves (carried_of kept) kept.table left.table w → left.carried ≡ kept.carried
     → Sweeps (carried_of left) (is_linked_of (Owner.Instance i)) left.table after.table → after.carried ≡ left.carried → IsTied kept f → IsTied after f
 swept_tied kept left after i w f leaves carried sweeps same tied =
     sweeping_tied (is_linked_of (Owner.Instance i)) left after f (record { sweeps = sweeps; carried = same }) (left_tied kept left w f leaves carried tied)
@@ -35,19 +39,22 @@ pub emptied : (old : World) (i : InstanceId) (r : Result (Unit {0}) Status) (lef
 emptied old i (Ok done) left after e tied = ap (λ (x : ContextsKept). x.table) e
 emptied old i (Err why) left after e tied = sweeps_alike tied e.sweeps
 
-pub unless_tied : (i : InstanceId) (r : Result (Unit {0}) Status) (left after : ContextsKept) (f : FlowTable) → SweepsUnless r i left after → IsTied left f → IsTied after f
+pub unless_tied : (i : InstanceId) (r : Result (Unit {0}) Status) (left after : ContextsKept) (f : FlowTable)
+    → SweepsUnless r i left after → IsTied left f → IsTied after f
 unless_tied i (Ok done) left after f e tied = subst (λ x. IsTied x f) (sym e) tied
 unless_tied i (Err why) left after f e tied = sweeping_tied (is_linked_of (Owner.Instance i)) left after f e tied
 
 -- ---- a filter goes
 
 -- contexts lost their links, where the event succeeded
-pub where_swept : (old : World) (test : Context → Bool) (result : Result (Unit {0}) Status) (kept after : ContextsKept) → old.contexts ≡ kept.table → IsTied kept old.flow
+pub where_swept : (old : World) (test : Context → Bool) (result : Result (Unit {0}) Status) (kept after : ContextsKept)
+    → old.contexts ≡ kept.table → IsTied kept old.flow
     → SweptWhere result test kept after → SweepsWhere result test old after.table
 where_swept old test (Ok done) kept after contexts tied e = subst (λ x. Sweeps (carries old) test x after.table) (sym contexts) (sweeps_alike tied e.sweeps)
 where_swept old test (Err why) kept after contexts tied e = ap (λ (x : ContextsKept). x.table) e ∙ sym contexts
 
-pub where_tied : (test : Context → Bool) (result : Result (Unit {0}) Status) (kept after : ContextsKept) (t : FlowTable) → SweptWhere result test kept after → IsTied kept t → IsTied after t
+pub where_tied : (test : Context → Bool) (result : Result (Unit {0}) Status) (kept after : ContextsKept) (t : FlowTable)
+    → SweptWhere result test kept after → IsTied kept t → IsTied after t
 where_tied test (Ok done) kept after t e tied = sweeping_tied test kept after t e tied
 where_tied test (Err why) kept after t e tied = subst (λ x. IsTied x t) (sym e) tied
 

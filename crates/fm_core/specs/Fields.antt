@@ -10,7 +10,15 @@ use Rattle.fm_world.specs.Sound.{IsSound}
 use Rattle.fm_core.specs.FilesKept.{FilesKept}
 
 abbrev pub world_of : StackWorld → FlowTable → List Place → ContextsKept → List ℕ → FilesKept → World
-world_of stack flow workers kept totals files = record { stack = stack; flow = flow; workers = workers; contexts = kept.table; totals = totals; files = files.table }
+world_of stack flow workers kept totals files = record {
+  stack = stack;
+  flow = flow;
+  workers = workers;
+  contexts = kept.table;
+  totals =
+      totals;
+  files = files.table;
+}
 
 -- what the layer of contexts keeps of references that completions carry, the operations' completions say too
 abbrev pub IsTied : ContextsKept → FlowTable → Type 0

@@ -39,7 +39,8 @@ PassesDown old k o i completion new =
 -- and on its way up: its postoperation is called, and finishes at once
 abbrev pub PassesUp : World → WorkerId → OpId → InstanceId → World → Type 0
 PassesUp old k o i new =
-    (lent : Data) × (completion : Completion) × (mid : World) × Nexts old k o (Ok (action.Post i lent completion)) mid × PostReturns mid k Finished (Some lent) (Ok tt) new
+    (lent : Data) × (completion : Completion) × (mid : World) × Nexts old k o (Ok (action.Post i lent completion)) mid
+    × PostReturns mid k Finished (Some lent) (Ok tt) new
 
 -- what the preoperation of an instance answers at once, by the instances' numbers: it asks for its postoperation until something else is said
 abbrev pub answered_by : List PreVerdict → InstanceId → PreVerdict

@@ -47,13 +47,21 @@ module _ {lives : List Life} {tally : Tally} (a : IsAccount lives tally) (k : �
   -- a life ends
   pub some_living : l.is_cleaned ≡ false → 0 < tally.living
   some_living lives_yet =
-      grind (arith, nat_tests, a.opened, get_or-le-sum_by (λ (x : Life). one (is_living x)) lives k l, slice_get_within lives k l there, get_or_from_slice_get lives k l l there)
+      grind (
+        arith,
+        nat_tests,
+        a.opened,
+        get_or-le-sum_by (λ (x : Life). one (is_living x)) lives k l,
+        slice_get_within lives k l there,
+        get_or_from_slice_get lives k l l there,
+      )
 
   pub account_end : l.is_cleaned ≡ false → IsAccount (set lives k (record { generation = l.generation; is_cleaned = true })) (ended tally)
   account_end lives_yet =
       let now : Life = record { generation = l.generation; is_cleaned = true } in
       record {
-        young = All-set (λ (x : Life). x.generation ≤ last_generation) lives k now (all_at (λ (x : Life). x.generation ≤ last_generation) lives k l a.young there) a.young;
+        young = All-set (λ (x : Life). x.generation ≤ last_generation) lives k now
+            (all_at (λ (x : Life). x.generation ≤ last_generation) lives k l a.young there) a.young;
         born = omega (arith, a.born, sum_set (λ (x : Life). x.generation + 1) lives k l now there);
         opened = grind (arith, nat_tests, a.opened, sum_set (λ (x : Life). one (is_living x)) lives k l now there, some_living lives_yet);
       }

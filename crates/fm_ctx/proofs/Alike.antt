@@ -17,7 +17,8 @@ pub delete_alike : (carried carried' : CtxId → ℕ) (t : ContextTable) (w : �
     → delete_after carried t w wants there ≡ delete_after carried' t w wants there
 delete_alike carried carried' t w wants there same = ap (λ f. delete_after f t w wants there) (alike same)
 
-pub set_alike : (carried carried' : CtxId → ℕ) (t : ContextTable) (w : ℕ) (c : CtxId) (object : Object) (mode : SetMode) (wants : Bool) (there : Option CtxId) → ((d : CtxId) → carried d ≡ carried' d)
+pub set_alike : (carried carried' : CtxId → ℕ) (t : ContextTable) (w : ℕ) (c : CtxId) (object : Object) (mode : SetMode) (wants : Bool)
+    (there : Option CtxId) → ((d : CtxId) → carried d ≡ carried' d)
     → set_after carried t w c object mode wants there ≡ set_after carried' t w c object mode wants there
 set_alike carried carried' t w c object mode wants there same = ap (λ f. set_after f t w c object mode wants there) (alike same)
 

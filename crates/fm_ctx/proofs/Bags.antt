@@ -147,6 +147,7 @@ first_placed [] cleaning c first = absurd (none-some c first)
 first_placed (e ∷ due) cleaning c first = grind (arith, nat_tests, references_cons, is_id-refl)
 
 -- what stands in one place is due, or is being cleaned up
-pub due_or_cleaned : (due : List CtxId) (cleaning : List (Option CtxId)) (c : CtxId) → places due cleaning c ≡ 1 → holds due c ≡ not (list_any (cleans c) cleaning)
+pub due_or_cleaned : (due : List CtxId) (cleaning : List (Option CtxId)) (c : CtxId) → places due cleaning c ≡ 1
+    → holds due c ≡ not (list_any (cleans c) cleaning)
 unfolding places holds references
 due_or_cleaned due cleaning c once = grind (arith, nat_tests, counted_if_any (is_id c) due, counted_if_any (cleans c) cleaning)

@@ -16,7 +16,8 @@ unfolding carried_of
 carried_there kept t there c = ap (λ b. cond b (slice_index kept.carried c.slot) 0) (sym (there c))
 
 -- two ids of one slot can't both name its context
-pub same_slot : (slots : List Slot) (c d : CtxId) → is_some (context_at slots c) ≡ true → is_some (context_at slots d) ≡ true → d.slot ≡ c.slot → is_id d c ≡ true
+pub same_slot : (slots : List Slot) (c d : CtxId) → is_some (context_at slots c) ≡ true → is_some (context_at slots d) ≡ true
+    → d.slot ≡ c.slot → is_id d c ≡ true
 unfolding context_at
 same_slot slots c d has_c has_d same = grind (arith, nat_tests)
 

@@ -152,7 +152,8 @@ module _ {firsts nexts nexts' : List (Option ℕ)} {seats : List (Option Seat)} 
     where
       higher : (n : ℕ) → a < n → last_below (stands seats chain) n ≡ last_below (stands (set seats slot o) chain) n
       higher n under =
-          last_above (stands seats chain) (stands (set seats slot o) chain) slot a n above under passes (λ k past. agree_at r chain k (λ at. omega (arith, at, past)))
+          last_above (stands seats chain) (stands (set seats slot o) chain) slot a n above under passes
+          (λ k past. agree_at r chain k (λ at. omega (arith, at, past)))
 
       on_chain : (k : ℕ) → k ≢ slot → stands seats chain k ≡ true → get_or (set nexts' a led) k None ≡ last_below (stands (set seats slot o) chain) k
       on_chain k off had =
@@ -176,7 +177,8 @@ module _ {firsts nexts nexts' : List (Option ℕ)} {seats : List (Option Seat)} 
                 elim (cases_eq other chain) [
                   | inl same ↦ grind (arith, on_chain k off)
                   | inr apart ↦
-                      get_or-set_other nexts' a k led None (λ at. apart (one_chain other chain (get_or seats a None) (ap (stands seats other) (sym at) ∙ had) passes))
+                      get_or-set_other nexts' a k led None (λ at. apart
+                      (one_chain other chain (get_or seats a None) (ap (stands seats other) (sym at) ∙ had) passes))
                       ∙ next_kept other k off had (λ j under. agree_on r other apart j)
                 ]
           ]
@@ -226,7 +228,8 @@ chained_put {firsts} {nexts} {seats} chain slot seat above next c small is withi
           ])
           ∙ ap (λ n. last_below (stands seats n) slot) (is ∙ eqb-true (chain_of seat) other on);
     } in
-    let on : stands (set seats slot (Some seat)) chain slot ≡ true = ap (is_on chain) (get_or-set_same seats slot (Some seat) None within) ∙ eq-eqb (chain_of seat) chain (sym is) in
+    let on : stands (set seats slot (Some seat)) chain slot ≡ true =
+    ap (is_on chain) (get_or-set_same seats slot (Some seat) None within) ∙ eq-eqb (chain_of seat) chain (sym is) in
     chained_led c reseats (Some slot) above small at (last_passes (stands (set seats slot (Some seat)) chain) slot on)
 
 -- a slot loses its seat

@@ -62,7 +62,8 @@ module _ {rows : List Row} {kept : ContextsKept} {slots : ℕ} {seats : List (Op
   account_kept g is same = subst (λ l. IsAccount l tally) (sym (ap lives_of is ∙ map_kept i life_of g same)) was.account
 
 -- as many slots as before
-placed_kept : (rows : List Row) {rows' : List Row} {slots slots' : ℕ} (g : Row → Row) (k : ℕ) → slots ≡ length rows → rows' ≡ updated g rows k → slots' ≡ slots → slots' ≡ length rows'
+placed_kept : (rows : List Row) {rows' : List Row} {slots slots' : ℕ} (g : Row → Row) (k : ℕ) → slots ≡ length rows
+    → rows' ≡ updated g rows k → slots' ≡ slots → slots' ≡ length rows'
 placed_kept rows g k placed is fits = fits ∙ placed ∙ sym (ap length is ∙ length-updated g rows k)
 
 module _ {rows rows' : List Row} {kept kept' now : ContextsKept} {slots slots' : ℕ} {seats : List (Option Seat)} {tally : Tally} {c : CtxId}
@@ -71,7 +72,13 @@ module _ {rows rows' : List Row} {kept kept' now : ContextsKept} {slots slots' :
   pub indexed_kept : (g : Row → Row) → rows' ≡ updated g rows c.slot → kept' ≡ now → slots' ≡ slots → IsSound (updated g rows c.slot) now
       → life_of (g i.row) ≡ life_of i.row → seat_in (g i.row) ≡ seat_in i.row → IsIndexed rows' kept' slots' seats tally
   indexed_kept g is shows fits sound lives same =
-      record { sound = sound_as is shows sound; seated = seats_kept i was.seated g is same; placed = placed_kept rows g c.slot was.placed is fits; account = account_kept was i g is lives }
+      record {
+        sound = sound_as is shows sound;
+        seated = seats_kept i was.seated g is same;
+        placed =
+            placed_kept rows g c.slot was.placed is fits;
+        account = account_kept was i g is lives;
+      }
 
   -- its context is cleaned
   pub indexed_ended : {tally' : Tally} → rows' ≡ updated cleaned_row rows c.slot → kept' ≡ now → slots' ≡ slots
@@ -85,7 +92,8 @@ module _ {rows rows' : List Row} {kept kept' now : ContextsKept} {slots slots' :
         sound = sound_as is shows sound;
         seated = seats_kept i was.seated cleaned_row is same;
         placed = placed_kept rows cleaned_row c.slot was.placed is fits;
-        account = subst (λ (p : List Life × Tally). IsAccount p.0 p.1) (λ k. (sym lives k, sym ends k)) (account_end was.account c.slot (life_of i.row) (there_now was i) i.open_yet);
+        account = subst (λ (p : List Life × Tally). IsAccount p.0 p.1) (λ k. (sym lives k, sym ends k))
+            (account_end was.account c.slot (life_of i.row) (there_now was i) i.open_yet);
       }
 
   -- or it gets another one
@@ -93,4 +101,10 @@ module _ {rows rows' : List Row} {kept kept' now : ContextsKept} {slots slots' :
       → IsSound (updated g rows c.slot) now → seats' ≡ set seats c.slot o → life_of (g i.row) ≡ life_of i.row → seat_in (g i.row) ≡ o
       → IsIndexed rows' kept' slots' seats' tally
   indexed_set g o is shows fits sound put lives new =
-      record { sound = sound_as is shows sound; seated = seats_set i was.seated g o is put new; placed = placed_kept rows g c.slot was.placed is fits; account = account_kept was i g is lives }
+      record {
+        sound = sound_as is shows sound;
+        seated = seats_set i was.seated g o is put new;
+        placed =
+            placed_kept rows g c.slot was.placed is fits;
+        account = account_kept was i g is lives;
+      }

@@ -126,7 +126,8 @@ leads_push nexts nexts' y c at (d ∷ e ∷ ids) leads last here new other once 
     let unlike : d.slot ≢ c.slot = λ is. omega (arith, absent, sum_by-cons (by c.slot) d (e ∷ ids), at_here d c.slot is) in
     let same = other d.slot apart unlike in (
       leads.0,
-      leads_push nexts nexts' y c (get_or nexts' d.slot None) (e ∷ ids) (subst (λ (to : Option CtxId). Leads nexts to (e ∷ ids)) (sym same) leads.1) last here new other
+      leads_push nexts nexts' y c (get_or nexts' d.slot None) (e ∷ ids)
+          (subst (λ (to : Option CtxId). Leads nexts to (e ∷ ids)) (sym same) leads.1) last here new other
           (λ slot. omega (arith, once slot, sum_by-cons (by slot) d (e ∷ ids)))
           (omega (arith, absent, sum_by-cons (by c.slot) d (e ∷ ids))),
     )
@@ -134,7 +135,8 @@ leads_push nexts nexts' y c at (d ∷ e ∷ ids) leads last here new other once 
     at_here : (x : CtxId) (slot : ℕ) → x.slot ≡ slot → one (is_at slot x) ≡ 1
     at_here x slot is = grind (arith, nat_tests, is)
 
-last_within : (nexts : List (Option CtxId)) (before : List CtxId) (y : CtxId) → last_of before ≡ Some y → AreWithin (length nexts) before → y.slot < length nexts
+last_within : (nexts : List (Option CtxId)) (before : List CtxId) (y : CtxId) → last_of before ≡ Some y
+    → AreWithin (length nexts) before → y.slot < length nexts
 unfolding last_of
 last_within nexts [] y last all = absurd (none-some y last)
 last_within nexts (d ∷ []) y last all =
@@ -146,7 +148,8 @@ pub led_length : (nexts : List (Option CtxId)) (last : Option CtxId) (c : CtxId)
 led_length nexts None c = length-set nexts c.slot None
 led_length nexts (Some y) c = length-set (set nexts c.slot None) y.slot (Some c) ∙ length-set nexts c.slot None
 
-pub linked_push : {nexts : List (Option CtxId)} {first last : Option CtxId} {ids : List CtxId} (c : CtxId) → AreLinked nexts first last ids → c.slot < length nexts
+pub linked_push : {nexts : List (Option CtxId)} {first last : Option CtxId} {ids : List CtxId} (c : CtxId)
+    → AreLinked nexts first last ids → c.slot < length nexts
     → count_by (is_at c.slot) ids ≡ 0
     → AreLinked (nexts_led nexts last c) (option_or first (Some c)) (Some c) (ids ++ c ∷ [])
 unfolding Leads last_of
@@ -189,9 +192,11 @@ linked_push {nexts} {first} {last} {ids} c l within absent = record {
     by_last : (o : Option CtxId) → o ≡ last_of ids → Leads (nexts_led nexts o c) (option_or first (Some c)) (ids ++ c ∷ [])
     by_last None none =
         let empty = last_none ids (sym none) in
-        subst (λ (p : List CtxId × Option CtxId). Leads (set nexts c.slot None) (option_or p.1 (Some c)) (p.0 ++ c ∷ [])) (λ i. (sym empty i, sym (none_leads ids l.chain empty) i)) (alone c)
+        subst (λ (p : List CtxId × Option CtxId). Leads (set nexts c.slot None) (option_or p.1 (Some c)) (p.0 ++ c ∷ []))
+        (λ i. (sym empty i, sym (none_leads ids l.chain empty) i)) (alone c)
     by_last (Some y) last_is =
-        subst (λ (o : Option CtxId). Leads (nexts_led nexts (Some y) c) o (ids ++ c ∷ [])) (sym (first_stays ids y l.chain (sym last_is))) (pushed y (sym last_is))
+        subst (λ (o : Option CtxId). Leads (nexts_led nexts (Some y) c) o (ids ++ c ∷ []))
+        (sym (first_stays ids y l.chain (sym last_is))) (pushed y (sym last_is))
 
 -- ---- the first one goes
 
@@ -225,24 +230,29 @@ pub record Popped (nexts : List (Option CtxId)) (last : Option CtxId) (c : CtxId
   pub is : ids ≡ c ∷ rest
   pub linked : AreLinked nexts (get_or nexts c.slot None) (option_and (get_or nexts c.slot None) last) rest
 
-pub linked_pop : {nexts : List (Option CtxId)} {first last : Option CtxId} (ids : List CtxId) (c : CtxId) → AreLinked nexts first last ids → first ≡ Some c → Popped nexts last c ids
+pub linked_pop : {nexts : List (Option CtxId)} {first last : Option CtxId} (ids : List CtxId) (c : CtxId)
+    → AreLinked nexts first last ids → first ≡ Some c → Popped nexts last c ids
 unfolding Leads
 linked_pop [] c l is = absurd (none-some c (sym l.chain ∙ is))
 linked_pop {nexts} {first} {last} (d ∷ rest) c l is =
-    subst (λ (e : CtxId). Popped nexts last e (d ∷ rest)) (same_Some d c (sym l.chain.0 ∙ is)) (record { rest = rest; is = refl; linked = rest_linked d rest l })
+    subst (λ (e : CtxId). Popped nexts last e (d ∷ rest)) (same_Some d c (sym l.chain.0 ∙ is))
+    (record { rest = rest; is = refl; linked = rest_linked d rest l })
 
 -- ---- as the fields have it
 
-pub linked_more : {nexts : List (Option CtxId)} {first last : Option CtxId} {ids : List CtxId} → AreLinked nexts first last ids → AreLinked (nexts ++ None ∷ []) first last ids
+pub linked_more : {nexts : List (Option CtxId)} {first last : Option CtxId} {ids : List CtxId} → AreLinked nexts first last ids
+    → AreLinked (nexts ++ None ∷ []) first last ids
 linked_more {nexts} {first} {last} {ids} l = record {
   chain = leads_as nexts (nexts ++ None ∷ []) first ids l.chain (λ c some. padded nexts c.slot);
   end = l.end;
-  within = All-weaker (λ (c : CtxId). c.slot < length nexts) (λ (c : CtxId). c.slot < length (nexts ++ None ∷ [])) (λ c under. omega (arith, under, length-append nexts (None ∷ []))) ids l.within;
+  within = All-weaker (λ (c : CtxId). c.slot < length nexts) (λ (c : CtxId). c.slot < length (nexts ++ None ∷ []))
+      (λ c under. omega (arith, under, length-append nexts (None ∷ []))) ids l.within;
   once = l.once;
 }
 
 -- the slot of the last one is there
-pub last_there : {nexts : List (Option CtxId)} {first last : Option CtxId} (ids : List CtxId) → AreLinked nexts first last ids → IfSome last (λ (c : CtxId). c.slot < length nexts)
+pub last_there : {nexts : List (Option CtxId)} {first last : Option CtxId} (ids : List CtxId) → AreLinked nexts first last ids
+    → IfSome last (λ (c : CtxId). c.slot < length nexts)
 last_there {nexts} {first} {last} ids l = by_last last (sym l.end)
   where
     by_last : (o : Option CtxId) → last_of ids ≡ o → IfSome o (λ (c : CtxId). c.slot < length nexts)
@@ -250,7 +260,8 @@ last_there {nexts} {first} {last} ids l = by_last last (sym l.end)
     by_last (Some y) is = last_within nexts ids y is l.within
 
 -- and that of the first one
-pub first_there : {nexts : List (Option CtxId)} {first last : Option CtxId} (ids : List CtxId) (c : CtxId) → AreLinked nexts first last ids → first ≡ Some c → c.slot < length nexts
+pub first_there : {nexts : List (Option CtxId)} {first last : Option CtxId} (ids : List CtxId) (c : CtxId)
+    → AreLinked nexts first last ids → first ≡ Some c → c.slot < length nexts
 unfolding Leads
 first_there [] c l is = absurd (none-some c (sym l.chain ∙ is))
 first_there {nexts} (d ∷ ids) c l is =

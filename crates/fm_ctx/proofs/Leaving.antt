@@ -41,7 +41,8 @@ settles_both {carried} {t} first second = record {
 -- ---- the laws
 
 settled_keeps : {carried : CtxId → ℕ} {t : ContextTable} {carried' : CtxId → ℕ} {t' : ContextTable} → IsLawful carried t → Settles carried t carried' t'
-    → t'.cleaning ≡ t.cleaning → length t'.left ≡ length t.left → ((c : CtxId) → is_some (context_at t'.slots c) ≡ is_some (context_at t.slots c)) → SlotsFit t'.slots
+    → t'.cleaning ≡ t.cleaning → length t'.left ≡ length t.left
+    → ((c : CtxId) → is_some (context_at t'.slots c) ≡ is_some (context_at t.slots c)) → SlotsFit t'.slots
     → HandsFit t'.hands → IsLawful carried' t'
 settled_keeps {carried} {t} {carried'} {t'} law s cleaning leavers there slots hands =
     lawful_by law slots hands (ap length cleaning) leavers (λ d was.
@@ -50,7 +51,8 @@ settled_keeps {carried} {t} {carried'} {t'} law s cleaning leavers there slots h
 
 pub leave_keeps : {carried : CtxId → ℕ} {t t' : ContextTable} (w : ℕ) → IsLawful carried t → Leaves carried t t' w → IsLawful carried t'
 leave_keeps {carried} {t} {t'} w law leaves =
-    settled_keeps law leaves.settles leaves.cleaning (ap length leaves.left ∙ length-set t.left w (hand_of t.hands w)) (λ c. ap (λ (slots : List Slot). is_some (context_at slots c)) leaves.slots)
+    settled_keeps law leaves.settles leaves.cleaning (ap length leaves.left ∙ length-set t.left w (hand_of t.hands w))
+    (λ c. ap (λ (slots : List Slot). is_some (context_at slots c)) leaves.slots)
     (subst SlotsFit (sym leaves.slots) (law.once, law.few))
     (subst HandsFit (sym leaves.hands) (length-set t.hands w [] ∙ law.workers, All-set IsSmall t.hands w [] (lit≤ tt) law.small))
 
@@ -70,9 +72,15 @@ count_map_weaker {X} p f (x ∷ xs) weaker =
 
 pub sweep_keeps : {carried : CtxId → ℕ} {t t' : ContextTable} (test : Context → Bool) → IsLawful carried t → Sweeps carried test t t' → IsLawful carried t'
 sweep_keeps {carried} {t} {t'} test law sweeps =
-    settled_keeps law sweeps.settles sweeps.cleaning (ap length sweeps.left) (λ c. ap (λ (slots : List Slot). is_some (context_at slots c)) sweeps.slots ∙ grind (arith, context_at-swept test t.slots c))
+    settled_keeps law sweeps.settles sweeps.cleaning (ap length sweeps.left)
+    (λ c. ap (λ (slots : List Slot). is_some (context_at slots c)) sweeps.slots ∙ grind (arith, context_at-swept test t.slots c))
     (subst SlotsFit (sym sweeps.slots) (
-      λ owner object. omega (arith, law.once owner object, count_map_weaker (has_link owner object) (swept_slot test) t.slots (λ s has. grind (arith, nat_tests))),
+      λ owner object. omega (
+        arith,
+        law.once owner object,
+        count_map_weaker (has_link owner object) (swept_slot test) t.slots
+            (λ s has. grind (arith, nat_tests)),
+      ),
       omega (arith, length-map t.slots (swept_slot test), law.few),
     ))
     (subst HandsFit (sym sweeps.hands) (law.workers, law.small))

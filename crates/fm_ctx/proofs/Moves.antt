@@ -92,7 +92,8 @@ module _ {carried : CtxId → ℕ} {t : ContextTable} where
       → ((d : CtxId) → carried' d ≡ carried d + one (is_id d c)) → IsLawful carried' (handed_on t w c)
   carry_keeps carried' w c law worker has more =
       let within = within_hands w law worker in
-      lawful_by law (law.once, law.few) (hand_fewer w c law within has) refl refl (λ d was. grind (arith, nat_tests, held_without t.hands w c within has d, more d))
+      lawful_by law (law.once, law.few) (hand_fewer w c law within has) refl refl
+      (λ d was. grind (arith, nat_tests, held_without t.hands w c within has d, more d))
 
   -- and brings it back
   pub bring_keeps : (carried' : CtxId → ℕ) (w : ℕ) (c : CtxId) → IsLawful carried t → w < 48

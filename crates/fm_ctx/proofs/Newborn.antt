@@ -26,7 +26,15 @@ module _ (rows : List Row) (c : CtxId) (r : Row) (new : IsNew (slots_of rows) c)
   named = record r { generation = c.generation }
 
   put_here : slice_get (put_row rows c r) c.slot ≡ Some named
-  put_here = grind (arith, nat_tests, new, length-map rows slot_of, slice_get-push rows named, slice_get-set_same rows c.slot named, slice_get_within (slots_of rows) c.slot)
+  put_here = grind (
+    arith,
+    nat_tests,
+    new,
+    length-map rows slot_of,
+    slice_get-push rows named,
+    slice_get-set_same rows c.slot named,
+    slice_get_within (slots_of rows) c.slot,
+  )
 
   put_apart : (k : ℕ) → k ≢ c.slot → slice_get (put_row rows c r) k ≡ slice_get rows k
   put_apart k apart =
@@ -62,7 +70,8 @@ module _ (rows : List Row) (c : CtxId) (r : Row) (new : IsNew (slots_of rows) c)
       let carried : Row → ℕ = λ q. q.carried in
       grind (arith, nat_tests, map_push carried rows named, map-set carried rows c.slot named, length-map rows carried, fresh.carried)
 
-pub sound_allocated : {rows : List Row} {hands : List (List CtxId)} {due : List CtxId} {cleaning : List (Option CtxId)} {leaks : ℕ} {left : List (List CtxId)} {kept : ContextsKept} (w : ℕ) (r : Row) (c : CtxId)
+pub sound_allocated : {rows : List Row} {hands : List (List CtxId)} {due : List CtxId} {cleaning : List (Option CtxId)} {leaks : ℕ}
+    {left : List (List CtxId)} {kept : ContextsKept} (w : ℕ) (r : Row) (c : CtxId)
     → IsSound rows kept → kept_in rows hands due cleaning leaks left ≡ kept → w < 48 → IsNew (slots_of rows) c → IsFresh r
     → length (hand_of kept.table.hands w) < 16
     → IsSound (put_row rows c r) (kept_allocated kept w c (context_of r))
@@ -97,10 +106,12 @@ record RowFree (rows : List Row) (c : CtxId) : Type 0 where
   pub young : row.generation < last_generation
   pub follows : c.generation ≡ row.generation + 1
 
-row_free : (rows : List Row) (c : CtxId) (s : Slot) → slice_get (slots_of rows) c.slot ≡ Some s → is_free s ≡ true → c.generation ≡ s.generation + 1 → RowFree rows c
+row_free : (rows : List Row) (c : CtxId) (s : Slot) → slice_get (slots_of rows) c.slot ≡ Some s → is_free s ≡ true
+    → c.generation ≡ s.generation + 1 → RowFree rows c
 row_free rows c s there free follows =
     let r = slice_get-some rows c.slot (omega (arith, slice_get_within (slots_of rows) c.slot s there, length-map rows slot_of)) in
-    let is : slot_of r.0 ≡ s = same_Some (slot_of r.0) s (sym (ap (λ (o : Option Row). option_map slot_of o) r.1) ∙ sym (slice_get-map slot_of rows c.slot) ∙ there) in
+    let is : slot_of r.0 ≡ s = same_Some (slot_of r.0) s (sym (ap (λ (o : Option Row). option_map slot_of o) r.1)
+    ∙ sym (slice_get-map slot_of rows c.slot) ∙ there) in
     record {
       row = r.0;
       there = r.1;
@@ -116,11 +127,20 @@ module _ (rows rows' : List Row) (c : CtxId) (r : Row) (put : IsPut rows rows' r
       elim put.0 [
         | inl first ↦
             let past : c.slot ≡ length rows = first.0 ∙ length-map rows slot_of in
-            inl (past, first.1, put.1 ∙ ap (λ (b : Bool). cond b (rows ++ (fresh_row c r) ∷ []) (set rows c.slot (fresh_row c r))) (eq-eqb c.slot (length rows) past))
+            inl (
+              past,
+              first.1,
+              put.1 ∙ ap (λ (b : Bool). cond b (rows ++ (fresh_row c r) ∷ []) (set rows c.slot (fresh_row c r)))
+                  (eq-eqb c.slot (length rows) past),
+            )
         | inr again ↦
             let n = row_free rows c again.0 again.1 again.2 again.3 in
             let within = slice_get_within rows c.slot n.row n.there in
-            inr (n, put.1 ∙ ap (λ (b : Bool). cond b (rows ++ (fresh_row c r) ∷ []) (set rows c.slot (fresh_row c r))) (ne_eqb c.slot (length rows) (λ is. omega (arith, within, is))))
+            inr (
+              n,
+              put.1 ∙ ap (λ (b : Bool). cond b (rows ++ (fresh_row c r) ∷ []) (set rows c.slot (fresh_row c r)))
+                  (ne_eqb c.slot (length rows) (λ is. omega (arith, within, is))),
+            )
       ]
 
   pub account_put : {tally : Tally} → IsAccount (lives_of rows) tally → IsAccount (lives_of rows') (begun tally)
@@ -154,7 +174,8 @@ module _ (rows rows' : List Row) (c : CtxId) (r : Row) (put : IsPut rows rows' r
       ]
 
   -- a new slot has no seat
-  pub seats_put_first : {seats seats' : List (Option Seat)} → c.slot ≡ length rows → seats ≡ seats_of rows → seats' ≡ seats ++ None ∷ [] → seats' ≡ seats_of rows'
+  pub seats_put_first : {seats seats' : List (Option Seat)} → c.slot ≡ length rows → seats ≡ seats_of rows
+      → seats' ≡ seats ++ None ∷ [] → seats' ≡ seats_of rows'
   seats_put_first {seats} past seated more =
       elim put_by [
         | inl first ↦

@@ -51,7 +51,8 @@ context_at-rows rows c = grind (arith, nat_tests, slice_get-map slot_of rows c.s
 
 -- ---- what completions carry
 
-pub carried_row : (rows : List Row) (hands : List (List CtxId)) (due : List CtxId) (cleaning : List (Option CtxId)) (leaks : ℕ) (left : List (List CtxId)) (c : CtxId)
+pub carried_row : (rows : List Row) (hands : List (List CtxId)) (due : List CtxId) (cleaning : List (Option CtxId)) (leaks : ℕ)
+    (left : List (List CtxId)) (c : CtxId)
     → carried_of (kept_in rows hands due cleaning leaks left) c ≡ unwrap_or (option_map (λ (r : Row). r.carried) (row_at rows c)) 0
 unfolding carried_of row_at
 carried_row rows hands due cleaning leaks left c =
@@ -92,7 +93,8 @@ module _ {rows : List Row} {c : CtxId} (i : InRow rows c) where
   -- ---- it is changed
 
   -- the stored counts, from what becomes of that row
-  pub stored_changed : (g : Row → Row) (d : CtxId) → (g i.row).generation ≡ i.row.generation → stored (updated g rows c.slot) d ≡ cond (is_id d c) (count_of_row (row_in c (g i.row))) (stored rows d)
+  pub stored_changed : (g : Row → Row) (d : CtxId) → (g i.row).generation ≡ i.row.generation
+      → stored (updated g rows c.slot) d ≡ cond (is_id d c) (count_of_row (row_in c (g i.row))) (stored rows d)
   unfolding row_at
   stored_changed g d same =
       grind (arith, nat_tests, i.named, same, i.there, updated-same g rows c.slot i.row i.there, updated-other g rows c.slot d.slot, is_id-same d c)
@@ -119,7 +121,8 @@ row_of_context rows c has = at_row (row_at rows c) refl
     at_row (Some r) is = in_row rows c r is
 
 -- of the state under its other name
-pub row_named : {hands : List (List CtxId)} {due : List CtxId} {cleaning : List (Option CtxId)} {leaks : ℕ} {left : List (List CtxId)} {now : ContextsKept} (rows : List Row) (c : CtxId)
+pub row_named : {hands : List (List CtxId)} {due : List CtxId} {cleaning : List (Option CtxId)} {leaks : ℕ} {left : List (List CtxId)}
+    {now : ContextsKept} (rows : List Row) (c : CtxId)
     → kept_in rows hands due cleaning leaks left ≡ now → is_some (context_at now.table.slots c) ≡ true → InRow rows c
 row_named rows c same has = row_of_context rows c (subst (λ (k : ContextsKept). is_some (context_at k.table.slots c) ≡ true) (sym same) has)
 
@@ -138,19 +141,26 @@ unfolding holder
 holder-rows rows owner object = ap (option_map (id_at (slots_of rows))) (position-map (has_link owner object) slot_of rows)
 
 -- the id that a slot was given last
-pub id_of_row : (rows : List Row) (k g : ℕ) → k < length rows → ((d : Row) → g ≡ (get_or rows k d).generation) → record { slot = k; generation = g } ≡ id_at (slots_of rows) k
+pub id_of_row : (rows : List Row) (k g : ℕ) → k < length rows → ((d : Row) → g ≡ (get_or rows k d).generation)
+    → record { slot = k; generation = g } ≡ id_at (slots_of rows) k
 id_of_row rows k g within is =
     let r = slice_get-some rows k within in
     let there = slice_get-map slot_of rows k ∙ ap (option_map slot_of) r.1 in
     let generation = is r.0 ∙ ap (λ (q : Row). q.generation) (get_or_from_slice_get rows k r.0 r.0 r.1) in
-    ap (λ (g : ℕ). record { slot = k; generation = g }) (generation ∙ sym (ap (λ (o : Option Slot). unwrap_or (option_map (λ (s : Slot). s.generation) o) 0) there))
+    ap (λ (g : ℕ). record { slot = k; generation = g }) (generation
+    ∙ sym (ap (λ (o : Option Slot). unwrap_or (option_map (λ (s : Slot). s.generation) o) 0) there))
 
 -- ---- what readers are told
 
 pub born_rows : (rows : List Row) → sum_by (λ (l : Life). l.generation + 1) (lives_of rows) ≡ born (slots_of rows)
 born_rows [] = refl
 born_rows (r ∷ rows) =
-    omega (arith, sum_by-cons (λ (s : Slot). s.generation + 1) (slot_of r) (slots_of rows), sum_by-cons (λ (l : Life). l.generation + 1) (life_of r) (lives_of rows), born_rows rows)
+    omega (
+      arith,
+      sum_by-cons (λ (s : Slot). s.generation + 1) (slot_of r) (slots_of rows),
+      sum_by-cons (λ (l : Life). l.generation + 1) (life_of r) (lives_of rows),
+      born_rows rows,
+    )
 
 pub cleaned_rows : (rows : List Row) → cleaned_count (slots_of rows) + count_by is_living (lives_of rows) ≡ born (slots_of rows)
 cleaned_rows [] = refl
@@ -162,4 +172,9 @@ cleaned_rows (r ∷ rows) =
 pub open_rows : (rows : List Row) (owner : Owner) → count_by (λ (r : Row). is_open owner (slot_of r).context) rows ≡ open_of (slots_of rows) owner
 open_rows [] owner = refl
 open_rows (r ∷ rows) owner =
-    omega (arith, sum_by-cons (λ (s : Slot). one (is_open owner s.context)) (slot_of r) (slots_of rows), sum_by-cons (λ (q : Row). one (is_open owner (slot_of q).context)) r rows, open_rows rows owner)
+    omega (
+      arith,
+      sum_by-cons (λ (s : Slot). one (is_open owner s.context)) (slot_of r) (slots_of rows),
+      sum_by-cons (λ (q : Row). one (is_open owner (slot_of q).context)) r rows,
+      open_rows rows owner,
+    )

@@ -35,7 +35,8 @@ pub holder_seat : {seats : List (Option Seat)} (owner : Owner) (object : Object)
     → option_map (id_at (slots_of rows)) o ≡ holder (slots_of rows) owner object
 holder_seat {seats} owner object rows o seated is =
     let test = is_seat (seat_of owner object) in
-    let alike : position (λ (r : Row). links owner object (slot_of r).context) rows ≡ position (λ (r : Row). test (seat_in r)) rows = λ i. position (λ (r : Row). seat_links owner object r i) rows in
+    let alike : position (λ (r : Row). links owner object (slot_of r).context) rows ≡ position (λ (r : Row). test (seat_in r)) rows =
+    λ i. position (λ (r : Row). seat_links owner object r i) rows in
     ap (option_map (id_at (slots_of rows))) (is ∙ ap (position test) seated ∙ position-map test seat_in rows ∙ sym alike) ∙ sym (holder-rows rows owner object)
 
 -- a context with no link has no seat
@@ -65,7 +66,8 @@ module _ {rows : List Row} {seats : List (Option Seat)} {c : CtxId} (i : InRow r
   pub seat_within : c.slot < length seats
   seat_within = omega (arith, ap (λ (s : List (Option Seat)). length s) seated, length-map rows seat_in, within_rows i)
 
-  pub seat_free : {hands : List (List CtxId)} {due : List CtxId} {cleaning : List (Option CtxId)} {leaks : ℕ} {left : List (List CtxId)} {now : ContextsKept} {x : Context}
+  pub seat_free : {hands : List (List CtxId)} {due : List CtxId} {cleaning : List (Option CtxId)} {leaks : ℕ}
+      {left : List (List CtxId)} {now : ContextsKept} {x : Context}
       → kept_in rows hands due cleaning leaks left ≡ now → context_at now.table.slots c ≡ Some x → x.link ≡ None → get_or seats c.slot None ≡ None
   seat_free same there bare =
       let none : link_count (context_at (slots_of rows) c) ≡ 0 =

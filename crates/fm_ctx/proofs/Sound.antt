@@ -34,7 +34,8 @@ pub sound_as : {rows rows' : List Row} {kept kept' : ContextsKept} → rows ≡ 
 sound_as same_rows same_kept = subst (λ (s : List Row × ContextsKept). IsSound s.0 s.1) (λ i. (sym same_rows i, sym same_kept i))
 
 -- a context without references in the slot of one that has some
-not_due : {carried : CtxId → ℕ} {t : ContextTable} (c : CtxId) → IsLawful carried t → 0 < count_in carried t c → (d : CtxId) → 0 < references t.due d → d.slot ≡ c.slot → ⊥
+not_due : {carried : CtxId → ℕ} {t : ContextTable} (c : CtxId) → IsLawful carried t → 0 < count_in carried t c → (d : CtxId)
+    → 0 < references t.due d → d.slot ≡ c.slot → ⊥
 unfolding places
 not_due {carried} {t} c law live d some is =
     let waits : (is_some (context_at t.slots d) ≡ true) × (count_in carried t d ≡ 0) = grind (arith, nat_tests, law.waits d) in
@@ -94,7 +95,8 @@ module _ {rows : List Row} {kept : ContextsKept} (s : IsSound rows kept) where
 
   -- ---- a change of one row
 
-  sound_by : (g : Row → Row) {c : CtxId} (i : InRow rows c) (kept' : ContextsKept) → (g i.row).generation ≡ i.row.generation → IsLawful (carried_of kept') kept'.table
+  sound_by : (g : Row → Row) {c : CtxId} (i : InRow rows c) (kept' : ContextsKept) → (g i.row).generation ≡ i.row.generation
+      → IsLawful (carried_of kept') kept'.table
       → ((d : CtxId) → cond (is_id d c) (count_of_row (row_in c (g i.row))) (stored rows d) ≡ count_in (carried_of kept') kept'.table d)
       → ((d : CtxId) → carried_of kept' d ≤ 2 ^ 32)
       → IsSound (updated g rows c.slot) kept'
@@ -198,7 +200,8 @@ module _ {rows : List Row} {kept : ContextsKept} (s : IsSound rows kept) where
   sound_rewritten g {c} i bytes keeps same =
       let count = row_count i in
       let open_yet = ap (λ (l : Life). l.is_cleaned) keeps in
-      sound_step g i (rewritten kept.table c bytes) (ap (λ (l : Life). l.generation) keeps) (there_changed (with_body bytes) kept.table.slots c) (body_keeps c bytes s.lawful)
+      sound_step g i (rewritten kept.table c bytes) (ap (λ (l : Life). l.generation) keeps)
+      (there_changed (with_body bytes) kept.table.slots c) (body_keeps c bytes s.lawful)
       (λ d. grind (arith, nat_tests, s.counted d, links_kept (with_body bytes) kept.table.slots c (λ x. refl) d, is_id-same d c))
 
   -- a worker cleans up
@@ -210,7 +213,8 @@ module _ {rows : List Row} {kept : ContextsKept} (s : IsSound rows kept) where
       let count = row_count i in
       let open_yet = ap (λ (l : Life). l.is_cleaned) keeps in
       subst (λ o. IsSound (updated g rows c.slot) (record kept { table = taken_of kept.table w o })) (sym first)
-      (sound_step g i (taken_due kept.table w c) (ap (λ (l : Life). l.generation) keeps) (there_changed emptied kept.table.slots c) (take_due_keeps w c s.lawful worker first idle)
+      (sound_step g i (taken_due kept.table w c) (ap (λ (l : Life). l.generation) keeps) (there_changed emptied kept.table.slots c)
+      (take_due_keeps w c s.lawful worker first idle)
       (λ d. grind (arith, nat_tests, s.counted d, links_kept emptied kept.table.slots c (λ x. refl) d, is_id-same d c)))
 
   pub sound_cleaned : (w : ℕ) {c : CtxId} (i : InRow rows c) → w < 48 → cleaning_of kept.table.cleaning w ≡ Some c
@@ -235,6 +239,7 @@ module _ {rows : List Row} {kept : ContextsKept} (s : IsSound rows kept) where
       }
 
 -- the row of the context that is due longest
-pub due_row : {rows : List Row} {hands : List (List CtxId)} {due rest : List CtxId} {cleaning : List (Option CtxId)} {leaks : ℕ} {left : List (List CtxId)} (c : CtxId)
+pub due_row : {rows : List Row} {hands : List (List CtxId)} {due rest : List CtxId} {cleaning : List (Option CtxId)} {leaks : ℕ}
+    {left : List (List CtxId)} (c : CtxId)
     → IsSound rows (kept_in rows hands due cleaning leaks left) → due ≡ c ∷ rest → InRow rows c
 due_row {rows} c s first = row_of_context rows c (due_there c s.lawful (ap (λ (ids : List CtxId). slice_get ids 0) first))

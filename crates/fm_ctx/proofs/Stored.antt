@@ -110,7 +110,8 @@ pub slot_within : (slots : List (Option Entry)) (k : ℕ) (e : Entry) → get_or
 slot_within slots k e there = grind (arith, get_or_past slots k None)
 
 -- it is changed
-pub row_changed : (slots : List (Option Entry)) (lasts : List ℕ) (k : ℕ) → IsOpenAt (rows_in slots lasts) k → (e e' : Entry) (f : Row → Row) → get_or slots k None ≡ Some e
+pub row_changed : (slots : List (Option Entry)) (lasts : List ℕ) (k : ℕ) → IsOpenAt (rows_in slots lasts) k
+    → (e e' : Entry) (f : Row → Row) → get_or slots k None ≡ Some e
     → e'.is_retired ≡ e.is_retired → ((g : ℕ) → open_row g e' ≡ f (open_row g e)) → rows_in (set slots k (Some e')) lasts ≡ updated f (rows_in slots lasts) k
 row_changed slots lasts k o e e' f there keeps changes =
     let i = entry_at slots lasts k o in
@@ -120,7 +121,8 @@ row_changed slots lasts k o e e' f there keeps changes =
     let opens : e'.is_retired ≡ false = keeps ∙ ap (λ (x : Entry). x.is_retired) (sym same) ∙ i.opens in
     let shown : row_by g (get_or (set slots k (Some e')) k None) ≡ f (open_row g i.entry) =
     ap (row_by g) now ∙ ap (λ (b : Bool). cond b (vacant_row g) (open_row g e')) opens ∙ changes g ∙ ap (λ (x : Entry). f (open_row g x)) (sym same) in
-    ap (rows_in (set slots k (Some e'))) (sym (set-get_or lasts k 0)) ∙ rows_set slots (set slots k (Some e')) lasts k g (λ j apart. get_or-set_other slots k j (Some e') None apart)
+    ap (rows_in (set slots k (Some e'))) (sym (set-get_or lasts k 0))
+    ∙ rows_set slots (set slots k (Some e')) lasts k g (λ j apart. get_or-set_other slots k j (Some e') None apart)
     ∙ ap (set (rows_in slots lasts) k) shown ∙ sym (updated_there f (rows_in slots lasts) k (open_row g i.entry) i.row)
 
 -- it is cleaned: the slab has it no more, or keeps it as retired
@@ -152,17 +154,20 @@ stored_set {slots} {slots'} {lasts} k is within fits others = record {
 }
 
 -- a context is changed, and is still not retired
-pub entry_kept : (slots : List (Option Entry)) {lasts : List ℕ} → IsStored slots lasts → (k : ℕ) (e e' : Entry) → get_or slots k None ≡ Some e → e'.is_retired ≡ e.is_retired
+pub entry_kept : (slots : List (Option Entry)) {lasts : List ℕ} → IsStored slots lasts → (k : ℕ) (e e' : Entry)
+    → get_or slots k None ≡ Some e → e'.is_retired ≡ e.is_retired
     → IsStored (set slots k (Some e')) lasts
 entry_kept slots {lasts} is k e e' there keeps =
     let within = given_now is k e there in
     let now = get_or-set_same slots k (Some e') None (slot_within slots k e there) in
     let fits : FitsLast (get_or lasts k 0) (Some e) = subst (FitsLast (get_or lasts k 0)) there (is.fits k within) in
-    stored_set k is within (subst (FitsLast (get_or lasts k 0)) (sym now) (fits.0, λ retired. fits.1 (sym keeps ∙ retired))) (λ j apart. get_or-set_other slots k j (Some e') None apart)
+    stored_set k is within (subst (FitsLast (get_or lasts k 0)) (sym now) (fits.0, λ retired. fits.1 (sym keeps ∙ retired)))
+    (λ j apart. get_or-set_other slots k j (Some e') None apart)
 
 -- ---- a context gets a slot
 
-module _ {slots : List (Option Entry)} (slots' : List (Option Entry)) {lasts lasts' : List ℕ} (is : IsStored slots lasts) (k g : ℕ) (e : Entry) (free : get_or slots k None ≡ None) (next : IsNextOf lasts lasts' k g)
+module _ {slots : List (Option Entry)} (slots' : List (Option Entry)) {lasts lasts' : List ℕ} (is : IsStored slots lasts) (k g : ℕ)
+    (e : Entry) (free : get_or slots k None ≡ None) (next : IsNextOf lasts lasts' k g)
     (here : get_or slots' k None ≡ Some e) (others : (j : ℕ) → j ≢ k → get_or slots' j None ≡ get_or slots j None) (opens : e.is_retired ≡ false) where
   opened : (h : ℕ) → row_by h (get_or slots' k None) ≡ open_row h e
   opened h = ap (row_by h) here ∙ ap (λ (b : Bool). cond b (vacant_row h) (open_row h e)) opens
@@ -177,7 +182,8 @@ module _ {slots : List (Option Entry)} (slots' : List (Option Entry)) {lasts las
         | inr first ↦
             let others' : (j : ℕ) → j ≢ length lasts → get_or slots' j None ≡ get_or slots j None = λ j apart. others j (λ at. apart (at ∙ first.0)) in
             ap (rows_in slots') first.3 ∙ rows_push slots slots' lasts 0 others'
-            ∙ ap₂ (λ (n h : ℕ). rows_in slots lasts ++ row_by h (get_or slots' n None) ∷ []) (sym first.0) (sym first.2) ∙ ap (λ (r : Row). rows_in slots lasts ++ r ∷ []) (opened g)
+            ∙ ap₂ (λ (n h : ℕ). rows_in slots lasts ++ row_by h (get_or slots' n None) ∷ []) (sym first.0) (sym first.2)
+            ∙ ap (λ (r : Row). rows_in slots lasts ++ r ∷ []) (opened g)
             ∙ sym (ap (λ (b : Bool). cond b (rows_in slots lasts ++ open_row g e ∷ []) (set (rows_in slots lasts) k (open_row g e)))
             (eq-eqb k (length (rows_in slots lasts)) (first.0 ∙ sym (length-rows slots lasts))))
       ]
@@ -188,15 +194,23 @@ module _ {slots : List (Option Entry)} (slots' : List (Option Entry)) {lasts las
       elim next [
         | inl again ↦
             let h = get_or lasts k 0 in
-            let row : slice_get (rows_in slots lasts) k ≡ Some (vacant_row h) = row_there slots lasts k again.0 ∙ ap (λ (o : Option Entry). Some (row_by h o)) free in
+            let row : slice_get (rows_in slots lasts) k ≡ Some (vacant_row h) = row_there slots lasts k again.0
+            ∙ ap (λ (o : Option Entry). Some (row_by h o)) free in
             let young : h < last_generation = subst (FitsLast h) free (is.fits k again.0) in
-            inr (slot_of (vacant_row h), slice_get-map slot_of (rows_in slots lasts) k ∙ ap (λ (o : Option Row). option_map slot_of o) row, grind (arith, nat_tests, young), again.1)
+            inr (
+              slot_of (vacant_row h),
+              slice_get-map slot_of (rows_in slots lasts) k
+                  ∙ ap (λ (o : Option Row). option_map slot_of o) row,
+              grind (arith, nat_tests, young),
+              again.1,
+            )
         | inr first ↦ inl (first.0 ∙ sym many, first.2, omega (arith, first.1, many))
       ]
 
   pub stored_put : IsStored slots' lasts'
   stored_put =
-      let kept : (h : ℕ) → h ≤ last_generation → FitsLast h (get_or slots' k None) = λ h young. subst (FitsLast h) (sym here) (young, λ retired. absurd (true≢false (sym retired ∙ opens))) in
+      let kept : (h : ℕ) → h ≤ last_generation → FitsLast h (get_or slots' k None) =
+      λ h young. subst (FitsLast h) (sym here) (young, λ retired. absurd (true≢false (sym retired ∙ opens))) in
       elim next [
         | inl again ↦
             let here_now : get_or lasts' k 0 ≡ g = ap (λ (l : List ℕ). get_or l k 0) again.2 ∙ get_or-set_same lasts k g 0 again.0 in
@@ -206,10 +220,12 @@ module _ {slots : List (Option Entry)} (slots' : List (Option Entry)) {lasts las
               past = λ j past. others j (λ same. omega (arith, past, longer, again.0, same)) ∙ is.past j (omega (arith, past, longer));
               fits = λ j under.
                   elim (cases_eq j k) [
-                    | inl at ↦ subst (λ n. FitsLast (get_or lasts' n 0) (get_or slots' n None)) (sym at) (kept (get_or lasts' k 0) (omega (arith, here_now, again.1, young)))
+                    | inl at ↦ subst (λ n. FitsLast (get_or lasts' n 0) (get_or slots' n None)) (sym at)
+                        (kept (get_or lasts' k 0) (omega (arith, here_now, again.1, young)))
                     | inr apart ↦
                         let same : get_or lasts' j 0 ≡ get_or lasts j 0 = ap (λ (l : List ℕ). get_or l j 0) again.2 ∙ get_or-set_other lasts k j g 0 apart in
-                        subst (λ (h : ℕ). FitsLast h (get_or slots' j None)) (sym same) (subst (FitsLast (get_or lasts j 0)) (sym (others j apart)) (is.fits j (omega (arith, under, longer))))
+                        subst (λ (h : ℕ). FitsLast h (get_or slots' j None)) (sym same)
+                        (subst (FitsLast (get_or lasts j 0)) (sym (others j apart)) (is.fits j (omega (arith, under, longer))))
                   ];
               few = omega (arith, longer, is.few);
             }
@@ -225,7 +241,8 @@ module _ {slots : List (Option Entry)} (slots' : List (Option Entry)) {lasts las
                         let within : j < length lasts =
                         elim (cases_lt j (length lasts)) [ inl below ↦ below | inr over ↦ absurd (apart (omega (arith, under, longer, first.0, over))) ] in
                         let same : get_or lasts' j 0 ≡ get_or lasts j 0 = ap (λ (l : List ℕ). get_or l j 0) first.3 ∙ front_read lasts j within in
-                        subst (λ (h : ℕ). FitsLast h (get_or slots' j None)) (sym same) (subst (FitsLast (get_or lasts j 0)) (sym (others j apart)) (is.fits j within))
+                        subst (λ (h : ℕ). FitsLast h (get_or slots' j None)) (sym same)
+                        (subst (FitsLast (get_or lasts j 0)) (sym (others j apart)) (is.fits j within))
                   ];
               few = omega (arith, longer, first.1);
             }
@@ -260,7 +277,13 @@ free_counted slots (g ∷ lasts) past fits =
     let rest = slots_of (rows_in (drop 1 slots) lasts) in
     let later = free_counted (drop 1 slots) lasts (λ k over. rest_read slots k ∙ past (suc k) (omega (arith, over)))
     (λ k under. subst (FitsLast (get_or lasts k 0)) (sym (rest_read slots k)) (fits (suc k) (omega (arith, under)))) in
-    omega (arith, later, first_counted slots, sum_by-cons (λ (s : Slot). one (is_free s)) (slot_of row) rest, free_or_not g (get_or slots 0 None) (fits 0 (omega arith)))
+    omega (
+      arith,
+      later,
+      first_counted slots,
+      sum_by-cons (λ (s : Slot). one (is_free s)) (slot_of row) rest,
+      free_or_not g (get_or slots 0 None) (fits 0 (omega arith)),
+    )
 
 none_free : (slots : List Slot) → count_by is_free slots ≡ 0 → has_free_slot slots ≡ false
 none_free slots none =
@@ -310,7 +333,8 @@ module _ (slots : List (Option Entry)) (lasts : List ℕ) {now : List Row} (same
 
   pub row_now : (e : Entry) (d : Row) → get_or slots k None ≡ Some e → get_or now k d ≡ open_row (get_or lasts k 0) e
   row_now e d there =
-      ap (λ (rows : List Row). get_or rows k d) (sym same) ∙ get_or_from_slice_get (rows_in slots lasts) k (open_row (get_or lasts k 0) entry_now.entry) d entry_now.row
+      ap (λ (rows : List Row). get_or rows k d) (sym same)
+      ∙ get_or_from_slice_get (rows_in slots lasts) k (open_row (get_or lasts k 0) entry_now.entry) d entry_now.row
       ∙ ap (open_row (get_or lasts k 0)) (same_Some entry_now.entry e (sym entry_now.there ∙ there))
 
   pub changed_now : (e e' : Entry) (f : Row → Row) → get_or slots k None ≡ Some e → e'.is_retired ≡ e.is_retired → ((g : ℕ) → open_row g e' ≡ f (open_row g e))
@@ -322,7 +346,8 @@ module _ (slots : List (Option Entry)) (lasts : List ℕ) {now : List Row} (same
   cleaned_now slots' gone others = row_cleaned slots slots' lasts k opens_here gone others ∙ ap (λ (rows : List Row). updated cleaned_row rows k) same
 
 -- the generation of a slot
-pub generation_read : (slots : List (Option Entry)) (lasts : List ℕ) {now : List Row} → rows_in slots lasts ≡ now → (k : ℕ) (d : Row) → k < length now → (g : ℕ) → g ≡ get_or lasts k g
+pub generation_read : (slots : List (Option Entry)) (lasts : List ℕ) {now : List Row} → rows_in slots lasts ≡ now → (k : ℕ) (d : Row)
+    → k < length now → (g : ℕ) → g ≡ get_or lasts k g
     → g ≡ (get_or now k d).generation
 generation_read slots lasts {now} same k d within g read =
     let under : k < length lasts = omega (arith, within, length-rows slots lasts, ap (λ (rows : List Row). length rows) same) in
@@ -338,7 +363,14 @@ named_now {slots} {lasts} {now} is same c =
     elim (cases_lt c.slot (length lasts)) [
       | inl within ↦ grind (arith, nat_tests, row_there slots lasts c.slot within, ap (λ (rows : List Row). slice_get rows c.slot) same)
       | inr past ↦
-          grind (arith, nat_tests, is.past c.slot past, ap (λ (rows : List Row). slice_get rows c.slot) same, slice_get_past (rows_in slots lasts) c.slot, length-rows slots lasts)
+          grind (
+            arith,
+            nat_tests,
+            is.past c.slot past,
+            ap (λ (rows : List Row). slice_get rows c.slot) same,
+            slice_get_past (rows_in slots lasts) c.slot,
+            length-rows slots lasts,
+          )
     ]
 
 -- the context that a slot shows
@@ -347,7 +379,8 @@ pub shown_at : (slots : List (Option Entry)) (lasts : List ℕ) {now : List Row}
 shown_at slots lasts {now} same k d within =
     let under : k < length lasts = omega (arith, within, length-rows slots lasts, ap (λ (rows : List Row). length rows) same) in
     ap (λ (rows : List Row). (slot_of (get_or rows k d)).context) (sym same)
-    ∙ ap (λ (r : Row). (slot_of r).context) (get_or_from_slice_get (rows_in slots lasts) k (row_by (get_or lasts k 0) (get_or slots k None)) d (row_there slots lasts k under))
+    ∙ ap (λ (r : Row). (slot_of r).context) (get_or_from_slice_get (rows_in slots lasts) k
+    (row_by (get_or lasts k 0) (get_or slots k None)) d (row_there slots lasts k under))
     ∙ shown_by (get_or lasts k 0) (get_or slots k None)
   where
     shown_by : (g : ℕ) (o : Option Entry) → (slot_of (row_by g o)).context ≡ option_and_then context_in_entry o
@@ -355,7 +388,8 @@ shown_at slots lasts {now} same k d within =
     shown_by g (Some e) = elim (cases_Bool e.is_retired) [ inl is ↦ grind (arith, nat_tests, is) | inr is ↦ grind (arith, nat_tests, is) ]
 
 -- what an id of a slot that has an entry names
-pub named_at : {slots : List (Option Entry)} {lasts : List ℕ} {now : List Row} → IsStored slots lasts → rows_in slots lasts ≡ now → (c : CtxId) (e : Entry) → get_or slots c.slot None ≡ Some e
+pub named_at : {slots : List (Option Entry)} {lasts : List ℕ} {now : List Row} → IsStored slots lasts → rows_in slots lasts ≡ now
+    → (c : CtxId) (e : Entry) → get_or slots c.slot None ≡ Some e
     → named_row c (cond e.is_retired None (cond (c.generation == get_or lasts c.slot 0) (Some e) None)) ≡ row_at now c
 named_at {slots} {lasts} is same c e there =
     ap (λ (o : Option Entry). named_row c (found_by c (get_or lasts c.slot 0) o)) (sym there) ∙ named_now is same c
@@ -363,14 +397,17 @@ named_at {slots} {lasts} is same c e there =
 -- whether an id was given: its slot has had that generation
 given_by_row : (slots : List (Option Entry)) (lasts : List ℕ) {now : List Row} → rows_in slots lasts ≡ now → (c : CtxId)
     → was_given (slots_of now) c ≡ was_given_by c (option_map slot_of (slice_get (rows_in slots lasts) c.slot))
-given_by_row slots lasts {now} same c = ap (λ (rows : List Row). was_given (slots_of rows) c) (sym same) ∙ ap (was_given_by c) (slice_get-map slot_of (rows_in slots lasts) c.slot)
+given_by_row slots lasts {now} same c = ap (λ (rows : List Row). was_given (slots_of rows) c) (sym same)
+    ∙ ap (was_given_by c) (slice_get-map slot_of (rows_in slots lasts) c.slot)
 
 pub given_past : (slots : List (Option Entry)) (lasts : List ℕ) {now : List Row} → rows_in slots lasts ≡ now → (c : CtxId) → length lasts ≤ c.slot
     → false ≡ was_given (slots_of now) c
 given_past slots lasts same c past =
-    sym (given_by_row slots lasts same c ∙ ap (λ (o : Option Row). was_given_by c (option_map slot_of o)) (slice_get_past (rows_in slots lasts) c.slot (omega (arith, past, length-rows slots lasts))))
+    sym (given_by_row slots lasts same c ∙ ap (λ (o : Option Row). was_given_by c (option_map slot_of o))
+    (slice_get_past (rows_in slots lasts) c.slot (omega (arith, past, length-rows slots lasts))))
 
-pub given_here : (slots : List (Option Entry)) (lasts : List ℕ) {now : List Row} → rows_in slots lasts ≡ now → (c : CtxId) (g : ℕ) → c.slot < length lasts → g ≡ get_or lasts c.slot g
+pub given_here : (slots : List (Option Entry)) (lasts : List ℕ) {now : List Row} → rows_in slots lasts ≡ now → (c : CtxId) (g : ℕ)
+    → c.slot < length lasts → g ≡ get_or lasts c.slot g
     → nat_le c.generation g ≡ was_given (slots_of now) c
 given_here slots lasts same c g within read =
     let last = row_generation (get_or lasts c.slot 0) (get_or slots c.slot None) in
@@ -378,11 +415,13 @@ given_here slots lasts same c g within read =
     ∙ sym (given_by_row slots lasts same c ∙ ap (λ (o : Option Row). was_given_by c (option_map slot_of o)) (row_there slots lasts c.slot within))
 
 -- how many of the first slots pass a test
-pub counted_more : (p : Row → Bool) (rows : List Row) (k : ℕ) (d : Row) → k < length rows → count_by p (take (k + 1) rows) ≡ count_by p (take k rows) + one (p (get_or rows k d))
+pub counted_more : (p : Row → Bool) (rows : List Row) (k : ℕ) (d : Row) → k < length rows
+    → count_by p (take (k + 1) rows) ≡ count_by p (take k rows) + one (p (get_or rows k d))
 counted_more p rows k d within = ap (count_by p) (take_more rows k d within) ∙ count_by-push p (take k rows) (get_or rows k d)
 
 -- whether a generation follows that of a slot
-pub young_here : {slots : List (Option Entry)} {lasts : List ℕ} → IsStored slots lasts → (k g : ℕ) (e : Entry) (next : Option ℕ) → get_or slots k None ≡ Some e → g ≡ get_or lasts k g
+pub young_here : {slots : List (Option Entry)} {lasts : List ℕ} → IsStored slots lasts → (k g : ℕ) (e : Entry) (next : Option ℕ)
+    → get_or slots k None ≡ Some e → g ≡ get_or lasts k g
     → next ≡ (if g == last_generation then None else Some (g + 1)) → true ≡ is_some next → get_or lasts k 0 < last_generation
 young_here {slots} {lasts} is k g e next there read follows some =
     let within = given_now is k e there in

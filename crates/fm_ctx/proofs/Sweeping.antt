@@ -45,7 +45,13 @@ module _ (carried : CtxId → ℕ) (t : ContextTable) (links : Links) (k : ℕ) 
     where
       at_slot : (o : Option Slot) → slice_get t.slots k ≡ o → passes (link_test links) (context_of_slot swept_slots k) ≡ false
       at_slot None there = grind (arith, nat_tests)
-      at_slot (Some s) there = grind (arith, nat_tests, updated-same (changed_slot (option_map (with_link None)) (id_at t.slots k)) t.slots k s there, bare_fails links)
+      at_slot (Some s) there = grind (
+        arith,
+        nat_tests,
+        updated-same (changed_slot (option_map (with_link None)) (id_at t.slots k))
+            t.slots k s there,
+        bare_fails links,
+      )
 
 -- ---- some slots
 
@@ -83,7 +89,8 @@ sweep_more {old} {kept} k links so_far = split (passes test (context_of_slot t.s
         let after = unlinked (carried_of kept) t c in
         let step = settles_by_one (carried_of kept) t after c refl counts in
         record {
-          slots = map_updated (swept_slot test) (changed_slot (option_map (with_link None)) c) (λ s. s) t.slots k (λ s there. grind (arith, nat_tests, bare_fails links))
+          slots = map_updated (swept_slot test) (changed_slot (option_map (with_link None)) c) (λ s. s) t.slots k
+              (λ s there. grind (arith, nat_tests, bare_fails links))
               ∙ updated_nothing (map (swept_slot test) t.slots) k ∙ so_far.slots;
           there = λ d. there_changed (with_link None) t.slots c d ∙ so_far.there d;
           rest = ap (λ (k : ContextsKept). record k { table = record k.table { slots = after.slots; due = after.due } }) so_far.rest;
@@ -147,7 +154,11 @@ upto_more {k = k} s = where_more (λ j. j < k + 1) k s (λ j below apart. s.done
 pub upto_all : {links : Links} {old new : ContextsKept} {k : ℕ} → SweptWhere links old new (λ j. j < k) → length new.table.slots ≤ k
     → Sweeps (carried_of old) (link_test links) old.table new.table
 upto_all {links} {old} {new} {k} s all =
-    sweep_all s.swept (λ j. elim (cases_lt j k) [ inl below ↦ s.done j below | inr past ↦ nothing_past (link_test links) new.table.slots j (omega (arith, past, all)) ])
+    sweep_all s.swept (λ j. elim (cases_lt j k) [
+      | inl below ↦ s.done j below
+      | inr past ↦ nothing_past
+          (link_test links) new.table.slots j (omega (arith, past, all))
+    ])
 
 -- ---- down a chain
 
@@ -195,7 +206,13 @@ module _ {object : Object} {old kept : ContextsKept} {next : Option ℕ} (d : Sw
 
   pub down_all : next ≡ None → Sweeps (carried_of old) (link_test (To object)) old.table kept.table
   down_all is =
-      sweep_all d.down.swept (λ k. grind (arith, d.down.done k, last_none (links_on kept.table.slots (chain_to object)) d.upto (sym d.next_is ∙ is) k, off_chain object (context_of_slot kept.table.slots k)))
+      sweep_all d.down.swept (λ k. grind (
+        arith,
+        d.down.done k,
+        last_none (links_on kept.table.slots (chain_to object)) d.upto
+            (sym d.next_is ∙ is) k,
+        off_chain object (context_of_slot kept.table.slots k),
+      ))
 
 -- a slot's seat is the seat of its context
 seat_read : (rows : List Row) (k : ℕ) → get_or (seats_of rows) k None ≡ seat_of_context (context_of_slot (slots_of rows) k)

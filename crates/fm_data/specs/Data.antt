@@ -19,7 +19,13 @@ pub record Data : Type 0 where
 -- what a callback's data consists of, as its callers see it
 abbrev pub data_of : Parts → Data
 data_of parts =
-    record { received = parts.received; changed = parts.changed; status = parts.answer.status; information = parts.answer.information; out = parts.answer.bytes }
+    record {
+      received = parts.received;
+      changed = parts.changed;
+      status = parts.answer.status;
+      information = parts.answer.information;
+      out = parts.answer.bytes;
+    }
 
 -- the parameters that count: the changed ones, or else those that were received
 abbrev pub current_of : Data → Params

@@ -46,7 +46,8 @@ module _ (path : List ℕ) (changes grows : Bool) (said : Answer) (made old new 
     fails = λ e. let s : NoMemory ≡ DeviceFault = ap (λ (a : Answer). a.status) e in cc;
   }
 
-  refused : (status ≡ NoMemory → ⊥) → (status ≡ DeviceFault → ⊥) → bare status ≡ said → new ≡ made → AnswersAs path changes grows said made old new (bare status)
+  refused : (status ≡ NoMemory → ⊥) → (status ≡ DeviceFault → ⊥) → bare status ≡ said → new ≡ made
+      → AnswersAs path changes grows said made old new (bare status)
   refused memory fault is makes = record {
     says = λ _ _. (is, makes);
     wants = λ e. absurd (memory (ap (λ (a : Answer). a.status) e));
@@ -74,7 +75,8 @@ module _ (path : List ℕ) (grows : Bool) where
       refused path true grows _ _ old new status (λ e. cc) (λ e. cc) (ap made_as (sym makes.0)) (makes.1 ∙ sym (ap (λ w. made_of w old) makes.0))
 
   -- the same of a base that may not know its folder
-  pub made_known : (wanted : Folder → Result Folder Status) (old new : Option Folder) (result : Result (Unit {0}) Status) → MakesKnown path wanted old new result
+  pub made_known : (wanted : Folder → Result Folder Status) (old new : Option Folder) (result : Result (Unit {0}) Status)
+      → MakesKnown path wanted old new result
       → (IsSome old → result ≡ Err NoMemory → grows ≡ true)
       → KnownAs old new (λ was is. AnswersAs path true grows (made_as (wanted was)) (made_of (wanted was) was) was is (done_as result))
   made_known wanted None new result makes may = makes

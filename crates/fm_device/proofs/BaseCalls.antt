@@ -71,14 +71,16 @@ module _ (old new : List Folder) (call : BaseCall) (answer : Answer) (carry : Ba
   sound : answer ≢ bare DeviceFault
   sound fault =
       elim (slice_get_cases old at).1 [
-        | inl here ↦ let (is, there, one) = carry.carried here.0 here.2 in let none : 0 ≡ 1 = one.counts ∙ ap (λ (a : Answer). faults_told a.status 0) fault in absurd (omega (arith, none))
+        | inl here ↦ let (is, there, one) = carry.carried here.0 here.2 in let none : 0 ≡ 1 = one.counts
+            ∙ ap (λ (a : Answer). faults_told a.status 0) fault in absurd (omega (arith, none))
         | inr past ↦ let refused = (carry.absent past.0).0 in let s : NoVolume ≡ DeviceFault = ap (λ (a : Answer). a.status) (sym refused ∙ fault) in cc
       ]
 
   carried_by : at < length old → CarriesAny call.path call.params (slice_index_or old at empty) (slice_index_or new at empty) answer
   carried_by within =
       let (is, there, one) = carry.carried (slice_index_or old at empty) (slice_get-get_or old at empty within) in
-      subst (λ (f : Folder). CarriesAny call.path call.params (slice_index_or old at empty) f answer) (sym (get_or_from_slice_get new at is empty there)) one.known
+      subst (λ (f : Folder). CarriesAny call.path call.params (slice_index_or old at empty) f answer)
+      (sym (get_or_from_slice_get new at is empty there)) one.known
 
   -- all others stay, so the lists are one but for the folder of the volume
   one_set : new ≡ slice_set old at (slice_index_or new at empty)
@@ -88,7 +90,8 @@ module _ (old new : List Folder) (call : BaseCall) (answer : Answer) (carry : Ba
       same_at k within =
           elim (cases_eq k at) [
             | inl same ↦ rw same (sym (get_or-set_same old at (slice_index_or new at empty) empty (rw (← same, ← carry.same) within)))
-            | inr other ↦ sym (unwrap_or-slice_get new k empty) ∙ ap (λ (row : Option Folder). unwrap_or row empty) (carry.others k other) ∙ unwrap_or-slice_get old k empty
+            | inr other ↦ sym (unwrap_or-slice_get new k empty)
+                ∙ ap (λ (row : Option Folder). unwrap_or row empty) (carry.others k other) ∙ unwrap_or-slice_get old k empty
                 ∙ sym (get_or-set_other old at k (slice_index_or new at empty) empty other)
           ]
 

@@ -12,8 +12,10 @@ pub record BaseCarries {B : Type 0} (folder : B → Option Folder) (faults : B �
   pub counts : faults new ≡ faults_told answer.status (faults old)
 
 -- so does the base of the call's volume; all others stay, and a volume that isn't there is refused
-pub record BasesCarry {B : Type 0} (folder : B → Option Folder) (faults : B → ℕ) (old : List B) (call : BaseCall) (answer : Answer) (new : List B) : Type 0 where
+pub record BasesCarry {B : Type 0} (folder : B → Option Folder) (faults : B → ℕ) (old : List B) (call : BaseCall) (answer : Answer)
+    (new : List B) : Type 0 where
   pub absent : length old ≤ call.volume.0 → (answer ≡ bare NoVolume) × (new ≡ old)
-  pub carried : (was : B) → slice_get old call.volume.0 ≡ Some was → (is : B) × (slice_get new call.volume.0 ≡ Some is) × BaseCarries folder faults call answer was is
+  pub carried : (was : B) → slice_get old call.volume.0 ≡ Some was → (is : B) × (slice_get new call.volume.0 ≡ Some is)
+      × BaseCarries folder faults call answer was is
   pub others : (k : ℕ) → k ≢ call.volume.0 → slice_get new k ≡ slice_get old k
   pub same : length new ≡ length old

@@ -49,7 +49,8 @@ module _ {F B : Type 0} (f : filter.Ghosts F) (b : base.Ghosts B) where
 
   abbrev pub AnswersControl : Control → Parts F B → Reply → Parts F B → Type 0
   AnswersControl (control.Load name) old said new = (r : Result FilterId Status) × Loads name old r new × (said ≡ filter_reply r)
-  AnswersControl (control.Attach i v name altitude) old said new = (r : Result InstanceId Status) × Attaches i v name altitude old r new × (said ≡ instance_reply r)
+  AnswersControl (control.Attach i v name altitude) old said new = (r : Result InstanceId Status)
+      × Attaches i v name altitude old r new × (said ≡ instance_reply r)
   AnswersControl (control.Detach i) old said new = (r : Result (Unit {0}) Status) × Detaches i old r new × (said ≡ unit_reply r)
   AnswersControl (control.Unload i) old said new = (r : Result (Unit {0}) Status) × Unloads i old r new × (said ≡ unit_reply r)
   AnswersControl (control.Dismount v) old said new = (said ≡ status_reply BadRequest) × (new ≡ old)

@@ -60,14 +60,6 @@ impl<F: Minifilter, B: Base> LocalExec<F, B> {
         self.manager.finished()
     }
 
-    /// The manager.
-    pub fn into_manager(self) -> LocalManager<F, B>
-        ensures { result ≡ self.manager }
-    {
-        let LocalExec { alloc: _, manager } = self;
-        manager
-    }
-
     fn load(&mut self, name: &Name) -> Result<FilterId, Status>
         ensures loads { Loads F.Minifilter B.Base name.now self.old.manager result self.new.manager }
         ensures same { self.new.alloc ≡ self.old.alloc }

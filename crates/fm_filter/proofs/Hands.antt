@@ -15,7 +15,8 @@ same_id : (c : CtxId) → is_id c c ≡ true
 same_id c = grind arith
 
 -- the context that came first into the hand is released, and the others stay
-pub release_first : (c : CtxId) (others : List CtxId) (result : Result (Unit {0}) Status) (old new : InHand) → old ≡ Some (c ∷ others) → Loses c result old new → new ≡ Some others
+pub release_first : (c : CtxId) (others : List CtxId) (result : Result (Unit {0}) Status) (old new : InHand) → old ≡ Some (c ∷ others)
+    → Loses c result old new → new ≡ Some others
 unfolding holds without
 release_first c others result old new was h =
     let held : holds (c ∷ others) c ≡ true = ap (λ b. b || list_any (is_id c) others) (same_id c) in

@@ -21,7 +21,8 @@ IsPlainPost end.Finished = ⊤
 IsPlainPost end.MoreProcessing = ⊥
 
 -- a plain filter, by the relations of its callbacks: all their verdicts are plain, and they leave their port alone
-pub record IsPlainFilter {F : Type 0} (pre : F → Data → PreVerdict → Data → Type 0) (post : F → Data → Completion → PostVerdict → Data → Type 0) (is_quiet : F → Type 0) (f : F) : Type 0 where
+pub record IsPlainFilter {F : Type 0} (pre : F → Data → PreVerdict → Data → Type 0) (post : F → Data → Completion → PostVerdict → Data
+    → Type 0) (is_quiet : F → Type 0) (f : F) : Type 0 where
   pub descends : (old : Data) → (answer : PreVerdict) → (new : Data) → pre f old answer new → IsPlainPre answer
   pub ascends : (old : Data) → (completion : Completion) → (answer : PostVerdict) → (new : Data) → post f old completion answer new → IsPlainPost answer
   pub quiet : is_quiet f

@@ -7,7 +7,8 @@ use Rattle.fm_flow.proofs.Counting.{none_running}
 use Rattle.fm_flow.proofs.Walks.{walk_parts, is_callback, drains_follow, opens_after}
 
 -- an operation that is done is in flight where its drains run, and nowhere else
-opens_walked : (i : ℕ) (s : Stage) (es : List Entry) (t : Stage) → walk s es ≡ Some t → is_callback s ≡ false → is_callback t ≡ false → opens i es ≡ drain_opens i es
+opens_walked : (i : ℕ) (s : Stage) (es : List Entry) (t : Stage) → walk s es ≡ Some t → is_callback s ≡ false → is_callback t ≡ false
+    → opens i es ≡ drain_opens i es
 opens_walked i s [] t w p q = refl
 opens_walked i s (e ∷ es) t w p q =
     let k = walk_parts s e es t w in
@@ -27,4 +28,9 @@ done_calm s asks h = grind arith
 pub done_flies : (r : FlowRecord) → IsSound r → is_done r ≡ true → list_any is_running_drain r.entries ≡ false → (j : ℕ) → flight j r ≡ 0
 done_flies r h done none j =
     let calm = done_calm r.stage (owed r.entries) done in
-    omega (arith, opens_walked j Descending r.entries (way_of r.stage) h.course.order refl calm.1, none_running j r.entries none, ap (λ xs. times j (instances xs)) calm.0)
+    omega (
+      arith,
+      opens_walked j Descending r.entries (way_of r.stage) h.course.order refl calm.1,
+      none_running j r.entries none,
+      ap (λ xs. times j (instances xs)) calm.0,
+    )

@@ -45,7 +45,8 @@ flight_few s es i c = omega (arith, opens_among i es, c.once i, c.apart i)
 
 -- ---- settled callbacks
 
-last_mid : (g : Entry → Option ℕ) (front back : List Entry) (e : Entry) (x : ℕ) → g e ≡ Some x → filter_map g back ≡ [] → slice_get (reverse (filter_map g (front ++ e ∷ back))) 0 ≡ Some x
+last_mid : (g : Entry → Option ℕ) (front back : List Entry) (e : Entry) (x : ℕ) → g e ≡ Some x → filter_map g back ≡ []
+    → slice_get (reverse (filter_map g (front ++ e ∷ back))) 0 ≡ Some x
 last_mid g front back e x is none =
     ap (λ xs. slice_get (reverse xs) 0) (filter_map-append g front (e ∷ back) ∙ ap₂ (λ o xs. filter_map g front ++ cons_option o xs) is none)
     ∙ ap (λ ys. slice_get ys 0) (reverse-append (filter_map g front) (x ∷ []))
@@ -65,18 +66,22 @@ opens_settled {kind = kind} i e o is =
 pub owed_asked : (s : Stage) (es : List Entry) (state : PreState) (p : is_pre s ≡ true) (c : IsCourse s es)
     → owed (map (settle_pre state) es) ≡ option_to_list (ask_in (with_state (the_open_pre s es c p).visit state) state) ++ owed es
 owed_asked s es state p c =
-    let o = the_open_pre s es c p in owed_settled es (map (settle_pre state) es) (ask_in (with_state o.visit state) state) (settles_pre es state o) (fresh_of_open s es state c p)
+    let o = the_open_pre s es c p in owed_settled es (map (settle_pre state) es) (ask_in (with_state o.visit state) state)
+    (settles_pre es state o) (fresh_of_open s es state c p)
 
 pre_balance : (i : ℕ) (visit : PreVisit) (state : PreState)
-    → one (visit.instance.0 == i) ≡ (opens_at i (Pre (with_state visit state)) + times i (instances (option_to_list (ask_in visit state)))) + cond (visit.instance.0 == i) (leaves_by state) 0
+    → one (visit.instance.0 == i) ≡ (opens_at i (Pre (with_state visit state)) + times i
+    (instances (option_to_list (ask_in visit state)))) + cond (visit.instance.0 == i) (leaves_by state) 0
 pre_balance i visit state = grind (arith, nat_tests)
 
 pub flight_pre_settled : (s : Stage) (es : List Entry) (state : PreState) (j : ℕ) → is_pre s ≡ true → IsCourse s es
-    → opens j es + times j (instances (owed es)) ≡ (opens j (map (settle_pre state) es) + times j (instances (owed (map (settle_pre state) es)))) + leaves_at j (last_visited es) (leaves_by state)
+    → opens j es + times j (instances (owed es)) ≡ (opens j (map (settle_pre state) es) + times j
+    (instances (owed (map (settle_pre state) es)))) + leaves_at j (last_visited es) (leaves_by state)
 flight_pre_settled s es state j p c =
     let o = the_open_pre s es c p in
     let a = opens_settled j (Pre (with_state o.visit state)) o (settled_pre_is es state o) in
-    let d = ap (λ xs. times j (instances xs)) (owed_asked s es state p c) ∙ times_instances-append j (option_to_list (ask_in (with_state o.visit state) state)) (owed es) in
+    let d = ap (λ xs. times j (instances xs)) (owed_asked s es state p c)
+    ∙ times_instances-append j (option_to_list (ask_in (with_state o.visit state) state)) (owed es) in
     let e = ap (λ l. leaves_at j l (leaves_by state)) (last_of_open_pre es o) in
     let g : opens_at j (Pre o.visit) ≡ one (o.visit.instance.0 == j) = rw o.unsettled (ap one (and_true (o.visit.instance.0 == j))) in
     omega (arith, a, d, e, pre_balance j (with_state o.visit state) state, g)
@@ -97,13 +102,15 @@ owed_pre_settled s es state p c =
     (with_state o.visit state, last_of_open_pre es o, owed_asked s es state p c)
 
 pub flight_post_settled : (s : Stage) (es : List Entry) (state : PostState) (j : ℕ) → is_post s ≡ true → IsCourse s es
-    → opens j es + times j (instances (owed es)) ≡ (opens j (map (settle_post state) es) + times j (instances (owed (map (settle_post state) es)))) + leaves_at j (last_posted es) (post_leaves_by state)
+    → opens j es + times j (instances (owed es)) ≡ (opens j (map (settle_post state) es) + times j
+    (instances (owed (map (settle_post state) es)))) + leaves_at j (last_posted es) (post_leaves_by state)
 flight_post_settled s es state j p c =
     let o = the_open_post s es c p in
     let a = opens_settled j (Post (with_post o.visit state)) o (settled_post_is es state o) in
     let d = ap (λ xs. times j (instances xs)) (owed_settled es (map (settle_post state) es) None (settles_post es state) tt) in
     let e = ap (λ l. leaves_at j l (post_leaves_by state)) (last_of_open_post es o) in
-    let f : one (o.visit.instance.0 == j) ≡ opens_at j (Post (with_post o.visit state)) + cond (o.visit.instance.0 == j) (post_leaves_by state) 0 = grind (arith, nat_tests) in
+    let f : one (o.visit.instance.0 == j) ≡ opens_at j (Post (with_post o.visit state)) + cond (o.visit.instance.0 == j)
+    (post_leaves_by state) 0 = grind (arith, nat_tests) in
     let g : opens_at j (Post o.visit) ≡ one (o.visit.instance.0 == j) = rw o.unsettled (ap one (and_true (o.visit.instance.0 == j))) in
     omega (arith, a, d, e, f, g)
 

@@ -73,12 +73,14 @@ some_in ask None is = absurd (none-some ask (sym is))
 some_in ask (Some other) is = same_Some ask (Some other) is
 
 -- what is read at a place
-pub read_there : (at : ℕ → Option Ask) (ks : List ℕ) (asks : List Ask) (depth place : ℕ) → map at ks ≡ map Some asks → slice_get ks depth ≡ Some place → at place ≡ slice_get asks depth
+pub read_there : (at : ℕ → Option Ask) (ks : List ℕ) (asks : List Ask) (depth place : ℕ) → map at ks ≡ map Some asks
+    → slice_get ks depth ≡ Some place → at place ≡ slice_get asks depth
 read_there at ks asks depth place is here =
     some_in (at place) (slice_get asks depth)
     (sym (ap (option_map at) here) ∙ sym (slice_get-map at ks depth) ∙ ap (λ xs. slice_get xs depth) is ∙ slice_get-map Some asks depth)
 
-pub left_there : (at : ℕ → Option Ask) (ks : List ℕ) (asks : List Ask) (depth : ℕ) → map at ks ≡ map Some asks → map at (remove ks depth) ≡ map Some (remove asks depth)
+pub left_there : (at : ℕ → Option Ask) (ks : List ℕ) (asks : List Ask) (depth : ℕ) → map at ks ≡ map Some asks
+    → map at (remove ks depth) ≡ map Some (remove asks depth)
 left_there at ks asks depth is = map_remove at ks depth ∙ ap (λ xs. remove xs depth) is ∙ sym (map_remove Some asks depth)
 
 -- ---- the ask of an instance, which stands once
@@ -105,6 +107,7 @@ pub any_found : {X : Type 0} (p : X → Bool) (xs : List X) → is_some (find p 
 any_found p [] = refl
 any_found p (x ∷ xs) = grind (arith, any_found p xs)
 
-pub asked_early : (i : ℕ) (es : List Entry) (ks : List ℕ) (asks : List Ask) (depth place : ℕ) → map (ask_at es) ks ≡ map Some asks → position (is_of i) asks ≡ Some depth → slice_get ks depth ≡ Some place
+pub asked_early : (i : ℕ) (es : List Entry) (ks : List ℕ) (asks : List Ask) (depth place : ℕ) → map (ask_at es) ks ≡ map Some asks
+    → position (is_of i) asks ≡ Some depth → slice_get ks depth ≡ Some place
     → ask_at es place ≡ find (is_of i) asks
 asked_early i es ks asks depth place is deep here = read_there (ask_at es) ks asks depth place is here ∙ sym (found_at (is_of i) asks depth deep)

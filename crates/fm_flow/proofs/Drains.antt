@@ -39,7 +39,8 @@ owing_undone i s [] some = cc
 owing_undone i s (ask ∷ asks) some = grind arith
 
 -- a drain that has the operation still runs
-keeps_drain : (i : InstanceId) (s : Stage) (es : List Entry) → drain_opens i.0 (es ++ drain_of i ∷ []) ≡ 1 → HasItsDrain s es → HasItsDrain s (es ++ drain_of i ∷ [])
+keeps_drain : (i : InstanceId) (s : Stage) (es : List Entry) → drain_opens i.0 (es ++ drain_of i ∷ []) ≡ 1 → HasItsDrain s es
+    → HasItsDrain s (es ++ drain_of i ∷ [])
 keeps_drain i (InDrain j) es runs before = elim (cases_eq i.0 j.0) [
   | inl same ↦ subst (λ n. drain_opens n (es ++ drain_of i ∷ []) ≡ 1) same runs
   | inr other ↦ let none : one ((i.0 == j.0) && true) ≡ 0 = grind (arith, nat_tests, other) in omega (arith, drains_push j.0 es (drain_of i), before, none)
@@ -75,12 +76,14 @@ module _ (i : InstanceId) (r : FlowRecord) where
       omega (arith, opens_push j r.entries (drain_of i), here, left, others_once i.0 j (instances (owed r.entries)) (owed_one some h))
 
 -- what was owed to the instance is carried no more
-carried_without : (c : CtxId) (i : ℕ) (asks : List Ask) (completion : Completion) → option_map (λ (ask : Ask). ask.completion) (find (is_of i) asks) ≡ Some completion → times i (instances asks) ≤ 1
+carried_without : (c : CtxId) (i : ℕ) (asks : List Ask) (completion : Completion)
+    → option_map (λ (ask : Ask). ask.completion) (find (is_of i) asks) ≡ Some completion → times i (instances asks) ≤ 1
     → carried_among c asks ≡ carried_among c (without i asks) + carried_in c completion
 carried_without c i [] completion is few = absurd (none-some completion is)
 carried_without c i (ask ∷ asks) completion is few = grind (arith, nat_tests, is, few, without_none i asks, carried_without c i asks completion)
 
-pub owed_so : (i : ℕ) (asks : List Ask) (completion : Completion) → option_map (λ (ask : Ask). ask.completion) (find (is_of i) asks) ≡ Some completion → list_any (is_of i) asks ≡ true
+pub owed_so : (i : ℕ) (asks : List Ask) (completion : Completion) → option_map (λ (ask : Ask). ask.completion) (find (is_of i) asks)
+    ≡ Some completion → list_any (is_of i) asks ≡ true
 owed_so i [] completion is = absurd (none-some completion is)
 owed_so i (ask ∷ asks) completion is = grind (arith, is, owed_so i asks completion)
 
@@ -93,7 +96,8 @@ carries_early c i r completion is h =
 pub owes_early : (P : Ask → Type 0) (i : InstanceId) (r : FlowRecord) → All P (owed r.entries) → All P (owed (drained_early i r).entries)
 owes_early P i r all = subst (All P) (sym (owed_after i r)) (All-filter (λ ask. not (i.0 == ask.instance.0)) P (owed r.entries) all)
 
-pub handed_early : (P : Ask → Type 0) (i : ℕ) (asks : List Ask) (completion : Completion) → option_map (λ (ask : Ask). ask.completion) (find (is_of i) asks) ≡ Some completion → All P asks
+pub handed_early : (P : Ask → Type 0) (i : ℕ) (asks : List Ask) (completion : Completion)
+    → option_map (λ (ask : Ask). ask.completion) (find (is_of i) asks) ≡ Some completion → All P asks
     → (ask : Ask) × P ask × (ask.instance.0 ≡ i) × (ask.completion ≡ completion)
 handed_early P i [] completion is all = absurd (none-some completion is)
 handed_early P i (ask ∷ asks) completion is all = elim (cases_Bool (is_of i ask)) [
@@ -113,7 +117,8 @@ early_uncreated i r s is = ap is_creating is
 keeps_other : (i : InstanceId) (s : Stage) (es : List Entry) → s ≢ InDrain i → HasItsDrain s es → HasItsDrain s (map (settle_drain i.0) es)
 keeps_other i (InDrain j) es other before = elim (cases_eq i.0 j.0) [
   | inl same ↦ absurd (other (ap (λ n. InDrain (record { 0 = n })) (sym same)))
-  | inr apart ↦ let no : cond (i.0 == j.0) (drain_opens i.0 es) 0 ≡ 0 = grind (arith, nat_tests, apart) in omega (arith, drains_drain_settled i.0 j.0 es, before, no)
+  | inr apart ↦ let no : cond (i.0 == j.0) (drain_opens i.0 es) 0 ≡ 0 = grind (arith, nat_tests, apart) in
+      omega (arith, drains_drain_settled i.0 j.0 es, before, no)
 ]
 keeps_other i s es other before = tt
 
@@ -155,7 +160,8 @@ pub record Lowest (i : ℕ) (t u : FlowTable) (k : ℕ) (d : FlowRecord) : Type 
   pub owing : owes i d ≡ true
   pub lowest : All (λ (r : FlowRecord). owes i r ≡ true → d.number.0 ≤ r.number.0) t.operations
 
-pub lowest_owing : {t u : FlowTable} {xs : List FlowRecord} {k : ℕ} {d e : FlowRecord} (i : ℕ) → t ≡ u → IsAscending t.operations → Some k ≡ position (owes i) xs → xs ≡ t.operations → d ≡ e
+pub lowest_owing : {t u : FlowTable} {xs : List FlowRecord} {k : ℕ} {d e : FlowRecord} (i : ℕ) → t ≡ u → IsAscending t.operations
+    → Some k ≡ position (owes i) xs → xs ≡ t.operations → d ≡ e
     → e ≡ get_or t.operations k e → Lowest i t u k d
 lowest_owing {t} {u} {xs} {k} {d} i same rises is read here at =
     let at' = through t.operations k here at in
@@ -165,25 +171,31 @@ lowest_owing {t} {u} {xs} {k} {d} i same rises is read here at =
       there = record {
         same = same;
         there = stands_there (is_number d.number) t.operations k d
-            (sym (stands_rising (λ (r : FlowRecord). r.number.0) d.number.0 t.operations k d rises first.inside (ap (λ (r : FlowRecord). r.number.0) (sym at'))));
+            (sym (stands_rising (λ (r : FlowRecord). r.number.0) d.number.0 t.operations k d rises first.inside
+            (ap (λ (r : FlowRecord). r.number.0) (sym at'))));
         at = at';
       };
       owing = found_passes (owes i) t.operations d finds;
       lowest = lowest_passes (λ (r : FlowRecord). r.number.0) (owes i) t.operations d rises finds;
     }
 
-pub early_told : {t u : FlowTable} {k : ℕ} {d s : FlowRecord} {o : OpId} {completion : Completion} (i : InstanceId) → Lowest i.0 t u k d → o ≡ s.number → s ≡ drained_early i d
+pub early_told : {t u : FlowTable} {k : ℕ} {d s : FlowRecord} {o : OpId} {completion : Completion} (i : InstanceId)
+    → Lowest i.0 t u k d → o ≡ s.number → s ≡ drained_early i d
     → owed_to i.0 d ≡ Some completion → IsDrainedEarly i u o completion (record t { operations = set t.operations k s })
 early_told {t} {u} {k} {d} {s} {o} {completion} i h number is gives =
-    subst (λ p. IsDrainedEarly i u p completion (record t { operations = set t.operations k s })) (sym (number ∙ ap (λ (r : FlowRecord). r.number) is)) (record {
+    subst (λ p. IsDrainedEarly i u p completion (record t { operations = set t.operations k s }))
+    (sym (number ∙ ap (λ (r : FlowRecord). r.number) is)) (record {
       owed = sym (told_some h.there (owed_to i.0) None (sym gives));
       lowest = subst (λ (w : FlowTable). All (λ (r : FlowRecord). owes i.0 r ≡ true → d.number.0 ≤ r.number.0) w.operations) h.there.same h.lowest;
       after = changed_some h.there (drained_early i) is;
     })
 
 pub none_owing : {t u : FlowTable} {xs : List FlowRecord} (i : InstanceId) → t ≡ u → None ≡ position (owes i.0) xs → xs ≡ t.operations → DrainTaken i u None u
-none_owing {t} {u} {xs} i same is read =
-    (none_passes (owes i.0) u.operations (absent (owes i.0) u.operations (ap (λ (w : FlowTable). position (owes i.0) w.operations) (sym same) ∙ ap (position (owes i.0)) (sym read) ∙ sym is)), refl)
+none_owing {t} {u} {xs} i same is read = (
+  none_passes (owes i.0) u.operations (absent (owes i.0) u.operations (ap (λ (w : FlowTable). position (owes i.0) w.operations)
+      (sym same) ∙ ap (position (owes i.0)) (sym read) ∙ sym is)),
+  refl,
+)
 
 -- ---- in flight
 
@@ -222,7 +234,8 @@ in_flight_counted i (r ∷ rs) sound =
 -- ---- all operations, where one gives a drain
 
 module _ (t : FlowTable) (o : OpId) (i : InstanceId) (completion : Completion) (h : told (owed_to i.0) None o t ≡ Some completion) where
-  told_owed : (m : Option FlowRecord) → unwrap_or (option_map (owed_to i.0) m) None ≡ Some completion → (r : FlowRecord) × (m ≡ Some r) × (owed_to i.0 r ≡ Some completion)
+  told_owed : (m : Option FlowRecord) → unwrap_or (option_map (owed_to i.0) m) None ≡ Some completion → (r : FlowRecord) × (m ≡ Some r)
+      × (owed_to i.0 r ≡ Some completion)
   told_owed None is = absurd (none-some completion is)
   told_owed (Some r) is = (r, refl, is)
 
@@ -247,11 +260,19 @@ module _ (t : FlowTable) (o : OpId) (i : InstanceId) (completion : Completion) (
 
   pub early_carried : (c : CtxId) → IsFlow t → carried c t ≡ carried c (changed o (drained_early i) t) + carried_in c completion
   early_carried c flow =
-      omega (arith, total_changed (carried_by c) (is_number o) (drained_early i) t.operations owing_there.0 owing_there.1, carries_early c i owing_there.0 completion owing_there.2 (sound_there flow))
+      omega (
+        arith,
+        total_changed (carried_by c) (is_number o) (drained_early i) t.operations owing_there.0 owing_there.1,
+        carries_early c i owing_there.0 completion owing_there.2 (sound_there flow),
+      )
 
   pub early_in_flight : (j : ℕ) → IsFlow t → in_flight j (changed o (drained_early i) t) ≡ in_flight j t
   early_in_flight j flow =
-      omega (arith, total_changed (flight j) (is_number o) (drained_early i) t.operations owing_there.0 owing_there.1, flies_early i owing_there.0 j owing_so (sound_there flow))
+      omega (
+        arith,
+        total_changed (flight j) (is_number o) (drained_early i) t.operations owing_there.0 owing_there.1,
+        flies_early i owing_there.0 j owing_so (sound_there flow),
+      )
 
   pub early_under_way : under_way (changed o (drained_early i) t).operations ≡ under_way t.operations
   early_under_way =
@@ -283,7 +304,8 @@ module _ {o : OpId} {t u : FlowTable} {k : ℕ} {d s : FlowRecord} (i : Instance
   pub done_goes : {xs : List FlowRecord} → is_spent s ≡ true → xs ≡ remove (set t.operations k s) k → record t { operations = xs } ≡ drain_done_of o i u
   done_goes spent left = gone left ∙ sym (done_as true spent)
 
-  pub kept_gone : {xs : List FlowRecord} {flying creating : ℕ} {counts ns : List ℕ} → is_spent s ≡ true → xs ≡ remove (set t.operations k s) k → RunsEarly i (Some d)
+  pub kept_gone : {xs : List FlowRecord} {flying creating : ℕ} {counts ns : List ℕ} → is_spent s ≡ true
+      → xs ≡ remove (set t.operations k s) k → RunsEarly i (Some d)
       → Follows counts ns d s → IsKept flying creating counts t → IsKept flying creating ns (record t { operations = xs })
   kept_gone {xs} spent left runs follows kept =
       let parts = and_parts s.collected (not (list_any is_running_drain s.entries)) spent in
@@ -295,26 +317,39 @@ module _ {o : OpId} {t u : FlowTable} {k : ℕ} {d s : FlowRecord} (i : Instance
       let rest : xs ≡ remove t.operations k = left ∙ remove_set t.operations k s in (
         subst IsFlow (sym (gone left)) (flow_removed t o kept.0),
         rw rest (record {
-          under_way = omega (arith, count_removed (λ (r : FlowRecord). not r.collected) t.operations k d h.there.inside h.at, ap (λ b. one (not b)) out, kept.1.under_way);
-          creates = omega (arith, count_removed is_creating t.operations k d h.there.inside h.at, ap one (done_uncreating d (sound.collected out)), kept.1.creates);
+          under_way = omega (
+            arith,
+            count_removed (λ (r : FlowRecord). not r.collected) t.operations k d h.there.inside h.at,
+            ap (λ b. one (not b)) out,
+            kept.1.under_way,
+          );
+          creates = omega (
+            arith,
+            count_removed is_creating t.operations k d h.there.inside h.at,
+            ap one (done_uncreating d (sound.collected out)),
+            kept.1.creates,
+          );
           flights = λ j low. omega (arith, total_removed (flight j) t.operations k d h.there.inside h.at, follows.by j low, calm j, kept.1.flights j low);
         }),
       )
 
 -- ---- the same of plain tables
 
-number_apart : (f : FlowRecord → FlowRecord) (o : OpId) (rs : List FlowRecord) → ((x : FlowRecord) → (f x).number.0 ≡ x.number.0) → without_first (is_number o) (change_first (is_number o) f rs) ≡ without_first (is_number o) rs
+number_apart : (f : FlowRecord → FlowRecord) (o : OpId) (rs : List FlowRecord) → ((x : FlowRecord) → (f x).number.0 ≡ x.number.0)
+    → without_first (is_number o) (change_first (is_number o) f rs) ≡ without_first (is_number o) rs
 number_apart f o [] same = refl
 number_apart f o (x ∷ rs) same = grind (arith, same x, number_apart f o rs same)
 
 pub done_carries : (r : FlowRecord) → is_done r ≡ true → (c : CtxId) → carried_by c r ≡ 0
 done_carries r done c = ap (carried_among c) (done_calm r.stage (owed r.entries) done).0
 
-total_gone : (f : FlowRecord → ℕ) (test : FlowRecord → Bool) (rs : List FlowRecord) (r : FlowRecord) → find test rs ≡ Some r → total f (without_first test rs) + f r ≡ total f rs
+total_gone : (f : FlowRecord → ℕ) (test : FlowRecord → Bool) (rs : List FlowRecord) (r : FlowRecord) → find test rs ≡ Some r
+    → total f (without_first test rs) + f r ≡ total f rs
 total_gone f test [] r is = absurd (none-some r is)
 total_gone f test (x ∷ rs) r is = grind (arith, is, total_gone f test rs r)
 
-count_gone : (p test : FlowRecord → Bool) (rs : List FlowRecord) (r : FlowRecord) → find test rs ≡ Some r → count_by p (without_first test rs) + one (p r) ≡ count_by p rs
+count_gone : (p test : FlowRecord → Bool) (rs : List FlowRecord) (r : FlowRecord) → find test rs ≡ Some r
+    → count_by p (without_first test rs) + one (p r) ≡ count_by p rs
 count_gone p test [] r is = absurd (none-some r is)
 count_gone p test (x ∷ rs) r is = elim (cases_Bool (test x)) [
   | inl e ↦ let same = same_Some x r (rw e at is) in rw e (omega (arith, count-cons p x rs, ap (λ (y : FlowRecord). one (p y)) same))
@@ -362,7 +397,12 @@ module _ (t : FlowTable) (o : OpId) (i : InstanceId) (r : FlowRecord) (at : oper
       (λ needed. omega (arith, total_changed (flight j) (is_number o) (early_over i) t.operations r at, flies_over i r j runs))
       (λ done out none.
       let over : is_done (early_over i r) ≡ true = ap (done_at r.stage) (owed_over i r) ∙ done in
-      omega (arith, total_gone (flight j) (is_number o) t.operations r at, flies_over i r j runs, done_flies (early_over i r) (sound_over i r runs (sound_now flow)) over none j))
+      omega (
+        arith,
+        total_gone (flight j) (is_number o) t.operations r at,
+        flies_over i r j runs,
+        done_flies (early_over i r) (sound_over i r runs (sound_now flow)) over none j,
+      ))
 
   pub drain_done_under_way : IsFlow t → under_way (drain_done_of o i t).operations ≡ under_way t.operations
   drain_done_under_way flow =
@@ -407,14 +447,16 @@ left_none o (x ∷ rs) rises = elim (cases_Bool (is_number o x)) [
 ]
 
 module _ (read : FlowRecord → ℕ) (t : FlowTable) (o p : OpId) (r : FlowRecord) (at : operation_at o t ≡ Some r) where
-  told_step : (f : FlowRecord → FlowRecord) → ((x : FlowRecord) → (f x).number.0 ≡ x.number.0) → told read 0 p (changed o f t) + cond (o.0 == p.0) (read r) 0 ≡ told read 0 p t + cond (o.0 == p.0) (read (f r)) 0
+  told_step : (f : FlowRecord → FlowRecord) → ((x : FlowRecord) → (f x).number.0 ≡ x.number.0)
+      → told read 0 p (changed o f t) + cond (o.0 == p.0) (read r) 0 ≡ told read 0 p t + cond (o.0 == p.0) (read (f r)) 0
   told_step f same = elim (cases_eq o.0 p.0) [
     | inl e ↦
         let tell = λ (m : Option FlowRecord). unwrap_or (option_map read m) 0 in
         let before : told_at read o.0 t.operations ≡ read r = ap tell at in
         let after : told_at read o.0 (change_first (is_number o) f t.operations) ≡ read (f r) =
         ap tell (find_changed (is_number o) f t.operations (λ x. ap (λ n. n == o.0) (same x)) ∙ ap (option_map f) at) in
-        subst (λ n. told_at read n (change_first (is_number o) f t.operations) + cond (o.0 == n) (read r) 0 ≡ told_at read n t.operations + cond (o.0 == n) (read (f r)) 0) e
+        subst (λ n. told_at read n (change_first (is_number o) f t.operations) + cond (o.0 == n) (read r) 0
+        ≡ told_at read n t.operations + cond (o.0 == n) (read (f r)) 0) e
         (rw (same_number_is o.0) (omega (arith, before, after)))
     | inr e ↦
         let rest = ap (λ (m : Option FlowRecord). unwrap_or (option_map read m) 0) (find_unchanged (is_number o) (is_number p) f t.operations
@@ -428,9 +470,11 @@ module _ (read : FlowRecord → ℕ) (t : FlowTable) (o p : OpId) (r : FlowRecor
         let tell = λ (m : Option FlowRecord). unwrap_or (option_map read m) 0 in
         let before : told_at read o.0 t.operations ≡ read r = ap tell at in
         let after : told_at read o.0 (without_first (is_number o) t.operations) ≡ 0 = ap tell (left_none o t.operations rises) in
-        subst (λ n. told_at read n (without_first (is_number o) t.operations) + cond (o.0 == n) (read r) 0 ≡ told_at read n t.operations) e (rw (same_number_is o.0) (omega (arith, before, after)))
+        subst (λ n. told_at read n (without_first (is_number o) t.operations) + cond (o.0 == n) (read r) 0
+        ≡ told_at read n t.operations) e (rw (same_number_is o.0) (omega (arith, before, after)))
     | inr e ↦
-        let rest = ap (λ (m : Option FlowRecord). unwrap_or (option_map read m) 0) (find_without (is_number o) (is_number p) t.operations (λ x is. apart_from o.0 p.0 x e is)) in
+        let rest = ap (λ (m : Option FlowRecord). unwrap_or (option_map read m) 0)
+        (find_without (is_number o) (is_number p) t.operations (λ x is. apart_from o.0 p.0 x e is)) in
         rw (other_number_is o.0 p.0 e) (omega (arith, rest))
   ]
 

@@ -32,7 +32,8 @@ under_way_falls test f rs falls = elim (find test rs) as (λ m. find test rs ≡
 
 -- the numbers still ascend
 pub still_ascends : (t : FlowTable) (o : OpId) (f : FlowRecord → FlowRecord) → ((x : FlowRecord) → (f x).number.0 ≡ x.number.0)
-    → AllPairs (λ (r s : FlowRecord). r.number.0 < s.number.0) t.operations → AllPairs (λ (r s : FlowRecord). r.number.0 < s.number.0) (changed o f t).operations
+    → AllPairs (λ (r s : FlowRecord). r.number.0 < s.number.0) t.operations
+    → AllPairs (λ (r s : FlowRecord). r.number.0 < s.number.0) (changed o f t).operations
 still_ascends t o f number ascending i j d p q =
     let l : j < length t.operations = omega (arith, q, length_change (is_number o) f t.operations) in
     omega (arith, number_stays (is_number o) f t.operations number i d, number_stays (is_number o) f t.operations number j d, ascending i j d p l)
@@ -54,27 +55,33 @@ pub flow_changes : (t : FlowTable) (o : OpId) (f : FlowRecord → FlowRecord) �
     → ((r : FlowRecord) → operation_at o t ≡ Some r → is_spent (f r) ≡ false) → IsFlow (changed o f t)
 flow_changes t o f h number collected sound needed = changes t o f h number (λ x. grind (arith, collected x)) sound needed
 
-pub total_changed : (g : FlowRecord → ℕ) (test : FlowRecord → Bool) (f : FlowRecord → FlowRecord) (rs : List FlowRecord) (r : FlowRecord) → find test rs ≡ Some r → total g (change_first test f rs) + g r ≡ total g rs + g (f r)
+pub total_changed : (g : FlowRecord → ℕ) (test : FlowRecord → Bool) (f : FlowRecord → FlowRecord) (rs : List FlowRecord)
+    (r : FlowRecord) → find test rs ≡ Some r → total g (change_first test f rs) + g r ≡ total g rs + g (f r)
 total_changed g test f [] r is = absurd (none-some r is)
 total_changed g test f (x ∷ rs) r is = grind (arith, is, total_changed g test f rs r)
 
 -- ---- a method finds no operation of that number
 
 -- where the place that a look-up gave is none
-pub missing : {xs ys : List FlowRecord} {place : Option ℕ} (o : OpId) → place ≡ position (is_number o) xs → xs ≡ ys → place ≡ None → find (is_number o) ys ≡ None
+pub missing : {xs ys : List FlowRecord} {place : Option ℕ} (o : OpId) → place ≡ position (is_number o) xs → xs ≡ ys → place ≡ None
+    → find (is_number o) ys ≡ None
 missing {xs} {ys} o is same none = absent (is_number o) ys (ap (position (is_number o)) (sym same) ∙ sym is ∙ none)
 
-pub told_none : {A : Type 0} {t u : FlowTable} (f : FlowRecord → A) (otherwise : A) (o : OpId) → t ≡ u → find (is_number o) t.operations ≡ None → otherwise ≡ told f otherwise o u
+pub told_none : {A : Type 0} {t u : FlowTable} (f : FlowRecord → A) (otherwise : A) (o : OpId) → t ≡ u
+    → find (is_number o) t.operations ≡ None → otherwise ≡ told f otherwise o u
 told_none f otherwise o same none = sym (ap (told f otherwise o) (sym same) ∙ ap (λ (m : Option FlowRecord). unwrap_or (option_map f m) otherwise) none)
 
 pub changed_none : {t u : FlowTable} (f : FlowRecord → FlowRecord) (o : OpId) → t ≡ u → find (is_number o) t.operations ≡ None → u ≡ changed o f u
-changed_none {t} f o same none = sym same ∙ sym (ap (λ (rs : List FlowRecord). record t { operations = rs }) (change_none (is_number o) f t.operations none)) ∙ ap (changed o f) same
+changed_none {t} f o same none = sym same ∙ sym (ap (λ (rs : List FlowRecord). record t { operations = rs })
+    (change_none (is_number o) f t.operations none)) ∙ ap (changed o f) same
 
 -- ---- a method finds it
 
 -- an operation that stands somewhere is there
-pub stands_some : {t u : FlowTable} {xs : List FlowRecord} (stage : Stage) (o : OpId) → t ≡ u → xs ≡ t.operations → StandsAt stage (operation_at o u) → is_some (find (is_number o) xs) ≡ true
-stands_some {t} stage o same read h = ap (λ (rs : List FlowRecord). is_some (find (is_number o) rs)) read ∙ by_found (operation_at o t) (subst (λ w. StandsAt stage (operation_at o w)) (sym same) h)
+pub stands_some : {t u : FlowTable} {xs : List FlowRecord} (stage : Stage) (o : OpId) → t ≡ u → xs ≡ t.operations
+    → StandsAt stage (operation_at o u) → is_some (find (is_number o) xs) ≡ true
+stands_some {t} stage o same read h = ap (λ (rs : List FlowRecord). is_some (find (is_number o) rs)) read
+    ∙ by_found (operation_at o t) (subst (λ w. StandsAt stage (operation_at o w)) (sym same) h)
   where
     by_found : (m : Option FlowRecord) → StandsAt stage m → is_some m ≡ true
     by_found None h = absurd h
@@ -90,10 +97,15 @@ pub record Found (o : OpId) (t u : FlowTable) (k : ℕ) (d : FlowRecord) : Type 
   pub there : StandsThere (is_number o) t.operations k d
   pub at : d ≡ get_or t.operations k d
 
-pub found : {t u : FlowTable} {xs : List FlowRecord} {place : Option ℕ} {k : ℕ} {d e : FlowRecord} (o : OpId) → t ≡ u → place ≡ position (is_number o) xs → xs ≡ t.operations → place ≡ Some k
+pub found : {t u : FlowTable} {xs : List FlowRecord} {place : Option ℕ} {k : ℕ} {d e : FlowRecord} (o : OpId) → t ≡ u
+    → place ≡ position (is_number o) xs → xs ≡ t.operations → place ≡ Some k
     → d ≡ e → e ≡ get_or t.operations k e → Found o t u k d
 found {t} {u} {xs} {place} {k} {d} o same is read some here at =
-    record { same = same; there = stands_there (is_number o) t.operations k d (ap (position (is_number o)) (sym read) ∙ sym is ∙ some); at = through t.operations k here at }
+    record {
+      same = same;
+      there = stands_there (is_number o) t.operations k d (ap (position (is_number o)) (sym read) ∙ sym is ∙ some);
+      at = through t.operations k here at;
+    }
 
 module _ {o : OpId} {t u : FlowTable} {k : ℕ} {d : FlowRecord} (h : Found o t u k d) where
   pub itself : Found o t t k d
@@ -128,7 +140,8 @@ pub record Follows (ms ns : List ℕ) (d s : FlowRecord) : Type 0 where
 pub uncounted : (creating : ℕ) (d s : FlowRecord) → is_creating s ≡ is_creating d → creating + one (is_creating d) ≡ creating + one (is_creating s)
 uncounted creating d s same = ap (λ b. creating + one b) (sym same)
 
-module _ {o : OpId} {t u : FlowTable} {k flying creating : ℕ} {counts : List ℕ} {d : FlowRecord} (h : Found o t u k d) (kept : IsKept flying creating counts t) where
+module _ {o : OpId} {t u : FlowTable} {k flying creating : ℕ} {counts : List ℕ} {d : FlowRecord} (h : Found o t u k d)
+    (kept : IsKept flying creating counts t) where
   -- creates that are under way are counted, and are few
   pub may_recount : {a : Bool} → a ≡ is_creating d → record { some : a ≡ true → 0 < creating; few : creating ≤ 256 }
   may_recount was = record {
@@ -143,8 +156,10 @@ module _ {o : OpId} {t u : FlowTable} {k flying creating : ℕ} {counts : List �
   needed_now = found_holds (λ (r : FlowRecord). is_spent r ≡ false) (is_number o) t.operations d kept.0.needed (operation_is h)
 
   -- a step of one
-  pub kept_set : {s : FlowRecord} {n : ℕ} {ns : List ℕ} (f : FlowRecord → FlowRecord) → s ≡ f d → ((r : FlowRecord) → Stays r (f r)) → (IsSound d → IsSound (f d))
-      → (IsSound d → is_spent d ≡ false → is_spent (f d) ≡ false) → n + one (is_creating d) ≡ creating + one (is_creating s) → Follows counts ns d s → IsKept flying n ns (record t { operations = set t.operations k s })
+  pub kept_set : {s : FlowRecord} {n : ℕ} {ns : List ℕ} (f : FlowRecord → FlowRecord) → s ≡ f d → ((r : FlowRecord) → Stays r (f r))
+      → (IsSound d → IsSound (f d))
+      → (IsSound d → is_spent d ≡ false → is_spent (f d) ≡ false) → n + one (is_creating d) ≡ creating + one (is_creating s)
+      → Follows counts ns d s → IsKept flying n ns (record t { operations = set t.operations k s })
   kept_set {s} {n} f is same sound needed creates follows = (
     subst IsFlow (sym (changed_some (itself h) f is))
         (flow_changes t o f kept.0 (λ r. (same r).number) (λ r. (same r).collected)
@@ -162,8 +177,10 @@ module _ {o : OpId} {t u : FlowTable} {k flying creating : ℕ} {counts : List �
   )
 
   -- one that takes what fits
-  pub kept_took : {s : FlowRecord} {n : ℕ} {ns : List ℕ} (fits : FlowRecord → Bool) (step : FlowRecord → FlowRecord) → s ≡ cond (fits d) (step d) d → ((r : FlowRecord) → Stays r (step r))
-      → (fits d ≡ true → IsSound d → IsSound (step d)) → (IsSound d → is_spent (step d) ≡ false) → n + one (is_creating d) ≡ creating + one (is_creating s) → Follows counts ns d s
+  pub kept_took : {s : FlowRecord} {n : ℕ} {ns : List ℕ} (fits : FlowRecord → Bool) (step : FlowRecord → FlowRecord)
+      → s ≡ cond (fits d) (step d) d → ((r : FlowRecord) → Stays r (step r))
+      → (fits d ≡ true → IsSound d → IsSound (step d)) → (IsSound d → is_spent (step d) ≡ false)
+      → n + one (is_creating d) ≡ creating + one (is_creating s) → Follows counts ns d s
       → IsKept flying n ns (record t { operations = set t.operations k s })
   kept_took fits step is same sound needed creates follows =
       kept_set (λ r. cond (fits r) (step r) r) is (λ r. either_way (Stays r) (fits r) (λ e. same r) (λ e. stays_so refl refl))

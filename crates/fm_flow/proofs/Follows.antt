@@ -18,10 +18,12 @@ number_of at = option_map (λ i. i.0) at
 abbrev pub Leaves : Option InstanceId → FlowRecord → FlowRecord → Type 0
 Leaves at d s = (j : ℕ) → flight j d ≡ flight j s + leaves_at j (number_of at) 1
 
-pub leaves_pre : (j : ℕ) (state : PreState) (at : Option InstanceId) → leaves_at j (number_of at) (leaves_by state) ≡ leaves_at j (number_of (left_pre state at)) 1
+pub leaves_pre : (j : ℕ) (state : PreState) (at : Option InstanceId) → leaves_at j (number_of at) (leaves_by state)
+    ≡ leaves_at j (number_of (left_pre state at)) 1
 leaves_pre j state at = grind (arith, nat_tests)
 
-pub leaves_post : (j : ℕ) (state : PostState) (at : Option InstanceId) → leaves_at j (number_of at) (post_leaves_by state) ≡ leaves_at j (number_of (left_post state at)) 1
+pub leaves_post : (j : ℕ) (state : PostState) (at : Option InstanceId) → leaves_at j (number_of at) (post_leaves_by state)
+    ≡ leaves_at j (number_of (left_post state at)) 1
 leaves_post j state at = grind (arith, nat_tests)
 
 total_few : (i : ℕ) (rs : List FlowRecord) → All IsSound rs → total (flight i) rs ≤ length rs
@@ -30,13 +32,15 @@ total_few i (r ∷ rs) sound =
     omega (arith, flight_few r.stage r.entries i (All-head IsSound r rs sound).course, total_few i rs (All-tail IsSound r rs sound))
 
 -- one that isn't in flight there leaves room
-total_but : (i : ℕ) (rs : List FlowRecord) (k : ℕ) (d : FlowRecord) → k < length rs → d ≡ get_or rs k d → All IsSound rs → total (flight i) rs + 1 ≤ length rs + flight i d
+total_but : (i : ℕ) (rs : List FlowRecord) (k : ℕ) (d : FlowRecord) → k < length rs → d ≡ get_or rs k d → All IsSound rs
+    → total (flight i) rs + 1 ≤ length rs + flight i d
 total_but i [] k d below at sound = absurd (omega arith)
 total_but i (r ∷ rs) zero d below at sound = omega (arith, ap (flight i) at, total_few i rs (All-tail IsSound r rs sound))
 total_but i (r ∷ rs) (suc k) d below at sound =
     omega (arith, flight_few r.stage r.entries i (All-head IsSound r rs sound).course, total_but i rs k d (omega arith) at (All-tail IsSound r rs sound))
 
-module _ {o : OpId} {t u : FlowTable} {k flying creating : ℕ} {counts : List ℕ} {d : FlowRecord} (h : Found o t u k d) (kept : IsKept flying creating counts t) where
+module _ {o : OpId} {t u : FlowTable} {k flying creating : ℕ} {counts : List ℕ} {d : FlowRecord} (h : Found o t u k d)
+    (kept : IsKept flying creating counts t) where
   pub may_leave : (at : Option InstanceId) (s : FlowRecord) → Leaves at d s → MayLeave at counts
   may_leave None s flies = tt
   may_leave (Some i) s flies = λ low.
@@ -47,19 +51,37 @@ module _ {o : OpId} {t u : FlowTable} {k flying creating : ℕ} {counts : List �
   may_enter None s most is sound flies = tt
   may_enter (Some i) s most is sound flies = λ low.
       let here : one (i.0 == i.0) ≡ 1 = grind (arith, nat_tests) in
-      omega (arith, is, here, flies i.0, flight_few s.stage s.entries i.0 sound.course, total_but i.0 t.operations k d h.there.inside h.at kept.0.sound, kept.1.flights i.0 low)
+      omega (
+        arith,
+        is,
+        here,
+        flies i.0,
+        flight_few s.stage s.entries i.0 sound.course,
+        total_but i.0 t.operations k d h.there.inside h.at kept.0.sound,
+        kept.1.flights i.0 low,
+      )
 
-  pub follows_less : {ns : List ℕ} {s : FlowRecord} (at : Option InstanceId) → length counts ≡ 4096 → ns ≡ one_less at counts → Leaves at d s → Follows counts ns d s
-  follows_less {s = s} at len is flies = record { by = λ j low. omega (arith, ap (λ (ms : List ℕ). kept_at ms j) is, kept_less at counts j len low (may_leave at s flies), flies j) }
+  pub follows_less : {ns : List ℕ} {s : FlowRecord} (at : Option InstanceId) → length counts ≡ 4096 → ns ≡ one_less at counts
+      → Leaves at d s → Follows counts ns d s
+  follows_less {s = s} at len is flies = record {
+    by = λ j low. omega (
+      arith,
+      ap (λ (ms : List ℕ). kept_at ms j) is,
+      kept_less at counts j len low (may_leave at s flies),
+      flies j,
+    );
+  }
 
-pub follows_more : {counts ns : List ℕ} {d s : FlowRecord} (at : Option InstanceId) → length counts ≡ 4096 → ns ≡ one_more at counts → Leaves at s d → Follows counts ns d s
+pub follows_more : {counts ns : List ℕ} {d s : FlowRecord} (at : Option InstanceId) → length counts ≡ 4096 → ns ≡ one_more at counts
+    → Leaves at s d → Follows counts ns d s
 follows_more {counts} at len is flies = record { by = λ j low. omega (arith, ap (λ (ms : List ℕ). kept_at ms j) is, kept_more at counts j len low, flies j) }
 
 pub follows_same : {counts : List ℕ} {d s : FlowRecord} → ((j : ℕ) → flight j s ≡ flight j d) → Follows counts counts d s
 follows_same flies = record { by = λ j low. omega (arith, flies j) }
 
 -- an operation whose data is handed back stays
-pub taken_leaves : (lent : Data) (fits : Bool) (r t : FlowRecord) (at : Option InstanceId) {s : FlowRecord} {reply : Result ⊤ Data} {gone : Option InstanceId} → s ≡ cond fits t r
+pub taken_leaves : (lent : Data) (fits : Bool) (r t : FlowRecord) (at : Option InstanceId) {s : FlowRecord} {reply : Result ⊤ Data}
+    {gone : Option InstanceId} → s ≡ cond fits t r
     → reply ≡ cond fits (Ok tt) (Err lent) → gone ≡ if_taken reply at → Leaves at r t → Leaves gone r s
 taken_leaves lent true r t at is told goes flies j =
     omega (arith, flies j, ap (flight j) is, ap (λ at. leaves_at j (number_of at) 1) (goes ∙ ap (λ x. if_taken x at) told))

@@ -26,7 +26,8 @@ closed : (kind : Hold) (i : ℕ) (e : Entry) → is_open e ≡ false → holds_a
 closed kind i e h = grind arith
 
 -- neither do those that lead to no callback
-closed_held : (kind : Hold) (i : ℕ) (s : Stage) (es : List Entry) (t : Stage) → walk s es ≡ Some t → is_callback s ≡ false → is_callback t ≡ false → list_any (holds_at kind i) es ≡ false
+closed_held : (kind : Hold) (i : ℕ) (s : Stage) (es : List Entry) (t : Stage) → walk s es ≡ Some t → is_callback s ≡ false
+    → is_callback t ≡ false → list_any (holds_at kind i) es ≡ false
 closed_held kind i s [] t w p q = refl
 closed_held kind i s (e ∷ es) t w p q =
     let k = walk_parts s e es t w in
@@ -36,7 +37,8 @@ closed_held kind i s (e ∷ es) t w p q =
     ]
 
 -- so the one that runs or holds says it
-mid_held : (kind : Hold) (i : ℕ) (from : Stage) (es front : List Entry) (e : Entry) (back : List Entry) → es ≡ front ++ e ∷ back → walk Descending front ≡ Some from
+mid_held : (kind : Hold) (i : ℕ) (from : Stage) (es front : List Entry) (e : Entry) (back : List Entry) → es ≡ front ++ e ∷ back
+    → walk Descending front ≡ Some from
     → is_callback from ≡ false → Quiet back → list_any (holds_at kind i) es ≡ holds_at kind i e
 mid_held kind i from es front e back split way calm quiet =
     ap (list_any (holds_at kind i)) split ∙ list_any-append (holds_at kind i) front (e ∷ back)
@@ -48,7 +50,8 @@ held_in_pre kind i s es c p =
     let o = the_open_pre s es c p in
     let here = mid_held kind i Descending es o.front (Pre o.visit) o.back o.split o.way refl o.quiet in
     let leads : s ≡ pre_leads o.visit.state = same_Some s (pre_leads o.visit.state) (sym (walks_to s es c (grind arith)) ∙ ap (walk Descending) o.split
-    ∙ walk-append Descending o.front (Pre o.visit ∷ o.back) ∙ ap (option_and_then (λ v. walk v (Pre o.visit ∷ o.back))) o.way ∙ o.quiet.walks (pre_leads o.visit.state)) in
+    ∙ walk-append Descending o.front (Pre o.visit ∷ o.back) ∙ ap (option_and_then (λ v. walk v (Pre o.visit ∷ o.back))) o.way
+    ∙ o.quiet.walks (pre_leads o.visit.state)) in
     here ∙ grind (arith, leads, o.unsettled, last_of_open_pre es o)
 
 held_in_post : (kind : Hold) (i : ℕ) (s : Stage) (es : List Entry) → IsCourse s es → is_post s ≡ true
@@ -57,7 +60,8 @@ held_in_post kind i s es c p =
     let o = the_open_post s es c p in
     let here = mid_held kind i Ascending es o.front (Post o.visit) o.back o.split o.way refl o.quiet in
     let leads : s ≡ post_leads o.visit.state = same_Some s (post_leads o.visit.state) (sym (walks_to s es c (grind arith)) ∙ ap (walk Descending) o.split
-    ∙ walk-append Descending o.front (Post o.visit ∷ o.back) ∙ ap (option_and_then (λ v. walk v (Post o.visit ∷ o.back))) o.way ∙ o.quiet.walks (post_leads o.visit.state)) in
+    ∙ walk-append Descending o.front (Post o.visit ∷ o.back) ∙ ap (option_and_then (λ v. walk v (Post o.visit ∷ o.back))) o.way
+    ∙ o.quiet.walks (post_leads o.visit.state)) in
     here ∙ grind (arith, leads, o.unsettled, last_of_open_post es o)
 
 pub held_there : (kind : Hold) (i : ℕ) (s : Stage) (es : List Entry) → IsCourse s es

@@ -20,18 +20,21 @@ none_passes p (x ∷ xs) h = elim (cases_Bool (p x)) [
   | inr e ↦ All-cons (λ y. p y ≡ false) x xs e (none_passes p xs (rw e at h))
 ]
 
-pub lowest_passes : {X : Type 0} (key : X → ℕ) (p : X → Bool) (xs : List X) (x : X) → Rises key xs → find p xs ≡ Some x → All (λ y. p y ≡ true → key x ≤ key y) xs
+pub lowest_passes : {X : Type 0} (key : X → ℕ) (p : X → Bool) (xs : List X) (x : X) → Rises key xs → find p xs ≡ Some x
+    → All (λ y. p y ≡ true → key x ≤ key y) xs
 lowest_passes key p [] x rises h = absurd (none-some x h)
 lowest_passes key p (y ∷ xs) x rises h = elim (cases_Bool (p y)) [
   | inl e ↦
       let same = same_Some y x (rw e at h) in
       All-cons (λ z. p z ≡ true → key x ≤ key z) y xs (λ passes. omega (arith, ap key same))
       (All-weaker (λ z. key y < key z) (λ z. p z ≡ true → key x ≤ key z) (λ z above passes. omega (arith, above, ap key same)) xs (others_above key y xs rises))
-  | inr e ↦ All-cons (λ z. p z ≡ true → key x ≤ key z) y xs (λ passes. absurd (grind (arith, e, passes))) (lowest_passes key p xs x (rest_rises key y xs rises) (rw e at h))
+  | inr e ↦ All-cons (λ z. p z ≡ true → key x ≤ key z) y xs (λ passes. absurd (grind (arith, e, passes)))
+      (lowest_passes key p xs x (rest_rises key y xs rises) (rw e at h))
 ]
 
 -- and it is found by its number
-pub found_by_number : {X : Type 0} (key : X → ℕ) (p : X → Bool) (xs : List X) (x : X) → Rises key xs → find p xs ≡ Some x → find (λ y. key y == key x) xs ≡ Some x
+pub found_by_number : {X : Type 0} (key : X → ℕ) (p : X → Bool) (xs : List X) (x : X) → Rises key xs → find p xs ≡ Some x
+    → find (λ y. key y == key x) xs ≡ Some x
 found_by_number key p [] x rises h = absurd (none-some x h)
 found_by_number key p (y ∷ xs) x rises h = elim (cases_Bool (p y)) [
   | inl e ↦ let same = same_Some y x (rw e at h) in let here : (key y == key x) ≡ true = grind (arith, nat_tests, ap key same) in rw here (ap Some same)

@@ -41,7 +41,15 @@ pub changed_at : {X : Type 0} (p : X → Bool) (f : X → X) (xs : List X) (k : 
     → option_map p (slice_get xs k) ≡ Some true → set xs k (f (get_or xs k d)) ≡ map f xs
 changed_at p f [] k d closed lone at = cc
 changed_at p f (x ∷ xs) zero d closed lone at = grind (arith, nat_tests, count-cons p x xs, lone, at, nothing_due p f xs closed)
-changed_at p f (x ∷ xs) (suc k) d closed lone at = grind (arith, nat_tests, count-cons p x xs, lone, counts_at p xs k at, closed x, changed_at p f xs k d closed)
+changed_at p f (x ∷ xs) (suc k) d closed lone at = grind (
+  arith,
+  nat_tests,
+  count-cons p x xs,
+  lone,
+  counts_at p xs k at,
+  closed x,
+  changed_at p f xs k d closed,
+)
 
 past_front : {X : Type 0} (front : List X) (x : X) (back : List X) → slice_get (front ++ x ∷ back) (length front) ≡ Some x
 past_front [] x back = refl
@@ -53,7 +61,14 @@ the_lone : {X : Type 0} (p : X → Bool) (front : List X) (x : X) (back : List X
 the_lone p [] x back zero here lone at = refl
 the_lone p [] x back (suc k) here lone at = absurd (grind (arith, nat_tests, count-cons p x back, here, lone, counts_at p back k at))
 the_lone p (y ∷ front) x back zero here lone at =
-    absurd (grind (arith, nat_tests, count-cons p y (front ++ x ∷ back), lone, at, counts_at p (front ++ x ∷ back) (length front) (ap (option_map p) (past_front front x back) ∙ ap Some here)))
+    absurd (grind (
+      arith,
+      nat_tests,
+      count-cons p y (front ++ x ∷ back),
+      lone,
+      at,
+      counts_at p (front ++ x ∷ back) (length front) (ap (option_map p) (past_front front x back) ∙ ap Some here),
+    ))
 the_lone p (y ∷ front) x back (suc k) here lone at =
     the_lone p front x back k here (omega (arith, count-cons p y (front ++ x ∷ back), lone, counts_at p (front ++ x ∷ back) k at)) at
 
@@ -74,7 +89,8 @@ open_lone s es c called way = omega (arith, open_count Descending es s (walks_to
 
 pub drain_lone : (i : ℕ) (es : List Entry) → count_by (is_running_drain_of i) es ≡ drain_opens i es
 drain_lone i [] = refl
-drain_lone i (e ∷ es) = let here : cond (is_running_drain_of i e) 1 0 ≡ drain_opens_at i e = grind (arith, nat_tests) in omega (arith, count-cons (is_running_drain_of i) e es, drain_lone i es, here)
+drain_lone i (e ∷ es) = let here : cond (is_running_drain_of i e) 1 0 ≡ drain_opens_at i e = grind (arith, nat_tests) in
+    omega (arith, count-cons (is_running_drain_of i) e es, drain_lone i es, here)
 
 -- only what is over changes
 pub due_alone : (over : Ending) (e : Entry) → is_due over e ≡ false → settle over e ≡ e
@@ -98,7 +114,8 @@ asks_map f [] keeps k a is = cc
 asks_map f (e ∷ es) keeps zero a is = keeps e a is
 asks_map f (e ∷ es) keeps (suc k) a is = asks_map f es keeps k a is
 
-stays_asked : (es fs : List Entry) → AsksStay es fs → (places : List ℕ) (asks : List Ask) → map (ask_at es) places ≡ map Some asks → map (ask_at fs) places ≡ map Some asks
+stays_asked : (es fs : List Entry) → AsksStay es fs → (places : List ℕ) (asks : List Ask) → map (ask_at es) places ≡ map Some asks
+    → map (ask_at fs) places ≡ map Some asks
 stays_asked es fs stays [] asks is = is
 stays_asked es fs stays (k ∷ places) [] is = cc
 stays_asked es fs stays (k ∷ places) (a ∷ asks) is =
@@ -111,7 +128,8 @@ ask_at_end es e = ap (option_and_then ask_of) (slice_get-push es e)
 
 -- ---- one more entry
 
-last_more : (f : Entry → Option ℕ) (es : List Entry) (e : Entry) → slice_get (reverse (filter_map f (es ++ e ∷ []))) 0 ≡ option_or (f e) (slice_get (reverse (filter_map f es)) 0)
+last_more : (f : Entry → Option ℕ) (es : List Entry) (e : Entry) → slice_get (reverse (filter_map f (es ++ e ∷ []))) 0
+    ≡ option_or (f e) (slice_get (reverse (filter_map f es)) 0)
 last_more f es e = ap (λ xs. slice_get (reverse xs) 0) (filter_map-push f es e) ∙ last_with (filter_map f es) (f e)
 
 last_push : (es : List Entry) (e : Entry) → last_visited (es ++ e ∷ []) ≡ option_or (visit_of e) (last_visited es)
@@ -131,9 +149,14 @@ posted_here p m rest is some = grind (arith, is, some)
 pub posted_before : (p : Option InstanceId) (m rest : Option ℕ) → m ≡ option_or (option_map (λ i. i.0) p) rest → is_some p ≡ false → m ≡ rest
 posted_before p m rest is none = grind (arith, is, none)
 
-noted_same : {places : List ℕ} {latest : Option InstanceId} {es : List Entry} (fs : List Entry) → AsksStay es fs → owed fs ≡ owed es → last_visited fs ≡ last_visited es
+noted_same : {places : List ℕ} {latest : Option InstanceId} {es : List Entry} (fs : List Entry) → AsksStay es fs → owed fs ≡ owed es
+    → last_visited fs ≡ last_visited es
     → IsNoted places latest es → IsNoted places latest fs
-noted_same {places} {es = es} fs stays same visits n = record { asks = stays_asked es fs stays places (owed es) n.asks ∙ ap (map Some) (sym same); last = n.last ∙ sym visits }
+noted_same {places} {es = es} fs stays same visits n = record {
+  asks = stays_asked es fs stays places (owed es) n.asks
+      ∙ ap (map Some) (sym same);
+  last = n.last ∙ sym visits;
+}
 
 module _ {places : List ℕ} {latest : Option InstanceId} (es : List Entry) (n : IsNoted places latest es) where
   pushed : (e : Entry) → map (ask_at (es ++ e ∷ [])) places ≡ map Some (owed es)
@@ -143,7 +166,8 @@ module _ {places : List ℕ} {latest : Option InstanceId} (es : List Entry) (n :
   noted_base status information =
       let e = Base status information in noted_same (es ++ e ∷ []) (asks_push es (e ∷ [])) (owed_push_none es e refl (λ i. refl)) (last_push es e) n
 
-  pub noted_visit : (worker : WorkerId) (i : InstanceId) (place : ℕ) → IsNoted places (Some i) (es ++ Pre (record { instance = i; worker = worker; state = pre.Running; place = place }) ∷ [])
+  pub noted_visit : (worker : WorkerId) (i : InstanceId) (place : ℕ)
+      → IsNoted places (Some i) (es ++ Pre (record { instance = i; worker = worker; state = pre.Running; place = place }) ∷ [])
   noted_visit worker i place =
       let e : Entry = Pre (record { instance = i; worker = worker; state = pre.Running; place = place }) in
       record { asks = pushed e ∙ ap (map Some) (sym (owed_push_none es e refl (λ j. refl))); last = sym (last_push es e) }
@@ -152,13 +176,18 @@ module _ {places : List ℕ} {latest : Option InstanceId} (es : List Entry) (n :
       → IsNoted (length es ∷ places) (Some i) (es ++ Pre (record { instance = i; worker = worker; state = pre.Asked completion; place = place }) ∷ [])
   noted_ask worker i completion place c fresh =
       let e : Entry = Pre (record { instance = i; worker = worker; state = pre.Asked completion; place = place }) in
-      record { asks = ap₂ (λ x xs. x ∷ xs) (ask_at_end es e) (pushed e) ∙ ap (map Some) (sym (owed_visit es worker i completion place c fresh)); last = sym (last_push es e) }
+      record {
+        asks = ap₂ (λ x xs. x ∷ xs) (ask_at_end es e) (pushed e)
+            ∙ ap (map Some) (sym (owed_visit es worker i completion place c fresh));
+        last = sym (last_push es e);
+      }
 
   -- an answer to the one that is owed next
   pub noted_answer : (s : Stage) (e : Entry) (ask : Ask) (rest : List Ask) → IsCourse s es → owed es ≡ ask ∷ rest → ask_of e ≡ None → visit_of e ≡ None
       → ((j : ℕ) → answers j e ≡ (ask.instance.0 == j)) → IsNoted (drop 1 places) latest (es ++ e ∷ [])
   noted_answer s e ask rest c next asks visits same = record {
-    asks = map_tail (ask_at (es ++ e ∷ [])) places (Some ask) (map Some rest) (pushed e ∙ ap (map Some) next) ∙ ap (map Some) (sym (owed_answered s es e ask rest c next asks same));
+    asks = map_tail (ask_at (es ++ e ∷ [])) places (Some ask) (map Some rest) (pushed e ∙ ap (map Some) next)
+        ∙ ap (map Some) (sym (owed_answered s es e ask rest c next asks same));
     last = n.last ∙ sym (last_push es e ∙ ap (λ o. option_or o (last_visited es)) visits);
   }
     where
@@ -167,11 +196,13 @@ module _ {places : List ℕ} {latest : Option InstanceId} (es : List Entry) (n :
       map_tail f (k ∷ ks) x xs is = cc
 
 -- an answer to one that stands anywhere
-pub noted_early : {places : List ℕ} {latest : Option InstanceId} (s : Stage) (es : List Entry) (i : InstanceId) (depth : ℕ) → IsCourse s es → position (is_of i.0) (owed es) ≡ Some depth
+pub noted_early : {places : List ℕ} {latest : Option InstanceId} (s : Stage) (es : List Entry) (i : InstanceId) (depth : ℕ)
+    → IsCourse s es → position (is_of i.0) (owed es) ≡ Some depth
     → IsNoted places latest es → IsNoted (remove places depth) latest (es ++ Drain (record { instance = i; is_running = true }) ∷ [])
 noted_early {places} s es i depth c is n =
     let e : Entry = Drain (record { instance = i; is_running = true }) in record {
-      asks = stays_asked es (es ++ e ∷ []) (asks_push es (e ∷ [])) (remove places depth) (remove (owed es) depth) (left_there (ask_at es) places (owed es) depth n.asks)
+      asks = stays_asked es (es ++ e ∷ []) (asks_push es (e ∷ [])) (remove places depth) (remove (owed es) depth)
+          (left_there (ask_at es) places (owed es) depth n.asks)
           ∙ ap (map Some) (removed_alone i.0 (owed es) depth is (owed_once s es i.0 c) ∙ sym (left_push_answer answers es e i.0 refl (λ j. refl)));
       last = n.last ∙ sym (last_push es e);
     }
@@ -190,25 +221,29 @@ pre_keeps state (Pre visit) a is = by_state visit.state is
     by_state was is = cc
 pre_keeps state e a is = cc
 
-asked_there : (s : Stage) (es : List Entry) (state : PreState) (k : ℕ) (p : is_pre s ≡ true) (c : IsCourse s es) → option_map is_open (slice_get es k) ≡ Some true
+asked_there : (s : Stage) (es : List Entry) (state : PreState) (k : ℕ) (p : is_pre s ≡ true) (c : IsCourse s es)
+    → option_map is_open (slice_get es k) ≡ Some true
     → ask_at (map (settle_pre state) es) k ≡ ask_in (with_state (the_open_pre s es c p).visit state) state
 asked_there s es state k p c at =
     let o = the_open_pre s es c p in
     let lone = open_lone s es c (grind (arith, p)) (grind (arith, p)) in
     let there : slice_get es k ≡ Some (Pre o.visit) =
     ap (λ xs. slice_get xs k) o.split
-    ∙ the_lone is_open o.front (Pre o.visit) o.back k o.unsettled (sym (ap (count_by is_open) o.split) ∙ lone) (sym (ap (λ xs. option_map is_open (slice_get xs k)) o.split) ∙ at) in
+    ∙ the_lone is_open o.front (Pre o.visit) o.back k o.unsettled (sym (ap (count_by is_open) o.split) ∙ lone)
+    (sym (ap (λ xs. option_map is_open (slice_get xs k)) o.split) ∙ at) in
     ap (option_and_then ask_of) (slice_get-map (settle_pre state) es k ∙ ap (option_map (settle_pre state)) there)
     ∙ ap (λ b. ask_of (Pre (with_state o.visit (cond b state o.visit.state)))) o.unsettled
 
-one_more : (state : PreState) (visit : PreVisit) (fs : List Entry) (k : ℕ) (places : List ℕ) (as' : List Ask) → ask_at fs k ≡ ask_in visit state → map (ask_at fs) places ≡ map Some as'
+one_more : (state : PreState) (visit : PreVisit) (fs : List Entry) (k : ℕ) (places : List ℕ) (as' : List Ask)
+    → ask_at fs k ≡ ask_in visit state → map (ask_at fs) places ≡ map Some as'
     → map (ask_at fs) (cond (asks state) (k ∷ places) places) ≡ map Some (option_to_list (ask_in visit state) ++ as')
 one_more (pre.Asked completion) visit fs k places as' at is = ap₂ (λ x xs. x ∷ xs) at is
 one_more (pre.Synchronized completion) visit fs k places as' at is = ap₂ (λ x xs. x ∷ xs) at is
 one_more state visit fs k places as' at is = is
 
 pub noted_pre : {places : List ℕ} {latest : Option InstanceId} (s : Stage) (es : List Entry) (state : PreState) (k : ℕ) → is_pre s ≡ true → IsCourse s es
-    → option_map is_open (slice_get es k) ≡ Some true → IsNoted places latest es → IsNoted (cond (asks state) (k ∷ places) places) latest (map (settle_pre state) es)
+    → option_map is_open (slice_get es k) ≡ Some true → IsNoted places latest es
+    → IsNoted (cond (asks state) (k ∷ places) places) latest (map (settle_pre state) es)
 noted_pre {places} s es state k p c at n =
     let fs = map (settle_pre state) es in
     let o = the_open_pre s es c p in
@@ -222,11 +257,14 @@ noted_pre {places} s es state k p c at n =
 pub noted_post : {places : List ℕ} {latest : Option InstanceId} (s : Stage) (es : List Entry) (state : PostState) → is_post s ≡ true → IsCourse s es
     → IsNoted places latest es → IsNoted places latest (map (settle_post state) es)
 noted_post s es state p c n =
-    noted_same (map (settle_post state) es) (asks_map (settle_post state) es (λ e a is. grind (arith, is))) (owed_post_settled s es state p c) (last_settled es (map (settle_post state) es) (settles_post es state).visits) n
+    noted_same (map (settle_post state) es) (asks_map (settle_post state) es (λ e a is. grind (arith, is)))
+    (owed_post_settled s es state p c) (last_settled es (map (settle_post state) es) (settles_post es state).visits) n
 
-pub noted_drain : {places : List ℕ} {latest : Option InstanceId} (i : ℕ) (es : List Entry) → IsNoted places latest es → IsNoted places latest (map (settle_drain i) es)
+pub noted_drain : {places : List ℕ} {latest : Option InstanceId} (i : ℕ) (es : List Entry) → IsNoted places latest es
+    → IsNoted places latest (map (settle_drain i) es)
 noted_drain i es n =
-    noted_same (map (settle_drain i) es) (asks_map (settle_drain i) es (λ e a is. grind (arith, is))) (owed_drain_settled i es) (last_settled es (map (settle_drain i) es) (settles_drain i es).visits) n
+    noted_same (map (settle_drain i) es) (asks_map (settle_drain i) es (λ e a is. grind (arith, is))) (owed_drain_settled i es)
+    (last_settled es (map (settle_drain i) es) (settles_drain i es).visits) n
 
 -- ---- there is room
 
@@ -239,13 +277,15 @@ due_inside p [] k at = cc
 due_inside p (x ∷ xs) zero at = omega arith
 due_inside p (x ∷ xs) (suc k) at = omega (arith, due_inside p xs k at)
 
-pub owed_few : {places : List ℕ} {latest : Option InstanceId} (s : Stage) (es : List Entry) → IsCourse s es → IsNoted places latest es → length places + slack s ≤ length (visited es) + 1
+pub owed_few : {places : List ℕ} {latest : Option InstanceId} (s : Stage) (es : List Entry) → IsCourse s es → IsNoted places latest es
+    → length places + slack s ≤ length (visited es) + 1
 owed_few {places} s es c n = omega (arith, c.few, c.room, visits_among es, sym (length-map places (ask_at es)) ∙ ap length n.asks ∙ length-map (owed es) Some)
 
 -- ---- what is on top
 
 -- is what is owed next
-pub owed_at : {places : List ℕ} {latest : Option InstanceId} (es : List Entry) (k : ℕ) → IsNoted places latest es → slice_get places 0 ≡ Some k → ask_at es k ≡ slice_get (owed es) 0
+pub owed_at : {places : List ℕ} {latest : Option InstanceId} (es : List Entry) (k : ℕ) → IsNoted places latest es
+    → slice_get places 0 ≡ Some k → ask_at es k ≡ slice_get (owed es) 0
 owed_at {places} es k n top = first_asks places (owed es) n.asks top
   where
     first_asks : (ks : List ℕ) (asks' : List Ask) → map (ask_at es) ks ≡ map Some asks' → slice_get ks 0 ≡ Some k → ask_at es k ≡ slice_get asks' 0

@@ -65,27 +65,35 @@ reverse_asked : (es : List Entry) (e : Entry) → reverse (asked (es ++ e ∷ []
 reverse_asked es e = grind (arith, filter_map-push ask_of es e, append-nil (asked es), common_steps)
 
 left_push : (test : ℕ → Entry → Bool) (es : List Entry) (e : Entry)
-    → left test (es ++ e ∷ []) ≡ filter (λ ask. not (test ask.instance.0 e) && not (list_any (test ask.instance.0) es)) (option_to_list (ask_of e) ++ reverse (asked es))
+    → left test (es ++ e ∷ []) ≡ filter (λ ask. not (test ask.instance.0 e) && not (list_any (test ask.instance.0) es))
+    (option_to_list (ask_of e) ++ reverse (asked es))
 left_push test es e =
-    rw reverse_asked (filter_agree _ _ (λ ask. grind (arith, list_any-append (test ask.instance.0) es (e ∷ []))) (option_to_list (ask_of e) ++ reverse (asked es)))
+    rw reverse_asked (filter_agree _ _ (λ ask. grind (arith, list_any-append (test ask.instance.0) es (e ∷ [])))
+    (option_to_list (ask_of e) ++ reverse (asked es)))
 
 -- an entry that asks for nothing and answers nothing
-pub left_push_none : (test : ℕ → Entry → Bool) (es : List Entry) (e : Entry) → ask_of e ≡ None → ((i : ℕ) → test i e ≡ false) → left test (es ++ e ∷ []) ≡ left test es
-left_push_none test es e asks none = rw asks at (left_push test es e) ∙ filter_agree _ _ (λ ask. ap (λ b. not b && not (list_any (test ask.instance.0) es)) (none ask.instance.0)) (reverse (asked es))
+pub left_push_none : (test : ℕ → Entry → Bool) (es : List Entry) (e : Entry) → ask_of e ≡ None → ((i : ℕ) → test i e ≡ false)
+    → left test (es ++ e ∷ []) ≡ left test es
+left_push_none test es e asks none = rw asks at (left_push test es e)
+    ∙ filter_agree _ _ (λ ask. ap (λ b. not b && not (list_any (test ask.instance.0) es)) (none ask.instance.0)) (reverse (asked es))
 
 pub owed_push_none : (es : List Entry) (e : Entry) → ask_of e ≡ None → ((i : ℕ) → answers i e ≡ false) → owed (es ++ e ∷ []) ≡ owed es
 owed_push_none es e asks answers_none = left_push_none answers es e asks answers_none
 
 -- an entry that asks
-pub left_push_ask : (test : ℕ → Entry → Bool) (es : List Entry) (e : Entry) (a : Ask) → ask_of e ≡ Some a → ((i : ℕ) → test i e ≡ false) → list_any (test a.instance.0) es ≡ false
+pub left_push_ask : (test : ℕ → Entry → Bool) (es : List Entry) (e : Entry) (a : Ask) → ask_of e ≡ Some a
+    → ((i : ℕ) → test i e ≡ false) → list_any (test a.instance.0) es ≡ false
     → left test (es ++ e ∷ []) ≡ a ∷ left test es
 left_push_ask test es e a asks none unseen =
-    rw asks at (left_push test es e) ∙ filter_agree _ _ (λ ask. ap (λ b. not b && not (list_any (test ask.instance.0) es)) (none ask.instance.0)) (a ∷ reverse (asked es)) ∙ rw unseen refl
+    rw asks at (left_push test es e) ∙ filter_agree _ _ (λ ask. ap (λ b. not b && not (list_any (test ask.instance.0) es))
+    (none ask.instance.0)) (a ∷ reverse (asked es)) ∙ rw unseen refl
 
 -- an entry that answers an instance
-pub left_push_answer : (test : ℕ → Entry → Bool) (es : List Entry) (e : Entry) (j : ℕ) → ask_of e ≡ None → ((i : ℕ) → test i e ≡ (j == i)) → left test (es ++ e ∷ []) ≡ without j (left test es)
+pub left_push_answer : (test : ℕ → Entry → Bool) (es : List Entry) (e : Entry) (j : ℕ) → ask_of e ≡ None
+    → ((i : ℕ) → test i e ≡ (j == i)) → left test (es ++ e ∷ []) ≡ without j (left test es)
 left_push_answer test es e j asks answers_j =
-    rw asks at (left_push test es e) ∙ filter_agree _ _ (λ ask. ap (λ b. not b && not (list_any (test ask.instance.0) es)) (answers_j ask.instance.0)) (reverse (asked es))
+    rw asks at (left_push test es e) ∙ filter_agree _ _ (λ ask. ap (λ b. not b && not (list_any (test ask.instance.0) es))
+    (answers_j ask.instance.0)) (reverse (asked es))
     ∙ sym (filter_both (λ ask. not (j == ask.instance.0)) (λ ask. not (list_any (test ask.instance.0) es)) (reverse (asked es)))
 
 -- ---- what follows of counts

@@ -26,7 +26,8 @@ use Rattle.fm_flow.proofs.Follows.{Leaves}
 
 -- ---- on the way down
 
-pub visit_comes : (worker : WorkerId) (i : InstanceId) (completion : Completion) (r : FlowRecord) {s : FlowRecord} → r.stage ≡ Descending → times i.0 (visited r.entries) ≡ 0 → IsSound r
+pub visit_comes : (worker : WorkerId) (i : InstanceId) (completion : Completion) (r : FlowRecord) {s : FlowRecord}
+    → r.stage ≡ Descending → times i.0 (visited r.entries) ≡ 0 → IsSound r
     → s ≡ with_visit worker i (pre.Asked completion) r → Leaves (Some i) s r
 visit_comes worker i completion r st fresh sound is j =
     let e = pre_entry worker i (pre.Asked completion) r in
@@ -34,7 +35,8 @@ visit_comes worker i completion r st fresh sound is j =
     let o = owed_visit r.entries worker i completion (length r.kept) (at_stage r Descending st sound).0 fresh in
     omega (arith, ap (flight j) is, opens_push j r.entries e, here, ap (λ xs. times j (instances xs)) o)
 
-pub visit_uncreated : (worker : WorkerId) (i : InstanceId) (completion : Completion) (r s : FlowRecord) → r.stage ≡ Descending → s ≡ with_visit worker i (pre.Asked completion) r → is_creating s ≡ is_creating r
+pub visit_uncreated : (worker : WorkerId) (i : InstanceId) (completion : Completion) (r s : FlowRecord) → r.stage ≡ Descending
+    → s ≡ with_visit worker i (pre.Asked completion) r → is_creating s ≡ is_creating r
 visit_uncreated worker i completion r s st is = ap is_creating is ∙ sym (rw st refl)
 
 -- ---- on the way up
@@ -70,7 +72,8 @@ module _ (worker : WorkerId) (ask : Ask) (r : FlowRecord) (st : r.stage ≡ Asce
   undone = ap₂ done_at st next
 
   pub sound_up : may_take worker ask ≡ true → IsSound r → IsSound (passed_up worker ask r)
-  sound_up may h = sound_passed_up worker ask (tail_of (owed r.entries)) (unwound ask.place r) (back.stage ∙ st) (ap owed back.entries ∙ next) may (back.sound h)
+  sound_up may h = sound_passed_up worker ask (tail_of (owed r.entries)) (unwound ask.place r) (back.stage ∙ st) (ap owed back.entries
+      ∙ next) may (back.sound h)
 
   pub passes_up : {s : FlowRecord} → IsSound r → s ≡ passed_up worker ask r → Leaves (Some ask.instance) r s
   passes_up sound made j =
@@ -78,26 +81,38 @@ module _ (worker : WorkerId) (ask : Ask) (r : FlowRecord) (st : r.stage ≡ Asce
       let e = post_entry worker ask.instance post.Finished in
       let here : opens_at j e ≡ 0 = grind (arith, nat_tests) in
       let o = answered_owed ask (tail_of (owed r.entries)) u e st next back refl (λ k. refl) sound in
-      omega (arith, ap (flight j) made, opens_push j u.entries e, ap (opens j) back.entries, here, ap (λ xs. times j (instances xs)) o, ap (λ xs. times j (instances xs)) next)
+      omega (
+        arith,
+        ap (flight j) made,
+        opens_push j u.entries e,
+        ap (opens j) back.entries,
+        here,
+        ap (λ xs. times j (instances xs)) o,
+        ap (λ xs. times j (instances xs)) next,
+      )
 
 -- ---- in one step as in two
 
 -- where no callback runs, settling changes nothing
 settled_calm : (s : Stage) (es : List Entry) (f : Entry → Entry) → IsCourse s es → is_callback s ≡ false → way_of s ≡ s → Settling f → map f es ≡ es
-settled_calm s es f c calm way settles = nothing_due is_open f es settles (let n = open_count Descending es s (walks_to s es c way) in let k = ap one calm in omega (arith, n, k))
+settled_calm s es f c calm way settles = nothing_due is_open f es settles (let n = open_count Descending es s (walks_to s es c way) in
+    let k = ap one calm in omega (arith, n, k))
 
-pub down_whole : (worker : WorkerId) (i : InstanceId) (completion : Completion) (r : FlowRecord) (p : Params) → r.stage ≡ Descending → r.params ≡ Some p → IsSound r
+pub down_whole : (worker : WorkerId) (i : InstanceId) (completion : Completion) (r : FlowRecord) (p : Params) → r.stage ≡ Descending
+    → r.params ≡ Some p → IsSound r
     → pre_returned_of (pre.Asked completion) (fresh_data p) (call_pre worker i r (Some p)).after ≡ with_visit worker i (pre.Asked completion) r
 down_whole worker i completion r p st has h =
     let asked = pre.Asked completion in
     let entries : map (settle_pre asked) (r.entries ++ pre_entry worker i pre.Running r ∷ []) ≡ r.entries ++ pre_entry worker i asked r ∷ [] =
     map-append (settle_pre asked) r.entries (pre_entry worker i pre.Running r ∷ [])
-    ∙ ap (λ es. es ++ pre_entry worker i asked r ∷ []) (settled_calm Descending r.entries (settle_pre asked) (at_stage r Descending st h).0 refl refl (settling_pre asked)) in
+    ∙ ap (λ es. es ++ pre_entry worker i asked r ∷ []) (settled_calm Descending r.entries (settle_pre asked)
+    (at_stage r Descending st h).0 refl refl (settling_pre asked)) in
     let kept = append-nil r.kept in
     cc
 
 -- the answer that a postoperation is given and gives back is the one that it found
-answer_back : (operation : Operation) (answer : Answer) (p : Params) → returned_answer operation (left_answer operation answer) (answered_data p (lent_answer operation answer)) ≡ answer
+answer_back : (operation : Operation) (answer : Answer) (p : Params)
+    → returned_answer operation (left_answer operation answer) (answered_data p (lent_answer operation answer)) ≡ answer
 answer_back operation answer p = by_test (stands operation)
   where
     by_test : (b : _) → cond b (cond b answer (record answer { bytes = [] })) (record {
@@ -115,6 +130,7 @@ up_whole worker ask r p st has h =
     let e = post_entry worker ask.instance post.Finished in
     let entries : map (settle_post post.Finished) (r.entries ++ post_entry worker ask.instance post.Running ∷ []) ≡ r.entries ++ e ∷ [] =
     map-append (settle_post post.Finished) r.entries (post_entry worker ask.instance post.Running ∷ [])
-    ∙ ap (λ es. es ++ e ∷ []) (settled_calm Ascending r.entries (settle_post post.Finished) (at_stage r Ascending st h).0 refl refl (settling_post post.Finished)) in
+    ∙ ap (λ es. es ++ e ∷ []) (settled_calm Ascending r.entries (settle_post post.Finished) (at_stage r Ascending st h).0 refl refl
+    (settling_post post.Finished)) in
     let answer = answer_back r.operation r.answer p in
     cc

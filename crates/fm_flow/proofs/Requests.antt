@@ -22,7 +22,8 @@ use Rattle.fm_flow.proofs.Flows.{either_way, changes, Found, itself, operation_i
 -- ---- begin
 
 fit_own : (path : Option (List ℕ)) (p : Params) → are_on path p ≡ true → is_within_limits p ≡ true → fit (operation_of p) path p ≡ true
-fit_own path p on h = and_from (are_for (operation_of p) path p) (is_within_limits p) (and_from (same_operation (operation_of p) (operation_of p)) (are_on path p) (eq-eqb _ _ refl) on) h
+fit_own path p on h = and_from (are_for (operation_of p) path p) (is_within_limits p)
+    (and_from (same_operation (operation_of p) (operation_of p)) (are_on path p) (eq-eqb _ _ refl) on) h
 
 sound_begun : (number : ℕ) (v : VolumeId) (stream : Option StreamId) (handle : Option HandleId) (born : ℕ) (path : Option (List ℕ)) (p : Params)
     → are_on path p ≡ true → is_within_limits p ≡ true → IsSound (begun_record number v stream handle born path p)
@@ -52,7 +53,8 @@ flow_begins v stream handle born path p t on within h full =
     }
 
 -- it is tallied
-pub tally_begun : {flying creating n : ℕ} {counts : List ℕ} {a : Bool} (rs : List FlowRecord) (r : FlowRecord) → IsTallied flying creating counts rs → r.entries ≡ [] → r.collected ≡ false
+pub tally_begun : {flying creating n : ℕ} {counts : List ℕ} {a : Bool} (rs : List FlowRecord) (r : FlowRecord)
+    → IsTallied flying creating counts rs → r.entries ≡ [] → r.collected ≡ false
     → n + 0 ≡ creating + one a → a ≡ is_creating r → IsTallied (flying + 1) n counts (rs ++ r ∷ [])
 tally_begun rs r tally fresh open' is was = record {
   under_way = omega (arith, count_by-push (λ (s : FlowRecord). not s.collected) rs r, ap (λ b. one (not b)) open', tally.under_way);
@@ -123,7 +125,8 @@ module _ {o : OpId} {t u : FlowTable} {k : ℕ} {d : FlowRecord} (h : Found o t 
       → collected_of o u ≡ cond b (cond drains (changed o marked t) (removed o t)) t
   collected_as b drains ready read runs =
       ap (collected_of o) (sym h.same) ∙ ap (collected_in o t) (operation_is h)
-      ∙ ap₂ (λ b x. cond b (cond x (changed o marked t) (removed o t)) t) ready (ap (λ (r : FlowRecord). list_any is_running_drain r.entries) (sym (same_place read)) ∙ runs)
+      ∙ ap₂ (λ b x. cond b (cond x (changed o marked t) (removed o t)) t) ready
+      (ap (λ (r : FlowRecord). list_any is_running_drain r.entries) (sym (same_place read)) ∙ runs)
 
   pub collect_refused : is_collectable d ≡ false → (Err WrongStep ≡ told collect_reply (Err WrongStep) o u) × (u ≡ collected_of o u)
   collect_refused refused = (
@@ -131,15 +134,19 @@ module _ {o : OpId} {t u : FlowTable} {k : ℕ} {d : FlowRecord} (h : Found o t 
     sym h.same ∙ sym (collected_as false (list_any is_running_drain d.entries) refused (h.at ∙ sym (get_or_default t.operations k d d h.there.inside)) refl),
   )
 
-  pub collect_told : {q : FlowRecord} {answer : Answer} → is_collectable d ≡ true → q ≡ get_or t.operations k q → answer ≡ q.answer → Ok answer ≡ told collect_reply (Err WrongStep) o u
+  pub collect_told : {q : FlowRecord} {answer : Answer} → is_collectable d ≡ true → q ≡ get_or t.operations k q → answer ≡ q.answer
+      → Ok answer ≡ told collect_reply (Err WrongStep) o u
   collect_told ready read is =
-      told_some h collect_reply (Err WrongStep) (ap (λ (a : Answer). Ok a) (is ∙ ap (λ (r : FlowRecord). r.answer) (same_place read)) ∙ sym (ap (λ b. cond b (Ok d.answer) (Err WrongStep)) ready))
+      told_some h collect_reply (Err WrongStep) (ap (λ (a : Answer). Ok a) (is ∙ ap (λ (r : FlowRecord). r.answer) (same_place read))
+      ∙ sym (ap (λ b. cond b (Ok d.answer) (Err WrongStep)) ready))
 
-  pub collect_marked : {e q s : FlowRecord} → is_collectable d ≡ true → e ≡ get_or t.operations k e → list_any is_running_drain e.entries ≡ true → q ≡ get_or t.operations k q → s ≡ marked q
+  pub collect_marked : {e q s : FlowRecord} → is_collectable d ≡ true → e ≡ get_or t.operations k e
+      → list_any is_running_drain e.entries ≡ true → q ≡ get_or t.operations k q → s ≡ marked q
       → record t { operations = set t.operations k s } ≡ collected_of o u
   collect_marked ready at drains read is = changed_some (itself h) marked (is ∙ ap marked (same_place read)) ∙ sym (collected_as true true ready at drains)
 
-  pub collect_removed : {e : FlowRecord} {xs : List FlowRecord} → is_collectable d ≡ true → e ≡ get_or t.operations k e → list_any is_running_drain e.entries ≡ false → xs ≡ remove t.operations k
+  pub collect_removed : {e : FlowRecord} {xs : List FlowRecord} → is_collectable d ≡ true → e ≡ get_or t.operations k e
+      → list_any is_running_drain e.entries ≡ false → xs ≡ remove t.operations k
       → record t { operations = xs } ≡ collected_of o u
   collect_removed ready at drains is =
       ap (λ (rs : List FlowRecord). record t { operations = rs }) (is ∙ h.there.goes) ∙ sym (collected_as true false ready at drains)
@@ -147,9 +154,15 @@ module _ {o : OpId} {t u : FlowTable} {k : ℕ} {d : FlowRecord} (h : Found o t 
   -- it is tallied until its answer is handed out
   pub may_fall : {flying creating : ℕ} {counts : List ℕ} → is_collectable d ≡ true → IsTallied flying creating counts t.operations → 1 ≤ flying
   may_fall ready tally =
-      omega (arith, count_removed (λ (r : FlowRecord). not r.collected) t.operations k d h.there.inside h.at, ap one (and_parts (not d.collected) (is_done d) ready).0, tally.under_way)
+      omega (
+        arith,
+        count_removed (λ (r : FlowRecord). not r.collected) t.operations k d h.there.inside h.at,
+        ap one (and_parts (not d.collected) (is_done d) ready).0,
+        tally.under_way,
+      )
 
-  pub tally_marked : {q s : FlowRecord} {flying creating : ℕ} {counts : List ℕ} → is_collectable d ≡ true → q ≡ get_or t.operations k q → s ≡ marked q → IsTallied flying creating counts t.operations
+  pub tally_marked : {q s : FlowRecord} {flying creating : ℕ} {counts : List ℕ} → is_collectable d ≡ true → q ≡ get_or t.operations k q
+      → s ≡ marked q → IsTallied flying creating counts t.operations
       → IsTallied (flying - 1) creating counts (set t.operations k s)
   tally_marked {s = s} ready read is tally =
       let same : s ≡ marked d = is ∙ ap marked (same_place read) in record {
@@ -161,11 +174,18 @@ module _ {o : OpId} {t u : FlowTable} {k : ℕ} {d : FlowRecord} (h : Found o t 
           tally.under_way,
         );
         creates = omega (arith, count_set is_creating t.operations k d s h.there.inside h.at, ap (λ (r : FlowRecord). one (is_creating r)) same, tally.creates);
-        flights = λ j low. omega (arith, total_set (flight j) t.operations k d s h.there.inside h.at, ap (λ (r : FlowRecord). flight j r) same, tally.flights j low);
+        flights = λ j low. omega (
+          arith,
+          total_set (flight j) t.operations k d s h.there.inside h.at,
+          ap (λ (r : FlowRecord). flight j r) same,
+          tally.flights j low,
+        );
       }
 
-  pub tally_removed : {e : FlowRecord} {xs : List FlowRecord} {flying creating : ℕ} {counts : List ℕ} → is_collectable d ≡ true → IsSound d → e ≡ get_or t.operations k e
-      → list_any is_running_drain e.entries ≡ false → xs ≡ remove t.operations k → IsTallied flying creating counts t.operations → IsTallied (flying - 1) creating counts xs
+  pub tally_removed : {e : FlowRecord} {xs : List FlowRecord} {flying creating : ℕ} {counts : List ℕ} → is_collectable d ≡ true
+      → IsSound d → e ≡ get_or t.operations k e
+      → list_any is_running_drain e.entries ≡ false → xs ≡ remove t.operations k → IsTallied flying creating counts t.operations
+      → IsTallied (flying - 1) creating counts xs
   tally_removed ready sound read rests is tally =
       let parts = and_parts (not d.collected) (is_done d) ready in rw is (record {
         under_way = omega (arith, count_removed (λ (r : FlowRecord). not r.collected) t.operations k d h.there.inside h.at, ap one parts.0, tally.under_way);

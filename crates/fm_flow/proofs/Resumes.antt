@@ -26,12 +26,15 @@ sound_pre_resumed state r st counted h =
     let a = ap length (settles_pre r.entries state (the_open_pre PreHeld r.entries at.0 refl)).visits in
     let short : length (answer_after state r.answer).bytes ≤ 32768 = grind (arith, h.bytes) in
     sound_moved r (pre_leads state) (map (settle_pre state) r.entries) r.params r.kept (answer_after state r.answer) r.handle h (rw st refl)
-    (course_pre_settled PreHeld r.entries state refl at.0) (at.1 ∙ sym (ap not (returned state counted).0)) h.params h.kept (omega (arith, a, at.2, (returned state counted).1)) short
+    (course_pre_settled PreHeld r.entries state refl at.0) (at.1 ∙ sym (ap not (returned state counted).0)) h.params h.kept
+    (omega (arith, a, at.2, (returned state counted).1)) short
 
-pub pre_resumed_carries : (c : CtxId) (state : PreState) (r : FlowRecord) → r.stage ≡ PreHeld → IsSound r → carried_by c (pre_settled state r) ≡ carried_by c r + taken_by c state
+pub pre_resumed_carries : (c : CtxId) (state : PreState) (r : FlowRecord) → r.stage ≡ PreHeld → IsSound r
+    → carried_by c (pre_settled state r) ≡ carried_by c r + taken_by c state
 pre_resumed_carries c state r st h = carried_pre_settled PreHeld r.entries state c refl (at_stage r PreHeld st h).0
 
-pub pre_resumed_flies : (j : ℕ) (state : PreState) (r : FlowRecord) → r.stage ≡ PreHeld → IsSound r → flight j r ≡ flight j (pre_settled state r) + leaves_at j (last_visited r.entries) (leaves_by state)
+pub pre_resumed_flies : (j : ℕ) (state : PreState) (r : FlowRecord) → r.stage ≡ PreHeld → IsSound r
+    → flight j r ≡ flight j (pre_settled state r) + leaves_at j (last_visited r.entries) (leaves_by state)
 pre_resumed_flies j state r st h = flight_pre_settled PreHeld r.entries state j refl (at_stage r PreHeld st h).0
 
 -- ---- a postoperation
@@ -40,12 +43,14 @@ pub sound_post_resumed : (r : FlowRecord) → r.stage ≡ PostHeld → IsSound r
 sound_post_resumed r st h =
     let at = at_stage r PostHeld st h in
     sound_moved r Ascending (map (settle_post post.Finished) r.entries) r.params r.kept r.answer r.handle h (rw st refl)
-    (course_post_settled PostHeld r.entries post.Finished refl at.0) at.1 h.params h.kept (omega (arith, ap length (settles_post r.entries post.Finished).visits, at.2)) h.bytes
+    (course_post_settled PostHeld r.entries post.Finished refl at.0) at.1 h.params h.kept
+    (omega (arith, ap length (settles_post r.entries post.Finished).visits, at.2)) h.bytes
 
 pub post_resumed_carries : (c : CtxId) (r : FlowRecord) → r.stage ≡ PostHeld → IsSound r → carried_by c (post_settled post.Finished r) ≡ carried_by c r
 post_resumed_carries c r st h = ap (carried_among c) (owed_post_settled PostHeld r.entries post.Finished refl (at_stage r PostHeld st h).0)
 
-pub post_resumed_flies : (j : ℕ) (r : FlowRecord) → r.stage ≡ PostHeld → IsSound r → flight j r ≡ flight j (post_settled post.Finished r) + leaves_at j (last_posted r.entries) (post_leaves_by post.Finished)
+pub post_resumed_flies : (j : ℕ) (r : FlowRecord) → r.stage ≡ PostHeld → IsSound r
+    → flight j r ≡ flight j (post_settled post.Finished r) + leaves_at j (last_posted r.entries) (post_leaves_by post.Finished)
 post_resumed_flies j r st h = flight_post_settled PostHeld r.entries post.Finished j refl (at_stage r PostHeld st h).0
 
 -- it doesn't answer a create
@@ -54,7 +59,8 @@ post_resumed_uncreated r s st is = ap is_creating is ∙ ap (λ stage. is_create
 
 -- ---- the number that is kept of its instance follows
 
-pub resumed_pre_leaves : (state : PreState) (r : FlowRecord) (at : Option InstanceId) {s : FlowRecord} {gone : Option InstanceId} → r.stage ≡ PreHeld → IsSound r
+pub resumed_pre_leaves : (state : PreState) (r : FlowRecord) (at : Option InstanceId) {s : FlowRecord} {gone : Option InstanceId}
+    → r.stage ≡ PreHeld → IsSound r
     → number_of at ≡ last_visited r.entries → s ≡ pre_settled state r → gone ≡ left_pre state at → Leaves gone r s
 resumed_pre_leaves state r at st sound last is goes j =
     let same = ap (λ l. leaves_at j l (leaves_by state)) (sym last) ∙ leaves_pre j state at ∙ ap (λ at. leaves_at j (number_of at) 1) (sym goes) in

@@ -48,26 +48,32 @@ fit_change : (operation : Operation) (path : Option (List ℕ)) (received : Para
 fit_change operation path received None a b = a
 fit_change operation path received (Some p) a b = b
 
-fit_kept : (operation : Operation) (path : Option (List ℕ)) (d : Params) (changed : Option Params) → fit operation path d ≡ true → All (λ p. fit operation path p ≡ true) (kept_of d changed)
+fit_kept : (operation : Operation) (path : Option (List ℕ)) (d : Params) (changed : Option Params) → fit operation path d ≡ true
+    → All (λ p. fit operation path p ≡ true) (kept_of d changed)
 fit_kept operation path d None h = All-nil (λ p. fit operation path p ≡ true)
 fit_kept operation path d (Some p) h = All-push (λ q. fit operation path q ≡ true) [] d (All-nil (λ q. fit operation path q ≡ true)) h
 
-pub sound_pre_returned : (state : PreState) (d : Data) (r : FlowRecord) → r.stage ≡ PreRunning → is_counted state ≡ true → data_fits r.operation r.path d ≡ true → IsSound r → IsSound (pre_returned_of state d r)
+pub sound_pre_returned : (state : PreState) (d : Data) (r : FlowRecord) → r.stage ≡ PreRunning → is_counted state ≡ true
+    → data_fits r.operation r.path d ≡ true → IsSound r → IsSound (pre_returned_of state d r)
 sound_pre_returned state d r st counted fits h =
     let parts = fits_parts r.operation r.path d fits in
     let at = at_stage r PreRunning st h in
     let a = ap length (settles_pre r.entries state (the_open_pre PreRunning r.entries at.0 refl)).visits in
     let few : length (kept_of d.received d.changed) ≤ 1 = grind arith in
     let short : length (answer_after state r.answer).bytes ≤ 32768 = grind (arith, h.bytes) in
-    sound_moved r (pre_leads state) (map (settle_pre state) r.entries) (Some (current_of d)) (r.kept ++ kept_of d.received d.changed) (answer_after state r.answer) r.handle h (rw st refl)
-    (course_pre_settled PreRunning r.entries state refl at.0) (sym (ap not (returned state counted).0)) (fit_change r.operation r.path d.received d.changed parts.0 parts.1)
+    sound_moved r (pre_leads state) (map (settle_pre state) r.entries) (Some (current_of d)) (r.kept ++ kept_of d.received d.changed)
+    (answer_after state r.answer) r.handle h (rw st refl)
+    (course_pre_settled PreRunning r.entries state refl at.0) (sym (ap not (returned state counted).0))
+    (fit_change r.operation r.path d.received d.changed parts.0 parts.1)
     (All-append (λ p. fit r.operation r.path p ≡ true) r.kept (kept_of d.received d.changed) h.kept (fit_kept r.operation r.path d.received d.changed parts.0))
     (omega (arith, a, at.2, length-append r.kept (kept_of d.received d.changed), few, (returned state counted).1)) short
 
-pub pre_returned_carries : (c : CtxId) (state : PreState) (d : Data) (r : FlowRecord) → r.stage ≡ PreRunning → IsSound r → carried_by c (pre_returned_of state d r) ≡ carried_by c r + taken_by c state
+pub pre_returned_carries : (c : CtxId) (state : PreState) (d : Data) (r : FlowRecord) → r.stage ≡ PreRunning → IsSound r
+    → carried_by c (pre_returned_of state d r) ≡ carried_by c r + taken_by c state
 pre_returned_carries c state d r st h = carried_pre_settled PreRunning r.entries state c refl (at_stage r PreRunning st h).0
 
-pub pre_returned_flies : (j : ℕ) (state : PreState) (d : Data) (r : FlowRecord) → r.stage ≡ PreRunning → IsSound r → flight j r ≡ flight j (pre_returned_of state d r) + leaves_at j (last_visited r.entries) (leaves_by state)
+pub pre_returned_flies : (j : ℕ) (state : PreState) (d : Data) (r : FlowRecord) → r.stage ≡ PreRunning → IsSound r
+    → flight j r ≡ flight j (pre_returned_of state d r) + leaves_at j (last_visited r.entries) (leaves_by state)
 pre_returned_flies j state d r st h = flight_pre_settled PreRunning r.entries state j refl (at_stage r PreRunning st h).0
 
 -- the path for the base's call is at hand until the call
@@ -81,45 +87,54 @@ path_down state path given h = h
 counted_short : (call : Params) (answer : Answer) (handle : HandleId) → length answer.bytes ≤ 32768 → length (base_counted call answer handle).bytes ≤ 32768
 counted_short call answer handle h = grind (arith, h)
 
-pub sound_base : (call : BaseCall) (answer : Answer) (handle : HandleId) (r : FlowRecord) → r.stage ≡ InBase → base_fits call answer r ≡ true → IsSound r → IsSound (base_returned_of call answer handle r)
+pub sound_base : (call : BaseCall) (answer : Answer) (handle : HandleId) (r : FlowRecord) → r.stage ≡ InBase
+    → base_fits call answer r ≡ true → IsSound r → IsSound (base_returned_of call answer handle r)
 sound_base call answer handle r st fits h =
     let parts = and_parts (call_fits r.operation r.volume r.path call) (nat_le (length answer.bytes) 32768) fits in
     let own = and_parts (call.volume.0 == r.volume.0) (same_path call.path r.path && fit r.operation r.path call.params) parts.0 in
     let short : length answer.bytes ≤ 32768 = grind (arith, nat_tests, parts.1) in
     let counts = base_counted call.params answer handle in
-    sound_pushed r InBase Ascending (Base counts.status counts.information) (Some call.params) counts (handle_given call.params answer.status handle r.handle) st h (rw st refl)
-    (course_base InBase r.entries counts.status counts.information refl refl (at_stage r InBase st h).0) refl (and_parts (same_path call.path r.path) (fit r.operation r.path call.params) own.1).1
+    sound_pushed r InBase Ascending (Base counts.status counts.information) (Some call.params) counts
+    (handle_given call.params answer.status handle r.handle) st h (rw st refl)
+    (course_base InBase r.entries counts.status counts.information refl refl (at_stage r InBase st h).0) refl
+    (and_parts (same_path call.path r.path) (fit r.operation r.path call.params) own.1).1
     (omega arith) (counted_short call.params answer handle short)
 
 base_owed : (call : BaseCall) (answer : Answer) (handle : HandleId) (r : FlowRecord) → owed (base_returned_of call answer handle r).entries ≡ owed r.entries
 base_owed call answer handle r =
     let counts = base_counted call.params answer handle in owed_push_none r.entries (Base counts.status counts.information) refl (λ i. refl)
 
-pub base_returned_carries : (c : CtxId) (call : BaseCall) (answer : Answer) (handle : HandleId) (r : FlowRecord) → carried_by c (base_returned_of call answer handle r) ≡ carried_by c r
+pub base_returned_carries : (c : CtxId) (call : BaseCall) (answer : Answer) (handle : HandleId) (r : FlowRecord)
+    → carried_by c (base_returned_of call answer handle r) ≡ carried_by c r
 base_returned_carries c call answer handle r = ap (carried_among c) (base_owed call answer handle r)
 
-pub base_returned_flies : (j : ℕ) (call : BaseCall) (answer : Answer) (handle : HandleId) (r : FlowRecord) → flight j (base_returned_of call answer handle r) ≡ flight j r
+pub base_returned_flies : (j : ℕ) (call : BaseCall) (answer : Answer) (handle : HandleId) (r : FlowRecord)
+    → flight j (base_returned_of call answer handle r) ≡ flight j r
 base_returned_flies j call answer handle r =
     let counts = base_counted call.params answer handle in
     omega (arith, ap (λ xs. times j (instances xs)) (base_owed call answer handle r), opens_push j r.entries (Base counts.status counts.information))
 
 -- ---- a postoperation returns
 
-pub sound_post_returned : (v : PostVerdict) (d : Data) (r : FlowRecord) → r.stage ≡ PostRunning → data_fits r.operation r.path d ≡ true → IsSound r → IsSound (post_returned_of v d r)
+pub sound_post_returned : (v : PostVerdict) (d : Data) (r : FlowRecord) → r.stage ≡ PostRunning → data_fits r.operation r.path d ≡ true
+    → IsSound r → IsSound (post_returned_of v d r)
 sound_post_returned v d r st fits h =
     let parts = fits_parts r.operation r.path d fits in
     let at = at_stage r PostRunning st h in
     let back : lends (post_leads (post_state v)) ≡ false = grind arith in
     let few : keeps_more (post_leads (post_state v)) ≡ 0 = grind arith in
     let short : length (returned_answer r.operation r.answer d).bytes ≤ 32768 = grind (arith, h.bytes, parts.2) in
-    sound_moved r (post_leads (post_state v)) (map (settle_post (post_state v)) r.entries) (Some d.received) r.kept (returned_answer r.operation r.answer d) r.handle h (rw st refl)
+    sound_moved r (post_leads (post_state v)) (map (settle_post (post_state v)) r.entries) (Some d.received) r.kept
+    (returned_answer r.operation r.answer d) r.handle h (rw st refl)
     (course_post_settled PostRunning r.entries (post_state v) refl at.0) (sym (ap not back)) parts.0 h.kept
     (omega (arith, ap length (settles_post r.entries (post_state v)).visits, at.2, few)) short
 
-pub post_returned_carries : (c : CtxId) (v : PostVerdict) (d : Data) (r : FlowRecord) → r.stage ≡ PostRunning → IsSound r → carried_by c (post_returned_of v d r) ≡ carried_by c r
+pub post_returned_carries : (c : CtxId) (v : PostVerdict) (d : Data) (r : FlowRecord) → r.stage ≡ PostRunning → IsSound r
+    → carried_by c (post_returned_of v d r) ≡ carried_by c r
 post_returned_carries c v d r st h = ap (carried_among c) (owed_post_settled PostRunning r.entries (post_state v) refl (at_stage r PostRunning st h).0)
 
-pub post_returned_flies : (j : ℕ) (v : PostVerdict) (d : Data) (r : FlowRecord) → r.stage ≡ PostRunning → IsSound r → flight j r ≡ flight j (post_returned_of v d r) + leaves_at j (last_posted r.entries) (post_leaves_by (post_state v))
+pub post_returned_flies : (j : ℕ) (v : PostVerdict) (d : Data) (r : FlowRecord) → r.stage ≡ PostRunning → IsSound r
+    → flight j r ≡ flight j (post_returned_of v d r) + leaves_at j (last_posted r.entries) (post_leaves_by (post_state v))
 post_returned_flies j v d r st h = flight_post_settled PostRunning r.entries (post_state v) j refl (at_stage r PostRunning st h).0
 
 pub path_up : (state : PostState) (path given : Option (List ℕ)) → HasPath (post_leads state) path given
@@ -137,7 +152,8 @@ sound_drain_returned i r st h =
 pub drain_returned_carries : (c : CtxId) (i : InstanceId) (r : FlowRecord) → carried_by c (drain_returned_of i r) ≡ carried_by c r
 drain_returned_carries c i r = ap (carried_among c) (owed_drain_settled i.0 r.entries)
 
-pub drain_returned_flies : (j : ℕ) (i : InstanceId) (r : FlowRecord) → r.stage ≡ InDrain i → IsSound r → flight j r ≡ flight j (drain_returned_of i r) + one (i.0 == j)
+pub drain_returned_flies : (j : ℕ) (i : InstanceId) (r : FlowRecord) → r.stage ≡ InDrain i → IsSound r
+    → flight j r ≡ flight j (drain_returned_of i r) + one (i.0 == j)
 drain_returned_flies j i r st h =
     let e = ap (λ n. cond (i.0 == j) n 0) (at_stage r (InDrain i) st h).0.drain in
     omega (arith, opens_drain_settled i.0 j r.entries, e, ap (λ xs. times j (instances xs)) (owed_drain_settled i.0 r.entries))
@@ -152,7 +168,8 @@ post_uncreated v d r s st is =
     let here : is_creating r ≡ false = rw st (and_false (is_create r.operation)) in
     let up : is_unanswered (post_leads (post_state v)) ≡ false = grind arith in
     ap is_creating is
-    ∙ either_way (λ x. is_creating x ≡ is_creating r) (data_fits r.operation r.path d) (λ e. ap (λ b. is_create r.operation && b) up ∙ and_false (is_create r.operation) ∙ sym here) (λ e. refl)
+    ∙ either_way (λ x. is_creating x ≡ is_creating r) (data_fits r.operation r.path d) (λ e. ap (λ b. is_create r.operation && b) up
+    ∙ and_false (is_create r.operation) ∙ sym here) (λ e. refl)
 
 pub drain_uncreated : (i : InstanceId) (r s : FlowRecord) → r.stage ≡ InDrain i → s ≡ drain_returned_of i r → is_creating s ≡ is_creating r
 drain_uncreated i r s st is = ap is_creating is ∙ ap (λ stage. is_create r.operation && is_unanswered stage) (sym st)
@@ -160,18 +177,23 @@ drain_uncreated i r s st is = ap is_creating is ∙ ap (λ stage. is_create r.op
 -- ---- the number that is kept of its instance follows
 
 -- an answer of the base
-pub base_flies : (j : ℕ) (call : BaseCall) (answer : Answer) (handle : HandleId) (r s : FlowRecord) → s ≡ base_after call answer handle r → flight j s ≡ flight j r
+pub base_flies : (j : ℕ) (call : BaseCall) (answer : Answer) (handle : HandleId) (r s : FlowRecord)
+    → s ≡ base_after call answer handle r → flight j s ≡ flight j r
 base_flies j call answer handle r s is =
     ap (flight j) is ∙ either_way (λ x. flight j x ≡ flight j r) (base_fits call answer r) (λ e. base_returned_flies j call answer handle r) (λ e. refl)
 
-pub pre_leaves : (state : PreState) (lent : Data) (r : FlowRecord) (at : Option InstanceId) {s : FlowRecord} {reply : Result ⊤ Data} {gone : Option InstanceId} → r.stage ≡ PreRunning
-    → IsSound r → number_of at ≡ last_visited r.entries → s ≡ pre_after state lent r → reply ≡ data_reply lent r → gone ≡ if_taken reply (left_pre state at) → Leaves gone r s
+pub pre_leaves : (state : PreState) (lent : Data) (r : FlowRecord) (at : Option InstanceId) {s : FlowRecord} {reply : Result ⊤ Data}
+    {gone : Option InstanceId} → r.stage ≡ PreRunning
+    → IsSound r → number_of at ≡ last_visited r.entries → s ≡ pre_after state lent r → reply ≡ data_reply lent r
+    → gone ≡ if_taken reply (left_pre state at) → Leaves gone r s
 pre_leaves state lent r at st sound last is told goes =
     taken_leaves lent (data_fits r.operation r.path lent) r (pre_returned_of state lent r) (left_pre state at) is told goes
     (λ j. omega (arith, pre_returned_flies j state lent r st sound, leaves_pre j state at, ap (λ l. leaves_at j l (leaves_by state)) last))
 
-pub post_leaves : (verdict : PostVerdict) (lent : Data) (r : FlowRecord) (at : Option InstanceId) {s : FlowRecord} {reply : Result ⊤ Data} {gone : Option InstanceId} → r.stage ≡ PostRunning
-    → IsSound r → number_of at ≡ last_posted r.entries → s ≡ post_after verdict lent r → reply ≡ data_reply lent r → gone ≡ if_taken reply (left_post (post_state verdict) at) → Leaves gone r s
+pub post_leaves : (verdict : PostVerdict) (lent : Data) (r : FlowRecord) (at : Option InstanceId) {s : FlowRecord}
+    {reply : Result ⊤ Data} {gone : Option InstanceId} → r.stage ≡ PostRunning
+    → IsSound r → number_of at ≡ last_posted r.entries → s ≡ post_after verdict lent r → reply ≡ data_reply lent r
+    → gone ≡ if_taken reply (left_post (post_state verdict) at) → Leaves gone r s
 post_leaves verdict lent r at st sound last is told goes =
     let state = post_state verdict in
     taken_leaves lent (data_fits r.operation r.path lent) r (post_returned_of verdict lent r) (left_post state at) is told goes

@@ -20,7 +20,8 @@ nothing_at_end [] current = refl
 nothing_at_end (x ∷ kept) current = nothing_at_end kept current
 
 -- what was kept before a place is seen there still, and at the place itself the parameters put back are
-still_seen : (kept : List Params) (place at : ℕ) (p current : Params) → slice_get kept place ≡ Some p → at ≤ place → sees (take place kept) at p ≡ sees kept at current
+still_seen : (kept : List Params) (place at : ℕ) (p current : Params) → slice_get kept place ≡ Some p → at ≤ place
+    → sees (take place kept) at p ≡ sees kept at current
 still_seen [] place at p current found below = cc
 still_seen (x ∷ kept) zero zero p current found below = sym (same_Some x p found)
 still_seen (x ∷ kept) zero (suc at) p current found below = absurd (omega (arith, below))
@@ -51,8 +52,10 @@ seen = record {
   post = λ worker ask r current has.
       let m = slice_get r.kept ask.place in
       let same = same_answer ask.place r m in
-      given worker ask (unwound ask.place r) (unwound ask.place r).params (sees r.kept ask.place current) (unwound_seen ask.place ask.place r current m refl has (omega arith)).0
-      ∙ ap₂ (λ operation answer. Ok (action.Post ask.instance (answered_data (sees r.kept ask.place current) (lent_answer operation answer)) ask.completion)) same.0 same.1;
+      given worker ask (unwound ask.place r) (unwound ask.place r).params (sees r.kept ask.place current)
+      (unwound_seen ask.place ask.place r current m refl has (omega arith)).0
+      ∙ ap₂ (λ operation answer. Ok (action.Post ask.instance
+      (answered_data (sees r.kept ask.place current) (lent_answer operation answer)) ask.completion)) same.0 same.1;
   later = λ place at r current has below. unwound_seen place at r current (slice_get r.kept place) refl has below;
   held = λ state end r. (refl, refl, refl, refl);
 }

@@ -32,7 +32,8 @@ post_alike state e = record { visits = grind arith; posts = grind arith; answere
 drain_alike : (i : ℕ) (e : Entry) → Alike (settle_drain i e) e
 drain_alike i e = record { visits = grind arith; posts = grind arith; answered = λ j. grind arith; drained = λ j. grind arith }
 
-map_alike : {Y : Type 0} (g : Entry → Option Y) (f : Entry → Entry) → ((e : Entry) → g (f e) ≡ g e) → (es : List Entry) → filter_map g (map f es) ≡ filter_map g es
+map_alike : {Y : Type 0} (g : Entry → Option Y) (f : Entry → Entry) → ((e : Entry) → g (f e) ≡ g e) → (es : List Entry)
+    → filter_map g (map f es) ≡ filter_map g es
 map_alike g f same [] = refl
 map_alike g f same (e ∷ es) = ap₂ cons_option (same e) (map_alike g f same es)
 
@@ -44,7 +45,8 @@ count_alike : (i : ℕ) (f : Entry → Entry) → ((e : Entry) → answers i (f 
 count_alike i f same [] = refl
 count_alike i f same (e ∷ es) = ap₂ (λ a b. one a + b) (same e) (count_alike i f same es)
 
-settles : (f : Entry → Entry) (es : List Entry) (o : Option Ask) → ((e : Entry) → Alike (f e) e) → asked (map f es) ≡ asked es ++ option_to_list o → Settles es (map f es) o
+settles : (f : Entry → Entry) (es : List Entry) (o : Option Ask) → ((e : Entry) → Alike (f e) e)
+    → asked (map f es) ≡ asked es ++ option_to_list o → Settles es (map f es) o
 settles f es o same asks = record {
   asks = asks;
   visits = map_alike visit_of f (λ e. (same e).visits) es;
@@ -61,13 +63,15 @@ settles_none f es same asks = settles f es None same (map_alike ask_of f asks es
 
 -- ---- the entry of a callback in the midst of a list
 
-settled_is : {V : Type 0} {kind : V → Entry} {from : Stage} {es : List Entry} {f : Entry → Entry} (e : Entry) (o : OpenAs kind from es) → Settling f → f (kind o.visit) ≡ e
+settled_is : {V : Type 0} {kind : V → Entry} {from : Stage} {es : List Entry} {f : Entry → Entry} (e : Entry) (o : OpenAs kind from es)
+    → Settling f → f (kind o.visit) ≡ e
     → map f es ≡ o.front ++ e ∷ o.back
 settled_is {kind = kind} {f = f} e o closed is =
     ap (map f) o.split ∙ map-append f o.front (kind o.visit ∷ o.back) ∙ ap₂ (λ xs ys. xs ++ f (kind o.visit) ∷ ys) (o.stays f closed) (o.quiet.stays f closed)
     ∙ ap (λ x. o.front ++ x ∷ o.back) is
 
-walk_settled : {V : Type 0} {kind : V → Entry} {from : Stage} {es fs : List Entry} (e : Entry) (u : Stage) (o : OpenAs kind from es) → fs ≡ o.front ++ e ∷ o.back → after from e ≡ Some u
+walk_settled : {V : Type 0} {kind : V → Entry} {from : Stage} {es fs : List Entry} (e : Entry) (u : Stage) (o : OpenAs kind from es)
+    → fs ≡ o.front ++ e ∷ o.back → after from e ≡ Some u
     → way_of u ≡ u → walk Descending fs ≡ Some (way_of u)
 walk_settled e u o is leads way =
     ap (walk Descending) is ∙ walk-append Descending o.front (e ∷ o.back) ∙ ap (option_and_then (λ v. walk v (e ∷ o.back))) o.way
@@ -81,7 +85,8 @@ walks_to s es c way = c.order ∙ ap Some way
 abbrev pub with_state : PreVisit → PreState → PreVisit
 with_state visit state = record visit { state = state }
 
-asked_mid : {es : List Entry} (o : OpenPre es) (visit : PreVisit) → asked (o.front ++ Pre visit ∷ o.back) ≡ asked o.front ++ option_to_list (ask_in visit visit.state)
+asked_mid : {es : List Entry} (o : OpenPre es) (visit : PreVisit)
+    → asked (o.front ++ Pre visit ∷ o.back) ≡ asked o.front ++ option_to_list (ask_in visit visit.state)
 asked_mid o visit = let q = o.quiet.asks in rw (filter_map-append, q) (grind arith)
 
 -- it hasn't asked
@@ -103,12 +108,14 @@ fresh_ask es visit state none posts = tt
 open_unanswered : (s : Stage) (es : List Entry) (o : OpenPre es) → IsCourse s es → answer_count o.visit.instance.0 es ≡ 0
 open_unanswered s es o c =
     let i = o.visit.instance.0 in
-    let d = ap (times i) (ap visited o.split ∙ filter_map-append visit_of o.front (Pre o.visit ∷ o.back) ∙ ap (λ xs. visited o.front ++ i ∷ xs) o.quiet.visits) ∙ times-append i (visited o.front) (i ∷ []) in
+    let d = ap (times i) (ap visited o.split ∙ filter_map-append visit_of o.front (Pre o.visit ∷ o.back)
+    ∙ ap (λ xs. visited o.front ++ i ∷ xs) o.quiet.visits) ∙ times-append i (visited o.front) (i ∷ []) in
     let same : one (i == i) ≡ 1 = grind (arith, nat_tests) in
     omega (arith, asked_among i o.front, ap (λ xs. times i (instances xs)) (unasked o), d, c.apart i, c.once i, same)
 
 pub settled_pre_is : (es : List Entry) (state : PreState) (o : OpenPre es) → map (settle_pre state) es ≡ o.front ++ Pre (with_state o.visit state) ∷ o.back
-settled_pre_is es state o = settled_is (Pre (with_state o.visit state)) o (settling_pre state) (ap (λ b. Pre (with_state o.visit (cond b state o.visit.state))) o.unsettled)
+settled_pre_is es state o = settled_is (Pre (with_state o.visit state)) o (settling_pre state)
+    (ap (λ b. Pre (with_state o.visit (cond b state o.visit.state))) o.unsettled)
 
 pub settles_pre : (es : List Entry) (state : PreState) (o : OpenPre es) → Settles es (map (settle_pre state) es) (ask_in (with_state o.visit state) state)
 settles_pre es state o =
@@ -119,18 +126,22 @@ settles_pre es state o =
 pub the_open_pre : (s : Stage) (es : List Entry) → IsCourse s es → is_pre s ≡ true → OpenPre es
 the_open_pre s es c p = open_pre es s (walks_to s es c (grind arith)) p
 
-pub fresh_of_open : (s : Stage) (es : List Entry) (state : PreState) (c : IsCourse s es) (p : is_pre s ≡ true) → IsFresh es (ask_in (with_state (the_open_pre s es c p).visit state) state)
+pub fresh_of_open : (s : Stage) (es : List Entry) (state : PreState) (c : IsCourse s es) (p : is_pre s ≡ true)
+    → IsFresh es (ask_in (with_state (the_open_pre s es c p).visit state) state)
 fresh_of_open s es state c p =
     let o = the_open_pre s es c p in
     fresh_ask es (with_state o.visit state) state (open_unanswered s es o c) (no_posts Descending es s (walks_to s es c (grind arith)) (grind arith))
 
-pub course_pre_settled : (s : Stage) (es : List Entry) (state : PreState) → is_pre s ≡ true → IsCourse s es → IsCourse (pre_leads state) (map (settle_pre state) es)
+pub course_pre_settled : (s : Stage) (es : List Entry) (state : PreState) → is_pre s ≡ true → IsCourse s es
+    → IsCourse (pre_leads state) (map (settle_pre state) es)
 course_pre_settled s es state p c =
     let o = the_open_pre s es c p in
     let room : length (option_to_list (ask_in (with_state o.visit state) state)) + slack (pre_leads state) ≤ slack s = grind (arith, nat_tests) in
-    course_settled s (pre_leads state) es (map (settle_pre state) es) (ask_in (with_state o.visit state) state) (settles_pre es state o) c (fresh_of_open s es state c p)
+    course_settled s (pre_leads state) es (map (settle_pre state) es) (ask_in (with_state o.visit state) state)
+    (settles_pre es state o) c (fresh_of_open s es state c p)
     (walk_settled (Pre (with_state o.visit state)) (pre_leads state) o (settled_pre_is es state o) refl (grind arith)) room
-    (none_made (asked (map (settle_pre state) es)) (map (settle_pre state) es) ((settles_pre es state o).posts ∙ no_posts Descending es s (walks_to s es c (grind arith)) (grind arith))) (no_drain_of_pre state (map (settle_pre state) es))
+    (none_made (asked (map (settle_pre state) es)) (map (settle_pre state) es) ((settles_pre es state o).posts
+    ∙ no_posts Descending es s (walks_to s es c (grind arith)) (grind arith))) (no_drain_of_pre state (map (settle_pre state) es))
 
 -- ---- a postoperation
 
@@ -142,7 +153,8 @@ no_drain_of_post post.Running es = tt
 no_drain_of_post state es = tt
 
 pub settled_post_is : (es : List Entry) (state : PostState) (o : OpenPost es) → map (settle_post state) es ≡ o.front ++ Post (with_post o.visit state) ∷ o.back
-settled_post_is es state o = settled_is (Post (with_post o.visit state)) o (settling_post state) (ap (λ b. Post (with_post o.visit (cond b state o.visit.state))) o.unsettled)
+settled_post_is es state o = settled_is (Post (with_post o.visit state)) o (settling_post state)
+    (ap (λ b. Post (with_post o.visit (cond b state o.visit.state))) o.unsettled)
 
 pub settles_post : (es : List Entry) (state : PostState) → Settles es (map (settle_post state) es) None
 settles_post es state = settles_none (settle_post state) es (post_alike state) (λ e. grind arith)
@@ -150,7 +162,8 @@ settles_post es state = settles_none (settle_post state) es (post_alike state) (
 pub the_open_post : (s : Stage) (es : List Entry) → IsCourse s es → is_post s ≡ true → OpenPost es
 the_open_post s es c p = open_post es s (walks_to s es c (grind arith)) p
 
-pub course_post_settled : (s : Stage) (es : List Entry) (state : PostState) → is_post s ≡ true → IsCourse s es → IsCourse (post_leads state) (map (settle_post state) es)
+pub course_post_settled : (s : Stage) (es : List Entry) (state : PostState) → is_post s ≡ true → IsCourse s es
+    → IsCourse (post_leads state) (map (settle_post state) es)
 course_post_settled s es state p c =
     let o = the_open_post s es c p in
     let room : 0 + slack (post_leads state) ≤ slack s = grind (arith, nat_tests) in
@@ -167,12 +180,15 @@ drain_walks : (i : ℕ) (s : Stage) (es : List Entry) → walk s (map (settle_dr
 drain_walks i s [] = refl
 drain_walks i s (e ∷ es) =
     let same : after s (settle_drain i e) ≡ after s e = grind arith in
-    rw same (elim (after s e) as (λ o. option_and_then (λ t. walk t (map (settle_drain i) es)) o ≡ option_and_then (λ t. walk t es) o) [ None ↦ refl | Some u ↦ drain_walks i u es ])
+    rw same (elim (after s e) as (λ o. option_and_then (λ t. walk t (map (settle_drain i) es)) o ≡ option_and_then (λ t. walk t es) o)
+    [ None ↦ refl | Some u ↦ drain_walks i u es ])
 
 -- a drain is over
-pub course_drain_over : (i : ℕ) (s t : Stage) (es : List Entry) → way_of t ≡ way_of s → slack t ≤ slack s → HasItsDrain t (map (settle_drain i) es) → IsCourse s es → IsCourse t (map (settle_drain i) es)
+pub course_drain_over : (i : ℕ) (s t : Stage) (es : List Entry) → way_of t ≡ way_of s → slack t ≤ slack s
+    → HasItsDrain t (map (settle_drain i) es) → IsCourse s es → IsCourse t (map (settle_drain i) es)
 course_drain_over i s t es way less drain c =
-    course_settled s t es (map (settle_drain i) es) None (settles_drain i es) c tt (drain_walks i Descending es ∙ c.order ∙ ap Some (sym way)) (omega (arith, less))
+    course_settled s t es (map (settle_drain i) es) None (settles_drain i es) c tt (drain_walks i Descending es ∙ c.order
+    ∙ ap Some (sym way)) (omega (arith, less))
     (made_drain i es (map_alike ask_of (settle_drain i) (λ e. grind arith) es) c.synchronized) drain
 
 -- one that `next` gave

@@ -22,11 +22,14 @@ unspent r s stays undone h = elim (cases_Bool s.collected) [
 ]
 
 -- what is said of the stage, where that is known
-pub at_stage : (r : FlowRecord) (s : Stage) → r.stage ≡ s → IsSound r → IsCourse s r.entries × (is_some r.params ≡ not (lends s)) × (length r.kept + keeps_more s ≤ length (visited r.entries))
-at_stage r s st h = subst (λ t. IsCourse t r.entries × (is_some r.params ≡ not (lends t)) × (length r.kept + keeps_more t ≤ length (visited r.entries))) st (h.course, h.here, h.places)
+pub at_stage : (r : FlowRecord) (s : Stage) → r.stage ≡ s → IsSound r → IsCourse s r.entries × (is_some r.params ≡ not (lends s))
+    × (length r.kept + keeps_more s ≤ length (visited r.entries))
+at_stage r s st h = subst (λ t. IsCourse t r.entries × (is_some r.params ≡ not (lends t))
+    × (length r.kept + keeps_more t ≤ length (visited r.entries))) st (h.course, h.here, h.places)
 
 -- an operation that isn't done and isn't collected moves on
-pub sound_moved : (r : FlowRecord) (t : Stage) (es : List Entry) (params : Option Params) (kept : List Params) (answer : Answer) (handle : Option HandleId) → IsSound r → is_done r ≡ false
+pub sound_moved : (r : FlowRecord) (t : Stage) (es : List Entry) (params : Option Params) (kept : List Params) (answer : Answer)
+    (handle : Option HandleId) → IsSound r → is_done r ≡ false
     → IsCourse t es → is_some params ≡ not (lends t) → IfSome params (λ p. fit r.operation r.path p ≡ true) → All (λ p. fit r.operation r.path p ≡ true) kept
     → length kept + keeps_more t ≤ length (visited es) → length answer.bytes ≤ 32768
     → IsSound (record r { stage = t; entries = es; params = params; kept = kept; answer = answer; handle = handle })
@@ -34,7 +37,8 @@ sound_moved r t es params kept answer handle h undone course here fits all place
     record { course = course; here = here; params = fits; kept = all; places = places; bytes = bytes; collected = λ k. let d = h.collected k in cc }
 
 -- by one more entry
-pub sound_pushed : (r : FlowRecord) (s t : Stage) (e : Entry) (params : Option Params) (answer : Answer) (handle : Option HandleId) → r.stage ≡ s → IsSound r → is_done r ≡ false
+pub sound_pushed : (r : FlowRecord) (s t : Stage) (e : Entry) (params : Option Params) (answer : Answer) (handle : Option HandleId)
+    → r.stage ≡ s → IsSound r → is_done r ≡ false
     → IsCourse t (r.entries ++ e ∷ []) → is_some params ≡ not (lends t) → IfSome params (λ p. fit r.operation r.path p ≡ true)
     → keeps_more t ≤ keeps_more s + length (option_to_list (visit_of e)) → length answer.bytes ≤ 32768
     → IsSound (record (with_entry e t r) { params = params; answer = answer; handle = handle })

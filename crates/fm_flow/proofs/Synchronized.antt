@@ -46,7 +46,8 @@ made_drain i es same h = made_still (settle_drain i) es (drain_still i) same h
 
 all_reversed : {X : Type 0} (P : X → Type 0) (xs : List X) → All P xs → All P (reverse xs)
 all_reversed P [] h = All-nil P
-all_reversed P (x ∷ xs) h = subst (All P) (sym (reverse-append (x ∷ []) xs)) (All-push P (reverse xs) x (all_reversed P xs (All-tail P x xs h)) (All-head P x xs h))
+all_reversed P (x ∷ xs) h = subst (All P) (sym (reverse-append (x ∷ []) xs))
+    (All-push P (reverse xs) x (all_reversed P xs (All-tail P x xs h)) (All-head P x xs h))
 
 times_reversed : (i : ℕ) (asks : List Ask) → times i (instances (reverse asks)) ≡ times i (instances asks)
 times_reversed i [] = refl
@@ -69,7 +70,8 @@ the_only : (p : Ask → Bool) (asks rest : List Ask) (ask : Ask) → filter p as
 the_only p [] rest ask is few = cc
 the_only p (a ∷ asks) rest ask is few = by_test (p a) (λ found. the_only p asks rest ask found (omega (arith, few))) is
   where
-    by_test : (b : Bool) → (filter p asks ≡ ask ∷ rest → All (Only ask) asks) → cond b (a ∷ filter p asks) (filter p asks) ≡ ask ∷ rest → All (Only ask) (a ∷ asks)
+    by_test : (b : Bool) → (filter p asks ≡ ask ∷ rest → All (Only ask) asks) → cond b (a ∷ filter p asks) (filter p asks) ≡ ask ∷ rest
+        → All (Only ask) (a ∷ asks)
     by_test true others is =
         let same : a ≡ ask = cc in
         let here : one (a.instance.0 == ask.instance.0) ≡ 1 = grind (arith, nat_tests, same) in
@@ -80,12 +82,15 @@ the_only p (a ∷ asks) rest ask is few = by_test (p a) (λ found. the_only p as
         All-cons (Only ask) a asks (λ e. absurd (grind (arith, nat_tests, few, among, there, e))) (others is)
 
 -- the postoperation that comes next, by a worker that may make it
-pub made_next : (worker : WorkerId) (state : PostState) (es : List Entry) (ask : Ask) (rest : List Ask) → owed es ≡ ask ∷ rest → times ask.instance.0 (instances (asked es)) ≤ 1
+pub made_next : (worker : WorkerId) (state : PostState) (es : List Entry) (ask : Ask) (rest : List Ask) → owed es ≡ ask ∷ rest
+    → times ask.instance.0 (instances (asked es)) ≤ 1
     → may_take worker ask ≡ true → MadeAsAsked (asked es) (post_entry worker ask.instance state)
 made_next worker state es ask rest next few may =
-    let all = the_only (λ a. not (is_answered es a.instance.0)) (reverse (asked es)) rest ask next (omega (arith, few, times_reversed ask.instance.0 (asked es))) in
+    let all = the_only (λ a. not (is_answered es a.instance.0)) (reverse (asked es)) rest ask next
+    (omega (arith, few, times_reversed ask.instance.0 (asked es))) in
     let there = subst (All (Only ask)) (reverse-reverse (asked es)) (all_reversed (Only ask) (reverse (asked es)) all) in
-    All-weaker (Only ask) (λ a. a.instance.0 ≡ ask.instance.0 → a.is_synchronized ≡ true → worker.0 ≡ a.worker.0) (λ a only same wants. taken a (only same) wants) (asked es) there
+    All-weaker (Only ask) (λ a. a.instance.0 ≡ ask.instance.0 → a.is_synchronized ≡ true → worker.0 ≡ a.worker.0)
+    (λ a only same wants. taken a (only same) wants) (asked es) there
   where
     taken : (a : Ask) → a ≡ ask → a.is_synchronized ≡ true → worker.0 ≡ a.worker.0
     taken a is wants = grind (arith, nat_tests, is, wants, may)

@@ -20,10 +20,12 @@ place_inside test (r ∷ rs) k is = (position-Some test (r ∷ rs) k r is).0
 
 -- ---- one operation changes, or goes
 
-pub count_set : (p : FlowRecord → Bool) (rs : List FlowRecord) (k : ℕ) (d s : FlowRecord) → k < length rs → d ≡ get_or rs k d → count_by p (set rs k s) + one (p d) ≡ count_by p rs + one (p s)
+pub count_set : (p : FlowRecord → Bool) (rs : List FlowRecord) (k : ℕ) (d s : FlowRecord) → k < length rs → d ≡ get_or rs k d
+    → count_by p (set rs k s) + one (p d) ≡ count_by p rs + one (p s)
 count_set p rs k d s below at = omega (arith, sum_by-set (λ r. cond (p r) 1 0) rs k s d below, ap (λ r. one (p r)) at)
 
-pub count_removed : (p : FlowRecord → Bool) (rs : List FlowRecord) (k : ℕ) (d : FlowRecord) → k < length rs → d ≡ get_or rs k d → count_by p (remove rs k) + one (p d) ≡ count_by p rs
+pub count_removed : (p : FlowRecord → Bool) (rs : List FlowRecord) (k : ℕ) (d : FlowRecord) → k < length rs → d ≡ get_or rs k d
+    → count_by p (remove rs k) + one (p d) ≡ count_by p rs
 count_removed p rs k d below at = omega (arith, sum_by-remove (λ r. cond (p r) 1 0) rs k d below, ap (λ r. one (p r)) at)
 
 -- ---- creates are under way
@@ -37,7 +39,13 @@ creating_flies r h = grind (arith, nat_tests, h.collected)
 pub creates_few : (rs : List FlowRecord) → All IsSound rs → count_by is_creating rs ≤ under_way rs
 creates_few [] sound = omega arith
 creates_few (r ∷ rs) sound =
-    omega (arith, count-cons is_creating r rs, count-cons (λ (s : FlowRecord). not s.collected) r rs, creating_flies r (All-head IsSound r rs sound), creates_few rs (All-tail IsSound r rs sound))
+    omega (
+      arith,
+      count-cons is_creating r rs,
+      count-cons (λ (s : FlowRecord). not s.collected) r rs,
+      creating_flies r (All-head IsSound r rs sound),
+      creates_few rs (All-tail IsSound r rs sound),
+    )
 
 pub uncreated : (p : FlowRecord → Bool) (rs : List FlowRecord) → count_by is_creating rs ≡ 0 → list_any (λ r. is_creating r && p r) rs ≡ false
 uncreated p [] none = refl
@@ -49,12 +57,14 @@ uncreated p (r ∷ rs) none = grind (arith, nat_tests, none, count-cons is_creat
 pub tallied_none : {counts : List ℕ} → counts ≡ replicate 4096 0 → IsTallied 0 0 counts []
 tallied_none is = record { under_way = refl; creates = refl; flights = λ j low. ap (λ (ms : List ℕ). kept_at ms j) is ∙ get_or-replicate 4096 j 0 0 low }
 
-pub total_set : (g : FlowRecord → ℕ) (rs : List FlowRecord) (k : ℕ) (d s : FlowRecord) → k < length rs → d ≡ get_or rs k d → total g (set rs k s) + g d ≡ total g rs + g s
+pub total_set : (g : FlowRecord → ℕ) (rs : List FlowRecord) (k : ℕ) (d s : FlowRecord) → k < length rs → d ≡ get_or rs k d
+    → total g (set rs k s) + g d ≡ total g rs + g s
 total_set g [] k d s below at = absurd (omega arith)
 total_set g (r ∷ rs) zero d s below at = omega (arith, ap g at)
 total_set g (r ∷ rs) (suc k) d s below at = omega (arith, total_set g rs k d s (omega arith) at)
 
-pub total_removed : (g : FlowRecord → ℕ) (rs : List FlowRecord) (k : ℕ) (d : FlowRecord) → k < length rs → d ≡ get_or rs k d → total g (remove rs k) + g d ≡ total g rs
+pub total_removed : (g : FlowRecord → ℕ) (rs : List FlowRecord) (k : ℕ) (d : FlowRecord) → k < length rs → d ≡ get_or rs k d
+    → total g (remove rs k) + g d ≡ total g rs
 total_removed g [] k d below at = absurd (omega arith)
 total_removed g (r ∷ rs) zero d below at = omega (arith, ap g at)
 total_removed g (r ∷ rs) (suc k) d below at = omega (arith, total_removed g rs k d (omega arith) at)
@@ -64,7 +74,8 @@ total_push g [] r = omega arith
 total_push g (x ∷ rs) r = omega (arith, total_push g rs r)
 
 -- the number that is kept, where an operation comes to an instance or leaves it
-pub kept_more : (at : Option InstanceId) (ns : List ℕ) (j : ℕ) → length ns ≡ 4096 → j < 4096 → kept_at (one_more at ns) j ≡ kept_at ns j + leaves_at j (option_map (λ (i : InstanceId). i.0) at) 1
+pub kept_more : (at : Option InstanceId) (ns : List ℕ) (j : ℕ) → length ns ≡ 4096 → j < 4096
+    → kept_at (one_more at ns) j ≡ kept_at ns j + leaves_at j (option_map (λ (i : InstanceId). i.0) at) 1
 kept_more None ns j len low = omega arith
 kept_more (Some i) ns j len low = elim (cases_eq j i.0) [
   | inl e ↦ rw (sym e) (let same : (j == j) ≡ true = grind (arith, nat_tests) in rw same (get_or-set_same ns j (kept_at ns j + 1) 0 (omega (arith, len))))
@@ -77,6 +88,7 @@ kept_less None ns j len low may = omega arith
 kept_less (Some i) ns j len low may = elim (cases_eq j i.0) [
   | inl e ↦
       let there : 0 < kept_at ns j = subst (λ n. n < 4096 → 0 < kept_at ns n) (sym e) may low in
-      rw (sym e) (let same : (j == j) ≡ true = grind (arith, nat_tests) in rw same (omega (arith, there, get_or-set_same ns j (kept_at ns j - 1) 0 (omega (arith, len)))))
+      rw (sym e) (let same : (j == j) ≡ true = grind (arith, nat_tests) in
+      rw same (omega (arith, there, get_or-set_same ns j (kept_at ns j - 1) 0 (omega (arith, len)))))
   | inr other ↦ let no : (i.0 == j) ≡ false = grind (arith, nat_tests, other) in rw no (omega (arith, get_or-set_other ns i.0 j (kept_at ns i.0 - 1) 0 other))
 ]

@@ -18,7 +18,8 @@ record Waits (own : WorkerId) (stops : Bool) (r : FlowRecord) : Type 0 where
   synchronized : ask.is_synchronized ≡ true
   worker : ask.worker ≡ own
 
-waits_at : (own : WorkerId) (stage : Stage) (m : Option Ask) → sync_at stage m ≡ Some own → (stage ≡ Ascending) × ((ask : Ask) × (m ≡ Some ask) × (ask.is_synchronized ≡ true) × (ask.worker ≡ own))
+waits_at : (own : WorkerId) (stage : Stage) (m : Option Ask) → sync_at stage m ≡ Some own → (stage ≡ Ascending)
+    × ((ask : Ask) × (m ≡ Some ask) × (ask.is_synchronized ≡ true) × (ask.worker ≡ own))
 waits_at own Ascending (Some ask) h = by_test ask.is_synchronized refl h
   where
     by_test : (b : Bool) → ask.is_synchronized ≡ b → cond b (Some ask.worker) None ≡ Some own
@@ -65,7 +66,8 @@ same_up worker other stops r None h = refl
 same_up worker other true r (Some ask) h = refl
 same_up worker other false r (Some ask) h = by_test ask.is_synchronized refl h
   where
-    by_test : (b : Bool) → ask.is_synchronized ≡ b → cond b (Some ask.worker) None ≡ None → (ascend worker false r (Some ask)).reply ≡ (ascend other false r (Some ask)).reply
+    by_test : (b : Bool) → ask.is_synchronized ≡ b → cond b (Some ask.worker) None ≡ None → (ascend worker false r (Some ask)).reply
+        ≡ (ascend other false r (Some ask)).reply
     by_test true is h = absurd (none-some ask.worker (sym h))
     by_test false is h =
         let free : (k : WorkerId) → may_take k ask ≡ true = λ k. grind (arith, is) in
@@ -86,16 +88,19 @@ same_down worker other (below.Instance i false) r = refl
 same_down worker other below.Call r = refl
 same_down worker other (below.Known status) r = refl
 
-same_turn : (worker other : WorkerId) (lies : Below) (stops : Bool) (r : FlowRecord) → sync_of stops r ≡ None → (next_of worker lies stops r).reply ≡ (next_of other lies stops r).reply
+same_turn : (worker other : WorkerId) (lies : Below) (stops : Bool) (r : FlowRecord) → sync_of stops r ≡ None
+    → (next_of worker lies stops r).reply ≡ (next_of other lies stops r).reply
 same_turn worker other lies stops r h = by_collected r.collected h
   where
-    by_stage : (stage : Stage) → cond stops None (sync_at stage (slice_get (owed r.entries) 0)) ≡ None → (next_at worker lies stops r stage).reply ≡ (next_at other lies stops r stage).reply
+    by_stage : (stage : Stage) → cond stops None (sync_at stage (slice_get (owed r.entries) 0)) ≡ None
+        → (next_at worker lies stops r stage).reply ≡ (next_at other lies stops r stage).reply
     by_stage Descending h = same_down worker other lies r
     by_stage Ascending h = same_up worker other stops r (slice_get (owed r.entries) 0) h
     by_stage stage h = grind arith
 
     by_collected : (c : Bool) → cond (c || stops) None (sync_at r.stage (slice_get (owed r.entries) 0)) ≡ None
-        → (cond c (turn (Err WrongStep) r) (next_at worker lies stops r r.stage)).reply ≡ (cond c (turn (Err WrongStep) r) (next_at other lies stops r r.stage)).reply
+        → (cond c (turn (Err WrongStep) r) (next_at worker lies stops r r.stage)).reply
+        ≡ (cond c (turn (Err WrongStep) r) (next_at other lies stops r r.stage)).reply
     by_collected true h = refl
     by_collected false h = by_stage r.stage h
 
@@ -104,7 +109,8 @@ turn_of = record {
   own = λ own worker lies stops r h is.
       let w = waits own stops r is in
       let by = turns own worker lies stops r w in (
-        λ same. subst GivesPost (sym (by ∙ ap (λ b. (cond b (call_post worker w.ask r) (turn (Err WrongStep) r)).reply) (takes own worker stops r w same))) (posts worker w.ask r w.stage h),
+        λ same. subst GivesPost (sym (by ∙ ap (λ b. (cond b (call_post worker w.ask r) (turn (Err WrongStep) r)).reply)
+            (takes own worker stops r w same))) (posts worker w.ask r w.stage h),
         λ other. by ∙ ap (λ b. (cond b (call_post worker w.ask r) (turn (Err WrongStep) r)).reply) (waits_for own worker stops r w other),
       );
   any = λ worker other lies stops r none. same_turn worker other lies stops r none;

@@ -9,14 +9,16 @@ use Rattle.std.specs.Option.{option_or}
 
 pub walk-append : (s : Stage) (es fs : List Entry) → walk s (es ++ fs) ≡ option_and_then (λ t. walk t fs) (walk s es)
 walk-append s [] fs = refl
-walk-append s (e ∷ es) fs = elim (after s e) as (λ o. option_and_then (λ t. walk t (es ++ fs)) o ≡ option_and_then (λ t. walk t fs) (option_and_then (λ t. walk t es) o)) [ None ↦ refl | Some u ↦ walk-append u es fs ]
+walk-append s (e ∷ es) fs = elim (after s e) as (λ o. option_and_then (λ t. walk t (es ++ fs)) o
+    ≡ option_and_then (λ t. walk t fs) (option_and_then (λ t. walk t es) o)) [ None ↦ refl | Some u ↦ walk-append u es fs ]
 
 pub walk_push : (s : Stage) (es : List Entry) (e : Entry) (t u : Stage) → walk s es ≡ Some t → after t e ≡ Some u → walk s (es ++ e ∷ []) ≡ Some u
 walk_push s es e t u w a = walk-append s es (e ∷ []) ∙ rw (w, a) refl
 
 -- the first entry leads somewhere, and the others on from there
 pub walk_parts : (s : Stage) (e : Entry) (es : List Entry) (t : Stage) → walk s (e ∷ es) ≡ Some t → (u : Stage) × (after s e ≡ Some u) × (walk u es ≡ Some t)
-walk_parts s e es t w = elim (after s e) as (λ o. option_and_then (λ u. walk u es) o ≡ Some t → (u : Stage) × (o ≡ Some u) × (walk u es ≡ Some t)) [ None ↦ λ v. cc | Some u ↦ λ v. (u, refl, v) ] w
+walk_parts s e es t w = elim (after s e) as (λ o. option_and_then (λ u. walk u es) o ≡ Some t → (u : Stage) × (o ≡ Some u)
+    × (walk u es ≡ Some t)) [ None ↦ λ v. cc | Some u ↦ λ v. (u, refl, v) ] w
 
 -- ---- kinds of stages
 
@@ -112,7 +114,19 @@ open_walk s (e ∷ es) t w p q =
     elim (cases_Bool (is_callback k.0)) [
       | inl now ↦
           let quiet = drains_follow k.0 es t k.2 now in
-          record { front = []; entry = e; back = es; from = s; split = refl; way = refl; calm = q; leads = k.1 ∙ sym (quiet.walks k.0) ∙ k.2; stays = λ f g. refl; quiet = quiet }
+          record {
+            front = [];
+            entry = e;
+            back = es;
+            from = s;
+            split = refl;
+            way = refl;
+            calm = q;
+            leads = k.1 ∙ sym (quiet.walks k.0)
+                ∙ k.2;
+            stays = λ f g. refl;
+            quiet = quiet;
+          }
       | inr later ↦
           let o = open_walk k.0 es t k.2 p later in
           record {
@@ -140,7 +154,8 @@ pub record OpenAs {V : Type 0} (kind : V → Entry) (from : Stage) (es : List En
   pub stays : (f : Entry → Entry) → Settling f → map f front ≡ front
   pub quiet : Quiet back
 
-opened : {V : Type 0} {kind : V → Entry} {from : Stage} {es : List Entry} {t : Stage} (o : Open Descending es t) (visit : V) → o.entry ≡ kind visit → o.from ≡ from → is_callback t ≡ true
+opened : {V : Type 0} {kind : V → Entry} {from : Stage} {es : List Entry} {t : Stage} (o : Open Descending es t) (visit : V)
+    → o.entry ≡ kind visit → o.from ≡ from → is_callback t ≡ true
     → OpenAs kind from es
 opened {es = es} o visit is at p = record {
   front = o.front;
@@ -155,7 +170,8 @@ opened {es = es} o visit is at p = record {
 
 -- a preoperation leads there on the way down, or a postoperation on the way up
 entered : (s : Stage) (e : Entry) (t : Stage) → after s e ≡ Some t → is_callback t ≡ true → is_callback s ≡ false
-    → ((visit : PreVisit) × (e ≡ Pre visit) × (s ≡ Descending) × (is_post t ≡ false)) ⊎ ((visit : PostVisit) × (e ≡ Post visit) × (s ≡ Ascending) × (is_pre t ≡ false))
+    → ((visit : PreVisit) × (e ≡ Pre visit) × (s ≡ Descending) × (is_post t ≡ false))
+    ⊎ ((visit : PostVisit) × (e ≡ Post visit) × (s ≡ Ascending) × (is_pre t ≡ false))
 entered Descending (Pre visit) t k p q = inl (visit, refl, refl, grind arith)
 entered Ascending (Post visit) t k p q = inr (visit, refl, refl, grind arith)
 entered s e t k p q = absurd (grind arith)

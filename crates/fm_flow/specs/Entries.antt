@@ -23,8 +23,20 @@ times i (j ∷ js) = one (j == i) + times i js
 
 -- what a preoperation asks for, if its verdict asks
 abbrev pub ask_in : PreVisit → PreState → Option Ask
-ask_in visit (pre.Asked completion) = Some (record { instance = visit.instance; worker = visit.worker; completion = completion; is_synchronized = false; place = visit.place })
-ask_in visit (pre.Synchronized completion) = Some (record { instance = visit.instance; worker = visit.worker; completion = completion; is_synchronized = true; place = visit.place })
+ask_in visit (pre.Asked completion) = Some (record {
+  instance = visit.instance;
+  worker = visit.worker;
+  completion = completion;
+  is_synchronized = false;
+  place = visit.place;
+})
+ask_in visit (pre.Synchronized completion) = Some (record {
+  instance = visit.instance;
+  worker = visit.worker;
+  completion = completion;
+  is_synchronized = true;
+  place = visit.place;
+})
 ask_in visit _ = None
 
 -- what an entry asks for

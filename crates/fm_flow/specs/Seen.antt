@@ -24,10 +24,12 @@ pub record ParametersSeen : Type 0 where
       → sees (pre_returned_of state returned r).kept place (current_of returned) ≡ sees r.kept place returned.received
   -- a postoperation is given what it is to see
   pub post : (worker : WorkerId) (ask : Ask) (r : FlowRecord) (current : Params) → r.params ≡ Some current
-      → (call_post worker ask r).reply ≡ Ok (action.Post ask.instance (answered_data (sees r.kept ask.place current) (lent_answer r.operation r.answer)) ask.completion)
+      → (call_post worker ask r).reply ≡ Ok (action.Post ask.instance
+      (answered_data (sees r.kept ask.place current) (lent_answer r.operation r.answer)) ask.completion)
   -- and those above it still are to see what they were
   pub later : (place at : ℕ) (r : FlowRecord) (current : Params) → r.params ≡ Some current → at ≤ place
       → ((unwound place r).params ≡ Some (sees r.kept place current)) × (sees (unwound place r).kept at (sees r.kept place current) ≡ sees r.kept at current)
   -- a callback that held the operation and is resumed leaves all that is to be seen
   pub held : (state : PreState) (end : PostState) (r : FlowRecord)
-      → ((pre_settled state r).params ≡ r.params) × ((pre_settled state r).kept ≡ r.kept) × ((post_settled end r).params ≡ r.params) × ((post_settled end r).kept ≡ r.kept)
+      → ((pre_settled state r).params ≡ r.params) × ((pre_settled state r).kept ≡ r.kept) × ((post_settled end r).params ≡ r.params)
+      × ((post_settled end r).kept ≡ r.kept)

@@ -108,7 +108,8 @@ left_answer operation answer = cond (stands operation) answer (record answer { b
 
 -- the answer after a postoperation
 abbrev pub returned_answer : Operation → Answer → Data → Answer
-returned_answer operation answer returned = cond (stands operation) answer (record { status = returned.status; information = returned.information; bytes = returned.out })
+returned_answer operation answer returned = cond (stands operation) answer
+    (record { status = returned.status; information = returned.information; bytes = returned.out })
 
 -- the parameters put back to what they were before the visits from that place on changed them
 abbrev pub unwound_to : ℕ → FlowRecord → Option Params → FlowRecord
@@ -188,7 +189,11 @@ pre_settled state r = record r { answer = answer_after state r.answer; stage = p
 
 -- a preoperation callback returns: its data comes back with the verdict that counts
 abbrev pub pre_returned_of : PreState → Data → FlowRecord → FlowRecord
-pre_returned_of state returned r = record (pre_settled state r) { params = Some (current_of returned); kept = r.kept ++ kept_of returned.received returned.changed }
+pre_returned_of state returned r = record (pre_settled state r) {
+  params = Some (current_of returned);
+  kept =
+      r.kept ++ kept_of returned.received returned.changed;
+}
 
 -- the base answers, and gives the parameters back; a create's success gives the handle of that number
 abbrev pub base_returned_of : BaseCall → Answer → HandleId → FlowRecord → FlowRecord

@@ -78,7 +78,11 @@ begun_record number volume stream handle born path params = record {
 }
 
 abbrev pub begun : VolumeId → Option StreamId → Option HandleId → ℕ → Option (List ℕ) → Params → FlowTable → FlowTable
-begun volume stream handle born path params t = record { operations = t.operations ++ begun_record t.next volume stream handle born path params ∷ []; next = t.next + 1 }
+begun volume stream handle born path params t = record {
+  operations =
+      t.operations ++ begun_record t.next volume stream handle born path params ∷ [];
+  next = t.next + 1;
+}
 
 -- an operation begins, with the next number: refused with 29 where the table is full, and with 1 where memory is refused
 abbrev pub BeginsRecord : VolumeId → Option StreamId → Option HandleId → ℕ → Option (List ℕ) → Params → FlowTable → Result OpId Status → FlowTable → Type 0

@@ -7,11 +7,13 @@ use Rattle.fm_types.specs.declared.status.Status.{Status}
 use Rattle.fm_types.specs.declared.status.Status.TheVariants.{Success}
 use Rattle.fm_front.specs.Answering.{EndsHandle, HandlesAfter, is_close}
 
-on_handle : (closes : Bool) (handle : HandleId) (status : Status) (old new : List HandleId) → status ≢ Success → new ≡ old → MatchBool closes (EndsHandle handle status old new) (new ≡ old)
+on_handle : (closes : Bool) (handle : HandleId) (status : Status) (old new : List HandleId) → status ≢ Success → new ≡ old
+    → MatchBool closes (EndsHandle handle status old new) (new ≡ old)
 on_handle true handle status old new refused same = record { closed = λ is. absurd (refused is); refused = λ _. inl same }
 on_handle false handle status old new refused same = same
 
-pub refused_keeps : (asked : Request) (status : Status) (information : ℕ) (old new : List HandleId) → status ≢ Success → new ≡ old → HandlesAfter asked status information old new
+pub refused_keeps : (asked : Request) (status : Status) (information : ℕ) (old new : List HandleId) → status ≢ Success → new ≡ old
+    → HandlesAfter asked status information old new
 refused_keeps (request.Create volume path mode) status information old new refused same = record { opened = λ is. absurd (refused is); refused = λ _. same }
 refused_keeps (request.OnHandle handle what) status information old new refused same = on_handle (is_close what) handle status old new refused same
 refused_keeps (request.List volume) status information old new refused same = same

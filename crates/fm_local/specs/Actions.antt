@@ -28,10 +28,12 @@ use Rattle.fm_local.specs.Places.{EndsFrom}
 use Rattle.fm_local.specs.Turns.{Does, HandsBack, Turns, Carries}
 
 -- all filters are plain
-abbrev pub ArePlainFilters : {F : Type 0} → (F → Data → PreVerdict → Data → Type 0) → (F → Data → Completion → PostVerdict → Data → Type 0) → (F → Type 0) → (ℕ → Option F) → Type 0
+abbrev pub ArePlainFilters : {F : Type 0} → (F → Data → PreVerdict → Data → Type 0)
+    → (F → Data → Completion → PostVerdict → Data → Type 0) → (F → Type 0) → (ℕ → Option F) → Type 0
 ArePlainFilters {F} pre post is_quiet filters = (n : ℕ) (f : F) → filters n ≡ Some f → IsPlainFilter pre post is_quiet f
 
-module _ {F D : Type 0} (pre : F → Data → PreVerdict → Data → Type 0) (post : F → Data → Completion → PostVerdict → Data → Type 0) (carries : D → BaseCall → Answer → D → Type 0)
+module _ {F D : Type 0} (pre : F → Data → PreVerdict → Data → Type 0) (post : F → Data → Completion → PostVerdict → Data
+    → Type 0) (carries : D → BaseCall → Answer → D → Type 0)
     (filters : ℕ → Option F) (k : WorkerId) (o : OpId) where
   -- what a turn does of what is next, and how it ends
   abbrev pub Acts : Result FlowAction Status → World → D → Turn → World → D → Type 0
@@ -58,16 +60,19 @@ ends_turn (Err why) = Turn.Held
 ends_turn said = Turn.Goes
 
 -- ---- by filters of any kind
-module _ {F D : Type 0} (pre : F → Data → PreVerdict → Data → Type 0) (post : F → Data → Completion → PostVerdict → Data → Type 0) (drained : F → Completion → Type 0)
+module _ {F D : Type 0} (pre : F → Data → PreVerdict → Data → Type 0) (post : F → Data → Completion → PostVerdict → Data
+    → Type 0) (drained : F → Completion → Type 0)
     (carries : D → BaseCall → Answer → D → Type 0) (filters : ℕ → Option F) (k : WorkerId) (o : OpId) where
   -- what is next is done: the callback of the instance that is named runs, and then the event comes that ends it; or the call of the device; or nothing
   abbrev pub Makes : Result FlowAction Status → World → D → World → D → Type 0
   Makes (Ok (FlowAction.Pre i lent)) mid d new e =
-      (verdict : PreVerdict) × (back : Data) × (result : Result (Unit {0}) Status) × PreMay pre (filter_in filters mid.stack i.0) lent verdict back × HandsBack lent back
+      (verdict : PreVerdict) × (back : Data) × (result : Result (Unit {0}) Status)
+      × PreMay pre (filter_in filters mid.stack i.0) lent verdict back × HandsBack lent back
       × EndsFrom mid (λ before. PreReturns before k verdict back result new) × (e ≡ d)
   Makes (Ok (FlowAction.Base call)) mid d new e = Does pre post carries filters k o (Ok (FlowAction.Base call)) mid d new e
   Makes (Ok (FlowAction.Post i lent completion)) mid d new e =
-      (verdict : PostVerdict) × (back : Data) × (result : Result (Unit {0}) Status) × PostMay post (filter_in filters mid.stack i.0) lent completion verdict back
+      (verdict : PostVerdict) × (back : Data) × (result : Result (Unit {0}) Status)
+      × PostMay post (filter_in filters mid.stack i.0) lent completion verdict back
       × HandsBack lent back × EndsFrom mid (λ before. PostReturns before k verdict (Some back) result new) × (e ≡ d)
   Makes (Ok (FlowAction.Drain i completion)) mid d new e =
       (result : Result (Unit {0}) Status) × WasCalled (λ f. drained f completion) (filter_in filters mid.stack i.0)
@@ -183,13 +188,15 @@ RepliesWith ended o old said new = (said ≡ Reply.Held o) × (new ≡ old)
 module _ {F B : Type 0} (own : filter.Ghosts F) (below : base.Ghosts B) (k : WorkerId) where
   -- an operation that ended waits with its reply, behind those that ended before it, where there is room; of any other nothing is noted
   abbrev pub NotesEnd : Turn → OpId → Parts F B → Parts F B → Type 0
-  NotesEnd Turn.Done o old new = length old.finished.items.items < deque_capacity old.finished.items → new.finished.items.items ≡ old.finished.items.items ++ o ∷ []
+  NotesEnd Turn.Done o old new = length old.finished.items.items < deque_capacity old.finished.items
+      → new.finished.items.items ≡ old.finished.items.items ++ o ∷ []
   NotesEnd ended o old new = new.finished ≡ old.finished
 
   -- an operation that was resumed goes on, until it ends or is held again
   abbrev pub CarriesOn : ℕ → OpId → Parts F B → Parts F B → Type 0
   CarriesOn most o old new =
-      (ended : Turn) × GoesOn own.pre_may own.post_may own.drained (BasesCarry below.folder below.faults) (numbered old.filters) k o most ended old.work.state old.bases.all.items new.work.state new.bases.all.items
+      (ended : Turn) × GoesOn own.pre_may own.post_may own.drained (BasesCarry below.folder below.faults)
+      (numbered old.filters) k o most ended old.work.state old.bases.all.items new.work.state new.bases.all.items
       × NotesEnd ended o old new × (new.filters ≡ old.filters)
 
   -- so the one that was resumed first, which doesn't wait any more
@@ -224,7 +231,8 @@ module _ {F B : Type 0} (own : filter.Ghosts F) (below : base.Ghosts B) (k : Wor
     abbrev pub RunsAlone : OpId → Parts F B → Reply → Parts F B → Type 0
     RunsAlone o old said new =
         (ended : Turn) × (carried : Parts F B)
-        × GoesOn own.pre_may own.post_may own.drained (BasesCarry below.folder below.faults) (numbered old.filters) k o most ended old.work.state old.bases.all.items carried.work.state carried.bases.all.items
+        × GoesOn own.pre_may own.post_may own.drained (BasesCarry below.folder below.faults) (numbered old.filters) k o most ended
+        old.work.state old.bases.all.items carried.work.state carried.bases.all.items
         × (carried ≡ record old { work = carried.work; bases = carried.bases; trace = carried.trace; leaks = carried.leaks })
         × RepliesWith ended o carried said new
 
@@ -232,7 +240,8 @@ module _ {F B : Type 0} (own : filter.Ghosts F) (below : base.Ghosts B) (k : Wor
     abbrev pub PerformsAlone : Request → Parts F B → Reply → Parts F B → Type 0
     PerformsAlone what old said new =
         ((why : Status) × Begins old.work.state what (Err why) new.work.state × (said ≡ replied (bare_answer why)))
-        ⊎ ((o : OpId) × (begun : World) × Begins old.work.state what (Ok o) begun × RunsAlone o (record old { work = record old.work { state = begun } }) said new)
+        ⊎ ((o : OpId) × (begun : World) × Begins old.work.state what (Ok o) begun
+        × RunsAlone o (record old { work = record old.work { state = begun } }) said new)
 
     -- a close comes after its cleanup, unless that ends it
     abbrev pub ClosesThen : Bool → HandleId → Parts F B → Reply → Reply → Parts F B → Type 0
@@ -258,7 +267,8 @@ module _ {F B : Type 0} (own : filter.Ghosts F) (below : base.Ghosts B) (k : Wor
 
     abbrev pub SetsUpThenSettles : InstanceId → Parts F B → Result (Unit {0}) Status → Parts F B → Type 0
     SetsUpThenSettles i old result new =
-        (told settled : Parts F B) × EndsFrom old.work.state (λ before. SetsUpWith (AgreesAt own.setup_may old.filters old.work.state i) k before result told.work.state)
+        (told settled : Parts F B) × EndsFrom old.work.state
+        (λ before. SetsUpWith (AgreesAt own.setup_may old.filters old.work.state i) k before result told.work.state)
         × CallsBack old told
         × Settles most limit told settled × EndsIfRefused result i settled new
 
@@ -267,20 +277,24 @@ module _ {F B : Type 0} (own : filter.Ghosts F) (below : base.Ghosts B) (k : Wor
     AsksThenSettles i old result new =
         (IsErr result × AsksDetach old.work.state k i result new.work.state × OnlyState old new)
         ⊎ ((asked : World) × (told : Parts F B) × AsksDetach old.work.state k i (Ok tt) asked
-        × EndsFrom asked (λ before. QueriesWith (AgreesAt own.query_may old.filters asked i) k before result told.work.state) × CallsBack old told × Settles most limit told new)
+        × EndsFrom asked (λ before. QueriesWith (AgreesAt own.query_may old.filters asked i) k before result told.work.state)
+        × CallsBack old told × Settles most limit told new)
 
     -- the end of a teardown, where it is stopping: that is refused, or the filter is told, and then what was resumed is carried on
     abbrev pub TellsThenSettles : Bool → InstanceId → Parts F B → Result (Unit {0}) Status → Parts F B → Type 0
     TellsThenSettles false i old result new = (result ≡ Ok tt) × (new ≡ old)
     TellsThenSettles true i old result new =
         (IsErr result × CompletesTeardown old.work.state k i result new.work.state × OnlyState old new)
-        ⊎ ((completing : World) × (told : Parts F B) × CompletesTeardown old.work.state k i (Ok tt) completing × WasCalled own.completed (filter_in (numbered old.filters) completing.stack i.0)
-        × EndsFrom completing (λ before. CompleteReturns before k (Ok tt) told.work.state) × CallsBack old told × Settles most limit told new × (result ≡ Ok tt))
+        ⊎ ((completing : World) × (told : Parts F B) × CompletesTeardown old.work.state k i (Ok tt) completing
+        × WasCalled own.completed (filter_in (numbered old.filters) completing.stack i.0)
+        × EndsFrom completing (λ before. CompleteReturns before k (Ok tt) told.work.state) × CallsBack old told
+        × Settles most limit told new × (result ≡ Ok tt))
 
     -- an attach, with the setup of the new instance
     abbrev pub AttachesThenSettles : FilterId → VolumeId → List ℕ → List ℕ → Parts F B → Result InstanceId Status → Parts F B → Type 0
     AttachesThenSettles f v name altitude old (Ok i) new =
-        (born : World) × Attaches old.work.state k f v name altitude (Ok i) born × SetsUpThenSettles i (record old { work = record old.work { state = born } }) (Ok tt) new
+        (born : World) × Attaches old.work.state k f v name altitude (Ok i) born
+        × SetsUpThenSettles i (record old { work = record old.work { state = born } }) (Ok tt) new
     AttachesThenSettles f v name altitude old (Err why) new =
         (Attaches old.work.state k f v name altitude (Err why) new.work.state × OnlyState old new)
         ⊎ ((i : InstanceId) × (born : World) × Attaches old.work.state k f v name altitude (Ok i) born
@@ -318,7 +332,8 @@ module _ {F B : Type 0} (own : filter.Ghosts F) (below : base.Ghosts B) (k : Wor
       -- all that there are, or to the first whose teardown stops
       abbrev pub TearsDownAll : Parts F B → Result (Unit {0}) Status → Parts F B → Type 0
       TearsDownAll old (Ok done) new = TearsDownEach (length old.work.state.stack.instances) old new
-      TearsDownAll old (Err why) new = (n : ℕ) × (mid : Parts F B) × TearsDownEach n old mid × TearsDownWhere (is_to_go f mid.work.state (record { 0 = n })) (record { 0 = n }) mid (Err why) new
+      TearsDownAll old (Err why) new = (n : ℕ) × (mid : Parts F B) × TearsDownEach n old mid
+          × TearsDownWhere (is_to_go f mid.work.state (record { 0 = n })) (record { 0 = n }) mid (Err why) new
 
       -- the end of a filter: its instances are torn down, then its volume contexts go, what is due is cleaned up, and it ends
       abbrev pub EndsFully : Parts F B → Result (Unit {0}) Status → Parts F B → Type 0
@@ -334,7 +349,8 @@ module _ {F B : Type 0} (own : filter.Ghosts F) (below : base.Ghosts B) (k : Wor
       UnloadsThenSettles true old result new = EndsFully old result new
       UnloadsThenSettles false old result new =
           (IsErr result × AsksToUnload (MayAgree own.unload_may (numbered old.filters f.0)) old.work.state k f result new.work.state × OnlyState old new)
-          ⊎ ((asked : World) × AsksToUnload (MayAgree own.unload_may (numbered old.filters f.0)) old.work.state k f (Ok tt) asked × EndsFully (record old { work = record old.work { state = asked } }) result new)
+          ⊎ ((asked : World) × AsksToUnload (MayAgree own.unload_may (numbered old.filters f.0)) old.work.state k f (Ok tt) asked
+          × EndsFully (record old { work = record old.work { state = asked } }) result new)
 
     -- a request begins an operation, unless that is refused
     abbrev pub RequestsOne : Request → Parts F B → Reply → Parts F B → Type 0
@@ -382,7 +398,8 @@ module _ {F B : Type 0} (own : filter.Ghosts F) (below : base.Ghosts B) (k : Wor
   CarriesIn o old ended new =
       ArePlainFilters own.pre_may own.post_may own.is_quiet (numbered old.filters) → IsBegun k o old.work.state
       → (ended ≡ Turn.Done)
-      × ((n : ℕ) × Carries own.pre_may own.post_may (BasesCarry below.folder below.faults) (numbered old.filters) k o n old.work.state old.bases.all.items new.work.state new.bases.all.items)
+      × ((n : ℕ) × Carries own.pre_may own.post_may (BasesCarry below.folder below.faults) (numbered old.filters) k o n old.work.state
+      old.bases.all.items new.work.state new.bases.all.items)
 
   -- what waits to be carried on stays
   abbrev pub ResumesNone : Parts F B → Parts F B → Type 0
@@ -395,7 +412,8 @@ module _ {F B : Type 0} (own : filter.Ghosts F) (below : base.Ghosts B) (k : Wor
     pub turns : ℕ
     pub done : World
     pub mid : World
-    pub carries : Carries own.pre_may own.post_may (BasesCarry below.folder below.faults) (numbered old.filters) k o turns old.work.state old.bases.all.items done new.bases.all.items
+    pub carries : Carries own.pre_may own.post_may (BasesCarry below.folder below.faults)
+        (numbered old.filters) k o turns old.work.state old.bases.all.items done new.bases.all.items
     pub collects : Collects done o (Ok answer) mid
     pub tidies : Tidies mid new.work.state
     pub filters : new.filters ≡ old.filters
@@ -405,7 +423,8 @@ module _ {F B : Type 0} (own : filter.Ghosts F) (below : base.Ghosts B) (k : Wor
   pub record PerformsIn (what : Request) (old : Parts F B) (said : Reply) (new : Parts F B) : Type 0 where
     pub answer : Answer
     pub says : said ≡ replied answer
-    pub does : DoesTidily own.pre_may own.post_may (BasesCarry below.folder below.faults) (numbered old.filters) k what old.work.state old.bases.all.items answer new.work.state new.bases.all.items
+    pub does : DoesTidily own.pre_may own.post_may (BasesCarry below.folder below.faults) (numbered old.filters) k what old.work.state
+        old.bases.all.items answer new.work.state new.bases.all.items
     pub filters : new.filters ≡ old.filters
     pub settled : new.work.resumed.items.items ≡ []
 
@@ -414,14 +433,16 @@ module _ {F B : Type 0} (own : filter.Ghosts F) (below : base.Ghosts B) (k : Wor
     pub cleaned : Reply
     pub mid : Parts F B
     pub runs : RunsIn o old cleaned mid
-    pub stops : goes_on cleaned ≡ false → (said ≡ cleaned) × Tidies mid.work.state new.work.state × (new.bases ≡ mid.bases) × (new.filters ≡ mid.filters) × (new.work.resumed.items.items ≡ [])
+    pub stops : goes_on cleaned ≡ false → (said ≡ cleaned) × Tidies mid.work.state new.work.state × (new.bases ≡ mid.bases)
+        × (new.filters ≡ mid.filters) × (new.work.resumed.items.items ≡ [])
     pub closes : IsReady mid → goes_on cleaned ≡ true → PerformsIn (Request.OnHandle h FileRequest.Close) mid said new
 
   -- a request is answered as its fold says, and all is ready again, over the same instances
   pub record AnswersIn (what : Request) (old : Parts F B) (said : Reply) (new : Parts F B) : Type 0 where
     pub answer : Answer
     pub says : said ≡ replied answer
-    pub folds : AnswersOne own.pre_may own.post_may (BasesCarry below.folder below.faults) (numbered old.filters) old.work.state.stack old.work.state.flow.next what
+    pub folds : AnswersOne own.pre_may own.post_may (BasesCarry below.folder below.faults) (numbered old.filters) old.work.state.stack
+        old.work.state.flow.next what
         (under old.bases.all.items old.work.state) answer (under new.bases.all.items new.work.state) new.work.state.flow.next
     pub ready : IsReady new
     pub stays : new.work.state.stack ≡ old.work.state.stack
@@ -430,14 +451,16 @@ module _ {F B : Type 0} (own : filter.Ghosts F) (below : base.Ghosts B) (k : Wor
   -- requests answered one after the other, each as a manager that is ready answers it
   abbrev pub AnswersEach : List Request → Parts F B → List Reply → Parts F B → Type 0
   AnswersEach [] old [] new = new ≡ old
-  AnswersEach (what ∷ requests) old (said ∷ replies) new = (mid : Parts F B) × (IsReady old → AnswersIn what old said mid) × AnswersEach requests mid replies new
+  AnswersEach (what ∷ requests) old (said ∷ replies) new = (mid : Parts F B) × (IsReady old → AnswersIn what old said mid)
+      × AnswersEach requests mid replies new
   AnswersEach requests old replies new = ⊥
 
   -- the replies to a list of requests are those of its folds, and all is ready again
   pub record AreReplied (requests : List Request) (old : Parts F B) (replies : List Reply) (new : Parts F B) : Type 0 where
     pub answers : List Answer
     pub say : replies ≡ map replied answers
-    pub fold : AnswersAll own.pre_may own.post_may (BasesCarry below.folder below.faults) (numbered old.filters) old.work.state.stack old.work.state.flow.next requests
+    pub fold : AnswersAll own.pre_may own.post_may (BasesCarry below.folder below.faults) (numbered old.filters) old.work.state.stack
+        old.work.state.flow.next requests
         (under old.bases.all.items old.work.state) answers (under new.bases.all.items new.work.state) new.work.state.flow.next
     pub ready : IsReady new
 

@@ -58,7 +58,8 @@ abbrev pub EndsTidily : WorkerId → InstanceId → World → Type 0
 EndsTidily k i new = (tidy : World) × (finished : Result (Unit {0}) Status) × HasNoneDue k tidy × Finishes tidy i finished new
 
 -- an instance is attached: that is refused at once, or its setup callback is called, and then its end refuses it or not
-abbrev pub AttachesAs : (World → InstanceId → Bool → Type 0) → World → WorkerId → FilterId → VolumeId → List ℕ → List ℕ → Result InstanceId Status → World → Type 0
+abbrev pub AttachesAs : (World → InstanceId → Bool → Type 0) → World → WorkerId → FilterId → VolumeId → List ℕ → List ℕ
+    → Result InstanceId Status → World → Type 0
 AttachesAs may old k f v name altitude (Err status) new =
     Attaches old k f v name altitude (Err status) new
     ⊎ ((i : InstanceId) × (born : World) × Attaches old k f v name altitude (Ok i) born × SetupEnds (may born i) k born (Err status) × EndsTidily k i new)

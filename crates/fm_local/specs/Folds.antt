@@ -39,7 +39,8 @@ Rises chain (x ∷ above) before answer =
     × Rises chain above (returned_answer chain.operation before back) answer
 
 -- where a verdict leads that counts: down, with one more that asked or without, or up again
-abbrev pub Leads : {W : Type 0} → Chain W → (Params → List Asker → W → Answer → W → Type 0) → ℕ → Params → Data → List Asker → PreState → W → Answer → W → Type 0
+abbrev pub Leads : {W : Type 0} → Chain W → (Params → List Asker → W → Answer → W → Type 0) → ℕ → Params → Data → List Asker → PreState
+    → W → Answer → W → Type 0
 Leads chain Below i p back asked (PreState.Asked completion) old answer new = Below (current_of back) (asker i p completion ∷ asked) old answer new
 Leads chain Below i p back asked (PreState.Synchronized completion) old answer new = Below (current_of back) (asker i p completion ∷ asked) old answer new
 Leads chain Below i p back asked PreState.Passed old answer new = Below (current_of back) asked old answer new

@@ -11,7 +11,8 @@ use Rattle.fm_local.specs.Folds.{Chain, Asker, asker, Rises, Descends}
 -- those that are owed their postoperations, as the fold sees them: each with what its preoperation received
 abbrev pub askers : List Ask → List Params → Params → List Asker
 askers [] kept current = []
-askers (ask ∷ asks) kept current = asker ask.instance.0 (sees kept ask.place current) ask.completion ∷ askers asks (take ask.place kept) (sees kept ask.place current)
+askers (ask ∷ asks) kept current = asker ask.instance.0 (sees kept ask.place current) ask.completion
+    ∷ askers asks (take ask.place kept) (sees kept ask.place current)
 
 -- on the way down, the instances that are still to be met, as `Meets` says it of the one that was visited last; on the way up, those that asked
 abbrev pub LeftAt : {W : Type 0} → Chain W → (Option ℕ → List ℕ → Type 0) → Stage → FlowRecord → Params → W → Answer → W → Type 0

@@ -8,7 +8,8 @@ use Rattle.fm_local.specs.contracts.parts.Parts as parts
 
 -- once the borrow ends, the volume has the file system that was last written through it, and where there is none the manager stays as it is
 abbrev pub LendsBase : (F B : RattleType) → MutBor (Parts F.Denot B.Denot) → VolumeId → Option (MutBor B.Denot) → Fml
-LendsBase F B m v r = LendsIf (manager.the_row F B) B m r (λ base. record m.now { bases = record m.now.bases { all = with_item m.now.bases.all v.0 base } }) m.now
+LendsBase F B m v r = LendsIf (manager.the_row F B) B m r
+    (λ base. record m.now { bases = record m.now.bases { all = with_item m.now.bases.all v.0 base } }) m.now
 
 -- so it is of its parts
 abbrev pub LendsOf : (F B : RattleType) → MutBor (Parts F.Denot B.Denot) → VolumeId → Option (MutBor B.Denot) → Fml

@@ -31,8 +31,10 @@ queued o (Err why) waiting = waiting
 -- refused where there is no room, and else the event
 abbrev pub ResumesPreIn : Work → WorkerId → OpId → PreVerdict → Result (Unit {0}) Status → Work → Type 0
 ResumesPreIn old k o verdict result new =
-    Unless TooMany (has_room old) result old.state new.state (ResumesPre old.state k o verdict result new.state) × (new.resumed.items.items ≡ queued o result old.resumed.items.items)
+    Unless TooMany (has_room old) result old.state new.state (ResumesPre old.state k o verdict result new.state)
+    × (new.resumed.items.items ≡ queued o result old.resumed.items.items)
 
 abbrev pub ResumesPostIn : Work → WorkerId → OpId → Result (Unit {0}) Status → Work → Type 0
 ResumesPostIn old k o result new =
-    Unless TooMany (has_room old) result old.state new.state (ResumesPost old.state k o result new.state) × (new.resumed.items.items ≡ queued o result old.resumed.items.items)
+    Unless TooMany (has_room old) result old.state new.state (ResumesPost old.state k o result new.state)
+    × (new.resumed.items.items ≡ queued o result old.resumed.items.items)

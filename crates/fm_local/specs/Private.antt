@@ -262,7 +262,8 @@ module _ {F B : Type 0} (f : filter.Ghosts F) where
       Settled old (quietly.SetUpQuietly WORKER i (AgreesAt f.setup_may old.filters (world old) i) (world old) result (world new) × IsSettled old new)
 
   abbrev pub AsksQuietly : InstanceId → Parts F B → Result (Unit {0}) Status → Parts F B → Type 0
-  AsksQuietly i old result new = Settled old (quietly.AsksQuietly WORKER i (AgreesAt f.query_may old.filters) (world old) result (world new) × IsSettled old new)
+  AsksQuietly i old result new = Settled old (quietly.AsksQuietly WORKER i (AgreesAt f.query_may old.filters) (world old) result
+      (world new) × IsSettled old new)
 
   abbrev pub EndsQuietly : FilterId → Parts F B → Result (Unit {0}) Status → Parts F B → Type 0
   EndsQuietly i old result new = AtRest old (quietly.EndsQuietly WORKER i (world old) result (world new) × IsSettled old new)
@@ -295,33 +296,40 @@ module _ {F B : Type 0} (f : filter.Ghosts F) (b : base.Ghosts B) where
   -- what is next is done, by filters that are plain
   abbrev pub Does : OpId → Result FlowAction Status → Parts F B → Parts F B → Type 0
   Does o said old new =
-      IsPlain f old → turns.Does f.pre_may f.post_may (BasesCarry b.folder b.faults) (numbered old.filters) WORKER o said (world old) old.bases.all.items (world new) new.bases.all.items
+      IsPlain f old → turns.Does f.pre_may f.post_may (BasesCarry b.folder b.faults) (numbered old.filters) WORKER o said
+      (world old) old.bases.all.items (world new) new.bases.all.items
 
   -- the call of a file system is carried out
   abbrev pub Calls : OpId → BaseCall → Parts F B → Parts F B → Type 0
   Calls o call old new =
-      turns.Does f.pre_may f.post_may (BasesCarry b.folder b.faults) (numbered old.filters) WORKER o (Ok (FlowAction.Base call)) (world old) old.bases.all.items (world new) new.bases.all.items
+      turns.Does f.pre_may f.post_may (BasesCarry b.folder b.faults) (numbered old.filters) WORKER o (Ok (FlowAction.Base call))
+      (world old) old.bases.all.items (world new) new.bases.all.items
 
   -- by any filters
   abbrev pub Makes : OpId → Result FlowAction Status → Parts F B → Parts F B → Type 0
   Makes o said old new =
-      actions.Makes f.pre_may f.post_may f.drained (BasesCarry b.folder b.faults) (numbered old.filters) WORKER o said (world old) old.bases.all.items (world new) new.bases.all.items
+      actions.Makes f.pre_may f.post_may f.drained (BasesCarry b.folder b.faults) (numbered old.filters) WORKER o said
+      (world old) old.bases.all.items (world new) new.bases.all.items
 
   abbrev pub Acts : OpId → Result FlowAction Status → Parts F B → Turn → Parts F B → Type 0
   Acts o said old ended new =
-      IsPlain f old → actions.Acts f.pre_may f.post_may (BasesCarry b.folder b.faults) (numbered old.filters) WORKER o said (world old) old.bases.all.items ended (world new) new.bases.all.items
+      IsPlain f old → actions.Acts f.pre_may f.post_may (BasesCarry b.folder b.faults) (numbered old.filters) WORKER o said
+      (world old) old.bases.all.items ended (world new) new.bases.all.items
 
   abbrev pub TurnsAs : OpId → Parts F B → Turn → Parts F B → Type 0
   TurnsAs o old ended new =
-      IsPlain f old → actions.TurnsAs f.pre_may f.post_may (BasesCarry b.folder b.faults) (numbered old.filters) WORKER o (world old) old.bases.all.items ended (world new) new.bases.all.items
+      IsPlain f old → actions.TurnsAs f.pre_may f.post_may (BasesCarry b.folder b.faults) (numbered old.filters) WORKER o
+      (world old) old.bases.all.items ended (world new) new.bases.all.items
 
   abbrev pub TakesTurn : OpId → Parts F B → Turn → Parts F B → Type 0
   TakesTurn o old ended new =
-      actions.TakesTurn f.pre_may f.post_may f.drained (BasesCarry b.folder b.faults) (numbered old.filters) WORKER o ended (world old) old.bases.all.items (world new) new.bases.all.items
+      actions.TakesTurn f.pre_may f.post_may f.drained (BasesCarry b.folder b.faults) (numbered old.filters) WORKER o ended
+      (world old) old.bases.all.items (world new) new.bases.all.items
 
   abbrev pub GoesOn : OpId → Parts F B → Turn → Parts F B → Type 0
   GoesOn o old ended new =
-      actions.GoesOn f.pre_may f.post_may f.drained (BasesCarry b.folder b.faults) (numbered old.filters) WORKER o TURNS ended (world old) old.bases.all.items (world new) new.bases.all.items
+      actions.GoesOn f.pre_may f.post_may f.drained (BasesCarry b.folder b.faults) (numbered old.filters) WORKER o TURNS ended
+      (world old) old.bases.all.items (world new) new.bases.all.items
 
   -- ---- operations, by filters that are plain
 

@@ -57,8 +57,10 @@ module _ (k : WorkerId) (i : InstanceId) where
   DetachesQuietly may old result new = DetachesQuietlyBy (is_leaving old i) may old result new
 
 -- an attach, with the setup of the new instance
-abbrev pub AttachesQuietly : (World → InstanceId → Bool → Type 0) → World → WorkerId → FilterId → VolumeId → List ℕ → List ℕ → Result InstanceId Status → World → Type 0
-AttachesQuietly may old k f v name altitude (Ok i) new = (born : World) × Attaches old k f v name altitude (Ok i) born × SetUpQuietly k i (may born i) born (Ok tt) new
+abbrev pub AttachesQuietly : (World → InstanceId → Bool → Type 0) → World → WorkerId → FilterId → VolumeId → List ℕ → List ℕ
+    → Result InstanceId Status → World → Type 0
+AttachesQuietly may old k f v name altitude (Ok i) new = (born : World) × Attaches old k f v name altitude (Ok i) born
+    × SetUpQuietly k i (may born i) born (Ok tt) new
 AttachesQuietly may old k f v name altitude (Err why) new =
     Attaches old k f v name altitude (Err why) new
     ⊎ ((i : InstanceId) × (born : World) × Attaches old k f v name altitude (Ok i) born × SetUpQuietly k i (may born i) born (Err why) new)

@@ -21,7 +21,8 @@ use Rattle.fm_local.specs.Visits.{Visits}
 abbrev pub at_rest : {D : Type 0} → StackWorld → ℕ → Under D → World
 at_rest s next under = record empty_world { stack = s; files = under.files; flow = record { operations = []; next = next } }
 
-module _ {F D : Type 0} (pre : F → Data → PreVerdict → Data → Type 0) (post : F → Data → Completion → PostVerdict → Data → Type 0) (carries : D → BaseCall → Answer → D → Type 0)
+module _ {F D : Type 0} (pre : F → Data → PreVerdict → Data → Type 0) (post : F → Data → Completion → PostVerdict → Data
+    → Type 0) (carries : D → BaseCall → Answer → D → Type 0)
     (filters : ℕ → Option F) (s : StackWorld) where
   -- the fold of an operation that began: through the instances that it is to meet
   abbrev pub FoldsWith : FlowRecord → Option Params → Under D → Answer → Under D → Type 0
@@ -39,7 +40,8 @@ module _ {F D : Type 0} (pre : F → Data → PreVerdict → Data → Type 0) (p
   PerformsBy (Some why) next what old answer new after = (answer ≡ bare_answer why) × (new ≡ old) × (after ≡ next)
   PerformsBy None next what old answer new after =
       ((answer ≡ bare_answer Status.NoMemory) × (new ≡ old) × (after ≡ next))
-      ⊎ (FoldsAlone (after_begin (at_rest s next old) what).flow.operations (record old { files = (after_begin (at_rest s next old) what).files }) answer new × (after ≡ next + 1))
+      ⊎ (FoldsAlone (after_begin (at_rest s next old) what).flow.operations
+      (record old { files = (after_begin (at_rest s next old) what).files }) answer new × (after ≡ next + 1))
 
   abbrev pub Performs : ℕ → Request → Under D → Answer → Under D → ℕ → Type 0
   Performs next what old answer new after = PerformsBy (begin_refused (at_rest s next old) what) next what old answer new after
@@ -80,7 +82,8 @@ pub record IsAtRest (k : WorkerId) (w : World) : Type 0 where
   pub idle : worker_at w.workers k ≡ Some Place.Idle
   pub all : (j : ℕ) (a : Place) → slice_get w.workers j ≡ Some a → a ≡ Place.Idle
 
-module _ {F D : Type 0} (pre : F → Data → PreVerdict → Data → Type 0) (post : F → Data → Completion → PostVerdict → Data → Type 0) (carries : D → BaseCall → Answer → D → Type 0)
+module _ {F D : Type 0} (pre : F → Data → PreVerdict → Data → Type 0) (post : F → Data → Completion → PostVerdict → Data
+    → Type 0) (carries : D → BaseCall → Answer → D → Type 0)
     (filters : ℕ → Option F) (k : WorkerId) where
   -- what a worker does for an operation that began: it carries it to its end and takes its answer
   abbrev pub DoesBegun : Result OpId Status → World → D → Answer → World → D → Type 0
@@ -91,7 +94,8 @@ module _ {F D : Type 0} (pre : F → Data → PreVerdict → Data → Type 0) (p
   DoesRequest what old d answer new e = (result : Result OpId Status) × (begun : World) × Begins old what result begun × DoesBegun result begun d answer new e
 
 -- a request that is carried to its end by one worker, with filters that are plain, is answered as its fold says, and leaves what that says
-pub record IsAnswered {F D : Type 0} (pre : F → Data → PreVerdict → Data → Type 0) (post : F → Data → Completion → PostVerdict → Data → Type 0) (carries : D → BaseCall → Answer → D → Type 0)
+pub record IsAnswered {F D : Type 0} (pre : F → Data → PreVerdict → Data → Type 0) (post : F → Data → Completion → PostVerdict → Data
+    → Type 0) (carries : D → BaseCall → Answer → D → Type 0)
     (filters : ℕ → Option F) (k : WorkerId) (what : Request) (old : World) (d : D) (answer : Answer) (new : World) (e : D) : Type 0 where
   pub performs : Performs pre post carries filters old.stack old.flow.next what (under d old) answer (under e new) new.flow.next
   pub rests : IsAtRest k new
@@ -108,7 +112,8 @@ pub record Tidies (old new : World) : Type 0 where
   pub workers : new.workers ≡ old.workers
   pub files : new.files ≡ old.files
 
-module _ {F D : Type 0} (pre : F → Data → PreVerdict → Data → Type 0) (post : F → Data → Completion → PostVerdict → Data → Type 0) (carries : D → BaseCall → Answer → D → Type 0)
+module _ {F D : Type 0} (pre : F → Data → PreVerdict → Data → Type 0) (post : F → Data → Completion → PostVerdict → Data
+    → Type 0) (carries : D → BaseCall → Answer → D → Type 0)
     (filters : ℕ → Option F) (k : WorkerId) where
   -- a request is done, and what is due is cleaned up
   abbrev pub DoesTidily : Request → World → D → Answer → World → D → Type 0
@@ -134,7 +139,8 @@ module _ {F D : Type 0} (pre : F → Data → PreVerdict → Data → Type 0) (p
   DoesAll requests old d answers new e = ⊥
 
 -- the requests of a list are answered as their folds say, and leave what these say
-pub record AreAnswered {F D : Type 0} (pre : F → Data → PreVerdict → Data → Type 0) (post : F → Data → Completion → PostVerdict → Data → Type 0) (carries : D → BaseCall → Answer → D → Type 0)
+pub record AreAnswered {F D : Type 0} (pre : F → Data → PreVerdict → Data → Type 0) (post : F → Data → Completion → PostVerdict → Data
+    → Type 0) (carries : D → BaseCall → Answer → D → Type 0)
     (filters : ℕ → Option F) (k : WorkerId) (requests : List Request) (old : World) (d : D) (answers : List Answer) (new : World) (e : D) : Type 0 where
   pub performs : AnswersAll pre post carries filters old.stack old.flow.next requests (under d old) answers (under e new) new.flow.next
   pub rests : IsAtRest k new

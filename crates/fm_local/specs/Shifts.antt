@@ -43,7 +43,8 @@ FileStays folder x old new =
 -- unchanged in between: what is read is what was written
 abbrev pub ShiftRound : {B : Type 0} → (B → Option Folder) → (B → ℕ) → Type 0
 ShiftRound {B} folder faults =
-    (filters : ℕ → Option Sample) (s : StackWorld) (x : Subject) (is : List ℕ) (offset : ℕ) (bytes : List ℕ) (old mid later new : Under (List B)) (wrote read : Answer)
+    (filters : ℕ → Option Sample) (s : StackWorld) (x : Subject) (is : List ℕ) (offset : ℕ) (bytes : List ℕ)
+    (old mid later new : Under (List B)) (wrote read : Answer)
     → All (IsShift filters s) is → All (λ byte. byte < 256) bytes → IsSome (folder_of folder old.device x.volume.0)
     → Folds (sample_chain folder faults filters s x Operation.Write) is (Params.Write offset bytes) old wrote mid → wrote.status ≡ Success
     → FileStays folder x mid later

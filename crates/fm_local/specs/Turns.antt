@@ -10,17 +10,21 @@ pub record HandsBack (lent back : Data) : Type 0 where
   pub received : back.received ≡ lent.received
   pub laws : IsData back
 
-module _ {F D : Type 0} (pre : F → Data → PreVerdict → Data → Type 0) (post : F → Data → Completion → PostVerdict → Data → Type 0) (carries : D → BaseCall → Answer → D → Type 0)
+module _ {F D : Type 0} (pre : F → Data → PreVerdict → Data → Type 0) (post : F → Data → Completion → PostVerdict → Data
+    → Type 0) (carries : D → BaseCall → Answer → D → Type 0)
     (filters : ℕ → Option F) (k : WorkerId) (o : OpId) where
   -- what is to be done is done: the callback of the instance that is named, the call of the device, or nothing
   abbrev pub Does : Result FlowAction Status → World → D → World → D → Type 0
   Does (Ok (FlowAction.Pre i lent)) mid d new e =
-      (verdict : PreVerdict) × (back : Data) × (result : Result (Unit {0}) Status) × PreMay pre (filter_in filters mid.stack i.0) lent verdict back × HandsBack lent back
+      (verdict : PreVerdict) × (back : Data) × (result : Result (Unit {0}) Status)
+      × PreMay pre (filter_in filters mid.stack i.0) lent verdict back × HandsBack lent back
       × PreReturns mid k verdict back result new × (e ≡ d)
   Does (Ok (FlowAction.Base call)) mid d new e =
-      (answer : Answer) × (result : Result (Unit {0}) Status) × carries d call answer e × (length answer.bytes ≤ 32768) × BaseReturns mid k call answer result new
+      (answer : Answer) × (result : Result (Unit {0}) Status) × carries d call answer e × (length answer.bytes ≤ 32768)
+      × BaseReturns mid k call answer result new
   Does (Ok (FlowAction.Post i lent completion)) mid d new e =
-      (verdict : PostVerdict) × (back : Data) × (result : Result (Unit {0}) Status) × PostMay post (filter_in filters mid.stack i.0) lent completion verdict back
+      (verdict : PostVerdict) × (back : Data) × (result : Result (Unit {0}) Status)
+      × PostMay post (filter_in filters mid.stack i.0) lent completion verdict back
       × HandsBack lent back × PostReturns mid k verdict (Some back) result new × (e ≡ d)
   Does (Ok FlowAction.Moved) mid d new e = (new ≡ mid) × (e ≡ d)
   Does _ mid d new e = ⊥

@@ -11,6 +11,7 @@ Visits s v born operation cursor (i ∷ below) = IsHighest (is_candidate s v cur
 
 -- of filters, volumes and instances that are sound: there is such a list from every instance on, and there is one alone
 pub record OneWay : Type 0 where
-  pub some : (s : StackWorld) (v : VolumeId) (born : ℕ) (operation : Operation) → IsStack s → born ≤ s.births → (below : List ℕ) × Visits s v born operation None below
+  pub some : (s : StackWorld) (v : VolumeId) (born : ℕ) (operation : Operation) → IsStack s → born ≤ s.births
+      → (below : List ℕ) × Visits s v born operation None below
   pub alone : (s : StackWorld) (v : VolumeId) (born : ℕ) (operation : Operation) (cursor : Option ℕ) (a b : List ℕ) → IsStack s
       → Visits s v born operation cursor a → Visits s v born operation cursor b → a ≡ b

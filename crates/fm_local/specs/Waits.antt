@@ -42,7 +42,8 @@ hands_out _ p = false
 -- an operation that is done and whose answer wasn't handed out stays so in every event but the one that hands its answer out
 abbrev pub EndedLasts : Type 0
 EndedLasts =
-    (old : World) (s : Step) (r : StepReply) (new : World) (p : OpId) → IsSound old → Steps old s r new → hands_out s p ≡ false → IsEnded old.flow p → IsEnded new.flow p
+    (old : World) (s : Step) (r : StepReply) (new : World) (p : OpId) → IsSound old → Steps old s r new → hands_out s p ≡ false
+    → IsEnded old.flow p → IsEnded new.flow p
 
 -- ---- those that wait
 
@@ -80,7 +81,13 @@ left_ended t resumed = filter (is_left t resumed) (map (λ r. r.number.0) t.oper
 
 -- they stand as one more shape: those that ended and aren't to go on as drained, and a path where those that are to go on wait once
 abbrev pub shape_of_waiting : FlowTable → List OpId → Shape
-shape_of_waiting t resumed = record { number = record { 0 = 0 }; operation = Operation.Read; path = cond (go_on_once t resumed) (Some []) None; drained = left_ended t resumed }
+shape_of_waiting t resumed = record {
+  number = record { 0 = 0 };
+  operation = Operation.Read;
+  path =
+      cond (go_on_once t resumed) (Some []) None;
+  drained = left_ended t resumed;
+}
 
 -- what stands, with those that wait
 abbrev pub standing_with : List OpId → World → Standing

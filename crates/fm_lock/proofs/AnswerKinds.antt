@@ -39,7 +39,8 @@ done_at P (reply.Body r) h = absurd h
 done_at P (reply.Number r) h = absurd h
 done_at P (reply.Due r) h = absurd h
 
-pub done_held : (s : Step) (Says : Result (Unit {0}) Status → ℕ → ℕ → Type 0) (hand : HandView) (given : Result StepReply (Refused Step)) (result : Result (Unit {0}) Status) (after : HandView)
+pub done_held : (s : Step) (Says : Result (Unit {0}) Status → ℕ → ℕ → Type 0) (hand : HandView)
+    (given : Result StepReply (Refused Step)) (result : Result (Unit {0}) Status) (after : HandView)
     → ((answer : StepReply) → Holds s answer hand.held after.held → OfDone answer (λ r. Says r hand.held after.held))
     → ((n m : ℕ) → m ≡ n → Says (Err Status.WrongStep) n m) → HandAfter s hand given after → result ≡ done_in given → Holding (Says result) hand after
 done_held s Says hand (Ok answer) result after holds wrong h is =
@@ -66,7 +67,8 @@ context_at P (reply.Body r) h = absurd h
 context_at P (reply.Number r) h = absurd h
 context_at P (reply.Due r) h = absurd h
 
-pub context_held : (s : Step) (Says : Result CtxId Status → ℕ → ℕ → Type 0) (hand : HandView) (given : Result StepReply (Refused Step)) (result : Result CtxId Status) (after : HandView)
+pub context_held : (s : Step) (Says : Result CtxId Status → ℕ → ℕ → Type 0) (hand : HandView) (given : Result StepReply (Refused Step))
+    (result : Result CtxId Status) (after : HandView)
     → ((answer : StepReply) → Holds s answer hand.held after.held → OfContext answer (λ r. Says r hand.held after.held))
     → ((n m : ℕ) → m ≡ n → Says (Err Status.WrongStep) n m) → HandAfter s hand given after → result ≡ context_in given → Holding (Says result) hand after
 context_held s Says hand (Ok answer) result after holds wrong h is =
@@ -93,7 +95,8 @@ old_at P (reply.Body r) h = absurd h
 old_at P (reply.Number r) h = absurd h
 old_at P (reply.Due r) h = absurd h
 
-pub old_held : (s : Step) (Says : Result (Option CtxId) Status → ℕ → ℕ → Type 0) (hand : HandView) (given : Result StepReply (Refused Step)) (result : Result (Option CtxId) Status) (after : HandView)
+pub old_held : (s : Step) (Says : Result (Option CtxId) Status → ℕ → ℕ → Type 0) (hand : HandView)
+    (given : Result StepReply (Refused Step)) (result : Result (Option CtxId) Status) (after : HandView)
     → ((answer : StepReply) → Holds s answer hand.held after.held → OfOld answer (λ r. Says r hand.held after.held))
     → ((n m : ℕ) → m ≡ n → Says (Err Status.WrongStep) n m) → HandAfter s hand given after → result ≡ old_in given → Holding (Says result) hand after
 old_held s Says hand (Ok answer) result after holds wrong h is =
@@ -120,7 +123,8 @@ drained_at P (reply.Body r) h = absurd h
 drained_at P (reply.Number r) h = absurd h
 drained_at P (reply.Due r) h = absurd h
 
-pub drained_held : (s : Step) (Says : Result (Option (OpId × Completion)) Status → ℕ → ℕ → Type 0) (hand : HandView) (given : Result StepReply (Refused Step)) (result : Result (Option (OpId × Completion)) Status) (after : HandView)
+pub drained_held : (s : Step) (Says : Result (Option (OpId × Completion)) Status → ℕ → ℕ → Type 0) (hand : HandView)
+    (given : Result StepReply (Refused Step)) (result : Result (Option (OpId × Completion)) Status) (after : HandView)
     → ((answer : StepReply) → Holds s answer hand.held after.held → OfDrained answer (λ r. Says r hand.held after.held))
     → ((n m : ℕ) → m ≡ n → Says (Err Status.WrongStep) n m) → HandAfter s hand given after → result ≡ drained_in given → Holding (Says result) hand after
 drained_held s Says hand (Ok answer) result after holds wrong h is =
@@ -147,9 +151,11 @@ set_at P (reply.Body r) h = absurd h
 set_at P (reply.Number r) h = absurd h
 set_at P (reply.Due r) h = absurd h
 
-pub set_held : (s : Step) (Says : SetAnswer → ℕ → ℕ → Type 0) (hand : HandView) (given : Result StepReply (Refused Step)) (result : SetAnswer) (after : HandView)
+pub set_held : (s : Step) (Says : SetAnswer → ℕ → ℕ → Type 0) (hand : HandView) (given : Result StepReply (Refused Step))
+    (result : SetAnswer) (after : HandView)
     → ((answer : StepReply) → Holds s answer hand.held after.held → OfSet answer (λ r. Says r hand.held after.held))
-    → ((n m : ℕ) → m ≡ n → Says (SetAnswer.Refused Status.WrongStep) n m) → HandAfter s hand given after → result ≡ set_in given → Holding (Says result) hand after
+    → ((n m : ℕ) → m ≡ n → Says (SetAnswer.Refused Status.WrongStep) n m) → HandAfter s hand given after → result ≡ set_in given
+    → Holding (Says result) hand after
 set_held s Says hand (Ok answer) result after holds wrong h is =
     (h.0, subst (λ r. Says r hand.held after.held) (sym is) (set_at (λ r. Says r hand.held after.held) answer (holds answer h.1)))
 set_held s Says hand (Err refused) result after holds wrong h is =

@@ -19,7 +19,8 @@ seen_made : (s : Step) (old : LockedView) (hand : HandView) (result : Result Ste
 seen_made s old hand (Ok answer) new after h = (h.2, h.4)
 seen_made s old hand (Err refused) new after h = absurd h
 
-seen_refused : (s : Step) (hand : HandView) (result : Result StepReply (Refused Step)) (after : HandView) → IsRefused s result → after ≡ hand → HandAfter s hand result after
+seen_refused : (s : Step) (hand : HandView) (result : Result StepReply (Refused Step)) (after : HandView) → IsRefused s result
+    → after ≡ hand → HandAfter s hand result after
 seen_refused s hand result after refused same = subst (λ r. HandAfter s hand r after) (sym refused) (refl, same)
 
 seen_by : (b : Bool) (s : Step) (old : LockedView) (hand : HandView) (result : Result StepReply (Refused Step)) (new : LockedView) (after : HandView)
@@ -34,7 +35,8 @@ event_seen s old hand result new after h =
 
 -- an event that names no worker is never refused so
 alone_by : (b : Bool) (s : Step) (old : LockedView) (result : Result StepReply (Refused Step)) (new : LockedView)
-    → MatchBool b (MadeAlone s old result new) (IsRefused s result × (new ≡ old)) → IfErr result (λ refused. refused ≡ record { status = Status.WrongStep; handed_back = s })
+    → MatchBool b (MadeAlone s old result new) (IsRefused s result × (new ≡ old))
+    → IfErr result (λ refused. refused ≡ record { status = Status.WrongStep; handed_back = s })
 alone_by true s old (Ok answer) new h = tt
 alone_by true s old (Err refused) new h = absurd h
 alone_by false s old result new h = subst (λ r. IfErr r (λ refused. refused ≡ record { status = Status.WrongStep; handed_back = s })) (sym h.0) refl
@@ -48,6 +50,7 @@ collected_by : (m : Option FlowRecord) → IfErr (unwrap_or (option_map collect_
 collected_by None = refl
 collected_by (Some r) = grind arith
 
-pub collect_refused : (old : World) (o : OpId) (result : Result Answer Status) (new : World) → Collects old o result new → IfErr result (λ status. status ≡ Status.WrongStep)
+pub collect_refused : (old : World) (o : OpId) (result : Result Answer Status) (new : World) → Collects old o result new
+    → IfErr result (λ status. status ≡ Status.WrongStep)
 unfolding Collects
 collect_refused old o result new h = subst (λ r. IfErr r (λ status. status ≡ Status.WrongStep)) (sym h.0) (collected_by (operation_at o old.flow))

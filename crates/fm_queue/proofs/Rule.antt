@@ -24,9 +24,11 @@ pub begins : JobsAreKept [] (first_tally ∷ [])
 begins = ((λ weight. refl), refl, All-push IsIdleWithNoPart [] first_tally (λ k d within. absurd (omega (arith, within))) (λ none. (refl, refl)))
 
 -- a pass that keeps its parts, of which it has some, puts and takes
-goes_on : (queued queued' : List Job) (tallies : List PassTally) (pass : ℕ) (t after : PassTally) → 0 < t.parts → JobsAreKept queued tallies → get_elem? tallies pass ≡ some t
+goes_on : (queued queued' : List Job) (tallies : List PassTally) (pass : ℕ) (t after : PassTally) → 0 < t.parts
+    → JobsAreKept queued tallies → get_elem? tallies pass ≡ some t
     → after.parts ≡ t.parts
-    → ((weight : Job → ℕ) → sum_by weight queued' + (sum_by weight t.puts + sum_by weight after.takes) ≡ sum_by weight queued + (sum_by weight after.puts + sum_by weight t.takes))
+    → ((weight : Job → ℕ) → sum_by weight queued' + (sum_by weight t.puts + sum_by weight after.takes)
+    ≡ sum_by weight queued + (sum_by weight after.puts + sum_by weight t.takes))
     → JobsAreKept queued' (set tallies pass after)
 goes_on queued queued' tallies pass t after some_part rule at same change = (
   (λ weight.

@@ -9,4 +9,6 @@ pub changed_next : (f : ℕ → ℕ) (xs : List ℕ) (i : ℕ) → i < length xs
     → set (map f (take i xs) ++ drop i xs) i (f (get_or (map f (take i xs) ++ drop i xs) i 0)) ≡ map f (take (i + 1) xs) ++ drop (i + 1) xs
 changed_next f [] i within = grind (arith, common_steps)
 changed_next f (x ∷ xs) zero within = grind (arith, common_steps)
-changed_next f (x ∷ xs) (suc i) within = let e : set (map f (take i xs) ++ drop i xs) i (f (get_or (map f (take i xs) ++ drop i xs) i 0)) ≡ map f (take (i + 1) xs) ++ drop (i + 1) xs = changed_next f xs i (omega arith) in simp (unary_clauses, e)
+changed_next f (x ∷ xs) (suc i) within = let e : set (map f (take i xs) ++ drop i xs) i
+    (f (get_or (map f (take i xs) ++ drop i xs) i 0)) ≡ map f (take (i + 1) xs) ++ drop (i + 1) xs =
+    changed_next f xs i (omega arith) in simp (unary_clauses, e)

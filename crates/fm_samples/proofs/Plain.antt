@@ -45,7 +45,12 @@ shifted_plain params.Close old answer new h = search rules
 
 pub plain_where_quiet : (f : Sample) → IsQuietSample f → IsPlainFilter SamplesPre SamplesPost IsQuietSample f
 plain_where_quiet (sample.Guard filter) = λ quiet. record { descends = guard_descends; ascends = bare_ascends; quiet = quiet }
-plain_where_quiet (sample.Shift filter) = λ quiet. record { descends = λ old answer new h. shifted_plain (current_of old) old answer new h; ascends = shift_ascends; quiet = quiet }
+plain_where_quiet (sample.Shift filter) = λ quiet. record {
+  descends =
+      λ old answer new h. shifted_plain (current_of old) old answer new h;
+  ascends = shift_ascends;
+  quiet = quiet;
+}
 plain_where_quiet (sample.Meter filter) = elim [ ]
 plain_where_quiet (sample.Hold filter) = elim [ ]
 plain_where_quiet (sample.Carry filter) = elim [ ]

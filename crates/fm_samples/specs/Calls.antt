@@ -32,11 +32,13 @@ FindsAfter p context (Refused why) found old new = (found ≡ None) × Releases 
 -- a new context is set on the callback's object, unless one is there
 abbrev pub SetsNew : {P : Type 0} → port.Ghosts P → Result CtxId Status → Option CtxId → P → P → Type 0
 SetsNew p (Err why) found old new = (found ≡ None) × (new ≡ old)
-SetsNew {P} p (Ok context) found old new = (answer : SetAnswer) × (tried : P) × p.sets old context Keep true answer tried × FindsAfter p context answer found tried new
+SetsNew {P} p (Ok context) found old new = (answer : SetAnswer) × (tried : P) × p.sets old context Keep true answer tried
+    × FindsAfter p context answer found tried new
 
 -- a context is allocated and set on the callback's object, unless one is there: the one that is set then is found
 abbrev pub SetsUnlessThere : {P : Type 0} → port.Ghosts P → ContextKind → List ℕ → Option CtxId → P → P → Type 0
-SetsUnlessThere {P} p kind body found old new = (made : Result CtxId Status) × (allocated : P) × p.allocates old kind body made allocated × SetsNew p made found allocated new
+SetsUnlessThere {P} p kind body found old new = (made : Result CtxId Status) × (allocated : P)
+    × p.allocates old kind body made allocated × SetsNew p made found allocated new
 
 -- ---- held operations
 
@@ -47,7 +49,8 @@ Resumes p callback.Post operation result old new = p.resumes_post old operation 
 
 -- the first operation that is held is found, and goes on
 abbrev pub ResumesFirst : {P : Type 0} → port.Ghosts P → Hold → P → P → Type 0
-ResumesFirst {P} p held old new = (operation : OpId) × (found : P) × p.finds_held old held (Ok (Some operation)) found × Resumes p held operation (Ok tt) found new
+ResumesFirst {P} p held old new = (operation : OpId) × (found : P) × p.finds_held old held (Ok (Some operation)) found
+    × Resumes p held operation (Ok tt) found new
 
 -- so one after the other, as many as a number says
 abbrev pub ResumesMany : {P : Type 0} → port.Ghosts P → Hold → ℕ → P → P → Type 0
@@ -61,7 +64,8 @@ ResumesNone p held (Err why) found new = new ≡ found
 ResumesNone p held (Ok (Some operation)) found new = (why : Status) × Resumes p held operation (Err why) found new
 
 abbrev pub StopsResuming : {P : Type 0} → port.Ghosts P → Hold → P → P → Type 0
-StopsResuming {P} p held old new = (answer : Result (Option OpId) Status) × (found : P) × p.finds_held old held answer found × ResumesNone p held answer found new
+StopsResuming {P} p held old new = (answer : Result (Option OpId) Status) × (found : P) × p.finds_held old held answer found
+    × ResumesNone p held answer found new
 
 -- whether the first one goes on
 abbrev pub ResumesOne : {P : Type 0} → port.Ghosts P → Hold → Bool → P → P → Type 0

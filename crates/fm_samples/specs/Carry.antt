@@ -41,7 +41,8 @@ FindsAsked p refused (Err _) found old new = (found ≡ None) × (new ≡ old)
 
 -- the handle's context is asked for, and found or made
 abbrev pub FindsOwn : {P : Type 0} → port.Ghosts P → Type 0 → Option CtxId → P → P → Type 0
-FindsOwn {P} p refused found old new = (answer : Result CtxId Status) × (asked : P) × p.gets old Handle answer asked × FindsAsked p refused answer found asked new
+FindsOwn {P} p refused found old new = (answer : Result CtxId Status) × (asked : P) × p.gets old Handle answer asked
+    × FindsAsked p refused answer found asked new
 
 -- the context that was found goes along in completion number 1, and without one there is no postoperation
 abbrev pub sent_along : Option CtxId → PreVerdict

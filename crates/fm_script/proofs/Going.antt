@@ -74,5 +74,6 @@ goes_up k o i old new (completion, mid, nexts, returns) rest =
 pub goes_pass : (k : WorkerId) (o : OpId) (plans : List PreVerdict) (m : Option Passed) (old : Interpreter) (s : Lending) → LentPasses old.session k o plans m s
     → Goes k o old (record old { session = s })
 goes_pass k o plans None old s same = subst (λ (x : Lending). Goes k o old (record old { session = x })) (sym same) (goes_none k o old)
-goes_pass k o plans (Some (passed.Down i n)) old s (answer, event) = goes_down k o i (numbered n) old (record old { session = s }) event (refl, record { plans = refl; contexts = refl })
+goes_pass k o plans (Some (passed.Down i n)) old s (answer, event) =
+    goes_down k o i (numbered n) old (record old { session = s }) event (refl, record { plans = refl; contexts = refl })
 goes_pass k o plans (Some (passed.Up i)) old s event = goes_up k o i old (record old { session = s }) event (refl, record { plans = refl; contexts = refl })

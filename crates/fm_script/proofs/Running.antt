@@ -98,13 +98,15 @@ turns_run : (k : WorkerId) (o : OpId) (turns : List Task) (old new : Interpreter
     → RunOf (Names (task.Go k o)) old.session.world new.session.world
 turns_run k o [] old new same =
     none (Names (task.Go k o)) old.session.world new.session.world (ap (λ (i : Interpreter). i.session.world) same)
-turns_run k o (t ∷ before) old new (is, mid, first, acts) = both (turns_run k o before old mid first) (acts_run t (λ line. Unit {0}) mid new (turn_named k o t is) acts)
+turns_run k o (t ∷ before) old new (is, mid, first, acts) =
+    both (turns_run k o before old mid first) (acts_run t (λ line. Unit {0}) mid new (turn_named k o t is) acts)
 
 goes_run : (k : WorkerId) (o : OpId) (old new : Interpreter) → Goes k o old new → RunOf (Names (task.Go k o)) old.session.world new.session.world
 unfolding Goes
 goes_run k o old new (turns, all) = turns_run k o turns old new all
 
-accepts_run : {P : Step → Type 0} (mid new : World) (r result : Result InstanceId Status) → P (step.SetupDone worker_0 true) → Accepts mid r result new → RunOf P mid new
+accepts_run : {P : Step → Type 0} (mid new : World) (r result : Result InstanceId Status) → P (step.SetupDone worker_0 true)
+    → Accepts mid r result new → RunOf P mid new
 accepts_run {P} mid new (Ok i) result is (done, event, _) = one P mid new (step.SetupDone worker_0 true) (reply.Done done) is event
 accepts_run {P} mid new (Err status) result is (same, _) = none P mid new same
 

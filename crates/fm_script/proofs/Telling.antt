@@ -32,14 +32,17 @@ performs (task.Pre k answer) old new then own = acts (task.Pre k answer) old new
 performs (task.Base k) old new then own = acts (task.Base k) old new then own
 performs (task.Post k answer) old new then own = acts (task.Post k answer) old new then own
 
-pub told : (t : Task) (m : Option Said) (Q : Said → Type 0) (old new : Interpreter) → Performs t (λ line. m ≡ Some line) old new → IfSome m Q → Performs t Q old new
+pub told : (t : Task) (m : Option Said) (Q : Said → Type 0) (old new : Interpreter) → Performs t (λ line. m ≡ Some line) old new
+    → IfSome m Q → Performs t Q old new
 told t m Q old new own some = performs t old new (λ line is. subst (λ (x : Option Said). IfSome x Q) is some) own
 
-pub told_one : (t : Task) (m : Option Said) (line : Said) (Q : Said → Type 0) (old new : Interpreter) → m ≡ Some line → Performs t (λ own. m ≡ Some own) old new → Q line
+pub told_one : (t : Task) (m : Option Said) (line : Said) (Q : Said → Type 0) (old new : Interpreter) → m ≡ Some line
+    → Performs t (λ own. m ≡ Some own) old new → Q line
     → Performs t Q old new
 told_one t m line Q old new is own holds = told t m Q old new own (subst (λ (x : Option Said). IfSome x Q) (sym is) holds)
 
 pub told_list : {A : Type 0} (items : A → List Said) (t : Task) (m : Option Said) (r : Result A ScriptEnd) (old new : Interpreter)
-    → Performs t (λ line. m ≡ Some line) old new → IfOk r (λ kept. IfSome m (λ line. items kept ≡ line ∷ [])) → IfOk r (λ kept. Performs t (λ line. items kept ≡ line ∷ []) old new)
+    → Performs t (λ line. m ≡ Some line) old new → IfOk r (λ kept. IfSome m (λ line. items kept ≡ line ∷ []))
+    → IfOk r (λ kept. Performs t (λ line. items kept ≡ line ∷ []) old new)
 told_list items t m (Ok kept) old new own some = told t m (λ line. items kept ≡ line ∷ []) old new own some
 told_list items t m (Err end) old new own some = tt

@@ -92,7 +92,8 @@ Acts (task.Next k o) Prints old new = (r : Result Given Status) × LendsNext old
 Acts (task.Pre k answer) Prints old new =
     (r : Result (Unit {0}) Status) × LentPreReturns old.session k answer r new.session × BySession old new × Prints (said_done r)
 Acts (task.Base k) Prints old new =
-    (r : Result Status Status) × LentBaseReturns Calls old.session old.devices k r new.session new.devices × KeepsLists old new × Prints (said_new (λ status. Plain word.Ok) r)
+    (r : Result Status Status) × LentBaseReturns Calls old.session old.devices k r new.session new.devices × KeepsLists old new
+    × Prints (said_new (λ status. Plain word.Ok) r)
 Acts (task.Post k answer) Prints old new =
     (r : Result (Unit {0}) Status) × LentPostReturns old.session k answer r new.session × BySession old new × Prints (said_done r)
 Acts _ Prints old new = ⊥

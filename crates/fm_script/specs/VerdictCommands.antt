@@ -56,7 +56,8 @@ done_or_more word = cond (bytes_eq word (codes "done")) (Ok post.Finished) (cond
 -- ---- commands
 
 -- ids that were read, and a verdict behind them
-abbrev pub AnswersAs : {T : Type 0} → Result T Status → (Result PreVerdict Status → Type 0) → (T → PreVerdict → Result Task Status) → Result Task Status → Type 0
+abbrev pub AnswersAs : {T : Type 0} → Result T Status → (Result PreVerdict Status → Type 0) → (T → PreVerdict → Result Task Status)
+    → Result Task Status → Type 0
 AnswersAs (Ok ids) Reads next result = (read : Result PreVerdict Status) × Reads read × (result ≡ (read >>= λ answer. next ids answer))
 AnswersAs (Err status) Reads next result = result ≡ Err status
 

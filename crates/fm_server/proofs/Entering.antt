@@ -15,7 +15,8 @@ abbrev refusal : Status → Result (Unit {0}) Status
 refusal status = Err status
 
 by_volume : (is_there : Bool) (gate : RundownGate) (v : ℕ) (old new : GateSeat) (status : Status)
-    → MatchBool is_there (Enters v (view_of old) (refusal status) (view_of new)) ((refusal status ≡ refusal NoVolume) × (view_of new ≡ view_of old)) → status ≢ Success
+    → MatchBool is_there (Enters v (view_of old) (refusal status) (view_of new)) ((refusal status ≡ refusal NoVolume)
+    × (view_of new ≡ view_of old)) → status ≢ Success
 by_volume true gate v old new status entered is = there_refused v (view_of old) (view_of new) status entered is
 by_volume false gate v old new status entered is = let wrong : refusal status ≡ refusal NoVolume = entered.0 in cc
 

@@ -11,7 +11,8 @@ use Rattle.fm_server.specs.declared.serve_end.ServeEnd.{ServeEnd}
 use Rattle.fm_server.specs.declared.serve_end.ServeEnd.TheVariants.{WriteFault, NoMemory, Stopped}
 
 -- what the iterator of a vector has given is a front of its items
-pub taken_front : {X A : Type 0} (s : IntoIter X A) (xs : List X) (t : IntoIter X A) → Yields into_iter_steps s xs t → into_iter_items s ≡ xs ++ into_iter_items t
+pub taken_front : {X A : Type 0} (s : IntoIter X A) (xs : List X) (t : IntoIter X A) → Yields into_iter_steps s xs t
+    → into_iter_items s ≡ xs ++ into_iter_items t
 taken_front s [] t y = ap into_iter_items y
 taken_front s (x ∷ xs) t y = y.1.0 ∙ ap (λ ys. x ∷ ys) (taken_front y.0 xs t y.2)
 
@@ -20,13 +21,15 @@ none_more [] more p q = q
 none_more (frame ∷ frames) more p q = (p.0, none_more frames more p.1 q)
 
 module _ {S : Type 0} (answers : S → Frame → Frame → S → Type 0) where
-  replies_more : (old mid new : S) (frames more : List Frame) (told last : List ℕ) → RepliesAll answers old frames told mid → RepliesAll answers mid more last new
+  replies_more : (old mid new : S) (frames more : List Frame) (told last : List ℕ) → RepliesAll answers old frames told mid
+      → RepliesAll answers mid more last new
       → RepliesAll answers old (frames ++ more) (told ++ last) new
   replies_more old mid new [] more told last p q = rw (p.0, ← p.1) q
   replies_more old mid new (frame ∷ frames) more told last p q =
       (p.0, p.1 ++ last, p.2, p.3, replies_more p.2 mid new frames more p.1 last p.4 q, ap (λ (t : List ℕ). t ++ last) p.5 ∙ append_assoc p.0 p.1 last)
 
-  pub answered_more : (old mid new : S) (frames more : List Frame) (told last : List ℕ) → Answered answers old frames told mid → Answered answers mid more last new
+  pub answered_more : (old mid new : S) (frames more : List Frame) (told last : List ℕ) → Answered answers old frames told mid
+      → Answered answers mid more last new
       → Answered answers old (frames ++ more) (told ++ last) new
   answered_more old mid new frames more told last p q = record {
     replies = replies_more old mid new frames more told last p.replies q.replies;

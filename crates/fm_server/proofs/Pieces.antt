@@ -15,8 +15,13 @@ use Rattle.fm_server.proofs.Frames.{answered_more}
 
 begins_longer : (stream piece : List ℕ) (frames : List Frame) (rest : List ℕ) → Begins stream frames rest → Begins (stream ++ piece) frames (rest ++ piece)
 begins_longer stream piece [] rest begins = ap (λ (t : List ℕ). t ++ piece) begins
-begins_longer stream piece (frame ∷ frames) rest begins =
-    (begins.0, begins.1 ++ piece, ap (λ (t : List ℕ). t ++ piece) begins.2 ∙ append_assoc begins.0 begins.1 piece, begins.3, begins_longer begins.1 piece frames rest begins.4)
+begins_longer stream piece (frame ∷ frames) rest begins = (
+  begins.0,
+  begins.1 ++ piece,
+  ap (λ (t : List ℕ). t ++ piece) begins.2 ∙ append_assoc begins.0 begins.1 piece,
+  begins.3,
+  begins_longer begins.1 piece frames rest begins.4,
+)
 
 fault_longer : (rest piece : List ℕ) → IsFault rest → IsFault (rest ++ piece)
 fault_longer rest piece fault = record {
@@ -94,7 +99,8 @@ module _ {S : Type 0} (answers : S → Frame → Frame → S → Type 0) where
   ends_within end first mid new input piece told output rest frames more begins p q = absurd q
 
   -- a piece gave frames, and they were answered
-  pub takes_frames : (r : Result (Unit {0}) ServeEnd) (first old new : S) (decoder after : Option (List ℕ)) (input told piece output : List ℕ) (frames : List Frame)
+  pub takes_frames : (r : Result (Unit {0}) ServeEnd) (first old new : S) (decoder after : Option (List ℕ))
+      (input told piece output : List ℕ) (frames : List Frame)
       → Stands answers first decoder input told old → Gives decoder piece frames after → DoesAll answers r old frames output new
       → Takes answers r first after (input ++ piece) (told ++ output) new
   takes_frames (Ok _) first old new decoder after input told piece output frames s g d =
@@ -116,11 +122,31 @@ module _ {S : Type 0} (answers : S → Frame → Frame → S → Type 0) where
   at_fault : (first old : S) (decoder : Option (List ℕ)) (input told piece : List ℕ) → (s : Stands answers first decoder input told old) → Refuses decoder piece
       → AnswersAll answers first (input ++ piece) (s.rest ++ piece) told old × IsFault (s.rest ++ piece)
   at_fault first old None input told piece s refuses =
-      let fault = fault_longer s.rest piece s.keeps in
-      (record { frames = s.frames; splits = record { begins = begins_longer input piece s.frames s.rest s.splits.begins; ends = inr fault }; answered = s.answered }, fault)
+      let fault = fault_longer s.rest piece s.keeps in (
+        record {
+          frames = s.frames;
+          splits = record {
+            begins = begins_longer input piece s.frames s.rest s.splits.begins;
+            ends =
+                inr fault;
+          };
+          answered = s.answered;
+        },
+        fault,
+      )
   at_fault first old (Some held) input told piece s refuses =
-      let fault : IsFault (s.rest ++ piece) = subst (λ (t : List ℕ). IsFault (t ++ piece)) s.keeps.1 refuses in
-      (record { frames = s.frames; splits = record { begins = begins_longer input piece s.frames s.rest s.splits.begins; ends = inr fault }; answered = s.answered }, fault)
+      let fault : IsFault (s.rest ++ piece) = subst (λ (t : List ℕ). IsFault (t ++ piece)) s.keeps.1 refuses in (
+        record {
+          frames = s.frames;
+          splits = record {
+            begins = begins_longer input piece s.frames s.rest s.splits.begins;
+            ends =
+                inr fault;
+          };
+          answered = s.answered;
+        },
+        fault,
+      )
 
   -- a piece was refused, and the fault was told
   pub takes_fault : (end : ServeEnd) (first old : S) (decoder : Option (List ℕ)) (input told piece output : List ℕ)

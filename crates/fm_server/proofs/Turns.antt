@@ -17,7 +17,8 @@ not_last Truncated piece last = piece
 not_last end piece last = last
 
 module _ {S : Type 0} (answers : S → Frame → Frame → S → Type 0) where
-  pub stands : (first now : S) (read written decoder read_now written_now : Option (List ℕ)) → (w : Waits answers first read written decoder read_now written_now now)
+  pub stands : (first now : S) (read written decoder read_now written_now : Option (List ℕ))
+      → (w : Waits answers first read written decoder read_now written_now now)
       → Stands answers first decoder w.input w.output now
   stands first now read written decoder read_now written_now w = record {
     frames = w.frames;
@@ -54,18 +55,21 @@ module _ {S : Type 0} (answers : S → Frame → Frame → S → Type 0) where
     last = λ last. absurd (not_last end t.0 last);
   }
 
-  read_on : (first now : S) (read written decoder read_now written_now read_new : Option (List ℕ)) → (w : Waits answers first read written decoder read_now written_now now)
+  read_on : (first now : S) (read written decoder read_now written_now read_new : Option (List ℕ))
+      → (w : Waits answers first read written decoder read_now written_now now)
       → Consumes read_now read_new [] → Consumes read read_new w.input
   read_on first now read written decoder read_now written_now read_new w consumes =
       subst (λ (t : List ℕ). Consumes read read_new t) (append-nil w.input) (consumes_more read read_now read_new w.input [] w.read consumes)
 
   -- all that came whole was answered
-  all_answered : (first now : S) (read written decoder read_now written_now : Option (List ℕ)) → (w : Waits answers first read written decoder read_now written_now now)
+  all_answered : (first now : S) (read written decoder read_now written_now : Option (List ℕ))
+      → (w : Waits answers first read written decoder read_now written_now now)
       → AnswersAll answers first w.input w.rest w.output now
   all_answered first now read written decoder read_now written_now w = record { frames = w.frames; splits = w.splits; answered = w.answered }
 
   -- the source failed, or was read as often as it may be
-  pub leaves_fault : (first now : S) (read written decoder read_now written_now read_new : Option (List ℕ)) → Waits answers first read written decoder read_now written_now now
+  pub leaves_fault : (first now : S) (read written decoder read_now written_now read_new : Option (List ℕ))
+      → Waits answers first read written decoder read_now written_now now
       → Consumes read_now read_new [] → Leaves answers ReadFault read written first read_new written_now now
   leaves_fault first now read written decoder read_now written_now read_new w consumes = record {
     input = w.input;
@@ -79,7 +83,8 @@ module _ {S : Type 0} (answers : S → Frame → Frame → S → Type 0) where
   held_rest : (held rest : List ℕ) (end : ServeEnd) (d : Option (List ℕ)) → d ≡ Some rest → LastEnd d end → LastEnd (Some rest) end
   held_rest held rest end d is last = subst (λ (x : Option (List ℕ)). LastEnd x end) is last
 
-  serves_last : (end : ServeEnd) (first now : S) (read written decoder read_now written_now : Option (List ℕ)) → (w : Waits answers first read written decoder read_now written_now now)
+  serves_last : (end : ServeEnd) (first now : S) (read written decoder read_now written_now : Option (List ℕ))
+      → (w : Waits answers first read written decoder read_now written_now now)
       → LastEnd (Some w.rest) end → Serves answers end first w.input w.output now
   serves_last Ended first now read written decoder read_now written_now w last =
       subst (λ (rest : List ℕ). AnswersAll answers first w.input rest w.output now) last (all_answered first now read written decoder read_now written_now w)
@@ -88,7 +93,8 @@ module _ {S : Type 0} (answers : S → Frame → Frame → S → Type 0) where
   serves_last end first now read written decoder read_now written_now w last = absurd last
 
   -- the input is at its end
-  pub leaves_last : (end : ServeEnd) (first now : S) (read written decoder read_now written_now read_new : Option (List ℕ)) → Waits answers first read written decoder read_now written_now now
+  pub leaves_last : (end : ServeEnd) (first now : S) (read written decoder read_now written_now read_new : Option (List ℕ))
+      → Waits answers first read written decoder read_now written_now now
       → Consumes read_now read_new [] → IsAtEnd read_new → LastEnd decoder end → Leaves answers end read written first read_new written_now now
   leaves_last end first now read written decoder read_now written_now read_new w consumes at_end last = record {
     input = w.input;
@@ -121,6 +127,18 @@ module _ {S : Type 0} (answers : S → Frame → Frame → S → Type 0) where
     output = [];
     read = consumes_nothing read;
     written = appends_nothing written;
-    serves = inl (record { frames = []; rest = []; begins = refl; until = record { before = []; left = []; mid = first; parts = refl; answered = answered_none answers first; may_answer = refl } });
+    serves = inl (record {
+      frames = [];
+      rest = [];
+      begins = refl;
+      until = record {
+        before = [];
+        left = [];
+        mid = first;
+        parts = refl;
+        answered = answered_none answers first;
+        may_answer = refl;
+      };
+    });
     last = λ last. absurd last;
   }

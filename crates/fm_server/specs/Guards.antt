@@ -17,7 +17,8 @@ KeepsPasses old new = (v : ℕ) → (volume_of v new).held ≡ (volume_of v old)
 
 -- what came of the operation once the gate was asked for a pass: with one, the reply is that of what answers, and the pass was given back; without one the
 -- gate's refusal is the reply, and what answers is as it was
-abbrev pub GuardsAfter : {S : Type 0} → (S → Request → Reply → S → Type 0) → ℕ → Result (Unit {0}) Status → S → SeatView → Request → Reply → SeatView → S → Type 0
+abbrev pub GuardsAfter : {S : Type 0} → (S → Request → Reply → S → Type 0) → ℕ → Result (Unit {0}) Status → S → SeatView → Request
+    → Reply → SeatView → S → Type 0
 GuardsAfter operates v (Ok got) old mid request said seat new = operates old request said new × (back : Result (Unit {0}) Status) × Leaves v mid back seat
 GuardsAfter operates v (Err status) old mid request said seat new = (said ≡ status_reply status) × (new ≡ old) × (seat ≡ mid)
 
@@ -28,7 +29,8 @@ Guards operates v seat_old old request said seat_new new =
 
 -- a guarded operation: what answers answered it under a pass, or the gate's refusal, which is no success, is the reply and what answers is as it was. A gate
 -- without that volume says so
-pub record Guarded {S : Type 0} (operates : S → Request → Reply → S → Type 0) (gate : RundownGate) (v : ℕ) (seat_old : SeatView) (old : S) (request : Request) (said : Reply) (seat_new : SeatView) (new : S) : Type 0 where
+pub record Guarded {S : Type 0} (operates : S → Request → Reply → S → Type 0) (gate : RundownGate) (v : ℕ) (seat_old : SeatView)
+    (old : S) (request : Request) (said : Reply) (seat_new : SeatView) (new : S) : Type 0 where
   pub says : ((status : Status) × (status ≢ Success) × (said ≡ status_reply status) × (new ≡ old)) ⊎ operates old request said new
   pub guards : nat_lt v (volumes_of gate) ≡ true → Guards operates v seat_old old request said seat_new new
   pub none : nat_lt v (volumes_of gate) ≡ false → (said ≡ status_reply NoVolume) × (new ≡ old)

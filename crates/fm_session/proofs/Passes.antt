@@ -22,7 +22,8 @@ lent_there : (all : List Lent) (k : WorkerId) (what : Lent) → k.0 < length all
 lent_there all k what within = get_or-set_same all k.0 what lent.Nothing within
 
 passes_down : (old now new : Lending) (w : World) (k : WorkerId) (o : OpId) (i : InstanceId) (completion : Completion) → old ≡ now
-    → new ≡ record { world = w; lent = lend old.lent k lent.Nothing } → k.0 < length old.lent → PassesDown old.world k o i completion w → LentPassesDown now k o i completion new
+    → new ≡ record { world = w; lent = lend old.lent k lent.Nothing } → k.0 < length old.lent → PassesDown old.world k o i completion w
+    → LentPassesDown now k o i completion new
 passes_down old now new w k o i completion now_is new_is within (own, mid, nexts, returns) =
     let between : Lending = record { world = mid; lent = lend old.lent k (lent.Pre own) } in
     let after : Lending = record { world = w; lent = lend old.lent k lent.Nothing } in

@@ -39,5 +39,6 @@ pub base_back : (all : List Lent) (k : WorkerId) (call : BaseCall) (r : Result (
 base_back all k call (Ok done) was = refl
 base_back all k call (Err status) was = given_back all k (lent.Base call) (is_base (lent_to all k) call was)
 
-pub post_back : (all : List Lent) (k : WorkerId) (given : Option Data) → post_in (lent_to all k) ≡ Some given → lend (lend all k lent.Nothing) k (post_lent given) ≡ all
+pub post_back : (all : List Lent) (k : WorkerId) (given : Option Data) → post_in (lent_to all k) ≡ Some given
+    → lend (lend all k lent.Nothing) k (post_lent given) ≡ all
 post_back all k given was = given_back all k (post_lent given) (is_post (lent_to all k) given was)

@@ -134,7 +134,8 @@ status_told answer (Ok done) = Ok answer.status
 status_told answer (Err status) = Err status
 
 -- the device carries out the call that was lent, and its answer is given back
-abbrev pub ReturnsBase : {D : Type 0} → (D → BaseCall → Answer → D → Type 0) → Lending → D → WorkerId → Result Status Status → Lending → D → Option BaseCall → Type 0
+abbrev pub ReturnsBase : {D : Type 0} → (D → BaseCall → Answer → D → Type 0) → Lending → D → WorkerId → Result Status Status → Lending
+    → D → Option BaseCall → Type 0
 ReturnsBase carries old below k result new after None = NotLent old result new × (after ≡ below)
 ReturnsBase carries old below k result new after (Some call) =
     (answer : Answer) × (r : Result (Unit {0}) Status) × carries below call answer after × BaseReturns old.world k call answer r new.world

@@ -46,8 +46,13 @@ registered_follows s name r sound = record {
   births = omega arith;
   longer = omega arith;
   altitudes = λ i row there. (row, there, refl);
-  visits = λ v born operation i row early there visited.
-      (row, there, rw (← same_visits s (new_filter name r) v born operation row (all_at (IsPlaced s) s.instances i row sound.placed there).filter) visited, refl);
+  visits = λ v born operation i row early there visited. (
+    row,
+    there,
+    rw (← same_visits s (new_filter name r) v born operation row
+        (all_at (IsPlaced s) s.instances i row sound.placed there).filter) visited,
+    refl,
+  );
 }
 
 pub mounted_follows : (s : StackWorld) (name : List ℕ) → IsStack s → Follows s (mounted s name)

@@ -12,7 +12,14 @@ setup_is_live p in_setup = cc
 
 -- an instance in Setup is there, whatever comes next but its end
 alike : (x y : Instance) → is_setup x.phase ≡ true → is_detached y.phase ≡ false → y ≡ record x { phase = y.phase; birth = y.birth } → IsAlike x y
-alike x y in_setup live same = rw same (record { filter = refl; volume = refl; name = refl; altitude = refl; live = inr (live ∙ sym (setup_is_live x.phase in_setup)) })
+alike x y in_setup live same = rw same (record {
+  filter = refl;
+  volume = refl;
+  name = refl;
+  altitude = refl;
+  live =
+      inr (live ∙ sym (setup_is_live x.phase in_setup));
+})
 
 pub accepted_keeps : (s : StackWorld) (i : InstanceId) → IsStack s → (row : Instance) → slice_get s.instances i.0 ≡ Some row
     → is_setup row.phase ≡ true → IsStack (accepted s i)
@@ -37,7 +44,8 @@ born_too_late s v born operation row early visited =
 pub accepted_follows : (s : StackWorld) (i : InstanceId) → IsStack s → (row : Instance) → slice_get s.instances i.0 ≡ Some row
     → is_setup row.phase ≡ true → Follows s (accepted s i)
 accepted_follows s i sound row there in_setup =
-    row_follows s (accept_row s.births) i.0 (s.births + 1) (λ x. refl) (omega arith) (λ v born operation x early visited. born_too_late s v born operation x early visited)
+    row_follows s (accept_row s.births) i.0 (s.births + 1) (λ x. refl) (omega arith)
+    (λ v born operation x early visited. born_too_late s v born operation x early visited)
 
 pub refused_follows : (s : StackWorld) (i : InstanceId) → IsStack s → (row : Instance) → slice_get s.instances i.0 ≡ Some row
     → is_setup row.phase ≡ true → Follows s (refused s i)

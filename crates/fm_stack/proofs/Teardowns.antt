@@ -66,7 +66,8 @@ passed test o x is there = subst (λ p. passes test p ≡ true) there is
 
 pub stopped_goes_on : (s : StackWorld) (i : InstanceId) → passes is_in_use (slice_get s.instances i.0) ≡ true → StackGoesOn s (stopped s i)
 stopped_goes_on s i is =
-    only_rows s (stopped s i).instances (one_goes_on stop_row s.instances i.0 (λ x there. stop_goes_on x (passed is_in_use (slice_get s.instances i.0) x is there)))
+    only_rows s (stopped s i).instances (one_goes_on stop_row s.instances i.0
+    (λ x there. stop_goes_on x (passed is_in_use (slice_get s.instances i.0) x is there)))
 
 pub starting_goes_on : (s : StackWorld) (i : InstanceId) → StackGoesOn s (starting s i)
 starting_goes_on s i = only_rows s (starting s i).instances (one_goes_on _ s.instances i.0 (λ x there. mark_goes_on StartMark.Made x))
@@ -91,7 +92,8 @@ not_false true is = refl
 not_false false is = cc
 
 -- the refusals of a stack under its other name
-none_under : {kept now : StackWorld} (refusals : StackWorld → List (Bool × Status)) → kept ≡ now → first_of (refusals now) ≡ None → first_of (refusals kept) ≡ None
+none_under : {kept now : StackWorld} (refusals : StackWorld → List (Bool × Status)) → kept ≡ now → first_of (refusals now) ≡ None
+    → first_of (refusals kept) ≡ None
 none_under refusals same none = ap (λ w. first_of (refusals w)) same ∙ none
 
 pub stops : {kept now : StackWorld} (orders : List (List Seat)) (i : InstanceId) (allow : Bool) → IsKept kept orders → kept ≡ now

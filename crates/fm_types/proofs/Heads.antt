@@ -43,7 +43,8 @@ lie_as a b x y Equal Greater low high first next = omega arith
 lie_as a b x y Greater s low high first next = omega arith
 
 -- one more byte decides only where the bytes before it are alike
-next_byte : (a b x y : ℕ) (o : Ordering) → x < 256 → y < 256 → ordering_then (nat_cmp (a * 256 + x) (b * 256 + y)) o ≡ ordering_then (nat_cmp a b) (ordering_then (nat_cmp x y) o)
+next_byte : (a b x y : ℕ) (o : Ordering) → x < 256 → y < 256 → ordering_then (nat_cmp (a * 256 + x) (b * 256 + y)) o
+    ≡ ordering_then (nat_cmp a b) (ordering_then (nat_cmp x y) o)
 next_byte a b x y o low high =
     let is = nat_cmp_is _ _ _ (lie_as a b x y _ _ low high (ranked a b _ refl) (ranked x y _ refl)) in
     sym (then_next (nat_cmp a b) (nat_cmp x y) o (sym is) refl)
@@ -55,7 +56,8 @@ only_first Equal whole differ = absurd (differ refl)
 only_first Greater whole differ = refl
 
 -- numbers of first bytes that differ lie as the texts do, after the numbers a and b of the bytes before
-numbers_first : (n a b : ℕ) (xs ys : List ℕ) → All IsPathByte xs → All IsPathByte ys → nat_cmp (big_endian a (head_of n xs)) (big_endian b (head_of n ys)) ≢ Equal
+numbers_first : (n a b : ℕ) (xs ys : List ℕ) → All IsPathByte xs → All IsPathByte ys
+    → nat_cmp (big_endian a (head_of n xs)) (big_endian b (head_of n ys)) ≢ Equal
     → nat_cmp (big_endian a (head_of n xs)) (big_endian b (head_of n ys)) ≡ ordering_then (nat_cmp a b) (slice_cmp nat_cmp xs ys)
 numbers_first zero a b xs ys these those differ = only_first (nat_cmp a b) (slice_cmp nat_cmp xs ys) differ
 numbers_first (suc n) a b [] [] these those differ =
@@ -79,6 +81,7 @@ numbers_first (suc n) a b (x ∷ xs) (y ∷ ys) these those differ =
     ∙ next_byte a b x y (slice_cmp nat_cmp xs ys) (omega (arith, left)) (omega (arith, right))
 
 -- and so they decide where they differ
-pub decided_first : (n : ℕ) (xs ys : List ℕ) (first : Ordering) → All IsPathByte xs → All IsPathByte ys → first ≡ nat_cmp (big_endian 0 (head_of n xs)) (big_endian 0 (head_of n ys))
+pub decided_first : (n : ℕ) (xs ys : List ℕ) (first : Ordering) → All IsPathByte xs → All IsPathByte ys
+    → first ≡ nat_cmp (big_endian 0 (head_of n xs)) (big_endian 0 (head_of n ys))
     → first ≢ Equal → first ≡ slice_cmp nat_cmp xs ys
 decided_first n xs ys first these those is differ = is ∙ numbers_first n 0 0 xs ys these those (λ e. differ (is ∙ e))

@@ -1,6 +1,5 @@
 mod Parts
 mod Heads
-mod Writes
 pub mod Lists
 pub mod Firsts
 pub mod Refusals

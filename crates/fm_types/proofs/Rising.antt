@@ -33,7 +33,8 @@ tested : (a n : ℕ) → (nat_cmp a n ≡ Less) ⊎ (nat_cmp a n ≡ Greater) �
 tested a n h = grind (arith, nat_tests)
 
 -- the numbers rise, so what a comparison with n says of them does too
-searchable : {X : Type 0} (key : X → ℕ) (n : ℕ) (xs : List X) → AllPairs (λ x y. key x < key y) xs → IsNonDecreasingBy (λ y. ordering_index (nat_cmp (key y) n)) xs
+searchable : {X : Type 0} (key : X → ℕ) (n : ℕ) (xs : List X) → AllPairs (λ x y. key x < key y) xs
+    → IsNonDecreasingBy (λ y. ordering_index (nat_cmp (key y) n)) xs
 searchable key n xs rises i j d upto within = elim (cases_order i j) [
   | inl is ↦ rw is (omega arith)
   | inr (inl below) ↦ index_rises (key (get_or xs i d)) (key (get_or xs j d)) n (omega (arith, rises i j d below within))

@@ -1,5 +1,5 @@
 -- The numbers of statuses.
-use Rattle.std.specs.Prelude.{ℕ, List, Option, None, Some, codes}
+use Rattle.std.specs.Prelude.{ℕ, List, codes}
 use Rattle.fm_types.specs.declared.status.Status.{Status}
 use Rattle.fm_types.specs.declared.status.Status.TheVariants.{Success, NoMemory, BadAltitude, BadName, NameCollision, AltitudeCollision, NoFilter, NoVolume, NoInstance, NotLoaded, AlreadyLoaded, DoNotAttach, DoNotDetach, DeletingObject, NoHandle, BadPath, DeletePending, AccessDenied, DeviceFault, FileNotFound, AlreadyExists, NotRegistered, AlreadyDefined, AlreadyLinked, NoContext, NotHeld, HandFull, NoObject, NotPended, TooMany, WrongStep, EndOfFile, BadRequest, Dismounting, Busy}
 
@@ -83,41 +83,3 @@ name_of EndOfFile = codes "EndOfFile"
 name_of BadRequest = codes "BadRequest"
 name_of Dismounting = codes "Dismounting"
 name_of (Busy count) = codes "Busy"
-
--- the name of the kit's status that is nearest to it
-abbrev pub kit_name_of : Status → Option (List ℕ)
-kit_name_of Success = Some (codes "STATUS_SUCCESS")
-kit_name_of NoMemory = Some (codes "STATUS_INSUFFICIENT_RESOURCES")
-kit_name_of BadAltitude = Some (codes "STATUS_INVALID_PARAMETER")
-kit_name_of BadName = Some (codes "STATUS_OBJECT_NAME_INVALID")
-kit_name_of NameCollision = Some (codes "STATUS_FLT_INSTANCE_NAME_COLLISION")
-kit_name_of AltitudeCollision = Some (codes "STATUS_FLT_INSTANCE_ALTITUDE_COLLISION")
-kit_name_of NoFilter = Some (codes "STATUS_FLT_FILTER_NOT_FOUND")
-kit_name_of NoVolume = Some (codes "STATUS_FLT_VOLUME_NOT_FOUND")
-kit_name_of NoInstance = Some (codes "STATUS_FLT_INSTANCE_NOT_FOUND")
-kit_name_of NotLoaded = Some (codes "STATUS_FLT_FILTER_NOT_FOUND")
-kit_name_of AlreadyLoaded = Some (codes "STATUS_IMAGE_ALREADY_LOADED")
-kit_name_of DoNotAttach = Some (codes "STATUS_FLT_DO_NOT_ATTACH")
-kit_name_of DoNotDetach = Some (codes "STATUS_FLT_DO_NOT_DETACH")
-kit_name_of DeletingObject = Some (codes "STATUS_FLT_DELETING_OBJECT")
-kit_name_of NoHandle = Some (codes "STATUS_INVALID_HANDLE")
-kit_name_of BadPath = Some (codes "STATUS_OBJECT_NAME_INVALID")
-kit_name_of DeletePending = Some (codes "STATUS_DELETE_PENDING")
-kit_name_of AccessDenied = Some (codes "STATUS_ACCESS_DENIED")
-kit_name_of DeviceFault = Some (codes "STATUS_IO_DEVICE_ERROR")
-kit_name_of FileNotFound = Some (codes "STATUS_OBJECT_NAME_NOT_FOUND")
-kit_name_of AlreadyExists = Some (codes "STATUS_OBJECT_NAME_COLLISION")
-kit_name_of NotRegistered = Some (codes "STATUS_FLT_CONTEXT_ALLOCATION_NOT_FOUND")
-kit_name_of AlreadyDefined = Some (codes "STATUS_FLT_CONTEXT_ALREADY_DEFINED")
-kit_name_of AlreadyLinked = Some (codes "STATUS_FLT_CONTEXT_ALREADY_LINKED")
-kit_name_of NoContext = Some (codes "STATUS_NOT_FOUND")
-kit_name_of NotHeld = None
-kit_name_of HandFull = None
-kit_name_of NoObject = Some (codes "STATUS_NOT_SUPPORTED")
-kit_name_of NotPended = None
-kit_name_of TooMany = None
-kit_name_of WrongStep = None
-kit_name_of EndOfFile = Some (codes "STATUS_END_OF_FILE")
-kit_name_of BadRequest = Some (codes "STATUS_INVALID_PARAMETER")
-kit_name_of Dismounting = Some (codes "STATUS_VOLUME_DISMOUNTED")
-kit_name_of (Busy count) = None

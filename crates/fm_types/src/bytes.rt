@@ -1,7 +1,7 @@
 //! Owned bytes: what a file holds, and what a read answers or a write brings.
 
-ghost use Rattle.std.specs.Prelude.{◌≡◌, ◌<◌, ◌≤◌, ◌+◌, ◌-◌, ◌^◌, ◌++◌, ◌==◌, [], length, take, drop, replicate, slice_set, IfOk, OnOk, OnErr};
-ghost use Rattle.fm_types.specs.ByteLists.{resized, written};
+ghost use Rattle.std.specs.Prelude.{◌≡◌, ◌<◌, ◌≤◌, ◌+◌, ◌==◌, [], length, take, drop, slice_set, IfOk, OnOk, OnErr};
+ghost use Rattle.fm_types.specs.ByteLists.{resized};
 
 use std::alloc::{AllocError, Global};
 use std::marker::Model;
@@ -18,25 +18,6 @@ impl Model for Bytes {
     ghost Value = { List ℕ };
 
     ghost view = { λ bytes. bytes.held.items };
-}
-
-// Fills the bytes up to that length with zeros.
-fn grow(held: &mut Vec<u8>, end: usize) -> Result<(), AllocError>
-    ensures ok { OnOk result (held.new.items ≡ held.old.items ++ replicate (end - length held.old.items) 0) }
-    ensures err { OnErr result (held.new.items ≡ held.old.items) }
-{
-    if held.len() < end {
-        held.resize(end, 0)?;
-    }
-    Ok(())
-}
-
-// Writes over what lies there from `offset` on, which has to be there.
-fn overwrite(held: &mut Vec<u8>, offset: usize, bytes: &[u8])
-    requires { offset + length bytes.now ≤ length held.old.items }
-    ensures { held.new.items ≡ take offset held.old.items ++ bytes.now ++ drop (offset + length bytes.now) held.old.items }
-{
-    held[offset..offset + bytes.len()].copy_from_slice(bytes);
 }
 
 impl Bytes {
@@ -120,21 +101,5 @@ impl Bytes {
         ensures err { OnErr result (self.new ≡ self.old) }
     {
         self.held.resize(len, 0)
-    }
-
-    /// Writes the bytes from `offset` on: a gap is filled with zeros, and what lies behind the
-    /// written bytes stays. Writing no bytes changes nothing. Where memory is refused the bytes stay
-    /// as they are.
-    pub fn write_at(&mut self, offset: usize, bytes: &[u8]) -> Result<(), AllocError>
-        requires { offset + length bytes.now < 2 ^ 63 }
-        ensures ok { OnOk result (self.new ≡ written offset bytes.now self.old) }
-        ensures err { OnErr result (self.new ≡ self.old) }
-    {
-        if bytes.is_empty() {
-            return Ok(());
-        }
-        grow(&mut self.held, offset + bytes.len())?;
-        overwrite(&mut self.held, offset, bytes);
-        Ok(())
     }
 }

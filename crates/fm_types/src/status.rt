@@ -1,7 +1,7 @@
 //! The outcome of a call: success, or the reason for which it was refused.
 
 ghost use Rattle.std.specs.Prelude.{◌≡◌, ◌<◌, ◌==◌, ◌↔◌, cond, IfSome, IsSome, option_map};
-ghost use Rattle.fm_types.specs.Statuses.{number_of, information_of, kit_name_of, name_of};
+ghost use Rattle.fm_types.specs.Statuses.{number_of, information_of, name_of};
 
 use std::alloc::{AllocError, AllocFailed};
 
@@ -167,50 +167,6 @@ impl Status {
             Status::Dismounting => "Dismounting",
             Status::Busy(_) => "Busy",
         }
-    }
-
-    /// The kit's name of the status that is nearest to it; none of one that is this model's own.
-    pub fn kit_name(self) -> Option<&'static str>
-        ensures { option_map (λ name. name.now) result ≡ kit_name_of self }
-    {
-        let name = match self {
-            Status::Success => "STATUS_SUCCESS",
-            Status::NoMemory => "STATUS_INSUFFICIENT_RESOURCES",
-            Status::BadAltitude => "STATUS_INVALID_PARAMETER",
-            Status::BadName => "STATUS_OBJECT_NAME_INVALID",
-            Status::NameCollision => "STATUS_FLT_INSTANCE_NAME_COLLISION",
-            Status::AltitudeCollision => "STATUS_FLT_INSTANCE_ALTITUDE_COLLISION",
-            Status::NoFilter => "STATUS_FLT_FILTER_NOT_FOUND",
-            Status::NoVolume => "STATUS_FLT_VOLUME_NOT_FOUND",
-            Status::NoInstance => "STATUS_FLT_INSTANCE_NOT_FOUND",
-            Status::NotLoaded => "STATUS_FLT_FILTER_NOT_FOUND",
-            Status::AlreadyLoaded => "STATUS_IMAGE_ALREADY_LOADED",
-            Status::DoNotAttach => "STATUS_FLT_DO_NOT_ATTACH",
-            Status::DoNotDetach => "STATUS_FLT_DO_NOT_DETACH",
-            Status::DeletingObject => "STATUS_FLT_DELETING_OBJECT",
-            Status::NoHandle => "STATUS_INVALID_HANDLE",
-            Status::BadPath => "STATUS_OBJECT_NAME_INVALID",
-            Status::DeletePending => "STATUS_DELETE_PENDING",
-            Status::AccessDenied => "STATUS_ACCESS_DENIED",
-            Status::DeviceFault => "STATUS_IO_DEVICE_ERROR",
-            Status::FileNotFound => "STATUS_OBJECT_NAME_NOT_FOUND",
-            Status::AlreadyExists => "STATUS_OBJECT_NAME_COLLISION",
-            Status::NotRegistered => "STATUS_FLT_CONTEXT_ALLOCATION_NOT_FOUND",
-            Status::AlreadyDefined => "STATUS_FLT_CONTEXT_ALREADY_DEFINED",
-            Status::AlreadyLinked => "STATUS_FLT_CONTEXT_ALREADY_LINKED",
-            Status::NoContext => "STATUS_NOT_FOUND",
-            Status::NoObject => "STATUS_NOT_SUPPORTED",
-            Status::EndOfFile => "STATUS_END_OF_FILE",
-            Status::BadRequest => "STATUS_INVALID_PARAMETER",
-            Status::Dismounting => "STATUS_VOLUME_DISMOUNTED",
-            Status::NotHeld
-            | Status::HandFull
-            | Status::NotPended
-            | Status::TooMany
-            | Status::WrongStep
-            | Status::Busy(_) => return None,
-        };
-        Some(name)
     }
 
     /// How many things are in use, for `Busy`; 0 for every other status.

@@ -7,7 +7,8 @@ use Rattle.fm_script.specs.declared.script_end.ScriptEnd.TheVariants.{Ended}
 -- that of its end; of one that ended well 2 if a line expects what can't be read, else 6 if an expectation wasn't met, and else 5 if it left a reference behind
 -- or an operation that is held, or a line gave back or resumed what it didn't have
 abbrev pub status_of : ScriptEnd → ℕ → ℕ → ℕ → ℕ → ℕ → ℕ
-status_of Ended wrong unmet leaks held misuses = cond (nat_lt 0 wrong) 2 (cond (nat_lt 0 unmet) 6 (cond (nat_lt 0 leaks || nat_lt 0 held || nat_lt 0 misuses) 5 0))
+status_of Ended wrong unmet leaks held misuses = cond (nat_lt 0 wrong) 2
+    (cond (nat_lt 0 unmet) 6 (cond (nat_lt 0 leaks || nat_lt 0 held || nat_lt 0 misuses) 5 0))
 status_of end wrong unmet leaks held misuses = exit_status end
 
 -- 0 where a status is expected and it is that one, 6 where it is another one; but 2, of a line that can't be read, stays

@@ -25,17 +25,20 @@ taken size spelled bytes front rest fits long fi ri spells =
     let fit : IsBytes front = rw fi (IsBytes-take size bytes fits) in
     rw (spells len (λ i. omega (arith, fit i)), fi, ri, take-append-drop size bytes) refl
 
-pub taken_u16 : (n : ℕ) (bytes front rest : List ℕ) → IsBytes bytes → 2 ≤ length bytes → front ≡ take 2 bytes → rest ≡ drop 2 bytes → n ≡ from_be_bytes w16 front
+pub taken_u16 : (n : ℕ) (bytes front rest : List ℕ) → IsBytes bytes → 2 ≤ length bytes → front ≡ take 2 bytes → rest ≡ drop 2 bytes
+    → n ≡ from_be_bytes w16 front
     → bytes ≡ bytes_of_u16 n ++ rest
 unfolding bytes_of_u16
 taken_u16 n bytes front rest fits long fi ri e = taken 2 (to_be_bytes w16 n) bytes front rest fits long fi ri (λ len fit. be_bytes_2 front n len fit e)
 
-pub taken_u32 : (n : ℕ) (bytes front rest : List ℕ) → IsBytes bytes → 4 ≤ length bytes → front ≡ take 4 bytes → rest ≡ drop 4 bytes → n ≡ from_be_bytes w32 front
+pub taken_u32 : (n : ℕ) (bytes front rest : List ℕ) → IsBytes bytes → 4 ≤ length bytes → front ≡ take 4 bytes → rest ≡ drop 4 bytes
+    → n ≡ from_be_bytes w32 front
     → bytes ≡ bytes_of_u32 n ++ rest
 unfolding bytes_of_u32
 taken_u32 n bytes front rest fits long fi ri e = taken 4 (to_be_bytes w32 n) bytes front rest fits long fi ri (λ len fit. be_bytes_4 front n len fit e)
 
-pub taken_u64 : (n : ℕ) (bytes front rest : List ℕ) → IsBytes bytes → 8 ≤ length bytes → front ≡ take 8 bytes → rest ≡ drop 8 bytes → n ≡ from_be_bytes w64 front
+pub taken_u64 : (n : ℕ) (bytes front rest : List ℕ) → IsBytes bytes → 8 ≤ length bytes → front ≡ take 8 bytes → rest ≡ drop 8 bytes
+    → n ≡ from_be_bytes w64 front
     → bytes ≡ bytes_of_u64 n ++ rest
 unfolding bytes_of_u64
 taken_u64 n bytes front rest fits long fi ri e = taken 8 (to_be_bytes w64 n) bytes front rest fits long fi ri (λ len fit. be_bytes_8 front n len fit e)

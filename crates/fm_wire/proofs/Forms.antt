@@ -33,19 +33,22 @@ pub reply_codes : (r : Reply) → (128 ≤ reply_code r) × (reply_code r ≤ 12
 reply_codes (reply.Held operation) = (omega arith, omega arith)
 reply_codes r = (omega arith, omega arith)
 
-pub formless_request : (code : ℕ) (fields : List ℕ) → code ≤ 9 → ((r : Request) → request_code r ≡ code → request_fields r ≡ fields → FitsRequest r → KeepsRequestLimits r → ⊥) → IsFormless code fields
+pub formless_request : (code : ℕ) (fields : List ℕ) → code ≤ 9 → ((r : Request) → request_code r ≡ code → request_fields r ≡ fields
+    → FitsRequest r → KeepsRequestLimits r → ⊥) → IsFormless code fields
 formless_request code fields small none (body.Operation r) s = none r s.code_is s.fields_are s.fits s.limits
 formless_request code fields small none (body.Control c) s = let k = control_codes c in let e = s.code_is in absurd (omega arith)
 formless_request code fields small none (body.Reply r) s = let k = reply_codes r in let e = s.code_is in absurd (omega arith)
 formless_request code fields small none (body.Refused status) s = s.limits
 
-pub formless_control : (code : ℕ) (fields : List ℕ) → 16 ≤ code → code ≤ 21 → ((c : Control) → control_code c ≡ code → control_fields c ≡ fields → FitsControl c → ⊥) → IsFormless code fields
+pub formless_control : (code : ℕ) (fields : List ℕ) → 16 ≤ code → code ≤ 21
+    → ((c : Control) → control_code c ≡ code → control_fields c ≡ fields → FitsControl c → ⊥) → IsFormless code fields
 formless_control code fields low high none (body.Operation r) s = let k = request_codes r in let e = s.code_is in absurd (omega arith)
 formless_control code fields low high none (body.Control c) s = none c s.code_is s.fields_are s.fits
 formless_control code fields low high none (body.Reply r) s = let k = reply_codes r in let e = s.code_is in absurd (omega arith)
 formless_control code fields low high none (body.Refused status) s = s.limits
 
-pub formless_reply : (code : ℕ) (fields : List ℕ) → 128 ≤ code → ((r : Reply) → reply_code r ≡ code → reply_fields r ≡ fields → FitsReply r → KeepsReplyLimits r → ⊥) → IsFormless code fields
+pub formless_reply : (code : ℕ) (fields : List ℕ) → 128 ≤ code → ((r : Reply) → reply_code r ≡ code → reply_fields r ≡ fields
+    → FitsReply r → KeepsReplyLimits r → ⊥) → IsFormless code fields
 formless_reply code fields low none (body.Operation r) s = let k = request_codes r in let e = s.code_is in absurd (omega arith)
 formless_reply code fields low none (body.Control c) s = let k = control_codes c in let e = s.code_is in absurd (omega arith)
 formless_reply code fields low none (body.Reply r) s = none r s.code_is s.fields_are s.fits s.limits
@@ -80,7 +83,8 @@ control_has_size (control.Unload filter) a b = refl
 control_has_size (control.Dismount volume) a b = refl
 control_has_size control.Stop a b = refl
 
-pub control_of_wrong_size : (code : ℕ) (fields : List ℕ) → 16 ≤ code → code ≤ 21 → code ≢ 16 → code ≢ 17 → length fields ≢ control_size code → IsFormless code fields
+pub control_of_wrong_size : (code : ℕ) (fields : List ℕ) → 16 ≤ code → code ≤ 21 → code ≢ 16 → code ≢ 17
+    → length fields ≢ control_size code → IsFormless code fields
 control_of_wrong_size code fields low high a b bad =
     formless_control code fields low high (λ r c f fits. bad (rw (← c, ← f) (control_has_size r (λ e. a (sym c ∙ e)) (λ e. b (sym c ∙ e)))))
 
@@ -90,7 +94,8 @@ held_of_wrong_size fields bad = formless_reply 129 fields (omega arith) (elim [
   | reply.Held operation ↦ λ c f fits limits. bad (rw (← f) (length-u64 operation.0))
 ])
 
-pub number_of_wrong_size : (code : ℕ) (fields : List ℕ) → (code ≡ 4) ⊎ (code ≡ 6) ⊎ (code ≡ 8) ⊎ (code ≡ 9) ⊎ (code ≡ 129) → length fields ≢ 8 → IsFormless code fields
+pub number_of_wrong_size : (code : ℕ) (fields : List ℕ) → (code ≡ 4) ⊎ (code ≡ 6) ⊎ (code ≡ 8) ⊎ (code ≡ 9) ⊎ (code ≡ 129)
+    → length fields ≢ 8 → IsFormless code fields
 number_of_wrong_size code fields is bad = elim is [
   | inl e ↦ rw e (request_of_wrong_size 4 fields (omega arith) (λ e. omega arith) (λ e. omega arith) bad)
   | inr (inl e) ↦ rw e (request_of_wrong_size 6 fields (omega arith) (λ e. omega arith) (λ e. omega arith) bad)
@@ -112,28 +117,33 @@ no_create fields none = formless_request 1 fields (omega arith) (elim [
   | r ↦ λ c f fits limits. absurd (omega arith)
 ])
 
-pub no_read : (fields : List ℕ) → ((handle offset len : ℕ) → fields ≡ bytes_of_u64 handle ++ (bytes_of_u64 offset ++ bytes_of_u32 len) → len ≤ 32768 → ⊥) → IsFormless 2 fields
+pub no_read : (fields : List ℕ) → ((handle offset len : ℕ) → fields ≡ bytes_of_u64 handle ++ (bytes_of_u64 offset ++ bytes_of_u32 len)
+    → len ≤ 32768 → ⊥) → IsFormless 2 fields
 no_read fields none = formless_request 2 fields (omega arith) (elim [
   | request.OnHandle handle (file.Read offset len) ↦ λ c f fits limits. none handle.0 offset len (sym f) limits
   | r ↦ λ c f fits limits. absurd (omega arith)
 ])
 
-write_size : (fields : List ℕ) (r : Request) → request_code r ≡ 3 → request_fields r ≡ fields → KeepsRequestLimits r → (16 ≤ length fields) × (length fields ≤ 16 + 32768)
+write_size : (fields : List ℕ) (r : Request) → request_code r ≡ 3 → request_fields r ≡ fields → KeepsRequestLimits r
+    → (16 ≤ length fields) × (length fields ≤ 16 + 32768)
 write_size fields (request.OnHandle handle (file.Write offset bytes)) c f limits =
     let len : length fields ≡ 16 + length bytes = rw (← f) (simp (length-append, length-u64) (omega arith)) in
     (omega arith, omega arith)
 write_size fields _ c f limits = absurd (omega arith)
 
 pub no_write : (fields : List ℕ) → (length fields < 16) ⊎ (16 + 32768 < length fields) → IsFormless 3 fields
-no_write fields bad = formless_request 3 fields (omega arith) (λ r c f fits limits. let size = write_size fields r c f limits in elim bad [ inl short ↦ omega arith | inr long ↦ omega arith ])
+no_write fields bad = formless_request 3 fields (omega arith) (λ r c f fits limits. let size = write_size fields r c f limits in
+    elim bad [ inl short ↦ omega arith | inr long ↦ omega arith ])
 
-pub no_attach : (fields : List ℕ) → ((filter volume : ℕ) (name altitude : List ℕ) → fields ≡ filter ∷ volume ∷ length name ∷ name ++ altitude → ⊥) → IsFormless 17 fields
+pub no_attach : (fields : List ℕ) → ((filter volume : ℕ) (name altitude : List ℕ)
+    → fields ≡ filter ∷ volume ∷ length name ∷ name ++ altitude → ⊥) → IsFormless 17 fields
 no_attach fields none = formless_control 17 fields (omega arith) (omega arith) (elim [
   | control.Attach filter volume name altitude ↦ λ c f fits. none filter.0 volume.0 name altitude (sym f)
   | r ↦ λ c f fits. absurd (omega arith)
 ])
 
-pub no_reply : (fields : List ℕ) → ((status : Status) (information : ℕ) (bytes : List ℕ) → fields ≡ number_of status ∷ bytes_of_u64 information ++ bytes → ⊥) → IsFormless 128 fields
+pub no_reply : (fields : List ℕ) → ((status : Status) (information : ℕ) (bytes : List ℕ)
+    → fields ≡ number_of status ∷ bytes_of_u64 information ++ bytes → ⊥) → IsFormless 128 fields
 no_reply fields none = formless_reply 128 fields (omega arith) (elim [
   | reply.Done status information bytes ↦ λ c f fits limits. none status information bytes (sym f)
   | reply.Held operation ↦ λ c f fits limits. absurd (omega arith)

@@ -107,7 +107,8 @@ whole_in_front stream text more f e is (inl (inl short)) =
     let inside = is.length_in_range in
     let len : length stream ≡ 4 + length is.bytes + length more =
     ap (λ (t : List ℕ). length t) e ∙ length-append text more ∙ ap (λ (t : List ℕ). length t + length more) is.length_in_front
-    ∙ ap (λ (n : ℕ). n + length more) (length-append (bytes_of_u32 (length is.bytes)) is.bytes ∙ ap (λ (n : ℕ). n + length is.bytes) (length-u32 (length is.bytes))) in
+    ∙ ap (λ (n : ℕ). n + length more) (length-append (bytes_of_u32 (length is.bytes)) is.bytes
+    ∙ ap (λ (n : ℕ). n + length is.bytes) (length-u32 (length is.bytes))) in
     omega arith
 whole_in_front stream text more f e is (inl (inr begun)) =
     let inside = is.length_in_range in
@@ -125,7 +126,8 @@ whole_in_front stream text more f e is (inr fault) =
     e ∙ ap (λ (t : List ℕ). t ++ more) is.length_in_front ∙ append_assoc (bytes_of_u32 (length is.bytes)) is.bytes more in
     out_of_range stream (is.bytes ++ more) (length is.bytes) sides (omega arith) fault inside
 
-one_list : (stream : List ℕ) (frames others : List Frame) (rest other : List ℕ) → Begins stream frames rest → Begins stream others other → IsPartial rest ⊎ IsFault rest → IsPartial other ⊎ IsFault other → (frames ≡ others) × (rest ≡ other)
+one_list : (stream : List ℕ) (frames others : List Frame) (rest other : List ℕ) → Begins stream frames rest
+    → Begins stream others other → IsPartial rest ⊎ IsFault rest → IsPartial other ⊎ IsFault other → (frames ≡ others) × (rest ≡ other)
 one_list stream [] [] rest other a b ends ended = (refl, sym a ∙ b)
 one_list stream [] (g ∷ others) rest other a b ends ended =
     let at : IsPartial stream ⊎ IsFault stream = rw a ends in
@@ -147,7 +149,8 @@ one_reading stream frames others rest other a b = one_list stream frames others 
 pub no_prefix : NoPrefix
 no_prefix a b more f g p q e = (same_frames a b more [] f g p q (e ∙ sym (append-nil b))).1
 
-begins_on : (stream piece : List ℕ) (frames later : List Frame) (held rest : List ℕ) → Begins stream frames held → Begins (held ++ piece) later rest → Begins (stream ++ piece) (frames ++ later) rest
+begins_on : (stream piece : List ℕ) (frames later : List Frame) (held rest : List ℕ) → Begins stream frames held
+    → Begins (held ++ piece) later rest → Begins (stream ++ piece) (frames ++ later) rest
 begins_on stream piece [] later held rest a b = rw a b
 begins_on stream piece (f ∷ frames) later held rest a b =
     (a.0, a.1 ++ piece, ap (λ (t : List ℕ). t ++ piece) a.2 ∙ append_assoc a.0 a.1 piece, a.3, begins_on a.1 piece frames later held rest a.4 b)

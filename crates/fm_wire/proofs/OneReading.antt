@@ -101,7 +101,10 @@ one_control control.Stop control.Stop c f x y = refl
 one_control _ _ c f x y = absurd (omega arith)
 
 statuses : List Status
-statuses = Success ∷ NoMemory ∷ BadAltitude ∷ BadName ∷ NameCollision ∷ AltitudeCollision ∷ NoFilter ∷ NoVolume ∷ NoInstance ∷ NotLoaded ∷ AlreadyLoaded ∷ DoNotAttach ∷ DoNotDetach ∷ DeletingObject ∷ NoHandle ∷ BadPath ∷ DeletePending ∷ AccessDenied ∷ DeviceFault ∷ FileNotFound ∷ AlreadyExists ∷ NotRegistered ∷ AlreadyDefined ∷ AlreadyLinked ∷ NoContext ∷ NotHeld ∷ HandFull ∷ NoObject ∷ NotPended ∷ TooMany ∷ WrongStep ∷ EndOfFile ∷ BadRequest ∷ Dismounting ∷ []
+statuses = Success ∷ NoMemory ∷ BadAltitude ∷ BadName ∷ NameCollision ∷ AltitudeCollision ∷ NoFilter ∷ NoVolume ∷ NoInstance
+    ∷ NotLoaded ∷ AlreadyLoaded ∷ DoNotAttach ∷ DoNotDetach ∷ DeletingObject ∷ NoHandle ∷ BadPath ∷ DeletePending ∷ AccessDenied
+    ∷ DeviceFault ∷ FileNotFound ∷ AlreadyExists ∷ NotRegistered ∷ AlreadyDefined ∷ AlreadyLinked ∷ NoContext ∷ NotHeld ∷ HandFull
+    ∷ NoObject ∷ NotPended ∷ TooMany ∷ WrongStep ∷ EndOfFile ∷ BadRequest ∷ Dismounting ∷ []
 
 status_of : ℕ → ℕ → Status
 status_of number information = get_or statuses number (Busy information)
@@ -112,7 +115,8 @@ unfolding status_of statuses
 counted information (Busy count) has = ap (λ (n : ℕ). Busy n) (sym (has refl))
 counted information _ has = refl
 
-one_reply : (r s : Reply) → reply_code r ≡ reply_code s → reply_fields r ≡ reply_fields s → FitsReply r → FitsReply s → KeepsReplyLimits r → KeepsReplyLimits s → r ≡ s
+one_reply : (r s : Reply) → reply_code r ≡ reply_code s → reply_fields r ≡ reply_fields s → FitsReply r → FitsReply s
+    → KeepsReplyLimits r → KeepsReplyLimits s → r ≡ s
 one_reply (reply.Done status information bytes) (reply.Done t i b) c f x y has had =
     let numbers : number_of status ≡ number_of t = cc in
     let tails : bytes_of_u64 information ++ bytes ≡ bytes_of_u64 i ++ b = cc in

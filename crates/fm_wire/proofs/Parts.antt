@@ -43,10 +43,12 @@ same_u64 m n x y ms ns e =
     (sym (from-u64 m ms) ∙ ap (λ (b : List ℕ). from_be_bytes w64 b) parts.0 ∙ from-u64 n ns, parts.1)
 
 -- the length in a text that two readings of it name
-pub same_length : (fields r s t : List ℕ) (handle offset len h o l : ℕ) → fields ≡ bytes_of_u64 handle ++ r → r ≡ bytes_of_u64 offset ++ s → s ≡ bytes_of_u32 len ++ t
+pub same_length : (fields r s t : List ℕ) (handle offset len h o l : ℕ) → fields ≡ bytes_of_u64 handle ++ r
+    → r ≡ bytes_of_u64 offset ++ s → s ≡ bytes_of_u32 len ++ t
     → fields ≡ bytes_of_u64 h ++ (bytes_of_u64 o ++ bytes_of_u32 l) → len < 2 ^ 32 → l < 2 ^ 32 → len ≡ l
 same_length fields r s t handle offset len h o l e f g other small ls =
-    let first = same_parts (bytes_of_u64 handle) (bytes_of_u64 h) r (bytes_of_u64 o ++ bytes_of_u32 l) (length-u64 handle ∙ sym (length-u64 h)) (sym e ∙ other) in
+    let first = same_parts (bytes_of_u64 handle) (bytes_of_u64 h) r (bytes_of_u64 o ++ bytes_of_u32 l) (length-u64 handle
+    ∙ sym (length-u64 h)) (sym e ∙ other) in
     let second = same_parts (bytes_of_u64 offset) (bytes_of_u64 o) s (bytes_of_u32 l) (length-u64 offset ∙ sym (length-u64 o)) (sym f ∙ first.1) in
     (same_u32 len l t [] small ls (sym g ∙ second.1 ∙ sym (append-nil (bytes_of_u32 l)))).0
 

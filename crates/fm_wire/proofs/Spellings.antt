@@ -25,7 +25,8 @@ said_is_read : (said : Body) → KeepsLimits said → outcome_of said ≡ Ok sai
 said_is_read (body.Refused status) limits = absurd limits
 said_is_read said limits = refl
 
-pub spelled_frame : (text : List ℕ) (frame : Frame) → text ≡ spelling_of frame → IsSpelled frame → frame.number < 2 ^ 32 → Fits frame.body → HasTexts frame.body → canonical_body frame.body ≡ frame.body → IsFrame text frame
+pub spelled_frame : (text : List ℕ) (frame : Frame) → text ≡ spelling_of frame → IsSpelled frame → frame.number < 2 ^ 32
+    → Fits frame.body → HasTexts frame.body → canonical_body frame.body ≡ frame.body → IsFrame text frame
 spelled_frame text frame e spelled number fits texts canonical =
     let read : Reading (code_of frame.body) (fields_of frame.body) (Ok frame.body) =
     (frame.body, record { code_is = refl; fields_are = refl; fits = fits; limits = spelled.limits }, texts, sym canonical) in
@@ -33,7 +34,14 @@ spelled_frame text frame e spelled number fits texts canonical =
       bytes = body_of frame;
       length_in_front = e;
       length_in_range = (rw (length-body frame) (omega arith), spelled.short);
-      body = record { code = code_of frame.body; fields = fields_of frame.body; parts = refl; number = number; reading = rw (said_is_read frame.body spelled.limits) read };
+      body = record {
+        code = code_of frame.body;
+        fields = fields_of frame.body;
+        parts = refl;
+        number = number;
+        reading =
+            rw (said_is_read frame.body spelled.limits) read;
+      };
     }
 
 -- ---- what was read has a spelling
@@ -74,7 +82,8 @@ refused_or_said : (code : ℕ) (fields : List ℕ) (read : Body) → Reading cod
 refused_or_said code fields (body.Refused status) p = inl (status, refl)
 refused_or_said code fields read p = inr (said_by code fields read p)
 
-spelled_from : (text : List ℕ) (frame : Frame) (is : IsFrame text frame) → IsRefused frame.body ⊎ IsSaidBy is.body.code is.body.fields frame.body → IsRefused frame.body ⊎ (IsSpelled frame × IsFrame (spelling_of frame) frame)
+spelled_from : (text : List ℕ) (frame : Frame) (is : IsFrame text frame) → IsRefused frame.body
+    ⊎ IsSaidBy is.body.code is.body.fields frame.body → IsRefused frame.body ⊎ (IsSpelled frame × IsFrame (spelling_of frame) frame)
 spelled_from text frame is (inl refused) = inl refused
 spelled_from text frame is (inr said) =
     let inside = is.length_in_range in

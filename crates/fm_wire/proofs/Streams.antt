@@ -19,16 +19,29 @@ fault_is_long bytes fault = rw fault.parts (omega (arith, length-append (bytes_o
 pub too_short : (bytes : List ℕ) → length bytes < 4 → IsTrue false ↔ IsFault bytes
 too_short bytes short = (λ t. absurd cc, λ fault. let long = fault_is_long bytes fault in absurd (omega arith))
 
-pub fault_test : (inside : Bool) (bytes behind : List ℕ) (len : ℕ) → bytes ≡ bytes_of_u32 len ++ behind → len < 2 ^ 32 → IsTrue inside ↔ IsBodyLength len → IsTrue (not inside) ↔ IsFault bytes
+pub fault_test : (inside : Bool) (bytes behind : List ℕ) (len : ℕ) → bytes ≡ bytes_of_u32 len ++ behind → len < 2 ^ 32
+    → IsTrue inside ↔ IsBodyLength len → IsTrue (not inside) ↔ IsFault bytes
 fault_test true bytes behind len parts fits test = (λ t. absurd cc, λ fault. absurd (out_of_range bytes behind len parts fits fault (test.0 refl)))
-fault_test false bytes behind len parts fits test = (λ t. record { len = len; behind = behind; parts = parts; fits = fits; out_of_range = λ h. let e : false ≡ true = test.1 h in absurd cc }, λ fault. refl)
+fault_test false bytes behind len parts fits test = (
+  λ t. record {
+    len = len;
+    behind = behind;
+    parts = parts;
+    fits = fits;
+    out_of_range = λ h. let e : false ≡ true = test.1 h in absurd cc;
+  },
+  λ fault. refl,
+)
 
 -- one more frame
-pub begins_more : (stream : List ℕ) (frames : List Frame) (text more : List ℕ) (frame : Frame) → Begins stream frames (text ++ more) → IsFrame text frame → Begins stream (frames ++ frame ∷ []) more
+pub begins_more : (stream : List ℕ) (frames : List Frame) (text more : List ℕ) (frame : Frame) → Begins stream frames (text ++ more)
+    → IsFrame text frame → Begins stream (frames ++ frame ∷ []) more
 begins_more stream [] text more frame begins is = (text, more, begins, is, refl)
-begins_more stream (first ∷ frames) text more frame begins is = (begins.0, begins.1, begins.2, begins.3, begins_more begins.1 frames text more frame begins.4 is)
+begins_more stream (first ∷ frames) text more frame begins is =
+    (begins.0, begins.1, begins.2, begins.3, begins_more begins.1 frames text more frame begins.4 is)
 
-pub begins_body : (stream : List ℕ) (frames : List Frame) (rest bytes behind : List ℕ) (frame : Frame) → Begins stream frames rest → rest ≡ framed bytes ++ behind → IsBodyLength (length bytes) → IsBody bytes frame → Begins stream (frames ++ frame ∷ []) behind
+pub begins_body : (stream : List ℕ) (frames : List Frame) (rest bytes behind : List ℕ) (frame : Frame) → Begins stream frames rest
+    → rest ≡ framed bytes ++ behind → IsBodyLength (length bytes) → IsBody bytes frame → Begins stream (frames ++ frame ∷ []) behind
 begins_body stream frames rest bytes behind frame begins parts inside body =
     let at : Begins stream frames (framed bytes ++ behind) = rw (← parts) begins in
     begins_more stream frames (framed bytes) behind frame at (record { bytes = bytes; length_in_front = refl; length_in_range = inside; body = body })
@@ -40,13 +53,15 @@ begins_end stream (frame ∷ frames) rest begins =
     let more = begins_end begins.1 frames rest begins.4 in
     (begins.0 ++ more.0, begins.2 ∙ ap (λ (t : List ℕ). begins.0 ++ t) more.1 ∙ sym (append_assoc begins.0 more.0 rest))
 
-pub rest_is : (stream : List ℕ) (frames : List Frame) (rest : List ℕ) → Begins stream frames rest → (drop (length stream - length rest) stream ≡ rest) × (length rest ≤ length stream)
+pub rest_is : (stream : List ℕ) (frames : List Frame) (rest : List ℕ) → Begins stream frames rest
+    → (drop (length stream - length rest) stream ≡ rest) × (length rest ≤ length stream)
 rest_is stream frames rest begins =
     let front = begins_end stream frames rest begins in
     let len : length stream ≡ length front.0 + length rest = ap (λ (s : List ℕ). length s) front.1 ∙ length-append front.0 rest in
     (ap (λ (s : List ℕ). drop (length stream - length rest) s) front.1 ∙ drop_at front.0 rest (length stream - length rest) (omega arith), omega arith)
 
-pub splits_at : (stream : List ℕ) (frames : List Frame) (rest : List ℕ) → Begins stream frames rest → IsPartial rest ⊎ IsFault rest → Splits stream frames (drop (length stream - length rest) stream)
+pub splits_at : (stream : List ℕ) (frames : List Frame) (rest : List ℕ) → Begins stream frames rest → IsPartial rest ⊎ IsFault rest
+    → Splits stream frames (drop (length stream - length rest) stream)
 splits_at stream frames rest begins ends =
     rw ((rest_is stream frames rest begins).0) (record { begins = begins; ends = ends })
 

@@ -17,12 +17,15 @@ OneFrame = (text : List ℕ) (frame other : Frame) → IsFrame text frame → Is
 
 -- a stream has one list of frames and one rest
 abbrev pub OneReading : Type 0
-OneReading = (stream : List ℕ) (frames others : List Frame) (rest other : List ℕ) → Splits stream frames rest → Splits stream others other → (frames ≡ others) × (rest ≡ other)
+OneReading = (stream : List ℕ) (frames others : List Frame) (rest other : List ℕ) → Splits stream frames rest
+    → Splits stream others other → (frames ≡ others) × (rest ≡ other)
 
 -- where a piece follows, the frames of what was left with the piece follow those in front
 abbrev pub Pieces : Type 0
-Pieces = (stream piece : List ℕ) (frames later : List Frame) (held rest : List ℕ) → Splits stream frames held → Splits (held ++ piece) later rest → Splits (stream ++ piece) (frames ++ later) rest
+Pieces = (stream piece : List ℕ) (frames later : List Frame) (held rest : List ℕ) → Splits stream frames held
+    → Splits (held ++ piece) later rest → Splits (stream ++ piece) (frames ++ later) rest
 
 -- only what has a spelling is read from bytes, but for refused frames; and its own spelling is that frame too
 abbrev pub OnlySpelled : Type 0
-OnlySpelled = (text : List ℕ) (frame : Frame) → IsFrame text frame → ((status : Status) × (frame.body ≡ Refused status)) ⊎ (IsSpelled frame × IsFrame (spelling_of frame) frame)
+OnlySpelled = (text : List ℕ) (frame : Frame) → IsFrame text frame → ((status : Status) × (frame.body ≡ Refused status))
+    ⊎ (IsSpelled frame × IsFrame (spelling_of frame) frame)

@@ -20,5 +20,6 @@ by_volume true gate v old new there seen =
     ap (λ seat. (volume_of v seat).is_drained) seen.1 ∙ ap (λ p. p.is_drained) (volume_changed v (λ p. saw_drained (took_look p)) (view_of old) within)
 by_volume false gate v old new there seen = let wrong = seen.0 in cc
 
-pub drained_seen : (gate : RundownGate) (v : ℕ) (old new : GateSeat) → OnVolume Looks gate v old (Ok Drained) new → (volume_of v (view_of new)).is_drained ≡ true
+pub drained_seen : (gate : RundownGate) (v : ℕ) (old new : GateSeat) → OnVolume Looks gate v old (Ok Drained) new
+    → (volume_of v (view_of new)).is_drained ≡ true
 drained_seen gate v old new on = by_volume (nat_lt v (volumes_of gate)) gate v old new refl on

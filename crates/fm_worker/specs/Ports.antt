@@ -17,7 +17,8 @@ lacks_room o resumed = nat_le 256 (length resumed) && not (list_any (is_number o
 -- what is resumed waits; and without a place for it nothing is resumed, and the answer is 29
 abbrev pub Waits : OpId → List OpId → Result (Unit {0}) Status → List OpId → Type 0
 Waits o resumed result after =
-    MatchBool (lacks_room o resumed) ((result ≡ Err status.TooMany) × (after ≡ resumed)) (MatchResult result (λ _. after ≡ put_in o resumed) (λ _. after ≡ resumed))
+    MatchBool (lacks_room o resumed) ((result ≡ Err status.TooMany) × (after ≡ resumed))
+    (MatchResult result (λ _. after ≡ put_in o resumed) (λ _. after ≡ resumed))
 
 -- a preoperation is resumed: with its context, if the verdict sends one along
 abbrev pub ResumesPre : PreVerdict → OpId → HandView → List OpId → Result (Unit {0}) Status → HandView → List OpId → Type 0

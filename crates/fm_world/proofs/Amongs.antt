@@ -17,7 +17,8 @@ is_up PostRunning = true
 is_up PostHeld = true
 is_up _ = false
 
-walk_on : (next : Option Stage) (es : List Entry) (t : Stage) → option_and_then (λ s. walk s es) next ≡ Some t → (s : Stage) × (next ≡ Some s) × (walk s es ≡ Some t)
+walk_on : (next : Option Stage) (es : List Entry) (t : Stage) → option_and_then (λ s. walk s es) next ≡ Some t
+    → (s : Stage) × (next ≡ Some s) × (walk s es ≡ Some t)
 walk_on next es t h = grind arith
 
 after_up : (s : Stage) (e : Entry) (t : Stage) → is_up s ≡ true → after s e ≡ Some t → is_up t ≡ true
@@ -90,7 +91,8 @@ among_visits s v born operation entries before stage visit stack none other next
     (record {
       descent = descent_visits s v born operation (visited entries) visit.instance.0 stack descent next;
       room = room_visits s v born operation (visited entries) visit.instance.0 h.room next;
-      there = All-push (λ i. i < length s.instances) (visited entries) visit.instance.0 h.there (slice_get_within s.instances visit.instance.0 next.row next.there);
+      there = All-push (λ i. i < length s.instances) (visited entries) visit.instance.0 h.there
+          (slice_get_within s.instances visit.instance.0 next.row next.there);
     })
     (λ e. absurd (other e))
 
@@ -160,14 +162,19 @@ among_begins s v operation few = grind arith
 
 -- ---- drains that come and go beside what the operation is doing
 
-pub drain_unseen : (es : List Entry) (visit : DrainVisit) → (last_visited (es ++ Drain visit ∷ []) ≡ last_visited es) × (last_posted (es ++ Drain visit ∷ []) ≡ last_posted es)
-drain_unseen es visit =
-    (ap last_of (visited_push es (Drain visit) ∙ append-nil (visited es)), ap last_of (filter_map-append post_of es (Drain visit ∷ []) ∙ append-nil (posted es)))
+pub drain_unseen : (es : List Entry) (visit : DrainVisit) → (last_visited (es ++ Drain visit ∷ []) ≡ last_visited es)
+    × (last_posted (es ++ Drain visit ∷ []) ≡ last_posted es)
+drain_unseen es visit = (
+  ap last_of (visited_push es (Drain visit) ∙ append-nil (visited es)),
+  ap last_of (filter_map-append post_of es (Drain visit ∷ [])
+      ∙ append-nil (posted es)),
+)
 
 pub among_drain : (s : StackWorld) (v : VolumeId) (born : ℕ) (operation : Operation) (entries : List Entry) (stage : Stage) (visit : DrainVisit)
     → IsAmongAt s v born operation entries stage → IsAmongAt s v born operation (entries ++ Drain visit ∷ []) stage
 among_drain s v born operation entries stage visit h =
-    among_from s v born operation (entries ++ Drain visit ∷ []) stage (visited entries) (has_base entries) (visited_push entries (Drain visit) ∙ append-nil (visited entries))
+    among_from s v born operation (entries ++ Drain visit ∷ []) stage (visited entries) (has_base entries)
+    (visited_push entries (Drain visit) ∙ append-nil (visited entries))
     (base_push entries (Drain visit) ∙ or_false (has_base entries)) (stands_of entries stage h)
     (λ k. subst (λ m. NoneLeft s v m born operation) (sym (drain_unseen entries visit).0) (h.base k))
 
@@ -175,7 +182,8 @@ posts_settled : (i : ℕ) (es : List Entry) → posted (map (settle_drain i) es)
 posts_settled i [] = refl
 posts_settled i (e ∷ es) = grind (arith, (posts_settled i es))
 
-pub over_unseen : (i : ℕ) (es : List Entry) → (last_visited (map (settle_drain i) es) ≡ last_visited es) × (last_posted (map (settle_drain i) es) ≡ last_posted es)
+pub over_unseen : (i : ℕ) (es : List Entry) → (last_visited (map (settle_drain i) es) ≡ last_visited es)
+    × (last_posted (map (settle_drain i) es) ≡ last_posted es)
 over_unseen i es = (ap last_of (map_keeps (settle_drain i) es (settle_drain_keeps i)).0, ap last_of (posts_settled i es))
 
 pub among_over : (s : StackWorld) (v : VolumeId) (born : ℕ) (operation : Operation) (entries : List Entry) (stage : Stage) (i : ℕ)

@@ -45,13 +45,15 @@ owners_swept test slots c x h =
 -- ---- instances keep their filter
 
 abbrev pub FiltersStay : StackWorld → StackWorld → Type 0
-FiltersStay s t = (i : ℕ) (row : Instance) → slice_get s.instances i ≡ Some row → (after : Instance) × (slice_get t.instances i ≡ Some after) × (after.filter ≡ row.filter)
+FiltersStay s t = (i : ℕ) (row : Instance) → slice_get s.instances i ≡ Some row → (after : Instance)
+    × (slice_get t.instances i ≡ Some after) × (after.filter ≡ row.filter)
 
 pub filters_same : (s : StackWorld) → FiltersStay s s
 filters_same s i row h = (row, h, refl)
 
 -- where one instance changes, and keeps its filter
-pub filters_updated : (s t : StackWorld) (change : Instance → Instance) (i : ℕ) → t.instances ≡ updated change s.instances i → ((row : Instance) → (change row).filter ≡ row.filter)
+pub filters_updated : (s t : StackWorld) (change : Instance → Instance) (i : ℕ) → t.instances ≡ updated change s.instances i
+    → ((row : Instance) → (change row).filter ≡ row.filter)
     → FiltersStay s t
 filters_updated s t change i is keeps j row there =
     elim (cases_eq j i) [
@@ -98,7 +100,8 @@ pub all_hold_still : (s : StackWorld) (old : List Slot) (t : StackWorld) (new : 
 all_hold_still s old t new workers hands h6 h7 = grind arith
 
 -- one worker goes elsewhere, with another hand; all others stay
-pub all_hold : (s : StackWorld) (old : List Slot) (t : StackWorld) (new : List Slot) (workers after : List Place) (hands : List (List CtxId)) (w : ℕ) (hand : List CtxId)
+pub all_hold : (s : StackWorld) (old : List Slot) (t : StackWorld) (new : List Slot) (workers after : List Place)
+    (hands : List (List CtxId)) (w : ℕ) (hand : List CtxId)
     → w < length hands → BelongsStill s old t new → ((k : ℕ) → k ≢ w → slice_get after k ≡ slice_get workers k)
     → All (HoldsIn t new (place_in (slice_get after w))) hand → AllHold s old workers hands → AllHold t new after (slice_set hands w hand)
 all_hold s old t new workers after hands w hand h9 h10 h11 h12 h13 = grind (arith, common_steps)
@@ -132,17 +135,20 @@ pub passes_changed : (p : Option Context → Bool) (f : Option Context → Optio
 passes_changed p f slots c none keeps h =
     All-updated (λ (x : Slot). p x.context ≡ true) (λ (x : Slot). p x.context ≡ true) (changed_slot f c) slots c.slot h (λ x there fit.
     by_bool (λ b. p (cond b (record x { context = f x.context }) x).context ≡ true) (c.generation == x.generation)
-    (λ same. by_option (λ o. p (f o) ≡ true) x.context (λ is. ap p (none ∙ sym is) ∙ fit) (λ y is. keeps y (there_in slots c x there same ∙ is) (sym (ap p is) ∙ fit)))
+    (λ same. by_option (λ o. p (f o) ≡ true) x.context (λ is. ap p (none ∙ sym is) ∙ fit)
+    (λ y is. keeps y (there_in slots c x there same ∙ is) (sym (ap p is) ∙ fit)))
     (λ apart. fit)) (λ k x other there fit. fit)
 
-pub passes_placed : (p : Option Context → Bool) (slots : List Slot) (c : CtxId) (x : Context) → p (Some x) ≡ true → AllPass p slots → AllPass p (placed slots c x)
+pub passes_placed : (p : Option Context → Bool) (slots : List Slot) (c : CtxId) (x : Context) → p (Some x) ≡ true → AllPass p slots
+    → AllPass p (placed slots c x)
 passes_placed p slots c x fit h = grind (arith, common_steps)
 
 pub fits_unlinked : (s : StackWorld) (x : Context) → fits s (Some x) ≡ true → fits s (Some (with_link None x)) ≡ true
 fits_unlinked s x h = grind arith
 
 -- the link of a context that fits is put in place
-pub fits_linked : (s : StackWorld) (x : Context) (o : Object) → link_fits s x (Some o) ≡ true → fits s (Some x) ≡ true → fits s (Some (with_link (Some o) x)) ≡ true
+pub fits_linked : (s : StackWorld) (x : Context) (o : Object) → link_fits s x (Some o) ≡ true → fits s (Some x) ≡ true
+    → fits s (Some (with_link (Some o) x)) ≡ true
 fits_linked s x o link h = grind arith
 
 pub passes_swept : (p q : Option Context → Bool) (test : Context → Bool) (slots : List Slot) → q None ≡ true
@@ -167,7 +173,8 @@ pub link_stays : (s t : StackWorld) (x : Context) (l : Option Object) → Volume
 link_stays s t x l volumes may h = grind arith
 
 -- where one instance changes, others' contexts may be linked still
-pub others_link : (s t : StackWorld) (i : InstanceId) → ((j : InstanceId) → j.0 ≢ i.0 → row_at t j ≡ row_at s j) → (o : Owner) → same_owner (Owner.Instance i) o ≡ false
+pub others_link : (s t : StackWorld) (i : InstanceId) → ((j : InstanceId) → j.0 ≢ i.0 → row_at t j ≡ row_at s j) → (o : Owner)
+    → same_owner (Owner.Instance i) o ≡ false
     → may_link s o ≡ true → may_link t o ≡ true
 others_link s t i same o other h = grind arith
 

@@ -40,7 +40,8 @@ post_flies w k o i s at =
     let flies = flight_post_settled PostRunning x.0.row.entries PostState.Finished i.0 refl (subst (λ a. IsCourse a x.0.row.entries) x.1 x.0.sound.course) in
     omega (arith, flies, here i.0 (last_posted x.0.row.entries) x.2, total_found (flight i.0) (is_number o) w.flow.operations x.0.row x.0.at)
 
-drain_flies : (w : World) (k : WorkerId) (a : Place) (o : OpId) (i : InstanceId) → IsUnderWay w → worker_at w.workers k ≡ Some a → is_in_drain o i.0 a ≡ true → 1 ≤ in_flight i.0 w.flow
+drain_flies : (w : World) (k : WorkerId) (a : Place) (o : OpId) (i : InstanceId) → IsUnderWay w → worker_at w.workers k ≡ Some a
+    → is_in_drain o i.0 a ≡ true → 1 ≤ in_flight i.0 w.flow
 drain_flies w k a o i s at inside =
     let there = drained_there w.workers w.flow k a o i.0 s.drains at inside in
     omega (arith, there.2, drains_open i.0 there.0.entries, total_found (flight i.0) (is_number o) w.flow.operations there.0 there.1)
@@ -59,7 +60,8 @@ flown_in w j i is flies = subst (λ (x : InstanceId). 1 ≤ in_flight x.0 w.flow
 staffed_open : (d : Desk) (row : Instance) → 1 ≤ most_at d row → IsOpen row.phase
 staffed_open d row h = grind arith
 
-open_desk : (w : World) (k : WorkerId) (a : Place) (d : Desk) (j i : InstanceId) (row : Instance) → IsSound w → worker_at w.workers k ≡ Some a → is_at d j.0 a ≡ true
+open_desk : (w : World) (k : WorkerId) (a : Place) (d : Desk) (j i : InstanceId) (row : Instance) → IsSound w
+    → worker_at w.workers k ≡ Some a → is_at d j.0 a ≡ true
     → Some j ≡ Some i → row_at w.stack i ≡ Some row → IsOpen row.phase
 open_desk w k a d j i row s at is same there =
     let place = desk_place w k a d j s.under_way at is in
@@ -74,8 +76,10 @@ open_at w k i row (Some (Place.Start j)) s at is there = open_desk w k (Place.St
 open_at w k i row (Some (Place.Complete j)) s at is there = open_desk w k (Place.Complete j) AtComplete j i row s at (eq-eqb j.0 j.0 refl) is there
 open_at w k i row (Some (Place.Pre o j)) s at is there = flown_row w i row s there (flown_in w j i is (pre_flies w k o j s.under_way at))
 open_at w k i row (Some (Place.Post o j)) s at is there = flown_row w i row s there (flown_in w j i is (post_flies w k o j s.under_way at))
-open_at w k i row (Some (Place.Drain o j)) s at is there = flown_row w i row s there (flown_in w j i is (drain_flies w k (Place.Drain o j) o j s.under_way at (both_same o j)))
-open_at w k i row (Some (Place.EarlyDrain o j)) s at is there = flown_row w i row s there (flown_in w j i is (drain_flies w k (Place.EarlyDrain o j) o j s.under_way at (both_same o j)))
+open_at w k i row (Some (Place.Drain o j)) s at is there =
+    flown_row w i row s there (flown_in w j i is (drain_flies w k (Place.Drain o j) o j s.under_way at (both_same o j)))
+open_at w k i row (Some (Place.EarlyDrain o j)) s at is there =
+    flown_row w i row s there (flown_in w j i is (drain_flies w k (Place.EarlyDrain o j) o j s.under_way at (both_same o j)))
 open_at w k i row d s at is there = absurd (none-some i is)
 
 open_is : (p : Phase) → IsOpen p → (not (is_detached p) ≡ true) × (keeps_links p ≡ true)
@@ -113,7 +117,8 @@ is_in w k at s h =
 -- a worker goes elsewhere, or stays, with another hand; what callbacks may hold they may hold still
 pub owned_with : (w : World) (t : StackWorld) (u : FlowTable) (workers : List Place) (c : ContextTable) (k : WorkerId) (hand : List CtxId)
     → BelongsStill w.stack w.contexts.slots t c.slots → ((j : ℕ) → j ≢ k.0 → slice_get workers j ≡ slice_get w.workers j)
-    → ((n : ℕ) → cleaning_of c.cleaning n ≡ cleanup_in (slice_get workers n)) → IsLawful (λ id. carried id u) c → c.hands ≡ slice_set w.contexts.hands k.0 hand → k.0 < 48
+    → ((n : ℕ) → cleaning_of c.cleaning n ≡ cleanup_in (slice_get workers n)) → IsLawful (λ id. carried id u) c
+    → c.hands ≡ slice_set w.contexts.hands k.0 hand → k.0 < 48
     → All (HoldsIn t c.slots (place_in (worker_at workers k))) hand → AllCarry t c.slots u.operations → AllFit t c.slots
     → ((j : InstanceId) → is_flown_by (row_at t j) ≡ false → in_flight j.0 u ≡ 0) → IsOwned w → AreOwned t u workers c w.totals
 owned_with w t u workers c k hand still others cleans lawful hands worker here carry fit quiet h = record {
@@ -175,7 +180,8 @@ hand_there : (old : World) (k : WorkerId) (at : Callback) → IsSound old → ca
 hand_there old k at s is = subst (λ n. k.0 < n) (sym s.owned.lawful.workers) (is_in old k at s is).worker
 
 -- contexts alone change
-pub called : (old new : World) (k : WorkerId) (at : Callback) (t : ContextTable) → callback_of old k ≡ Some at → new ≡ with_contexts old t → TableStays old.contexts t
+pub called : (old new : World) (k : WorkerId) (at : Callback) (t : ContextTable) → callback_of old k ≡ Some at
+    → new ≡ with_contexts old t → TableStays old.contexts t
     → (IsIn old k at → IsSound old → IsSound (with_contexts old t)) → Does old new
 called old new k at t is e stay sound = makes old (with_contexts old t) new e stay (λ s. sound (is_in old k at s is) s)
 
@@ -191,7 +197,8 @@ hands_out old new k at t m is e make = grind (arith, common_steps, is_in, lasts,
 abbrev pub Brings : {T : Type 0} → WorkerId → World → Result T Status → World → Type 0
 Brings k old result new = Does old new × (IsSound old → HoldsMore k.0 result (λ _. 1) old new)
 
-pub brings : {T : Type 0} (old new : World) (k : WorkerId) (at : Callback) (t : ContextTable) (c : CtxId) (v : T) → callback_of old k ≡ Some at → new ≡ with_contexts old t
+pub brings : {T : Type 0} (old new : World) (k : WorkerId) (at : Callback) (t : ContextTable) (c : CtxId) (v : T)
+    → callback_of old k ≡ Some at → new ≡ with_contexts old t
     → (IsIn old k at → IsSound old → Makes old k t (Some c)) → Brings k old (Ok v) new
 brings old new k at t c v is e make = let out = hands_out old new k at t (Some c) is e make in (out.0, λ s. (out.1 s).1)
 
@@ -208,12 +215,14 @@ pub grabbed_makes : (w : World) (k : WorkerId) (at : Callback) (c : CtxId) → I
 grabbed_makes w k at c i s lawful own =
     let t = grabbed w.contexts k.0 c in
     let owners = owners_same w.contexts.slots t.slots refl in (
-      contexts_sound w t k (hand_of w.contexts.hands k.0 ++ c ∷ []) lawful refl owners refl i.worker (one_more w t k at c i s.owned owners own) s.owned.fits s.links s,
+      contexts_sound w t k (hand_of w.contexts.hands k.0 ++ c ∷ []) lawful refl owners refl i.worker
+          (one_more w t k at c i s.owned owners own) s.owned.fits s.links s,
       still w.contexts,
       refl,
     )
 
-pub reference_does : (old : World) (k : WorkerId) (c : CtxId) (result : Result (Unit {0}) Status) (new : World) → References old k c result new → Brings k old result new
+pub reference_does : (old : World) (k : WorkerId) (c : CtxId) (result : Result (Unit {0}) Status) (new : World)
+    → References old k c result new → Brings k old result new
 unfolding References
 reference_does old k c result new h =
     asked_by (λ r w. Brings k old r w) old k result new _ _ h (λ why. (nothing old, λ s. refl)) (λ at is v free e.
@@ -223,7 +232,8 @@ reference_does old k c result new h =
     let has = not_false (holds hand c) frees.0 in
     let law = s.owned.lawful in
     grabbed_makes old k at c i s
-    (reference_keeps k.0 c law i.worker (count_held (carries old) old.contexts k.0 c (within_hands k.0 law i.worker) has) (leb-false 16 (length hand) frees.1.0))
+    (reference_keeps k.0 c law i.worker (count_held (carries old) old.contexts k.0 c (within_hands k.0 law i.worker) has)
+    (leb-false 16 (length hand) frees.1.0))
     (in_hand old k at c i s.owned has)))
 
 pub release_does : (old : World) (k : WorkerId) (c : CtxId) (result : Result (Unit {0}) Status) (new : World) → Releases old k c result new
@@ -238,7 +248,8 @@ release_does old k c result new h =
       called old new k at t is e (still old.contexts) (λ i s.
           contexts_sound old t k (without c hand) (release_keeps k.0 c s.owned.lawful i.worker has) refl owners refl i.worker
           (all_without (HoldsIn old.stack t.slots (place_in (worker_at old.workers k))) c hand (s.owned.holders k)) s.owned.fits s.links s),
-      λ s. ap (λ n. n + 1) (ap (hand_len k.0) e) ∙ ap (λ (h : List CtxId). length h + 1) (get_or-set_same old.contexts.hands k.0 (without c hand) [] (hand_there old k at s is))
+      λ s. ap (λ n. n + 1) (ap (hand_len k.0) e) ∙ ap (λ (h : List CtxId). length h + 1)
+          (get_or-set_same old.contexts.hands k.0 (without c hand) [] (hand_there old k at s is))
           ∙ length-without c hand has,
     ))
 
@@ -246,7 +257,8 @@ pub same_hands : (hands : List (List CtxId)) (w : ℕ) → hands ≡ slice_set h
 same_hands hands w = sym (set-get_or hands w [])
 
 -- a body changes
-rewrites : (old new : World) (k : WorkerId) (at : Callback) (c : CtxId) (bytes : List ℕ) → callback_of old k ≡ Some at → new ≡ with_contexts old (rewritten old.contexts c bytes)
+rewrites : (old new : World) (k : WorkerId) (at : Callback) (c : CtxId) (bytes : List ℕ) → callback_of old k ≡ Some at
+    → new ≡ with_contexts old (rewritten old.contexts c bytes)
     → Does old new
 rewrites old new k at c bytes is e =
     let t = rewritten old.contexts c bytes in
@@ -262,7 +274,8 @@ unfolding ReadsBody
 read_body_does old k c result new h =
     taken_by (λ _ w. Does old w) old k result new _ _ h (λ why. nothing old) (λ at is v free e. unchanged old new e.1)
 
-pub write_body_does : (old : World) (k : WorkerId) (c : CtxId) (bytes : List ℕ) (result : Result (Unit {0}) Status) (new : World) → WritesBody old k c bytes result new → Does old new
+pub write_body_does : (old : World) (k : WorkerId) (c : CtxId) (bytes : List ℕ) (result : Result (Unit {0}) Status) (new : World)
+    → WritesBody old k c bytes result new → Does old new
 unfolding WritesBody
 write_body_does old k c bytes result new h =
     asked_by (λ _ w. Does old w) old k result new _ _ h (λ why. nothing old) (λ at is v free e. rewrites old new k at c bytes is e)

@@ -14,7 +14,8 @@ pub some_of : {A : Type 0} (test : Option A → Bool) (m : Option A) → test No
 some_of test m none h = grind arith
 
 -- what holds of each place of a list after a write, or after a change, of one of them
-pub at_written : {A : Type 0} (P : ℕ → Option A → Type 0) (xs : List A) (k : ℕ) (x : A) → k < length xs → P k (Some x) → ((j : ℕ) → j ≢ k → P j (slice_get xs j))
+pub at_written : {A : Type 0} (P : ℕ → Option A → Type 0) (xs : List A) (k : ℕ) (x : A) → k < length xs → P k (Some x)
+    → ((j : ℕ) → j ≢ k → P j (slice_get xs j))
     → (j : ℕ) → P j (slice_get (slice_set xs k x) j)
 at_written P xs k x within here others j = grind (arith, cases_eq, slice_get-set_same, slice_get-set_other)
 

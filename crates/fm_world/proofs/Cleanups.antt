@@ -26,14 +26,16 @@ use Rattle.fm_world.proofs.Ties.{AtNoDesk, at_none, staffed_still}
 goes_keeps : (w : World) (k : WorkerId) (a b : Place) → worker_at w.workers k ≡ Some a → Outside a → Outside b → AtNoDesk a → AtNoDesk b
     → IsUnderWay w → IsUnderWay (record w { workers = put w.workers k b })
 goes_keeps w k a b at from to off on s =
-    worker_moves w w.stack k a b at from to s.stack (follows_same w.stack) (λ d i. staffed_still d i w.workers k a b (slice_get w.stack.instances i) at off on (s.desks d i)) s
+    worker_moves w w.stack k a b at from to s.stack (follows_same w.stack)
+    (λ d i. staffed_still d i w.workers k a b (slice_get w.stack.instances i) at off on (s.desks d i)) s
 
 -- the tie of cleanups and places, where one worker goes elsewhere
 cleaning_moves : (w : World) (k : WorkerId) (o : Option CtxId) (b : Place) → k.0 < length w.workers → k.0 < length w.contexts.cleaning → o ≡ cleanup_in (Some b)
     → ((n : ℕ) → cleaning_of w.contexts.cleaning n ≡ cleanup_in (slice_get w.workers n))
     → (n : ℕ) → cleaning_of (slice_set w.contexts.cleaning k.0 o) n ≡ cleanup_in (slice_get (put w.workers k b) n)
 cleaning_moves w k o b worker within is h =
-    at_written (λ j m. cleaning_of (slice_set w.contexts.cleaning k.0 o) j ≡ cleanup_in m) w.workers k.0 b worker (get_or-set_same w.contexts.cleaning k.0 o None within ∙ is)
+    at_written (λ j m. cleaning_of (slice_set w.contexts.cleaning k.0 o) j ≡ cleanup_in m) w.workers k.0 b worker
+    (get_or-set_same w.contexts.cleaning k.0 o None within ∙ is)
     (λ j apart. get_or-set_other w.contexts.cleaning k.0 j o None apart ∙ h j)
 
 -- ---- take_due
@@ -47,21 +49,25 @@ take_due_at old k (Some c) at first s =
     let worker = worker_below old k Place.Idle at s.under_way in
     let t = taken_due old.contexts k.0 c in
     let owners = owners_changed emptied slots c (λ x. (refl, refl)) in
-    let cleans = cleaning_moves old k (Some c) (Place.Cleanup c) (slice_get_within old.workers k.0 Place.Idle at) (subst (λ n. k.0 < n) (sym h.lawful.cleaners) worker) refl h.cleaning in
+    let cleans = cleaning_moves old k (Some c) (Place.Cleanup c) (slice_get_within old.workers k.0 Place.Idle at)
+    (subst (λ n. k.0 < n) (sym h.lawful.cleaners) worker) refl h.cleaning in
     record {
       under_way = goes_keeps old k Place.Idle (Place.Cleanup c) at (outside_of Place.Idle refl) (outside_of (Place.Cleanup c) refl) (at_none Place.Idle refl)
           (at_none (Place.Cleanup c) refl) s.under_way;
       owned = owned_moves old old.stack old.flow t k Place.Idle (Place.Cleanup c) [] at worker cleans (filters_same old.stack) owners
           (take_due_keeps k.0 c h.lawful worker first (h.cleaning k.0 ∙ ap cleanup_in at))
-          (same_hands old.contexts.hands k.0 ∙ ap (slice_set old.contexts.hands k.0) (empty_hand old k Place.Idle at refl h)) (All-nil (HoldsIn old.stack t.slots None))
-          (all_carry_still old.stack slots old.stack t.slots old.flow.operations (belongs_still old.stack slots old.stack t.slots (filters_same old.stack) owners) h.completions)
+          (same_hands old.contexts.hands k.0 ∙ ap (slice_set old.contexts.hands k.0) (empty_hand old k Place.Idle at refl h))
+          (All-nil (HoldsIn old.stack t.slots None))
+          (all_carry_still old.stack slots old.stack t.slots old.flow.operations
+          (belongs_still old.stack slots old.stack t.slots (filters_same old.stack) owners) h.completions)
           (passes_changed (fits old.stack) (option_map emptied) slots c refl (λ x there fit. fit) h.fits) h.quiet h;
       filed = s.filed;
       links = passes_changed (names_there old.files) (option_map emptied) slots c refl (λ x there named. named) s.links;
     }
 
 -- what a worker cleans up it cleans up still, where an idle one takes what is due
-taken_lasts : (old new : World) (w : ℕ) (m : Option CtxId) → new.contexts ≡ taken_of old.contexts w m → cleaning_of old.contexts.cleaning w ≡ None → Lasts old new
+taken_lasts : (old new : World) (w : ℕ) (m : Option CtxId) → new.contexts ≡ taken_of old.contexts w m
+    → cleaning_of old.contexts.cleaning w ≡ None → Lasts old new
 taken_lasts old new w None made idle = lasts old new old.contexts made (still old.contexts)
 taken_lasts old new w (Some d) made idle = (
   subst (λ (t : ContextTable). SlotsStay old.contexts.slots t.slots) (sym made) (slots_changed (option_map emptied) old.contexts.slots d refl),
@@ -94,7 +100,8 @@ none_among : (c : CtxId) (asks : List Ask) → carried_among c asks ≡ 0 → Al
 none_among c [] h = All-nil (λ (ask : Ask). carried_in c ask.completion ≡ 0)
 none_among c (ask ∷ asks) h = All-cons (λ (ask : Ask). carried_in c ask.completion ≡ 0) ask asks (omega (arith, h)) (none_among c asks (omega (arith, h)))
 
-none_carry : (c : CtxId) (rs : List FlowRecord) → total (carried_by c) rs ≡ 0 → All (λ (r : FlowRecord). All (λ (ask : Ask). carried_in c ask.completion ≡ 0) (owed r.entries)) rs
+none_carry : (c : CtxId) (rs : List FlowRecord) → total (carried_by c) rs ≡ 0
+    → All (λ (r : FlowRecord). All (λ (ask : Ask). carried_in c ask.completion ≡ 0) (owed r.entries)) rs
 none_carry c [] h = All-nil (λ (r : FlowRecord). All (λ (ask : Ask). carried_in c ask.completion ≡ 0) (owed r.entries))
 none_carry c (r ∷ rs) h = grind (arith, All-nil, All-cons, none_among, (none_carry c rs))
 
@@ -102,12 +109,15 @@ none_carry c (r ∷ rs) h = grind (arith, All-nil, All-cons, none_among, (none_c
 abbrev gone_slots : List Slot → CtxId → List Slot
 gone_slots slots c = change_context (λ (x : Option Context). None) slots c
 
-belongs_other : (s : StackWorld) (slots : List Slot) (c d : CtxId) (i : InstanceId) → is_id c d ≡ false → belongs s slots i d ≡ true → belongs s (gone_slots slots c) i d ≡ true
+belongs_other : (s : StackWorld) (slots : List Slot) (c d : CtxId) (i : InstanceId) → is_id c d ≡ false → belongs s slots i d ≡ true
+    → belongs s (gone_slots slots c) i d ≡ true
 belongs_other s slots c d i apart h = grind (arith, context_at-other, turned)
 
-ask_other : (s : StackWorld) (slots : List Slot) (c : CtxId) (ask : Ask) → AskCarries s slots ask → carried_in c ask.completion ≡ 0 → AskCarries s (gone_slots slots c) ask
+ask_other : (s : StackWorld) (slots : List Slot) (c : CtxId) (ask : Ask) → AskCarries s slots ask → carried_in c ask.completion ≡ 0
+    → AskCarries s (gone_slots slots c) ask
 ask_other s slots c ask =
-    elim ask.completion.context as (λ o. CarriesIn s slots ask.instance o → carried_in c (record { number = 0; context = o }) ≡ 0 → CarriesIn s (gone_slots slots c) ask.instance o) [
+    elim ask.completion.context as (λ o. CarriesIn s slots ask.instance o → carried_in c (record { number = 0; context = o }) ≡ 0
+    → CarriesIn s (gone_slots slots c) ask.instance o) [
       | None ↦ λ h none. tt
       | Some d ↦ λ h none. belongs_other s slots c d ask.instance (none_one (is_id c d) none) h
     ]
@@ -135,25 +145,29 @@ cleaned_owned w k c number at s =
     let none = (count_cleaning k.0 c h.lawful worker busy).1 in
     let held_none : held hands c ≡ 0 = omega (arith, none) in
     let carried_none : total (carried_by c) w.flow.operations ≡ 0 = omega (arith, none) in
-    let place_same = at_written (λ j m. place_in m ≡ place_in (slice_get w.workers j)) w.workers k.0 Place.Idle within (sym (ap place_in at)) (λ j apart. refl) in
+    let place_same = at_written (λ j m. place_in m ≡ place_in (slice_get w.workers j)) w.workers k.0 Place.Idle within
+    (sym (ap place_in at)) (λ j apart. refl) in
     record {
       lawful = cleaned_keeps k.0 c h.lawful worker busy;
       cleaning = cleaning_moves w k None Place.Idle within (subst (λ n. k.0 < n) (sym h.lawful.cleaners) worker) refl h.cleaning;
       holders = λ n i d l.
           let id = get_or (hand_of hands n.0) i d in
           let other = none_in c (hand_of hands n.0) (none_in_hand hands c n.0 held_none) i d l in
-          subst (λ p. HoldsIn w.stack slots p id) (sym (place_same n.0)) (elim (place_in (worker_at w.workers n)) as (λ p. HoldsIn w.stack w.contexts.slots p id → HoldsIn w.stack slots p id) [
+          subst (λ p. HoldsIn w.stack slots p id) (sym (place_same n.0))
+          (elim (place_in (worker_at w.workers n)) as (λ p. HoldsIn w.stack w.contexts.slots p id → HoldsIn w.stack slots p id) [
             | None ↦ λ held. held
             | Some j ↦ belongs_other w.stack w.contexts.slots c id j other
           ] (h.holders n i d l));
       completions = λ i d l j a m.
-          ask_other w.stack w.contexts.slots c (get_or (owed (get_or w.flow.operations i d).entries) j a) (h.completions i d l j a m) (none_carry c w.flow.operations carried_none i d l j a m);
+          ask_other w.stack w.contexts.slots c (get_or (owed (get_or w.flow.operations i d).entries) j a) (h.completions i d l j a m)
+          (none_carry c w.flow.operations carried_none i d l j a m);
       fits = passes_changed (fits w.stack) (λ (x : Option Context). None) w.contexts.slots c refl (λ x there fit. refl) h.fits;
       quiet = h.quiet;
       totals = totals_kept (filter_of w.stack (context_at w.contexts.slots c)) number w.totals h.totals;
     }
 
-cleaned_on : (old : World) (w : WorkerId) (d : CtxId) (new : World) → new.contexts ≡ cleaned old.contexts w.0 d → cleaning_of old.contexts.cleaning w.0 ≡ Some d → CleansOn old new
+cleaned_on : (old : World) (w : WorkerId) (d : CtxId) (new : World) → new.contexts ≡ cleaned old.contexts w.0 d
+    → cleaning_of old.contexts.cleaning w.0 ≡ Some d → CleansOn old new
 cleaned_on old w d new made own = grind (arith, cases_eq, context_at-here, get_or-set_other)
 
 pub cleaned_does : (old : World) (k : WorkerId) (number : ℕ) (result : Result (Unit {0}) Status) (new : World) → Cleans old k number result new → Does old new
@@ -163,7 +177,8 @@ cleaned_does old k number result new h = by_place (worker_at old.workers k) refl
     by_place : (m : Option Place) → worker_at old.workers k ≡ m → CleansAt old k number result new m → Does old new
     by_place (Some (Place.Cleanup c)) at e = record {
       sound = λ s. subst IsSound (sym e.1) (record {
-        under_way = goes_keeps old k (Place.Cleanup c) Place.Idle at (outside_of (Place.Cleanup c) refl) (outside_of Place.Idle refl) (at_none (Place.Cleanup c) refl)
+        under_way = goes_keeps old k (Place.Cleanup c) Place.Idle at (outside_of (Place.Cleanup c) refl) (outside_of Place.Idle refl)
+            (at_none (Place.Cleanup c) refl)
             (at_none Place.Idle refl) s.under_way;
         owned = cleaned_owned old k c number at s;
         filed = s.filed;
@@ -171,7 +186,8 @@ cleaned_does old k number result new h = by_place (worker_at old.workers k) refl
       });
       lasts = λ s.
           let made = ap contexts_in e.1 in (
-            subst (λ (t : ContextTable). SlotsStay old.contexts.slots t.slots) (sym made) (slots_changed (λ (x : Option Context). None) old.contexts.slots c refl),
+            subst (λ (t : ContextTable). SlotsStay old.contexts.slots t.slots) (sym made)
+                (slots_changed (λ (x : Option Context). None) old.contexts.slots c refl),
             cleaned_on old k c new made (s.owned.cleaning k.0 ∙ ap cleanup_in at),
           );
     }
@@ -195,7 +211,8 @@ finish_does old i (Ok done) new h =
     makes old (record old { stack = finished old.stack i }) new h.1 (still old.contexts) (λ s.
     let open' = open_of old.contexts.slots (Owner.Instance i) in
     let at = row_at old.stack i in
-    let frees = none_refuses ((is_gone_at at, Status.NoInstance) ∷ (not (is_emptying_at at), Status.WrongStep) ∷ (nat_lt 0 open', Status.Busy open') ∷ []) h.0 in
+    let frees = none_refuses ((is_gone_at at, Status.NoInstance) ∷ (not (is_emptying_at at), Status.WrongStep)
+    ∷ (nat_lt 0 open', Status.Busy open') ∷ []) h.0 in
     let row = emptying_row at (not_false (is_emptying_at at) frees.1.0) in
     let emptying = emptying_is row.0.phase row.2 in
     let t = finished old.stack i in
@@ -215,7 +232,8 @@ finish_does old i (Ok done) new h =
         cleaning = k.cleaning;
         holders = all_hold_still old.stack slots t slots old.workers old.contexts.hands belongs k.holders;
         completions = all_carry_still old.stack slots t slots old.flow.operations belongs k.completions;
-        fits = λ n d l. finish_fits old.stack i (get_or slots n d).context (k.fits n d l) (none_pass (λ (x : Slot). is_open (Owner.Instance i) x.context) slots closed n d l);
+        fits = λ n d l. finish_fits old.stack i (get_or slots n d).context (k.fits n d l)
+            (none_pass (λ (x : Slot). is_open (Owner.Instance i) x.context) slots closed n d l);
         quiet = λ j rests. k.quiet j (at_updated (λ n m. is_flown_by m ≡ false → is_flown_by (slice_get rows n) ≡ false) finish_row rows i.0 row.0 row.1
             (λ _. ap is_flown_by row.1 ∙ ap is_flown emptying) (λ n apart h. h) j.0 rests);
         totals = k.totals;

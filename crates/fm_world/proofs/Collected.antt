@@ -78,10 +78,12 @@ needed_runs r out needed = grind (arith, out, needed)
 abbrev HasWorker : List Place → FlowRecord → Type 0
 HasWorker ws r = r.collected ≡ true → 1 ≤ count_by (λ x. is_the r.number.0 (drain_number x)) ws
 
-has_worker : (ws : List Place) (t : FlowTable) → IsFlow t → ((o : OpId) (i : ℕ) → count_by (is_in_drain o i) ws ≡ drains_running o i t) → All (HasWorker ws) t.operations
+has_worker : (ws : List Place) (t : FlowTable) → IsFlow t → ((o : OpId) (i : ℕ) → count_by (is_in_drain o i) ws ≡ drains_running o i t)
+    → All (HasWorker ws) t.operations
 has_worker ws t flow drains k d within out =
     let r = get_or t.operations k d in
-    let there = stands_there (is_number r.number) t.operations k d (sym (stands_rising (λ (x : FlowRecord). x.number.0) r.number.0 t.operations k d flow.ascending within refl)) in
+    let there = stands_there (is_number r.number) t.operations k d
+    (sym (stands_rising (λ (x : FlowRecord). x.number.0) r.number.0 t.operations k d flow.ascending within refl)) in
     let at : operation_at r.number t ≡ Some r = there.found in
     let runs = some_running r.entries (needed_runs r out (flow.needed k d within)) in
     let told : drains_running r.number runs.0 t ≡ drain_opens runs.0 r.entries =
@@ -99,7 +101,8 @@ one_needs true n h = h refl
 one_needs false n h = omega arith
 
 -- of records in the order of their numbers, from one number on
-few_from : (ws : List Place) (n : ℕ) (rs : List FlowRecord) → AllPairs (λ (r s : FlowRecord). r.number.0 < s.number.0) rs → All (λ (r : FlowRecord). n ≤ r.number.0) rs
+few_from : (ws : List Place) (n : ℕ) (rs : List FlowRecord) → AllPairs (λ (r s : FlowRecord). r.number.0 < s.number.0) rs
+    → All (λ (r : FlowRecord). n ≤ r.number.0) rs
     → All (HasWorker ws) rs → count_by (λ r. r.collected) rs ≤ count_by (λ x. is_from n (drain_number x)) ws
 few_from ws n [] rises from has = omega arith
 few_from ws n (r ∷ rs) rises from has = omega (
@@ -107,11 +110,17 @@ few_from ws n (r ∷ rs) rises from has = omega (
   count-cons (λ (s : FlowRecord). s.collected) r rs,
   one_needs r.collected (count_by (λ x. is_the r.number.0 (drain_number x)) ws) (All-head (HasWorker ws) r rs has),
   workers_split n r.number.0 ws (All-head (λ (s : FlowRecord). n ≤ s.number.0) r rs from),
-  few_from ws (r.number.0 + 1) rs (λ i j d p q. rises (suc i) (suc j) d (omega arith) (omega arith)) (λ k d l. omega (arith, rises 0 (suc k) d (omega arith) (omega arith)))
+  few_from ws (r.number.0 + 1) rs (λ i j d p q. rises (suc i) (suc j) d (omega arith) (omega arith))
+      (λ k d l. omega (arith, rises 0 (suc k) d (omega arith) (omega arith)))
       (All-tail (HasWorker ws) r rs has),
 )
 
 pub collected_few : (ws : List Place) (t : FlowTable) → IsFlow t → length ws ≡ 48 → ((o : OpId) (i : ℕ) → count_by (is_in_drain o i) ws ≡ drains_running o i t)
     → collected_records t ≤ 48
 collected_few ws t flow hands drains =
-    omega (arith, few_from ws 0 t.operations flow.ascending (λ k d l. omega arith) (has_worker ws t flow drains), count_few (λ x. is_from 0 (drain_number x)) ws, hands)
+    omega (
+      arith,
+      few_from ws 0 t.operations flow.ascending (λ k d l. omega arith) (has_worker ws t flow drains),
+      count_few (λ x. is_from 0 (drain_number x)) ws,
+      hands,
+    )

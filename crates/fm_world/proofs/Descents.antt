@@ -191,7 +191,8 @@ none_follows s t v born operation cursor f past there none j row h =
     let parts = and_parts (is_to_visit t v born operation row) (is_below_cursor t cursor row) e in
     let before = f.visits v born operation j row past h parts.0 in
     let was = below_was s t f cursor before.0 row (sym before.3) there parts.1 in
-    absurd (false≢true (sym (none j before.0 before.1) ∙ and_from (is_to_visit s v born operation before.0) (is_below_cursor s cursor before.0) before.2 was))) (λ e. refl)
+    absurd (false≢true (sym (none j before.0 before.1) ∙ and_from (is_to_visit s v born operation before.0)
+    (is_below_cursor s cursor before.0) before.2 was))) (λ e. refl)
 
 -- room for the visits that may come
 
@@ -215,7 +216,8 @@ room_visits s v born operation visited i r next =
     and_from (is_to_visit s v born operation row) (is_below_cursor s (last_of visited) row) parts.0
     ((elim (last_of visited) as (λ c. is_below_cursor s c next.row ≡ true → is_below_cursor s c row ≡ true) [
       | None ↦ λ _. refl
-      | Some l ↦ option_trans (Some row.altitude) (Some next.row.altitude) (altitude_at s l) (subst (λ x. is_lower_option (Some row.altitude) x ≡ true) there parts.1)
+      | Some l ↦ option_trans (Some row.altitude) (Some next.row.altitude) (altitude_at s l)
+          (subst (λ x. is_lower_option (Some row.altitude) x ≡ true) there parts.1)
     ]) passed.1)) in
     grind (arith, common_steps)
 

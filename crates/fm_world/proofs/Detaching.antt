@@ -44,13 +44,16 @@ not_queried : (i : InstanceId) (workers : List Place) → is_queried i workers �
 not_queried i workers h = none_any (is_at AtQuery i.0) workers h
 
 -- nobody is in a query of the instance, which is attached, and one comes to be
-asks_staffs : (i : InstanceId) (row : Instance) (d : Desk) (workers : List Place) (m : ℕ) → is_attached row.phase ≡ true → count_by (is_at AtQuery i.0) workers ≡ 0
-    → m + one (is_at d i.0 Place.Idle) ≡ count_by (is_at d i.0) workers + one (is_at d i.0 (Place.Query i)) → IsStaffed d (Some row) (count_by (is_at d i.0) workers)
+asks_staffs : (i : InstanceId) (row : Instance) (d : Desk) (workers : List Place) (m : ℕ) → is_attached row.phase ≡ true
+    → count_by (is_at AtQuery i.0) workers ≡ 0
+    → m + one (is_at d i.0 Place.Idle) ≡ count_by (is_at d i.0) workers + one (is_at d i.0 (Place.Query i))
+    → IsStaffed d (Some row) (count_by (is_at d i.0) workers)
     → IsStaffed d (Some row) m
 asks_staffs i row AtQuery workers m is none moves h = grind (arith, eq-eqb)
 asks_staffs i row d workers m is none moves h = grind arith
 
-pub ask_detach_does : (old : World) (k : WorkerId) (i : InstanceId) (result : Result (Unit {0}) Status) (new : World) → AsksDetach old k i result new → Does old new
+pub ask_detach_does : (old : World) (k : WorkerId) (i : InstanceId) (result : Result (Unit {0}) Status) (new : World)
+    → AsksDetach old k i result new → Does old new
 unfolding AsksDetach
 ask_detach_does old k i result new h =
     idle_by (λ _ w. Does old w) k result old new _ h (λ why. nothing old) (λ at event.
@@ -61,7 +64,8 @@ ask_detach_does old k i result new h =
     let row = passes_row stack.is_in_use (row_at old.stack i) (not_false uses tests.0) in
     makes old (record old { workers = put old.workers k (Place.Query i) }) new e (still old.contexts) (λ s. record {
       under_way = desk_enters old k (Place.Query i) i old.stack row.0 row.0 at refl refl (row_stays old.stack i.0 row.0 row.1)
-          (λ d m moves h. asks_staffs i row.0 d old.workers m row.2 (not_queried i old.workers tests.1) moves h) s.under_way.stack (follows_same old.stack) s.under_way;
+          (λ d m moves h. asks_staffs i row.0 d old.workers m row.2 (not_queried i old.workers tests.1) moves h) s.under_way.stack
+          (follows_same old.stack) s.under_way;
       owned = goes_owned old k Place.Idle (Place.Query i) old.stack at refl refl refl (rows_same old old.stack refl) (omega arith) (λ v h. h) s;
       filed = s.filed;
       links = s.links;
@@ -105,11 +109,13 @@ pub query_does : (old : World) (k : WorkerId) (allow : Bool) (result : Result (U
 unfolding QueryReturns stack.QueryReturns
 query_does old k allow result new h = by_place (worker_at old.workers k) refl h
   where
-    made : (i : InstanceId) (t : StackWorld) → new.stack ≡ t → new ≡ record old { stack = new.stack; workers = put old.workers k Place.Idle; contexts = new.contexts }
+    made : (i : InstanceId) (t : StackWorld) → new.stack ≡ t
+        → new ≡ record old { stack = new.stack; workers = put old.workers k Place.Idle; contexts = new.contexts }
         → new ≡ record old { stack = t; workers = put old.workers k Place.Idle; contexts = new.contexts }
     made i t is e = e ∙ ap (λ x. record old { stack = x; workers = put old.workers k Place.Idle; contexts = new.contexts }) is
 
-    by_result : (i : InstanceId) (result : Result (Unit {0}) Status) → worker_at old.workers k ≡ Some (Place.Query i) → QueryReturnsAt old k allow result new (Some (Place.Query i))
+    by_result : (i : InstanceId) (result : Result (Unit {0}) Status) → worker_at old.workers k ≡ Some (Place.Query i)
+        → QueryReturnsAt old k allow result new (Some (Place.Query i))
         → Does old new × (hand_len k.0 new ≡ 0)
     by_result i (Err why) at h = ends old new k (Place.Query i) old.stack at refl h.1 (made i old.stack h.0.1 h.2) refl refl (λ s.
         let place = query_place old k i s.under_way at in (
@@ -137,12 +143,14 @@ query_does old k allow result new h = by_place (worker_at old.workers k) refl h
 
 -- ---- the teardown starts
 
-start_staffs : (i : InstanceId) (row : Instance) → stack.is_to_start row ≡ true → (d : Desk) (n m : ℕ) → m + one (is_at d i.0 Place.Idle) ≡ n + one (is_at d i.0 (Place.Start i))
+start_staffs : (i : InstanceId) (row : Instance) → stack.is_to_start row ≡ true → (d : Desk) (n m : ℕ)
+    → m + one (is_at d i.0 Place.Idle) ≡ n + one (is_at d i.0 (Place.Start i))
     → IsStaffed d (Some row) n → IsStaffed d (Some (stack.with_start StartMark.Made row)) m
 start_staffs i row is AtStart n m moves h = grind (arith, eq-eqb)
 start_staffs i row is d n m moves h = grind arith
 
-pub start_teardown_does : (old : World) (k : WorkerId) (i : InstanceId) (result : Result (Unit {0}) Status) (new : World) → StartsTeardown old k i result new → Does old new
+pub start_teardown_does : (old : World) (k : WorkerId) (i : InstanceId) (result : Result (Unit {0}) Status) (new : World)
+    → StartsTeardown old k i result new → Does old new
 unfolding StartsTeardown stack.StartsTeardown
 start_teardown_does old k i result new h =
     idle_by (λ _ w. Does old w) k result old new _ h (λ why. nothing old) (λ at event. by_result result at event.0 event.1)
@@ -195,8 +203,10 @@ start_returned_does old k result new h = by_place (worker_at old.workers k) refl
 -- ---- the teardown is completed
 
 -- the start returned, and nobody is in a query
-complete_staffs : (i : InstanceId) (row : Instance) (d : Desk) (workers : List Place) (m : ℕ) → stack.is_to_complete row ≡ true → count_by (is_at AtQuery i.0) workers ≡ 0
-    → m + one (is_at d i.0 Place.Idle) ≡ count_by (is_at d i.0) workers + one (is_at d i.0 (Place.Complete i)) → IsStaffed d (Some row) (count_by (is_at d i.0) workers)
+complete_staffs : (i : InstanceId) (row : Instance) (d : Desk) (workers : List Place) (m : ℕ) → stack.is_to_complete row ≡ true
+    → count_by (is_at AtQuery i.0) workers ≡ 0
+    → m + one (is_at d i.0 Place.Idle) ≡ count_by (is_at d i.0) workers + one (is_at d i.0 (Place.Complete i))
+    → IsStaffed d (Some row) (count_by (is_at d i.0) workers)
     → IsStaffed d (Some (stack.in_phase Phase.Completing row)) m
 complete_staffs i row AtComplete workers m is none moves h = grind (arith, eq-eqb)
 complete_staffs i row d workers m is none moves h = grind arith
@@ -205,7 +215,8 @@ complete_staffs i row d workers m is none moves h = grind arith
 complete_goes : (w : World) (j : ℕ) (row : Instance) → in_flight j w.flow ≡ 0 → GoesOnAt w j row (stack.in_phase Phase.Completing row)
 complete_goes w j row none = record { filter = refl; left = λ h. refl; keeps = λ h. refl; quiet = λ h. inr none }
 
-pub complete_teardown_does : (old : World) (k : WorkerId) (i : InstanceId) (result : Result (Unit {0}) Status) (new : World) → CompletesTeardown old k i result new → Does old new
+pub complete_teardown_does : (old : World) (k : WorkerId) (i : InstanceId) (result : Result (Unit {0}) Status) (new : World)
+    → CompletesTeardown old k i result new → Does old new
 unfolding CompletesTeardown stack.CompletesTeardown
 complete_teardown_does old k i result new h =
     idle_by (λ _ w. Does old w) k result old new _ h (λ why. nothing old) (λ at event. by_result result at event.0 event.1)
@@ -236,7 +247,8 @@ complete_teardown_does old k i result new h =
           links = s.links;
         })
 
-empty_staffs : (i : InstanceId) (row : Instance) → is_completing row.phase ≡ true → Restaffs i.0 (Place.Complete i) Place.Idle (Some row) (Some (stack.in_phase Phase.Emptying row))
+empty_staffs : (i : InstanceId) (row : Instance) → is_completing row.phase ≡ true
+    → Restaffs i.0 (Place.Complete i) Place.Idle (Some row) (Some (stack.in_phase Phase.Emptying row))
 empty_staffs i row is AtComplete n m moves h = grind (arith, eq-eqb)
 empty_staffs i row is d n m moves h = grind arith
 

@@ -39,7 +39,8 @@ unfolding StartsDismount volumes.StartsDismount
 start_dismount_does old v (Err why) new h = unchanged old new (h.1 ∙ ap (λ x. record old { stack = x }) h.0.1)
 start_dismount_does old v (Ok done) new h =
     let t = volumes.dismounting old.stack v in
-    goes_does old new t h.0.1 h.1 (dismounting_goes_on old.stack v) (stops_staff (volumes.is_on v) old.stack t refl) (stops_go (volumes.is_on v) old t refl) (omega arith)
+    goes_does old new t h.0.1 h.1 (dismounting_goes_on old.stack v) (stops_staff (volumes.is_on v) old.stack t refl)
+    (stops_go (volumes.is_on v) old t refl) (omega arith)
     (volumes_stay (volumes.volume_in VolumePhase.Dismounting) old.stack v (λ x there h. refl))
 
 -- ---- its handles
@@ -47,7 +48,8 @@ start_dismount_does old v (Ok done) new h =
 pub drop_handle_does : (old : World) (v : VolumeId) (result : Result (Option HandleId) Status) (new : World) → DropsHandle old v result new → Does old new
 unfolding DropsHandle
 drop_handle_does old v (Err why) new h = unchanged old new h.1
-drop_handle_does old v (Ok answer) new h = by_option (λ m. Drops old answer new m → Does old new) (lowest_on v old.files) (λ none h. unchanged old new h.1) (λ x at h. closes x at h.1) h.1
+drop_handle_does old v (Ok answer) new h = by_option (λ m. Drops old answer new m → Does old new) (lowest_on v old.files)
+    (λ none h. unchanged old new h.1) (λ x at h. closes x at h.1) h.1
   where
     closes : (x : FileHandle) → lowest_on v old.files ≡ Some x → LosesLinks (dropped old x) new → Does old new
     closes x at h = record {
@@ -58,7 +60,8 @@ drop_handle_does old v (Ok answer) new h = by_option (λ m. Drops old answer new
 -- ---- its end
 
 -- the volume's contexts lost their links, so none is to it
-emptied_fits : (s : StackWorld) (v : VolumeId) (x : Context) → fits s (Some x) ≡ true → fits (volumes.volume_emptied s v) (Some (swept (is_linked_to (Object.Volume v)) x)) ≡ true
+emptied_fits : (s : StackWorld) (v : VolumeId) (x : Context) → fits s (Some x) ≡ true
+    → fits (volumes.volume_emptied s v) (Some (swept (is_linked_to (Object.Volume v)) x)) ≡ true
 emptied_fits s v x h = grind (arith, updated-other)
 
 -- the contexts' links went before the volume that they are to
@@ -78,7 +81,8 @@ emptied_owned old v after sweeps s =
       totals = swept.totals;
     }
 
-pub empty_volume_does : (old : World) (v : VolumeId) (result : Result (Unit {0}) Status) (new : World) → EmptiesVolume old v result new → Does old new × KeepsHands old new
+pub empty_volume_does : (old : World) (v : VolumeId) (result : Result (Unit {0}) Status) (new : World) → EmptiesVolume old v result new
+    → Does old new × KeepsHands old new
 unfolding EmptiesVolume volumes.EmptiesVolume
 empty_volume_does old v (Err why) new h =
     let same = h.2 ∙ ap (λ x. record old { stack = x; contexts = new.contexts }) h.0.1 ∙ ap (λ c. record old { contexts = c }) h.1 in
@@ -95,7 +99,11 @@ empty_volume_does old v (Ok done) new h =
           filed = s.filed;
           links = sweeps_named old test new.contexts sweeps s.links;
         });
-        lasts = λ s. lasts old new new.contexts refl (subst (SlotsStay old.contexts.slots) (sym sweeps.slots) (slots_swept _ old.contexts.slots), sweeps.cleaning);
+        lasts = λ s. lasts old new new.contexts refl (
+          subst (SlotsStay old.contexts.slots) (sym sweeps.slots)
+              (slots_swept _ old.contexts.slots),
+          sweeps.cleaning,
+        );
       },
       λ k. omega (arith, ap pairs_in sweeps.hands, ap (λ (hands : List (List CtxId)). length (hand_of hands k)) sweeps.hands),
     )

@@ -70,7 +70,8 @@ module _ (old : World) (k : WorkerId) (o : OpId) (i : InstanceId) (r : FlowRecor
       let owes = owed_so i.0 (owed r.entries) completion owing in
       let had = handed_early (AskCarries old.stack old.contexts.slots) i.0 (owed r.entries) completion owing asks in
       record {
-        under_way = step_keeps old o r f k Place.Idle (Place.EarlyDrain o i) at idle (λ x. stays_early i x) (sound_early i r owes sound) (needed_early i r owes sound)
+        under_way = step_keeps old o r f k Place.Idle (Place.EarlyDrain o i) at idle (λ x. stays_early i x)
+            (sound_early i r owes sound) (needed_early i r owes sound)
             (among_drain old.stack r.volume r.born r.operation r.entries r.stage _
             (found_holds (IsAmong old.stack) (is_number o) old.flow.operations r u.among at))
             (spots_stay o Place.Idle (Place.EarlyDrain o i) r (f r) idle_unseen (early_unseen o i)
@@ -88,7 +89,8 @@ module _ (old : World) (k : WorkerId) (o : OpId) (i : InstanceId) (r : FlowRecor
         links = subst (AllPass (names_there old.files)) (sym (brought_same completion.context).0) s.links;
       }
     where
-      brought_same : (m : Option CtxId) → ((brought old.contexts k m).slots ≡ old.contexts.slots) × ((brought old.contexts k m).cleaning ≡ old.contexts.cleaning)
+      brought_same : (m : Option CtxId) → ((brought old.contexts k m).slots ≡ old.contexts.slots)
+          × ((brought old.contexts k m).cleaning ≡ old.contexts.cleaning)
       brought_same None = (refl, refl)
       brought_same (Some c) = (refl, refl)
 
@@ -103,7 +105,8 @@ Takes old k result new = Does old new × (IsSound old → OnlyHandOf k.0 old new
 nothing_taken : (old : World) (k : WorkerId) → Takes old k (Ok None) old
 nothing_taken old k = (nothing old, λ s. (refl, omega arith))
 
-pub drain_take_does : (old : World) (k : WorkerId) (i : InstanceId) (result : Result (Option (OpId × Completion)) Status) (new : World) → TakesDrain old k i result new
+pub drain_take_does : (old : World) (k : WorkerId) (i : InstanceId) (result : Result (Option (OpId × Completion)) Status) (new : World)
+    → TakesDrain old k i result new
     → Does old new × (IsSound old → OnlyHandOf k.0 old new × HoldsMore k.0 result given_by_drain old new)
 unfolding TakesDrain
 drain_take_does old k i result new h =
@@ -114,12 +117,21 @@ drain_take_does old k i result new h =
     refused : (why : Status) → Takes old k (Err why) old
     refused why = (nothing old, λ s. (refl, refl))
 
-    given : worker_at old.workers k ≡ Some Place.Idle → (drain : Option (OpId × Completion)) → DrainTaken i old.flow drain new.flow → GivesDrain old k i drain new → Takes old k (Ok drain) new
+    given : worker_at old.workers k ≡ Some Place.Idle → (drain : Option (OpId × Completion)) → DrainTaken i old.flow drain new.flow
+        → GivesDrain old k i drain new → Takes old k (Ok drain) new
     given idle None taken same = subst (λ (w : World). Takes old k (Ok None) w) (sym same) (nothing_taken old k)
     given idle (Some (o, completion)) taken gives =
         let there = owing_there old.flow o i completion taken.owed in
-        let mid = record old { flow = changed o (drained_early i) old.flow; workers = put old.workers k (Place.EarlyDrain o i); contexts = brought old.contexts k completion.context } in
-        let is : new ≡ mid = gives ∙ ap (λ (t : FlowTable). record old { flow = t; workers = put old.workers k (Place.EarlyDrain o i); contexts = brought old.contexts k completion.context }) taken.after in
+        let mid = record old {
+          flow = changed o (drained_early i) old.flow;
+          workers = put old.workers k (Place.EarlyDrain o i);
+          contexts = brought old.contexts k completion.context;
+        } in
+        let is : new ≡ mid = gives ∙ ap (λ (t : FlowTable). record old {
+          flow = t;
+          workers = put old.workers k (Place.EarlyDrain o i);
+          contexts = brought old.contexts k completion.context;
+        }) taken.after in
         let brings = brought_gives old.contexts k completion.context in (
           makes old mid new is brings.0 (early_sound old k o i there.0 completion there.1 idle there.2),
           λ s. subst (λ (w : World). OnlyHandOf k.0 old w × HoldsMore k.0 (Ok (Some (o, completion))) given_by_drain old w) (sym is)
@@ -127,9 +139,11 @@ drain_take_does old k i result new h =
               (subst (λ n. k.0 < n) (s.under_way.hands ∙ sym s.owned.lawful.workers) (slice_get_within old.workers k.0 Place.Idle idle)) brings.1),
         )
 
-    where_stopping : worker_at old.workers k ≡ Some Place.Idle → (b : Bool) (drain : Option (OpId × Completion)) → DrainsWhere b old k i drain new → Takes old k (Ok drain) new
+    where_stopping : worker_at old.workers k ≡ Some Place.Idle → (b : Bool) (drain : Option (OpId × Completion))
+        → DrainsWhere b old k i drain new → Takes old k (Ok drain) new
     where_stopping idle true drain e = given idle drain e.0 e.1
-    where_stopping idle false drain e = subst (λ d. Takes old k (Ok d) new) (sym e.0) (subst (λ (w : World). Takes old k (Ok None) w) (sym e.1) (nothing_taken old k))
+    where_stopping idle false drain e = subst (λ d. Takes old k (Ok d) new) (sym e.0)
+        (subst (λ (w : World). Takes old k (Ok None) w) (sym e.1) (nothing_taken old k))
 
 -- ---- it returns
 
@@ -139,7 +153,8 @@ count_less p q [] implies = omega arith
 count_less p q (x ∷ ws) implies = grind (arith, count-cons p x ws, count-cons q x ws, count_less p q ws implies, implies x)
 
 -- and at one place more
-count_apart : (p q : Place → Bool) (ws : List Place) (n : ℕ) (a : Place) → ((x : Place) → p x ≡ true → q x ≡ true) → slice_get ws n ≡ Some a → p a ≡ false → q a ≡ true
+count_apart : (p q : Place → Bool) (ws : List Place) (n : ℕ) (a : Place) → ((x : Place) → p x ≡ true → q x ≡ true)
+    → slice_get ws n ≡ Some a → p a ≡ false → q a ≡ true
     → count_by p ws + 1 ≤ count_by q ws
 count_apart p q [] n a implies at fails passes = absurd (cc)
 count_apart p q (x ∷ ws) zero a implies at fails passes =
@@ -169,7 +184,8 @@ early_there w k o i at s =
         λ (e : r.stage ≡ InDrain i).
             let running : drains_running o i.0 w.flow ≡ 1 = ap (λ m. told_in m) there.1 ∙ once in
             let standing' : stands_at o (AtDrain i.0) w.flow ≡ 1 = ap (λ m. stood_in m) there.1 ∙ in_drain r e in
-            let more = count_apart (is_in_at o (AtDrain i.0)) (is_in_drain o i.0) w.workers k.0 (Place.EarlyDrain o i) (drains_at_once o i.0) at (early_unseen o i o (AtDrain i.0)) (both_same o i) in
+            let more = count_apart (is_in_at o (AtDrain i.0)) (is_in_drain o i.0) w.workers k.0 (Place.EarlyDrain o i)
+            (drains_at_once o i.0) at (early_unseen o i o (AtDrain i.0)) (both_same o i) in
             absurd (omega (arith, more, s.workers o (AtDrain i.0), s.drains o i.0, running, standing')),
       ),
     )
@@ -215,7 +231,8 @@ module _ (old : World) (k : WorkerId) (o : OpId) (i : InstanceId) (r : FlowRecor
       record { under_way = with_laws (over_moves s) (flow_over old.flow o i r at runs needed s.under_way.flow); owned = kept.0; filed = kept.1; links = kept.2 }
 
   -- it goes after that
-  over_goes : is_done r ≡ true → list_any is_running_drain (early_over i r).entries ≡ false → IsSound old → IsSound (over_with (removed o (changed o (early_over i) old.flow)))
+  over_goes : is_done r ≡ true → list_any is_running_drain (early_over i r).entries ≡ false → IsSound old
+      → IsSound (over_with (removed o (changed o (early_over i) old.flow)))
   over_goes done none s =
       let f = early_over i in
       let mid = over_with (changed o f old.flow) in
@@ -223,9 +240,15 @@ module _ (old : World) (k : WorkerId) (o : OpId) (i : InstanceId) (r : FlowRecor
       let here : operation_at o mid.flow ≡ Some (f r) = find_changed (is_number o) f old.flow.operations (λ x. refl) ∙ ap (option_map f) at in
       let over : is_done (f r) ≡ true = ap (done_at r.stage) (owed_over i r) ∙ done in
       record {
-        under_way = goes_keeps mid o (f r) here over none (subst IsFlow (sym (goes_after old.flow o i r at runs)) (flow_removed old.flow o s.under_way.flow)) (over_moves s);
+        under_way = goes_keeps mid o (f r) here over none (subst IsFlow (sym (goes_after old.flow o i r at runs))
+            (flow_removed old.flow o s.under_way.flow)) (over_moves s);
         owned = goes_owned mid o (f r) here
-            (lawful_alike (λ c. omega (arith, total_without (λ (x : FlowRecord). carried_by c x) (is_number o) mid.flow.operations (f r) here, done_carries (f r) over c)) kept.0.lawful) kept.0;
+            (lawful_alike (λ c. omega (
+              arith,
+              total_without (λ (x : FlowRecord). carried_by c x) (is_number o) mid.flow.operations
+                  (f r) here,
+              done_carries (f r) over c,
+            )) kept.0.lawful) kept.0;
         filed = file_gone old.files o mid.flow (f r) here over kept.1;
         links = kept.2;
       }

@@ -8,7 +8,8 @@ use Rattle.fm_world.proofs.Words.{Bool, Err, List, None, Ok, Option, Result, Som
 abbrev pub Refused : {T : Type 0} → (Result T Status → World → Type 0) → World → Type 0
 Refused P old = (why : Status) → P (Err why) old
 
-pub refused_by : {T : Type 0} (P : Result T Status → World → Type 0) (why : Status) (result : Result T Status) (old new : World) → (result ≡ Err why) × (new ≡ old)
+pub refused_by : {T : Type 0} (P : Result T Status → World → Type 0) (why : Status) (result : Result T Status) (old new : World)
+    → (result ≡ Err why) × (new ≡ old)
     → Refused P old → P result new
 refused_by P why result old new h refused = subst (λ r. P r new) (sym h.0) (subst (P (Err why)) (sym h.1) (refused why))
 
@@ -33,7 +34,8 @@ pub idle_there : (workers : List Place) (k : WorkerId) → is_idle (worker_at wo
 idle_there workers k h = idle_at (worker_at workers k) h
 
 pub idle_by : {T : Type 0} (P : Result T Status → World → Type 0) (k : WorkerId) (result : Result T Status) (old new : World) (Event : Type 0)
-    → Unless Status.WrongStep (is_idle (worker_at old.workers k)) result old new Event → Refused P old → (worker_at old.workers k ≡ Some Place.Idle → Event → P result new)
+    → Unless Status.WrongStep (is_idle (worker_at old.workers k)) result old new Event → Refused P old
+    → (worker_at old.workers k ≡ Some Place.Idle → Event → P result new)
     → P result new
 idle_by P k result old new Event h refused event = grind arith
 
@@ -41,11 +43,13 @@ idle_by P k result old new Event h refused event = grind arith
 
 -- an event of a callback with its refusals, and one that takes memory
 pub asked_by : {T : Type 0} (P : Result T Status → World → Type 0) (old : World) (k : WorkerId) (result : Result T Status) (new : World)
-    (refusal : Callback → Option Status) (E : Callback → T → Type 0) → InCallback old k result new (λ at. Answers (refusal at) result old new (E at)) → Refused P old
+    (refusal : Callback → Option Status) (E : Callback → T → Type 0)
+    → InCallback old k result new (λ at. Answers (refusal at) result old new (E at)) → Refused P old
     → ((at : Callback) → callback_of old k ≡ Some at → (v : T) → refusal at ≡ None → E at v → P (Ok v) new) → P result new
 asked_by P old k result new refusal E h refused event = grind arith
 
 pub taken_by : {T : Type 0} (P : Result T Status → World → Type 0) (old : World) (k : WorkerId) (result : Result T Status) (new : World)
-    (refusal : Callback → Option Status) (E : Callback → T → Type 0) → InCallback old k result new (λ at. AnswersOrMemory (refusal at) result old new (E at)) → Refused P old
+    (refusal : Callback → Option Status) (E : Callback → T → Type 0)
+    → InCallback old k result new (λ at. AnswersOrMemory (refusal at) result old new (E at)) → Refused P old
     → ((at : Callback) → callback_of old k ≡ Some at → (v : T) → refusal at ≡ None → E at v → P (Ok v) new) → P result new
 taken_by P old k result new refusal E h refused event = grind arith

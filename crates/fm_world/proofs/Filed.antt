@@ -20,9 +20,11 @@ sound_from f t room h = grind arith
 
 -- ---- one operation takes a step
 
-stands_step : (out : StreamId → Bool) (f : FileTable) (rs : List FlowRecord) (n : ℕ) (test : FlowRecord → Bool) (step : FlowRecord → FlowRecord) (r : FlowRecord)
+stands_step : (out : StreamId → Bool) (f : FileTable) (rs : List FlowRecord) (n : ℕ) (test : FlowRecord → Bool) (step : FlowRecord
+    → FlowRecord) (r : FlowRecord)
     → find test rs ≡ Some r → IsCreatedOn f (step r) → IsOn f (step r)
-    → ((q : StreamId) → out q ≡ false → uses f rs q ≡ true → uses f (change_first test step rs) q ≡ true) → Stands none_out f rs n → Stands out f (change_first test step rs) n
+    → ((q : StreamId) → out q ≡ false → uses f rs q ≡ true → uses f (change_first test step rs) q ≡ true) → Stands none_out f rs n
+    → Stands out f (change_first test step rs) n
 stands_step out f rs n test step r at creates on uses_on h =
     stands_among none_out out f rs (change_first test step rs) n n
     (all_change (IsCreatedOn f) test step rs (λ x found. subst (λ y. IsCreatedOn f (step y)) (same_Some r x (sym at ∙ found)) creates) h.creates_on)
@@ -38,7 +40,8 @@ pub record SameFile (r s : FlowRecord) : Type 0 where
 on_same : (f : FileTable) (r s : FlowRecord) → s.stream ≡ r.stream → s.handle ≡ r.handle → IsOnHandle f r.stream r.handle → IsOnHandle f s.stream s.handle
 on_same f r s stream handle on = subst (λ m. IsOnHandle f m s.handle) (sym stream) (subst (IsOnHandle f r.stream) (sym handle) on)
 
-pub stands_same : (f : FileTable) (rs : List FlowRecord) (n : ℕ) (test : FlowRecord → Bool) (step : FlowRecord → FlowRecord) (r : FlowRecord) → find test rs ≡ Some r
+pub stands_same : (f : FileTable) (rs : List FlowRecord) (n : ℕ) (test : FlowRecord → Bool) (step : FlowRecord
+    → FlowRecord) (r : FlowRecord) → find test rs ≡ Some r
     → SameFile r (step r) → Stands none_out f rs n → Stands none_out f (change_first test step rs) n
 stands_same f rs n test step r at same h =
     let creates = found_holds (IsCreatedOn f) test rs r h.creates_on at in
@@ -65,11 +68,13 @@ not_created : (f : FileTable) (s : FlowRecord) → is_creating s ≡ false → I
 not_created f s ended = λ creating. absurd (false≢true (sym ended ∙ creating))
 
 -- the handle that a create is given
-on_given : (s : StreamId) (f : FileTable) → All (λ (x : FileHandle). x.number.0 < f.next) f.handles → IsOnHandle (opened s f) (Some s) (Some (record { 0 = f.next }))
+on_given : (s : StreamId) (f : FileTable) → All (λ (x : FileHandle). x.number.0 < f.next) f.handles
+    → IsOnHandle (opened s f) (Some s) (Some (record { 0 = f.next }))
 on_given s f h2 = grind (arith, common_steps)
 
 -- a create that succeeded
-stands_given : (f : FileTable) (rs : List FlowRecord) (n : ℕ) (test : FlowRecord → Bool) (step : FlowRecord → FlowRecord) (r : FlowRecord) (s : StreamId) (why : Status)
+stands_given : (f : FileTable) (rs : List FlowRecord) (n : ℕ) (test : FlowRecord → Bool) (step : FlowRecord
+    → FlowRecord) (r : FlowRecord) (s : StreamId) (why : Status)
     → find test rs ≡ Some r → r.stream ≡ Some s → is_creating r ≡ true → IsAnswered f why r (step r) → Stands none_out f rs n
     → Stands none_out (opened s f) (change_first test step rs) n
 stands_given f rs n test step r s why at stream was answered h =
@@ -78,24 +83,30 @@ stands_given f rs n test step r s why at stream was answered h =
     let stands = stands_opened s f rs n there h in
     let on : IsOn g (step r) = elim answered.handle [
       | inl same ↦ on_same g r (step r) answered.stream same (found_holds (IsOn g) test rs r stands.operations_on at)
-      | inr new ↦ subst (λ m. IsOnHandle g m (step r).handle) (sym (answered.stream ∙ stream)) (subst (IsOnHandle g (Some s)) (sym new.0) (on_given s f h.handles.given))
+      | inr new ↦ subst (λ m. IsOnHandle g m (step r).handle) (sym (answered.stream ∙ stream))
+          (subst (IsOnHandle g (Some s)) (sym new.0) (on_given s f h.handles.given))
     ] in
     stands_step none_out g rs n test step r at (not_created g (step r) answered.ended) on (λ q apart used.
     by_bool (λ c. (q.0 == s.0) ≡ c → uses g (change_first test step rs) q ≡ true) (q.0 == s.0)
-    (λ _ e. or_left (has_handle_on q g) (list_any (is_creating_on q) (change_first test step rs)) (any_pushed (is_on q) f.handles (files.fresh_handle s f.next) (same_number q.0 s.0 e)))
+    (λ _ e. or_left (has_handle_on q g) (list_any (is_creating_on q) (change_first test step rs))
+    (any_pushed (is_on q) f.handles (files.fresh_handle s f.next) (same_number q.0 s.0 e)))
     (λ _ e. ap (λ a. has_handle_on q g || a) (creating_ended test step rs r s at stream answered.ended q e) ∙ used) refl) stands
 
 -- a create that failed
-pub stands_ended : (f : FileTable) (rs : List FlowRecord) (n : ℕ) (test : FlowRecord → Bool) (step : FlowRecord → FlowRecord) (r : FlowRecord) (s : StreamId) (b : Bool) → find test rs ≡ Some r
-    → r.stream ≡ Some s → (step r).stream ≡ r.stream → (step r).handle ≡ r.handle → is_creating (step r) ≡ false → list_any (is_creating_on s) (change_first test step rs) ≡ b
+pub stands_ended : (f : FileTable) (rs : List FlowRecord) (n : ℕ) (test : FlowRecord → Bool) (step : FlowRecord
+    → FlowRecord) (r : FlowRecord) (s : StreamId) (b : Bool) → find test rs ≡ Some r
+    → r.stream ≡ Some s → (step r).stream ≡ r.stream → (step r).handle ≡ r.handle → is_creating (step r) ≡ false
+    → list_any (is_creating_on s) (change_first test step rs) ≡ b
     → Stands none_out f rs n → Stands none_out (left s b f) (change_first test step rs) n
 stands_ended f rs n test step r s b at stream same handle ended is h =
     stands_left s b f (change_first test step rs) n is
-    (stands_step (that s) f rs n test step r at (not_created f (step r) ended) (on_same f r (step r) same handle (found_holds (IsOn f) test rs r h.operations_on at))
+    (stands_step (that s) f rs n test step r at (not_created f (step r) ended)
+    (on_same f r (step r) same handle (found_holds (IsOn f) test rs r h.operations_on at))
     (λ q other used. ap (λ a. has_handle_on q f || a) (creating_ended test step rs r s at stream ended q other) ∙ used) h)
 
 -- a close
-stands_close : (f : FileTable) (rs : List FlowRecord) (n : ℕ) (test : FlowRecord → Bool) (step : FlowRecord → FlowRecord) (r : FlowRecord) (s : StreamId) (g : HandleId) (b : Bool)
+stands_close : (f : FileTable) (rs : List FlowRecord) (n : ℕ) (test : FlowRecord → Bool) (step : FlowRecord
+    → FlowRecord) (r : FlowRecord) (s : StreamId) (g : HandleId) (b : Bool)
     → find test rs ≡ Some r → r.stream ≡ Some s → r.handle ≡ Some g → SameFile r (step r) → list_any (is_creating_on s) (change_first test step rs) ≡ b
     → Stands none_out f rs n → Stands none_out (left s b (closed g f)) (change_first test step rs) n
 stands_close f rs n test step r s g b at stream handle same is h =
@@ -119,13 +130,17 @@ same_answered : (f : FileTable) (why : Status) (r s : FlowRecord) → is_create 
 same_answered f why r s h4 h5 = grind arith
 
 -- a create under way is on a stream
-pub create_on_none : (f : FileTable) (rs : List FlowRecord) (n : ℕ) (test : FlowRecord → Bool) (r : FlowRecord) → find test rs ≡ Some r → r.stream ≡ None → is_creating r ≡ true → Stands none_out f rs n → ⊥
+pub create_on_none : (f : FileTable) (rs : List FlowRecord) (n : ℕ) (test : FlowRecord → Bool) (r : FlowRecord) → find test rs ≡ Some r
+    → r.stream ≡ None → is_creating r ≡ true → Stands none_out f rs n → ⊥
 create_on_none f rs n test r at none creating h =
     false≢true (subst (λ m. has_stream_of f m ≡ true) none (found_holds (IsCreatedOn f) test rs r h.creates_on at creating))
 
-stands_answered : (f : FileTable) (t : FlowTable) (o : OpId) (r : FlowRecord) (step : FlowRecord → FlowRecord) (operation : Operation) (s : Option StreamId) (h : Option HandleId)
-    (why : Status) (b : Bool) → operation_at o t ≡ Some r → r.operation ≡ operation → r.stream ≡ s → r.handle ≡ h → is_unanswered r.stage ≡ true → IsAnswered f why r (step r)
-    → is_created_on s (changed o step t) ≡ b → Stands none_out f t.operations t.next → Stands none_out (after_base operation s h why b f) (changed o step t).operations t.next
+stands_answered : (f : FileTable) (t : FlowTable) (o : OpId) (r : FlowRecord) (step : FlowRecord → FlowRecord) (operation : Operation)
+    (s : Option StreamId) (h : Option HandleId)
+    (why : Status) (b : Bool) → operation_at o t ≡ Some r → r.operation ≡ operation → r.stream ≡ s → r.handle ≡ h
+    → is_unanswered r.stage ≡ true → IsAnswered f why r (step r)
+    → is_created_on s (changed o step t) ≡ b → Stands none_out f t.operations t.next
+    → Stands none_out (after_base operation s h why b f) (changed o step t).operations t.next
 stands_answered f t o r step Operation.Create (Some s) h why b at same stream handle unanswered answered is k =
     let was : is_creating r ≡ true = and_from (is_create r.operation) (is_unanswered r.stage) (ap is_create same) unanswered in
     elim (cases_Bool (is_success why)) [
@@ -137,7 +152,8 @@ stands_answered f t o r step Operation.Create (Some s) h why b at same stream ha
           (stands_ended f t.operations t.next (is_number o) step r s b at stream answered.stream kept answered.ended is k)
     ]
 stands_answered f t o r step Operation.Create None h why b at same stream handle unanswered answered is k =
-    absurd (create_on_none f t.operations t.next (is_number o) r at stream (and_from (is_create r.operation) (is_unanswered r.stage) (ap is_create same) unanswered) k)
+    absurd (create_on_none f t.operations t.next (is_number o) r at stream
+    (and_from (is_create r.operation) (is_unanswered r.stage) (ap is_create same) unanswered) k)
 stands_answered f t o r step Operation.SetDelete (Some s) h why b at same stream handle unanswered answered is k =
     let stepped = stands_same f t.operations t.next (is_number o) step r at (same_answered f why r (step r) (ap is_create same) answered) k in
     elim (is_success why) as (λ c. Stands none_out (cond c (files.marked s f) f) (changed o step t).operations t.next) [
@@ -160,7 +176,8 @@ file_answered f t o r step why at unanswered answered h =
     (stands_answered f t o r step r.operation r.stream r.handle why b at refl refl refl unanswered answered refl (stands_in f t h))
 
 -- what has its answer keeps it
-pub answered_same : (r s : FlowRecord) → s.stream ≡ r.stream → s.handle ≡ r.handle → is_unanswered r.stage ≡ false → is_unanswered s.stage ≡ false → SameFile r s
+pub answered_same : (r s : FlowRecord) → s.stream ≡ r.stream → s.handle ≡ r.handle → is_unanswered r.stage ≡ false
+    → is_unanswered s.stage ≡ false → SameFile r s
 answered_same r s stream handle was is = record { stream = stream; handle = handle; creating = answered_none s is ∙ sym (answered_none r was) }
 
 -- no stream, no handle

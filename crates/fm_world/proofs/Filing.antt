@@ -34,14 +34,16 @@ filed_closed f t s h b k =
 abbrev pub NotMore : FlowRecord → FlowRecord → Type 0
 NotMore r s = cond (is_creating s) 1 0 ≤ cond (is_creating r) 1 0
 
-pub filed_step : (f g : FileTable) (t : FlowTable) (o : OpId) (r : FlowRecord) (step : FlowRecord → FlowRecord) → operation_at o t ≡ Some r → NotMore r (step r) → Shrinks f g
+pub filed_step : (f g : FileTable) (t : FlowTable) (o : OpId) (r : FlowRecord) (step : FlowRecord → FlowRecord)
+    → operation_at o t ≡ Some r → NotMore r (step r) → Shrinks f g
     → IsFiled f t → IsFiled g (changed o step t)
 filed_step f g t o r step at less shrinks h =
     let counts = count_changed is_creating (is_number o) step t.operations r at in
     record { numbers = omega (arith, counts, less, shrinks.next, h.numbers); few = omega (arith, counts, less, shrinks.handles, h.few) }
 
 -- a create that is under way no more gives a handle
-filed_open : (f : FileTable) (t : FlowTable) (o : OpId) (s : StreamId) (r : FlowRecord) (step : FlowRecord → FlowRecord) → operation_at o t ≡ Some r → is_creating r ≡ true
+filed_open : (f : FileTable) (t : FlowTable) (o : OpId) (s : StreamId) (r : FlowRecord) (step : FlowRecord → FlowRecord)
+    → operation_at o t ≡ Some r → is_creating r ≡ true
     → is_creating (step r) ≡ false → IsFiled f t → IsFiled (opened s f) (changed o step t)
 filed_open f t o s r step at was is h =
     let counts = count_changed is_creating (is_number o) step t.operations r at in
@@ -51,7 +53,8 @@ not_more_none : (r s : FlowRecord) → is_creating s ≡ false → NotMore r s
 not_more_none r s none = one-le (is_creating s) (is_creating r) (λ creating. absurd (false≢true (sym none ∙ creating)))
 
 -- the base's answer: the operation was unanswered before
-pub filed_answered : (f : FileTable) (t : FlowTable) (o : OpId) (r : FlowRecord) (step : FlowRecord → FlowRecord) (operation : Operation) (s : Option StreamId) (h : Option HandleId)
+pub filed_answered : (f : FileTable) (t : FlowTable) (o : OpId) (r : FlowRecord) (step : FlowRecord
+    → FlowRecord) (operation : Operation) (s : Option StreamId) (h : Option HandleId)
     (why : Status) (b : Bool) → operation_at o t ≡ Some r → r.operation ≡ operation → is_unanswered r.stage ≡ true → is_creating (step r) ≡ false → IsFiled f t
     → IsFiled (after_base operation s h why b f) (changed o step t)
 filed_answered f t o r step Operation.Create (Some s) h why b at same unanswered none k =
@@ -61,7 +64,8 @@ filed_answered f t o r step Operation.Create (Some s) h why b at same unanswered
     ]
 filed_answered f t o r step Operation.SetDelete (Some s) h why b at same unanswered none k =
     filed_step f (cond (is_success why) (files.marked s f) f) t o r step at (not_more_none r (step r) none)
-    (elim (is_success why) as (λ c. Shrinks f (cond c (files.marked s f) f)) [ true ↦ record { next = refl; handles = omega arith } | false ↦ shrinks_same f ]) k
+    (elim (is_success why) as (λ c. Shrinks f (cond c (files.marked s f) f))
+    [ true ↦ record { next = refl; handles = omega arith } | false ↦ shrinks_same f ]) k
 filed_answered f t o r step Operation.Close (Some s) (Some h) why b at same unanswered none k =
     filed_step f (left s b (closed h f)) t o r step at (not_more_none r (step r) none) (closed_shrinks s h b f) k
 filed_answered f t o r step _ _ _ why b at same unanswered none k = filed_step f f t o r step at (not_more_none r (step r) none) (shrinks_same f) k

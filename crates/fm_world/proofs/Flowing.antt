@@ -32,7 +32,8 @@ pub step_owned : (w : World) (o : OpId) (r : FlowRecord) (f : FlowRecord → Flo
     → ((i : InstanceId) → is_flown_by (row_at w.stack i) ≡ false → in_flight i.0 (changed o f w.flow) ≡ 0) → IsOwned w
     → IsOwned (record w { flow = changed o f w.flow; workers = put w.workers k b; contexts = t })
 step_owned w o r f k a b t hand at there worker na nb lawful slots hands cleaning here owes quiet h =
-    owned_moves w w.stack (changed o f w.flow) t k a b hand there worker (cleaning_stays w t.cleaning k a b there cleaning na nb h.cleaning) (filters_same w.stack)
+    owned_moves w w.stack (changed o f w.flow) t k a b hand there worker
+    (cleaning_stays w t.cleaning k a b there cleaning na nb h.cleaning) (filters_same w.stack)
     (owners_same w.contexts.slots t.slots slots) lawful hands
     (subst (λ xs. All (HoldsIn w.stack xs (place_in (Some b))) hand) (sym slots) here)
     (subst (λ xs. AllCarry w.stack xs (changed o f w.flow).operations) (sym slots) (carry_changed w.stack w.contexts.slots w.flow o r f at owes h.completions))
@@ -45,7 +46,8 @@ flow_owned w t lawful carry quiet h = grind arith
 
 -- what an operation is owed
 pub asks_of : (w : World) (o : OpId) (r : FlowRecord) → operation_at o w.flow ≡ Some r → IsOwned w → All (AskCarries w.stack w.contexts.slots) (owed r.entries)
-asks_of w o r at h = found_holds (λ (x : FlowRecord). All (AskCarries w.stack w.contexts.slots) (owed x.entries)) (is_number o) w.flow.operations r h.completions at
+asks_of w o r at h = found_holds (λ (x : FlowRecord). All (AskCarries w.stack w.contexts.slots) (owed x.entries))
+    (is_number o) w.flow.operations r h.completions at
 
 -- nothing comes to be in flight
 pub quieter : (w : World) (o : OpId) (r : FlowRecord) (f : FlowRecord → FlowRecord) → operation_at o w.flow ≡ Some r → ((i : ℕ) → flight i (f r) ≤ flight i r)
@@ -60,5 +62,6 @@ pub left_owned : (w : World) (o : OpId) (r : FlowRecord) (f : FlowRecord → Flo
     → Leaves (carries_after w o f) kept after k.0 → All (AskCarries w.stack w.contexts.slots) (owed (f r).entries)
     → ((i : ℕ) → flight i (f r) ≤ flight i r) → IsOwned w → IsOwned (record (returned w k o f) { contexts = after })
 left_owned w o r f k a kept after at there worker na lawful slots cleaning hands leaves owes fewer h =
-    step_owned w o r f k a Place.Idle after [] at there worker na refl (leave_keeps k.0 lawful leaves) (leaves.slots ∙ slots) (leaves.hands ∙ hands) (leaves.cleaning ∙ cleaning)
+    step_owned w o r f k a Place.Idle after [] at there worker na refl (leave_keeps k.0 lawful leaves) (leaves.slots ∙ slots)
+    (leaves.hands ∙ hands) (leaves.cleaning ∙ cleaning)
     (All-nil (HoldsIn w.stack w.contexts.slots None)) owes (quieter w o r f at fewer h.quiet) h

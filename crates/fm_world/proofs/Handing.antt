@@ -77,12 +77,14 @@ sent_few : (hand : List CtxId) (given : PreVerdict) (operation : Operation) (has
 sent_few hand given operation has_post = grind arith
 
 sent_from : (old : World) (k : WorkerId) (given : PreVerdict) (i : InstanceId) (m : Option FlowRecord)
-    → given_with (sent_in (unwrap_or (option_map (state_given old.stack (hand_of old.contexts.hands k.0) i given) m) PreState.Passed)) ≤ given_with (context_in given)
+    → given_with (sent_in (unwrap_or (option_map (state_given old.stack (hand_of old.contexts.hands k.0) i given) m) PreState.Passed))
+    ≤ given_with (context_in given)
 sent_from old k given i None = omega arith
 sent_from old k given i (Some r) =
     sent_few (hand_of old.contexts.hands k.0) given r.operation (has_post old.stack (slice_get old.stack.instances i.0) r.operation)
 
-resumes_few : (old : World) (k : WorkerId) (o : OpId) (given : PreVerdict) (at : Option InstanceId) → taken_by_resume old k o given at ≤ given_with (context_in given)
+resumes_few : (old : World) (k : WorkerId) (o : OpId) (given : PreVerdict) (at : Option InstanceId)
+    → taken_by_resume old k o given at ≤ given_with (context_in given)
 resumes_few old k o given None = omega arith
 resumes_few old k o given (Some i) = sent_from old k given i (operation_at o old.flow)
 

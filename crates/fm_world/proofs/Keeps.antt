@@ -61,7 +61,8 @@ stack_changes w t stack follows still h = record {
 }
 
 -- and a worker moves outside of operations
-pub worker_moves : (w : World) (t : StackWorld) (k : WorkerId) (a b : Place) → worker_at w.workers k ≡ Some a → Outside a → Outside b → IsStack t → Follows w.stack t
+pub worker_moves : (w : World) (t : StackWorld) (k : WorkerId) (a b : Place) → worker_at w.workers k ≡ Some a → Outside a → Outside b
+    → IsStack t → Follows w.stack t
     → ((d : Desk) (i : ℕ) → IsStaffed d (slice_get t.instances i) (count_by (is_at d i) (put w.workers k b))) → IsUnderWay w
     → IsUnderWay (record w { stack = t; workers = put w.workers k b })
 worker_moves w t k a b at from to stack follows desks h = record {
@@ -106,7 +107,8 @@ pub desk_place : (w : World) (k : WorkerId) (a : Place) (d : Desk) (i : Instance
     → (row : Instance) × (slice_get w.stack.instances i.0 ≡ Some row) × (1 ≤ most_at d row)
 desk_place w k a d i s at is =
     let inside = count-some (is_at d i.0) w.workers k.0 a at is in
-    by_option (λ m. IsStaffed d m (count_by (is_at d i.0) w.workers) → (row : Instance) × (m ≡ Some row) × (1 ≤ most_at d row)) (slice_get w.stack.instances i.0)
+    by_option (λ m. IsStaffed d m (count_by (is_at d i.0) w.workers) → (row : Instance) × (m ≡ Some row) × (1 ≤ most_at d row))
+    (slice_get w.stack.instances i.0)
     (λ none h. absurd (omega (arith, inside, h))) (λ row there h. (row, refl, omega (arith, inside, h.1))) (s.desks d i.0)
 
 -- ---- attach
@@ -121,11 +123,13 @@ none_behind : {A : Type 0} (xs : List A) → slice_get xs (length xs) ≡ None
 none_behind [] = refl
 none_behind (x ∷ xs) = none_behind xs
 
-attach_staffs : (f : FilterId) (v : VolumeId) (name altitude : List ℕ) (i : InstanceId) (d : Desk) (n m : ℕ) → m + one (is_at d i.0 Place.Idle) ≡ n + one (is_at d i.0 (Place.Setup i))
+attach_staffs : (f : FilterId) (v : VolumeId) (name altitude : List ℕ) (i : InstanceId) (d : Desk) (n m : ℕ)
+    → m + one (is_at d i.0 Place.Idle) ≡ n + one (is_at d i.0 (Place.Setup i))
     → n ≡ 0 → IsStaffed d (Some (stack.new_instance f v name altitude)) m
 attach_staffs f v name altitude i d n m moves none = grind (arith, eq-eqb)
 
-pub attach_keeps : (old : World) (k : WorkerId) (f : FilterId) (v : VolumeId) (name altitude : List ℕ) (i : InstanceId) → worker_at old.workers k ≡ Some Place.Idle
+pub attach_keeps : (old : World) (k : WorkerId) (f : FilterId) (v : VolumeId) (name altitude : List ℕ) (i : InstanceId)
+    → worker_at old.workers k ≡ Some Place.Idle
     → first_of (stack.attach_refusals old.stack f v name altitude) ≡ None → i.0 ≡ length old.stack.instances → IsUnderWay old
     → IsUnderWay (record old { stack = stack.attached old.stack f v name altitude; workers = put old.workers k (Place.Setup i) })
 attach_keeps old k f v name altitude i idle free is s =
@@ -139,7 +143,8 @@ attach_keeps old k f v name altitude i idle free is s =
     (staffed_moves old t k Place.Idle (Place.Setup i) i.0 idle (λ d j _. at_none Place.Idle refl d j) (at_desk (Place.Setup i) i refl)
     (λ j apart. others_push rows row j (λ e. apart (e ∙ sym is)))
     (λ d m moves. subst (λ o. IsStaffed d o m) (sym here)
-    (attach_staffs f v name altitude i d (count_by (is_at d i.0) old.workers) m moves (subst (λ o. IsStaffed d o (count_by (is_at d i.0) old.workers)) none (s.desks d i.0)))) s)
+    (attach_staffs f v name altitude i d (count_by (is_at d i.0) old.workers) m moves
+    (subst (λ o. IsStaffed d o (count_by (is_at d i.0) old.workers)) none (s.desks d i.0)))) s)
     s
 
 -- ---- one instance changes, and a worker goes into a callback of it or comes out of it
@@ -150,7 +155,8 @@ pub record RowChanges (s t : StackWorld) (i : ℕ) (x y : Instance) : Type 0 whe
   pub now : slice_get t.instances i ≡ Some y
   pub others : (j : ℕ) → j ≢ i → slice_get t.instances j ≡ slice_get s.instances j
 
-pub row_updated : (s t : StackWorld) (change : Instance → Instance) (i : ℕ) (row : Instance) → t.instances ≡ updated change s.instances i → slice_get s.instances i ≡ Some row
+pub row_updated : (s t : StackWorld) (change : Instance → Instance) (i : ℕ) (row : Instance)
+    → t.instances ≡ updated change s.instances i → slice_get s.instances i ≡ Some row
     → RowChanges s t i row (change row)
 row_updated s t change i row is there = record {
   was = there;
@@ -169,7 +175,8 @@ pub desk_moves : (old : World) (k : WorkerId) (a b : Place) (i : InstanceId) (t 
 desk_moves old k a b i t x y at from to off on row here stack follows s =
     worker_moves old t k a b at from to stack follows
     (staffed_moves old t k a b i.0 at off on row.others
-    (λ d m moves. subst (λ o. IsStaffed d o m) (sym row.now) (here d m moves (subst (λ o. IsStaffed d o (count_by (is_at d i.0) old.workers)) row.was (s.desks d i.0)))) s)
+    (λ d m moves. subst (λ o. IsStaffed d o m) (sym row.now)
+    (here d m moves (subst (λ o. IsStaffed d o (count_by (is_at d i.0) old.workers)) row.was (s.desks d i.0)))) s)
     s
 
 -- a callback is entered
@@ -179,7 +186,8 @@ pub desk_enters : (old : World) (k : WorkerId) (b : Place) (i : InstanceId) (t :
     → IsStaffed d (Some x) (count_by (is_at d i.0) old.workers) → IsStaffed d (Some y) m)
     → IsStack t → Follows old.stack t → IsUnderWay old → IsUnderWay (record old { stack = t; workers = put old.workers k b })
 desk_enters old k b i t x y at outside desk row here stack follows s =
-    desk_moves old k Place.Idle b i t x y at (outside_of Place.Idle refl) (outside_of b outside) (λ d j _. at_none Place.Idle refl d j) (at_desk b i desk) row here stack follows s
+    desk_moves old k Place.Idle b i t x y at (outside_of Place.Idle refl) (outside_of b outside) (λ d j _. at_none Place.Idle refl d j)
+    (at_desk b i desk) row here stack follows s
 
 -- a callback returns
 pub desk_returns : (old : World) (k : WorkerId) (a : Place) (i : InstanceId) (t : StackWorld) (x y : Instance) → worker_at old.workers k ≡ Some a
@@ -198,7 +206,8 @@ setup_place w k i s at =
     let place = desk_place w k (Place.Setup i) AtSetup i s at (eq-eqb i.0 i.0 refl) in
     (place.0, place.1, one_true (is_setup place.0.phase) place.2)
 
-accepted_staffs : (births : ℕ) (i : InstanceId) (row : Instance) → is_setup row.phase ≡ true → Restaffs i.0 (Place.Setup i) Place.Idle (Some row) (Some (accept_row births row))
+accepted_staffs : (births : ℕ) (i : InstanceId) (row : Instance) → is_setup row.phase ≡ true
+    → Restaffs i.0 (Place.Setup i) Place.Idle (Some row) (Some (accept_row births row))
 accepted_staffs births i row was d n m moves h = grind (arith, eq-eqb)
 
 refused_staffs : (i : InstanceId) (row : Instance) → is_setup row.phase ≡ true → Restaffs i.0 (Place.Setup i) Place.Idle (Some row) (Some (refuse_row row))
@@ -206,7 +215,8 @@ refused_staffs i row was d n m moves h = grind (arith, eq-eqb)
 
 -- the callback returns, and the instance leaves its setup
 setup_ends : (old : World) (k : WorkerId) (i : InstanceId) (t : StackWorld) (change : Instance → Instance) (row : Instance) (new : World)
-    → worker_at old.workers k ≡ Some (Place.Setup i) → slice_get old.stack.instances i.0 ≡ Some row → Restaffs i.0 (Place.Setup i) Place.Idle (Some row) (Some (change row))
+    → worker_at old.workers k ≡ Some (Place.Setup i) → slice_get old.stack.instances i.0 ≡ Some row
+    → Restaffs i.0 (Place.Setup i) Place.Idle (Some row) (Some (change row))
     → t.instances ≡ updated change old.stack.instances i.0 → IsStack t → Follows old.stack t → new.stack ≡ t
     → new ≡ record old { stack = new.stack; workers = put old.workers k Place.Idle; contexts = new.contexts } → IsUnderWay old → IsUnderWay new
 setup_ends old k i t change row new at there restaffs rows stack follows made e s =

@@ -13,14 +13,16 @@ use Rattle.fm_world.proofs.Staying.{Lasts, WasGiven, contexts_in, given_not_new,
 -- ---- what is given, and what is due
 
 -- a context that is allocated is new, and was given from then on
-allocated_new : (old : World) (k : WorkerId) (kind : ContextKind) (body : List ℕ) (result : Result CtxId Status) (new : World) → Allocates old k kind body result new
+allocated_new : (old : World) (k : WorkerId) (kind : ContextKind) (body : List ℕ) (result : Result CtxId Status) (new : World)
+    → Allocates old k kind body result new
     → IfOk result (λ c. IsNew old.contexts.slots c × WasGiven new.contexts.slots c)
 unfolding Allocates
 allocated_new old k kind body result new h =
     taken_by (λ r w. IfOk r (λ c. IsNew old.contexts.slots c × WasGiven w.contexts.slots c)) old k result new _ _ h (λ why. tt)
     (λ at is c free e. (e.0, subst (λ (w : World). WasGiven w.contexts.slots c) (sym e.1) (given_placed old.contexts.slots c _ e.0)))
 
-step_gives : (old : World) (s : Step) (r : StepReply) (new : World) (c : CtxId) → Steps old s r new → given_by s r ≡ Some c → IsNew old.contexts.slots c × WasGiven new.contexts.slots c
+step_gives : (old : World) (s : Step) (r : StepReply) (new : World) (c : CtxId) → Steps old s r new → given_by s r ≡ Some c
+    → IsNew old.contexts.slots c × WasGiven new.contexts.slots c
 step_gives old s r new c h is = grind (arith, allocated_new)
 
 -- a context that a worker cleans up isn't due
@@ -56,7 +58,8 @@ reply_is : (slots : List Slot) (due : Due) (m : Option CtxId) → Some due ≡ o
     → (m ≡ Some due.id) × ((x : Context) × (context_at slots due.id ≡ Some x))
 reply_is slots due None h = cc
 reply_is slots due (Some c) h =
-    by_option (λ o. Some due ≡ option_map (due_of c) o → (Some c ≡ Some due.id) × ((x : Context) × (context_at slots due.id ≡ Some x))) (context_at slots c) (λ none h. (cc))
+    by_option (λ o. Some due ≡ option_map (due_of c) o → (Some c ≡ Some due.id) × ((x : Context) × (context_at slots due.id ≡ Some x)))
+    (context_at slots c) (λ none h. (cc))
     (λ x there h.
     let same : due.id ≡ c = ap (λ (d : Due). d.id) (same_Some due (due_of c x) h) in
     (ap (λ (d : CtxId). Some d) (sym same), (x, ap (context_at slots) same ∙ there))) h
@@ -69,12 +72,14 @@ taken_handed old k due new h s =
     let t = taken_due old.contexts k.0 due.id in
     let made : new.contexts ≡ t = ap contexts_in e.1 ∙ ap (taken_of old.contexts k.0) reply.0 in
     let was = given_there old.contexts.slots due.id reply.1.0 reply.1.1 in
-    let within : k.0 < length old.contexts.cleaning = subst (λ n. k.0 < n) (s.under_way.hands ∙ sym s.owned.lawful.cleaners) (slice_get_within old.workers k.0 Place.Idle at) in
+    let within : k.0 < length old.contexts.cleaning = subst (λ n. k.0 < n) (s.under_way.hands ∙ sym s.owned.lawful.cleaners)
+    (slice_get_within old.workers k.0 Place.Idle at) in
     record {
-      came = subst (λ (u : ContextTable). WasGiven u.slots due.id × ((context_at u.slots due.id ≡ None) ⊎ ((n : ℕ) × (cleaning_of u.cleaning n ≡ Some due.id)))) (sym made) (
-        (slots_changed (option_map emptied) old.contexts.slots due.id refl due.id was).0,
-        inr (k.0, get_or-set_same old.contexts.cleaning k.0 (Some due.id) None within),
-      );
+      came = subst (λ (u : ContextTable). WasGiven u.slots due.id
+          × ((context_at u.slots due.id ≡ None) ⊎ ((n : ℕ) × (cleaning_of u.cleaning n ≡ Some due.id)))) (sym made) (
+            (slots_changed (option_map emptied) old.contexts.slots due.id refl due.id was).0,
+            inr (k.0, get_or-set_same old.contexts.cleaning k.0 (Some due.id) None within),
+          );
       fresh = λ came. elim came.1 [ inl gone ↦ none-some reply.1.0 (sym gone ∙ reply.1.1) | inr busy ↦ not_due old due.id s busy reply.0 ];
     }) refl
   where
@@ -91,7 +96,8 @@ step_due old x r new c h is s = grind (arith, taken_handed)
 abbrev Persists : (World → Type 0) → Type 0
 Persists P = (old new : World) → Lasts old new → P old → P new
 
-run_holds : (P : World → Type 0) → Persists P → (old : World) (steps : List Step) (replies : List StepReply) (new : World) → Run old steps replies new → IsSound old → P old → P new
+run_holds : (P : World → Type 0) → Persists P → (old : World) (steps : List Step) (replies : List StepReply) (new : World)
+    → Run old steps replies new → IsSound old → P old → P new
 run_holds P stays old [] [] new h s p = subst P (sym h) p
 run_holds P stays old (x ∷ steps) (r ∷ replies) new h s p =
     run_holds P stays h.0 steps replies new h.2 (step_keeps old x r h.0 h.1 s) (stays old h.0 ((step_does old x r h.0 h.1).lasts s) p)
@@ -103,14 +109,16 @@ record Marks (by : Step → StepReply → Option CtxId) (P : World → CtxId →
   makes : (old : World) (x : Step) (r : StepReply) (new : World) (c : CtxId) → Steps old x r new → IsSound old → by x r ≡ Some c → P new c
   fresh : (old : World) (x : Step) (r : StepReply) (new : World) (c : CtxId) → Steps old x r new → IsSound old → by x r ≡ Some c → P old c → ⊥
 
-run_marks : (by : Step → StepReply → Option CtxId) (P : World → CtxId → Type 0) → Marks by P → (old : World) (steps : List Step) (replies : List StepReply) (new : World) (c : CtxId)
+run_marks : (by : Step → StepReply → Option CtxId) (P : World → CtxId → Type 0) → Marks by P
+    → (old : World) (steps : List Step) (replies : List StepReply) (new : World) (c : CtxId)
     → Run old steps replies new → IsSound old → Comes by steps replies c → P new c
 run_marks by P m old (x ∷ steps) (r ∷ replies) new c h s (inl now) =
     run_holds (λ w. P w c) (m.stays c) h.0 steps replies new h.2 (step_keeps old x r h.0 h.1 s) (m.makes old x r h.0 c h.1 s now)
 run_marks by P m old (x ∷ steps) (r ∷ replies) new c h s (inr later) = run_marks by P m h.0 steps replies new c h.2 (step_keeps old x r h.0 h.1 s) later
 run_marks by P m old _ _ new c h s comes = absurd comes
 
-never_again : (by : Step → StepReply → Option CtxId) (P : World → CtxId → Type 0) → Marks by P → (old : World) (steps : List Step) (replies : List StepReply) (new : World) (c : CtxId)
+never_again : (by : Step → StepReply → Option CtxId) (P : World → CtxId → Type 0) → Marks by P
+    → (old : World) (steps : List Step) (replies : List StepReply) (new : World) (c : CtxId)
     → Run old steps replies new → IsSound old → P old c → Comes by steps replies c → ⊥
 never_again by P m old (x ∷ steps) (r ∷ replies) new c h s p (inl now) = m.fresh old x r h.0 c h.1 s now p
 never_again by P m old (x ∷ steps) (r ∷ replies) new c h s p (inr later) =
@@ -137,11 +145,14 @@ dues = record {
 pub contexts_last : ContextsLast
 contexts_last steps replies mid later answers new first then c =
     let sound = run_keeps empty_world steps replies mid first empty_sound in (
-      λ given. never_again given_by GivenIn gives mid later answers new c then sound (run_marks given_by GivenIn gives empty_world steps replies mid c first empty_sound given),
-      λ due. never_again due_by CameDue dues mid later answers new c then sound (run_marks due_by CameDue dues empty_world steps replies mid c first empty_sound due),
+      λ given. never_again given_by GivenIn gives mid later answers new c then sound
+          (run_marks given_by GivenIn gives empty_world steps replies mid c first empty_sound given),
+      λ due. never_again due_by CameDue dues mid later answers new c then sound
+          (run_marks due_by CameDue dues empty_world steps replies mid c first empty_sound due),
       λ given gone.
           let was = run_marks given_by GivenIn gives empty_world steps replies mid c first empty_sound given in (
-            (run_holds (λ w. GivenIn w c × IsGone w c) (λ old new last p. let k = last.0 c p.0 in (k.0, k.1 p.1)) mid later answers new then sound (was, gone)).1,
+            (run_holds (λ w. GivenIn w c × IsGone w c) (λ old new last p. let k = last.0 c p.0 in (k.0, k.1 p.1)) mid later answers new
+                then sound (was, gone)).1,
             never_again due_by CameDue dues mid later answers new c then sound (was, inl gone),
           ),
     )

@@ -26,7 +26,8 @@ owner_refl o = grind arith
 
 -- ---- allocate
 
-pub allocate_does : (old : World) (k : WorkerId) (what : ContextKind) (body : List ℕ) (result : Result CtxId Status) (new : World) → Allocates old k what body result new
+pub allocate_does : (old : World) (k : WorkerId) (what : ContextKind) (body : List ℕ) (result : Result CtxId Status) (new : World)
+    → Allocates old k what body result new
     → Brings k old result new
 unfolding Allocates
 allocate_does old k what body result new h =
@@ -41,7 +42,8 @@ allocate_does old k what body result new h =
     let fresh = event.0 in
     let owners = owners_placed old.contexts.slots c x fresh in
     let own : belongs old.stack t.slots at.instance c ≡ true =
-    ap (λ m. belongs_by m at.instance (context_at t.slots c)) i.there ∙ ap (belongs_by (Some at.row) at.instance) (context_at-placed old.contexts.slots c x fresh)
+    ap (λ m. belongs_by m at.instance (context_at t.slots c)) i.there
+    ∙ ap (belongs_by (Some at.row) at.instance) (context_at-placed old.contexts.slots c x fresh)
     ∙ owner_refl (owner_by at.row at.instance what) in
     let fit : fits old.stack (Some x) ≡ true =
     and_from (owner_fits old.stack what (owner_by at.row at.instance what)) true
@@ -50,7 +52,8 @@ allocate_does old k what body result new h =
       | _ ↦ (callback_left old k at.instance at.row s i.place i.there).0
     ]) refl in (
       contexts_sound old t k (hand_of old.contexts.hands k.0 ++ c ∷ [])
-          (allocate_keeps k.0 c x s.owned.lawful i.worker fresh refl (leb-false 16 (length (hand_of old.contexts.hands k.0)) frees.1.0)) refl owners refl i.worker
+          (allocate_keeps k.0 c x s.owned.lawful i.worker fresh refl
+          (leb-false 16 (length (hand_of old.contexts.hands k.0)) frees.1.0)) refl owners refl i.worker
           (one_more old t k at c i s.owned owners own) (passes_placed (fits old.stack) old.contexts.slots c x fit s.owned.fits)
           (passes_placed (names_there old.files) old.contexts.slots c x refl s.links) s,
       (slots_placed old.contexts.slots c x fresh, refl),
@@ -87,7 +90,8 @@ found_there w what at m c h5 = grind arith
 asked_for : (w : World) (what : ContextKind) (at : Callback) (others : Option Status) → object_refused w what at others ≡ None → others ≡ None
 asked_for w what at others h4 = grind arith
 
-pub get_does : (old : World) (k : WorkerId) (what : ContextKind) (result : Result CtxId Status) (new : World) → Gets old k what result new → Brings k old result new
+pub get_does : (old : World) (k : WorkerId) (what : ContextKind) (result : Result CtxId Status) (new : World)
+    → Gets old k what result new → Brings k old result new
 unfolding Gets
 get_does old k what result new h =
     asked_by (λ r w. Brings k old r w) old k result new _ _ h (λ why. (nothing old, λ s. refl)) (λ at is c free event.
@@ -100,14 +104,16 @@ get_does old k what result new h =
     let frees = none_refuses ((is_none there, Status.NoContext) ∷ (full, Status.HandFull) ∷ []) refusal in
     let found = found_there old what at object' c event.0 in
     grabbed_makes old k at c i s
-    (get_keeps k.0 c (owner_by at.row at.instance what) found.0 s.owned.lawful i.worker found.2 (leb-false 16 (length (hand_of old.contexts.hands k.0)) frees.1.0))
+    (get_keeps k.0 c (owner_by at.row at.instance what) found.0 s.owned.lawful i.worker found.2
+    (leb-false 16 (length (hand_of old.contexts.hands k.0)) frees.1.0))
     (held_for old k at what found.0 c i s.owned found.2)))
 
 -- ---- delete
 
 -- a context that is set loses its link: its reference goes to the hand where it is wanted
 unlinked_makes : (w : World) (k : WorkerId) (at : Callback) (wants : Bool) (owner : Owner) (object : Object) (d : CtxId) → IsIn w k at → IsSound w
-    → holder w.contexts.slots owner object ≡ Some d → belongs w.stack w.contexts.slots at.instance d ≡ true → (wants && is_hand_full w.contexts.hands k.0) ≡ false
+    → holder w.contexts.slots owner object ≡ Some d → belongs w.stack w.contexts.slots at.instance d ≡ true
+    → (wants && is_hand_full w.contexts.hands k.0) ≡ false
     → Makes w k (unlinked_for (carries w) w.contexts k.0 wants d) (wanted wants d)
 unlinked_makes w k at wants owner object d i s is own room =
     by_wants wants (subst (λ m. IsLawful (carries w) (delete_after (carries w) w.contexts k.0 wants m)) is
@@ -128,10 +134,12 @@ unlinked_makes w k at wants owner object d i s is own room =
     stay : SlotsStay w.contexts.slots slots
     stay = slots_changed (option_map (with_link None)) w.contexts.slots d refl
 
-    by_wants : (b : Bool) → IsLawful (carries w) (unlinked_for (carries w) w.contexts k.0 b d) → Makes w k (unlinked_for (carries w) w.contexts k.0 b d) (wanted b d)
+    by_wants : (b : Bool) → IsLawful (carries w) (unlinked_for (carries w) w.contexts k.0 b d)
+        → Makes w k (unlinked_for (carries w) w.contexts k.0 b d) (wanted b d)
     by_wants true lawful =
         let t = unlinked_for (carries w) w.contexts k.0 true d in
-        let here = one_more w t k at d i s.owned owners (belongs_still w.stack w.contexts.slots w.stack slots (filters_same w.stack) owners at.instance d own) in
+        let here = one_more w t k at d i s.owned owners (belongs_still w.stack w.contexts.slots w.stack slots
+        (filters_same w.stack) owners at.instance d own) in
         (contexts_sound w t k (hand_of w.contexts.hands k.0 ++ d ∷ []) lawful refl owners refl i.worker here fit links s, (stay, refl), refl)
     by_wants false lawful =
         let t = unlinked_for (carries w) w.contexts k.0 false d in
@@ -148,7 +156,8 @@ delete_does old k what wants result new h =
     subst (λ m. Does old new × (IsSound old → HandMore k.0 old new (given_with m))) (sym event.0)
     (hands_out old new k at (delete_after (carries old) old.contexts k.0 wants there) (delete_reply wants there) is event.1 (λ i s.
     let full = wants && is_hand_full old.contexts.hands k.0 in
-    let frees = none_refuses ((is_none there, Status.NoContext) ∷ (full, Status.HandFull) ∷ []) (asked_for old what at (delete_refusal old.contexts k.0 wants there) free) in
+    let frees = none_refuses ((is_none there, Status.NoContext) ∷ (full, Status.HandFull) ∷ [])
+    (asked_for old what at (delete_refusal old.contexts k.0 wants there) free) in
     by_option (λ m. Makes old k (delete_after (carries old) old.contexts k.0 wants m) (delete_reply wants m)) there
     (λ none. (s, still old.contexts, same_hands old.contexts.hands k.0)) (λ d found.
     let o = found_there old what at (object_by at.row at.instance at.file what) d found in
@@ -186,14 +195,17 @@ may_set : (w : World) (k : WorkerId) (at : Callback) (c : CtxId) (x : Context) (
 may_set w k at c x o i s free there of =
     let object' = object_for at (context_at w.contexts.slots c) in
     let hand = hand_of w.contexts.hands k.0 in
-    let frees = none_refuses ((not (holds hand c), Status.NotHeld) ∷ (is_some (link_at w.contexts.slots c), Status.AlreadyLinked) ∷ (is_none object', Status.NoObject)
+    let frees = none_refuses ((not (holds hand c), Status.NotHeld) ∷ (is_some (link_at w.contexts.slots c), Status.AlreadyLinked)
+    ∷ (is_none object', Status.NoObject)
     ∷ (is_past w at object', Status.DeletingObject) ∷ []) free in
     let past = frees.1.1.1.0 in
     let used = is_mounted (slice_get w.stack.volumes at.row.volume.0) in
-    let live = (or_parts (not (is_setup at.row.phase || is_attached at.row.phase)) (not used) (or_parts (is_closing w.stack at.row) (not (is_there w.files object')) past).0).1 in
+    let live = (or_parts (not (is_setup at.row.phase || is_attached at.row.phase)) (not used)
+    (or_parts (is_closing w.stack at.row) (not (is_there w.files object')) past).0).1 in
     let has = not_false (holds hand c) frees.0 in
     let own : same_owner (owner_by at.row at.instance x.kind) x.owner ≡ true =
-    sym (ap (belongs_by (Some at.row) at.instance) there) ∙ sym (ap (λ m. belongs_by m at.instance (context_at w.contexts.slots c)) i.there) ∙ in_hand w k at c i s.owned has in
+    sym (ap (belongs_by (Some at.row) at.instance) there)
+    ∙ sym (ap (λ m. belongs_by m at.instance (context_at w.contexts.slots c)) i.there) ∙ in_hand w k at c i s.owned has in
     grind arith
 
 -- what is set at the object for the owner of the context, the callback may hold too
@@ -207,7 +219,8 @@ other_belongs w k at c d x o i s may is =
 set_each : (P : ContextTable → SetReply → Type 0) (carried : CtxId → ℕ) (t : ContextTable) (w : ℕ) (c : CtxId) (object : Object) (mode : SetMode) (wants : Bool)
     (m : Option CtxId) → (m ≡ None → P (linked t c object) (SetReply.Linked None)) → P t SetReply.HandFull → P t (SetReply.AlreadyDefined None)
     → ((old : CtxId) → m ≡ Some old → P (grabbed t w old) (SetReply.AlreadyDefined (Some old)))
-    → ((old : CtxId) → m ≡ Some old → wants && is_hand_full t.hands w ≡ false → P (linked (unlinked_for carried t w wants old) c object) (SetReply.Linked (wanted wants old)))
+    → ((old : CtxId) → m ≡ Some old → wants && is_hand_full t.hands w ≡ false
+    → P (linked (unlinked_for carried t w wants old) c object) (SetReply.Linked (wanted wants old)))
     → P (set_after carried t w c object mode wants m) (set_reply t w mode wants m)
 set_each P carried t w c object mode wants m fresh full kept grabs replaces = grind arith
 
@@ -234,7 +247,8 @@ set_on old k c mode wants result new at x o is free there of e =
     let own = λ (d : CtxId) (is : held ≡ Some d). other_belongs old k at c d x o i s may is in
     let same : Makes old k old.contexts None = (s, still old.contexts, same_hands old.contexts.hands k.0) in
     set_each (λ t r. IsLawful (carries old) t → Makes old k t (given_reply r)) (carries old) old.contexts k.0 c o mode wants held
-    (λ e law. linked_makes old k c x o law s i.worker there may.link may.here) (λ law. same) (λ law. same) (λ d e law. grabbed_makes old k at d i s law (own d e))
+    (λ e law. linked_makes old k c x o law s i.worker there may.link may.here) (λ law. same) (λ law. same)
+    (λ d e law. grabbed_makes old k at d i s law (own d e))
     (λ d e room law.
     let t = unlinked_for (carries old) old.contexts k.0 wants d in
     let unlinks = unlinked_makes old k at wants x.owner o d i s e (own d e) room in

@@ -20,19 +20,25 @@ pub passes_unlinked : (p : Option Context → Bool) (test : Context → Bool) (x
 passes_unlinked p test x bare h = elim (test x) as (λ b. p (Some (cond b (with_link None x) x)) ≡ true) [ true ↦ bare h | false ↦ h ]
 
 -- contexts that pass a test lose their links
-pub sweeps_owned : (old : World) (test : Context → Bool) (after : ContextTable) → Sweeps (carries old) test old.contexts after → IsOwned old → IsOwned (with_contexts old after)
+pub sweeps_owned : (old : World) (test : Context → Bool) (after : ContextTable) → Sweeps (carries old) test old.contexts after
+    → IsOwned old → IsOwned (with_contexts old after)
 sweeps_owned old test after h s =
     let slots = old.contexts.slots in
     let first : WorkerId = record { 0 = 0 } in
-    let owners = owners_after slots (map (swept_slot test) slots) after.slots (owners_swept test slots) (owners_same (map (swept_slot test) slots) after.slots h.slots) in
-    let fit = passes_swept (fits old.stack) (fits old.stack) test slots refl (λ x. passes_unlinked (fits old.stack) test x (fits_unlinked old.stack x)) s.fits in
-    contexts_owned old after first (hand_of old.contexts.hands 0) (sweep_keeps test s.lawful h) h.cleaning owners (h.hands ∙ same_hands old.contexts.hands 0) (omega arith)
+    let owners = owners_after slots (map (swept_slot test) slots) after.slots (owners_swept test slots)
+    (owners_same (map (swept_slot test) slots) after.slots h.slots) in
+    let fit = passes_swept (fits old.stack) (fits old.stack) test slots refl
+    (λ x. passes_unlinked (fits old.stack) test x (fits_unlinked old.stack x)) s.fits in
+    contexts_owned old after first (hand_of old.contexts.hands 0) (sweep_keeps test s.lawful h) h.cleaning owners (h.hands
+    ∙ same_hands old.contexts.hands 0) (omega arith)
     (same_hand old after first s owners) (subst (AllPass (fits old.stack)) (sym h.slots) fit) s
 
-pub sweeps_named : (old : World) (test : Context → Bool) (after : ContextTable) → Sweeps (carries old) test old.contexts after → NamedIn old → NamedIn (with_contexts old after)
+pub sweeps_named : (old : World) (test : Context → Bool) (after : ContextTable) → Sweeps (carries old) test old.contexts after
+    → NamedIn old → NamedIn (with_contexts old after)
 sweeps_named old test after h named =
     subst (AllPass (names_there old.files)) (sym h.slots)
-    (passes_swept (names_there old.files) (names_there old.files) test old.contexts.slots refl (λ x. passes_unlinked (names_there old.files) test x (λ was. refl)) named)
+    (passes_swept (names_there old.files) (names_there old.files) test old.contexts.slots refl
+    (λ x. passes_unlinked (names_there old.files) test x (λ was. refl)) named)
 
 loses_owned : (old new : World) → LosesLinks old new → IsOwned old → IsOwned new
 loses_owned old new h s = subst IsOwned (sym h.1) (sweeps_owned old (is_on_gone old.files) new.contexts h.0 s)
@@ -43,7 +49,8 @@ left_there f x = by_bool (λ b. names_there f (Some (cond (not b) (with_link Non
 
 loses_named : (old new : World) → LosesLinks old new → NamedIn new
 loses_named old new h =
-    let left = passes_swept (λ o. true) (names_there old.files) (is_on_gone old.files) old.contexts.slots refl (λ x _. left_there old.files x) (λ k d l. refl) in
+    let left = passes_swept (λ o. true) (names_there old.files) (is_on_gone old.files) old.contexts.slots refl
+    (λ x _. left_there old.files x) (λ k d l. refl) in
     subst NamedIn (sym h.1) (subst (AllPass (names_there old.files)) (sym h.0.slots) left)
 
 -- where all but the links held, all holds
@@ -74,12 +81,14 @@ found_changed test other change same [] h = absurd (false≢true h)
 found_changed test other change same (x ∷ xs) h =
     by_bool (λ b. is_some (find test (cond b (change x ∷ xs) (x ∷ change_first other change xs))) ≡ true) (other x)
     (λ _. ap (λ b. is_some (cond b (Some (change x)) (find test xs))) (same x)
-    ∙ by_bool (λ b. is_some (cond b (Some x) (find test xs)) ≡ true → is_some (cond b (Some (change x)) (find test xs)) ≡ true) (test x) (λ _ h. refl) (λ _ h. h) h)
+    ∙ by_bool (λ b. is_some (cond b (Some x) (find test xs)) ≡ true → is_some (cond b (Some (change x)) (find test xs)) ≡ true)
+    (test x) (λ _ h. refl) (λ _ h. h) h)
     (λ _. by_bool (λ b. is_some (cond b (Some x) (find test xs)) ≡ true → is_some (cond b (Some x) (find test (change_first other change xs))) ≡ true) (test x)
     (λ _ h. refl) (λ _ h. found_changed test other change same xs h) h)
 
 phased_there : (g : HandleId) (where' : HandlePhase) (f : FileTable) (l : Option Object) → is_there f l ≡ true → is_there (phased g where' f) l ≡ true
 phased_there g where' f l h = grind (arith, found_changed)
 
-pub moved_there : (operation : Operation) (g : HandleId) (n : ℕ) (f : FileTable) (l : Option Object) → is_there f l ≡ true → is_there (moved_on operation g n f) l ≡ true
+pub moved_there : (operation : Operation) (g : HandleId) (n : ℕ) (f : FileTable) (l : Option Object) → is_there f l ≡ true
+    → is_there (moved_on operation g n f) l ≡ true
 moved_there operation g n f l h = grind (arith, phased_there)

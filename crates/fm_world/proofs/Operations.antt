@@ -29,7 +29,8 @@ pub with_laws : {s : StackWorld} {t : FlowTable} {ws : List Place} → AreInStep
 with_laws u flow = record { stack = u.stack; flow = flow; among = u.among; hands = u.hands; workers = u.workers; drains = u.drains; desks = u.desks }
 
 -- one operation changes, and one worker goes elsewhere with it
-pub step_moves : (w : World) (o : OpId) (r : FlowRecord) (f : FlowRecord → FlowRecord) (k : WorkerId) (a b : Place) → operation_at o w.flow ≡ Some r → worker_at w.workers k ≡ Some a
+pub step_moves : (w : World) (o : OpId) (r : FlowRecord) (f : FlowRecord → FlowRecord) (k : WorkerId) (a b : Place)
+    → operation_at o w.flow ≡ Some r → worker_at w.workers k ≡ Some a
     → ((x : FlowRecord) → Stays x (f x)) → IsAmong w.stack (f r) → BalancesSpots o a b r (f r) → BalancesDrains o a b r (f r)
     → AtNoDesk a → AtNoDesk b → IsUnderWay w
     → AreInStep w.stack (changed o f w.flow) (put w.workers k b)
@@ -38,16 +39,20 @@ step_moves w o r f k a b at worker stays among spots drains from to s =
     record {
       stack = s.stack;
       ascending = still_ascends w.flow o f number s.flow.ascending;
-      among = all_change (IsAmong w.stack) (is_number o) f w.flow.operations (λ x e. subst (λ y. IsAmong w.stack (f y)) (same_Some r x (sym at ∙ e)) among) s.among;
+      among = all_change (IsAmong w.stack) (is_number o) f w.flow.operations
+          (λ x e. subst (λ y. IsAmong w.stack (f y)) (same_Some r x (sym at ∙ e)) among) s.among;
       hands = length-set w.workers k.0 b ∙ s.hands;
       workers = λ p x. tied_moves (λ q. is_in_at q x) (standing x) w.workers w.flow k a b o r f worker at number (spots x) p (s.workers p x);
-      drains = λ p i. tied_moves (λ q. is_in_drain q i) (λ y. drain_opens i y.entries) w.workers w.flow k a b o r f worker at number (drains i) p (s.drains p i);
+      drains = λ p i. tied_moves (λ q. is_in_drain q i) (λ y. drain_opens i y.entries) w.workers w.flow k a b o r f worker at number
+          (drains i) p (s.drains p i);
       desks = λ d i. staffed_still d i w.workers k a b (slice_get w.stack.instances i) worker from to (s.desks d i);
     }
 
 -- and the record is still needed
-pub step_keeps : (w : World) (o : OpId) (r : FlowRecord) (f : FlowRecord → FlowRecord) (k : WorkerId) (a b : Place) → operation_at o w.flow ≡ Some r → worker_at w.workers k ≡ Some a
-    → ((x : FlowRecord) → Stays x (f x)) → flow.IsSound (f r) → is_spent (f r) ≡ false → IsAmong w.stack (f r) → BalancesSpots o a b r (f r) → BalancesDrains o a b r (f r)
+pub step_keeps : (w : World) (o : OpId) (r : FlowRecord) (f : FlowRecord → FlowRecord) (k : WorkerId) (a b : Place)
+    → operation_at o w.flow ≡ Some r → worker_at w.workers k ≡ Some a
+    → ((x : FlowRecord) → Stays x (f x)) → flow.IsSound (f r) → is_spent (f r) ≡ false → IsAmong w.stack (f r)
+    → BalancesSpots o a b r (f r) → BalancesDrains o a b r (f r)
     → AtNoDesk a → AtNoDesk b → IsUnderWay w
     → IsUnderWay (record w { flow = changed o f w.flow; workers = put w.workers k b })
 step_keeps w o r f k a b at worker stays sound needed among spots drains from to s =
@@ -61,7 +66,8 @@ pub undone_at : (r : FlowRecord) (stage : Stage) → r.stage ≡ stage → done_
 undone_at r stage at undone = ap (λ (s : Stage). done_at s (owed r.entries)) at ∙ undone
 
 -- what is told of an operation that is there
-pub told_there : {A : Type 0} (read : FlowRecord → A) (other : A) (o : OpId) (t : FlowTable) (r : FlowRecord) → operation_at o t ≡ Some r → told read other o t ≡ read r
+pub told_there : {A : Type 0} (read : FlowRecord → A) (other : A) (o : OpId) (t : FlowTable) (r : FlowRecord)
+    → operation_at o t ≡ Some r → told read other o t ≡ read r
 told_there read other o t r h = ap (λ m. unwrap_or (option_map read m) other) h
 
 -- ---- the operation that a worker is inside of
@@ -74,7 +80,8 @@ pub record Inside (w : World) (o : OpId) (spot : Spot) : Type 0 where
   pub sound : flow.IsSound row
   pub among : IsAmong w.stack row
 
-inside : (w : World) (k : WorkerId) (a : Place) (o : OpId) (spot : Spot) → worker_at w.workers k ≡ Some a → is_in_at o spot a ≡ true → IsUnderWay w → Inside w o spot
+inside : (w : World) (k : WorkerId) (a : Place) (o : OpId) (spot : Spot) → worker_at w.workers k ≡ Some a → is_in_at o spot a ≡ true
+    → IsUnderWay w → Inside w o spot
 inside w k a o spot at is s =
     let there = tied_there w.workers w.flow k a o spot s.workers at is in
     record {
@@ -94,7 +101,8 @@ inside_pre w k o i at s =
     let x = inside w k (Place.Pre o i) o (AtPre i.0) at (both_same o i) s in
     let spot = spot_pre i.0 x.row.stage x.row.entries x.stands in (x, spot.0, spot.1)
 
-pub inside_base : (w : World) (k : WorkerId) (o : OpId) → worker_at w.workers k ≡ Some (Place.Base o) → IsUnderWay w → (x : Inside w o AtBase) × (x.row.stage ≡ InBase)
+pub inside_base : (w : World) (k : WorkerId) (o : OpId) → worker_at w.workers k ≡ Some (Place.Base o) → IsUnderWay w
+    → (x : Inside w o AtBase) × (x.row.stage ≡ InBase)
 inside_base w k o at s = let x = inside w k (Place.Base o) o AtBase at (eq-eqb o.0 o.0 refl) s in (x, spot_base x.row.stage x.row.entries x.stands)
 
 pub inside_post : (w : World) (k : WorkerId) (o : OpId) (i : InstanceId) → worker_at w.workers k ≡ Some (Place.Post o i) → IsUnderWay w
@@ -108,14 +116,17 @@ pub inside_drain : (w : World) (k : WorkerId) (o : OpId) (i : InstanceId) → wo
 inside_drain w k o i at s = let x = inside w k (Place.Drain o i) o (AtDrain i.0) at (both_same o i) s in (x, spot_drain i x.row.stage x.row.entries x.stands)
 
 -- a worker leaves an operation, which then stands where no worker is inside it
-pub return_keeps : (old : World) (k : WorkerId) (a : Place) (o : OpId) (r : FlowRecord) (f : FlowRecord → FlowRecord) (n : ℕ → ℕ) → worker_at old.workers k ≡ Some a
+pub return_keeps : (old : World) (k : WorkerId) (a : Place) (o : OpId) (r : FlowRecord) (f : FlowRecord → FlowRecord) (n : ℕ → ℕ)
+    → worker_at old.workers k ≡ Some a
     → operation_at o old.flow ≡ Some r → ((x : FlowRecord) → Stays x (f x)) → Matches o a (spot_of r) → is_running (f r).stage ≡ false → InDrains o a n
     → ((i : ℕ) → drain_opens i (f r).entries + n i ≡ drain_opens i r.entries) → AtNoDesk a → flow.IsSound (f r) → is_done r ≡ false → IsAmong old.stack (f r)
     → IsUnderWay old → IsUnderWay (returned old k o f)
 return_keeps old k a o r f n at there stays matches quiet from even outside sound undone among s =
     step_keeps old o r f k a Place.Idle there at stays sound
-    (unspent r (f r) (stays r) undone (found_holds flow.IsSound (is_number o) old.flow.operations r s.flow.sound there)) among (spots_balance o a Place.Idle r (f r) matches (matches_idle o (f r).stage (f r).entries quiet))
-    (drains_balance o a Place.Idle r (f r) n (λ i. 0) from (in_no_drain o Place.Idle (λ p i. refl)) (λ i. omega (arith, even i))) outside (at_none Place.Idle refl) s
+    (unspent r (f r) (stays r) undone (found_holds flow.IsSound (is_number o) old.flow.operations r s.flow.sound there)) among
+    (spots_balance o a Place.Idle r (f r) matches (matches_idle o (f r).stage (f r).entries quiet))
+    (drains_balance o a Place.Idle r (f r) n (λ i. 0) from (in_no_drain o Place.Idle (λ p i. refl)) (λ i. omega (arith, even i)))
+    outside (at_none Place.Idle refl) s
 
 pub not_base_of : (stage : Stage) → is_running stage ≡ false → stage ≡ InBase → ⊥
 not_base_of stage h e = false≢true (sym h ∙ ap is_running e)

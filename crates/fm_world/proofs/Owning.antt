@@ -30,7 +30,8 @@ pub record GoesOnAt (w : World) (j : ℕ) (x y : Instance) : Type 0 where
   pub quiet : is_flown y.phase ≡ false → (is_flown x.phase ≡ false) ⊎ (in_flight j w.flow ≡ 0)
 
 abbrev pub RowsGoOn : World → StackWorld → Type 0
-RowsGoOn w t = (j : ℕ) (row : Instance) → slice_get w.stack.instances j ≡ Some row → (after : Instance) × (slice_get t.instances j ≡ Some after) × GoesOnAt w j row after
+RowsGoOn w t = (j : ℕ) (row : Instance) → slice_get w.stack.instances j ≡ Some row → (after : Instance)
+    × (slice_get t.instances j ≡ Some after) × GoesOnAt w j row after
 
 pub goes_same : (w : World) (j : ℕ) (x y : Instance) → y.filter ≡ x.filter → y.phase ≡ x.phase → GoesOnAt w j x y
 goes_same w j x y filter phase = record {
@@ -76,7 +77,8 @@ rows_quiet w t on quiet j rests =
     let after = on j.0 row there in
     elim (after.2.quiet (sym (ap is_flown_by after.1) ∙ rests)) [ inl was ↦ quiet j (ap is_flown_by there ∙ was) | inr none ↦ none ]) refl
 
-goes_fit : (w : World) (t : StackWorld) → RowsGoOn w t → length w.stack.filters ≤ length t.filters → VolumesStay w.stack t → IsOwned w → AllFit t w.contexts.slots
+goes_fit : (w : World) (t : StackWorld) → RowsGoOn w t → length w.stack.filters ≤ length t.filters → VolumesStay w.stack t → IsOwned w
+    → AllFit t w.contexts.slots
 goes_fit w t on filters volumes h =
     fits_on w.stack t w.contexts.slots (record { filters = filters; volumes = volumes; left = rows_left w t on; keeps = rows_keep w t on }) h.fits
 
@@ -137,8 +139,10 @@ holds_nothing : (s : StackWorld) (slots : List Slot) (m : Option InstanceId) (id
 holds_nothing s slots m [] e h = refl
 holds_nothing s slots m (c ∷ ids) e h = absurd (subst (λ p. HoldsIn s slots p c) e (All-head (HoldsIn s slots m) c ids h))
 
-pub empty_hand : (w : World) (k : WorkerId) (a : Place) → worker_at w.workers k ≡ Some a → place_in (Some a) ≡ None → IsOwned w → hand_of w.contexts.hands k.0 ≡ []
-empty_hand w k a at outside h = holds_nothing w.stack w.contexts.slots (place_in (worker_at w.workers k)) (hand_of w.contexts.hands k.0) (ap place_in at ∙ outside) (h.holders k)
+pub empty_hand : (w : World) (k : WorkerId) (a : Place) → worker_at w.workers k ≡ Some a → place_in (Some a) ≡ None → IsOwned w
+    → hand_of w.contexts.hands k.0 ≡ []
+empty_hand w k a at outside h = holds_nothing w.stack w.contexts.slots (place_in (worker_at w.workers k))
+    (hand_of w.contexts.hands k.0) (ap place_in at ∙ outside) (h.holders k)
 
 -- no cleanup begins or ends
 pub cleaning_stays : (w : World) (cleaning : List (Option CtxId)) (k : WorkerId) (a b : Place) → worker_at w.workers k ≡ Some a → cleaning ≡ w.contexts.cleaning
@@ -151,26 +155,31 @@ cleaning_stays w cleaning k a b at same na nb h n =
     (h k.0 ∙ ap cleanup_in at ∙ na ∙ sym nb) (λ j apart. h j) n
 
 -- a worker goes elsewhere, with another hand; instances keep their filters, and contexts their owners
-pub owned_moves : (w : World) (t : StackWorld) (u : FlowTable) (c : ContextTable) (k : WorkerId) (a b : Place) (hand : List CtxId) → worker_at w.workers k ≡ Some a → k.0 < 48
+pub owned_moves : (w : World) (t : StackWorld) (u : FlowTable) (c : ContextTable) (k : WorkerId) (a b : Place) (hand : List CtxId)
+    → worker_at w.workers k ≡ Some a → k.0 < 48
     → ((n : ℕ) → cleaning_of c.cleaning n ≡ cleanup_in (slice_get (put w.workers k b) n)) → FiltersStay w.stack t → OwnersStay w.contexts.slots c.slots
     → IsLawful (λ id. carried id u) c → c.hands ≡ slice_set w.contexts.hands k.0 hand → All (HoldsIn t c.slots (place_in (Some b))) hand
     → AllCarry t c.slots u.operations → AllFit t c.slots → ((j : InstanceId) → is_flown_by (row_at t j) ≡ false → in_flight j.0 u ≡ 0) → IsOwned w
     → IsOwned (record w { stack = t; flow = u; workers = put w.workers k b; contexts = c })
 owned_moves w t u c k a b hand at worker cleans filters owners lawful hands here carry fit quiet h =
     let is : slice_get (put w.workers k b) k.0 ≡ Some b = slice_get-set_same w.workers k.0 b (slice_get_within w.workers k.0 a at) in
-    owned_with w t u (put w.workers k b) c k hand (belongs_still w.stack w.contexts.slots t c.slots filters owners) (λ j apart. slice_get-set_other w.workers k.0 j b apart) cleans lawful
+    owned_with w t u (put w.workers k b) c k hand (belongs_still w.stack w.contexts.slots t c.slots filters owners)
+    (λ j apart. slice_get-set_other w.workers k.0 j b apart) cleans lawful
     hands worker (subst (λ m. All (HoldsIn t c.slots (place_in m)) hand) (sym is) here) carry fit quiet h
 
 -- a worker goes from one place to another, neither of which is a cleanup, and held nothing; instances go on
 pub goes_owned : (old : World) (k : WorkerId) (a b : Place) (t : StackWorld) → worker_at old.workers k ≡ Some a → place_in (Some a) ≡ None
-    → cleanup_in (Some a) ≡ None → cleanup_in (Some b) ≡ None → RowsGoOn old t → length old.stack.filters ≤ length t.filters → VolumesStay old.stack t → IsSound old
+    → cleanup_in (Some a) ≡ None → cleanup_in (Some b) ≡ None → RowsGoOn old t → length old.stack.filters ≤ length t.filters
+    → VolumesStay old.stack t → IsSound old
     → IsOwned (record old { stack = t; workers = put old.workers k b })
 goes_owned old k a b t at outside na nb on filters volumes s =
     let slots = old.contexts.slots in
     let base = stack_owned old t on filters volumes s.owned in
-    owned_moves old t old.flow old.contexts k a b [] at (worker_below old k a at s.under_way) (cleaning_stays old old.contexts.cleaning k a b at refl na nb s.owned.cleaning)
+    owned_moves old t old.flow old.contexts k a b [] at (worker_below old k a at s.under_way)
+    (cleaning_stays old old.contexts.cleaning k a b at refl na nb s.owned.cleaning)
     (rows_filters old t on) (owners_same slots slots refl) s.owned.lawful
-    (same_hands old.contexts.hands k.0 ∙ ap (slice_set old.contexts.hands k.0) (empty_hand old k a at outside s.owned)) (All-nil (HoldsIn t slots (place_in (Some b))))
+    (same_hands old.contexts.hands k.0 ∙ ap (slice_set old.contexts.hands k.0) (empty_hand old k a at outside s.owned))
+    (All-nil (HoldsIn t slots (place_in (Some b))))
     base.completions base.fits base.quiet s.owned
 
 -- ---- attach
@@ -204,9 +213,11 @@ callback_returns : (old : World) (k : WorkerId) (a : Place) (t : StackWorld) (c 
     → IsLawful (carries old) c → AllFit t c.slots → ((j : InstanceId) → is_flown_by (row_at t j) ≡ false → in_flight j.0 old.flow ≡ 0)
     → IsOwned (record old { stack = t; workers = put old.workers k Place.Idle; contexts = c })
 callback_returns old k a t c at na filters owners s hands cleaning lawful fit quiet =
-    owned_moves old t old.flow c k a Place.Idle [] at (worker_below old k a at s.under_way) (cleaning_stays old c.cleaning k a Place.Idle at cleaning na refl s.owned.cleaning)
+    owned_moves old t old.flow c k a Place.Idle [] at (worker_below old k a at s.under_way)
+    (cleaning_stays old c.cleaning k a Place.Idle at cleaning na refl s.owned.cleaning)
     filters owners lawful hands (All-nil (HoldsIn t c.slots None))
-    (all_carry_still old.stack old.contexts.slots t c.slots old.flow.operations (belongs_still old.stack old.contexts.slots t c.slots filters owners) s.owned.completions) fit
+    (all_carry_still old.stack old.contexts.slots t c.slots old.flow.operations
+    (belongs_still old.stack old.contexts.slots t c.slots filters owners) s.owned.completions) fit
     quiet s.owned
 
 -- contexts fit what instances are then, and name what is there
@@ -214,16 +225,19 @@ abbrev pub OwnsAndNames : World → Type 0
 OwnsAndNames w = IsOwned w × NamedIn w
 
 -- and instances go on
-pub returns_owned : (old : World) (k : WorkerId) (a : Place) (t : StackWorld) (left : ContextTable) → worker_at old.workers k ≡ Some a → cleanup_in (Some a) ≡ None
+pub returns_owned : (old : World) (k : WorkerId) (a : Place) (t : StackWorld) (left : ContextTable) → worker_at old.workers k ≡ Some a
+    → cleanup_in (Some a) ≡ None
     → RowsGoOn old t → length old.stack.filters ≤ length t.filters → VolumesStay old.stack t → Leaves (carries old) old.contexts left k.0 → IsSound old
     → OwnsAndNames (record old { stack = t; workers = put old.workers k Place.Idle; contexts = left })
 returns_owned old k a t left at na on filters volumes leaves s = (
   callback_returns old k a t left at na (rows_filters old t on) (owners_same old.contexts.slots left.slots leaves.slots) s leaves.hands leaves.cleaning
-      (leave_keeps k.0 s.owned.lawful leaves) (subst (AllFit t) (sym leaves.slots) (goes_fit old t on filters volumes s.owned)) (rows_quiet old t on s.owned.quiet),
+      (leave_keeps k.0 s.owned.lawful leaves) (subst (AllFit t) (sym leaves.slots) (goes_fit old t on filters volumes s.owned))
+      (rows_quiet old t on s.owned.quiet),
   subst (AllPass (names_there old.files)) (sym leaves.slots) s.links,
 )
 
-emptied_left : (s : StackWorld) (i j : InstanceId) (row : Instance) → slice_get s.instances i.0 ≡ Some row → is_left_by (row_at s j) ≡ true → is_left_by (row_at (stack.refused s i) j) ≡ true
+emptied_left : (s : StackWorld) (i j : InstanceId) (row : Instance) → slice_get s.instances i.0 ≡ Some row
+    → is_left_by (row_at s j) ≡ true → is_left_by (row_at (stack.refused s i) j) ≡ true
 emptied_left s i j row there =
     at_updated (λ n m. is_left_by (slice_get s.instances n) ≡ true → is_left_by m ≡ true) refuse_row s.instances i.0 row there (λ h. refl) (λ n apart h. h) j.0
 
@@ -239,7 +253,8 @@ emptied_fits : (s : StackWorld) (i : InstanceId) (row : Instance) (x : Context) 
 emptied_fits s i row x h4 h5 = grind (arith, and_parts, owner_stays, emptied_left, and_from, link_stays, others_link, updated-other)
 
 -- and the instance is to be emptied: its contexts lose their links
-pub emptied_owned : (old : World) (k : WorkerId) (a : Place) (i : InstanceId) (row : Instance) (left after : ContextTable) → worker_at old.workers k ≡ Some a → cleanup_in (Some a) ≡ None
+pub emptied_owned : (old : World) (k : WorkerId) (a : Place) (i : InstanceId) (row : Instance) (left after : ContextTable)
+    → worker_at old.workers k ≡ Some a → cleanup_in (Some a) ≡ None
     → slice_get old.stack.instances i.0 ≡ Some row → is_flown row.phase ≡ false → Leaves (carries old) old.contexts left k.0
     → Sweeps (carries old) (is_linked_of (Owner.Instance i)) left after → IsSound old
     → OwnsAndNames (record old { stack = stack.refused old.stack i; workers = put old.workers k Place.Idle; contexts = after })
@@ -248,11 +263,15 @@ emptied_owned old k a i row left after at na there rests leaves empties s =
     let test = is_linked_of (Owner.Instance i) in
     let old_slots = old.contexts.slots in
     let slots : after.slots ≡ map (swept_slot test) old_slots = empties.slots ∙ ap (map (swept_slot test)) leaves.slots in
-    let owners = owners_after old_slots (map (swept_slot test) old_slots) after.slots (owners_swept test old_slots) (owners_same (map (swept_slot test) old_slots) after.slots slots) in
+    let owners = owners_after old_slots (map (swept_slot test) old_slots) after.slots (owners_swept test old_slots)
+    (owners_same (map (swept_slot test) old_slots) after.slots slots) in
     let fit = passes_swept (fits old.stack) (fits t) test old_slots refl (λ x fit. emptied_fits old.stack i row x there fit) s.owned.fits in
-    let named = passes_swept (names_there old.files) (names_there old.files) test old_slots refl (λ x. passes_unlinked (names_there old.files) test x (λ was. refl)) s.links in (
-      callback_returns old k a t after at na (filters_updated old.stack t refuse_row i.0 refl (λ row. refl)) owners s (empties.hands ∙ leaves.hands) (empties.cleaning ∙ leaves.cleaning)
-          (sweep_keeps test (leave_keeps k.0 s.owned.lawful leaves) empties) (subst (AllFit t) (sym slots) fit) (λ j flown. s.owned.quiet j (emptied_flown old.stack i j row there rests flown)),
+    let named = passes_swept (names_there old.files) (names_there old.files) test old_slots refl
+    (λ x. passes_unlinked (names_there old.files) test x (λ was. refl)) s.links in (
+      callback_returns old k a t after at na (filters_updated old.stack t refuse_row i.0 refl (λ row. refl)) owners s (empties.hands
+          ∙ leaves.hands) (empties.cleaning ∙ leaves.cleaning)
+          (sweep_keeps test (leave_keeps k.0 s.owned.lawful leaves) empties) (subst (AllFit t) (sym slots) fit)
+          (λ j flown. s.owned.quiet j (emptied_flown old.stack i j row there rests flown)),
       subst (AllPass (names_there old.files)) (sym slots) named,
     )
 
@@ -276,7 +295,8 @@ setup_owned old k i accept (Ok done) new left at h leaves empties e s =
     ∙ ap (λ c. record old { stack = t; workers = put old.workers k Place.Idle; contexts = c }) empties in
     subst OwnsAndNames (sym made)
     (returns_owned old k (Place.Setup i) t left at refl
-    (row_goes old t i.0 row.0 (accept_row old.stack.births row.0) (row_updated old.stack t (accept_row old.stack.births) i.0 row.0 refl row.1) (accepted_goes old i row.0 row.2))
+    (row_goes old t i.0 row.0 (accept_row old.stack.births row.0)
+    (row_updated old.stack t (accept_row old.stack.births) i.0 row.0 refl row.1) (accepted_goes old i row.0 row.2))
     (omega arith) (λ v h. h) leaves s)
 setup_owned old k i accept (Err why) new left at h leaves empties e s =
     let row = setup_place old k i s.under_way at in
@@ -300,8 +320,15 @@ setup_does old k accept result new h = by_place (worker_at old.workers k) refl h
           record {
             sound = λ s.
                 let owned = setup_owned old k i accept result new e.1 at e.0 e.2 e.3 e.4 s in
-                record { under_way = setup_keeps old k i accept result new at e.0 e.4 s.under_way; owned = owned.0; filed = subst FiledIn (sym e.4) s.filed; links = owned.1 };
-            lasts = λ s. lasts old new new.contexts refl (table_after old.contexts e.1 new.contexts (table_same old.contexts e.1 e.2.slots e.2.cleaning) ends.0);
+                record {
+                  under_way = setup_keeps old k i accept result new at e.0 e.4 s.under_way;
+                  owned = owned.0;
+                  filed =
+                      subst FiledIn (sym e.4) s.filed;
+                  links = owned.1;
+                };
+            lasts = λ s. lasts old new new.contexts refl (table_after old.contexts e.1 new.contexts
+                (table_same old.contexts e.1 e.2.slots e.2.cleaning) ends.0);
           },
           (hand_emptied k.0 old new (ends.1 ∙ e.2.hands)).1,
         )

@@ -47,14 +47,16 @@ names_none path p none = grind arith
 
 -- what begins on a handle that is open, where nothing refuses it
 asked_begun_by : (P : World → Type 0) (old : World) (h : HandleId) (p : Params) → asked_refused old h p ≡ None
-    → ((x : FileHandle) (y : FileStream) → handle_at h old.files ≡ Some x → is_within_limits p ≡ true → is_full old.flow ≡ false → P (begun_on old h p x (Some y))) → P (asked_begun old h p)
+    → ((x : FileHandle) (y : FileStream) → handle_at h old.files ≡ Some x → is_within_limits p ≡ true → is_full old.flow ≡ false
+    → P (begun_on old h p x (Some y))) → P (asked_begun old h p)
 asked_begun_by P old h p free event = grind arith
 
 -- what begins: a listing, a create, or an operation on a handle
 begun_by : (P : World → Type 0) (old : World) (what : Request) → begin_refused old what ≡ None
     → ((v : VolumeId) → is_full old.flow ≡ false → P (after_begin old (Request.List v)))
     → ((v : VolumeId) (path : List ℕ) (mode : CreateMode) → is_full old.flow || has_no_handle_left old ≡ false → P (created_begun old v path mode))
-    → ((h : HandleId) (p : Params) (x : FileHandle) (y : FileStream) → is_create (operation_of p) ≡ false → handle_at h old.files ≡ Some x → is_within_limits p ≡ true
+    → ((h : HandleId) (p : Params) (x : FileHandle) (y : FileStream) → is_create (operation_of p) ≡ false
+    → handle_at h old.files ≡ Some x → is_within_limits p ≡ true
     → is_full old.flow ≡ false → P (begun_on old h p x (Some y))) → P (after_begin old what)
 begun_by P old what free lists h5 asks = grind arith
 
@@ -67,8 +69,10 @@ told_push read p [] r h = by_bool (λ b. unwrap_or (option_map read (cond b (Som
 told_push read p (x ∷ rs) r h = grind (arith, (told_push read p rs r))
 
 -- an operation on a volume of which no more than 32 instances may be visited
-operation_begins : (old : World) (v : VolumeId) (stream : Option StreamId) (handle : Option HandleId) (path : Option (List ℕ)) (p : Params) → are_on path p ≡ true
-    → is_within_limits p ≡ true → is_full old.flow ≡ false → IsUnderWay old → IsUnderWay (record old { flow = begun v stream handle old.stack.births path p old.flow })
+operation_begins : (old : World) (v : VolumeId) (stream : Option StreamId) (handle : Option HandleId) (path : Option (List ℕ))
+    (p : Params) → are_on path p ≡ true
+    → is_within_limits p ≡ true → is_full old.flow ≡ false → IsUnderWay old
+    → IsUnderWay (record old { flow = begun v stream handle old.stack.births path p old.flow })
 operation_begins old v stream handle path p on within free s =
     let fresh = begun_record old.flow.next v stream handle old.stack.births path p in
     let quiet = quiet_is_none Descending [] refl in
@@ -90,7 +94,8 @@ total_push f (x ∷ rs) r none = omega (arith, total_push f rs r none)
 -- a new operation is owed nothing and in flight nowhere
 operation_sound : (old : World) (v : VolumeId) (stream : Option StreamId) (handle : Option HandleId) (path : Option (List ℕ)) (p : Params) (files : FileTable)
     → are_on path p ≡ true → is_within_limits p ≡ true → is_full old.flow ≡ false → IsFileSound files (begun v stream handle old.stack.births path p old.flow)
-    → AllPass (names_there files) old.contexts.slots → IsSound old → IsSound (record old { flow = begun v stream handle old.stack.births path p old.flow; files = files })
+    → AllPass (names_there files) old.contexts.slots → IsSound old
+    → IsSound (record old { flow = begun v stream handle old.stack.births path p old.flow; files = files })
 operation_sound old v stream handle path p files on within free filed links s =
     let r = begun_record old.flow.next v stream handle old.stack.births path p in
     record {
@@ -113,12 +118,14 @@ creates_push : (t : FlowTable) (r : FlowRecord) → count_by is_creating (t.oper
 creates_push t r = sum_by_push (λ (x : FlowRecord). cond (is_creating x) 1 0) t.operations r
 
 -- an operation that is no create begins
-filed_begins : (f g : FileTable) (t : FlowTable) (v : VolumeId) (stream : Option StreamId) (handle : Option HandleId) (born : ℕ) (name : Option (List ℕ)) (p : Params)
+filed_begins : (f g : FileTable) (t : FlowTable) (v : VolumeId) (stream : Option StreamId) (handle : Option HandleId) (born : ℕ)
+    (name : Option (List ℕ)) (p : Params)
     → is_create (operation_of p) ≡ false → Shrinks f g → IsFiled f t → IsFiled g (begun v stream handle born name p t)
 filed_begins f g t v stream handle born name p none shrinks h = grind (arith, creates_push)
 
 -- a create begins where there is room for its handle
-filed_creates : (f : FileTable) (t : FlowTable) (v : VolumeId) (path : List ℕ) (stream : Option StreamId) (handle : Option HandleId) (born : ℕ) (name : Option (List ℕ)) (p : Params)
+filed_creates : (f : FileTable) (t : FlowTable) (v : VolumeId) (path : List ℕ) (stream : Option StreamId) (handle : Option HandleId)
+    (born : ℕ) (name : Option (List ℕ)) (p : Params)
     → nat_le 4096 (length f.handles + creates t) ≡ false → IsFiled f t → IsFiled (created v path t.next f) (begun v stream handle born name p t)
 filed_creates f t v path stream handle born name p room h = grind (arith, common_steps)
 
@@ -126,7 +133,8 @@ filed_creates f t v path stream handle born name p room h = grind (arith, common
 more_creates : (f : FileTable) (rs : List FlowRecord) (r : FlowRecord) (q : StreamId) → uses f rs q ≡ true → uses f (rs ++ r ∷ []) q ≡ true
 more_creates f rs r q h4 = grind (arith, common_steps)
 
-stands_moved : (operation : Operation) (g : HandleId) (n : ℕ) (f : FileTable) (rs : List FlowRecord) (m : ℕ) → Stands none_out f rs m → Stands none_out (moved_on operation g n f) rs m
+stands_moved : (operation : Operation) (g : HandleId) (n : ℕ) (f : FileTable) (rs : List FlowRecord) (m : ℕ) → Stands none_out f rs m
+    → Stands none_out (moved_on operation g n f) rs m
 stands_moved Operation.Cleanup g n f rs m h = stands_phased g (HandlePhase.CleaningUp (record { 0 = n })) f rs m h
 stands_moved Operation.Close g n f rs m h = stands_phased g HandlePhase.Closing f rs m h
 stands_moved _ g n f rs m h = h
@@ -140,7 +148,8 @@ file_lists : (f : FileTable) (t : FlowTable) (v : VolumeId) (born : ℕ) → IsF
 file_lists f t v born h = grind (arith, common_steps)
 
 -- an operation on an open handle begins
-file_begins : (f : FileTable) (t : FlowTable) (v : VolumeId) (g : HandleId) (x : FileHandle) (born : ℕ) (name : Option (List ℕ)) (p : Params) → handle_at g f ≡ Some x
+file_begins : (f : FileTable) (t : FlowTable) (v : VolumeId) (g : HandleId) (x : FileHandle) (born : ℕ) (name : Option (List ℕ))
+    (p : Params) → handle_at g f ≡ Some x
     → is_create (operation_of p) ≡ false
     → IsFileSound f t → IsFileSound (moved_on (operation_of p) g t.next f) (begun v (Some x.stream) (Some g) born name p t)
 file_begins f t v g x born name p at none h =
@@ -152,7 +161,8 @@ file_begins f t v g x born name p at none h =
     (stands_begins f t r (ap (λ b. b && true) none) (on_open f t.operations t.next g x at stands) stands))
 
 -- a create begins
-file_creates : (f : FileTable) (t : FlowTable) (v : VolumeId) (path : List ℕ) (born : ℕ) (name : Option (List ℕ)) (p : Params) → is_create (operation_of p) ≡ true
+file_creates : (f : FileTable) (t : FlowTable) (v : VolumeId) (path : List ℕ) (born : ℕ) (name : Option (List ℕ)) (p : Params)
+    → is_create (operation_of p) ≡ true
     → IsFiled (created v path t.next f) (begun v (Some (stream_for v path t.next f)) None born name p t) → IsFileSound f t
     → IsFileSound (created v path t.next f) (begun v (Some (stream_for v path t.next f)) None born name p t)
 file_creates f t v path born name p create room h =
@@ -179,22 +189,29 @@ creates_sound old v path mode free s =
     let p = Params.Create path mode in
     let stream = Some (stream_for v path old.flow.next old.files) in
     let files = created v path old.flow.next old.files in
-    let room = (or_parts (nat_le 4096 (length old.files.handles + creates old.flow)) (old.files.next == 2 ^ 64 - 1) (or_parts (is_full old.flow) (has_no_handle_left old) free).1).0 in
+    let room = (or_parts (nat_le 4096 (length old.files.handles + creates old.flow)) (old.files.next == 2 ^ 64 - 1)
+    (or_parts (is_full old.flow) (has_no_handle_left old) free).1).0 in
     operation_sound old v stream None (Some path) p files ((bytes_decides path path).1 refl) refl (or_parts (is_full old.flow) (has_no_handle_left old) free).0
     (file_creates old.files old.flow v path old.stack.births (Some path) p refl
     (filed_creates old.files old.flow v path stream None old.stack.births (Some path) p room s.filed.room) s.filed)
     (named_more old.files files old.contexts.slots (created_there v path old.flow.next old.files) s.links) s
 
 -- an operation on a handle begins
-pub asked_sound : (old : World) (h : HandleId) (p : Params) → asked_refused old h p ≡ None → is_create (operation_of p) ≡ false → IsSound old → IsSound (asked_begun old h p)
+pub asked_sound : (old : World) (h : HandleId) (p : Params) → asked_refused old h p ≡ None → is_create (operation_of p) ≡ false
+    → IsSound old → IsSound (asked_begun old h p)
 asked_sound old h p free none s = asked_begun_by IsSound old h p free (λ x y at within room. asks_sound old h p x y none at within room s)
 
 pub begin_does : (old : World) (what : Request) (result : Result OpId Status) (new : World) → Begins old what result new → Does old new × KeepsHands old new
 unfolding Begins
 begin_does old what result new h = memory_by (λ _ w. Does old w × KeepsHands old w) _ result old new _ h (λ why. (nothing old, λ n. refl)) (λ o free e.
     let begun = begun_by (λ w. (w.contexts ≡ old.contexts) × (IsSound old → IsSound w)) old what free
-    (λ v room. (refl, λ s. operation_sound old v None None None Params.List old.files refl refl room (file_lists old.files old.flow v old.stack.births s.filed) s.links s))
-    (λ v path mode room. (refl, λ s. creates_sound old v path mode room s)) (λ h p x y none at within room. (refl, λ s. asks_sound old h p x y none at within room s)) in
+    (λ v room. (
+      refl,
+      λ s. operation_sound old v None None None Params.List old.files refl refl room
+          (file_lists old.files old.flow v old.stack.births s.filed) s.links s,
+    ))
+    (λ v path mode room. (refl, λ s. creates_sound old v path mode room s))
+    (λ h p x y none at within room. (refl, λ s. asks_sound old h p x y none at within room s)) in
     let same = ap contexts_in e.1 ∙ begun.0 in grind arith)
 
 -- ---- an operation goes
@@ -238,7 +255,8 @@ told_without read p t o r pairs at none =
       | inl e ↦
           let before : told read 0 p t ≡ 0 = ap tell (subst (λ n. find (λ (x : FlowRecord). x.number.0 == n) t.operations ≡ Some r) e at) ∙ none in
           let after : told read 0 p (removed o t) ≡ 0 =
-          ap tell (subst (λ n. find (λ (x : FlowRecord). x.number.0 == n) (without_first (is_number o) t.operations) ≡ None) e (found_once o t.operations r pairs at)) in
+          ap tell (subst (λ n. find (λ (x : FlowRecord). x.number.0 == n) (without_first (is_number o) t.operations) ≡ None) e
+          (found_once o t.operations r pairs at)) in
           before ∙ sym after
       | inr e ↦ sym (ap tell (find_without (is_number o) (is_number p) t.operations
           (λ x k. ne_eqb x.number.0 p.0 (λ q. e (sym (eqb-true x.number.0 o.0 k) ∙ q)))))
@@ -249,7 +267,8 @@ filed_collects f o t h =
     let m = operation_at o t in
     let next = collected_by (λ u. u.next ≡ t.next) o t m refl refl (λ r at done. refl) (λ r at done d. refl) in
     let counts = collected_by (λ u. creates u ≤ creates t) o t m refl (omega arith)
-    (λ r at done. let k = count_changed is_creating (is_number o) marked t.operations r at in omega (arith, k)) (λ r at done d. count_without is_creating (is_number o) t.operations) in
+    (λ r at done. let k = count_changed is_creating (is_number o) marked t.operations r at in omega (arith, k))
+    (λ r at done d. count_without is_creating (is_number o) t.operations) in
     record { numbers = omega (arith, next, counts, h.numbers); few = omega (arith, counts, h.few) }
 
 -- an operation that is done was no create under way
@@ -261,7 +280,8 @@ stands_gone : (f : FileTable) (o : OpId) (t : FlowTable) (r : FlowRecord) → op
 stands_gone f o t r at done h =
     let gone = λ (q : StreamId) (x : FlowRecord) (found : operation_at o t ≡ Some x).
     subst (λ (y : FlowRecord). is_creating_on q y ≡ false) (same_Some r x (sym at ∙ found)) (ap (λ b. b && is_on_stream q r.stream) (done_none r done)) in
-    stands_among none_out none_out f t.operations (without_first (is_number o) t.operations) t.next t.next (all_without (IsCreatedOn f) (is_number o) t.operations h.creates_on)
+    stands_among none_out none_out f t.operations (without_first (is_number o) t.operations) t.next t.next
+    (all_without (IsCreatedOn f) (is_number o) t.operations h.creates_on)
     (all_without (IsOn f) (is_number o) t.operations h.operations_on) (omega arith)
     (λ q apart was. ap (λ a. has_handle_on q f || a) (any_without (is_creating_on q) (is_number o) t.operations (λ x found. gone q x found)) ∙ was refl) h
 
@@ -269,16 +289,19 @@ stands_collected : (f : FileTable) (o : OpId) (t : FlowTable) (m : Option FlowRe
     → Stands none_out f (collected_in o t m).operations (collected_in o t m).next
 stands_collected f o t m at h =
     collected_by (λ u. Stands none_out f u.operations u.next) o t m at h
-    (λ r at done. stands_same f t.operations t.next (is_number o) marked r at (record { stream = refl; handle = refl; creating = refl }) h) (λ r at done d. stands_gone f o t r at done h)
+    (λ r at done. stands_same f t.operations t.next (is_number o) marked r at
+    (record { stream = refl; handle = refl; creating = refl }) h) (λ r at done d. stands_gone f o t r at done h)
 
 file_collects : (f : FileTable) (o : OpId) (t : FlowTable) → IsFileSound f t → IsFileSound f (collected_of o t)
 file_collects f o t h = sound_from f (collected_of o t) (filed_collects f o t h.room) (stands_collected f o t (operation_at o t) refl (stands_in f t h))
 
 -- an operation that is done goes, and no drain of it runs
-pub file_gone : (f : FileTable) (o : OpId) (t : FlowTable) (r : FlowRecord) → operation_at o t ≡ Some r → is_done r ≡ true → IsFileSound f t → IsFileSound f (removed o t)
+pub file_gone : (f : FileTable) (o : OpId) (t : FlowTable) (r : FlowRecord) → operation_at o t ≡ Some r → is_done r ≡ true
+    → IsFileSound f t → IsFileSound f (removed o t)
 file_gone f o t r at done h =
     let counts = count_without is_creating (is_number o) t.operations in
-    sound_from f (removed o t) (record { numbers = omega (arith, counts, h.room.numbers); few = omega (arith, counts, h.room.few) }) (stands_gone f o t r at done (stands_in f t h))
+    sound_from f (removed o t) (record { numbers = omega (arith, counts, h.room.numbers); few = omega (arith, counts, h.room.few) })
+    (stands_gone f o t r at done (stands_in f t h))
 
 pub total_without : (f : FlowRecord → ℕ) (test : FlowRecord → Bool) (rs : List FlowRecord) (r : FlowRecord) → find test rs ≡ Some r
     → total f (without_first test rs) + f r ≡ total f rs
@@ -292,7 +315,8 @@ goes_owned w o r at lawful h =
     (all_without (λ (x : FlowRecord). All (AskCarries w.stack w.contexts.slots) (owed x.entries)) (is_number o) w.flow.operations h.completions)
     (λ i rests. omega (arith, total_without (flight i.0) (is_number o) w.flow.operations r at, h.quiet i rests)) h
 
-pub goes_keeps : (w : World) (o : OpId) (r : FlowRecord) → operation_at o w.flow ≡ Some r → is_done r ≡ true → list_any is_running_drain r.entries ≡ false → IsFlow (removed o w.flow)
+pub goes_keeps : (w : World) (o : OpId) (r : FlowRecord) → operation_at o w.flow ≡ Some r → is_done r ≡ true
+    → list_any is_running_drain r.entries ≡ false → IsFlow (removed o w.flow)
     → AreInStep w.stack w.flow w.workers → IsUnderWay (record w { flow = removed o w.flow })
 goes_keeps w o r at done d flow u =
     let quiet = quiet_is_none r.stage r.entries (done_stage r.stage (owed r.entries) done) in
@@ -321,13 +345,15 @@ collect_does old o result new h = makes old (record old { flow = collected_of o 
     let operations = old.flow.operations in
     let u = s.under_way in
     let opens = λ (i : ℕ) (y : FlowRecord). drain_opens i y.entries in
-    collected_by (λ t. IsFlow t → IsLawful (λ c. carried c t) old.contexts → IsFileSound old.files t → IsSound (record old { flow = t })) o old.flow (operation_at o old.flow) refl
+    collected_by (λ t. IsFlow t → IsLawful (λ c. carried c t) old.contexts → IsFileSound old.files t
+    → IsSound (record old { flow = t })) o old.flow (operation_at o old.flow) refl
     (λ flow lawful filed. s)
     (λ r at done flow lawful filed. record {
       under_way = record {
         stack = u.stack;
         flow = flow;
-        among = all_change (IsAmong old.stack) (is_number o) marked operations (λ x k. found_holds (IsAmong old.stack) (is_number o) operations x u.among k) u.among;
+        among = all_change (IsAmong old.stack) (is_number o) marked operations
+            (λ x k. found_holds (IsAmong old.stack) (is_number o) operations x u.among k) u.among;
         hands = u.hands;
         workers = λ p x. u.workers p x ∙ told_same (standing x) p old.flow o r marked at (λ y. refl) refl;
         drains = λ p i. u.drains p i ∙ told_same (opens i) p old.flow o r marked at (λ y. refl) refl;
@@ -345,4 +371,5 @@ collect_does old o result new h = makes old (record old { flow = collected_of o 
       filed = filed;
       links = s.links;
     })
-    (flow_collects old.flow o u.flow) (lawful_alike (collect_balance old.flow o (operation_at o old.flow) refl) s.owned.lawful) (file_collects old.files o old.flow s.filed))
+    (flow_collects old.flow o u.flow) (lawful_alike (collect_balance old.flow o (operation_at o old.flow) refl) s.owned.lawful)
+    (file_collects old.files o old.flow s.filed))

@@ -52,8 +52,10 @@ held_by w kind o i s h = by_row (operation_at o w.flow) refl h
 
 -- ---- one operation changes, and nobody goes anywhere
 
-step_stays : (w : World) (o : OpId) (r : FlowRecord) (f : FlowRecord → FlowRecord) → operation_at o w.flow ≡ Some r → ((x : FlowRecord) → Stays x (f x)) → flow.IsSound (f r)
-    → is_done r ≡ false → IsAmong w.stack (f r) → is_running r.stage ≡ false → is_running (f r).stage ≡ false → ((i : ℕ) → drain_opens i (f r).entries ≡ drain_opens i r.entries) → IsUnderWay w
+step_stays : (w : World) (o : OpId) (r : FlowRecord) (f : FlowRecord → FlowRecord) → operation_at o w.flow ≡ Some r
+    → ((x : FlowRecord) → Stays x (f x)) → flow.IsSound (f r)
+    → is_done r ≡ false → IsAmong w.stack (f r) → is_running r.stage ≡ false → is_running (f r).stage ≡ false
+    → ((i : ℕ) → drain_opens i (f r).entries ≡ drain_opens i r.entries) → IsUnderWay w
     → IsUnderWay (record w { flow = changed o f w.flow })
 step_stays w o r f at stays sound undone among before after drains s =
     let needed = unspent r (f r) (stays r) undone (found_holds flow.IsSound (is_number o) w.flow.operations r s.flow.sound at) in
@@ -65,7 +67,8 @@ step_stays w o r f at stays sound undone among before after drains s =
       flow = flow_changes w.flow o f s.flow number (λ x. (stays x).collected)
           (λ x e. subst (λ y. flow.IsSound (f y)) (same_Some r x (sym at ∙ e)) sound)
           (λ x e. subst (λ y. is_spent (f y) ≡ false) (same_Some r x (sym at ∙ e)) needed);
-      among = all_change (IsAmong w.stack) (is_number o) f w.flow.operations (λ x e. subst (λ y. IsAmong w.stack (f y)) (same_Some r x (sym at ∙ e)) among) s.among;
+      among = all_change (IsAmong w.stack) (is_number o) f w.flow.operations
+          (λ x e. subst (λ y. IsAmong w.stack (f y)) (same_Some r x (sym at ∙ e)) among) s.among;
       hands = s.hands;
       workers = λ p x. s.workers p x ∙ told_same (standing x) p w.flow o r f at number (nowhere x);
       drains = λ p i. s.drains p i ∙ told_same (λ (y : FlowRecord). drain_opens i y.entries) p w.flow o r f at number (drains i);
@@ -99,7 +102,12 @@ pub resumed_balance : (w : World) (o : OpId) (i : InstanceId) (state : PreState)
     → carries_after w o (pre_settled state) c ≡ carries w c + carried_in c (record { number = 0; context = sent_in state })
 resumed_balance w o i state held s c =
     let x = held_by w Hold.Pre o i s held in
-    omega (arith, carried_changed w.flow o x.row (pre_settled state) x.at c, pre_resumed_carries c state x.row (held_pre i.0 x.row x.sound x.held).0 x.sound, taken_sent c state)
+    omega (
+      arith,
+      carried_changed w.flow o x.row (pre_settled state) x.at c,
+      pre_resumed_carries c state x.row (held_pre i.0 x.row x.sound x.held).0 x.sound,
+      taken_sent c state,
+    )
 
 pre_resumed_sound : (old : World) (k : WorkerId) (o : OpId) (i : InstanceId) (given : PreVerdict) (new : World) → place_in (worker_at old.workers k) ≡ Some i
     → is_held_by old Hold.Pre o i ≡ true → LosesLinks (pre_resumed old k o (state_at old k o i given)) new → IsSound old → IsSound new
@@ -125,7 +133,8 @@ pre_resumed_sound old k o i given new place held loses s =
     loses_sound (pre_resumed old k o state) new loses
     (step_stays old o r f x.at (λ y. record { number = refl; collected = refl }) (sound_pre_resumed state r at.0 (counted_from state quiet) x.sound)
     (undone_at r PreHeld at.0 refl)
-    (among_settles old.stack r.volume r.born r.operation r.entries r.stage (pre_leads state) (settle_pre state) (settle_pre_keeps state) (not_base_of (pre_leads state) quiet) x.among)
+    (among_settles old.stack r.volume r.born r.operation r.entries r.stage (pre_leads state) (settle_pre state)
+    (settle_pre_keeps state) (not_base_of (pre_leads state) quiet) x.among)
     (ap is_running at.0) quiet (λ j. omega (arith, drains_pre_settled j state r.entries)) s.under_way)
     (owned_with old old.stack t old.workers (sent old.contexts k m) k (hand_left hand m)
     (belongs_still old.stack slots old.stack (sent old.contexts k m).slots (filters_same old.stack) (owners_same slots (sent old.contexts k m).slots rests.0))
@@ -134,12 +143,19 @@ pre_resumed_sound old k o i given new place held loses s =
     (left_held (HoldsIn old.stack slots (place_in (worker_at old.workers k))) hand m (s.owned.holders k)))
     (subst (λ xs. AllCarry old.stack xs t.operations) (sym rests.0) (carry_changed old.stack slots old.flow o r f x.at
     (subst (All (AskCarries old.stack slots)) (sym settled.2)
-    (asked_carries old.stack slots settled.0 state (owed r.entries) (subst (λ a. CarriesIn old.stack slots a m) (sym visited) (sent_owned old k i m place has s)) (asks_of old o r x.at s.owned)))
+    (asked_carries old.stack slots settled.0 state (owed r.entries)
+    (subst (λ a. CarriesIn old.stack slots a m) (sym visited) (sent_owned old k i m place has s)) (asks_of old o r x.at s.owned)))
     s.owned.completions))
-    (subst (AllFit old.stack) (sym rests.0) s.owned.fits) (quieter old o r f x.at (λ j. omega (arith, pre_resumed_flies j state r at.0 x.sound)) s.owned.quiet) s.owned)
+    (subst (AllFit old.stack) (sym rests.0) s.owned.fits)
+    (quieter old o r f x.at (λ j. omega (arith, pre_resumed_flies j state r at.0 x.sound)) s.owned.quiet) s.owned)
     (subst (λ (files : FileTable). IsFileSound files t)
     (sym (told_there (λ (y : FlowRecord). after_pre state y.operation y.stream (is_created_on y.stream t) old.files) old.files o old.flow r x.at))
-    (file_decided old.files old.flow o r state f x.at (ap is_unanswered at.0) (record { operation = refl; stream = refl; handle = refl; stage = refl }) s.filed))
+    (file_decided old.files old.flow o r state f x.at (ap is_unanswered at.0) (record {
+      operation = refl;
+      stream = refl;
+      handle = refl;
+      stage = refl;
+    }) s.filed))
 
 -- what such an event does: its worker's hand loses what is sent along, and no other changes
 abbrev Takes : World → WorkerId → OpId → PreVerdict → Result (Unit {0}) Status → World → Option InstanceId → Type 0
@@ -149,12 +165,14 @@ Takes old k o given result new place =
 none_taken : (old : World) (k : WorkerId) (o : OpId) (given : PreVerdict) (place : Option InstanceId) (why : Status) → Takes old k o given (Err why) old place
 none_taken old k o given place why = (nothing old, λ s. (refl, refl))
 
-pub resume_pre_does : (old : World) (k : WorkerId) (o : OpId) (given : PreVerdict) (result : Result (Unit {0}) Status) (new : World) → ResumesPre old k o given result new
+pub resume_pre_does : (old : World) (k : WorkerId) (o : OpId) (given : PreVerdict) (result : Result (Unit {0}) Status) (new : World)
+    → ResumesPre old k o given result new
     → Does old new × (IsSound old → OnlyHandOf k.0 old new × HoldsFewer k.0 result (taken_by_resume old k o given (place_in (worker_at old.workers k))) old new)
 unfolding ResumesPre
 resume_pre_does old k o given result new h = by_place (place_in (worker_at old.workers k)) refl h
   where
-    taken : (i : InstanceId) → place_in (worker_at old.workers k) ≡ Some i → is_held_by old Hold.Pre o i ≡ true → LosesLinks (pre_resumed old k o (state_at old k o i given)) new
+    taken : (i : InstanceId) → place_in (worker_at old.workers k) ≡ Some i → is_held_by old Hold.Pre o i ≡ true
+        → LosesLinks (pre_resumed old k o (state_at old k o i given)) new
         → Takes old k o given (Ok tt) new (Some i)
     taken i place held loses =
         let state = state_at old k o i given in
@@ -173,7 +191,8 @@ resume_pre_does old k o given result new h = by_place (place_in (worker_at old.w
     by_place : (p : Option InstanceId) → place_in (worker_at old.workers k) ≡ p → ResumesPreAt old k o given result new p → Takes old k o given result new p
     by_place None place h = refused_by (λ r w. Takes old k o given r w None) Status.WrongStep result old new h (none_taken old k o given None)
     by_place (Some i) place h =
-        answers_by (λ r w. Takes old k o given r w (Some i)) (resume_pre_refused old o i given) result old new _ h (none_taken old k o given (Some i)) (λ done free loses.
+        answers_by (λ r w. Takes old k o given r w (Some i)) (resume_pre_refused old o i given) result old new _ h
+        (none_taken old k o given (Some i)) (λ done free loses.
         let frees = none_refuses ((not (lets_go given), Status.BadRequest) ∷ (not (is_held_by old Hold.Pre o i), Status.NotPended) ∷ []) free in
         taken i place (not_false (is_held_by old Hold.Pre o i) frees.1.0) loses)
 
@@ -183,7 +202,11 @@ pub post_resumed_balance : (w : World) (o : OpId) (i : InstanceId) → is_held_b
     → carries_after w o (post_settled post.Finished) c ≡ carries w c
 post_resumed_balance w o i held s c =
     let x = held_by w Hold.Post o i s held in
-    omega (arith, carried_changed w.flow o x.row (post_settled post.Finished) x.at c, post_resumed_carries c x.row (held_post i.0 x.row x.sound x.held).0 x.sound)
+    omega (
+      arith,
+      carried_changed w.flow o x.row (post_settled post.Finished) x.at c,
+      post_resumed_carries c x.row (held_post i.0 x.row x.sound x.held).0 x.sound,
+    )
 
 post_resumed_sound : (old : World) (o : OpId) (i : InstanceId) → is_held_by old Hold.Post o i ≡ true → IsSound old
     → IsSound (record old { flow = changed o (post_settled post.Finished) old.flow })
@@ -196,11 +219,13 @@ post_resumed_sound old o i held s =
     record {
       under_way = step_stays old o r f x.at (λ y. record { number = refl; collected = refl }) (sound_post_resumed r stage x.sound)
           (undone_at r PostHeld stage refl)
-          (among_settles old.stack r.volume r.born r.operation r.entries r.stage Ascending (settle_post post.Finished) (settle_post_keeps post.Finished) (not_base_of Ascending refl) x.among)
+          (among_settles old.stack r.volume r.born r.operation r.entries r.stage Ascending (settle_post post.Finished)
+          (settle_post_keeps post.Finished) (not_base_of Ascending refl) x.among)
           (ap is_running stage) refl (λ j. omega (arith, drains_post_settled j post.Finished r.entries)) s.under_way;
       owned = flow_owned old (changed o f old.flow) (lawful_alike (λ c. sym (post_resumed_balance old o i held s.under_way c)) s.owned.lawful)
           (carry_changed old.stack old.contexts.slots old.flow o r f x.at
-          (subst (All (AskCarries old.stack old.contexts.slots)) (sym (owed_post_settled PostHeld r.entries post.Finished refl course)) (asks_of old o r x.at s.owned)) s.owned.completions)
+          (subst (All (AskCarries old.stack old.contexts.slots)) (sym (owed_post_settled PostHeld r.entries post.Finished refl course))
+          (asks_of old o r x.at s.owned)) s.owned.completions)
           (quieter old o r f x.at (λ j. omega (arith, post_resumed_flies j r stage x.sound)) s.owned.quiet) s.owned;
       filed = file_step old.files old.flow o r f x.at (answered_same r (f r) refl refl (ap is_unanswered stage) refl) s.filed;
       links = s.links;
@@ -220,7 +245,8 @@ resume_post_does old k o result new h = by_place (place_in (worker_at old.worker
 
 -- ---- the first that is held
 
-pub first_held_does : (old : World) (k : WorkerId) (kind : Hold) (result : Result (Option OpId) Status) (new : World) → FindsHeld old k kind result new → Does old new
+pub first_held_does : (old : World) (k : WorkerId) (kind : Hold) (result : Result (Option OpId) Status) (new : World)
+    → FindsHeld old k kind result new → Does old new
 unfolding FindsHeld
 first_held_does old k kind result new h = by_place (place_in (worker_at old.workers k)) h
   where

@@ -48,7 +48,8 @@ pub taken_sent : (c : CtxId) (state : PreState) → taken_by c state ≡ carried
 taken_sent c state = grind arith
 
 -- what the verdict asks for carries what it sends
-pub asked_carries : (s : StackWorld) (slots : List Slot) (visit : PreVisit) (state : PreState) (asks : List Ask) → CarriesIn s slots visit.instance (sent_in state)
+pub asked_carries : (s : StackWorld) (slots : List Slot) (visit : PreVisit) (state : PreState) (asks : List Ask)
+    → CarriesIn s slots visit.instance (sent_in state)
     → All (AskCarries s slots) asks → All (AskCarries s slots) (option_to_list (ask_in visit state) ++ asks)
 asked_carries s slots visit state asks h5 h6 = grind arith
 
@@ -64,14 +65,21 @@ sent_lawful w o f k None worker law balance has = lawful_alike (λ c. omega (ari
 sent_lawful w o f k (Some d) worker law balance has = carry_keeps (carries_after w o f) k.0 d law worker (has d refl) (λ c. balance c)
 
 -- what a preoperation sends along is carried from then on
-pub pre_balance : (w : World) (k : WorkerId) (o : OpId) (i : InstanceId) (state : PreState) (lent : Data) → worker_at w.workers k ≡ Some (Place.Pre o i) → IsUnderWay w → (c : CtxId)
+pub pre_balance : (w : World) (k : WorkerId) (o : OpId) (i : InstanceId) (state : PreState) (lent : Data)
+    → worker_at w.workers k ≡ Some (Place.Pre o i) → IsUnderWay w → (c : CtxId)
     → carries_after w o (pre_returned_of state lent) c ≡ carries w c + carried_in c (record { number = 0; context = sent_in state })
 pre_balance w k o i state lent at s c =
     let x = inside_pre w k o i at s in
-    omega (arith, carried_changed w.flow o x.0.row (pre_returned_of state lent) x.0.at c, pre_returned_carries c state lent x.0.row x.1 x.0.sound, taken_sent c state)
+    omega (
+      arith,
+      carried_changed w.flow o x.0.row (pre_returned_of state lent) x.0.at c,
+      pre_returned_carries c state lent x.0.row x.1 x.0.sound,
+      taken_sent c state,
+    )
 
 -- and it was in the hand
-pub sent_is_held : (w : World) (k : WorkerId) (o : OpId) (i : InstanceId) (given : PreVerdict) (d : CtxId) → sent_in (state_at w k o i given) ≡ Some d → holds (hand_of w.contexts.hands k.0) d ≡ true
+pub sent_is_held : (w : World) (k : WorkerId) (o : OpId) (i : InstanceId) (given : PreVerdict) (d : CtxId)
+    → sent_in (state_at w k o i given) ≡ Some d → holds (hand_of w.contexts.hands k.0) d ≡ true
 sent_is_held w k o i given d e = grind arith
 
 -- a context that a preoperation sends along may be carried
@@ -101,8 +109,10 @@ pre_same given r s was unanswered d = grind arith
 pre_other : (given : PreState) (r s : FlowRecord) → is_create r.operation ≡ false → Decides given r s → SameFile r s
 pre_other given r s h3 d = grind arith
 
-stands_pre : (f : FileTable) (t : FlowTable) (o : OpId) (r : FlowRecord) (given : PreState) (step : FlowRecord → FlowRecord) (operation : Operation) (s : Option StreamId) (b : Bool)
-    → operation_at o t ≡ Some r → r.operation ≡ operation → r.stream ≡ s → is_unanswered r.stage ≡ true → Decides given r (step r) → is_created_on s (changed o step t) ≡ b
+stands_pre : (f : FileTable) (t : FlowTable) (o : OpId) (r : FlowRecord) (given : PreState) (step : FlowRecord
+    → FlowRecord) (operation : Operation) (s : Option StreamId) (b : Bool)
+    → operation_at o t ≡ Some r → r.operation ≡ operation → r.stream ≡ s → is_unanswered r.stage ≡ true → Decides given r (step r)
+    → is_created_on s (changed o step t) ≡ b
     → Stands none_out f t.operations t.next → Stands none_out (after_pre given operation s b f) (changed o step t).operations t.next
 stands_pre f t o r (PreState.Completed why) step Operation.Create (Some s) b at same stream was d is h =
     stands_ended f t.operations t.next (is_number o) step r s b at stream d.stream d.handle (answered_none (step r) (ap is_unanswered d.stage)) is h
@@ -110,7 +120,8 @@ stands_pre f t o r (PreState.Completed why) step Operation.Create None b at same
     absurd (create_on_none f t.operations t.next (is_number o) r at stream (and_from (is_create r.operation) (is_unanswered r.stage) (ap is_create same) was) h)
 stands_pre f t o r (PreState.Completed why) step _ s b at same stream was d is h =
     stands_same f t.operations t.next (is_number o) step r at (pre_other (PreState.Completed why) r (step r) (ap is_create same) d) h
-stands_pre f t o r given step _ _ b at same stream was d is h = stands_same f t.operations t.next (is_number o) step r at (pre_same given r (step r) was refl d) h
+stands_pre f t o r given step _ _ b at same stream was d is h =
+    stands_same f t.operations t.next (is_number o) step r at (pre_same given r (step r) was refl d) h
 
 pub file_decided : (f : FileTable) (t : FlowTable) (o : OpId) (r : FlowRecord) (given : PreState) (step : FlowRecord → FlowRecord) → operation_at o t ≡ Some r
     → is_unanswered r.stage ≡ true → Decides given r (step r) → IsFileSound f t
@@ -162,20 +173,24 @@ pre_sound old k o i given lent after new at fits leaves loses s =
     (return_keeps old k (Place.Pre o i) o r f (λ j. 0) at x.0.at (λ x. record { number = refl; collected = refl })
     (subst (Matches o (Place.Pre o i)) (sym (ap (λ a. spot_at a r.entries) x.1 ∙ ap (option_map AtPre) x.2)) (matches_pre o i)) quiet
     (in_no_drain o (Place.Pre o i) (λ p j. refl)) (λ j. omega (arith, drains_pre_settled j state r.entries)) (at_none (Place.Pre o i) refl)
-    (sound_pre_returned state lent r x.1 (counted_from state quiet) (sym (told_there (λ (x : FlowRecord). data_fits x.operation x.path lent) false o old.flow r x.0.at) ∙ fits) x.0.sound)
+    (sound_pre_returned state lent r x.1 (counted_from state quiet)
+    (sym (told_there (λ (x : FlowRecord). data_fits x.operation x.path lent) false o old.flow r x.0.at) ∙ fits) x.0.sound)
     (undone_at r PreRunning x.1 refl)
     (among_settles old.stack r.volume r.born r.operation r.entries r.stage (pre_leads state) (settle_pre state) (settle_pre_keeps state)
     (not_base_of (pre_leads state) quiet) x.0.among) s.under_way)
     (left_owned old o r f k (Place.Pre o i) (sent old.contexts k (sent_in state)) after x.0.at at worker refl law rests.0 rests.1 rests.2 leaves
     (subst (All (AskCarries old.stack slots)) (sym settled.2)
     (asked_carries old.stack slots settled.0 state (owed r.entries)
-    (subst (λ x. CarriesIn old.stack slots x (sent_in state)) (sym visited) (sent_owned old k i (sent_in state) (ap place_in at) has s)) (asks_of old o r x.0.at s.owned)))
+    (subst (λ x. CarriesIn old.stack slots x (sent_in state)) (sym visited)
+    (sent_owned old k i (sent_in state) (ap place_in at) has s)) (asks_of old o r x.0.at s.owned)))
     (λ j. omega (arith, pre_returned_flies j state lent r x.1 x.0.sound)) s.owned)
     (subst (λ (files : FileTable). IsFileSound files t)
     (sym (told_there (λ (x : FlowRecord). after_pre state x.operation x.stream (is_created_on x.stream t) old.files) old.files o old.flow r x.0.at))
-    (file_decided old.files old.flow o r state f x.0.at (ap is_unanswered x.1) (record { operation = refl; stream = refl; handle = refl; stage = refl }) s.filed))
+    (file_decided old.files old.flow o r state f x.0.at (ap is_unanswered x.1)
+    (record { operation = refl; stream = refl; handle = refl; stage = refl }) s.filed))
 
-pub pre_does : (old : World) (k : WorkerId) (given : PreVerdict) (lent : Data) (result : Result (Unit {0}) Status) (new : World) → PreReturns old k given lent result new
+pub pre_does : (old : World) (k : WorkerId) (given : PreVerdict) (lent : Data) (result : Result (Unit {0}) Status) (new : World)
+    → PreReturns old k given lent result new
     → Does old new × (OnlyHandOf k.0 old new × HoldsNone k.0 result old new)
 unfolding PreReturns
 pre_does old k given lent result new h = by_place (worker_at old.workers k) refl h
@@ -226,18 +241,24 @@ base_sound old k o call given new at fits loses s =
     loses_sound (base_returned old k o call given) new loses
     (return_keeps old k (Place.Base o) o r f (λ j. 0) at x.0.at (λ x. record { number = refl; collected = refl })
     (subst (Matches o (Place.Base o)) (sym (ap (λ a. spot_at a r.entries) x.1)) (matches_base o)) refl
-    (in_no_drain o (Place.Base o) (λ p j. refl)) (λ j. omega (arith, drains_push j r.entries (Base counts.status counts.information))) (at_none (Place.Base o) refl)
+    (in_no_drain o (Place.Base o) (λ p j. refl)) (λ j. omega (arith, drains_push j r.entries (Base counts.status counts.information)))
+    (at_none (Place.Base o) refl)
     (sound_base call given handle r x.1 fitting x.0.sound) (undone_at r InBase x.1 refl)
     (among_base old.stack r.volume r.born r.operation r.entries r.stage counts.status counts.information no_base' (x.0.among.base x.1) x.0.among) s.under_way)
-    (step_owned old o r f k (Place.Base o) Place.Idle old.contexts (hand_of old.contexts.hands k.0) x.0.at at (worker_below old k (Place.Base o) at s.under_way) refl refl
-    (lawful_alike (λ c. omega (arith, carried_changed old.flow o r f x.0.at c, base_returned_carries c call given handle r)) s.owned.lawful) refl (same_hands old.contexts.hands k.0) refl
+    (step_owned old o r f k (Place.Base o) Place.Idle old.contexts (hand_of old.contexts.hands k.0) x.0.at at
+    (worker_below old k (Place.Base o) at s.under_way) refl refl
+    (lawful_alike (λ c. omega (arith, carried_changed old.flow o r f x.0.at c, base_returned_carries c call given handle r))
+    s.owned.lawful) refl (same_hands old.contexts.hands k.0) refl
     (subst (All (HoldsIn old.stack slots None)) (sym (empty_hand old k (Place.Base o) at refl s.owned)) (All-nil (HoldsIn old.stack slots None)))
-    (subst (All (AskCarries old.stack slots)) (sym (owed_push_none r.entries (Base counts.status counts.information) refl (λ i. refl))) (asks_of old o r x.0.at s.owned))
+    (subst (All (AskCarries old.stack slots)) (sym (owed_push_none r.entries (Base counts.status counts.information) refl (λ i. refl)))
+    (asks_of old o r x.0.at s.owned))
     (quieter old o r f x.0.at (λ i. omega (arith, base_returned_flies i call given handle r)) s.owned.quiet) s.owned)
     (subst (λ (files : FileTable). IsFileSound files t) (sym (told_there (filed_record old.files t given.status) old.files o old.flow r x.0.at))
-    (file_answered old.files old.flow o r f given.status x.0.at (ap is_unanswered x.1) (base_answered old.files call given r (fits_create call given r fitting)) s.filed))
+    (file_answered old.files old.flow o r f given.status x.0.at (ap is_unanswered x.1)
+    (base_answered old.files call given r (fits_create call given r fitting)) s.filed))
 
-pub base_does : (old : World) (k : WorkerId) (call : BaseCall) (given : Answer) (result : Result (Unit {0}) Status) (new : World) → BaseReturns old k call given result new → Does old new
+pub base_does : (old : World) (k : WorkerId) (call : BaseCall) (given : Answer) (result : Result (Unit {0}) Status) (new : World)
+    → BaseReturns old k call given result new → Does old new
 unfolding BaseReturns
 base_does old k call given result new h = by_place (worker_at old.workers k) refl h
   where
@@ -253,7 +274,8 @@ base_does old k call given result new h = by_place (worker_at old.workers k) ref
 post_quiet : (given : PostVerdict) → is_running (post_leads (post_state given)) ≡ false
 post_quiet given = grind arith
 
-pub post_balance : (w : World) (k : WorkerId) (o : OpId) (i : InstanceId) (given : PostVerdict) (lent : Data) → worker_at w.workers k ≡ Some (Place.Post o i) → IsUnderWay w
+pub post_balance : (w : World) (k : WorkerId) (o : OpId) (i : InstanceId) (given : PostVerdict) (lent : Data)
+    → worker_at w.workers k ≡ Some (Place.Post o i) → IsUnderWay w
     → (c : CtxId) → carries_after w o (post_returned_of given lent) c ≡ carries w c
 post_balance w k o i given lent at s c =
     let x = inside_post w k o i at s in
@@ -270,7 +292,8 @@ abbrev pub AreKept : World → Type 0
 AreKept w = IsOwned w × IsFileSound w.files w.flow × AllPass (names_there w.files) w.contexts.slots
 
 -- a callback of an operation that has its answer returns: streams and handles stay, and what has a link has it still
-pub returned_kept : (old : World) (k : WorkerId) (a : Place) (o : OpId) (r : FlowRecord) (f : FlowRecord → FlowRecord) (after : ContextTable) → operation_at o old.flow ≡ Some r
+pub returned_kept : (old : World) (k : WorkerId) (a : Place) (o : OpId) (r : FlowRecord) (f : FlowRecord
+    → FlowRecord) (after : ContextTable) → operation_at o old.flow ≡ Some r
     → worker_at old.workers k ≡ Some a → cleanup_in (Some a) ≡ None → SameFile r (f r) → Leaves (carries_after old o f) old.contexts after k.0
     → ((c : CtxId) → carries_after old o f c ≡ carries old c) → owed (f r).entries ≡ owed r.entries → ((j : ℕ) → flight j (f r) ≤ flight j r)
     → IsSound old → AreKept (record (returned old k o f) { contexts = after })
@@ -281,7 +304,8 @@ returned_kept old k a o r f after at worker outside same leaves balance owes few
   subst (AllPass (names_there old.files)) (sym leaves.slots) s.links,
 )
 
-pub returned_sound : (old : World) (k : WorkerId) (a : Place) (o : OpId) (r : FlowRecord) (f : FlowRecord → FlowRecord) (after : ContextTable) → operation_at o old.flow ≡ Some r
+pub returned_sound : (old : World) (k : WorkerId) (a : Place) (o : OpId) (r : FlowRecord) (f : FlowRecord
+    → FlowRecord) (after : ContextTable) → operation_at o old.flow ≡ Some r
     → worker_at old.workers k ≡ Some a → cleanup_in (Some a) ≡ None → SameFile r (f r) → Leaves (carries_after old o f) old.contexts after k.0
     → ((c : CtxId) → carries_after old o f c ≡ carries old c) → owed (f r).entries ≡ owed r.entries → ((j : ℕ) → flight j (f r) ≤ flight j r)
     → IsUnderWay (returned old k o f) → IsSound old → IsSound (record (returned old k o f) { contexts = after })
@@ -289,7 +313,8 @@ returned_sound old k a o r f after at worker outside same leaves balance owes fe
     let kept = returned_kept old k a o r f after at worker outside same leaves balance owes fewer s in
     record { under_way = under_way; owned = kept.0; filed = kept.1; links = kept.2 }
 
-pub post_does : (old : World) (k : WorkerId) (given : PostVerdict) (lent : Option Data) (result : Result (Unit {0}) Status) (new : World) → PostReturns old k given lent result new
+pub post_does : (old : World) (k : WorkerId) (given : PostVerdict) (lent : Option Data) (result : Result (Unit {0}) Status)
+    (new : World) → PostReturns old k given lent result new
     → Does old new × (OnlyHandOf k.0 old new × HoldsNone k.0 result old new)
 unfolding PostReturns
 post_does old k given lent result new h = by_place lent (worker_at old.workers k) refl h
@@ -299,7 +324,8 @@ post_does old k given lent result new h = by_place lent (worker_at old.workers k
     ends o f e sound = subst (λ r. Ends old k r new) (sym e.0) (grind (arith, common_steps))
 
     by_place : (lent : Option Data) (m : Option Place) → worker_at old.workers k ≡ m → PostReturnsAt old k given lent result new m → Ends old k result new
-    by_place (Some back) (Some (Place.Post o i)) at h = unless_by (λ r w. Ends old k r w) _ _ result old new _ h (none_ends old k) (λ fits e. ends o (post_returned_of given back) e (λ s.
+    by_place (Some back) (Some (Place.Post o i)) at h = unless_by (λ r w. Ends old k r w) _ _ result old new _ h (none_ends old k)
+        (λ fits e. ends o (post_returned_of given back) e (λ s.
         let x = inside_post old k o i at s.under_way in
         let r = x.0.row in
         let f = post_returned_of given back in
@@ -312,7 +338,8 @@ post_does old k given lent result new h = by_place lent (worker_at old.workers k
         (return_keeps old k (Place.Post o i) o r f (λ j. 0) at x.0.at (λ x. record { number = refl; collected = refl })
         (subst (Matches o (Place.Post o i)) (sym (ap (λ a. spot_at a r.entries) x.1 ∙ ap (option_map AtPost) x.2)) (matches_post o i)) (post_quiet given)
         (in_no_drain o (Place.Post o i) (λ p j. refl)) (λ j. omega (arith, drains_post_settled j state r.entries)) (at_none (Place.Post o i) refl)
-        (sound_post_returned given back r x.1 (sym (told_there (λ (x : FlowRecord). data_fits x.operation x.path back) false o old.flow r x.0.at) ∙ fits) x.0.sound)
+        (sound_post_returned given back r x.1 (sym (told_there (λ (x : FlowRecord). data_fits x.operation x.path back) false o old.flow
+        r x.0.at) ∙ fits) x.0.sound)
         (undone_at r PostRunning x.1 refl)
         (among_settles old.stack r.volume r.born r.operation r.entries r.stage (post_leads state) (settle_post state) (settle_post_keeps state)
         (not_base_of (post_leads state) (post_quiet given)) x.0.among) s.under_way) s))
@@ -327,7 +354,8 @@ post_does old k given lent result new h = by_place lent (worker_at old.workers k
         returned_sound old k (Place.Drain o i) o r f new.contexts x.0.at at refl (answered_same r (f r) refl refl (ap is_unanswered x.1) refl) e.1.0
         (drain_balance old k o i at s.under_way) (owed_drain_settled i.0 r.entries) (λ j. omega (arith, drain_returned_flies j i r x.1 x.0.sound))
         (return_keeps old k (Place.Drain o i) o r f (λ j. one (i.0 == j)) at x.0.at (λ x. record { number = refl; collected = refl })
-        (subst (Matches o (Place.Drain o i)) (sym (ap (λ a. spot_at a r.entries) x.1)) (matches_drain o i)) refl (in_a_drain o i) even (at_none (Place.Drain o i) refl)
+        (subst (Matches o (Place.Drain o i)) (sym (ap (λ a. spot_at a r.entries) x.1)) (matches_drain o i)) refl (in_a_drain o i) even
+        (at_none (Place.Drain o i) refl)
         (sound_drain_returned i r x.1 x.0.sound) (undone_at r (InDrain i) x.1 refl)
         (among_settles old.stack r.volume r.born r.operation r.entries r.stage Ascending (settle_drain i.0) (settle_drain_keeps i.0)
         (not_base_of Ascending refl) x.0.among) s.under_way) s)

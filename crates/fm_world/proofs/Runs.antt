@@ -52,7 +52,8 @@ passes_at p slots c x there all =
 unlinked : (s : StackWorld) (x : Context) (l : Option Object) → may_link s x.owner ≡ false → link_fits s x l ≡ true → one (is_some l) ≡ 0
 unlinked s x l gone fit = grind arith
 
-not_linked : (s : StackWorld) (slots : List Slot) (c : CtxId) (i : InstanceId) (x : Context) → keeps_links_by (row_at s i) ≡ false → context_at slots c ≡ Some x → x.owner ≡ Owner.Instance i
+not_linked : (s : StackWorld) (slots : List Slot) (c : CtxId) (i : InstanceId) (x : Context) → keeps_links_by (row_at s i) ≡ false
+    → context_at slots c ≡ Some x → x.owner ≡ Owner.Instance i
     → AllPass (fits s) slots → link_count (context_at slots c) ≡ 0
 not_linked s slots c i x gone there own all =
     let fit = passes_at (fits s) slots c x there all in
@@ -74,18 +75,21 @@ not_held w i c x k s gone there own h =
     let same : row_at w.stack j ≡ row_at w.stack i = ap (slice_get w.stack.instances) (callback_of_owner w.stack w.contexts.slots c i j x there own held) in
     true≢false (sym (callback_left w k j row.0 s is row.1).1 ∙ ap keeps_links_by same ∙ gone)) h
 
-none_held : (w : World) (i : InstanceId) (c : CtxId) (x : Context) → IsSound w → keeps_links_by (row_at w.stack i) ≡ false → context_at w.contexts.slots c ≡ Some x
+none_held : (w : World) (i : InstanceId) (c : CtxId) (x : Context) → IsSound w → keeps_links_by (row_at w.stack i) ≡ false
+    → context_at w.contexts.slots c ≡ Some x
     → x.owner ≡ Owner.Instance i → held w.contexts.hands c ≡ 0
 none_held w i c x s gone there own = held_none w.contexts.hands c (λ n.
     let k : WorkerId = record { 0 = n } in
     let hand = hand_of w.contexts.hands n in
     by_bool (λ b. holds hand c ≡ b → references hand c ≡ 0) (holds hand c)
-    (λ _ has. absurd (not_held w i c x k s gone there own (held_has (HoldsIn w.stack w.contexts.slots (place_in (worker_at w.workers k))) hand c (s.owned.holders k) has)))
+    (λ _ has. absurd (not_held w i c x k s gone there own
+    (held_has (HoldsIn w.stack w.contexts.slots (place_in (worker_at w.workers k))) hand c (s.owned.holders k) has)))
     (λ _ lacks. none_if_not_held hand c lacks) refl)
 
 -- ---- carried
 
-uncarried : (s : StackWorld) (slots : List Slot) (c : CtxId) (i : InstanceId) (x : Context) (asks : List Ask) → context_at slots c ≡ Some x → x.owner ≡ Owner.Instance i
+uncarried : (s : StackWorld) (slots : List Slot) (c : CtxId) (i : InstanceId) (x : Context) (asks : List Ask)
+    → context_at slots c ≡ Some x → x.owner ≡ Owner.Instance i
     → times i.0 (instances asks) ≡ 0 → All (AskCarries s slots) asks → carried_among c asks ≡ 0
 uncarried s slots c i x [] there own none all = refl
 uncarried s slots c i x (ask ∷ asks) there own none all =
@@ -94,16 +98,24 @@ uncarried s slots c i x (ask ∷ asks) there own none all =
     (λ _ e. absurd (true≢false (sym (eq-eqb ask.instance.0 i.0 (callback_of_owner s slots c i ask.instance x there own
     (subst (λ y. belongs s slots ask.instance y ≡ true) (is_id-same c d e) h))) ∙ apart))) (λ _ _. refl) refl in
     let here : carried_in c ask.completion ≡ 0 =
-    (elim ask.completion.context as (λ o. CarriesIn s slots ask.instance o → carried_in c (record { number = 0; context = o }) ≡ 0) [ None ↦ λ h. refl | Some d ↦ other d ])
+    (elim ask.completion.context as (λ o. CarriesIn s slots ask.instance o → carried_in c (record { number = 0; context = o }) ≡ 0)
+    [ None ↦ λ h. refl | Some d ↦ other d ])
     (All-head (AskCarries s slots) ask asks all) in
     omega (arith, here, uncarried s slots c i x asks there own (omega (arith, none)) (All-tail (AskCarries s slots) ask asks all))
 
-none_carried : (s : StackWorld) (slots : List Slot) (c : CtxId) (i : InstanceId) (x : Context) (rs : List FlowRecord) → context_at slots c ≡ Some x → x.owner ≡ Owner.Instance i
+none_carried : (s : StackWorld) (slots : List Slot) (c : CtxId) (i : InstanceId) (x : Context) (rs : List FlowRecord)
+    → context_at slots c ≡ Some x → x.owner ≡ Owner.Instance i
     → total (flight i.0) rs ≡ 0 → AllCarry s slots rs → total (carried_by c) rs ≡ 0
 none_carried s slots c i x [] there own none all = refl
 none_carried s slots c i x (r ∷ rs) there own none all =
-    let here = uncarried s slots c i x (owed r.entries) there own (omega (arith, none)) (All-head (λ (y : FlowRecord). All (AskCarries s slots) (owed y.entries)) r rs all) in
-    omega (arith, here, none_carried s slots c i x rs there own (omega (arith, none)) (All-tail (λ (y : FlowRecord). All (AskCarries s slots) (owed y.entries)) r rs all))
+    let here = uncarried s slots c i x (owed r.entries) there own (omega (arith, none))
+    (All-head (λ (y : FlowRecord). All (AskCarries s slots) (owed y.entries)) r rs all) in
+    omega (
+      arith,
+      here,
+      none_carried s slots c i x rs there own (omega (arith, none))
+          (All-tail (λ (y : FlowRecord). All (AskCarries s slots) (owed y.entries)) r rs all),
+    )
 
 -- ---- all three
 
@@ -162,7 +174,12 @@ none_counted : (o : Owner) (slots : List Slot) → All (λ (x : Slot). is_open o
 none_counted o [] h = refl
 none_counted o (x ∷ slots) h =
     let none : ◌≡◌ {A = ℕ} (cond (is_open o x.context) 1 0) 0 = ap (λ b. cond b 1 0) (All-head (λ (y : Slot). is_open o y.context ≡ false) x slots h) in
-    omega (arith, count-cons (λ (y : Slot). is_open o y.context) x slots, none, none_counted o slots (All-tail (λ (y : Slot). is_open o y.context ≡ false) x slots h))
+    omega (
+      arith,
+      count-cons (λ (y : Slot). is_open o y.context) x slots,
+      none,
+      none_counted o slots (All-tail (λ (y : Slot). is_open o y.context ≡ false) x slots h),
+    )
 
 flown_is_left : (m : Option Instance) → is_left_by m ≡ false → is_flown_by m ≡ false
 flown_is_left m h = grind arith

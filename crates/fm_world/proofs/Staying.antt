@@ -49,7 +49,8 @@ placed_given : (slots : List Slot) (d : CtxId) (x : Context) (c : CtxId) → IsN
 placed_given slots d x c (inl new) was = grind (arith, some_of, eq-eqb, slice_get-kept)
 placed_given slots d x c (inr new) was =
     let within = slice_get_within slots d.slot new.0 new.1 in
-    ap (λ b. given_in c (slice_get (cond b (slots ++ new_slot d x ∷ []) (slice_set slots d.slot (new_slot d x))) c.slot)) (ne_eqb d.slot (length slots) (λ e. omega (arith, e, within)))
+    ap (λ b. given_in c (slice_get (cond b (slots ++ new_slot d x ∷ []) (slice_set slots d.slot (new_slot d x))) c.slot))
+    (ne_eqb d.slot (length slots) (λ e. omega (arith, e, within)))
     ∙ at_written (λ j m. c.slot ≡ j → given_in c m ≡ true) slots d.slot (new_slot d x) within
     (λ is. let below = leb-true c.generation new.0.generation (sym (ap (given_in c) new.1) ∙ ap (λ j. given_in c (slice_get slots j)) (sym is) ∙ was) in
     le-leb c.generation d.generation (omega (arith, new.3, below)))
@@ -103,7 +104,8 @@ kept old new e = lasts old new old.contexts e (still old.contexts)
 pub loses_lasts : (old mid new : World) → LosesLinks mid new → TableStays old.contexts mid.contexts → Lasts old new
 loses_lasts old mid new h stay =
     lasts old new new.contexts refl
-    (table_after old.contexts mid.contexts new.contexts stay (subst (SlotsStay mid.contexts.slots) (sym h.0.slots) (slots_swept _ mid.contexts.slots), h.0.cleaning))
+    (table_after old.contexts mid.contexts new.contexts stay
+    (subst (SlotsStay mid.contexts.slots) (sym h.0.slots) (slots_swept _ mid.contexts.slots), h.0.cleaning))
 
 -- ---- hands
 
@@ -119,7 +121,8 @@ Gives k old m new = new ≡ slice_set old k (given_hand (hand_of old k) m)
 abbrev pub HandMore : ℕ → World → World → ℕ → Type 0
 HandMore k old new n = OnlyHandOf k old new × (hand_len k new ≡ hand_len k old + n)
 
-pub hand_given : (k : ℕ) (old new : World) (m : Option CtxId) → k < length old.contexts.hands → Gives k old.contexts.hands m new.contexts.hands → HandMore k old new (given_with m)
+pub hand_given : (k : ℕ) (old new : World) (m : Option CtxId) → k < length old.contexts.hands
+    → Gives k old.contexts.hands m new.contexts.hands → HandMore k old new (given_with m)
 hand_given k old new m within e = grind (arith, common_steps)
 
 -- the hand is empty, and no other hand changes

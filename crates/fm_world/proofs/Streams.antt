@@ -17,7 +17,8 @@ any_change : {A : Type 0} (p test : A → Bool) (f : A → A) (rs : List A) → 
 any_change p test f [] same = refl
 any_change p test f (x ∷ rs) same = grind (arith, (any_change p test f rs))
 
-pub any_without : {A : Type 0} (p test : A → Bool) (rs : List A) → ((r : A) → find test rs ≡ Some r → p r ≡ false) → list_any p (without_first test rs) ≡ list_any p rs
+pub any_without : {A : Type 0} (p test : A → Bool) (rs : List A) → ((r : A) → find test rs ≡ Some r → p r ≡ false)
+    → list_any p (without_first test rs) ≡ list_any p rs
 any_without p test [] none = refl
 any_without p test (x ∷ rs) none = grind (arith, (any_without p test rs))
 
@@ -48,7 +49,8 @@ pairs_head R x xs h = λ k d within. h 0 (suc k) d (omega arith) (omega (arith, 
 pairs_tail : {A : Type 0} (R : A → A → Type 0) (x : A) (xs : List A) → AllPairs R (x ∷ xs) → AllPairs R xs
 pairs_tail R x xs h = λ i j d below within. h (suc i) (suc j) d (omega (arith, below)) (omega (arith, within))
 
-pub pairs_change : {A : Type 0} (R : A → A → Type 0) (test : A → Bool) (f : A → A) (rs : List A) → ((x y : A) → R x y → R (f x) y) → ((x y : A) → R x y → R x (f y))
+pub pairs_change : {A : Type 0} (R : A → A → Type 0) (test : A → Bool) (f : A → A) (rs : List A) → ((x y : A) → R x y → R (f x) y)
+    → ((x y : A) → R x y → R x (f y))
     → AllPairs R rs → AllPairs R (change_first test f rs)
 pairs_change R test f [] front back h = h
 pairs_change R test f (x ∷ rs) front back h =
@@ -76,14 +78,16 @@ all_others {A = A} P test (x ∷ rs) once h =
     (λ e. All-cons P x (without_first test rs) (All-head (λ x. test x ≡ false → P x) x rs h e) (all_others P test rs (pairs_tail Once x rs once) tail))
 
 -- and what holds of the one that is found holds of each that passes
-all_passing : {A : Type 0} (P : A → Type 0) (test : A → Bool) (rs : List A) (r : A) → AllPairs (λ x y. test x ≡ true → test y ≡ false) rs → find test rs ≡ Some r → P r
+all_passing : {A : Type 0} (P : A → Type 0) (test : A → Bool) (rs : List A) (r : A)
+    → AllPairs (λ x y. test x ≡ true → test y ≡ false) rs → find test rs ≡ Some r → P r
     → All (λ x. test x ≡ true → P x) rs
 all_passing P test [] r once found here = absurd (none-some r found)
 all_passing {A = A} P test (x ∷ rs) r once found here =
     let Once = λ (x y : A). test x ≡ true → test y ≡ false in
     let Q = λ (y : A). test y ≡ true → P y in
     by_bool (λ c. cond c (Some x) (find test rs) ≡ Some r → All Q (x ∷ rs)) (test x)
-    (λ e is. All-cons Q x rs (λ passes. subst P (sym (same_Some x r is)) here) (λ k d l passes. absurd (false≢true (sym (pairs_head Once x rs once k d l e) ∙ passes))))
+    (λ e is. All-cons Q x rs (λ passes. subst P (sym (same_Some x r is)) here)
+    (λ k d l passes. absurd (false≢true (sym (pairs_head Once x rs once k d l e) ∙ passes))))
     (λ e is. All-cons Q x rs (λ passes. absurd (false≢true (sym e ∙ passes))) (all_passing P test rs r (pairs_tail Once x rs once) is here)) found
 
 -- ---- numbers
@@ -159,12 +163,18 @@ pub stands_among : (out then : StreamId → Bool) (f : FileTable) (rs qs : List 
     → ((q : StreamId) → then q ≡ false → (out q ≡ false → uses f rs q ≡ true) → uses f qs q ≡ true) → Stands out f rs n → Stands then f qs m
 stands_among out then f rs qs n m creates on later uses_on h = grind arith
 
-pub stands_opened : (s : StreamId) (f : FileTable) (rs : List FlowRecord) (n : ℕ) → has_stream f s ≡ true → Stands none_out f rs n → Stands none_out (opened s f) rs n
+pub stands_opened : (s : StreamId) (f : FileTable) (rs : List FlowRecord) (n : ℕ) → has_stream f s ≡ true → Stands none_out f rs n
+    → Stands none_out (opened s f) rs n
 stands_opened s f rs n there h = grind (arith, common_steps)
 
-on_closed : (g : HandleId) (f : FileTable) (stream : Option StreamId) (handle : Option HandleId) → IsOnHandle f stream handle → IsOnHandle (closed g f) stream handle
+on_closed : (g : HandleId) (f : FileTable) (stream : Option StreamId) (handle : Option HandleId) → IsOnHandle f stream handle
+    → IsOnHandle (closed g f) stream handle
 on_closed g f stream None h = tt
-on_closed g f stream (Some k) h = (h.0, all_without (λ (x : FileHandle). is_handle k x ≡ true → is_on_stream x.stream stream ≡ true) (is_handle g) f.handles h.1)
+on_closed g f stream (Some k) h = (
+  h.0,
+  all_without (λ (x : FileHandle). is_handle k x ≡ true → is_on_stream x.stream stream ≡ true)
+      (is_handle g) f.handles h.1,
+)
 
 -- a handle of that stream closes
 pub stands_closed : (s : StreamId) (g : HandleId) (f : FileTable) (rs : List FlowRecord) (n : ℕ) → IsOnHandle f (Some s) (Some g) → Stands none_out f rs n
@@ -181,17 +191,20 @@ stands_closed s g f rs n on h = record {
   in_use = λ k d l other. let q = (get_or f.streams k d).number in
       ap (λ b. b || list_any (is_creating_on q) rs) (any_without (is_on q) (is_handle g) f.handles (λ r found.
       apart_from q.0 r.stream.0 s.0 other (same_number s.0 r.stream.0
-      (found_holds (λ (y : FileHandle). is_handle g y ≡ true → is_on_stream y.stream (Some s) ≡ true) (is_handle g) f.handles r on.1 found (found_passes (is_handle g) f.handles r found)))))
+      (found_holds (λ (y : FileHandle). is_handle g y ≡ true → is_on_stream y.stream (Some s) ≡ true)
+      (is_handle g) f.handles r on.1 found (found_passes (is_handle g) f.handles r found)))))
       ∙ h.in_use k d l refl;
 }
 
-on_phased : (g : HandleId) (p : HandlePhase) (f : FileTable) (stream : Option StreamId) (handle : Option HandleId) → IsOnHandle f stream handle → IsOnHandle (phased g p f) stream handle
+on_phased : (g : HandleId) (p : HandlePhase) (f : FileTable) (stream : Option StreamId) (handle : Option HandleId)
+    → IsOnHandle f stream handle → IsOnHandle (phased g p f) stream handle
 on_phased g p f stream None h = tt
 on_phased g p f stream (Some k) h =
     let P = λ (x : FileHandle). is_handle k x ≡ true → is_on_stream x.stream stream ≡ true in
     (h.0, all_kept P (is_handle g) (with_phase p) f.handles (λ x k. k) h.1)
 
-pub stands_phased : (g : HandleId) (p : HandlePhase) (f : FileTable) (rs : List FlowRecord) (n : ℕ) → Stands none_out f rs n → Stands none_out (phased g p f) rs n
+pub stands_phased : (g : HandleId) (p : HandlePhase) (f : FileTable) (rs : List FlowRecord) (n : ℕ) → Stands none_out f rs n
+    → Stands none_out (phased g p f) rs n
 stands_phased g p f rs n h = record {
   streams = h.streams;
   handles = record {
@@ -216,7 +229,8 @@ stands_marked s f rs n h = record {
   streams = record {
     ascend = pairs_change (λ (x y : FileStream). x.number.0 < y.number.0) (is_stream s) with_mark f.streams (λ x y k. k) (λ x y k. k) h.streams.ascend;
     born = all_kept (λ (x : FileStream). x.number.0 < n) (is_stream s) with_mark f.streams (λ x k. k) h.streams.born;
-    paths = pairs_change (λ (x y : FileStream). is_at_path y.volume y.path x ≡ false) (is_stream s) with_mark f.streams (λ x y k. k) (λ x y k. k) h.streams.paths;
+    paths = pairs_change (λ (x y : FileStream). is_at_path y.volume y.path x ≡ false) (is_stream s) with_mark f.streams (λ x y k. k)
+        (λ x y k. k) h.streams.paths;
   };
   handles = h.handles;
   handles_on = λ k d l. marked_has s f (get_or f.handles k d).stream ∙ h.handles_on k d l;
@@ -239,7 +253,8 @@ stands_left s b f rs n is h =
     by_bool (λ c. Stands none_out (cond c f (torn_down s f)) rs n) (has_handle_on s f || b)
     (λ e. stands_among (that s) none_out f rs rs n n h.creates_on h.operations_on (omega arith) (λ q apart was.
     by_bool (λ c. (q.0 == s.0) ≡ c → uses f rs q ≡ true) (q.0 == s.0)
-    (λ _ same. subst (λ m. uses f rs (record { 0 = m }) ≡ true) (sym (eqb-true q.0 s.0 same)) (ap (λ a. has_handle_on s f || a) is ∙ e)) (λ _ other. was other) refl) h)
+    (λ _ same. subst (λ m. uses f rs (record { 0 = m }) ≡ true) (sym (eqb-true q.0 s.0 same)) (ap (λ a. has_handle_on s f || a) is
+    ∙ e)) (λ _ other. was other) refl) h)
     (λ e.
     let parts = or_parts (has_handle_on s f) b e in
     let no_handle = none_of (is_on s) f.handles parts.0 in
@@ -278,23 +293,27 @@ pub fresh_there : (v : VolumeId) (path : List ℕ) (n : ℕ) (f : FileTable) →
 fresh_there v path n f = grind (arith, any_pushed, eq-eqb, found_any)
 
 -- an operation that begins on an open handle is on its stream
-pub on_open : (f : FileTable) (rs : List FlowRecord) (n : ℕ) (g : HandleId) (x : FileHandle) → handle_at g f ≡ Some x → Stands none_out f rs n → IsOnHandle f (Some x.stream) (Some g)
+pub on_open : (f : FileTable) (rs : List FlowRecord) (n : ℕ) (g : HandleId) (x : FileHandle) → handle_at g f ≡ Some x
+    → Stands none_out f rs n → IsOnHandle f (Some x.stream) (Some g)
 on_open f rs n g x at h =
     let below = found_holds (λ (y : FileHandle). y.number.0 < f.next) (is_handle g) f.handles x h.handles.given at in
     let is = eqb-true x.number.0 g.0 (found_passes (is_handle g) f.handles x at) in (
       omega (arith, below, is),
-      all_passing (λ (y : FileHandle). is_on_stream y.stream (Some x.stream) ≡ true) (is_handle g) f.handles x (once (λ (y : FileHandle). y.number.0) g.0 f.handles h.handles.ascend) at (eq-eqb x.stream.0 x.stream.0 refl),
+      all_passing (λ (y : FileHandle). is_on_stream y.stream (Some x.stream) ≡ true) (is_handle g) f.handles x
+          (once (λ (y : FileHandle). y.number.0) g.0 f.handles h.handles.ascend) at (eq-eqb x.stream.0 x.stream.0 refl),
     )
 
 -- so it is of one that is found by another test
-pub on_found : (f : FileTable) (rs : List FlowRecord) (n : ℕ) (test : FileHandle → Bool) (x : FileHandle) → find test f.handles ≡ Some x → Stands none_out f rs n
+pub on_found : (f : FileTable) (rs : List FlowRecord) (n : ℕ) (test : FileHandle → Bool) (x : FileHandle)
+    → find test f.handles ≡ Some x → Stands none_out f rs n
     → IsOnHandle f (Some x.stream) (Some x.number)
 on_found f rs n test x at h = on_open f rs n x.number x (found_by_number (λ (y : FileHandle). y.number.0) test f.handles x h.handles.ascend at) h
 
 -- ---- one operation changes
 
 pub creating_same : (test : FlowRecord → Bool) (step : FlowRecord → FlowRecord) (rs : List FlowRecord) (r : FlowRecord) → find test rs ≡ Some r
-    → (step r).stream ≡ r.stream → is_creating (step r) ≡ is_creating r → (q : StreamId) → list_any (is_creating_on q) (change_first test step rs) ≡ list_any (is_creating_on q) rs
+    → (step r).stream ≡ r.stream → is_creating (step r) ≡ is_creating r → (q : StreamId)
+    → list_any (is_creating_on q) (change_first test step rs) ≡ list_any (is_creating_on q) rs
 creating_same test step rs r at stream same q = grind (arith, any_change)
 
 -- a create that is under way no more used its own stream alone

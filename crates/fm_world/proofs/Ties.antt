@@ -39,7 +39,8 @@ pub at_none : (a : Place) → desk_of a ≡ None → AtNoDesk a
 at_none a h d i = grind arith
 
 -- a worker goes from one such place to another
-pub staffed_still : (d : Desk) (i : ℕ) (workers : List Place) (k : WorkerId) (a b : Place) (m : Option Instance) → worker_at workers k ≡ Some a → AtNoDesk a → AtNoDesk b
+pub staffed_still : (d : Desk) (i : ℕ) (workers : List Place) (k : WorkerId) (a b : Place) (m : Option Instance)
+    → worker_at workers k ≡ Some a → AtNoDesk a → AtNoDesk b
     → IsStaffed d m (count_by (is_at d i) workers) → IsStaffed d m (count_by (is_at d i) (put workers k b))
 staffed_still d i workers k a b m at from to h = subst (IsStaffed d m) (sym (count_stays (is_at d i) workers k a b at (from d i) (to d i))) h
 
@@ -71,9 +72,11 @@ abbrev pub Balances : (OpId → Place → Bool) → (FlowRecord → ℕ) → OpI
 Balances inside read o a b r s = (p : OpId) → one (inside p b) + cond (o.0 == p.0) (read r) 0 ≡ one (inside p a) + cond (o.0 == p.0) (read s) 0
 
 -- the workers inside, and what is told of the operations, where one of each takes a step
-pub tied_moves : (inside : OpId → Place → Bool) (read : FlowRecord → ℕ) (workers : List Place) (t : FlowTable) (k : WorkerId) (a b : Place) (o : OpId) (r : FlowRecord)
+pub tied_moves : (inside : OpId → Place → Bool) (read : FlowRecord → ℕ) (workers : List Place) (t : FlowTable) (k : WorkerId)
+    (a b : Place) (o : OpId) (r : FlowRecord)
     (f : FlowRecord → FlowRecord) → worker_at workers k ≡ Some a → operation_at o t ≡ Some r → ((x : FlowRecord) → (f x).number.0 ≡ x.number.0)
-    → Balances inside read o a b r (f r) → (p : OpId) → count_by (inside p) workers ≡ told read 0 p t → count_by (inside p) (put workers k b) ≡ told read 0 p (changed o f t)
+    → Balances inside read o a b r (f r) → (p : OpId) → count_by (inside p) workers ≡ told read 0 p t
+    → count_by (inside p) (put workers k b) ≡ told read 0 p (changed o f t)
 tied_moves inside read workers t k a b o r f worker at same balance p tied = grind (arith, count_moves, told_changed)
 
 -- an operation takes a step that changes nothing of what is told
@@ -176,13 +179,15 @@ pub drained_there : (workers : List Place) (t : FlowTable) (k : WorkerId) (a : P
 drained_there workers t k a o i tied h inside =
     told_of (λ (x : FlowRecord). drain_opens i x.entries) o t (omega (arith, count-some (is_in_drain o i) workers k.0 a h inside, tied o i))
 
-pub spot_pre : (i : ℕ) (stage : Stage) (entries : List Entry) → is_spot (AtPre i) (spot_at stage entries) ≡ true → (stage ≡ PreRunning) × (last_visited entries ≡ Some i)
+pub spot_pre : (i : ℕ) (stage : Stage) (entries : List Entry) → is_spot (AtPre i) (spot_at stage entries) ≡ true → (stage ≡ PreRunning)
+    × (last_visited entries ≡ Some i)
 spot_pre i stage entries h = grind arith
 
 pub spot_base : (stage : Stage) (entries : List Entry) → is_spot AtBase (spot_at stage entries) ≡ true → stage ≡ InBase
 spot_base stage entries h = grind arith
 
-pub spot_post : (i : ℕ) (stage : Stage) (entries : List Entry) → is_spot (AtPost i) (spot_at stage entries) ≡ true → (stage ≡ PostRunning) × (last_posted entries ≡ Some i)
+pub spot_post : (i : ℕ) (stage : Stage) (entries : List Entry) → is_spot (AtPost i) (spot_at stage entries) ≡ true
+    → (stage ≡ PostRunning) × (last_posted entries ≡ Some i)
 spot_post i stage entries h = grind arith
 
 pub spot_drain : (i : InstanceId) (stage : Stage) (entries : List Entry) → is_spot (AtDrain i.0) (spot_at stage entries) ≡ true → stage ≡ InDrain i

@@ -41,8 +41,10 @@ pub record EachTurn (P : Turned → Type 0) (k : WorkerId) (lies : Below) (r : F
   pub asks : (p : Params) → r.stage ≡ Descending → lies ≡ Below.Call → P (call_base r (Some p))
   pub knows : (why : Status) → r.stage ≡ Descending → lies ≡ Below.Known why → P (turn (Ok FlowAction.Moved) (with_base (bare_answer why) r))
   -- on the way up: a drain, or a postoperation over the parameters that were put back
-  pub drains : (ask : Ask) → r.stage ≡ Ascending → P (turn (Ok (FlowAction.Drain ask.instance ask.completion)) (with_drain ask.instance (InDrain ask.instance) r))
-  pub posts : (ask : Ask) (m : Option Params) (kept : List Params) (p : Params) → r.stage ≡ Ascending → P (give_post k ask (record r { params = m; kept = kept }) (Some p))
+  pub drains : (ask : Ask) → r.stage ≡ Ascending → P (turn (Ok (FlowAction.Drain ask.instance ask.completion))
+      (with_drain ask.instance (InDrain ask.instance) r))
+  pub posts : (ask : Ask) (m : Option Params) (kept : List Params) (p : Params) → r.stage ≡ Ascending
+      → P (give_post k ask (record r { params = m; kept = kept }) (Some p))
 
 each_turn : (P : Turned → Type 0) (k : WorkerId) (lies : Below) (stops : Bool) (r : FlowRecord) → EachTurn P k lies r → P (next_of k lies stops r)
 each_turn P k lies stops r each = elim r.collected as (λ b. P (cond b (turn (Err Status.WrongStep) r) (next_at k lies stops r r.stage))) [
@@ -136,7 +138,8 @@ known_cases P old o t result lies mid new h lost same = grind arith
 
 -- ---- where nothing is to do
 
-next_rests : (k : WorkerId) (lies : Below) (drains : Bool) (r : FlowRecord) → gives_nothing (next_of k lies drains r).reply ≡ true → (next_of k lies drains r).after ≡ r
+next_rests : (k : WorkerId) (lies : Below) (drains : Bool) (r : FlowRecord) → gives_nothing (next_of k lies drains r).reply ≡ true
+    → (next_of k lies drains r).after ≡ r
 next_rests k lies drains r h4 = grind arith
 
 -- the first that passes stays as it is
@@ -144,7 +147,8 @@ change_same : {A : Type 0} (test : A → Bool) (f : A → A) (rs : List A) (r : 
 change_same test f [] r found same = absurd (none-some r found)
 change_same test f (x ∷ rs) r found same = grind (arith, (change_same test f rs r))
 
-over_rests : (old : World) (k : WorkerId) (o : OpId) (lies : Below) (result : Result FlowAction Status) (new : World) → LosesByKnown result lies (nexted old k o lies result) new
+over_rests : (old : World) (k : WorkerId) (o : OpId) (lies : Below) (result : Result FlowAction Status) (new : World)
+    → LosesByKnown result lies (nexted old k o lies result) new
     → gives_nothing result ≡ true → flow_after_next old k o lies ≡ old.flow → new ≡ old
 over_rests old k o lies result new loses h same = grind arith
 
@@ -164,9 +168,24 @@ pub record Placed (o : OpId) (reply : Result FlowAction Status) : Type 0 where
 
 pub placed : (o : OpId) (reply : Result FlowAction Status) → Placed o reply
 placed o (Ok (FlowAction.Drain i completion)) = record { drains = in_a_drain o i; outside = at_none (Place.Drain o i) refl; puts = λ workers k idle. refl }
-placed o (Ok (FlowAction.Pre i lent)) = record { drains = in_no_drain o (Place.Pre o i) (λ p j. refl); outside = at_none (Place.Pre o i) refl; puts = λ workers k idle. refl }
-placed o (Ok (FlowAction.Base call)) = record { drains = in_no_drain o (Place.Base o) (λ p j. refl); outside = at_none (Place.Base o) refl; puts = λ workers k idle. refl }
-placed o (Ok (FlowAction.Post i lent completion)) = record { drains = in_no_drain o (Place.Post o i) (λ p j. refl); outside = at_none (Place.Post o i) refl; puts = λ workers k idle. refl }
+placed o (Ok (FlowAction.Pre i lent)) = record {
+  drains = in_no_drain o (Place.Pre o i) (λ p j. refl);
+  outside =
+      at_none (Place.Pre o i) refl;
+  puts = λ workers k idle. refl;
+}
+placed o (Ok (FlowAction.Base call)) = record {
+  drains = in_no_drain o (Place.Base o) (λ p j. refl);
+  outside =
+      at_none (Place.Base o) refl;
+  puts = λ workers k idle. refl;
+}
+placed o (Ok (FlowAction.Post i lent completion)) = record {
+  drains = in_no_drain o (Place.Post o i) (λ p j. refl);
+  outside =
+      at_none (Place.Post o i) refl;
+  puts = λ workers k idle. refl;
+}
 placed o _ = record {
   drains = in_no_drain o Place.Idle (λ p j. refl);
   outside = at_none Place.Idle refl;
@@ -183,7 +202,8 @@ record Leads (s : StackWorld) (o : OpId) (r : FlowRecord) (turned : Turned) : Ty
   pub spots : BalancesSpots o Place.Idle (placed_by o turned.reply) r turned.after
 
 -- the worker goes in
-leads_in : (s : StackWorld) (o : OpId) (r : FlowRecord) (turned : Turned) → is_running r.stage ≡ false → Matches o (placed_by o turned.reply) (spot_of turned.after)
+leads_in : (s : StackWorld) (o : OpId) (r : FlowRecord) (turned : Turned) → is_running r.stage ≡ false
+    → Matches o (placed_by o turned.reply) (spot_of turned.after)
     → IsAmong s turned.after → Leads s o r turned
 leads_in s o r turned quiet matches among = record {
   among = among;
@@ -200,7 +220,8 @@ leads_of s k o r lies drains stack sound finds h = each_turn (Leads s o r) k lie
       (subst (Matches o (Place.Pre o i)) (sym (ap (option_map AtPre) (visit_last r.entries visit))) (matches_pre o i))
       (among_visits s r.volume r.born r.operation r.entries r.stage PreRunning visit stack (none e) (λ x. absurd (apart PreRunning refl x)) (below e is).0 h);
   skips = λ i e is. record {
-    among = among_visits s r.volume r.born r.operation r.entries r.stage Descending (record { instance = i; worker = k; state = bare_ask; place = length r.kept }) stack (none e)
+    among = among_visits s r.volume r.born r.operation r.entries r.stage Descending
+        (record { instance = i; worker = k; state = bare_ask; place = length r.kept }) stack (none e)
         (λ x. absurd (apart Descending refl x)) (below e is).0 h;
     spots = nowhere e;
   };
@@ -212,7 +233,8 @@ leads_of s k o r lies drains stack sound finds h = each_turn (Leads s o r) k lie
   drains = λ ask e.
       leads_in s o r (turn (Ok (FlowAction.Drain ask.instance ask.completion)) (with_drain ask.instance (InDrain ask.instance) r)) (ap is_running e)
       (matches_drain o ask.instance)
-      (among_other s r.volume r.born r.operation r.entries r.stage (InDrain ask.instance) (Drain (record { instance = ask.instance; is_running = true })) refl refl
+      (among_other s r.volume r.born r.operation r.entries r.stage (InDrain ask.instance)
+      (Drain (record { instance = ask.instance; is_running = true })) refl refl
       (λ x. absurd (apart (InDrain ask.instance) refl x)) h);
   posts = λ ask m kept p e.
       let visit : PostVisit = record { instance = ask.instance; worker = k; state = PostState.Running } in
@@ -268,7 +290,8 @@ next_keeps old k o new e s =
     subst (AreUnderWay old.stack (changed o f old.flow)) (sym (place.puts old.workers k e.idle))
     (step_keeps old o r f k Place.Idle (placed_by o reply) e.at e.idle (next_stays k e.lies d)
     (sound_next k e.lies d r sound (λ down. may_visit old.stack r e.lies among (e.finds down)))
-    (next_needed k e.lies d r (found_holds (λ (x : FlowRecord). is_spent x ≡ false) (is_number o) old.flow.operations r s.flow.needed e.at)) leads.among leads.spots
+    (next_needed k e.lies d r (found_holds (λ (x : FlowRecord). is_spent x ≡ false) (is_number o) old.flow.operations r s.flow.needed
+    e.at)) leads.among leads.spots
     (drains_balance o Place.Idle (placed_by o reply) r (f r) (λ i. 0) (λ i. drains_given i reply) (in_no_drain o Place.Idle (λ p i. refl)) place.drains
     (λ i. omega (arith, next_drains i k e.lies d r))) (at_none Place.Idle refl) place.outside s)
 
@@ -289,7 +312,11 @@ pub next_balance : (w : World) (o : OpId) (k : WorkerId) (lies : Below) (d : Boo
 next_balance w o k lies d r at finds s c =
     let sound = found_holds flow.IsSound (is_number o) w.flow.operations r s.under_way.flow.sound at in
     let among = found_holds (IsAmong w.stack) (is_number o) w.flow.operations r s.under_way.among at in
-    omega (arith, carried_changed w.flow o r (λ (x : FlowRecord). (next_of k lies d x).after) at c, next_carries c k lies d r (λ e. may_visit w.stack r lies among (finds e)) sound)
+    omega (
+      arith,
+      carried_changed w.flow o r (λ (x : FlowRecord). (next_of k lies d x).after) at c,
+      next_carries c k lies d r (λ e. may_visit w.stack r lies among (finds e)) sound,
+    )
 
 -- a completion comes back to the worker that it is given to
 pub brought_owned : (w : World) (o : OpId) (r : FlowRecord) (f : FlowRecord → FlowRecord) (k : WorkerId) (b : Place) (i : InstanceId) (m : Option CtxId)
@@ -307,7 +334,8 @@ brought_owned w o r f k b i (Some d) at idle worker nb pl balance own owes quiet
     let room : length (hand_of w.contexts.hands k.0) < 16 = subst (λ (ids : List CtxId). length ids < 16) (sym none) (omega arith) in
     let Holds = HoldsIn w.stack w.contexts.slots (place_in (Some b)) in
     step_owned w o r f k Place.Idle b (grabbed w.contexts k.0 d) (d ∷ []) at idle worker refl nb
-    (bring_keeps (carries_after w o f) k.0 d h.lawful worker (λ c. balance c) room) refl (ap (λ (ids : List CtxId). slice_set w.contexts.hands k.0 (ids ++ d ∷ [])) none) refl
+    (bring_keeps (carries_after w o f) k.0 d h.lawful worker (λ c. balance c) room) refl
+    (ap (λ (ids : List CtxId). slice_set w.contexts.hands k.0 (ids ++ d ∷ [])) none) refl
     (All-cons Holds d [] (subst (λ p. HoldsIn w.stack w.contexts.slots p d) (sym pl) own) (All-nil Holds)) owes quiet h
 
 -- the same, by what `next` answers
@@ -321,7 +349,8 @@ next_by_reply w o r f k (Ok (FlowAction.Pre i lent)) at idle worker balance was 
     brought_owned w o r f k (Place.Pre o i) i None at idle worker refl refl balance tt owes quiet h
 next_by_reply w o r f k (Ok (FlowAction.Base call)) at idle worker balance was owes quiet h =
     let none = empty_hand w k Place.Idle idle refl h in
-    step_owned w o r f k Place.Idle (Place.Base o) w.contexts (hand_of w.contexts.hands k.0) at idle worker refl refl (lawful_alike (λ c. omega (arith, balance c)) h.lawful)
+    step_owned w o r f k Place.Idle (Place.Base o) w.contexts (hand_of w.contexts.hands k.0) at idle worker refl refl
+    (lawful_alike (λ c. omega (arith, balance c)) h.lawful)
     refl (same_hands w.contexts.hands k.0) refl
     (subst (All (HoldsIn w.stack w.contexts.slots None)) (sym none) (All-nil (HoldsIn w.stack w.contexts.slots None))) owes quiet h
 next_by_reply w o r f k (Ok (FlowAction.Post i lent completion)) at idle worker balance was owes quiet h =
@@ -333,9 +362,11 @@ next_by_reply w o r f k (Ok (FlowAction.Drain i completion)) at idle worker bala
     (subst (λ (x : InstanceId). CarriesIn w.stack w.contexts.slots x completion.context) was.2
     (subst (λ (x : Completion). CarriesIn w.stack w.contexts.slots was.0.instance x.context) was.3 was.1)) owes quiet h
 next_by_reply w o r f k _ at idle worker balance was owes quiet h =
-    flow_owned w (changed o f w.flow) (lawful_alike (λ c. omega (arith, balance c)) h.lawful) (carry_changed w.stack w.contexts.slots w.flow o r f at owes h.completions) quiet h
+    flow_owned w (changed o f w.flow) (lawful_alike (λ c. omega (arith, balance c)) h.lawful)
+    (carry_changed w.stack w.contexts.slots w.flow o r f at owes h.completions) quiet h
 
-next_owned : (old : World) (k : WorkerId) (o : OpId) (new : World) (e : Turns old k o new) → IsSound old → IsOwned (nexted old k o e.lies (turned_by old k o e.lies e.row).reply)
+next_owned : (old : World) (k : WorkerId) (o : OpId) (new : World) (e : Turns old k o new) → IsSound old
+    → IsOwned (nexted old k o e.lies (turned_by old k o e.lies e.row).reply)
 next_owned old k o new e s =
     let r = e.row in
     let d = drains_at old o in
@@ -343,8 +374,10 @@ next_owned old k o new e s =
     let sound = found_holds flow.IsSound (is_number o) old.flow.operations r s.under_way.flow.sound e.at in
     let among = found_holds (IsAmong old.stack) (is_number o) old.flow.operations r s.under_way.among e.at in
     let below = λ (down : r.stage ≡ Descending). may_visit old.stack r e.lies among (e.finds down) in
-    let owes = next_owes (AskCarries old.stack old.contexts.slots) k e.lies d r (λ down. (below down, may_ask old.stack old.contexts.slots k e.lies r)) sound (asks_of old o r e.at s.owned) in
-    next_by_reply old o r f k (next_of k e.lies d r).reply e.at e.idle (worker_below old k Place.Idle e.idle s.under_way) (next_balance old o k e.lies d r e.at e.finds s)
+    let owes = next_owes (AskCarries old.stack old.contexts.slots) k e.lies d r
+    (λ down. (below down, may_ask old.stack old.contexts.slots k e.lies r)) sound (asks_of old o r e.at s.owned) in
+    next_by_reply old o r f k (next_of k e.lies d r).reply e.at e.idle (worker_below old k Place.Idle e.idle s.under_way)
+    (next_balance old o k e.lies d r e.at e.finds s)
     owes.hands owes.owes
     (λ i rests. omega (
       arith,
@@ -377,27 +410,32 @@ KeepsFile r s = (s.stream ≡ r.stream) × (s.handle ≡ r.handle)
 next_file : (k : WorkerId) (lies : Below) (drains : Bool) (r : FlowRecord) → KeepsFile r (next_of k lies drains r).after
     × ((is_known lies ≡ true → Ok FlowAction.Moved ≡ (next_of k lies drains r).reply → ⊥) → is_creating (next_of k lies drains r).after ≡ is_creating r)
 next_file k lies drains r =
-    each_turn (λ t. KeepsFile r t.after × ((is_known lies ≡ true → Ok FlowAction.Moved ≡ t.reply → ⊥) → is_creating t.after ≡ is_creating r)) k lies drains r (grind arith)
+    each_turn (λ t. KeepsFile r t.after × ((is_known lies ≡ true → Ok FlowAction.Moved ≡ t.reply → ⊥)
+    → is_creating t.after ≡ is_creating r)) k lies drains r (grind arith)
   where
     down : r.stage ≡ Descending → is_create r.operation && true ≡ is_creating r
     down e = sym (ap (λ x. is_create r.operation && is_unanswered x) e)
 
 -- unless it moves over an answer that is known, a create under way stays one
-next_same_file : (k : WorkerId) (lies : Below) (drains : Bool) (r : FlowRecord) → (is_known lies ≡ true → Ok FlowAction.Moved ≡ (next_of k lies drains r).reply → ⊥)
+next_same_file : (k : WorkerId) (lies : Below) (drains : Bool) (r : FlowRecord)
+    → (is_known lies ≡ true → Ok FlowAction.Moved ≡ (next_of k lies drains r).reply → ⊥)
     → SameFile r (next_of k lies drains r).after
 next_same_file k lies drains r other =
     let file = next_file k lies drains r in
     record { stream = file.0.0; handle = file.0.1; creating = file.1 other }
 
 -- a known answer gives no handle
-known_answered : (f : FileTable) (k : WorkerId) (why : Status) (drains : Bool) (r : FlowRecord) → is_creating (next_of k (Below.Known why) drains r).after ≡ false
+known_answered : (f : FileTable) (k : WorkerId) (why : Status) (drains : Bool) (r : FlowRecord)
+    → is_creating (next_of k (Below.Known why) drains r).after ≡ false
     → IsAnswered f why r (next_of k (Below.Known why) drains r).after
 known_answered f k why drains r ended = grind (arith, next_file)
 
 -- an answer that was known counts at once
-known_filed : (old : World) (k : WorkerId) (o : OpId) (r : FlowRecord) (lies : Below) (drains : Bool) (result : Result FlowAction Status) → operation_at o old.flow ≡ Some r
+known_filed : (old : World) (k : WorkerId) (o : OpId) (r : FlowRecord) (lies : Below) (drains : Bool)
+    (result : Result FlowAction Status) → operation_at o old.flow ≡ Some r
     → result ≡ (next_of k lies drains r).reply → FiledIn old
-    → IsFileSound (filed_next old o (changed o (λ (x : FlowRecord). (next_of k lies drains x).after) old.flow) result lies) (changed o (λ (x : FlowRecord). (next_of k lies drains x).after) old.flow)
+    → IsFileSound (filed_next old o (changed o (λ (x : FlowRecord). (next_of k lies drains x).after) old.flow) result lies)
+    (changed o (λ (x : FlowRecord). (next_of k lies drains x).after) old.flow)
 known_filed old k o r lies drains result at reply s = by_result result lies reply
   where
     step : Below → FlowRecord → FlowRecord
@@ -406,7 +444,8 @@ known_filed old k o r lies drains result at reply s = by_result result lies repl
     by_result : (result : Result FlowAction Status) (lies : Below) → result ≡ (next_of k lies drains r).reply
         → IsFileSound (filed_next old o (changed o (step lies) old.flow) result lies) (changed o (step lies) old.flow)
     by_result (Ok FlowAction.Moved) (Below.Known why) reply = grind (arith, was_known, told_there, file_answered, known_answered)
-    by_result (Ok FlowAction.Moved) lies reply = file_step old.files old.flow o r (step lies) at (next_same_file k lies drains r (λ known moved. false≢true known)) s
+    by_result (Ok FlowAction.Moved) lies reply = file_step old.files old.flow o r (step lies) at
+        (next_same_file k lies drains r (λ known moved. false≢true known)) s
     by_result _ lies reply = file_step old.files old.flow o r (step lies) at (next_same_file k lies drains r (λ known moved. (cc))) s
 
 -- ---- the event
@@ -441,7 +480,8 @@ next_on old k o new e =
           (change_same (is_number o) f old.flow.operations e.row e.at (next_rests k e.lies d e.row rests))),
     )
   where
-    by_reply : (result : Result FlowAction Status) → HandMore k.0 old new (given_with (back_by result)) → OnlyHandOf k.0 old new × HoldsMore k.0 result given_by_next old new
+    by_reply : (result : Result FlowAction Status) → HandMore k.0 old new (given_with (back_by result)) → OnlyHandOf k.0 old new
+        × HoldsMore k.0 result given_by_next old new
     by_reply (Ok (FlowAction.Post i lent completion)) h = h
     by_reply (Ok (FlowAction.Drain i completion)) h = h
     by_reply (Ok _) h = h
@@ -451,16 +491,25 @@ pub next_does : (old : World) (k : WorkerId) (o : OpId) (result : Result FlowAct
     → Does old new × (IsSound old → OnlyHandOf k.0 old new × HoldsMore k.0 result given_by_next old new) × (gives_nothing result ≡ true → new ≡ old)
 unfolding Nexts
 next_does old k o result new h =
-    idle_by (λ r w. NextDoes old k r w) k result old new (NextsAt old k o result new) h refused (λ idle e. by_operation idle e.0 e.1 e.2 e.3 e.4 (operation_at o old.flow) refl)
+    idle_by (λ r w. NextDoes old k r w) k result old new (NextsAt old k o result new) h refused
+    (λ idle e. by_operation idle e.0 e.1 e.2 e.3 e.4 (operation_at o old.flow) refl)
   where
     refused : (why : Status) → NextDoes old k (Err why) old
     refused why = (nothing old, λ s. (refl, refl), λ rests. refl)
 
     by_operation : worker_at old.workers k ≡ Some Place.Idle → (lies : Below) → FindsBelow old.stack old.files old.flow (operation_at o old.flow) lies
-        → (mid : World) → NextsOver old k o lies result mid → LosesByKnown result lies mid new → (m : Option FlowRecord) → operation_at o old.flow ≡ m → NextDoes old k result new
+        → (mid : World) → NextsOver old k o lies result mid → LosesByKnown result lies mid new → (m : Option FlowRecord)
+        → operation_at o old.flow ≡ m → NextDoes old k result new
     by_operation idle lies finds mid over loses m at =
         let reply = over.0 ∙ ap (λ x. unwrap_or (option_map (λ (r : FlowRecord). (turned_by old k o lies r).reply) x) (Err Status.WrongStep)) at in
-        let lost = λ (r : Result FlowAction Status) (e : result ≡ r). subst (λ x. LosesByKnown x lies (nexted old k o lies x) new) e (subst (λ w. LosesByKnown result lies w new) over.1 loses) in
-        by_option (λ x. operation_at o old.flow ≡ x → result ≡ unwrap_or (option_map (λ (r : FlowRecord). (turned_by old k o lies r).reply) x) (Err Status.WrongStep) → NextDoes old k result new) m
-        (λ _ at reply. refused_by (λ r w. NextDoes old k r w) Status.WrongStep result old new (reply, lost (Err Status.WrongStep) reply ∙ not_there old k o lies at) refused)
+        let lost = λ (r : Result FlowAction Status) (e : result ≡ r). subst (λ x. LosesByKnown x lies (nexted old k o lies x) new) e
+        (subst (λ w. LosesByKnown result lies w new) over.1 loses) in
+        by_option (λ x. operation_at o old.flow ≡ x → result
+        ≡ unwrap_or (option_map (λ (r : FlowRecord). (turned_by old k o lies r).reply) x) (Err Status.WrongStep)
+        → NextDoes old k result new) m
+        (λ _ at reply. refused_by (λ r w. NextDoes old k r w) Status.WrongStep result old new (
+          reply,
+          lost (Err Status.WrongStep) reply
+              ∙ not_there old k o lies at,
+        ) refused)
         (λ r _ at reply. subst (λ x. NextDoes old k x new) (sym reply) (next_on old k o new (grind arith))) at reply

@@ -29,13 +29,15 @@ unload_moves w t k a b at from to off on stack follows staffs s =
     worker_moves w t k a b at (outside_of a from) (outside_of b to) stack follows
     (λ d i. staffs d i _ (staffed_still d i w.workers k a b (slice_get w.stack.instances i) at (at_none a off) (at_none b on) (s.desks d i))) s
 
-pub ask_unload_does : (old : World) (k : WorkerId) (f : FilterId) (result : Result (Unit {0}) Status) (new : World) → AsksUnload old k f result new → Does old new
+pub ask_unload_does : (old : World) (k : WorkerId) (f : FilterId) (result : Result (Unit {0}) Status) (new : World)
+    → AsksUnload old k f result new → Does old new
 unfolding AsksUnload
 ask_unload_does old k f result new h =
     idle_by (λ _ w. Does old w) k result old new _ h (λ why. nothing old) (λ at event.
     answers_by (λ _ w. Does old w) _ result old new _ event (λ why. nothing old) (λ done free e.
     makes old (record old { workers = put old.workers k (Place.Unload f) }) new e (still old.contexts) (λ s. record {
-      under_way = unload_moves old old.stack k Place.Idle (Place.Unload f) at refl refl refl refl s.under_way.stack (follows_same old.stack) (λ d i n h. h) s.under_way;
+      under_way = unload_moves old old.stack k Place.Idle (Place.Unload f) at refl refl refl refl s.under_way.stack
+          (follows_same old.stack) (λ d i n h. h) s.under_way;
       owned = goes_owned old k Place.Idle (Place.Unload f) old.stack at refl refl refl (rows_same old old.stack refl) (omega arith) (λ v h. h) s;
       filed = s.filed;
       links = s.links;
@@ -44,7 +46,8 @@ ask_unload_does old k f result new h =
 -- ---- instances are stopped
 
 -- of both an instance that stays as it is, and one that is stopped
-stop_by : (P : Instance → Type 0) (test : Instance → Bool) (row : Instance) → P row → (is_attached row.phase ≡ true → P (stop_row row)) → P (filters.stop_where test row)
+stop_by : (P : Instance → Type 0) (test : Instance → Bool) (row : Instance) → P row → (is_attached row.phase ≡ true → P (stop_row row))
+    → P (filters.stop_where test row)
 stop_by P test row stays stops = elim (cases_Bool (test row && is_attached row.phase)) [
   | inl is ↦ subst (λ b. P (cond b (stop_row row) row)) (sym is) (stops (and_parts (test row) (is_attached row.phase) is).1)
   | inr fails ↦ subst (λ b. P (cond b (stop_row row) row)) (sym fails) stays
@@ -63,22 +66,26 @@ stops_staff test s t is d i n h =
 pub stops_go : (test : Instance → Bool) (w : World) (t : StackWorld) → t.instances ≡ map (filters.stop_where test) w.stack.instances → RowsGoOn w t
 stops_go test w t is j row there = (
   filters.stop_where test row,
-  ap (λ (xs : List Instance). slice_get xs j) is ∙ slice_get-map (filters.stop_where test) w.stack.instances j ∙ ap (option_map (filters.stop_where test)) there,
+  ap (λ (xs : List Instance). slice_get xs j) is ∙ slice_get-map (filters.stop_where test) w.stack.instances j
+      ∙ ap (option_map (filters.stop_where test)) there,
   stop_by (λ x. GoesOnAt w j row x) test row (goes_same w j row row refl refl) (λ is. stop_goes w j row),
 )
 
 more_filters : (s : StackWorld) (change : Filter → Filter) (f : FilterId) → length s.filters ≤ length (updated change s.filters f.0)
 more_filters s change f = omega (arith, length-updated change s.filters f.0)
 
-pub unload_does : (old : World) (k : WorkerId) (allow : Bool) (result : Result (Unit {0}) Status) (new : World) → UnloadReturns old k allow result new → Does old new
+pub unload_does : (old : World) (k : WorkerId) (allow : Bool) (result : Result (Unit {0}) Status) (new : World)
+    → UnloadReturns old k allow result new → Does old new
 unfolding UnloadReturns filters.UnloadReturns
 unload_does old k allow result new h = by_place (worker_at old.workers k) refl h
   where
-    returns : (f : FilterId) (t : StackWorld) → worker_at old.workers k ≡ Some (Place.Unload f) → new.stack ≡ t → new ≡ record old { stack = new.stack; workers = put old.workers k Place.Idle }
+    returns : (f : FilterId) (t : StackWorld) → worker_at old.workers k ≡ Some (Place.Unload f) → new.stack ≡ t
+        → new ≡ record old { stack = new.stack; workers = put old.workers k Place.Idle }
         → RowsGoOn old t → length old.stack.filters ≤ length t.filters → VolumesStay old.stack t
         → (IsUnderWay old → IsUnderWay (record old { stack = t; workers = put old.workers k Place.Idle })) → Does old new
     returns f t at is e on filters volumes keeps =
-        makes old (record old { stack = t; workers = put old.workers k Place.Idle }) new (e ∙ ap (λ x. record old { stack = x; workers = put old.workers k Place.Idle }) is)
+        makes old (record old { stack = t; workers = put old.workers k Place.Idle }) new (e
+        ∙ ap (λ x. record old { stack = x; workers = put old.workers k Place.Idle }) is)
         (still old.contexts) (λ s. record {
           under_way = keeps s.under_way;
           owned = goes_owned old k (Place.Unload f) Place.Idle t at refl refl refl on filters volumes s;
@@ -86,14 +93,16 @@ unload_does old k allow result new h = by_place (worker_at old.workers k) refl h
           links = s.links;
         })
 
-    by_result : (f : FilterId) (result : Result (Unit {0}) Status) → worker_at old.workers k ≡ Some (Place.Unload f) → UnloadReturnsAt old k allow result new (Some (Place.Unload f)) → Does old new
+    by_result : (f : FilterId) (result : Result (Unit {0}) Status) → worker_at old.workers k ≡ Some (Place.Unload f)
+        → UnloadReturnsAt old k allow result new (Some (Place.Unload f)) → Does old new
     by_result f (Err why) at h = returns f old.stack at h.0.1 h.1 (rows_same old old.stack refl) (omega arith) (λ v h. h) (λ s.
         unload_moves old old.stack k (Place.Unload f) Place.Idle at refl refl refl refl s.stack (follows_same old.stack) (λ d i n h. h) s)
     by_result f (Ok done) at h =
         let t = filters.unloading old.stack f in
         let goes = unloading_goes_on old.stack f in
         returns f t at h.0.1 h.1 (stops_go (filters.is_of f) old t refl) (more_filters old.stack (filters.filter_in phase.Unloading) f) (λ v h. h)
-        (λ s. unload_moves old t k (Place.Unload f) Place.Idle at refl refl refl refl (goes_on_keeps old.stack t goes s.stack) (goes_on_follows old.stack t goes)
+        (λ s. unload_moves old t k (Place.Unload f) Place.Idle at refl refl refl refl (goes_on_keeps old.stack t goes s.stack)
+        (goes_on_follows old.stack t goes)
         (stops_staff (filters.is_of f) old.stack t refl) s)
 
     by_place : (m : Option Place) → worker_at old.workers k ≡ m → UnloadReturnsAt old k allow result new m → Does old new
@@ -112,7 +121,8 @@ goes_sound old t goes staffs on filters volumes s = record {
   links = s.links;
 }
 
-pub goes_does : (old new : World) (t : StackWorld) → new.stack ≡ t → new ≡ record old { stack = new.stack } → StackGoesOn old.stack t → StaffsStill old.stack t → RowsGoOn old t
+pub goes_does : (old new : World) (t : StackWorld) → new.stack ≡ t → new ≡ record old { stack = new.stack } → StackGoesOn old.stack t
+    → StaffsStill old.stack t → RowsGoOn old t
     → length old.stack.filters ≤ length t.filters → VolumesStay old.stack t → Does old new
 goes_does old new t is e goes staffs on filters volumes =
     makes old (record old { stack = t }) new (e ∙ ap (λ x. record old { stack = x }) is) (still old.contexts) (goes_sound old t goes staffs on filters volumes)
@@ -128,7 +138,8 @@ force_unload_does old f (Ok done) new h =
 -- ---- its end
 
 -- the filter's volume contexts lose their links
-pub empty_filter_does : (old : World) (f : FilterId) (result : Result (Unit {0}) Status) (new : World) → EmptiesFilter old f result new → Does old new × KeepsHands old new
+pub empty_filter_does : (old : World) (f : FilterId) (result : Result (Unit {0}) Status) (new : World) → EmptiesFilter old f result new
+    → Does old new × KeepsHands old new
 unfolding EmptiesFilter filters.EmptiesFilter
 empty_filter_does old f (Err why) new h =
     let same = h.2 ∙ ap (λ x. record old { stack = x; contexts = new.contexts }) h.0.1 ∙ ap (λ c. record old { contexts = c }) h.1 in
@@ -140,10 +151,20 @@ empty_filter_does old f (Ok done) new h =
       record {
         sound = λ s.
             let swept : IsSound mid =
-            record { under_way = s.under_way; owned = sweeps_owned old (is_linked_of (Owner.Filter f)) new.contexts sweeps s.owned; filed = s.filed; links = sweeps_named old (is_linked_of (Owner.Filter f)) new.contexts sweeps s.links } in
+            record {
+              under_way = s.under_way;
+              owned = sweeps_owned old (is_linked_of (Owner.Filter f)) new.contexts sweeps s.owned;
+              filed = s.filed;
+              links = sweeps_named old (is_linked_of (Owner.Filter f)) new.contexts sweeps s.links;
+            } in
             subst IsSound (sym (h.2 ∙ ap (λ x. record old { stack = x; contexts = new.contexts }) h.0.1))
-            (goes_sound mid t (filter_emptied_goes_on old.stack f) (λ d i n h. h) (rows_same mid t refl) (more_filters old.stack (filters.filter_in phase.Emptied) f) (λ v h. h) swept);
-        lasts = λ s. lasts old new new.contexts refl (subst (SlotsStay old.contexts.slots) (sym sweeps.slots) (slots_swept _ old.contexts.slots), sweeps.cleaning);
+            (goes_sound mid t (filter_emptied_goes_on old.stack f) (λ d i n h. h) (rows_same mid t refl)
+            (more_filters old.stack (filters.filter_in phase.Emptied) f) (λ v h. h) swept);
+        lasts = λ s. lasts old new new.contexts refl (
+          subst (SlotsStay old.contexts.slots) (sym sweeps.slots)
+              (slots_swept _ old.contexts.slots),
+          sweeps.cleaning,
+        );
       },
       λ k. omega (arith, ap pairs_in sweeps.hands, ap (λ (hands : List (List CtxId)). length (hand_of hands k)) sweeps.hands),
     )
@@ -153,4 +174,5 @@ unfolding FinishesFilter filters.FinishesFilter
 finish_filter_does old f (Err why) new h = unchanged old new (h.1 ∙ ap (λ x. record old { stack = x }) h.0.1)
 finish_filter_does old f (Ok done) new h =
     let t = filters.unloaded old.stack f in
-    goes_does old new t h.0.1 h.1 (unloaded_goes_on old.stack f) (λ d i n h. h) (rows_same old t refl) (more_filters old.stack (filters.filter_in phase.NotLoaded) f) (λ v h. h)
+    goes_does old new t h.0.1 h.1 (unloaded_goes_on old.stack f) (λ d i n h. h) (rows_same old t refl)
+    (more_filters old.stack (filters.filter_in phase.NotLoaded) f) (λ v h. h)

@@ -277,7 +277,8 @@ LosesByKnown result lies mid new = new ≡ mid
 -- what is below is found, the operation goes on, and the links to what is gone by then go
 abbrev pub NextsAt : World → WorkerId → OpId → Result FlowAction Status → World → Type 0
 NextsAt old k o result new =
-    (lies : Below) × FindsBelow old.stack old.files old.flow (operation_at o old.flow) lies × (mid : World) × NextsOver old k o lies result mid × LosesByKnown result lies mid new
+    (lies : Below) × FindsBelow old.stack old.files old.flow (operation_at o old.flow) lies × (mid : World)
+    × NextsOver old k o lies result mid × LosesByKnown result lies mid new
 
 -- by an idle worker
 unfoldable pub Nexts : World → WorkerId → OpId → Result FlowAction Status → World → Type 0
@@ -362,7 +363,10 @@ abbrev pub base_step : World → BaseCall → Answer → FlowRecord → FlowReco
 base_step w call answer = base_returned_of call answer (record { 0 = w.files.next })
 
 abbrev pub base_returned : World → WorkerId → OpId → BaseCall → Answer → World
-base_returned w k o call answer = record (returned w k o (base_step w call answer)) { files = filed_base w o (changed o (base_step w call answer) w.flow) answer.status }
+base_returned w k o call answer = record (returned w k o (base_step w call answer)) {
+  files =
+      filed_base w o (changed o (base_step w call answer) w.flow) answer.status;
+}
 
 abbrev pub BaseReturnsAt : World → WorkerId → BaseCall → Answer → Result (Unit {0}) Status → World → Option Place → Type 0
 BaseReturnsAt old k call answer result new (Some (place.Base o)) =

@@ -139,7 +139,8 @@ pub record Headline (w : World) : Type 0 where
   pub holders : (k : WorkerId) → All (HoldsIn w.stack w.contexts.slots (place_in (worker_at w.workers k))) (hand_of w.contexts.hands k.0)
   pub completions : All (λ (r : FlowRecord). All (AskCarries w.stack w.contexts.slots) (owed r.entries)) w.flow.operations
   -- of what an instance owns that was emptied, nothing is linked, held or carried
-  pub emptied : (i : InstanceId) (c : CtxId) → keeps_links_by (row_at w.stack i) ≡ false → owner_at w.contexts.slots c ≡ Some (owner.Instance i) → reference_count w c ≡ 0
+  pub emptied : (i : InstanceId) (c : CtxId) → keeps_links_by (row_at w.stack i) ≡ false
+      → owner_at w.contexts.slots c ≡ Some (owner.Instance i) → reference_count w c ≡ 0
   -- a detached instance owns no context that isn't cleaned, and nothing is in flight at it
   pub detached : (i : InstanceId) → is_left_by (row_at w.stack i) ≡ false → (open_of w.contexts.slots (owner.Instance i) ≡ 0) × (in_flight i.0 w.flow ≡ 0)
 

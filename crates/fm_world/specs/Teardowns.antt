@@ -58,7 +58,8 @@ CompletesTeardown old k i result new =
 -- the instance's contexts lose their links
 abbrev pub CompleteReturnsAt : World → WorkerId → Result (Unit {0}) Status → World → Option Place → Type 0
 CompleteReturnsAt old k result new (Some (place.Complete i)) =
-    (result ≡ Ok tt) × (left : ContextTable) × Leaves (carries old) old.contexts left k.0 × Sweeps (carries old) (is_linked_of (owner.Instance i)) left new.contexts
+    (result ≡ Ok tt) × (left : ContextTable) × Leaves (carries old) old.contexts left k.0
+    × Sweeps (carries old) (is_linked_of (owner.Instance i)) left new.contexts
     × (new ≡ record old { stack = stack.emptying old.stack i; workers = put old.workers k place.Idle; contexts = new.contexts })
 CompleteReturnsAt old k result new _ = (result ≡ Err status.WrongStep) × (new ≡ old)
 

@@ -25,7 +25,14 @@ empty_stack = record { filters = []; volumes = []; instances = []; births = 0 }
 
 -- before the first event; 48 workers are there
 abbrev pub empty_world : World
-empty_world = record { stack = empty_stack; flow = empty_table; workers = replicate 48 place.Idle; contexts = contexts.empty_table; totals = replicate 16 0; files = empty_files }
+empty_world = record {
+  stack = empty_stack;
+  flow = empty_table;
+  workers = replicate 48 place.Idle;
+  contexts = contexts.empty_table;
+  totals = replicate 16 0;
+  files = empty_files;
+}
 
 -- how many references to a context the completions carry whose postoperations are owed
 abbrev pub carries : World → CtxId → ℕ

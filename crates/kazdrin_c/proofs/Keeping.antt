@@ -46,7 +46,8 @@ pair_good Z (block_ptr b o) h fits = (and_tt (has_ty (layout Z) h) fits.0, (tt, 
 pair_good Z null_ptr h fits = (and_tt (has_ty (layout Z) h) fits.0, (record { fits = lit< tt }, (fits.1, tt)))
 
 -- what the fields are, the struct is
-pub pair_is : (vs ps hs : List Val) (p q : Ptr) (h : Val) → vs ≡ vstruct (of_list (ps ++ (hs ++ []))) ∷ [] → ps ≡ ptr_val p ∷ [] → hs ≡ h ∷ [] → p ≡ q → vs ≡ pair q h ∷ []
+pub pair_is : (vs ps hs : List Val) (p q : Ptr) (h : Val) → vs ≡ vstruct (of_list (ps ++ (hs ++ []))) ∷ [] → ps ≡ ptr_val p ∷ []
+    → hs ≡ h ∷ [] → p ≡ q → vs ≡ pair q h ∷ []
 pair_is vs ps hs p q h whole pointer handle same =
     whole ∙ (λ j. vstruct (of_list (pointer j ++ (handle j ++ []))) ∷ []) ∙ ap (λ (r : Ptr). pair r h ∷ []) same
 
@@ -79,7 +80,10 @@ module _ (R Z : RattleType) (L : Laws Z) (g : Ghosts Z.Denot) where
         (‵ (box_owns (g.dealloc_token a) R p x) ∷ ‵ (Z.own_val a (h ∷ [])) ∷ Γ) G
     raw_box_whole t p h a x = step (λ rest.
         nothing t $ move t (2 ∷ 0 ∷ []) $ fjoin t $ feq_i t (List Val) (ptr_val p ∷ []) _ refl $ fjoin t $ feq_i t (List Val) (pair p h ∷ []) _ refl $ fjoin t $
-        fpack t (Valss (RawPtr ∷ Z ∷ [])) (within (shape (raw_box.the_type R Z g)) (p, (a, tt)) (pair p h ∷ [])) (ptr_val p ∷ [], (h ∷ [], tt)) $ fjoin t $ rest)
+        fpack t (Valss (RawPtr ∷ Z ∷ [])) (within (shape (raw_box.the_type R Z g)) (p, (a, tt)) (pair p h ∷ [])) (
+          ptr_val p ∷ [],
+          (h ∷ [], tt),
+        ) $ fjoin t $ rest)
 
 -- what a handle keeps
 abbrev pub Boxed : RattleType
@@ -107,7 +111,11 @@ module _ {M : Type 1} {𝓤 : Ura M} {𝓛 : Logic 𝓤} {K : Type 0} {Γ : List
       next b o h (pair_is vs fields.0 fields.1.0 d.at (block_ptr b o) h whole pointer handle same) fits)))))
 
   pub kept_whole : K → (p : Ptr) (h : Val) (a : Heap.Denot) (held : Option SessionHost)
-      → Step K 𝓛 (‵ (SessionPointer.own_val (record { at = p; alloc = a; host = held }) (pair p h ∷ [])) ∷ Γ) G (‵ (held_at p held) ∷ ‵ (Heap.own_val a (h ∷ [])) ∷ Γ) G
+      → Step K 𝓛 (‵ (SessionPointer.own_val (record { at = p; alloc = a; host = held }) (pair p h ∷ [])) ∷ Γ) G
+      (‵ (held_at p held) ∷ ‵ (Heap.own_val a (h ∷ [])) ∷ Γ) G
   kept_whole t p h a held = step (λ rest.
       nothing t $ move t (2 ∷ 0 ∷ []) $ fjoin t $ feq_i t (List Val) (ptr_val p ∷ []) _ refl $ fjoin t $ feq_i t (List Val) (pair p h ∷ []) _ refl $ fjoin t $
-      fpack t (Valss (RawPtr ∷ Heap ∷ [])) (within (shape kept.the_type) (p, (((tt, tt), tt), tt)) (pair p h ∷ [])) (ptr_val p ∷ [], (h ∷ [], tt)) $ fjoin t $ rest)
+      fpack t (Valss (RawPtr ∷ Heap ∷ [])) (within (shape kept.the_type) (p, (((tt, tt), tt), tt)) (pair p h ∷ [])) (
+        ptr_val p ∷ [],
+        (h ∷ [], tt),
+      ) $ fjoin t $ rest)

@@ -94,7 +94,8 @@ BaseTold e old result new =
 abbrev pub LentTold : KazdrinEvent → SessionHost → KazdrinData → List ℕ → ℕ → SessionHost → KazdrinData → List ℕ → Option Lent → Type 0
 LentTold e old before room result new told after None = (result ≡ 30) × (new ≡ old) × (told ≡ before) × (after ≡ room)
 LentTold e old before room result new told after (Some lent) =
-    (result ≡ 0) × (new ≡ old) × (told ≡ record (lent_told lent) { length = length (lent_bytes (flag_in e) lent) }) × (after ≡ copied (lent_bytes (flag_in e) lent) room)
+    (result ≡ 0) × (new ≡ old) × (told ≡ record (lent_told lent) { length = length (lent_bytes (flag_in e) lent) })
+    × (after ≡ copied (lent_bytes (flag_in e) lent) room)
 
 -- the callback puts those parameters in what it was lent, or what C passed is refused
 abbrev pub ChangesThat : KazdrinEvent → List ℕ → SessionHost → ℕ → SessionHost → Option Params → Type 0
@@ -113,7 +114,8 @@ bytes_given e bytes = cond (e.flag == 0) None (Some bytes)
 -- that status, the number and those bytes are put in the answer of what the worker was lent
 abbrev pub PutsAnswer : KazdrinEvent → Status → Option (List ℕ) → SessionHost → ℕ → SessionHost → Type 0
 PutsAnswer e status bytes old result new =
-    (r : Result (Unit {0}) Status) × LentAnswers old.session (worker_in e) status e.offset bytes r new.session × (result ≡ outcome_of r) × (new.devices ≡ old.devices)
+    (r : Result (Unit {0}) Status) × LentAnswers old.session (worker_in e) status e.offset bytes r new.session
+    × (result ≡ outcome_of r) × (new.devices ≡ old.devices)
 
 -- the callback puts a status and bytes in the answer, or what C passed is refused
 abbrev pub AnswersThat : KazdrinEvent → List ℕ → SessionHost → ℕ → SessionHost → Option Status → Type 0

@@ -35,7 +35,8 @@ module _ {F : Type 0} (may : F → ContextKind → List ℕ → ℕ → Type 0) 
           one_less old.contexts.due c at.first ∙ ap (λ xs. suc (length xs)) (sym (ap (λ (w : World). w.contexts.due) event.1 ∙ at.due))
 
   -- where the worker is idle and is told of none, none is due
-  told_none : (old : World) → IsSound old → (m : Option CtxId) → slice_get old.contexts.due 0 ≡ m → ◌≡◌ {A = Result (Option Due) Status} (Ok None) (Ok (due_reply old.contexts)) → old.contexts.due ≡ []
+  told_none : (old : World) → IsSound old → (m : Option CtxId) → slice_get old.contexts.due 0 ≡ m
+      → ◌≡◌ {A = Result (Option Due) Status} (Ok None) (Ok (due_reply old.contexts)) → old.contexts.due ≡ []
   told_none old sound None none told = none_first old.contexts.due none
   told_none old sound (Some c) first told =
       let there = some_of is_some (context_at old.contexts.slots c) refl (due_there c sound.owned.lawful first) in
@@ -46,7 +47,9 @@ module _ {F : Type 0} (may : F → ContextKind → List ℕ → ℕ → Type 0) 
       value_in (Ok m) = m
       value_in (Err why) = None
 
-  none_due : (old new : World) (Event : Type 0) → IsSound old → (b : Bool) → Unless {T = Option Due} Status.WrongStep b (Ok None) old new (◌≡◌ {A = Result (Option Due) Status} (Ok None) (Ok (due_reply old.contexts)) × Event)
+  none_due : (old new : World) (Event : Type 0) → IsSound old → (b : Bool)
+      → Unless {T = Option Due} Status.WrongStep b (Ok None) old new
+      (◌≡◌ {A = Result (Option Due) Status} (Ok None) (Ok (due_reply old.contexts)) × Event)
       → b ≡ true → old.contexts.due ≡ []
   none_due old new Event sound true h is = told_none old sound (slice_get old.contexts.due 0) refl h.0
   none_due old new Event sound false h is = cc
@@ -56,7 +59,8 @@ module _ {F : Type 0} (may : F → ContextKind → List ℕ → ℕ → Type 0) 
   cleans_nothing old new sound takes = (took old k (Ok None) new sound takes, none_due old new _ sound (is_idle (worker_at old.workers k)) takes)
 
   not_refused : (old new : World) (why : Status) (Event : Type 0) → (b : Bool)
-      → Unless {T = Option Due} Status.WrongStep b (Err why) old new (◌≡◌ {A = Result (Option Due) Status} (Err why) (Ok (due_reply old.contexts)) × Event) → b ≡ true → old.contexts.due ≡ []
+      → Unless {T = Option Due} Status.WrongStep b (Err why) old new
+      (◌≡◌ {A = Result (Option Due) Status} (Err why) (Ok (due_reply old.contexts)) × Event) → b ≡ true → old.contexts.due ≡ []
   not_refused old new why Event true h is = cc
   not_refused old new why Event false h is = cc
 

@@ -33,7 +33,8 @@ module _ (k : WorkerId) (i : InstanceId) where
     unfolding AsksDetach
     asked_at asked h = (happened old k tt asked _ h).1
 
-    module _ (asked : World) (asks : asked ≡ record old { workers = put old.workers k (Place.Query i) }) (back : World) (allows : Bool) (ended : Result (Unit {0}) Status)
+    module _ (asked : World) (asks : asked ≡ record old { workers = put old.workers k (Place.Query i) }) (back : World) (allows : Bool)
+        (ended : Result (Unit {0}) Status)
         (returns : QueryReturns asked k allows ended back) where
       enters : asked.workers ≡ put old.workers k (Place.Query i)
       enters = ap (λ (w : World). w.workers) asks
@@ -66,7 +67,8 @@ module _ (k : WorkerId) (i : InstanceId) where
         }
 
     -- it agreed, so its teardown is under way
-    agreed : (s : StackWorld) (allows : Bool) (t : StackWorld) → stack.QueryReturns s i allows (Ok tt) t → passes stack.is_in_use (slice_get s.instances i.0) ≡ true
+    agreed : (s : StackWorld) (allows : Bool) (t : StackWorld) → stack.QueryReturns s i allows (Ok tt) t
+        → passes stack.is_in_use (slice_get s.instances i.0) ≡ true
     unfolding stack.QueryReturns
     agreed s allows t h = by_refusals (not allows) (passes stack.is_in_use (slice_get s.instances i.0)) h.0
       where
@@ -87,7 +89,8 @@ module _ (k : WorkerId) (i : InstanceId) where
         let is : back.stack ≡ stack.stopped old.stack i =
         queried_stack asked.stack allows back.stack at.0 ∙ ap (λ (w : World). stack.stopped w.stack i) from in
         ap (λ (s : StackWorld). is_leaving_phase (option_map (λ (row : Instance). row.phase) (slice_get s.instances i.0))) (tidies.stack ∙ is)
-        ∙ stopped_row old.stack.instances i.0 (ap (λ (w : World). passes stack.is_in_use (slice_get w.stack.instances i.0)) (sym from) ∙ agreed asked.stack allows back.stack at.0)
+        ∙ stopped_row old.stack.instances i.0 (ap (λ (w : World). passes stack.is_in_use (slice_get w.stack.instances i.0)) (sym from)
+        ∙ agreed asked.stack allows back.stack at.0)
 
     pub declined_leaves : (may : World → InstanceId → Bool → Type 0) (why : Status) (new : World) → AsksQuietly k i may old (Err why) new → CalmAfter old new
     declined_leaves may why new (inl h) = calm_same old new (ask_refused old k i why new h.1)
@@ -137,7 +140,8 @@ module _ (k : WorkerId) (i : InstanceId) where
           fewer = λ j h.
               let changed = subst (λ (s : StackWorld). stops s j ≡ true) (start_stack back new returns tidies) h in
               stays_fewer (stack.with_start StartMark.Made) (λ row t. t) old.stack.instances i.0 j
-              (stays_fewer (stack.with_start StartMark.Returned) (λ row t. t) (updated (stack.with_start StartMark.Made) old.stack.instances i.0) i.0 j changed);
+              (stays_fewer (stack.with_start StartMark.Returned) (λ row t. t)
+              (updated (stack.with_start StartMark.Made) old.stack.instances i.0) i.0 j changed);
         }
 
   -- the start was returned
@@ -152,7 +156,8 @@ module _ (k : WorkerId) (i : InstanceId) where
 
   -- or it was before, since no worker is in it
   told_before : (p : Phase) (m : StartMark) (why : Status) → is_made m ≡ false
-      → first_of ((is_detached p, Status.NoInstance) ∷ (not (is_stopping p && stack.is_not_made m), Status.WrongStep) ∷ []) ≡ Some why → is_stopping_phase p ≡ true
+      → first_of ((is_detached p, Status.NoInstance) ∷ (not (is_stopping p && stack.is_not_made m), Status.WrongStep) ∷ []) ≡ Some why
+      → is_stopping_phase p ≡ true
       → is_stopping p && stack.is_returned m ≡ true
   told_before Phase.Stopping StartMark.NotMade why not_made refused stops = cc
   told_before Phase.Stopping StartMark.Made why not_made refused stops = cc
@@ -179,11 +184,13 @@ module _ (k : WorkerId) (i : InstanceId) where
     pub not_setup : is_setup row.phase ≡ false
     not_setup = none_out (is_setup row.phase) (none_at AtSetup refl)
 
-  start_refusal : (old : World) (why : Status) (new : World) → IsAtRest k old → StartsTeardown old k i (Err why) new → first_of (stack.start_refusals old.stack i) ≡ Some why
+  start_refusal : (old : World) (why : Status) (new : World) → IsAtRest k old → StartsTeardown old k i (Err why) new
+      → first_of (stack.start_refusals old.stack i) ≡ Some why
   unfolding StartsTeardown stack.StartsTeardown
   start_refusal old why new rests h =
       (subst (λ (b : Bool). Unless {T = Unit {0}} Status.WrongStep b (Err why) old new
-      (stack.StartsTeardown old.stack i (Err why) new.stack × (new ≡ record old { stack = new.stack; workers = after_entering old.workers k (Place.Start i) (Err why) })))
+      (stack.StartsTeardown old.stack i (Err why) new.stack
+      × (new ≡ record old { stack = new.stack; workers = after_entering old.workers k (Place.Start i) (Err why) })))
       (ap is_idle rests.idle) h).0.0
 
   pub was_told : (old new : World) → IsSound old → IsAtRest k old → StartsQuietly k i old new → WasTold i new.stack
@@ -194,7 +201,8 @@ module _ (k : WorkerId) (i : InstanceId) where
       (by_row (slice_get old.stack.instances i.0) refl was (start_refusal old why new rests h))
     where
       by_row : (m : Option Instance) → slice_get old.stack.instances i.0 ≡ m → is_stopping_row m ≡ true
-          → first_of ((is_gone_at m, Status.NoInstance) ∷ (not (passes stack.is_to_start m), Status.WrongStep) ∷ []) ≡ Some why → passes stack.is_to_complete m ≡ true
+          → first_of ((is_gone_at m, Status.NoInstance) ∷ (not (passes stack.is_to_start m), Status.WrongStep) ∷ []) ≡ Some why
+          → passes stack.is_to_complete m ≡ true
       by_row None there stopping refused = cc
       by_row (Some row) there stopping refused = told_before row.phase row.start why (not_out old sound rests row there) refused stopping
   was_told old new sound rests (inr (started, back, starts, returns, tidies)) stopping =
@@ -212,16 +220,19 @@ module _ (k : WorkerId) (i : InstanceId) where
   none_flies t none = ap (λ rs. total (flight i.0) rs) none
 
   completes_row : (row : Instance) (asked : Bool) (n : ℕ) → stack.is_to_complete row ≡ true → asked ≡ false → n ≡ 0
-      → first_of ((is_detached row.phase, Status.NoInstance) ∷ (not (stack.is_to_complete row) || asked, Status.WrongStep) ∷ (nat_lt 0 n, Status.Busy n) ∷ []) ≡ None
+      → first_of ((is_detached row.phase, Status.NoInstance) ∷ (not (stack.is_to_complete row) || asked, Status.WrongStep)
+      ∷ (nat_lt 0 n, Status.Busy n) ∷ []) ≡ None
   completes_row row asked n ready none calm = grind arith
 
   complete_refusals : (m : Option Instance) (asked : Bool) (n : ℕ) → passes stack.is_to_complete m ≡ true → asked ≡ false → n ≡ 0
-      → first_of ((is_gone_at m, Status.NoInstance) ∷ (not (passes stack.is_to_complete m) || asked, Status.WrongStep) ∷ (nat_lt 0 n, Status.Busy n) ∷ []) ≡ None
+      → first_of ((is_gone_at m, Status.NoInstance) ∷ (not (passes stack.is_to_complete m) || asked, Status.WrongStep)
+      ∷ (nat_lt 0 n, Status.Busy n) ∷ []) ≡ None
   complete_refusals None asked n ready none calm = cc
   complete_refusals (Some row) asked n ready none calm = completes_row row asked n ready none calm
 
   -- nothing refuses it
-  pub completes : (old : World) (why : Status) (new : World) → IsAtRest k old → WasTold i old.stack → stops old.stack i.0 ≡ true → CompletesTeardown old k i (Err why) new → ⊥
+  pub completes : (old : World) (why : Status) (new : World) → IsAtRest k old → WasTold i old.stack → stops old.stack i.0 ≡ true
+      → CompletesTeardown old k i (Err why) new → ⊥
   unfolding CompletesTeardown stack.CompletesTeardown
   completes old why new rests was stopping h =
       let event =
@@ -239,7 +250,8 @@ module _ (k : WorkerId) (i : InstanceId) where
       let event = happened old k tt completing _ h in
       event.1 ∙ ap (λ (s : StackWorld). record old { stack = s; workers = put old.workers k (Place.Complete i) }) event.0.1
 
-  module _ (old : World) (idle : worker_at old.workers k ≡ Some Place.Idle) (completing : World) (completes : CompletesTeardown old k i (Ok tt) completing) where
+  module _ (old : World) (idle : worker_at old.workers k ≡ Some Place.Idle) (completing : World)
+      (completes : CompletesTeardown old k i (Ok tt) completing) where
     from_complete : worker_at completing.workers k ≡ Some (Place.Complete i)
     from_complete = is_in k old completing (Place.Complete i) idle (ap (λ (w : World). w.workers) (completing_at old completing completes))
 
@@ -247,9 +259,11 @@ module _ (k : WorkerId) (i : InstanceId) where
     unfolding CompleteReturns
     complete_at back h = subst (CompleteReturnsAt completing k (Ok tt) back) from_complete h
 
-    pub complete_stack : (back new : World) → CompleteReturns completing k (Ok tt) back → Tidies back new → new.stack ≡ stack.emptying (stack.completing old.stack i) i
+    pub complete_stack : (back new : World) → CompleteReturns completing k (Ok tt) back → Tidies back new
+        → new.stack ≡ stack.emptying (stack.completing old.stack i) i
     complete_stack back new returns tidies =
-        tidies.stack ∙ ap (λ (w : World). w.stack) (complete_at back returns).4 ∙ ap (λ (w : World). stack.emptying w.stack i) (completing_at old completing completes)
+        tidies.stack ∙ ap (λ (w : World). w.stack) (complete_at back returns).4
+        ∙ ap (λ (w : World). stack.emptying w.stack i) (completing_at old completing completes)
 
     complete_leaves : (back new : World) → CompleteReturns completing k (Ok tt) back → Tidies back new → CalmAfter old new × (stops new.stack i.0 ≡ false)
     complete_leaves back new returns tidies =
@@ -262,10 +276,12 @@ module _ (k : WorkerId) (i : InstanceId) where
                 stays_fewer (stack.in_phase Phase.Completing) (λ row t. cc) old.stack.instances i.0 j
                 (stays_fewer (stack.in_phase Phase.Emptying) (λ row t. cc) (updated (stack.in_phase Phase.Completing) old.stack.instances i.0) i.0 j changed);
           },
-          ap (λ (s : StackWorld). stops s i.0) is ∙ goes (stack.in_phase Phase.Emptying) (λ row. refl) (updated (stack.in_phase Phase.Completing) old.stack.instances i.0) i.0,
+          ap (λ (s : StackWorld). stops s i.0) is ∙ goes (stack.in_phase Phase.Emptying) (λ row. refl)
+              (updated (stack.in_phase Phase.Completing) old.stack.instances i.0) i.0,
         )
 
-  pub completes_leaves : (old new : World) → worker_at old.workers k ≡ Some Place.Idle → CompletesQuietly k i old new → CalmAfter old new × (stops new.stack i.0 ≡ false)
+  pub completes_leaves : (old new : World) → worker_at old.workers k ≡ Some Place.Idle → CompletesQuietly k i old new
+      → CalmAfter old new × (stops new.stack i.0 ≡ false)
   completes_leaves old new idle (inl (not, same)) = (calm_same old new same, ap (λ (w : World). stops w.stack i.0) same ∙ not)
   completes_leaves old new idle (inr (completing, back, completes, returns, tidies)) = complete_leaves old idle completing completes back new returns tidies
 
@@ -279,8 +295,10 @@ module _ (k : WorkerId) (i : InstanceId) where
   torn_leaves old result new rests (started, completed, tidy, starts, completes, tidies, finishes) =
       let first = starts_leaves old started rests.idle starts in
       let then = completes_leaves started completed (rests_on k old started first.undisturbed rests).idle completes in
-      let last = calm_both completed tidy new (calm_tidied completed tidy tidies) (calm_finished tidy i result new finishes) in
-      (calm_both old started new first (calm_both started completed new then.0 last), not_both (stops new.stack i.0) (stops completed.stack i.0) (last.fewer i.0) then.1)
+      let last = calm_both completed tidy new (calm_tidied completed tidy tidies) (calm_finished tidy i result new finishes) in (
+        calm_both old started new first (calm_both started completed new then.0 last),
+        not_both (stops new.stack i.0) (stops completed.stack i.0) (last.fewer i.0) then.1,
+      )
 
   -- it was the one more
   pub one_goes : (old mid new : World) → CalmButOne old mid → CalmAfter mid new → stops new.stack i.0 ≡ false → CalmAfter old new
@@ -309,7 +327,8 @@ module _ (k : WorkerId) (i : InstanceId) where
       by_stopping true d = none_owed old.flow o completion none d.0.owed
       by_stopping false d = none-some (o, completion) (sym d.0)
 
-  pub drain_same : (old : World) (result : Result (Option (OpId × Completion)) Status) (new : World) → old.flow.operations ≡ [] → TakesDrain old k i result new → new ≡ old
+  pub drain_same : (old : World) (result : Result (Option (OpId × Completion)) Status) (new : World) → old.flow.operations ≡ []
+      → TakesDrain old k i result new → new ≡ old
   unfolding TakesDrain
   drain_same old (Err why) new none h = refused_same (Option (OpId × Completion)) old k why new _ h (λ event. event.1)
   drain_same old (Ok None) new none h = by_stopping (is_stopping_at (row_at old.stack i)) (happened old k None new _ h).1

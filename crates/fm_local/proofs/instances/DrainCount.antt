@@ -87,7 +87,8 @@ module _ (i : InstanceId) where
       by_record None at owing = absurd (none-some completion owing)
       by_record (Some r) at owing =
           let count = count_changed left_of (is_number o) (drained_early i) old.operations r at in
-          let goes : count_by left_of new.operations ≡ count_by left_of (change_first (is_number o) (drained_early i) old.operations) = ap (λ t. count_by left_of t.operations) h.after in
+          let goes : count_by left_of new.operations ≡ count_by left_of (change_first (is_number o) (drained_early i) old.operations) =
+          ap (λ t. count_by left_of t.operations) h.after in
           let before : ◌≡◌ {A = ℕ} (cond (left_of r) 1 0) 1 = ap (λ (b : Bool). cond {A = ℕ} b 1 0) (owing_left r completion owing) in
           let after : ◌≡◌ {A = ℕ} (cond (left_of (drained_early i r)) 1 0) 0 = ap (λ (b : Bool). cond {A = ℕ} b 1 0) (drained_left r) in
           omega (arith, count, goes, before, after)
@@ -101,10 +102,12 @@ module _ (i : InstanceId) where
       same (Drain visit) = refl
       same _ = refl
 
-  over_most : (j : InstanceId) (o : OpId) (t : FlowTable) → count_by is_left (map shape_of (drain_done_of o j t).operations) ≤ count_by is_left (map shape_of t.operations)
+  over_most : (j : InstanceId) (o : OpId) (t : FlowTable)
+      → count_by is_left (map shape_of (drain_done_of o j t).operations) ≤ count_by is_left (map shape_of t.operations)
   over_most j o t = by_record (operation_at o t)
     where
-      by_spent : (b : Bool) → count_by is_left (map shape_of (cond b (removed o t) (changed o (early_over j) t)).operations) ≤ count_by is_left (map shape_of t.operations)
+      by_spent : (b : Bool) → count_by is_left (map shape_of (cond b (removed o t) (changed o (early_over j) t)).operations) ≤ count_by
+          is_left (map shape_of t.operations)
       by_spent true = omega (arith, counted (removed o t).operations, counted t.operations, count_without left_of (is_number o) t.operations)
       by_spent false = omega (arith, ap (count_by is_left) (map_changed shape_of (is_number o) (early_over j) t.operations (over_shaped j)))
 
@@ -112,7 +115,8 @@ module _ (i : InstanceId) where
       by_record None = omega arith
       by_record (Some r) = by_spent (is_spent (early_over j r))
 
-module _ (k : WorkerId) (i : InstanceId) (old : World) (o : OpId) (completion : Completion) (mid : World) (takes : TakesDrain old k i (Ok (Some (o, completion))) mid) where
+module _ (k : WorkerId) (i : InstanceId) (old : World) (o : OpId) (completion : Completion) (mid : World)
+    (takes : TakesDrain old k i (Ok (Some (o, completion))) mid) where
   taken : left_to_drain i mid + 1 ≡ left_to_drain i old
   unfolding TakesDrain
   taken = by_stopping (is_stopping_at (row_at old.stack i)) (happened old k (Some (o, completion)) mid _ takes).1
@@ -132,7 +136,9 @@ module _ (k : WorkerId) (i : InstanceId) (old : World) (o : OpId) (completion : 
       by_worker (Some (Place.EarlyDrain p j)) h = omega (arith, ap (left_to_drain i) h.2, over_most i j p before.flow)
       by_worker _ h = stays h.1
 
-  pub drained_less : (ended : Result (Unit {0}) Status) (new : World) → EndsFrom mid (λ before. DrainReturns before k ended new) → left_to_drain i new < left_to_drain i old
+  pub drained_less : (ended : Result (Unit {0}) Status) (new : World) → EndsFrom mid (λ before. DrainReturns before k ended new)
+      → left_to_drain i new < left_to_drain i old
   drained_less ended new (before, stands, returns) =
-      let same : left_to_drain i before ≡ left_to_drain i mid = ap (λ s. count_by (λ (x : Shape). not (list_any (λ j. j == i.0) x.drained)) s.operations) stands in
+      let same : left_to_drain i before ≡ left_to_drain i mid =
+      ap (λ s. count_by (λ (x : Shape). not (list_any (λ j. j == i.0) x.drained)) s.operations) stands in
       omega (arith, taken, same, returned before ended new returns)

@@ -26,7 +26,8 @@ use Rattle.fm_local.proofs.instances.Rest.{by_tidying, rests_on}
 abbrev Passes : {X : Type 0} → (X → Bool) → List X → Type 0
 Passes {X} p xs = (j : ℕ) × (x : X) × (slice_get xs j ≡ Some x) × (p x ≡ true)
 
-any_first : {X : Type 0} (p : X → Bool) (x : X) (xs : List X) (b : Bool) → p x ≡ b → b || list_any p xs ≡ true → (list_any p xs ≡ true → Passes p xs) → Passes p (x ∷ xs)
+any_first : {X : Type 0} (p : X → Bool) (x : X) (xs : List X) (b : Bool) → p x ≡ b → b || list_any p xs ≡ true
+    → (list_any p xs ≡ true → Passes p xs) → Passes p (x ∷ xs)
 any_first p x xs true is h rest = (zero, x, refl, is)
 any_first p x xs false is h rest = (suc (rest h).0, (rest h).1, (rest h).2, (rest h).3)
 
@@ -49,13 +50,15 @@ abbrev phase_in : Option Instance → Option Phase
 phase_in m = option_map (λ (row : Instance). row.phase) m
 
 -- a change that leaves the phase
-same_phase : (g : Instance → Instance) → ((row : Instance) → (g row).phase ≡ row.phase) → (rows : List Instance) (n : ℕ) → phase_in (slice_get (updated g rows n) n) ≡ phase_in (slice_get rows n)
+same_phase : (g : Instance → Instance) → ((row : Instance) → (g row).phase ≡ row.phase) → (rows : List Instance) (n : ℕ)
+    → phase_in (slice_get (updated g rows n) n) ≡ phase_in (slice_get rows n)
 same_phase g keeps [] n = refl
 same_phase g keeps (x ∷ rows) zero = ap Some (keeps x)
 same_phase g keeps (x ∷ rows) (suc n) = same_phase g keeps rows n
 
 -- and one that makes it another
-made_phase : (p : Phase) (rows : List Instance) (n : ℕ) (q : Phase) → phase_in (slice_get rows n) ≡ Some q → phase_in (slice_get (updated (stack.in_phase p) rows n) n) ≡ Some p
+made_phase : (p : Phase) (rows : List Instance) (n : ℕ) (q : Phase) → phase_in (slice_get rows n) ≡ Some q
+    → phase_in (slice_get (updated (stack.in_phase p) rows n) n) ≡ Some p
 made_phase p [] n q there = absurd (none-some q there)
 made_phase p (x ∷ rows) zero q there = refl
 made_phase p (x ∷ rows) (suc n) q there = made_phase p rows n q there
@@ -79,7 +82,8 @@ module _ (k : WorkerId) (i : InstanceId) where
       ∙ same_phase (stack.with_start StartMark.Returned) (λ row. refl) (updated (stack.with_start StartMark.Made) old.stack.instances i.0) i.0
       ∙ same_phase (stack.with_start StartMark.Made) (λ row. refl) old.stack.instances i.0
 
-  completes_keep : (old new : World) → IsAtRest k old → (p : Phase) → phase_at old ≡ Some p → is_leaving_phase (Some p) ≡ true → is_completing p ≡ false → CompletesQuietly k i old new
+  completes_keep : (old new : World) → IsAtRest k old → (p : Phase) → phase_at old ≡ Some p → is_leaving_phase (Some p) ≡ true
+      → is_completing p ≡ false → CompletesQuietly k i old new
       → is_emptying_at (slice_get new.stack.instances i.0) ≡ true
   completes_keep old new rests p there leaves over (inl (still, same)) =
       ap (λ (w : World). is_emptying_at (slice_get w.stack.instances i.0)) same
@@ -90,18 +94,23 @@ module _ (k : WorkerId) (i : InstanceId) where
       left _ leaves not still = cc
   completes_keep old new rests p there leaves over (inr (completing, back, completes, returns, tidies)) =
       ap (λ (s : StackWorld). is_emptying_at (slice_get s.instances i.0)) (complete_stack k i old rests.idle completing completes back new returns tidies)
-      ∙ emptying_by (slice_get (updated (stack.in_phase Phase.Emptying) (updated (stack.in_phase Phase.Completing) old.stack.instances i.0) i.0) i.0) Phase.Emptying
-      (made_phase Phase.Emptying (updated (stack.in_phase Phase.Completing) old.stack.instances i.0) i.0 Phase.Completing (made_phase Phase.Completing old.stack.instances i.0 p there)) refl
+      ∙ emptying_by (slice_get (updated (stack.in_phase Phase.Emptying)
+      (updated (stack.in_phase Phase.Completing) old.stack.instances i.0) i.0) i.0) Phase.Emptying
+      (made_phase Phase.Emptying (updated (stack.in_phase Phase.Completing) old.stack.instances i.0) i.0 Phase.Completing
+      (made_phase Phase.Completing old.stack.instances i.0 p there)) refl
 
   -- an instance whose teardown is under way is being emptied behind it
-  pub comes_to_end : (old started completed : World) → IsSound old → IsAtRest k old → IsAtRest k started → is_leaving old i ≡ true → StartsQuietly k i old started
+  pub comes_to_end : (old started completed : World) → IsSound old → IsAtRest k old → IsAtRest k started → is_leaving old i ≡ true
+      → StartsQuietly k i old started
       → CompletesQuietly k i started completed → is_emptying_at (slice_get completed.stack.instances i.0) ≡ true
   comes_to_end old started completed sound rests still leaves starts completes = by_row (slice_get old.stack.instances i.0) refl leaves
     where
-      by_row : (m : Option Instance) → slice_get old.stack.instances i.0 ≡ m → is_leaving_phase (phase_in m) ≡ true → is_emptying_at (slice_get completed.stack.instances i.0) ≡ true
+      by_row : (m : Option Instance) → slice_get old.stack.instances i.0 ≡ m → is_leaving_phase (phase_in m) ≡ true
+          → is_emptying_at (slice_get completed.stack.instances i.0) ≡ true
       by_row None there leaves = cc
       by_row (Some row) there leaves =
-          completes_keep started completed still row.phase (starts_keep old started rests starts ∙ ap phase_in there) leaves (not_completing k i old sound rests row there) completes
+          completes_keep started completed still row.phase (starts_keep old started rests starts ∙ ap phase_in there) leaves
+          (not_completing k i old sound rests row there) completes
 
 -- ---- nothing is left of the instance
 
@@ -127,7 +136,8 @@ module _ (k : WorkerId) (i : InstanceId) (w : World) (sound : IsSound w) (rests 
   same_instance (Owner.Instance j) h = grind arith
   same_instance (Owner.Filter f) h = cc
 
-  open_owned : (s : Slot) (m : Option Context) → s.context ≡ m → is_open (Owner.Instance i) m ≡ true → (c : CtxId) → c.generation ≡ s.generation → slice_get w.contexts.slots c.slot ≡ Some s
+  open_owned : (s : Slot) (m : Option Context) → s.context ≡ m → is_open (Owner.Instance i) m ≡ true → (c : CtxId)
+      → c.generation ≡ s.generation → slice_get w.contexts.slots c.slot ≡ Some s
       → owner_at w.contexts.slots c ≡ Some (Owner.Instance i)
   unfolding context_at
   open_owned s None is opened c named there = cc
@@ -149,10 +159,12 @@ module _ (k : WorkerId) (i : InstanceId) (w : World) (sound : IsSound w) (rests 
       by_any false h = none_any opens w.contexts.slots h
       by_any true h =
           let at = any_at opens w.contexts.slots h in
-          absurd (owns_none waiting (record { slot = at.0; generation = at.1.generation }) (open_owned at.1 at.1.context refl at.3 (record { slot = at.0; generation = at.1.generation }) refl at.2))
+          absurd (owns_none waiting (record { slot = at.0; generation = at.1.generation })
+          (open_owned at.1 at.1.context refl at.3 (record { slot = at.0; generation = at.1.generation }) refl at.2))
 
   -- so its end isn't refused
-  pub finishes : is_emptying_at (slice_get w.stack.instances i.0) ≡ true → (why : Status) (new : World) → Finishes w i (Err why) new → WaitsIfBusy w i (Err why) → ⊥
+  pub finishes : is_emptying_at (slice_get w.stack.instances i.0) ≡ true → (why : Status) (new : World) → Finishes w i (Err why) new
+      → WaitsIfBusy w i (Err why) → ⊥
   unfolding Finishes
   finishes emptying why new h waits =
       let open' = open_of w.contexts.slots (Owner.Instance i) in
@@ -161,11 +173,14 @@ module _ (k : WorkerId) (i : InstanceId) (w : World) (sound : IsSound w) (rests 
       none-some why (sym (busy emptying ∙ ap (λ n. cond (nat_lt 0 n) (Some (Status.Busy n)) None) (none_open waiting)) ∙ h.0)
     where
       refusal : (m : Option Instance) (n : ℕ) → is_emptying_at m ≡ true
-          → first_of ((is_gone_at m, Status.NoInstance) ∷ (not (is_emptying_at m), Status.WrongStep) ∷ (nat_lt 0 n, Status.Busy n) ∷ []) ≡ cond (nat_lt 0 n) (Some (Status.Busy n)) None
+          → first_of ((is_gone_at m, Status.NoInstance) ∷ (not (is_emptying_at m), Status.WrongStep) ∷ (nat_lt 0 n, Status.Busy n)
+          ∷ []) ≡ cond (nat_lt 0 n) (Some (Status.Busy n)) None
       refusal None n h = cc
       refusal (Some row) n h = grind arith
 
-      busy : is_emptying_at (slice_get w.stack.instances i.0) ≡ true → finish_refused w i ≡ cond (nat_lt 0 (open_of w.contexts.slots (Owner.Instance i))) (Some (Status.Busy (open_of w.contexts.slots (Owner.Instance i)))) None
+      busy : is_emptying_at (slice_get w.stack.instances i.0) ≡ true
+          → finish_refused w i ≡ cond (nat_lt 0 (open_of w.contexts.slots (Owner.Instance i)))
+          (Some (Status.Busy (open_of w.contexts.slots (Owner.Instance i)))) None
       busy emptying = refusal (slice_get w.stack.instances i.0) (open_of w.contexts.slots (Owner.Instance i)) emptying
 
       other : (n : ℕ) (why : Status) → cond (nat_lt 0 n) (Some (Status.Busy n)) None ≡ Some why → why ≡ Status.Busy n
@@ -180,10 +195,12 @@ module _ (k : WorkerId) (i : InstanceId) (old mid late tidy : World) (sound : Is
   late_rests : IsAtRest k late
   late_rests = rests_on k mid late (completes_leaves k i mid late mid_rests.idle completes).0.undisturbed mid_rests
 
-  pub ends_well : is_leaving old i ≡ true → IsSound tidy → HasNoneDue k tidy → (result : Result (Unit {0}) Status) (new : World) → Finishes tidy i result new → WaitsIfBusy tidy i result
+  pub ends_well : is_leaving old i ≡ true → IsSound tidy → HasNoneDue k tidy → (result : Result (Unit {0}) Status) (new : World)
+      → Finishes tidy i result new → WaitsIfBusy tidy i result
       → IsOk result
   ends_well leaves still none (Ok done) new h waits = refl
   ends_well leaves still none (Err why) new h waits =
-      let emptying = ap (λ (s : StackWorld). is_emptying_at (slice_get s.instances i.0)) tidies.stack ∙ comes_to_end k i old mid late sound rests mid_rests leaves starts completes in
+      let emptying = ap (λ (s : StackWorld). is_emptying_at (slice_get s.instances i.0)) tidies.stack
+      ∙ comes_to_end k i old mid late sound rests mid_rests leaves starts completes in
       let calm = rests_on k late tidy (by_tidying late tidy tidies) late_rests in
       absurd (finishes k i tidy still calm (none (ap is_idle calm.idle)) emptying why new h waits)

@@ -25,7 +25,8 @@ module _ (k : WorkerId) where
 
   -- ---- events that aren't made by a worker
 
-  pub none_registered : (old : World) (name : List ℕ) (registration : Registration) (result : Result FilterId Status) (new : World) → Registers old name registration result new → LeavesNoneDue k old new
+  pub none_registered : (old : World) (name : List ℕ) (registration : Registration) (result : Result FilterId Status) (new : World)
+      → Registers old name registration result new → LeavesNoneDue k old new
   unfolding Registers
   none_registered old name registration result new h = only_stack old new new.stack h.1
 
@@ -56,7 +57,8 @@ module _ (k : WorkerId) where
 
   -- ---- refusals of events that begin a callback
 
-  pub none_attached : (old : World) (f : FilterId) (v : VolumeId) (name altitude : List ℕ) (why : Status) (new : World) → Attaches old k f v name altitude (Err why) new → LeavesNoneDue k old new
+  pub none_attached : (old : World) (f : FilterId) (v : VolumeId) (name altitude : List ℕ) (why : Status) (new : World)
+      → Attaches old k f v name altitude (Err why) new → LeavesNoneDue k old new
   none_attached old f v name altitude why new h = none_same old new (attach_refused old k f v name altitude why new h)
 
   pub none_asked : (old : World) (i : InstanceId) (why : Status) (new : World) → AsksDetach old k i (Err why) new → LeavesNoneDue k old new
@@ -76,9 +78,11 @@ module _ (k : WorkerId) where
 
   was_idle : (old asked : World) (f : FilterId) → AsksUnload old k f (Ok tt) asked → worker_at old.workers k ≡ Some Place.Idle
   unfolding AsksUnload
-  was_idle old asked f h = idle_by (λ result new. IsOk result → worker_at old.workers k ≡ Some Place.Idle) k (Ok tt) old asked _ h (λ why ok. cc) (λ idle event ok. idle) refl
+  was_idle old asked f h = idle_by (λ result new. IsOk result → worker_at old.workers k ≡ Some Place.Idle) k (Ok tt) old asked _ h
+      (λ why ok. cc) (λ idle event ok. idle) refl
 
-  none_unload : (old asked : World) (f : FilterId) (allows : Bool) (ended : Result (Unit {0}) Status) (new : World) → AsksUnload old k f (Ok tt) asked → UnloadReturns asked k allows ended new
+  none_unload : (old asked : World) (f : FilterId) (allows : Bool) (ended : Result (Unit {0}) Status) (new : World)
+      → AsksUnload old k f (Ok tt) asked → UnloadReturns asked k allows ended new
       → LeavesNoneDue k old new
   unfolding UnloadReturns
   none_unload old asked f allows ended new asks returns =
@@ -86,12 +90,14 @@ module _ (k : WorkerId) where
       let idle = was_idle old asked f asks in
       let enters = ap (λ (w : World). w.workers) from in
       let at = subst (UnloadReturnsAt asked k allows ended new) (is_in k old asked (Place.Unload f) idle enters) returns in
-      none_still old new (is_out k old asked new (Place.Unload f) idle enters (ap (λ (w : World). w.workers) at.1)) (ap (λ (w : World). w.contexts) at.1 ∙ ap (λ (w : World). w.contexts) from)
+      none_still old new (is_out k old asked new (Place.Unload f) idle enters (ap (λ (w : World). w.workers) at.1))
+      (ap (λ (w : World). w.contexts) at.1 ∙ ap (λ (w : World). w.contexts) from)
 
   pub none_refused : (old : World) (f : FilterId) (why : Status) (new : World) → AsksUnload old k f (Err why) new → LeavesNoneDue k old new
   none_refused old f why new h = none_same old new (ask_unload_refused old k f why new h)
 
-  pub none_agreed : (may : Bool → Type 0) (old : World) (f : FilterId) (asked : World) → AsksUnload old k f (Ok tt) asked → (result : Result (Unit {0}) Status) (new : World)
+  pub none_agreed : (may : Bool → Type 0) (old : World) (f : FilterId) (asked : World) → AsksUnload old k f (Ok tt) asked
+      → (result : Result (Unit {0}) Status) (new : World)
       → UnloadsWith may k asked result new → LeavesNoneDue k old new
   none_agreed may old f asked asks result new (allows, answer, returns) = none_unload old asked f allows result new asks returns
 

@@ -30,7 +30,12 @@ not_ok why h = cc
 
 -- nothing changed but the state
 pub settled_state : {F B : Type 0} (old new : Parts F B) → OnlyState old new → old.work.resumed.items.items ≡ [] → IsSettled old new
-settled_state old new kept settled = record { bases = ap (λ m. m.bases) kept; filters = ap (λ m. m.filters) kept; settled = ap (λ m. m.work.resumed.items.items) kept ∙ settled }
+settled_state old new kept settled = record {
+  bases = ap (λ m. m.bases) kept;
+  filters = ap (λ m. m.filters) kept;
+  settled =
+      ap (λ m. m.work.resumed.items.items) kept ∙ settled;
+}
 
 -- ---- filters that are plain, where all is at rest
 
@@ -40,7 +45,8 @@ module _ {F B : Type 0} (pre : F → Data → PreVerdict → Data → Type 0) (p
     pub rests : IsAtRest k m.work.state
     pub settled : m.work.resumed.items.items ≡ []
 
-module _ {F B : Type 0} {pre : F → Data → PreVerdict → Data → Type 0} {post : F → Data → Completion → PostVerdict → Data → Type 0} {is_quiet : F → Type 0} (k : WorkerId)
+module _ {F B : Type 0} {pre : F → Data → PreVerdict → Data → Type 0} {post : F → Data → Completion → PostVerdict → Data
+    → Type 0} {is_quiet : F → Type 0} (k : WorkerId)
     (old mid : Parts F B) (plain : ArePlainFilters pre post is_quiet (numbered old.filters)) (rests : IsAtRest k old.work.state) where
   still : IsAtRest k mid.work.state → IsSettled old mid → RestsPlainly pre post is_quiet k mid
   still again settles = record {
@@ -50,7 +56,8 @@ module _ {F B : Type 0} {pre : F → Data → PreVerdict → Data → Type 0} {p
   }
 
   -- behind the start of a teardown, of which the filter was told
-  pub started_still : (i : InstanceId) → IsSound old.work.state → StartsQuietly k i old.work.state mid.work.state × IsSettled old mid → RestsPlainly pre post is_quiet k mid × WasTold i mid.work.state.stack
+  pub started_still : (i : InstanceId) → IsSound old.work.state → StartsQuietly k i old.work.state mid.work.state × IsSettled old mid
+      → RestsPlainly pre post is_quiet k mid × WasTold i mid.work.state.stack
   started_still i sound (starts, settles) = (
     still (rests_on k old.work.state mid.work.state (starts_leaves k i old.work.state mid.work.state rests.idle starts).undisturbed rests) settles,
     was_told k i old.work.state mid.work.state sound rests starts,
@@ -58,7 +65,8 @@ module _ {F B : Type 0} {pre : F → Data → PreVerdict → Data → Type 0} {p
 
   -- behind the first instances of a filter
   pub first_still : (f : FilterId) (n : ℕ) → TearsDownFirst k f n old.work.state mid.work.state × IsSettled old mid → RestsPlainly pre post is_quiet k mid
-  first_still f n (first, settles) = still (rests_on k old.work.state mid.work.state (first_gone f k n old.work.state mid.work.state rests first).calm.undisturbed rests) settles
+  first_still f n (first, settles) = still (rests_on k old.work.state mid.work.state
+      (first_gone f k n old.work.state mid.work.state rests first).calm.undisturbed rests) settles
 
 -- ---- the numbers of filters, and workers that are new
 
@@ -74,10 +82,12 @@ no_place (suc m) (suc n) = no_place m n
 
 none_loaded : {F : Type 0} (fs : Filters F) → fs.loaded ≡ replicate 16 None → (n : ℕ) (f : F) → numbered fs n ≡ Some f → ⊥
 none_loaded fs none n f there =
-    none-some f (sym (ap (option_and_then (handed_in fs)) (ap (λ xs. option_and_then (λ (place : Option ℕ). place) (slice_get xs n)) none ∙ no_place 16 n)) ∙ there)
+    none-some f (sym (ap (option_and_then (handed_in fs))
+    (ap (λ xs. option_and_then (λ (place : Option ℕ). place) (slice_get xs n)) none ∙ no_place 16 n)) ∙ there)
 
 -- which number stands for which filter may change, where all that were handed in are plain
-plain_numbered : {F : Type 0} (pre : F → Data → PreVerdict → Data → Type 0) (post : F → Data → Completion → PostVerdict → Data → Type 0) (is_quiet : F → Type 0) (old new : Filters F)
+plain_numbered : {F : Type 0} (pre : F → Data → PreVerdict → Data → Type 0) (post : F → Data → Completion → PostVerdict → Data
+    → Type 0) (is_quiet : F → Type 0) (old new : Filters F)
     → new.all ≡ old.all → ArePlainFilters pre post is_quiet (handed_in old) → ArePlainFilters pre post is_quiet (numbered new)
 plain_numbered {F} pre post is_quiet old new same plain n f there = by_place (place_of new n) there
   where
@@ -86,7 +96,8 @@ plain_numbered {F} pre post is_quiet old new same plain n f there = by_place (pl
     by_place (Some place) there = plain place f (sym (ap (λ all. option_map (λ row. row.1) (slice_get all.items place)) same) ∙ there)
 
 module _ {F B : Type 0} {own : filter.Ghosts F} {below : base.Ghosts B} {k : WorkerId} where
-  pub ready_again : (old new : Parts F B) → IsReady own below k old → IsSettled old new → CalmAfter old.work.state new.work.state → LeavesReady own below k old new
+  pub ready_again : (old new : Parts F B) → IsReady own below k old → IsSettled old new → CalmAfter old.work.state new.work.state
+      → LeavesReady own below k old new
   ready_again old new ready settles calm = record {
     settles = settles;
     ready = record {
@@ -99,7 +110,8 @@ module _ {F B : Type 0} {own : filter.Ghosts F} {below : base.Ghosts B} {k : Wor
 
   -- ---- new, load and mount
 
-  pub new_ready : (m : Parts F B) → worker_at empty_world.workers k ≡ Some Place.Idle → m.work.state ≡ empty_world → m.filters.loaded ≡ replicate 16 None → m.work.resumed.items.items ≡ [] → IsReady own below k m
+  pub new_ready : (m : Parts F B) → worker_at empty_world.workers k ≡ Some Place.Idle → m.work.state ≡ empty_world
+      → m.filters.loaded ≡ replicate 16 None → m.work.resumed.items.items ≡ [] → IsReady own below k m
   new_ready m idle empty none settled = record {
     plain = λ n f there. absurd (none_loaded m.filters none n f there);
     rests = subst (IsAtRest k) (sym empty) (record { operations = refl; idle = idle; all = λ j a at. all_idle 48 j a at });
@@ -107,7 +119,9 @@ module _ {F B : Type 0} {own : filter.Ghosts F} {below : base.Ghosts B} {k : Wor
     settled = settled;
   }
 
-  pub loaded_ready : (old new : Parts F B) → IsReady own below k old → ArePlainFilters own.pre_may own.post_may own.is_quiet (handed_in old.filters) → new.filters.all ≡ old.filters.all → new.work.resumed ≡ old.work.resumed
+  pub loaded_ready : (old new : Parts F B) → IsReady own below k old
+      → ArePlainFilters own.pre_may own.post_may own.is_quiet (handed_in old.filters) → new.filters.all ≡ old.filters.all
+      → new.work.resumed ≡ old.work.resumed
       → CalmAfter old.work.state new.work.state → IsReady own below k new
   loaded_ready old new ready plain same resumed calm = record {
     plain = plain_numbered own.pre_may own.post_may own.is_quiet old.filters new.filters same plain;
@@ -116,7 +130,8 @@ module _ {F B : Type 0} {own : filter.Ghosts F} {below : base.Ghosts B} {k : Wor
     settled = ap (λ q. q.items.items) resumed ∙ ready.settled;
   }
 
-  pub mounted_ready : (old new : Parts F B) → IsReady own below k old → new.filters ≡ old.filters → new.work.resumed ≡ old.work.resumed → CalmAfter old.work.state new.work.state → IsReady own below k new
+  pub mounted_ready : (old new : Parts F B) → IsReady own below k old → new.filters ≡ old.filters → new.work.resumed ≡ old.work.resumed
+      → CalmAfter old.work.state new.work.state → IsReady own below k new
   mounted_ready old new ready same resumed calm = record {
     plain = subst (λ (fs : Filters F). ArePlainFilters own.pre_may own.post_may own.is_quiet (numbered fs)) (sym same) ready.plain;
     rests = rests_on k old.work.state new.work.state calm.undisturbed ready.rests;
@@ -137,7 +152,8 @@ module _ {F B : Type 0} {own : filter.Ghosts F} {below : base.Ghosts B} {k : Wor
     -- the new instance was set up, or refused
     pub attach_leaves : (i : InstanceId) (born : World) (may : Bool → Type 0) (ended : Result (Unit {0}) Status) (new : Parts F B)
         → Attaches old.work.state k f v name altitude (Ok i) born
-        → SetUpQuietly k i may born ended new.work.state × IsSettled (record old { work = record old.work { state = born } }) new → LeavesReady own below k old new
+        → SetUpQuietly k i may born ended new.work.state × IsSettled (record old { work = record old.work { state = born } }) new
+        → LeavesReady own below k old new
     attach_leaves i born may ended new attaches (sets, settles) =
         ready_again old new ready (record { bases = settles.bases; filters = settles.filters; settled = settles.settled })
         (set_up_leaves k i old.work.state ready.rests.idle f v name altitude born may ended new.work.state attaches sets)
@@ -148,50 +164,62 @@ module _ {F B : Type 0} {own : filter.Ghosts F} {below : base.Ghosts B} {k : Wor
     -- its filter, or a refusal before it was asked, keeps it
     pub kept_leaves : (may : World → InstanceId → Bool → Type 0) (why : Status) (new : Parts F B)
         → AsksQuietly k i may old.work.state (Err why) new.work.state × IsSettled old new → LeavesReady own below k old new
-    kept_leaves may why new (asks, settles) = ready_again old new ready settles (declined_leaves k i old.work.state ready.rests.idle may why new.work.state asks)
+    kept_leaves may why new (asks, settles) = ready_again old new ready settles
+        (declined_leaves k i old.work.state ready.rests.idle may why new.work.state asks)
 
     -- its teardown was under way
-    pub torn_leaves_ready : (result : Result (Unit {0}) Status) (new : Parts F B) → TearsDownQuietly k i old.work.state result new.work.state × IsSettled old new → LeavesReady own below k old new
+    pub torn_leaves_ready : (result : Result (Unit {0}) Status) (new : Parts F B)
+        → TearsDownQuietly k i old.work.state result new.work.state × IsSettled old new → LeavesReady own below k old new
     torn_leaves_ready result new (tears, settles) = ready_again old new ready settles (torn_leaves k i old.work.state result new.work.state ready.rests tears).0
 
     -- it was asked, and agreed
-    module _ (may : World → InstanceId → Bool → Type 0) (asked : Parts F B) (asks : AsksQuietly k i may old.work.state (Ok tt) asked.work.state × IsSettled old asked) where
+    module _ (may : World → InstanceId → Bool → Type 0) (asked : Parts F B)
+        (asks : AsksQuietly k i may old.work.state (Ok tt) asked.work.state × IsSettled old asked) where
       asked_calm : Undisturbed old.work.state asked.work.state
       asked_calm = (asked_leaves k i old.work.state ready.rests.idle may asked.work.state asks.0).undisturbed
 
       pub asked_still : RestsPlainly own.pre_may own.post_may own.is_quiet k asked
       asked_still = still k old asked ready.plain ready.rests (rests_on k old.work.state asked.work.state asked_calm ready.rests) asks.1
 
-      pub detached_leaves : (result : Result (Unit {0}) Status) (new : Parts F B) → TearsDownQuietly k i asked.work.state result new.work.state × IsSettled asked new → LeavesReady own below k old new
+      pub detached_leaves : (result : Result (Unit {0}) Status) (new : Parts F B)
+          → TearsDownQuietly k i asked.work.state result new.work.state × IsSettled asked new → LeavesReady own below k old new
       detached_leaves result new (tears, settles) =
           let torn = torn_leaves k i asked.work.state result new.work.state asked_still.rests tears in
           ready_again old new ready (settled_both old asked new asks.1 settles)
-          (one_goes k i old.work.state asked.work.state new.work.state (asked_leaves k i old.work.state ready.rests.idle may asked.work.state asks.0) torn.0 torn.1)
+          (one_goes k i old.work.state asked.work.state new.work.state
+          (asked_leaves k i old.work.state ready.rests.idle may asked.work.state asks.0) torn.0 torn.1)
 
   -- ---- unload
 
   module _ (f : FilterId) (old : Parts F B) (ready : IsReady own below k old) where
     -- its filter, or a refusal before it was asked, keeps it
-    pub loaded_leaves : (may : Bool → Type 0) (why : Status) (new : Parts F B) → AsksToUnload may old.work.state k f (Err why) new.work.state → IsSettled old new → LeavesReady own below k old new
+    pub loaded_leaves : (may : Bool → Type 0) (why : Status) (new : Parts F B)
+        → AsksToUnload may old.work.state k f (Err why) new.work.state → IsSettled old new → LeavesReady own below k old new
     loaded_leaves may why new asks settles = ready_again old new ready settles (unload_refused f k old.work.state ready.rests.idle may why new.work.state asks)
 
     -- its end was under way
-    pub ends_ready : (result : Result (Unit {0}) Status) (new : Parts F B) → EndsQuietly k f old.work.state result new.work.state × IsSettled old new → LeavesReady own below k old new
+    pub ends_ready : (result : Result (Unit {0}) Status) (new : Parts F B) → EndsQuietly k f old.work.state result new.work.state
+        × IsSettled old new → LeavesReady own below k old new
     ends_ready result new (ends, settles) = ready_again old new ready settles (ends_leaves f k old.work.state result new.work.state ready.rests ends).0
 
     -- it was asked, and agreed
-    module _ (may : Bool → Type 0) (asked : Parts F B) (asks : AsksToUnload may old.work.state k f (Ok tt) asked.work.state) (settled : IsSettled old asked) where
+    module _ (may : Bool → Type 0) (asked : Parts F B) (asks : AsksToUnload may old.work.state k f (Ok tt) asked.work.state)
+        (settled : IsSettled old asked) where
       pub agreed_still : RestsPlainly own.pre_may own.post_may own.is_quiet k asked
       agreed_still = still k old asked ready.plain ready.rests
-          (rests_on k old.work.state asked.work.state (agreed_leaves f k old.work.state ready.rests.idle may asked.work.state asks).undisturbed ready.rests) settled
+          (rests_on k old.work.state asked.work.state (agreed_leaves f k old.work.state ready.rests.idle may asked.work.state
+          asks).undisturbed ready.rests) settled
 
-      pub unloaded_leaves : (result : Result (Unit {0}) Status) (new : Parts F B) → EndsQuietly k f asked.work.state result new.work.state × IsSettled asked new → LeavesReady own below k old new
+      pub unloaded_leaves : (result : Result (Unit {0}) Status) (new : Parts F B)
+          → EndsQuietly k f asked.work.state result new.work.state × IsSettled asked new → LeavesReady own below k old new
       unloaded_leaves result new (ends, settles) =
           ready_again old new ready (settled_both old asked new settled settles)
-          (own_go f k old.work.state ready.rests.idle may asked.work.state result new.work.state (agreed_leaves f k old.work.state ready.rests.idle may asked.work.state asks) agreed_still.rests ends)
+          (own_go f k old.work.state ready.rests.idle may asked.work.state result new.work.state
+          (agreed_leaves f k old.work.state ready.rests.idle may asked.work.state asks) agreed_still.rests ends)
 
 -- an instance of the filter that is to go is torn down
-pub torn_ok : (k : WorkerId) (i : InstanceId) (old : World) (result : Result (Unit {0}) Status) (new : World) → IsOk result → TearsDownQuietly k i old result new → TearsDownQuietly k i old (Ok tt) new
+pub torn_ok : (k : WorkerId) (i : InstanceId) (old : World) (result : Result (Unit {0}) Status) (new : World) → IsOk result
+    → TearsDownQuietly k i old result new → TearsDownQuietly k i old (Ok tt) new
 torn_ok k i old (Ok done) new ok tears = tears
 torn_ok k i old (Err why) new ok tears = cc
 
@@ -201,7 +229,8 @@ goes_on_leaving f w i h = both_true (is_of_row f (slice_get w.stack.instances i.
     both_true : (a b : Bool) → a && b ≡ true → b ≡ true
     both_true a b h = grind arith
 
-pub torn_first : (k : WorkerId) (f : FilterId) (n : ℕ) (old mid new : World) → TearsDownFirst k f n old mid → TearsDownIf k f (is_to_go f mid (record { 0 = n })) (record { 0 = n }) mid new
+pub torn_first : (k : WorkerId) (f : FilterId) (n : ℕ) (old mid new : World) → TearsDownFirst k f n old mid
+    → TearsDownIf k f (is_to_go f mid (record { 0 = n })) (record { 0 = n }) mid new
     → TearsDownFirst k f (n + 1) old new
 torn_first k f n old mid new first step = subst (λ (m : ℕ). TearsDownFirst k f m old new) (one_more n) (mid, first, step)
   where

@@ -25,7 +25,8 @@ pub none_stops_again : (s : StackWorld) → ((j : ℕ) → stops s j ≡ false) 
 none_stops_again s none j row at = ap is_stopping_row (sym at) ∙ none j
 
 -- a change of one row by which none comes to be stopping
-pub stays_fewer : (g : Instance → Instance) → ((row : Instance) → is_stopping_phase (g row).phase ≡ true → is_stopping_phase row.phase ≡ true) → (rows : List Instance) (i j : ℕ)
+pub stays_fewer : (g : Instance → Instance) → ((row : Instance) → is_stopping_phase (g row).phase ≡ true
+    → is_stopping_phase row.phase ≡ true) → (rows : List Instance) (i j : ℕ)
     → is_stopping_row (slice_get (updated g rows i) j) ≡ true → is_stopping_row (slice_get rows j) ≡ true
 stays_fewer g keeps [] i j h = h
 stays_fewer g keeps (x ∷ rows) zero zero h = keeps x h
@@ -47,7 +48,8 @@ others_stay g (x ∷ rows) (suc i) (suc j) h = next (others_stay g rows i j h)
     next (inr h) = inr (ap suc h)
 
 -- by which that one isn't stopping any more
-pub goes : (g : Instance → Instance) → ((row : Instance) → is_stopping_phase (g row).phase ≡ false) → (rows : List Instance) (i : ℕ) → is_stopping_row (slice_get (updated g rows i) i) ≡ false
+pub goes : (g : Instance → Instance) → ((row : Instance) → is_stopping_phase (g row).phase ≡ false) → (rows : List Instance) (i : ℕ)
+    → is_stopping_row (slice_get (updated g rows i) i) ≡ false
 goes g clears [] i = refl
 goes g clears (x ∷ rows) zero = clears x
 goes g clears (x ∷ rows) (suc i) = goes g clears rows i
@@ -61,14 +63,17 @@ one_more x not (y ∷ rows) (suc j) h = one_more x not rows j h
 
 -- ---- workers that are all idle
 
-idle_tail : (a : Place) (ws : List Place) → ((j : ℕ) (b : Place) → slice_get (a ∷ ws) j ≡ Some b → b ≡ Place.Idle) → (j : ℕ) (b : Place) → slice_get ws j ≡ Some b → b ≡ Place.Idle
+idle_tail : (a : Place) (ws : List Place) → ((j : ℕ) (b : Place) → slice_get (a ∷ ws) j ≡ Some b → b ≡ Place.Idle)
+    → (j : ℕ) (b : Place) → slice_get ws j ≡ Some b → b ≡ Place.Idle
 idle_tail a ws all j b at = all (suc j) b at
 
-pub none_in : (p : Place → Bool) → p Place.Idle ≡ false → (ws : List Place) → ((j : ℕ) (b : Place) → slice_get ws j ≡ Some b → b ≡ Place.Idle) → list_any p ws ≡ false
+pub none_in : (p : Place → Bool) → p Place.Idle ≡ false → (ws : List Place)
+    → ((j : ℕ) (b : Place) → slice_get ws j ≡ Some b → b ≡ Place.Idle) → list_any p ws ≡ false
 none_in p not [] all = refl
 none_in p not (a ∷ ws) all = ap₂ (λ x y. x || y) (ap p (all zero a refl) ∙ not) (none_in p not ws (idle_tail a ws all))
 
-pub no_count : (p : Place → Bool) → p Place.Idle ≡ false → (ws : List Place) → ((j : ℕ) (b : Place) → slice_get ws j ≡ Some b → b ≡ Place.Idle) → count_by p ws ≡ 0
+pub no_count : (p : Place → Bool) → p Place.Idle ≡ false → (ws : List Place)
+    → ((j : ℕ) (b : Place) → slice_get ws j ≡ Some b → b ≡ Place.Idle) → count_by p ws ≡ 0
 no_count p not ws all = none_any p ws (none_in p not ws all)
 
 -- ---- what a call leaves of all but instances and contexts
@@ -132,7 +137,8 @@ pub calm_tidied : (old new : World) → Tidies old new → CalmAfter old new
 calm_tidied old new t = record { undisturbed = by_tidying old new t; fewer = λ j h. subst (λ (s : StackWorld). stops s j ≡ true) t.stack h }
 
 -- an event of instances and contexts alone, by which none comes to be stopping
-pub calm_by : {t : StackWorld} {c : ContextTable} (old new : World) → new ≡ record old { stack = t; contexts = c } → ((j : ℕ) → stops t j ≡ true → stops old.stack j ≡ true) → CalmAfter old new
+pub calm_by : {t : StackWorld} {c : ContextTable} (old new : World) → new ≡ record old { stack = t; contexts = c }
+    → ((j : ℕ) → stops t j ≡ true → stops old.stack j ≡ true) → CalmAfter old new
 calm_by old new is fewer = record {
   undisturbed = record { flow = ap (λ (w : World). w.flow) is; workers = ap (λ (w : World). w.workers) is; files = ap (λ (w : World). w.files) is };
   fewer = λ j s. fewer j (subst (λ (w : World). stops w.stack j ≡ true) is s);
@@ -153,16 +159,19 @@ calm_finished old i (Ok done) new h = calm_by old new h.1 (stays_fewer setting.f
 
 module _ (k : WorkerId) where
   -- a worker that enters a place, and leaves it
-  pub is_in : (old began : World) (a : Place) → worker_at old.workers k ≡ Some Place.Idle → began.workers ≡ put old.workers k a → worker_at began.workers k ≡ Some a
+  pub is_in : (old began : World) (a : Place) → worker_at old.workers k ≡ Some Place.Idle → began.workers ≡ put old.workers k a
+      → worker_at began.workers k ≡ Some a
   is_in old began a idle enters = ap (λ ws. worker_at ws k) enters ∙ placed old.workers k Place.Idle a idle
 
-  pub is_out : (old began back : World) (a : Place) → worker_at old.workers k ≡ Some Place.Idle → began.workers ≡ put old.workers k a → back.workers ≡ put began.workers k Place.Idle
+  pub is_out : (old began back : World) (a : Place) → worker_at old.workers k ≡ Some Place.Idle → began.workers ≡ put old.workers k a
+      → back.workers ≡ put began.workers k Place.Idle
       → back.workers ≡ old.workers
   is_out old began back a idle enters leaves = leaves ∙ ap (λ ws. put ws k Place.Idle) enters ∙ set_back old.workers k.0 Place.Idle a idle
 
   -- inside, and behind it, nothing changes but instances and contexts
   pub through : {s t : StackWorld} {c : ContextTable} (old began back : World) (a : Place) → worker_at old.workers k ≡ Some Place.Idle
-      → began ≡ record old { stack = s; workers = put old.workers k a } → back ≡ record began { stack = t; workers = put began.workers k Place.Idle; contexts = c } → Undisturbed old back
+      → began ≡ record old { stack = s; workers = put old.workers k a }
+      → back ≡ record began { stack = t; workers = put began.workers k Place.Idle; contexts = c } → Undisturbed old back
   through old began back a idle enters leaves = record {
     flow = ap (λ (w : World). w.flow) leaves ∙ ap (λ (w : World). w.flow) enters;
     workers = is_out old began back a idle (ap (λ (w : World). w.workers) enters) (ap (λ (w : World). w.workers) leaves);
@@ -183,19 +192,22 @@ module _ (k : WorkerId) where
           fewer = λ j s. joined f v name altitude born event.0 j (by_end born accepts ended set at.0 j s);
         }
       where
-        by_end : (born : World) (accepts : Bool) (ended : Result (Unit {0}) Status) (set : World) → setting.SetsUp born.stack i accepts ended set.stack → (j : ℕ)
+        by_end : (born : World) (accepts : Bool) (ended : Result (Unit {0}) Status) (set : World)
+            → setting.SetsUp born.stack i accepts ended set.stack → (j : ℕ)
             → stops set.stack j ≡ true → stops born.stack j ≡ true
         by_end born accepts (Ok done) set h j s =
             stays_fewer (setting.accept_row born.stack.births) (λ row t. cc) born.stack.instances i.0 j (subst (λ (t : StackWorld). stops t j ≡ true) h.1 s)
         by_end born accepts (Err why) set h j s =
             stays_fewer setting.refuse_row (λ row t. cc) born.stack.instances i.0 j (subst (λ (t : StackWorld). stops t j ≡ true) h.1 s)
 
-        joined : (f : FilterId) (v : VolumeId) (name altitude : List ℕ) (born : World) → setting.Attaches old.stack f v name altitude (Ok i) born.stack → (j : ℕ)
+        joined : (f : FilterId) (v : VolumeId) (name altitude : List ℕ) (born : World)
+            → setting.Attaches old.stack f v name altitude (Ok i) born.stack → (j : ℕ)
             → stops born.stack j ≡ true → stops old.stack j ≡ true
         joined f v name altitude born h j s =
             one_more (setting.new_instance f v name altitude) refl old.stack.instances j (subst (λ (t : StackWorld). stops t j ≡ true) h.1.1 s)
 
-    pub set_up_leaves : (f : FilterId) (v : VolumeId) (name altitude : List ℕ) (born : World) (may : Bool → Type 0) (ended : Result (Unit {0}) Status) (new : World)
+    pub set_up_leaves : (f : FilterId) (v : VolumeId) (name altitude : List ℕ) (born : World) (may : Bool
+        → Type 0) (ended : Result (Unit {0}) Status) (new : World)
         → Attaches old k f v name altitude (Ok i) born → SetUpQuietly k i may born ended new → CalmAfter old new
     set_up_leaves f v name altitude born may (Ok done) new attaches (set, (accepts, answer, sets), tidies) =
         calm_both old set new (set_up f v name altitude born accepts (Ok tt) set attaches sets) (calm_tidied set new tidies)
@@ -227,7 +239,8 @@ only_stack : (old new : World) (t : StackWorld) → new ≡ record old { stack =
 only_stack old new t e is same =
     calm_by old new e (λ j s. subst (λ (rows : List Instance). is_stopping_row (slice_get rows j) ≡ true) (ap (λ (t : StackWorld). t.instances) is ∙ same) s)
 
-pub registered_calm : (old : World) (name : List ℕ) (registration : Registration) (result : Result FilterId Status) (new : World) → Registers old name registration result new → CalmAfter old new
+pub registered_calm : (old : World) (name : List ℕ) (registration : Registration) (result : Result FilterId Status) (new : World)
+    → Registers old name registration result new → CalmAfter old new
 unfolding Registers setting.Registers
 registered_calm old name registration (Ok f) new h = only_stack old new (setting.registered old.stack name registration) h.1 h.0.1.1 refl
 registered_calm old name registration (Err why) new h = only_stack old new old.stack h.1 h.0.1 refl

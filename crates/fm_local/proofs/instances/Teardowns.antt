@@ -12,7 +12,8 @@ module _ {F B : Type 0} (own : filter.Ghosts F) (below : base.Ghosts B) (k : Wor
   abbrev Each : ℕ → Parts F B → Parts F B → Type 0
   Each n old new = TearsDownEach own below k most limit f n old new
 
-  pub tears_more : (n : ℕ) (old now new : Parts F B) → Each n old now → Where (is_to_go f now.work.state (record { 0 = n })) (record { 0 = n }) now (Ok tt) new → Each (n + 1) old new
+  pub tears_more : (n : ℕ) (old now new : Parts F B) → Each n old now
+      → Where (is_to_go f now.work.state (record { 0 = n })) (record { 0 = n }) now (Ok tt) new → Each (n + 1) old new
   tears_more n old now new each tears =
       let more : suc n ≡ n + 1 = omega arith in
       subst (λ (j : ℕ). Each j old new) more (now, each, tears)

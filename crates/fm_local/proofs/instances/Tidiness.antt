@@ -64,7 +64,11 @@ Took old k (Err why) mid = mid ≡ old
 
 module _ (old : World) (k : WorkerId) (result : Result (Option Due) Status) (mid : World) (sound : IsSound old) where
   took_first : (m : Option CtxId) → slice_get old.contexts.due 0 ≡ m → worker_at old.workers k ≡ Some Place.Idle → result ≡ Ok (due_reply old.contexts)
-      → mid ≡ record old { workers = after_due old.workers k (slice_get old.contexts.due 0); contexts = after_take_due old.contexts k.0 } → Took old k result mid
+      → mid ≡ record old {
+        workers = after_due old.workers k (slice_get old.contexts.due 0);
+        contexts =
+            after_take_due old.contexts k.0;
+      } → Took old k result mid
   took_first None none idle says made =
       let told = ap (option_and_then (λ c. option_map (due_of c) (context_at old.contexts.slots c))) none in
       subst (λ (r : Result (Option Due) Status). Took old k r mid) (sym (says ∙ ap Ok told))

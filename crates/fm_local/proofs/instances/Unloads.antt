@@ -137,7 +137,8 @@ module _ (f : FilterId) where
         none_less j less = grind arith
     first_gone (suc n) old new rests (mid, first, step) = one_more n old mid new rests (first_gone n old mid rests first) step
       where
-        one_more : (n : ℕ) (old mid new : World) → IsAtRest k old → FirstGone n old mid → TearsDownIf k f (is_to_go f mid (record { 0 = n })) (record { 0 = n }) mid new → FirstGone (suc n) old new
+        one_more : (n : ℕ) (old mid new : World) → IsAtRest k old → FirstGone n old mid
+            → TearsDownIf k f (is_to_go f mid (record { 0 = n })) (record { 0 = n }) mid new → FirstGone (suc n) old new
         one_more n old mid new rests before step =
             by_bool (λ b. TearsDownIf k f b (record { 0 = n }) mid new → FirstGone (suc n) old new) (is_to_go f mid (record { 0 = n })) (λ goes tears.
             let still = rests_on k old mid before.calm.undisturbed rests in
@@ -146,7 +147,8 @@ module _ (f : FilterId) where
               calm = calm_both old mid new before.calm torn.0;
               owners = owners_both old mid new before.owners (torn_own k (record { 0 = n }) mid (Ok tt) new still tears);
               gone = λ j less own.
-                  by_place n j less (λ k. stops new.stack k ≡ false) torn.1 (λ fewer. not_both (stops new.stack j) (stops mid.stack j) (torn.0.fewer j) (before.gone j fewer own));
+                  by_place n j less (λ k. stops new.stack k ≡ false) torn.1 (λ fewer. not_both (stops new.stack j) (stops mid.stack j)
+                  (torn.0.fewer j) (before.gone j fewer own));
             }) (λ goes same.
             record {
               calm = calm_both old mid new before.calm (calm_same mid new same);
@@ -154,7 +156,8 @@ module _ (f : FilterId) where
               gone = λ j less own.
                   ap (λ (w : World). stops w.stack j) same
                   ∙ by_place n j less (λ m. owns old m ≡ true → stops mid.stack m ≡ false)
-                  (λ own. stopping_leaves (slice_get mid.stack.instances n) (split (owns mid n) (is_leaving mid (record { 0 = n })) goes (before.owners.same n ∙ own)))
+                  (λ own. stopping_leaves (slice_get mid.stack.instances n)
+                  (split (owns mid n) (is_leaving mid (record { 0 = n })) goes (before.owners.same n ∙ own)))
                   (λ fewer own. before.gone j fewer own) own;
             }) step
 
@@ -177,7 +180,8 @@ module _ (f : FilterId) where
         let last = by_end torn ends in
         let calm = calm_both old torn new gone.calm last in (
           calm,
-          λ j own. by_bool (λ b. stops new.stack j ≡ b → stops new.stack j ≡ false) (stops new.stack j) (λ stopping is. let was = within old.stack.instances j (calm.fewer j stopping) in
+          λ j own. by_bool (λ b. stops new.stack j ≡ b → stops new.stack j ≡ false) (stops new.stack j) (λ stopping is. let was =
+              within old.stack.instances j (calm.fewer j stopping) in
               not_both (stops new.stack j) (stops torn.stack j) (last.fewer j) (gone.gone j was own)) (λ none is. none) refl,
         )
       where
@@ -186,7 +190,8 @@ module _ (f : FilterId) where
             ⊎ ((emptied tidy : World) × EmptiesFilter torn f (Ok tt) emptied × Tidies emptied tidy × FinishesFilter tidy f result new) → CalmAfter torn new
         by_end torn (inl (err, h)) = emptied_calm torn result new h
         by_end torn (inr (emptied, tidy, empties, tidies, finishes)) =
-            calm_both torn emptied new (emptied_calm torn (Ok tt) emptied empties) (calm_both emptied tidy new (calm_tidied emptied tidy tidies) (finished_calm tidy result new finishes))
+            calm_both torn emptied new (emptied_calm torn (Ok tt) emptied empties)
+            (calm_both emptied tidy new (calm_tidied emptied tidy tidies) (finished_calm tidy result new finishes))
 
     -- ---- it is asked
 
@@ -195,7 +200,8 @@ module _ (f : FilterId) where
       unfolding AsksUnload
       asked_at asked h = (happened old k tt asked _ h).1
 
-      module _ (asked : World) (asks : asked ≡ record old { workers = put old.workers k (Place.Unload f) }) (allows : Bool) (ended : Result (Unit {0}) Status) (back : World)
+      module _ (asked : World) (asks : asked ≡ record old { workers = put old.workers k (Place.Unload f) }) (allows : Bool)
+          (ended : Result (Unit {0}) Status) (back : World)
           (returns : UnloadReturns asked k allows ended back) where
         enters : asked.workers ≡ put old.workers k (Place.Unload f)
         enters = ap (λ (w : World). w.workers) asks
@@ -235,7 +241,8 @@ module _ (f : FilterId) where
       agreed_leaves may new (asked, asks, (allows, answer, returns)) =
           let from = asked_at asked asks in
           let at = unload_at asked from allows (Ok tt) new returns in
-          let is : new.stack ≡ filters.unloading old.stack f = unloading_stack asked.stack allows new.stack at.0 ∙ ap (λ (w : World). filters.unloading w.stack f) from in
+          let is : new.stack ≡ filters.unloading old.stack f = unloading_stack asked.stack allows new.stack at.0
+          ∙ ap (λ (w : World). filters.unloading w.stack f) from in
           record {
             undisturbed = unloaded asked from allows (Ok tt) new returns;
             fewer = λ j h. subst (λ (s : StackWorld). (stops old.stack j ≡ true) ⊎ (is_of_row f (slice_get s.instances j) ≡ true)) (sym is)
@@ -243,7 +250,8 @@ module _ (f : FilterId) where
           }
 
       -- and all of them go
-      pub own_go : (may : Bool → Type 0) (asked : World) (result : Result (Unit {0}) Status) (new : World) → CalmButOwn asked → IsAtRest k asked → EndsQuietly k f asked result new
+      pub own_go : (may : Bool → Type 0) (asked : World) (result : Result (Unit {0}) Status) (new : World) → CalmButOwn asked
+          → IsAtRest k asked → EndsQuietly k f asked result new
           → CalmAfter old new
       own_go may asked result new calm rests ends =
           let last = ends_leaves asked result new rests ends in
@@ -252,6 +260,7 @@ module _ (f : FilterId) where
             fewer = λ j h. by_own j h last.1 (calm.fewer j (last.0.fewer j h));
           }
         where
-          by_own : (j : ℕ) → stops new.stack j ≡ true → ((m : ℕ) → owns asked m ≡ true → stops new.stack m ≡ false) → (stops old.stack j ≡ true) ⊎ (owns asked j ≡ true) → stops old.stack j ≡ true
+          by_own : (j : ℕ) → stops new.stack j ≡ true → ((m : ℕ) → owns asked m ≡ true → stops new.stack m ≡ false)
+              → (stops old.stack j ≡ true) ⊎ (owns asked j ≡ true) → stops old.stack j ≡ true
           by_own j h gone (inl was) = was
           by_own j h gone (inr own) = absurd (true≢false (sym h ∙ gone j own))

@@ -14,15 +14,19 @@ use Rattle.fm_local.specs.declared.bounded.Bounded.{Bounded}
 module _ {F B : Type 0} (own : filter.Ghosts F) (below : base.Ghosts B) (k : WorkerId) (o : OpId) where
   -- of the filters that there were at first
   abbrev pub Turns : Parts F B → ℕ → Parts F B → Type 0
-  Turns old n now = TakesTurns own.pre_may own.post_may own.drained (BasesCarry below.folder below.faults) (numbered old.filters) k o n old.work.state old.bases.all.items now.work.state now.bases.all.items
+  Turns old n now = TakesTurns own.pre_may own.post_may own.drained (BasesCarry below.folder below.faults)
+      (numbered old.filters) k o n old.work.state old.bases.all.items now.work.state now.bases.all.items
 
   abbrev Turned : Filters F → Turn → Parts F B → Parts F B → Type 0
-  Turned filters ended old new = TakesTurn own.pre_may own.post_may own.drained (BasesCarry below.folder below.faults) (numbered filters) k o ended old.work.state old.bases.all.items new.work.state new.bases.all.items
+  Turned filters ended old new = TakesTurn own.pre_may own.post_may own.drained (BasesCarry below.folder below.faults)
+      (numbered filters) k o ended old.work.state old.bases.all.items new.work.state new.bases.all.items
 
   abbrev Goes : ℕ → Turn → Parts F B → Parts F B → Type 0
-  Goes most ended old new = GoesOn own.pre_may own.post_may own.drained (BasesCarry below.folder below.faults) (numbered old.filters) k o most ended old.work.state old.bases.all.items new.work.state new.bases.all.items
+  Goes most ended old new = GoesOn own.pre_may own.post_may own.drained (BasesCarry below.folder below.faults)
+      (numbered old.filters) k o most ended old.work.state old.bases.all.items new.work.state new.bases.all.items
 
-  module _ (old now new : Parts F B) (same : now.filters ≡ old.filters) (n : ℕ) (taken : Turns old n now) (ended : Turn) (takes : Turned now.filters ended now new) where
+  module _ (old now new : Parts F B) (same : now.filters ≡ old.filters) (n : ℕ) (taken : Turns old n now) (ended : Turn)
+      (takes : Turned now.filters ended now new) where
     one : Turned old.filters ended now new
     one = subst (λ (fs : Filters F). Turned fs ended now new) same takes
 
@@ -55,8 +59,10 @@ pub none_left : (xs ys : List OpId) → slice_get xs 0 ≡ None → ys ≡ drop 
 none_left [] ys none rest = (refl, rest)
 none_left (x ∷ xs) ys none rest = absurd (none-some x (sym none))
 
-module _ {F B : Type 0} (own : filter.Ghosts F) (below : base.Ghosts B) (k : WorkerId) (most : ℕ) (old now : Parts F B) (n : ℕ) (many : CarriesOnMany own below k most n old now) where
-  pub carries_more : (o : OpId) (taken new : Parts F B) → slice_get now.work.resumed.items.items 0 ≡ Some o → taken.work.resumed.items.items ≡ drop 1 now.work.resumed.items.items
+module _ {F B : Type 0} (own : filter.Ghosts F) (below : base.Ghosts B) (k : WorkerId) (most : ℕ) (old now : Parts F B) (n : ℕ)
+    (many : CarriesOnMany own below k most n old now) where
+  pub carries_more : (o : OpId) (taken new : Parts F B) → slice_get now.work.resumed.items.items 0 ≡ Some o
+      → taken.work.resumed.items.items ≡ drop 1 now.work.resumed.items.items
       → taken ≡ record now { work = record now.work { resumed = taken.work.resumed } } → CarriesOn own below k most o taken new
       → CarriesOnMany own below k most (n + 1) old new
   carries_more o taken new first rest is carries =
@@ -64,7 +70,8 @@ module _ {F B : Type 0} (own : filter.Ghosts F) (below : base.Ghosts B) (k : Wor
       subst (λ (j : ℕ). CarriesOnMany own below k most j old new) more
       (now, many, (o, taken, head o now.work.resumed.items.items taken.work.resumed.items.items first rest, is, carries))
 
-  pub carries_all : (limit : ℕ) (new : Parts F B) → slice_get now.work.resumed.items.items 0 ≡ None → new.work.resumed.items.items ≡ drop 1 now.work.resumed.items.items
+  pub carries_all : (limit : ℕ) (new : Parts F B) → slice_get now.work.resumed.items.items 0 ≡ None
+      → new.work.resumed.items.items ≡ drop 1 now.work.resumed.items.items
       → new ≡ record now { work = record now.work { resumed = new.work.resumed } } → CarriesOnAll own below k most limit old new
   carries_all limit new none rest is =
       let empty = none_left now.work.resumed.items.items new.work.resumed.items.items none rest in
@@ -84,12 +91,14 @@ module _ {F B : Type 0} (own : filter.Ghosts F) (below : base.Ghosts B) (k : Wor
       → (new.work ≡ taken.work) × (new.finished.items.items ≡ taken.finished.items.items ++ p ∷ [])) → HasEnded o (n + 1) new
   ends_first o p waits (inl (none, same)) first rest is ends =
       let at : o ∷ [] ≡ p ∷ taken.work.resumed.items.items =
-      sym waits.waits ∙ ap (λ (m : Parts F B). m.work.resumed.items.items) (sym same) ∙ head p now.work.resumed.items.items taken.work.resumed.items.items first rest in
+      sym waits.waits ∙ ap (λ (m : Parts F B). m.work.resumed.items.items) (sym same)
+      ∙ head p now.work.resumed.items.items taken.work.resumed.items.items first rest in
       let it : o ≡ p = same_Some o p (ap (λ (xs : List OpId). slice_get xs 0) at) in
       let gone : taken.work.resumed.items.items ≡ [] = sym (ap (λ (xs : List OpId). drop 1 xs) at) in
       let state : taken.work.state ≡ old.work.state = ap (λ (m : Parts F B). m.work.state) is ∙ ap (λ (m : Parts F B). m.work.state) same in
       let finished : taken.finished ≡ old.finished = ap (λ (m : Parts F B). m.finished) is ∙ ap (λ (m : Parts F B). m.finished) same in
-      let done : IsDoneAt k p taken.work.state = subst (λ (w : World). IsDoneAt k p w) (sym state) (subst (λ (q : OpId). IsDoneAt k q old.work.state) it waits.done) in
+      let done : IsDoneAt k p taken.work.state = subst (λ (w : World). IsDoneAt k p w) (sym state)
+      (subst (λ (q : OpId). IsDoneAt k q old.work.state) it waits.done) in
       let over = ends done (subst (λ (f : Bounded OpId). length f.items.items < deque_capacity f.items) (sym finished) waits.room) in
       inr (
         over.1 ∙ ap (λ (f : Bounded OpId). f.items.items ++ p ∷ []) finished ∙ ap (λ (q : OpId). old.finished.items.items ++ q ∷ []) (sym it),
@@ -120,7 +129,9 @@ module _ {F B : Type 0} (own : filter.Ghosts F) (below : base.Ghosts B) (k : Wor
   abbrev Ends : Result (Unit {0}) Status → Parts F B → Type 0
   Ends result new = EndsIfRefused own below k most limit result i settled new
 
-  pub ends_refused : (new : Parts F B) (result : Result (Unit {0}) Status) → is_err result ≡ true → ((finished : Result (Unit {0}) Status) × Finishes settled.work.state i finished new.work.state × OnlyState settled new) → Ends result new
+  pub ends_refused : (new : Parts F B) (result : Result (Unit {0}) Status) → is_err result ≡ true
+      → ((finished : Result (Unit {0}) Status) × Finishes settled.work.state i finished new.work.state × OnlyState settled new)
+      → Ends result new
   ends_refused new (Err why) is ends = ends
   ends_refused new (Ok done) is ends = cc
 

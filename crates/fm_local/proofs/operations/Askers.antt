@@ -14,7 +14,8 @@ use Rattle.fm_flow.proofs.Walks.{Settling, is_callback, walk_parts, drains_follo
 use Rattle.fm_local.specs.Left.{askers}
 
 -- entries that lead from no callback to none are all closed
-pub closed_stay : (f : Entry → Entry) → Settling f → (s : Stage) (es : List Entry) (t : Stage) → walk s es ≡ Some t → is_callback s ≡ false → is_callback t ≡ false → map f es ≡ es
+pub closed_stay : (f : Entry → Entry) → Settling f → (s : Stage) (es : List Entry) (t : Stage) → walk s es ≡ Some t
+    → is_callback s ≡ false → is_callback t ≡ false → map f es ≡ es
 closed_stay f settling s [] t w p q = refl
 closed_stay f settling s (e ∷ es) t w p q =
     let k = walk_parts s e es t w in
@@ -71,12 +72,15 @@ module _ (es : List Entry) (worker : WorkerId) (i : InstanceId) (place : ℕ) wh
   pub last_is : (state : PreState) → last_visited (es ++ entry_of state ∷ []) ≡ Some i.0
   last_is state = ap (λ xs. slice_get (reverse xs) 0) (filter_map-push visit_of es (entry_of state)) ∙ last_with (visited es) (Some i.0)
 
-  pub owed_asks : (state : PreState) (ask : Ask) → ask_in (record { instance = i; worker = worker; state = state; place = place }) state ≡ Some ask → ask.instance ≡ i
+  pub owed_asks : (state : PreState) (ask : Ask) → ask_in (record { instance = i; worker = worker; state = state; place = place })
+      state ≡ Some ask → ask.instance ≡ i
       → IsCourse Descending es → times i.0 (visited es) ≡ 0 → owed (es ++ entry_of state ∷ []) ≡ ask ∷ owed es
   owed_asks state ask is at c fresh =
-      left_push_ask answers es (entry_of state) ask is (λ j. refl) (unanswered ask.instance.0 es (ap (λ (k : InstanceId). answer_count k.0 es) at ∙ unvisited Descending es i.0 c fresh))
+      left_push_ask answers es (entry_of state) ask is (λ j. refl)
+      (unanswered ask.instance.0 es (ap (λ (k : InstanceId). answer_count k.0 es) at ∙ unvisited Descending es i.0 c fresh))
 
-  pub owed_goes : (state : PreState) → ask_in (record { instance = i; worker = worker; state = state; place = place }) state ≡ None → owed (es ++ entry_of state ∷ []) ≡ owed es
+  pub owed_goes : (state : PreState) → ask_in (record { instance = i; worker = worker; state = state; place = place }) state ≡ None
+      → owed (es ++ entry_of state ∷ []) ≡ owed es
   owed_goes state is = owed_push_none es (entry_of state) is (λ j. refl)
 
 -- ---- the worker that asked

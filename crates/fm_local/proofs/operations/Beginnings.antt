@@ -61,13 +61,15 @@ module _ (old : World) (rest : old.flow.operations ≡ []) where
     handle = None;
     path = Some path;
     asks = Params.Create path mode;
-    operations = ap (λ rs. rs ++ begun_record old.flow.next v (Some (stream_for v path old.flow.next old.files)) None old.stack.births (Some path) (Params.Create path mode) ∷ []) rest;
+    operations = ap (λ rs. rs ++ begun_record old.flow.next v (Some (stream_for v path old.flow.next old.files)) None old.stack.births
+        (Some path) (Params.Create path mode) ∷ []) rest;
     next = refl;
     workers = refl;
     stack = refl;
   }
   started (Request.OnHandle h asked) none =
-      on_handle h (params_of asked) (handle_at h old.files) (within (is_within_limits (params_of asked)) (refused_at old (params_of asked) (handle_at h old.files)) none)
+      on_handle h (params_of asked) (handle_at h old.files)
+      (within (is_within_limits (params_of asked)) (refused_at old (params_of asked) (handle_at h old.files)) none)
 
 -- it is on its way, alone, before its first turn
 module _ (k : WorkerId) (o : OpId) (what : Request) (old : World) (rest : IsAtRest k old) (begun : World) (begins : Begins old what (Ok o) begun) where

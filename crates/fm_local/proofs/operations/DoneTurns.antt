@@ -41,11 +41,13 @@ module _ (k : WorkerId) (lies other : Below) (stops : Bool) where
   by_record (Some r) h = by_collected k lies other stops r r.collected h
 
 module _ (old : World) (k : WorkerId) (o : OpId) (reply : Result FlowAction Status) (same new : World) where
-  by_idle : (b : Bool) → Unless Status.WrongStep b Done old same (NextsAt old k o Done same) → Unless Status.WrongStep b reply old new (NextsAt old k o reply new) → reply ≡ Done
+  by_idle : (b : Bool) → Unless Status.WrongStep b Done old same (NextsAt old k o Done same)
+      → Unless Status.WrongStep b reply old new (NextsAt old k o reply new) → reply ≡ Done
   by_idle false h g = cc
   by_idle true h g = g.3.0 ∙ by_record k h.0 g.0 (drains_at old o) (operation_at o old.flow) h.3.0
 
 -- where nothing is left to do, `next` says so
-pub says_done : (old : World) (k : WorkerId) (o : OpId) (reply : Result FlowAction Status) (new : World) → IsDoneAt k o old → Nexts old k o reply new → reply ≡ Ok FlowAction.Done
+pub says_done : (old : World) (k : WorkerId) (o : OpId) (reply : Result FlowAction Status) (new : World) → IsDoneAt k o old
+    → Nexts old k o reply new → reply ≡ Ok FlowAction.Done
 unfolding Nexts
 says_done old k o reply new done h = by_idle old k o reply done.0 new (is_idle (worker_at old.workers k)) done.1 h

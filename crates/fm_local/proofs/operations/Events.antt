@@ -79,7 +79,8 @@ pub record IsLeft (k : WorkerId) (o : OpId) (s : FlowRecord) (stack : StackWorld
   pub filed : new.files ≡ files
 
 module _ (old : World) (k : WorkerId) (o : OpId) (r : FlowRecord) (alone : Alone o r old.flow) where
-  pub next_leaves : (reply : Result FlowAction Status) (new : World) → worker_at old.workers k ≡ Some Place.Idle → drains_next old.stack r ≡ false → Nexts old k o reply new
+  pub next_leaves : (reply : Result FlowAction Status) (new : World) → worker_at old.workers k ≡ Some Place.Idle
+      → drains_next old.stack r ≡ false → Nexts old k o reply new
       → Nexted old k o r reply new
   unfolding Nexts
   next_leaves reply new idle calm h =
@@ -114,7 +115,8 @@ module _ (old : World) (k : WorkerId) (o : OpId) (r : FlowRecord) (alone : Alone
       (none_created o (pre_returned_of (PreState.Completed why) lent r) t there (and_none (is_create r.operation)) r.stream)
   pre_files given lent t there = refl
 
-  pub pre_leaves : (i : InstanceId) (given : PreVerdict) (lent : Data) (result : Result (Unit {0}) Status) (new : World) → worker_at old.workers k ≡ Some (Place.Pre o i)
+  pub pre_leaves : (i : InstanceId) (given : PreVerdict) (lent : Data) (result : Result (Unit {0}) Status) (new : World)
+      → worker_at old.workers k ≡ Some (Place.Pre o i)
       → data_fits r.operation r.path lent ≡ true → IsPlainPre given → PreReturns old k given lent result new
       → let state = verdict_counted given r.operation (has_post old.stack (slice_get old.stack.instances i.0) r.operation) in
       IsLeft k o (pre_returned_of state lent r) old.stack (after_pre state r.operation r.stream false old.files) new
@@ -123,7 +125,8 @@ module _ (old : World) (k : WorkerId) (o : OpId) (r : FlowRecord) (alone : Alone
       let state = verdict_counted given r.operation (has_post old.stack (slice_get old.stack.instances i.0) r.operation) in
       let is : state_at old k o i given ≡ state =
       told_alone o r old.flow alone (state_given old.stack (hand_of old.contexts.hands k.0) i given) PreState.Passed
-      ∙ ap (λ v. verdict_counted v r.operation (has_post old.stack (slice_get old.stack.instances i.0) r.operation)) (plain_of_hand (hand_of old.contexts.hands k.0) given plain) in
+      ∙ ap (λ v. verdict_counted v r.operation (has_post old.stack (slice_get old.stack.instances i.0) r.operation))
+      (plain_of_hand (hand_of old.contexts.hands k.0) given plain) in
       let here : PreReturnsAt old k given lent result new (Some (Place.Pre o i)) = subst (PreReturnsAt old k given lent result new) at h in
       let fitting = told_alone o r old.flow alone (λ x. data_fits x.operation x.path lent) false ∙ fits in
       let Over : PreState → Type 0 = λ s. PreReturnsOver old k o (pre_returned_of s lent) s new in
@@ -138,19 +141,22 @@ module _ (old : World) (k : WorkerId) (o : OpId) (r : FlowRecord) (alone : Alone
         idle = ap (λ ws. worker_at ws k) (same.workers ∙ ap (λ (w : World). w.workers) made) ∙ placed old.workers k (Place.Pre o i) Place.Idle at;
         stays = same.stack ∙ ap (λ (w : World). w.stack) made;
         filed = same.files ∙ ap (λ (w : World). w.files) made
-            ∙ told_alone o r old.flow alone (λ x. after_pre state x.operation x.stream (is_created_on x.stream t) old.files) old.files ∙ pre_files state lent t there;
+            ∙ told_alone o r old.flow alone (λ x. after_pre state x.operation x.stream (is_created_on x.stream t) old.files) old.files
+            ∙ pre_files state lent t there;
       }
 
   -- ---- the base answers
 
   pub base_leaves : (call : BaseCall) (answer : Answer) (result : Result (Unit {0}) Status) (new : World) → worker_at old.workers k ≡ Some (Place.Base o)
       → base_fits call answer r ≡ true → BaseReturns old k call answer result new
-      → IsLeft k o (base_returned_of call answer (record { 0 = old.files.next }) r) old.stack (after_base r.operation r.stream r.handle answer.status false old.files) new
+      → IsLeft k o (base_returned_of call answer (record { 0 = old.files.next }) r) old.stack
+      (after_base r.operation r.stream r.handle answer.status false old.files) new
   unfolding BaseReturns
   base_leaves call answer result new at fits h =
       let here : BaseReturnsAt old k call answer result new (Some (Place.Base o)) = subst (BaseReturnsAt old k call answer result new) at h in
       let fitting = told_alone o r old.flow alone (base_fits call answer) false ∙ fits in
-      let ends = subst (λ (b : Bool). Unless Status.BadRequest b result old new ((result ≡ Ok tt) × LosesLinks (base_returned old k o call answer) new)) fitting here in
+      let ends = subst (λ (b : Bool). Unless Status.BadRequest b result old new ((result ≡ Ok tt)
+      × LosesLinks (base_returned old k o call answer) new)) fitting here in
       let s = base_returned_of call answer (record { 0 = old.files.next }) r in
       let t = changed o (base_step old call answer) old.flow in
       let there : Alone o s t = changed_alone o r old.flow alone (base_step old call answer) refl in
@@ -160,21 +166,26 @@ module _ (old : World) (k : WorkerId) (o : OpId) (r : FlowRecord) (alone : Alone
         idle = ap (λ ws. worker_at ws k) same.workers ∙ placed old.workers k (Place.Base o) Place.Idle at;
         stays = same.stack;
         filed = same.files ∙ told_alone o r old.flow alone (filed_record old.files t answer.status) old.files
-            ∙ ap (λ b. after_base r.operation r.stream r.handle answer.status b old.files) (none_created o s t there (and_none (is_create r.operation)) r.stream);
+            ∙ ap (λ b. after_base r.operation r.stream r.handle answer.status b old.files)
+            (none_created o s t there (and_none (is_create r.operation)) r.stream);
       }
 
   -- ---- a postoperation returns
 
-  pub post_leaves : (i : InstanceId) (given : PostVerdict) (lent : Data) (result : Result (Unit {0}) Status) (new : World) → worker_at old.workers k ≡ Some (Place.Post o i)
-      → data_fits r.operation r.path lent ≡ true → PostReturns old k given (Some lent) result new → IsLeft k o (post_returned_of given lent r) old.stack old.files new
+  pub post_leaves : (i : InstanceId) (given : PostVerdict) (lent : Data) (result : Result (Unit {0}) Status) (new : World)
+      → worker_at old.workers k ≡ Some (Place.Post o i)
+      → data_fits r.operation r.path lent ≡ true → PostReturns old k given (Some lent) result new
+      → IsLeft k o (post_returned_of given lent r) old.stack old.files new
   unfolding PostReturns
   post_leaves i given lent result new at fits h =
       let here : PostReturnsAt old k given (Some lent) result new (Some (Place.Post o i)) = subst (PostReturnsAt old k given (Some lent) result new) at h in
       let fitting = told_alone o r old.flow alone (λ x. data_fits x.operation x.path lent) false ∙ fits in
-      let ends = subst (λ (b : Bool). Unless Status.BadRequest b result old new ((result ≡ Ok tt) × ReturnsFrom old k o (post_returned_of given lent) old.contexts new)) fitting here in
+      let ends = subst (λ (b : Bool). Unless Status.BadRequest b result old new ((result ≡ Ok tt)
+      × ReturnsFrom old k o (post_returned_of given lent) old.contexts new)) fitting here in
       let made = ends.1.1 in
       record {
-        alone = subst (Alone o (post_returned_of given lent r)) (sym (ap (λ (w : World). w.flow) made)) (changed_alone o r old.flow alone (post_returned_of given lent) refl);
+        alone = subst (Alone o (post_returned_of given lent r)) (sym (ap (λ (w : World). w.flow) made))
+            (changed_alone o r old.flow alone (post_returned_of given lent) refl);
         idle = ap (λ (w : World). worker_at w.workers k) made ∙ placed old.workers k (Place.Post o i) Place.Idle at;
         stays = ap (λ (w : World). w.stack) made;
         filed = ap (λ (w : World). w.files) made;

@@ -24,8 +24,10 @@ module _ {F : Type 0} (wanted : Option F) where
   before_base may None given verdict back is said = subst (λ w. PreMay may w given verdict back) (sym is) said
   before_base may (Some f) given verdict back is said = subst (λ w. PreMay may w given verdict back) (sym is) said
 
-  pub after_base : (may : F → Data → Completion → PostVerdict → Data → Type 0) (found : Option (Bor F)) (given : Data) (completion : Completion) (verdict : PostVerdict) (back : Data) → IsFound found
-      → MatchOption found ((verdict ≡ Finished) × (back ≡ given)) (λ f. may f.now given completion verdict back) → PostMay may wanted given completion verdict back
+  pub after_base : (may : F → Data → Completion → PostVerdict → Data → Type 0) (found : Option (Bor F)) (given : Data)
+      (completion : Completion) (verdict : PostVerdict) (back : Data) → IsFound found
+      → MatchOption found ((verdict ≡ Finished) × (back ≡ given)) (λ f. may f.now given completion verdict back)
+      → PostMay may wanted given completion verdict back
   after_base may None given completion verdict back is said = subst (λ w. PostMay may w given completion verdict back) (sym is) said
   after_base may (Some f) given completion verdict back is said = subst (λ w. PostMay may w given completion verdict back) (sym is) said
 

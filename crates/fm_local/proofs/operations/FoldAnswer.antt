@@ -12,14 +12,18 @@ use Rattle.fm_local.proofs.operations.TurnFolds.{IsGoing, is_between, turn_leave
 use Rattle.fm_local.proofs.operations.Events.{next_leaves}
 use Rattle.fm_local.proofs.operations.WholeTurns.{left_done}
 
-module _ {F D : Type 0} (pre_may : F → Data → PreVerdict → Data → Type 0) (post_may : F → Data → Completion → PostVerdict → Data → Type 0) (is_quiet : F → Type 0)
-    (carries : D → BaseCall → Answer → D → Type 0) (filters : ℕ → Option F) (plain : (n : ℕ) (f : F) → filters n ≡ Some f → IsPlainFilter pre_may post_may is_quiet f)
+module _ {F D : Type 0} (pre_may : F → Data → PreVerdict → Data → Type 0) (post_may : F → Data → Completion → PostVerdict → Data
+    → Type 0) (is_quiet : F → Type 0)
+    (carries : D → BaseCall → Answer → D → Type 0) (filters : ℕ → Option F) (plain : (n : ℕ) (f : F) → filters n ≡ Some f
+    → IsPlainFilter pre_may post_may is_quiet f)
     (k : WorkerId) (o : OpId) (x : Subject) where
   -- what is done keeps what holds of every World
-  done_sound : (reply : Result FlowAction Status) (mid : World) (d : D) (new : World) (e : D) → IsSound mid → Does pre_may post_may carries filters k o reply mid d new e → IsSound new
+  done_sound : (reply : Result FlowAction Status) (mid : World) (d : D) (new : World) (e : D) → IsSound mid
+      → Does pre_may post_may carries filters k o reply mid d new e → IsSound new
   done_sound (Ok (FlowAction.Pre i lent)) mid d new e sound h = step_keeps mid (Step.PreReturned k h.0 h.1) (StepReply.Done h.2) new h.5 sound
   done_sound (Ok (FlowAction.Base call)) mid d new e sound h = step_keeps mid (Step.BaseReturned k call h.0) (StepReply.Done h.1) new h.4 sound
-  done_sound (Ok (FlowAction.Post i lent completion)) mid d new e sound h = step_keeps mid (Step.PostReturned k h.0 (Some h.1)) (StepReply.Done h.2) new h.5 sound
+  done_sound (Ok (FlowAction.Post i lent completion)) mid d new e sound h =
+      step_keeps mid (Step.PostReturned k h.0 (Some h.1)) (StepReply.Done h.2) new h.5 sound
   done_sound (Ok FlowAction.Moved) mid d new e sound h = subst IsSound (sym h.0) sound
   done_sound _ mid d new e sound h = absurd h
 
@@ -59,7 +63,8 @@ module _ {F D : Type 0} (pre_may : F → Data → PreVerdict → Data → Type 0
       not_up ask true h = not_given ask (unwound ask.place r) (unwound ask.place r).params h
       not_up ask false h = cc
 
-      by_asks : (new : World) (e : D) → worker_at new.workers k ≡ Some Place.Idle → new.stack ≡ s → IsSound new → under e new ≡ under d old → r.stage ≡ Ascending → (asks : List Ask) → owed r.entries ≡ asks
+      by_asks : (new : World) (e : D) → worker_at new.workers k ≡ Some Place.Idle → new.stack ≡ s → IsSound new
+          → under e new ≡ under d old → r.stage ≡ Ascending → (asks : List Ask) → owed r.entries ≡ asks
           → Ok FlowAction.Done ≡ (ascend k false r (slice_get asks 0)).reply → Alone o (ascend k false r (slice_get asks 0)).after new.flow
           → Ended r.volume r.born r.operation r old d new e
       by_asks new e idle stack sound' ends st [] owes is alone = record {
@@ -71,13 +76,16 @@ module _ {F D : Type 0} (pre_may : F → Data → PreVerdict → Data → Type 0
         uncollected = going.uncollected;
         stays = stack;
         sound = sound';
-        left = subst (λ (w : Under D). LeftOf (chain_of pre_may post_may carries filters s x) (Visits s r.volume r.born r.operation) r (under d old) r.answer w) (sym ends)
+        left = subst (λ (w : Under D). LeftOf (chain_of pre_may post_may carries filters s x) (Visits s r.volume r.born r.operation) r
+            (under d old) r.answer w) (sym ends)
             (left_done (chain_of pre_may post_may carries filters s x) (Visits s r.volume r.born r.operation) r here.0 (under d old) here.1 st owes);
       }
       by_asks new e idle stack sound' ends st (ask ∷ rest) owes is alone = absurd (not_up ask (may_take k ask) is)
 
-      by_stage : (new : World) (e : D) → worker_at new.workers k ≡ Some Place.Idle → new.stack ≡ s → IsSound new → under e new ≡ under d old → (t : Stage) → r.stage ≡ t → is_between t ≡ true → (lies : Below)
-          → Ok FlowAction.Done ≡ (next_at k lies false r t).reply → Alone o (next_at k lies false r t).after new.flow → Ended r.volume r.born r.operation r old d new e
+      by_stage : (new : World) (e : D) → worker_at new.workers k ≡ Some Place.Idle → new.stack ≡ s → IsSound new
+          → under e new ≡ under d old → (t : Stage) → r.stage ≡ t → is_between t ≡ true → (lies : Below)
+          → Ok FlowAction.Done ≡ (next_at k lies false r t).reply → Alone o (next_at k lies false r t).after new.flow
+          → Ended r.volume r.born r.operation r old d new e
       by_stage new e idle stack sound' ends Descending st between lies is alone = absurd (not_down lies is)
       by_stage new e idle stack sound' ends Ascending st between lies is alone = by_asks new e idle stack sound' ends st (owed r.entries) refl is alone
       by_stage new e idle stack sound' ends _ st between lies is alone = cc
@@ -88,7 +96,9 @@ module _ {F D : Type 0} (pre_may : F → Data → PreVerdict → Data → Type 0
           (calm_here pre_may post_may is_quiet carries filters plain k o x s quiet r old d going sound at_stack) h in
           let is : next_of k n.lies false r ≡ next_at k n.lies false r r.stage =
           ap (λ b. cond b (turn (Err Status.WrongStep) r) (next_at k n.lies false r r.stage)) going.uncollected in
-          by_stage new e (ap (λ ws. worker_at ws k) n.workers ∙ going.idle) (n.stack ∙ at_stack) (step_keeps old (Step.Next k o) (StepReply.Action (Ok FlowAction.Done)) new h sound) (ap₂ (λ dev fs. record { device = dev; files = fs }) same n.files)
+          by_stage new e (ap (λ ws. worker_at ws k) n.workers ∙ going.idle) (n.stack ∙ at_stack)
+          (step_keeps old (Step.Next k o) (StepReply.Action (Ok FlowAction.Done)) new h sound)
+          (ap₂ (λ dev fs. record { device = dev; files = fs }) same n.files)
           r.stage refl going.between n.lies (n.said ∙ ap (λ (t : Turn). t.reply) is) (subst (λ (t : Turn). Alone o t.after new.flow) is n.alone)
 
     pub carried : (n : ℕ) (r : FlowRecord) (old : World) (d : D) → IsGoing k o x r old → IsSound old → old.stack ≡ s → (new : World) (e : D)
@@ -103,7 +113,8 @@ module _ {F D : Type 0} (pre_may : F → Data → PreVerdict → Data → Type 0
         let later : LeftOf c (Visits s r.volume r.born r.operation) t.next (under h.1 mid) rest.last.answer (under e new) =
         subst (λ (a : Operation). LeftOf c (Visits s r.volume r.born a) t.next (under h.1 mid) rest.last.answer (under e new)) kind
         (subst (λ (b : ℕ). LeftOf c (Visits s r.volume b t.next.operation) t.next (under h.1 mid) rest.last.answer (under e new)) t.same.1
-        (subst (λ (v : VolumeId). LeftOf c (Visits s v t.next.born t.next.operation) t.next (under h.1 mid) rest.last.answer (under e new)) t.same.0 rest.left)) in
+        (subst (λ (v : VolumeId). LeftOf c (Visits s v t.next.born t.next.operation) t.next (under h.1 mid) rest.last.answer
+        (under e new)) t.same.0 rest.left)) in
         record {
           last = rest.last;
           alone = rest.alone;

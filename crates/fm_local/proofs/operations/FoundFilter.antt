@@ -10,7 +10,8 @@ use Rattle.fm_local.specs.declared.local_port.Work.{Work}
 use Rattle.fm_local.proofs.operations.FilterAnswers.{is_quiet_found}
 use Rattle.fm_local.proofs.queues.ManagerWaits.{calls_only}
 
-module _ {F : Type 0} (filters : ℕ → Option F) (row : Option Instance) (number : Option FilterId) (is : number ≡ option_map (λ (x : Instance). x.filter) row) where
+module _ {F : Type 0} (filters : ℕ → Option F) (row : Option Instance) (number : Option FilterId)
+    (is : number ≡ option_map (λ (x : Instance). x.filter) row) where
   wanted : option_and_then (λ (n : FilterId). filters n.0) number ≡ filter_in_row filters row
   wanted = ap (option_and_then (λ (n : FilterId). filters n.0)) is ∙ by_row row
     where
@@ -19,11 +20,14 @@ module _ {F : Type 0} (filters : ℕ → Option F) (row : Option Instance) (numb
       by_row (Some x) = refl
 
   pub calls_found : (is_quiet : F → Type 0) (result : Option (Bor F)) (old new : Work)
-      → MatchOption result (option_and_then (λ (n : FilterId). filters n.0) number ≡ None) (λ f. option_and_then (λ (n : FilterId). filters n.0) number ≡ Some f.now)
+      → MatchOption result (option_and_then (λ (n : FilterId). filters n.0) number ≡ None)
+      (λ f. option_and_then (λ (n : FilterId). filters n.0) number ≡ Some f.now)
       → (MatchOption result ⊤ (λ f. is_quiet f.now) → new ≡ old)
-      → ◌≡◌ {A = Kept} (record { worker = WORKER; standing = Some (standing_with new.resumed.items.items new.state) }) (record { worker = WORKER; standing = Some (standing_with old.resumed.items.items old.state) })
+      → ◌≡◌ {A = Kept} (record { worker = WORKER; standing = Some (standing_with new.resumed.items.items new.state) })
+      (record { worker = WORKER; standing = Some (standing_with old.resumed.items.items old.state) })
       → CallsOnly is_quiet (filter_in_row filters row) old new
   calls_found is_quiet result old new found quiet kept =
       calls_only is_quiet (filter_in_row filters row) old new WORKER
-      (λ calls. quiet (is_quiet_found (filter_in_row filters row) is_quiet result (subst (λ (w : Option F). MatchOption result (w ≡ None) (λ f. w ≡ Some f.now)) wanted found) calls))
+      (λ calls. quiet (is_quiet_found (filter_in_row filters row) is_quiet result
+      (subst (λ (w : Option F). MatchOption result (w ≡ None) (λ f. w ≡ Some f.now)) wanted found) calls))
       kept

@@ -23,8 +23,10 @@ module _ {W : Type 0} (chain : Chain W) (fixed : IsFunctional chain) where
   abbrev Once : (Params → List Asker → W → Answer → W → Type 0) → Type 0
   Once Below = (p : Params) (asked : List Asker) (old : W) (a b : Answer) (x y : W) → Below p asked old a x → Below p asked old b y → AreOne a b x y
 
-  module _ (Below : Params → List Asker → W → Answer → W → Type 0) (once : Once Below) (i : ℕ) (p : Params) (asked : List Asker) (old : W) (a b : Answer) (x y : W) where
-    leads_once : (back : Data) (state : PreState) → Leads chain Below i p back asked state old a x → Leads chain Below i p back asked state old b y → AreOne a b x y
+  module _ (Below : Params → List Asker → W → Answer → W → Type 0) (once : Once Below) (i : ℕ) (p : Params) (asked : List Asker)
+      (old : W) (a b : Answer) (x y : W) where
+    leads_once : (back : Data) (state : PreState) → Leads chain Below i p back asked state old a x
+        → Leads chain Below i p back asked state old b y → AreOne a b x y
     leads_once back (PreState.Asked completion) h k = once (current_of back) (asker i p completion ∷ asked) old a b x y h k
     leads_once back PreState.Passed h k = once (current_of back) asked old a b x y h k
     leads_once back (PreState.Completed status) h k = record { answer = rises_once asked (bare_answer status) a b h.0 k.0; end = h.1 ∙ sym k.1 }

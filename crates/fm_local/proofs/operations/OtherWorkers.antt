@@ -26,7 +26,11 @@ module _ (k : WorkerId) where
   same_beside old new is j other = ap (λ ws. slice_get ws j) is
 
   world_beside : (old new : World) → new ≡ old → KeepsRest k old new
-  world_beside old new is = record { beside = same_beside old.workers new.workers (ap (λ (w : World). w.workers) is); next = ap (λ (w : World). w.flow.next) is }
+  world_beside old new is = record {
+    beside = same_beside old.workers new.workers (ap (λ (w : World). w.workers) is);
+    next =
+        ap (λ (w : World). w.flow.next) is;
+  }
 
   after_one : (old new : World) → KeepsRest k old new → (last : World) → KeepsRest k new last → KeepsRest k old last
   after_one old new h last g = record { beside = λ j other. g.beside j other ∙ h.beside j other; next = g.next ∙ h.next }
@@ -57,7 +61,8 @@ module _ (k : WorkerId) where
         next = ap (λ t. t.next) same.flow ∙ ap (λ (w : World). w.flow.next) at.3.1;
       }) h
 
-  pre_at : (given : PreVerdict) (lent : Data) (result : Result (Unit {0}) Status) (old new : World) (m : Option Place) → PreReturnsAt old k given lent result new m → KeepsRest k old new
+  pre_at : (given : PreVerdict) (lent : Data) (result : Result (Unit {0}) Status) (old new : World) (m : Option Place)
+      → PreReturnsAt old k given lent result new m → KeepsRest k old new
   pre_at given lent result old new (Some (Place.Pre o i)) h =
       unless_beside Status.BadRequest (told (λ r. data_fits r.operation r.path lent) false o old.flow) result old new
       ((result ≡ Ok tt) × PreReturnsOver old k o (pre_step old k o i given lent) (state_at old k o i given) new)
@@ -69,23 +74,28 @@ module _ (k : WorkerId) where
       }) h
   pre_at given lent result old new _ h = world_beside old new h.1
 
-  pub pre_beside : (given : PreVerdict) (lent : Data) (result : Result (Unit {0}) Status) (old new : World) → PreReturns old k given lent result new → KeepsRest k old new
+  pub pre_beside : (given : PreVerdict) (lent : Data) (result : Result (Unit {0}) Status) (old new : World)
+      → PreReturns old k given lent result new → KeepsRest k old new
   unfolding PreReturns
   pre_beside given lent result old new h = pre_at given lent result old new (worker_at old.workers k) h
 
-  base_at : (call : BaseCall) (answer : Answer) (result : Result (Unit {0}) Status) (old new : World) (m : Option Place) → BaseReturnsAt old k call answer result new m → KeepsRest k old new
+  base_at : (call : BaseCall) (answer : Answer) (result : Result (Unit {0}) Status) (old new : World) (m : Option Place)
+      → BaseReturnsAt old k call answer result new m → KeepsRest k old new
   base_at call answer result old new (Some (Place.Base o)) h =
-      unless_beside Status.BadRequest (told (base_fits call answer) false o old.flow) result old new ((result ≡ Ok tt) × LosesLinks (base_returned old k o call answer) new)
+      unless_beside Status.BadRequest (told (base_fits call answer) false o old.flow) result old new ((result ≡ Ok tt)
+      × LosesLinks (base_returned old k o call answer) new)
       (λ over.
       let same = by_links (base_returned old k o call answer) new over.1 in
       record { beside = put_beside old.workers new.workers Place.Idle same.workers; next = ap (λ t. t.next) same.flow }) h
   base_at call answer result old new _ h = world_beside old new h.1
 
-  pub base_beside : (call : BaseCall) (answer : Answer) (result : Result (Unit {0}) Status) (old new : World) → BaseReturns old k call answer result new → KeepsRest k old new
+  pub base_beside : (call : BaseCall) (answer : Answer) (result : Result (Unit {0}) Status) (old new : World)
+      → BaseReturns old k call answer result new → KeepsRest k old new
   unfolding BaseReturns
   base_beside call answer result old new h = base_at call answer result old new (worker_at old.workers k) h
 
-  post_at : (given : PostVerdict) (lent : Data) (result : Result (Unit {0}) Status) (old new : World) (m : Option Place) → PostReturnsAt old k given (Some lent) result new m
+  post_at : (given : PostVerdict) (lent : Data) (result : Result (Unit {0}) Status) (old new : World) (m : Option Place)
+      → PostReturnsAt old k given (Some lent) result new m
       → KeepsRest k old new
   post_at given lent result old new (Some (Place.Post o i)) h =
       unless_beside Status.BadRequest (told (λ r. data_fits r.operation r.path lent) false o old.flow) result old new
@@ -96,13 +106,16 @@ module _ (k : WorkerId) where
       }) h
   post_at given lent result old new _ h = world_beside old new h.1
 
-  pub post_beside : (given : PostVerdict) (lent : Data) (result : Result (Unit {0}) Status) (old new : World) → PostReturns old k given (Some lent) result new → KeepsRest k old new
+  pub post_beside : (given : PostVerdict) (lent : Data) (result : Result (Unit {0}) Status) (old new : World)
+      → PostReturns old k given (Some lent) result new → KeepsRest k old new
   unfolding PostReturns
   post_beside given lent result old new h = post_at given lent result old new (worker_at old.workers k) h
 
-  module _ {F D : Type 0} (pre : F → Data → PreVerdict → Data → Type 0) (post : F → Data → Completion → PostVerdict → Data → Type 0) (carries : D → BaseCall → Answer → D → Type 0)
+  module _ {F D : Type 0} (pre : F → Data → PreVerdict → Data → Type 0) (post : F → Data → Completion → PostVerdict → Data
+      → Type 0) (carries : D → BaseCall → Answer → D → Type 0)
       (filters : ℕ → Option F) (o : OpId) where
-    does_beside : (reply : Result FlowAction Status) (mid : World) (d : D) (new : World) (e : D) → Does pre post carries filters k o reply mid d new e → KeepsRest k mid new
+    does_beside : (reply : Result FlowAction Status) (mid : World) (d : D) (new : World) (e : D)
+        → Does pre post carries filters k o reply mid d new e → KeepsRest k mid new
     does_beside (Ok (FlowAction.Pre i lent)) mid d new e h = pre_beside h.0 h.1 h.2 mid new h.5
     does_beside (Ok (FlowAction.Base call)) mid d new e h = base_beside call h.0 h.1 mid new h.4
     does_beside (Ok (FlowAction.Post i lent completion)) mid d new e h = post_beside h.0 h.1 h.2 mid new h.5

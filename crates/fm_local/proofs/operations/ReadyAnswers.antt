@@ -28,11 +28,13 @@ module _ {F B : Type 0} (own : filter.Ghosts F) (below : base.Ghosts B) (k : Wor
   Answered what old said new = AnswersIn own below k what old said new
 
   module _ (old : Parts F B) (ready : Ready old) (sound : IsSound old.work.state) where
-    abbrev here : RestsOver own.pre_may own.post_may own.is_quiet (BasesCarry below.folder below.faults) (numbered old.filters) k ready.plain old.work.state.stack ready.calm old.work.state
+    abbrev here : RestsOver own.pre_may own.post_may own.is_quiet (BasesCarry below.folder below.faults)
+        (numbered old.filters) k ready.plain old.work.state.stack ready.calm old.work.state
     here = record { sound = sound; rests = ready.rests; stack = refl }
 
     -- all is ready again
-    ready_again : (new : Parts F B) → RestsOver own.pre_may own.post_may own.is_quiet (BasesCarry below.folder below.faults) (numbered old.filters) k ready.plain old.work.state.stack ready.calm new.work.state
+    ready_again : (new : Parts F B) → RestsOver own.pre_may own.post_may own.is_quiet (BasesCarry below.folder below.faults)
+        (numbered old.filters) k ready.plain old.work.state.stack ready.calm new.work.state
         → new.filters ≡ old.filters → new.work.resumed.items.items ≡ [] → Ready new
     ready_again new over filters settled = record {
       plain = subst (λ (fs : Filters F). ArePlainFilters own.pre_may own.post_may own.is_quiet (numbered fs)) (sym filters) ready.plain;
@@ -43,15 +45,18 @@ module _ {F B : Type 0} (own : filter.Ghosts F) (below : base.Ghosts B) (k : Wor
 
     pub ready_after : (what : Request) (said : Reply) (new : Parts F B) → Performed what old said new → Ready new
     ready_after what said new p =
-        let one = one_tidily own.pre_may own.post_may own.is_quiet (BasesCarry below.folder below.faults) (numbered old.filters) k ready.plain old.work.state.stack ready.calm what old.work.state old.bases.all.items p.answer
+        let one = one_tidily own.pre_may own.post_may own.is_quiet (BasesCarry below.folder below.faults)
+        (numbered old.filters) k ready.plain old.work.state.stack ready.calm what old.work.state old.bases.all.items p.answer
         new.work.state new.bases.all.items here p.does in
         ready_again new one.ready p.filters p.settled
 
     answers : (what : Request) (said : Reply) (new : Parts F B) (answer : Answer) → said ≡ replied answer
-        → DoesOne own.pre_may own.post_may (BasesCarry below.folder below.faults) (numbered old.filters) k what old.work.state old.bases.all.items answer new.work.state new.bases.all.items
+        → DoesOne own.pre_may own.post_may (BasesCarry below.folder below.faults) (numbered old.filters) k what old.work.state
+        old.bases.all.items answer new.work.state new.bases.all.items
         → new.filters ≡ old.filters → new.work.resumed.items.items ≡ [] → Answered what old said new
     answers what said new answer says does filters settled =
-        let one = one_done own.pre_may own.post_may own.is_quiet (BasesCarry below.folder below.faults) (numbered old.filters) k ready.plain old.work.state.stack ready.calm what old.work.state old.bases.all.items answer
+        let one = one_done own.pre_may own.post_may own.is_quiet (BasesCarry below.folder below.faults)
+        (numbered old.filters) k ready.plain old.work.state.stack ready.calm what old.work.state old.bases.all.items answer
         new.work.state new.bases.all.items here does in
         record {
           answer = answer;
@@ -63,7 +68,8 @@ module _ {F B : Type 0} (own : filter.Ghosts F) (below : base.Ghosts B) (k : Wor
         }
 
     as_one : (what : Request) → closed_handle what ≡ None → (w : World) (d : List B) (answer : Answer) (v : World) (e : List B)
-        → DoesTidily own.pre_may own.post_may (BasesCarry below.folder below.faults) (numbered old.filters) k what w d answer v e → DoesOne own.pre_may own.post_may (BasesCarry below.folder below.faults) (numbered old.filters) k what w d answer v e
+        → DoesTidily own.pre_may own.post_may (BasesCarry below.folder below.faults) (numbered old.filters) k what w d answer v e
+        → DoesOne own.pre_may own.post_may (BasesCarry below.folder below.faults) (numbered old.filters) k what w d answer v e
     as_one (Request.List v) no_close w d answer u e does = does
     as_one (Request.Create v path mode) no_close w d answer u e does = does
     as_one (Request.OnHandle h FileRequest.Close) no_close w d answer u e does = cc
@@ -72,17 +78,20 @@ module _ {F B : Type 0} (own : filter.Ghosts F) (below : base.Ghosts B) (k : Wor
     -- a request that is no close
     pub answers_one : (what : Request) → closed_handle what ≡ None → (said : Reply) (new : Parts F B) → Performed what old said new → Answered what old said new
     answers_one what no_close said new p =
-        answers what said new p.answer p.says (as_one what no_close old.work.state old.bases.all.items p.answer new.work.state new.bases.all.items p.does) p.filters p.settled
+        answers what said new p.answer p.says (as_one what no_close old.work.state old.bases.all.items p.answer new.work.state
+        new.bases.all.items p.does) p.filters p.settled
 
     -- ---- a close
     module _ (h : HandleId) (cleaned : Reply) (mid : Parts F B) (p : Performed (Request.OnHandle h FileRequest.Cleanup) old cleaned mid) where
       abbrev Closes : Status → Answer → Parts F B → Type 0
       Closes st answer new =
-          DoesClose own.pre_may own.post_may (BasesCarry below.folder below.faults) (numbered old.filters) k st (Request.OnHandle h FileRequest.Close) mid.work.state mid.bases.all.items p.answer answer new.work.state new.bases.all.items
+          DoesClose own.pre_may own.post_may (BasesCarry below.folder below.faults) (numbered old.filters) k st
+          (Request.OnHandle h FileRequest.Close) mid.work.state mid.bases.all.items p.answer answer new.work.state new.bases.all.items
 
       -- after its cleanup, or where that began before
       closes_after : (st : Status) → is_over st ≡ true → (answer : Answer) (new : Parts F B)
-          → DoesTidily own.pre_may own.post_may (BasesCarry below.folder below.faults) (numbered old.filters) k (Request.OnHandle h FileRequest.Close) mid.work.state mid.bases.all.items answer new.work.state new.bases.all.items
+          → DoesTidily own.pre_may own.post_may (BasesCarry below.folder below.faults) (numbered old.filters) k
+          (Request.OnHandle h FileRequest.Close) mid.work.state mid.bases.all.items answer new.work.state new.bases.all.items
           → Closes st answer new
       closes_after Status.Success over answer new does = does
       closes_after Status.WrongStep over answer new does = does
@@ -106,7 +115,8 @@ module _ {F B : Type 0} (own : filter.Ghosts F) (below : base.Ghosts B) (k : Wor
       pub answers_close : goes_on cleaned ≡ true → (said : Reply) (new : Parts F B) → Performed (Request.OnHandle h FileRequest.Close) mid said new
           → Answered (Request.OnHandle h FileRequest.Close) old said new
       answers_close over said new q =
-          let does = subst (λ (fs : Filters F). DoesTidily own.pre_may own.post_may (BasesCarry below.folder below.faults) (numbered fs) k (Request.OnHandle h FileRequest.Close) mid.work.state mid.bases.all.items q.answer
+          let does = subst (λ (fs : Filters F). DoesTidily own.pre_may own.post_may (BasesCarry below.folder below.faults)
+          (numbered fs) k (Request.OnHandle h FileRequest.Close) mid.work.state mid.bases.all.items q.answer
           new.work.state new.bases.all.items) p.filters q.does in
           closed said new q.answer q.says (closes_after p.answer.status (sym says_status ∙ over) q.answer new does) (q.filters ∙ p.filters) q.settled
 
@@ -115,7 +125,8 @@ module _ {F B : Type 0} (own : filter.Ghosts F) (below : base.Ghosts B) (k : Wor
 
   -- ---- a close, as it is made
   closes_by : (old mid then new : Parts F B) (cleaned said : Reply) (h : HandleId)
-      → (goes_on cleaned ≡ false → (said ≡ cleaned) × (then ≡ mid)) → (Ready mid → goes_on cleaned ≡ true → Performed (Request.OnHandle h FileRequest.Close) mid said then)
+      → (goes_on cleaned ≡ false → (said ≡ cleaned) × (then ≡ mid))
+      → (Ready mid → goes_on cleaned ≡ true → Performed (Request.OnHandle h FileRequest.Close) mid said then)
       → (then.work.resumed.items.items ≡ [] → Tidies then.work.state new.work.state)
       → (then.work.resumed.items.items ≡ [] → (new.bases ≡ then.bases) × (new.filters ≡ then.filters) × (new.work.resumed.items.items ≡ []))
       → Ready mid → goes_on cleaned ≡ true → Performed (Request.OnHandle h FileRequest.Close) mid said new
@@ -124,7 +135,8 @@ module _ {F B : Type 0} (own : filter.Ghosts F) (below : base.Ghosts B) (k : Wor
 
   -- once its cleanup was carried to its answer
   module _ (o : OpId) (h : HandleId) (old mid then new : Parts F B) (cleaned said : Reply) (runs : RunsIn own below k o old cleaned mid)
-      (stops : goes_on cleaned ≡ false → (said ≡ cleaned) × (then ≡ mid)) (does : Ready mid → goes_on cleaned ≡ true → Performed (Request.OnHandle h FileRequest.Close) mid said then)
+      (stops : goes_on cleaned ≡ false → (said ≡ cleaned) × (then ≡ mid)) (does : Ready mid → goes_on cleaned ≡ true
+      → Performed (Request.OnHandle h FileRequest.Close) mid said then)
       (tidies : then.work.resumed.items.items ≡ [] → Tidies then.work.state new.work.state)
       (settles : then.work.resumed.items.items ≡ [] → (new.bases ≡ then.bases) × (new.filters ≡ then.filters) × (new.work.resumed.items.items ≡ [])) where
     pub closes_in : ClosesIn own below k o h old said new
@@ -157,14 +169,23 @@ module _ {F B : Type 0} (own : filter.Ghosts F) (below : base.Ghosts B) (k : Wor
         → (ArePlainFilters own.pre_may own.post_may own.is_quiet (numbered old.filters) → IsBegun k o begun → old.work.resumed.items.items ≡ []
         → ClosesIn own below k o h (record old { work = record old.work { state = begun } }) said new) → Answered close_of old said new
     answers_closed o begun begins said new closes_it =
-        let began : IsBegun k o begun = record { what = cleanup_of; before = old.work.state; sound = sound; rests = ready.rests; calm = ready.calm; begins = begins } in
+        let began : IsBegun k o begun = record {
+          what = cleanup_of;
+          before = old.work.state;
+          sound = sound;
+          rests = ready.rests;
+          calm =
+              ready.calm;
+          begins = begins;
+        } in
         let x = closes_it ready.plain began ready.settled in
         let p = performs_begun own below k cleanup_of old ready begun o x.cleaned x.mid sound begins (λ plain is settled. x.runs) in
         by_cleanup (goes_on x.cleaned) x refl p
       where
         by_cleanup : (b : Bool) (x : ClosesIn own below k o h (record old { work = record old.work { state = begun } }) said new) → goes_on x.cleaned ≡ b
             → Performed cleanup_of old x.cleaned x.mid → Answered close_of old said new
-        by_cleanup true x over p = answers_close old ready sound h x.cleaned x.mid p over said new (x.closes (ready_after old ready sound cleanup_of x.cleaned x.mid p) over)
+        by_cleanup true x over p = answers_close old ready sound h x.cleaned x.mid p over said new
+            (x.closes (ready_after old ready sound cleanup_of x.cleaned x.mid p) over)
         by_cleanup false x ends p =
             let s = x.stops ends in
             let q = performs_settled own below k old x.mid new x.cleaned (λ none. s.1) (λ none. (s.2, s.3, s.4)) cleanup_of p in
@@ -172,9 +193,11 @@ module _ {F B : Type 0} (own : filter.Ghosts F) (below : base.Ghosts B) (k : Wor
 
     -- one whose cleanup was refused
     pub answers_refused : (why : Status) (begun : World) → Begins old.work.state cleanup_of (Err why) begun → (said : Reply) (new : Parts F B)
-        → (Ready (record old { work = record old.work { state = begun } }) → is_over why ≡ true → Performed close_of (record old { work = record old.work { state = begun } }) said new)
+        → (Ready (record old { work = record old.work { state = begun } }) → is_over why ≡ true
+        → Performed close_of (record old { work = record old.work { state = begun } }) said new)
         → (most limit : ℕ)
-        → ClosesRefused own below k most limit (is_over why) why h (record old { work = record old.work { state = begun } }) said new → Answered close_of old said new
+        → ClosesRefused own below k most limit (is_over why) why h (record old { work = record old.work { state = begun } }) said new
+        → Answered close_of old said new
     answers_refused why begun begins said new does most limit closes = by_status (is_over why) refl closes
       where
         now : Parts F B
@@ -185,7 +208,8 @@ module _ {F B : Type 0} (own : filter.Ghosts F) (below : base.Ghosts B) (k : Wor
 
         by_status : (b : Bool) → is_over why ≡ b → ClosesRefused own below k most limit b why h now said new → Answered close_of old said new
         by_status true over closes =
-            answers_close old ready sound h (replied (bare_answer why)) now p over said new (does (ready_after old ready sound cleanup_of (replied (bare_answer why)) now p) over)
+            answers_close old ready sound h (replied (bare_answer why)) now p over said new
+            (does (ready_after old ready sound cleanup_of (replied (bare_answer why)) now p) over)
         by_status false ends closes =
             let a = answers_cleanup old ready sound h (replied (bare_answer why)) now p ends in
             subst (λ (m : Parts F B). Answered close_of old said m) (sym closes.1) (subst (λ (r : Reply). Answered close_of old r now) (sym closes.0) a)

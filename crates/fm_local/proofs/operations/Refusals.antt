@@ -13,12 +13,14 @@ unfolding Begins
 not_begun old what o new h why refused = none-some why (sym h.0 ∙ refused)
 
 -- and is told that refusal
-pub refused_as : (old : World) (what : Request) (status : Status) (new : World) → Begins old what (Err status) new → (why : Status) → begin_refused old what ≡ Some why → (status ≡ why) × (new ≡ old)
+pub refused_as : (old : World) (what : Request) (status : Status) (new : World) → Begins old what (Err status) new → (why : Status)
+    → begin_refused old what ≡ Some why → (status ≡ why) × (new ≡ old)
 unfolding Begins
 refused_as old what status new h why refused = (subst (λ m. IsRefusalOrMemory m status) refused h.0, h.1)
 
 module _ {F B : Type 0} (old : Parts F B) where
-  pub refuses_one : (what : Request) (status : Status) (new : World) → Begins old.work.state what (Err status) new → (said : Reply) → said ≡ replied (bare_answer status)
+  pub refuses_one : (what : Request) (status : Status) (new : World) → Begins old.work.state what (Err status) new → (said : Reply)
+      → said ≡ replied (bare_answer status)
       → RefusesOne what old said (record old { work = record old.work { state = new } })
   refuses_one what status new h said says why refused =
       let (is, same) = refused_as old.work.state what status new h why refused in
@@ -33,7 +35,8 @@ module _ {F B : Type 0} (old : Parts F B) where
 
 -- a close: its cleanup's refusal is the answer, or it goes on
 module _ {F B : Type 0} (own : filter.Ghosts F) (below : base.Ghosts B) (k : WorkerId) (most limit : ℕ) (old : Parts F B) (x : HandleId) where
-  pub refuses_close : (status : Status) (begun : World) → Begins old.work.state (Request.OnHandle x FileRequest.Cleanup) (Err status) begun → (said : Reply) (new : Parts F B)
+  pub refuses_close : (status : Status) (begun : World) → Begins old.work.state (Request.OnHandle x FileRequest.Cleanup)
+      (Err status) begun → (said : Reply) (new : Parts F B)
       → ClosesRefused own below k most limit (is_over status) status x (record old { work = record old.work { state = begun } }) said new
       → RefusesIn (Request.OnHandle x FileRequest.Close) old said new
   refuses_close status begun begins said new closes why refused ends =

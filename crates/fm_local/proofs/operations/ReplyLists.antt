@@ -20,7 +20,8 @@ all_replied {F} {B} own below k (what ∷ requests) old (said ∷ replies) new r
     let one = each.1 ready in
     let rest = all_replied own below k requests mid replies new one.ready each.2 in
     let All : Filters F → StackWorld → Type 0 =
-    λ fs s. AnswersAll own.pre_may own.post_may (BasesCarry below.folder below.faults) (numbered fs) s mid.work.state.flow.next requests (under mid.bases.all.items mid.work.state) rest.answers
+    λ fs s. AnswersAll own.pre_may own.post_may (BasesCarry below.folder below.faults) (numbered fs) s mid.work.state.flow.next
+    requests (under mid.bases.all.items mid.work.state) rest.answers
     (under new.bases.all.items new.work.state) new.work.state.flow.next in
     record {
       answers = one.answer ∷ rest.answers;

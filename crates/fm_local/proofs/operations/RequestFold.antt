@@ -41,23 +41,27 @@ module _ (old : World) (rest : old.flow.operations ≡ []) where
     emptied = record old { flow = record { operations = []; next = old.flow.next } }
 
     on_stream : (h : HandleId) (p : Params) (x : FileHandle) (m : Option FileStream)
-        → ((begun_on emptied h p x m).flow.operations ≡ (begun_on resting h p x m).flow.operations) × ((begun_on emptied h p x m).files ≡ (begun_on resting h p x m).files)
+        → ((begun_on emptied h p x m).flow.operations ≡ (begun_on resting h p x m).flow.operations)
+        × ((begun_on emptied h p x m).files ≡ (begun_on resting h p x m).files)
     on_stream h p x None = (refl, refl)
     on_stream h p x (Some y) = (refl, refl)
 
     on_found : (h : HandleId) (p : Params) (m : Option FileHandle)
-        → ((begun_at emptied h p m).flow.operations ≡ (begun_at resting h p m).flow.operations) × ((begun_at emptied h p m).files ≡ (begun_at resting h p m).files)
+        → ((begun_at emptied h p m).flow.operations ≡ (begun_at resting h p m).flow.operations)
+        × ((begun_at emptied h p m).files ≡ (begun_at resting h p m).files)
     on_found h p None = (refl, refl)
     on_found h p (Some x) = on_stream h p x (stream_at x.stream old.files)
 
     begun_same : (what : Request)
-        → ((after_begin emptied what).flow.operations ≡ (after_begin resting what).flow.operations) × ((after_begin emptied what).files ≡ (after_begin resting what).files)
+        → ((after_begin emptied what).flow.operations ≡ (after_begin resting what).flow.operations)
+        × ((after_begin emptied what).files ≡ (after_begin resting what).files)
     begun_same (Request.List v) = (refl, refl)
     begun_same (Request.Create v path mode) = (refl, refl)
     begun_same (Request.OnHandle h asked) = on_found h (params_of asked) (handle_at h old.files)
 
     begun_so : (what : Request)
-        → ((after_begin old what).flow.operations ≡ (after_begin resting what).flow.operations) × ((after_begin old what).files ≡ (after_begin resting what).files)
+        → ((after_begin old what).flow.operations ≡ (after_begin resting what).flow.operations)
+        × ((after_begin old what).files ≡ (after_begin resting what).files)
     begun_so what = (
       ap (λ (t : FlowTable). (after_begin (record old { flow = t }) what).flow.operations) flow_is ∙ (begun_same what).0,
       ap (λ (t : FlowTable). (after_begin (record old { flow = t }) what).files) flow_is ∙ (begun_same what).1,
@@ -77,7 +81,8 @@ none_runs (Base why information ∷ es) none = none_runs es (λ i. omega (arith,
 none_runs (Post visit ∷ es) none = none_runs es (λ i. omega (arith, none i))
 
 -- idle workers are counted by no test that an idle one doesn't pass
-none_counted : (p : Place → Bool) → p Place.Idle ≡ false → (ws : List Place) → ((j : ℕ) (a : Place) → slice_get ws j ≡ Some a → a ≡ Place.Idle) → count_by p ws ≡ 0
+none_counted : (p : Place → Bool) → p Place.Idle ≡ false → (ws : List Place)
+    → ((j : ℕ) (a : Place) → slice_get ws j ≡ Some a → a ≡ Place.Idle) → count_by p ws ≡ 0
 none_counted p idle [] all = refl
 none_counted p idle (a ∷ ws) all =
     let here : p a ≡ false = ap p (all 0 a refl) ∙ idle in
@@ -89,12 +94,14 @@ pub collectable : (last : FlowRecord) → last.stage ≡ Ascending → owed last
 collectable last ascends owes uncollected = ap₂ (λ b c. not b && c) uncollected (ap₂ done_at ascends owes)
 
 -- a done operation, alone, whose answer is taken, is gone
-module _ (o : OpId) (last : FlowRecord) (done : World) (alone : Alone o last done.flow) (ascends : last.stage ≡ Ascending) (owes : owed last.entries ≡ []) (uncollected : last.collected ≡ false)
+module _ (o : OpId) (last : FlowRecord) (done : World) (alone : Alone o last done.flow) (ascends : last.stage ≡ Ascending)
+    (owes : owed last.entries ≡ []) (uncollected : last.collected ≡ false)
     (calm : list_any is_running_drain last.entries ≡ false) where
   removed_is : collected_of o done.flow ≡ removed o done.flow
   removed_is =
       ap (collected_in o done.flow) (found_alone o last done.flow alone)
-      ∙ ap (λ b. cond b (cond (list_any is_running_drain last.entries) (changed o marked done.flow) (removed o done.flow)) done.flow) (collectable last ascends owes uncollected)
+      ∙ ap (λ b. cond b (cond (list_any is_running_drain last.entries) (changed o marked done.flow) (removed o done.flow)) done.flow)
+      (collectable last ascends owes uncollected)
       ∙ ap (λ b. cond b (changed o marked done.flow) (removed o done.flow)) calm
 
   all_gone : (removed o done.flow).operations ≡ []
@@ -104,7 +111,8 @@ module _ (o : OpId) (last : FlowRecord) (done : World) (alone : Alone o last don
   unfolding Collects
   answer_is answer new h =
       let is : Ok answer ≡ Ok last.answer =
-      h.0 ∙ told_alone o last done.flow alone collect_reply (Err Status.WrongStep) ∙ ap (λ b. cond b (Ok last.answer) (Err Status.WrongStep)) (collectable last ascends owes uncollected) in
+      h.0 ∙ told_alone o last done.flow alone collect_reply (Err Status.WrongStep)
+      ∙ ap (λ b. cond b (Ok last.answer) (Err Status.WrongStep)) (collectable last ascends owes uncollected) in
       cc
 
   pub flow_left : (answer : Answer) (new : World) → Collects done o (Ok answer) new → new ≡ record done { flow = removed o done.flow }
@@ -114,8 +122,10 @@ module _ (o : OpId) (last : FlowRecord) (done : World) (alone : Alone o last don
   pub rests_after : (answer : Answer) (new : World) → Collects done o (Ok answer) new → new.flow.operations ≡ []
   rests_after answer new h = ap (λ (w : World). w.flow.operations) (flow_left answer new h) ∙ all_gone
 
-module _ {F D : Type 0} (pre_may : F → Data → PreVerdict → Data → Type 0) (post_may : F → Data → Completion → PostVerdict → Data → Type 0) (is_quiet : F → Type 0)
-    (carries : D → BaseCall → Answer → D → Type 0) (filters : ℕ → Option F) (k : WorkerId) (plain : (n : ℕ) (f : F) → filters n ≡ Some f → IsPlainFilter pre_may post_may is_quiet f) where
+module _ {F D : Type 0} (pre_may : F → Data → PreVerdict → Data → Type 0) (post_may : F → Data → Completion → PostVerdict → Data
+    → Type 0) (is_quiet : F → Type 0)
+    (carries : D → BaseCall → Answer → D → Type 0) (filters : ℕ → Option F) (k : WorkerId) (plain : (n : ℕ) (f : F)
+    → filters n ≡ Some f → IsPlainFilter pre_may post_may is_quiet f) where
   module _ (what : Request) (old : World) (d : D) (sound : IsSound old) (rest : IsAtRest k old) (quiet : NoneStops old.stack) where
     abbrev By : Option Status → Answer → Under D → ℕ → Type 0
     By m answer new after = PerformsBy pre_may post_may carries filters old.stack m old.flow.next what (under d old) answer new after
@@ -128,7 +138,8 @@ module _ {F D : Type 0} (pre_may : F → Data → PreVerdict → Data → Type 0
     refused_by (Some refusal) why is = (ap bare_answer is, refl, refl)
     refused_by None why is = inl (ap bare_answer is, refl, refl)
 
-    refused : (why : Status) (begun : World) (answer : Answer) (new : World) (e : D) → Begins old what (Err why) begun → DoesBegun pre_may post_may carries filters k (Err why) begun d answer new e
+    refused : (why : Status) (begun : World) (answer : Answer) (new : World) (e : D) → Begins old what (Err why) begun
+        → DoesBegun pre_may post_may carries filters k (Err why) begun d answer new e
         → IsAnswered pre_may post_may carries filters k what old d answer new e
     unfolding Begins
     refused why begun answer new e h does =
@@ -138,7 +149,8 @@ module _ {F D : Type 0} (pre_may : F → Data → PreVerdict → Data → Type 0
           performs = subst (λ (m : Option Status). By m answer (under e new) new.flow.next) refusal_is
               (subst (λ (a : Answer). By (begin_refused old what) a (under e new) new.flow.next) (sym does.0)
               (subst (λ (u : Under D). By (begin_refused old what) (bare_answer why) u new.flow.next) ends
-              (subst (λ (w : World). By (begin_refused old what) (bare_answer why) (under d old) w.flow.next) (sym same) (refused_by (begin_refused old what) why h.0))));
+              (subst (λ (w : World). By (begin_refused old what) (bare_answer why) (under d old) w.flow.next) (sym same)
+              (refused_by (begin_refused old what) why h.0))));
           rests = subst (IsAtRest k) (sym same) rest;
           sound = subst IsSound (sym same) sound;
           stays = ap (λ (w : World). w.stack) same;
@@ -159,7 +171,8 @@ module _ {F D : Type 0} (pre_may : F → Data → PreVerdict → Data → Type 0
       going : IsGoing k o (subject_of first) first begun
       going = begin.going k o what old rest begun begins
 
-      ended : Ended pre_may post_may is_quiet carries filters plain k o (subject_of first) old.stack quiet first.volume first.born first.operation first begun d done e
+      ended : Ended pre_may post_may is_quiet carries filters plain k o (subject_of first) old.stack quiet first.volume first.born
+          first.operation first begun d done e
       ended = carried pre_may post_may is_quiet carries filters plain k o (subject_of first) old.stack quiet n first begun d going
           (step_keeps old (Step.Begin what) (StepReply.Operation (Ok o)) begun begins sound) start.stack done e carries_it
 
@@ -186,14 +199,20 @@ module _ {F D : Type 0} (pre_may : F → Data → PreVerdict → Data → Type 0
           let says : answer ≡ ended.last.answer = answer_is o ended.last done ended.alone ended.ascends ended.owes ended.uncollected calm answer new collects in
           let ops : (after_begin (at_rest old.stack old.flow.next (under d old)) what).flow.operations ≡ first ∷ [] =
           sym same.0 ∙ ap (λ (w : World). w.flow.operations) (sym begun_parts.2) ∙ start.operations in
-          let files : (after_begin (at_rest old.stack old.flow.next (under d old)) what).files ≡ begun.files = sym same.1 ∙ ap (λ (w : World). w.files) (sym begun_parts.2) in
+          let files : (after_begin (at_rest old.stack old.flow.next (under d old)) what).files ≡ begun.files = sym same.1
+          ∙ ap (λ (w : World). w.files) (sym begun_parts.2) in
           let Folded : Answer → Under D → Type 0 = λ a u. FoldsAlone pre_may post_may carries filters old.stack (first ∷ []) (under d begun) a u in
           let folds : Folded answer (under e new) =
-          subst (λ (a : Answer). Folded a (under e new)) (sym says) (subst (λ (fs : FileTable). Folded ended.last.answer (record { device = e; files = fs })) (ap (λ (w : World). w.files) (sym gone)) ended.left) in
+          subst (λ (a : Answer). Folded a (under e new)) (sym says)
+          (subst (λ (fs : FileTable). Folded ended.last.answer (record { device = e; files = fs }))
+          (ap (λ (w : World). w.files) (sym gone)) ended.left) in
           let whole : FoldsAlone pre_may post_may carries filters old.stack (after_begin (at_rest old.stack old.flow.next (under d old)) what).flow.operations
           (record { device = d; files = (after_begin (at_rest old.stack old.flow.next (under d old)) what).files }) answer (under e new) =
-          subst (λ (rs : List FlowRecord). FoldsAlone pre_may post_may carries filters old.stack rs (record { device = d; files = (after_begin (at_rest old.stack old.flow.next (under d old)) what).files }) answer (under e new)) (sym ops)
-          (subst (λ (fs : FileTable). FoldsAlone pre_may post_may carries filters old.stack (first ∷ []) (record { device = d; files = fs }) answer (under e new)) (sym files) folds) in
+          subst (λ (rs : List FlowRecord). FoldsAlone pre_may post_may carries filters old.stack rs
+          (record { device = d; files = (after_begin (at_rest old.stack old.flow.next (under d old)) what).files }) answer
+          (under e new)) (sym ops)
+          (subst (λ (fs : FileTable). FoldsAlone pre_may post_may carries filters old.stack (first ∷ [])
+          (record { device = d; files = fs }) answer (under e new)) (sym files) folds) in
           record {
             performs = subst (λ (m : Option Status). By m answer (under e new) new.flow.next) (sym begun_parts.0 ∙ refusal_is)
                 (inr (whole, ap (λ (w : World). w.flow.next) gone ∙ keeps.next ∙ start.next));
@@ -210,6 +229,8 @@ pub answered : {F D : Type 0} (pre : F → Data → PreVerdict → Data → Type
     (carries : D → BaseCall → Answer → D → Type 0) → CarriedIsFold pre post is_quiet carries
 answered pre post is_quiet carries filters k what old d answer new e plain sound rest quiet h = by_result h.0 h.2 h.3
   where
-    by_result : (result : Result OpId Status) → Begins old what result h.1 → DoesBegun pre post carries filters k result h.1 d answer new e → IsAnswered pre post carries filters k what old d answer new e
+    by_result : (result : Result OpId Status) → Begins old what result h.1
+        → DoesBegun pre post carries filters k result h.1 d answer new e → IsAnswered pre post carries filters k what old d answer new e
     by_result (Err why) begins does = refused pre post is_quiet carries filters k plain what old d sound rest quiet why h.1 answer new e begins does
-    by_result (Ok o) begins does = performed pre post is_quiet carries filters k plain what old d sound rest quiet o h.1 does.0 does.1 answer new e begins does.2 does.3
+    by_result (Ok o) begins does = performed pre post is_quiet carries filters k plain what old d sound rest quiet o h.1 does.0 does.1
+        answer new e begins does.2 does.3

@@ -35,13 +35,15 @@ module _ (o : OpId) (r : FlowRecord) (t : FlowTable) (alone : Alone o r t) where
   none_created answered None = refl
   none_created answered (Some s) = none_creating answered s
 
-  known_same : (files : FileTable) (operation : Operation) (s : StreamId) (h : HandleId) → has_create_on s t ≡ false → known_on files t operation s h ≡ known_on files empty_table operation s h
+  known_same : (files : FileTable) (operation : Operation) (s : StreamId) (h : HandleId) → has_create_on s t ≡ false
+      → known_on files t operation s h ≡ known_on files empty_table operation s h
   known_same files Operation.Close s h none = ap (λ b. cond (is_marked s files && not (has_other_handle s h files || b)) None (Some Status.Success)) none
   known_same files _ s h none = refl
 
   known_there : (files : FileTable) (operation : Operation) (s : Option StreamId) (h : Option HandleId) → ((x : StreamId) → has_create_on x t ≡ false)
       → known_at files t operation s h ≡ known_at files empty_table operation s h
-  known_there files operation (Some s) (Some h) none = ap (λ m. cond (is_none (handle_at h files)) (Some Status.NoHandle) m) (known_same files operation s h (none s))
+  known_there files operation (Some s) (Some h) none = ap (λ m. cond (is_none (handle_at h files)) (Some Status.NoHandle) m)
+      (known_same files operation s h (none s))
   known_there files operation (Some s) None none = refl
   known_there files operation None h none = refl
 
@@ -50,6 +52,7 @@ module _ (o : OpId) (r : FlowRecord) (t : FlowTable) (alone : Alone o r t) where
   known_alone files = by_create (is_create r.operation) refl
     where
       by_create : (b : Bool) → is_create r.operation ≡ b
-          → cond b (known_create files r.stream) (known_at files t r.operation r.stream r.handle) ≡ cond b (known_create files r.stream) (known_at files empty_table r.operation r.stream r.handle)
+          → cond b (known_create files r.stream) (known_at files t r.operation r.stream r.handle)
+          ≡ cond b (known_create files r.stream) (known_at files empty_table r.operation r.stream r.handle)
       by_create true is = refl
       by_create false is = known_there files r.operation r.stream r.handle (none_creating (ap (λ b. b && is_unanswered r.stage) is))

@@ -98,7 +98,8 @@ module _ {F D : Type 0} (pre : F → Data → PreVerdict → Data → Type 0) (p
       subst IsMore (sym (found.said ∙ ap (λ (t : Turning). t.reply) is)) (more_at k r here.0 here.1 st.goes.asks r.stage st.goes.between found.lies)
 
   -- how a turn ended says what was next
-  turn_of : (w : World) (reply : Result FlowAction Status) (mid : World) (d : D) (new : World) (e : D) → Nexts w k o reply mid → IsMore reply → Acts pre post carries filters k o reply mid d Turn.Goes new e
+  turn_of : (w : World) (reply : Result FlowAction Status) (mid : World) (d : D) (new : World) (e : D) → Nexts w k o reply mid
+      → IsMore reply → Acts pre post carries filters k o reply mid d Turn.Goes new e
       → Turned w d new e
   turn_of w (Ok (FlowAction.Pre i lent)) mid d new e h more acts = (Ok (FlowAction.Pre i lent), mid, h, acts.1)
   turn_of w (Ok (FlowAction.Base call)) mid d new e h more acts = (Ok (FlowAction.Base call), mid, h, acts.1)
@@ -107,7 +108,8 @@ module _ {F D : Type 0} (pre : F → Data → PreVerdict → Data → Type 0) (p
   turn_of w (Ok FlowAction.Done) mid d new e h more acts = let none = acts.0 in cc
   turn_of w _ mid d new e h more acts = absurd more
 
-  end_of : (w : World) (reply : Result FlowAction Status) (mid : World) (d : D) (new : World) (e : D) → Nexts w k o reply mid → IsMore reply → Acts pre post carries filters k o reply mid d Turn.Done new e
+  end_of : (w : World) (reply : Result FlowAction Status) (mid : World) (d : D) (new : World) (e : D) → Nexts w k o reply mid
+      → IsMore reply → Acts pre post carries filters k o reply mid d Turn.Done new e
       → Carries pre post carries filters k o 0 w d new e
   end_of w (Ok FlowAction.Done) mid d new e h more acts = (subst (λ (v : World). Nexts w k o (Ok FlowAction.Done) v) (sym acts.1) h, acts.2)
   end_of w (Ok (FlowAction.Pre i lent)) mid d new e h more acts = let none = acts.0 in cc
@@ -116,7 +118,8 @@ module _ {F D : Type 0} (pre : F → Data → PreVerdict → Data → Type 0) (p
   end_of w (Ok FlowAction.Moved) mid d new e h more acts = let none = acts.0 in cc
   end_of w _ mid d new e h more acts = absurd more
 
-  none_held : (reply : Result FlowAction Status) (mid : World) (d : D) (new : World) (e : D) → IsMore reply → Acts pre post carries filters k o reply mid d Turn.Held new e → ⊥
+  none_held : (reply : Result FlowAction Status) (mid : World) (d : D) (new : World) (e : D) → IsMore reply
+      → Acts pre post carries filters k o reply mid d Turn.Held new e → ⊥
   none_held (Ok FlowAction.Done) mid d new e more acts = let none = acts.0 in cc
   none_held (Ok (FlowAction.Pre i lent)) mid d new e more acts = let none = acts.0 in cc
   none_held (Ok (FlowAction.Base call)) mid d new e more acts = let none = acts.0 in cc
@@ -125,12 +128,14 @@ module _ {F D : Type 0} (pre : F → Data → PreVerdict → Data → Type 0) (p
   none_held _ mid d new e more acts = absurd more
 
   -- turns that were made, and then those that are to come
-  carries_on : (n m : ℕ) (old : World) (d : D) (mid : World) (b : D) (new : World) (e : D) → HasTurned pre post carries filters k o n old d mid b → Carries pre post carries filters k o m mid b new e
+  carries_on : (n m : ℕ) (old : World) (d : D) (mid : World) (b : D) (new : World) (e : D)
+      → HasTurned pre post carries filters k o n old d mid b → Carries pre post carries filters k o m mid b new e
       → Carries pre post carries filters k o (n + m) old d new e
   carries_on zero m old d mid b new e h c =
       let same : m ≡ 0 + m = omega arith in
       subst (λ (j : ℕ). Carries pre post carries filters k o j old d new e) same
-      (subst (λ (w : World). Carries pre post carries filters k o m w d new e) h.0 (subst (λ (f : D). Carries pre post carries filters k o m mid f new e) h.1 c))
+      (subst (λ (w : World). Carries pre post carries filters k o m w d new e) h.0
+      (subst (λ (f : D). Carries pre post carries filters k o m mid f new e) h.1 c))
   carries_on (suc n) m old d mid b new e h c =
       let same : n + suc m ≡ suc n + m = omega arith in
       subst (λ (j : ℕ). Carries pre post carries filters k o j old d new e) same (carries_on n (suc m) old d h.0 h.1 new e h.2 (mid, b, h.3, c))

@@ -91,7 +91,8 @@ settled_more : (f : Entry → Entry) (es : List Entry) (e : Entry) → length (m
 settled_more f es e = length-map (es ++ e ∷ []) f ∙ one_more es e
 
 -- and an entry more, where parameters are at hand
-given_more : (k : WorkerId) (ask : Ask) (u : FlowRecord) (m : Option Params) (q : Params) → m ≡ Some q → length (give_post k ask u m).after.entries ≡ suc (length u.entries)
+given_more : (k : WorkerId) (ask : Ask) (u : FlowRecord) (m : Option Params) (q : Params) → m ≡ Some q
+    → length (give_post k ask u m).after.entries ≡ suc (length u.entries)
 given_more k ask u None q has = cc
 given_more k ask u (Some p) q has = one_more u.entries (post_entry k ask.instance PostState.Running)
 
@@ -99,8 +100,10 @@ some_there : (m : Option Params) → is_some m ≡ true → (p : Params) × (m �
 some_there None is = cc
 some_there (Some p) is = (p, refl)
 
-module _ {F D : Type 0} (pre_may : F → Data → PreVerdict → Data → Type 0) (post_may : F → Data → Completion → PostVerdict → Data → Type 0) (is_quiet : F → Type 0)
-    (carries : D → BaseCall → Answer → D → Type 0) (filters : ℕ → Option F) (plain : (n : ℕ) (f : F) → filters n ≡ Some f → IsPlainFilter pre_may post_may is_quiet f)
+module _ {F D : Type 0} (pre_may : F → Data → PreVerdict → Data → Type 0) (post_may : F → Data → Completion → PostVerdict → Data
+    → Type 0) (is_quiet : F → Type 0)
+    (carries : D → BaseCall → Answer → D → Type 0) (filters : ℕ → Option F) (plain : (n : ℕ) (f : F) → filters n ≡ Some f
+    → IsPlainFilter pre_may post_may is_quiet f)
     (k : WorkerId) (o : OpId) (x : Subject) (s : StackWorld) (quiet : NoneStops s) where
   abbrev pub chain : Subject → Chain (Under D)
   chain y = chain_of pre_may post_may carries filters s y
@@ -119,7 +122,8 @@ module _ {F D : Type 0} (pre_may : F → Data → PreVerdict → Data → Type 0
     pub less : Leaves k (chain x) (Meets r) r next (under d old) (under e new)
 
   -- so it is where the turn only moved it
-  still_going : (next : FlowRecord) (mid new : World) → new ≡ mid → Alone o next mid.flow → worker_at mid.workers k ≡ Some Place.Idle → next.collected ≡ false → is_between next.stage ≡ true
+  still_going : (next : FlowRecord) (mid new : World) → new ≡ mid → Alone o next mid.flow → worker_at mid.workers k ≡ Some Place.Idle
+      → next.collected ≡ false → is_between next.stage ≡ true
       → IsOn x next → ArePlain k (length next.kept) (owed next.entries) → IsGoing k o x next new
   still_going next mid new same alone idle uncollected between on asks =
       subst (IsGoing k o x next) (sym same) (record { alone = alone; idle = idle; uncollected = uncollected; between = between; on = on; asks = asks })
@@ -136,7 +140,8 @@ module _ {F D : Type 0} (pre_may : F → Data → PreVerdict → Data → Type 0
       by_row None may = subst IsPlainPre (sym may.0) tt
       by_row (Some row) may = by_filter row.filter.0 (filters row.filter.0) refl may
 
-  post_plain : (i : ℕ) (lent : Data) (completion : Completion) (given : PostVerdict) (back : Data) → PostMay post_may (filter_in filters s i) lent completion given back → given ≡ PostVerdict.Finished
+  post_plain : (i : ℕ) (lent : Data) (completion : Completion) (given : PostVerdict) (back : Data)
+      → PostMay post_may (filter_in filters s i) lent completion given back → given ≡ PostVerdict.Finished
   post_plain i lent completion given back may = by_row (slice_get s.instances i) may
     where
       finished : (given : PostVerdict) → IsPlainPost given → given ≡ PostVerdict.Finished
@@ -167,7 +172,8 @@ module _ {F D : Type 0} (pre_may : F → Data → PreVerdict → Data → Type 0
       ended _ = tt
   state_plain PreVerdict.Pending operation has p = absurd p
 
-  module _ (r : FlowRecord) (old : World) (d : D) (going : IsGoing k o x r old) (sound : IsSound old) (at_stack : old.stack ≡ s) (p : Params) (has : r.params ≡ Some p) where
+  module _ (r : FlowRecord) (old : World) (d : D) (going : IsGoing k o x r old) (sound : IsSound old) (at_stack : old.stack ≡ s)
+      (p : Params) (has : r.params ≡ Some p) where
     own : flow.IsSound r
     own = record_sound old sound o r going.alone
 
@@ -183,7 +189,8 @@ module _ {F D : Type 0} (pre_may : F → Data → PreVerdict → Data → Type 0
       course = (at_stage r Descending st own).0
 
       -- what is known of the chain of the record is known of the subject's
-      of_subject : (next : FlowRecord) (w : Under D) → Leaves k (chain (subject_of r)) (Meets r) r next (under d old) w → Leaves k (chain x) (Meets r) r next (under d old) w
+      of_subject : (next : FlowRecord) (w : Under D) → Leaves k (chain (subject_of r)) (Meets r) r next (under d old) w
+          → Leaves k (chain x) (Meets r) r next (under d old) w
       of_subject next w h = subst (λ (y : Subject). Leaves k (chain y) (Meets r) r next (under d old) w) (going.on.all st) h
 
       module _ (i : InstanceId) (lies : LiesBelow s r (Below.Instance i true)) where
@@ -196,10 +203,12 @@ module _ {F D : Type 0} (pre_may : F → Data → PreVerdict → Data → Type 0
             (room_visits s r.volume r.born r.operation (visited r.entries) i.0 among.room lies.0) in
             (rest.0, subst (λ (m : Option ℕ). Visits s r.volume r.born r.operation m rest.0) (last_of-push (visited r.entries) i.0) rest.1)
 
-        meets : (below : List ℕ) → Visits s r.volume r.born r.operation (Some i.0) below → Visits s r.volume r.born r.operation (last_visited r.entries) (i.0 ∷ below)
+        meets : (below : List ℕ) → Visits s r.volume r.born r.operation (Some i.0) below
+            → Visits s r.volume r.born r.operation (last_visited r.entries) (i.0 ∷ below)
         meets below v = (lies.0, v)
 
-        module _ (given : PreVerdict) (back : Data) (may : PreMay pre_may (filter_in filters s i.0) (fresh_data p) given back) (same : back.received ≡ p) (new : World) (e : D) (end_is : e ≡ d) where
+        module _ (given : PreVerdict) (back : Data) (may : PreMay pre_may (filter_in filters s i.0) (fresh_data p) given back)
+            (same : back.received ≡ p) (new : World) (e : D) (end_is : e ≡ d) where
           abbrev after_verdict : PreState → FlowRecord
           after_verdict state = pre_returned_of state back (call_pre k i r (Some p)).after
 
@@ -207,36 +216,52 @@ module _ {F D : Type 0} (pre_may : F → Data → PreVerdict → Data → Type 0
           files_after state = after_pre state r.operation r.stream false old.files
 
           turned : (state : PreState) → is_between (after_verdict state).stage ≡ true → IsLeft k o (after_verdict state) s (files_after state) new
-              → Leaves k (chain (subject_of r)) (Meets r) r (after_verdict state) (under d old) (record { device = d; files = files_after state }) → Turned r old d new e
+              → Leaves k (chain (subject_of r)) (Meets r) r (after_verdict state) (under d old)
+              (record { device = d; files = files_after state }) → Turned r old d new e
           turned state between left less =
               let next = after_verdict state in
-              let ends : record { device = d; files = files_after state } ≡ under e new = ap₂ (λ dev fs. record { device = dev; files = fs }) (sym end_is) (sym left.filed) in
+              let ends : record { device = d; files = files_after state } ≡ under e new =
+              ap₂ (λ dev fs. record { device = dev; files = fs }) (sym end_is) (sym left.filed) in
               record {
                 next = next;
-                going = record { alone = left.alone; idle = left.idle; uncollected = going.uncollected; between = between; on = record { kind = going.on.kind; all = λ h. going.on.all st }; asks = less.plain };
+                going = record {
+                  alone = left.alone;
+                  idle = left.idle;
+                  uncollected = going.uncollected;
+                  between = between;
+                  on =
+                      record { kind = going.on.kind; all = λ h. going.on.all st };
+                  asks = less.plain;
+                };
                 stays = left.stays ∙ sym at_stack;
                 same = (refl, refl);
                 longer = settled_more (settle_pre state) r.entries (pre_entry k i PreState.Running r);
-                less = subst (λ (w : Under D). Leaves k (chain x) (Meets r) r next (under d old) w) ends (of_subject next (record { device = d; files = files_after state }) less);
+                less = subst (λ (w : Under D). Leaves k (chain x) (Meets r) r next (under d old) w) ends
+                    (of_subject next (record { device = d; files = files_after state }) less);
               }
 
           by_state : (state : PreState) → verdict_counted given r.operation (has_post s (slice_get s.instances i.0) r.operation) ≡ state → IsPlainState state
               → IsLeft k o (after_verdict state) s (files_after state) new → Turned r old d new e
           by_state (PreState.Asked completion) counted plain left =
               turned (PreState.Asked completion) refl left
-              (left_asked (chain (subject_of r)) (Meets r) r p has (under d old) k i st course fresh going.asks meets given back (PreState.Asked completion) (sym lies.1) same may counted completion refl)
+              (left_asked (chain (subject_of r)) (Meets r) r p has (under d old) k i st course fresh going.asks meets given back
+              (PreState.Asked completion) (sym lies.1) same may counted completion refl)
           by_state (PreState.Synchronized completion) counted plain left =
               turned (PreState.Synchronized completion) refl left
-              (left_synchronized (chain (subject_of r)) (Meets r) r p has (under d old) k i st course fresh going.asks meets given back (PreState.Synchronized completion) (sym lies.1) same may counted completion refl)
+              (left_synchronized (chain (subject_of r)) (Meets r) r p has (under d old) k i st course fresh going.asks meets given back
+              (PreState.Synchronized completion) (sym lies.1) same may counted completion refl)
           by_state PreState.Passed counted plain left =
               turned PreState.Passed refl left
-              (left_passed (chain (subject_of r)) (Meets r) r p has (under d old) k i st course fresh going.asks meets given back PreState.Passed (sym lies.1) same may counted refl)
+              (left_passed (chain (subject_of r)) (Meets r) r p has (under d old) k i st course fresh going.asks meets given back
+              PreState.Passed (sym lies.1) same may counted refl)
           by_state (PreState.Completed why) counted plain left =
               turned (PreState.Completed why) refl left
-              (left_completed (chain (subject_of r)) (Meets r) r p has (under d old) k i st course fresh going.asks meets given back (PreState.Completed why) (sym lies.1) same may counted why refl further.0 further.1)
+              (left_completed (chain (subject_of r)) (Meets r) r p has (under d old) k i st course fresh going.asks meets given back
+              (PreState.Completed why) (sym lies.1) same may counted why refl further.0 further.1)
           by_state _ counted plain left = absurd plain
 
-        visit_turn : (mid : World) → Alone o (call_pre k i r (Some p)).after mid.flow → worker_at mid.workers k ≡ Some (Place.Pre o i) → mid.stack ≡ s → mid.files ≡ old.files
+        visit_turn : (mid : World) → Alone o (call_pre k i r (Some p)).after mid.flow → worker_at mid.workers k ≡ Some (Place.Pre o i)
+            → mid.stack ≡ s → mid.files ≡ old.files
             → (new : World) (e : D) → Does pre_may post_may carries filters k o (Ok (FlowAction.Pre i (fresh_data p))) mid d new e → Turned r old d new e
         visit_turn mid alone worker stack files new e does =
             let given = does.0 in
@@ -245,13 +270,18 @@ module _ {F D : Type 0} (pre_may : F → Data → PreVerdict → Data → Type 0
             subst (λ (t : StackWorld). PreMay pre_may (filter_in filters t i.0) (fresh_data p) given back) stack does.3 in
             let plainly = pre_plain i.0 (fresh_data p) given back may in
             let State : StackWorld → PreState = λ t. verdict_counted given r.operation (has_post t (slice_get t.instances i.0) r.operation) in
-            let left = pre_leaves mid k o (call_pre k i r (Some p)).after alone i given back does.2 new worker (fits_back r.operation r.path p back fits does.4.received does.4.laws) plainly does.5 in
-            let left' = subst (λ (t : StackWorld). IsLeft k o (pre_returned_of (State t) back (call_pre k i r (Some p)).after) t (after_pre (State t) r.operation r.stream false mid.files) new) stack left in
-            by_state given back may does.4.received new e does.6 (State s) refl (state_plain given r.operation (has_post s (slice_get s.instances i.0) r.operation) plainly)
-            (subst (λ (f : FileTable). IsLeft k o (pre_returned_of (State s) back (call_pre k i r (Some p)).after) s (after_pre (State s) r.operation r.stream false f) new) files left')
+            let left = pre_leaves mid k o (call_pre k i r (Some p)).after alone i given back does.2 new worker
+            (fits_back r.operation r.path p back fits does.4.received does.4.laws) plainly does.5 in
+            let left' = subst (λ (t : StackWorld). IsLeft k o (pre_returned_of (State t) back (call_pre k i r (Some p)).after) t
+            (after_pre (State t) r.operation r.stream false mid.files) new) stack left in
+            by_state given back may does.4.received new e does.6 (State s) refl
+            (state_plain given r.operation (has_post s (slice_get s.instances i.0) r.operation) plainly)
+            (subst (λ (f : FileTable). IsLeft k o (pre_returned_of (State s) back (call_pre k i r (Some p)).after) s
+            (after_pre (State s) r.operation r.stream false f) new) files left')
 
       -- ---- an instance that is passed without a call
-      bare_turn : (i : InstanceId) → LiesBelow s r (Below.Instance i false) → (mid : World) → Alone o (with_visit k i bare_ask r) mid.flow → worker_at mid.workers k ≡ Some Place.Idle
+      bare_turn : (i : InstanceId) → LiesBelow s r (Below.Instance i false) → (mid : World)
+          → Alone o (with_visit k i bare_ask r) mid.flow → worker_at mid.workers k ≡ Some Place.Idle
           → mid.stack ≡ s → mid.files ≡ old.files → (new : World) (e : D) → new ≡ mid → e ≡ d → Turned r old d new e
       bare_turn i lies mid alone idle stack files new e same end_is =
           let next = with_visit k i bare_ask r in
@@ -270,34 +300,50 @@ module _ {F D : Type 0} (pre_may : F → Data → PreVerdict → Data → Type 0
 
       -- ---- the base
       module _ (lies : Visits s r.volume r.born r.operation (last_visited r.entries) []) where
-        base_turn : base_known old.files old.flow r ≡ None → (mid : World) → Alone o (call_base r (Some p)).after mid.flow → worker_at mid.workers k ≡ Some (Place.Base o)
-            → mid.stack ≡ s → mid.files ≡ old.files → (new : World) (e : D) → Does pre_may post_may carries filters k o (Ok (FlowAction.Base (call_of r p))) mid d new e → Turned r old d new e
+        base_turn : base_known old.files old.flow r ≡ None → (mid : World) → Alone o (call_base r (Some p)).after mid.flow
+            → worker_at mid.workers k ≡ Some (Place.Base o)
+            → mid.stack ≡ s → mid.files ≡ old.files → (new : World) (e : D)
+            → Does pre_may post_may carries filters k o (Ok (FlowAction.Base (call_of r p))) mid d new e → Turned r old d new e
         base_turn unknown mid alone worker stack files new e does =
             let answer = does.0 in
             let handle : FileTable → HandleId = λ f. record { 0 = f.next } in
-            let left = base_leaves mid k o (call_base r (Some p)).after alone (call_of r p) answer does.1 new worker (call_back r p answer fits does.3) does.4 in
-            let left' = subst (λ (f : FileTable). IsLeft k o (base_returned_of (call_of r p) answer (handle f) (call_base r (Some p)).after) mid.stack (after_base r.operation r.stream r.handle answer.status false f) new) files left in
+            let left = base_leaves mid k o (call_base r (Some p)).after alone (call_of r p) answer does.1 new worker
+            (call_back r p answer fits does.3) does.4 in
+            let left' = subst (λ (f : FileTable). IsLeft k o (base_returned_of (call_of r p) answer (handle f)
+            (call_base r (Some p)).after) mid.stack (after_base r.operation r.stream r.handle answer.status false f) new) files left in
             let next = base_returned_of (call_of r p) answer (handle old.files) (call_base r (Some p)).after in
             let known : known_answer old.files (subject_of r) ≡ None = sym (known_alone o r old.flow going.alone old.files) ∙ unknown in
-            let By : Option Status → Type 0 = λ m. BaseMayBy carries (subject_of r) p m (under d old) (base_counted p answer (handle old.files)) (under e new) in
-            let may : BaseMay carries (subject_of r) p (under d old) (base_counted p answer (handle old.files)) (under e new) = subst By (sym known) (answer, does.2, refl, left'.filed) in
+            let By : Option Status → Type 0 = λ m. BaseMayBy carries (subject_of r) p m (under d old)
+            (base_counted p answer (handle old.files)) (under e new) in
+            let may : BaseMay carries (subject_of r) p (under d old) (base_counted p answer (handle old.files)) (under e new) =
+            subst By (sym known) (answer, does.2, refl, left'.filed) in
             let less = left_base (chain (subject_of r)) (Meets r) r p has (under d old) k st going.asks lies (under e new) answer (handle old.files) may in
             record {
               next = next;
-              going = record { alone = left'.alone; idle = left'.idle; uncollected = going.uncollected; between = refl; on = record { kind = going.on.kind; all = λ h. cc }; asks = less.plain };
+              going = record {
+                alone = left'.alone;
+                idle = left'.idle;
+                uncollected = going.uncollected;
+                between = refl;
+                on =
+                    record { kind = going.on.kind; all = λ h. cc };
+                asks = less.plain;
+              };
               stays = left'.stays ∙ stack ∙ sym at_stack;
               same = (refl, refl);
               longer = one_more r.entries (Entry.Base (base_counted p answer (handle old.files)).status (base_counted p answer (handle old.files)).information);
               less = of_subject next (under e new) less;
             }
 
-        known_turn : (why : Status) → base_known old.files old.flow r ≡ Some why → (mid : World) → Alone o (with_base (bare_answer why) r) mid.flow → worker_at mid.workers k ≡ Some Place.Idle
+        known_turn : (why : Status) → base_known old.files old.flow r ≡ Some why → (mid : World)
+            → Alone o (with_base (bare_answer why) r) mid.flow → worker_at mid.workers k ≡ Some Place.Idle
             → mid.stack ≡ s → mid.files ≡ filed_base old o mid.flow why → (new : World) (e : D) → new ≡ mid → e ≡ d → Turned r old d new e
         known_turn why knows mid alone idle stack files new e same end_is =
             let next = with_base (bare_answer why) r in
             let filing : new.files ≡ after_base r.operation r.stream r.handle why false old.files =
             ap (λ (w : World). w.files) same ∙ files ∙ told_alone o r old.flow going.alone (filed_record old.files mid.flow why) old.files
-            ∙ ap (λ b. after_base r.operation r.stream r.handle why b old.files) (none_created o next mid.flow alone (and_none (is_create r.operation)) r.stream) in
+            ∙ ap (λ b. after_base r.operation r.stream r.handle why b old.files)
+            (none_created o next mid.flow alone (and_none (is_create r.operation)) r.stream) in
             let known : known_answer old.files (subject_of r) ≡ Some why = sym (known_alone o r old.flow going.alone old.files) ∙ knows in
             let By : Option Status → Type 0 = λ m. BaseMayBy carries (subject_of r) p m (under d old) (bare_answer why) (under e new) in
             let ends : under e new ≡ record { device = d; files = after_base r.operation r.stream r.handle why false old.files } =
@@ -326,8 +372,10 @@ module _ {F D : Type 0} (pre_may : F → Data → PreVerdict → Data → Type 0
       saw_fits None at = fits
       saw_fits (Some q) at = all_at (λ v. fit r.operation r.path v ≡ true) r.kept ask.place q own.kept at
 
-      post_turn : (mid : World) → Alone o (call_post k ask r).after mid.flow → worker_at mid.workers k ≡ Some (Place.Post o ask.instance) → mid.stack ≡ s → mid.files ≡ old.files
-          → (new : World) (e : D) → Does pre_may post_may carries filters k o (Ok (FlowAction.Post ask.instance (answered_data saw (lent_answer r.operation r.answer)) ask.completion)) mid d new e
+      post_turn : (mid : World) → Alone o (call_post k ask r).after mid.flow
+          → worker_at mid.workers k ≡ Some (Place.Post o ask.instance) → mid.stack ≡ s → mid.files ≡ old.files
+          → (new : World) (e : D) → Does pre_may post_may carries filters k o
+          (Ok (FlowAction.Post ask.instance (answered_data saw (lent_answer r.operation r.answer)) ask.completion)) mid d new e
           → Turned r old d new e
       post_turn mid alone worker stack files new e does =
           let back = does.1 in
@@ -340,13 +388,18 @@ module _ {F D : Type 0} (pre_may : F → Data → PreVerdict → Data → Type 0
           let operation : s0.operation ≡ r.operation = keeps.operation ∙ unwinds.operation in
           let path : s0.path ≡ r.path = keeps.path ∙ unwinds.path in
           let fitting : fit s0.operation s0.path saw ≡ true = ap₂ (λ a b. fit a b saw) operation path ∙ saw_fits (slice_get r.kept ask.place) refl in
-          let left = post_leaves mid k o s0 alone ask.instance does.0 back does.2 new worker (fits_back s0.operation s0.path saw back fitting does.4.received does.4.laws) does.5 in
+          let left = post_leaves mid k o s0 alone ask.instance does.0 back does.2 new worker
+          (fits_back s0.operation s0.path saw back fitting does.4.received does.4.laws) does.5 in
           let next = post_returned_of PostVerdict.Finished back s0 in
-          let left' : IsLeft k o next mid.stack mid.files new = subst (λ (v : PostVerdict). IsLeft k o (post_returned_of v back s0) mid.stack mid.files new) finished left in
-          let ended : PostMay post_may (filter_in filters s ask.instance.0) (answered_data saw (lent_answer x.operation r.answer)) ask.completion PostVerdict.Finished back =
-          subst (λ (a : Operation). PostMay post_may (filter_in filters s ask.instance.0) (answered_data saw (lent_answer a r.answer)) ask.completion PostVerdict.Finished back) going.on.kind
+          let left' : IsLeft k o next mid.stack mid.files new =
+          subst (λ (v : PostVerdict). IsLeft k o (post_returned_of v back s0) mid.stack mid.files new) finished left in
+          let ended : PostMay post_may (filter_in filters s ask.instance.0) (answered_data saw (lent_answer x.operation r.answer))
+          ask.completion PostVerdict.Finished back =
+          subst (λ (a : Operation). PostMay post_may (filter_in filters s ask.instance.0) (answered_data saw (lent_answer a r.answer))
+          ask.completion PostVerdict.Finished back) going.on.kind
           (subst (λ (v : PostVerdict). PostMay post_may (filter_in filters s ask.instance.0) lent ask.completion v back) finished may) in
-          let less = left_post (chain x) (Meets r) r p has (under d old) k ask rest owes st (at_stage r Ascending st own).0 going.asks (sym going.on.kind) back does.4.received ended in
+          let less = left_post (chain x) (Meets r) r p has (under d old) k ask rest owes st (at_stage r Ascending st own).0 going.asks
+          (sym going.on.kind) back does.4.received ended in
           let ends : under d old ≡ under e new = ap₂ (λ dev fs. record { device = dev; files = fs }) (sym does.6) (sym (left'.filed ∙ files)) in
           record {
             next = next;
@@ -360,7 +413,8 @@ module _ {F D : Type 0} (pre_may : F → Data → PreVerdict → Data → Type 0
             };
             stays = left'.stays ∙ stack ∙ sym at_stack;
             same = (keeps.volume ∙ unwinds.volume, keeps.born ∙ unwinds.born);
-            longer = length-map s0.entries (settle_post PostState.Finished) ∙ given_more k ask (unwound ask.place r) (unwound ask.place r).params saw unwinds.params
+            longer = length-map s0.entries (settle_post PostState.Finished)
+                ∙ given_more k ask (unwound ask.place r) (unwound ask.place r).params saw unwinds.params
                 ∙ ap (λ (es : List Entry). suc (length es)) unwinds.entries;
             less = subst (λ (w : Under D). Leaves k (chain x) (Meets r) r next (under d old) w) ends less;
           }
@@ -372,7 +426,8 @@ module _ {F D : Type 0} (pre_may : F → Data → PreVerdict → Data → Type 0
       Done said = Does pre_may post_may carries filters k o said mid d new e
 
       -- the worker is where the answer of `next` brings it
-      brought : (said : Result FlowAction Status) (at : Place) → reply ≡ said → after_next old.workers k o said ≡ put old.workers k at → worker_at mid.workers k ≡ Some at
+      brought : (said : Result FlowAction Status) (at : Place) → reply ≡ said → after_next old.workers k o said ≡ put old.workers k at
+          → worker_at mid.workers k ≡ Some at
       brought said at is puts = ap (λ ws. worker_at ws k) (workers ∙ ap (after_next old.workers k o) is ∙ puts) ∙ placed old.workers k Place.Idle at going.idle
 
       rested : (said : Result FlowAction Status) → reply ≡ said → after_next old.workers k o said ≡ old.workers → worker_at mid.workers k ≡ Some Place.Idle
@@ -382,18 +437,22 @@ module _ {F D : Type 0} (pre_may : F → Data → PreVerdict → Data → Type 0
           → Alone o (descend k lies r).after mid.flow → mid.files ≡ filed_next old o mid.flow reply lies → Turned r old d new e
       down_by st (Below.Instance i true) found answers said alone files =
           let is : reply ≡ Ok (FlowAction.Pre i (fresh_data p)) = said ∙ ap (λ m. (call_pre k i r m).reply) has in
-          visit_turn st i found mid (subst (λ (m : Option Params). Alone o (call_pre k i r m).after mid.flow) has alone) (brought (Ok (FlowAction.Pre i (fresh_data p))) (Place.Pre o i) is refl) stack
+          visit_turn st i found mid (subst (λ (m : Option Params). Alone o (call_pre k i r m).after mid.flow) has alone)
+          (brought (Ok (FlowAction.Pre i (fresh_data p))) (Place.Pre o i) is refl) stack
           (files ∙ ap (λ a. filed_next old o mid.flow a (Below.Instance i true)) is) new e (subst Done is does)
       down_by st (Below.Instance i false) found answers said alone files =
           let moved : Done (Ok FlowAction.Moved) = subst Done said does in
-          bare_turn st i found mid alone (rested (Ok FlowAction.Moved) said refl) stack (files ∙ ap (λ a. filed_next old o mid.flow a (Below.Instance i false)) said) new e moved.0 moved.1
+          bare_turn st i found mid alone (rested (Ok FlowAction.Moved) said refl) stack (files
+          ∙ ap (λ a. filed_next old o mid.flow a (Below.Instance i false)) said) new e moved.0 moved.1
       down_by st Below.Call found answers said alone files =
           let is : reply ≡ Ok (FlowAction.Base (call_of r p)) = said ∙ ap (λ m. (call_base r m).reply) has in
-          base_turn st found answers mid (subst (λ (m : Option Params). Alone o (call_base r m).after mid.flow) has alone) (brought (Ok (FlowAction.Base (call_of r p))) (Place.Base o) is refl) stack
+          base_turn st found answers mid (subst (λ (m : Option Params). Alone o (call_base r m).after mid.flow) has alone)
+          (brought (Ok (FlowAction.Base (call_of r p))) (Place.Base o) is refl) stack
           (files ∙ ap (λ a. filed_next old o mid.flow a Below.Call) is) new e (subst Done is does)
       down_by st (Below.Known why) found answers said alone files =
           let moved : Done (Ok FlowAction.Moved) = subst Done said does in
-          known_turn st found why answers mid alone (rested (Ok FlowAction.Moved) said refl) stack (files ∙ ap (λ a. filed_next old o mid.flow a (Below.Known why)) said) new e moved.0 moved.1
+          known_turn st found why answers mid alone (rested (Ok FlowAction.Moved) said refl) stack (files
+          ∙ ap (λ a. filed_next old o mid.flow a (Below.Known why)) said) new e moved.0 moved.1
 
       up_by : r.stage ≡ Ascending → (asks : List Ask) → owed r.entries ≡ asks → (lies : Below) → reply ≡ (ascend k false r (slice_get asks 0)).reply
           → Alone o (ascend k false r (slice_get asks 0)).after mid.flow → mid.files ≡ filed_next old o mid.flow reply lies → Turned r old d new e
@@ -407,11 +466,14 @@ module _ {F D : Type 0} (pre_may : F → Data → PreVerdict → Data → Type 0
           said ∙ ap (λ b. (Is b).reply) takes ∙ ap (λ m. (give_post k ask (unwound ask.place r) m).reply) back.params
           ∙ ap₂ (λ a b. Ok (FlowAction.Post ask.instance (answered_data (saw st ask rest owes) (lent_answer a b)) ask.completion)) back.operation back.answer in
           let post = Ok (FlowAction.Post ask.instance (answered_data (saw st ask rest owes) (lent_answer r.operation r.answer)) ask.completion) in
-          post_turn st ask rest owes mid (subst (λ (b : Bool). Alone o (Is b).after mid.flow) takes alone) (brought post (Place.Post o ask.instance) given refl) stack
+          post_turn st ask rest owes mid (subst (λ (b : Bool). Alone o (Is b).after mid.flow) takes alone)
+          (brought post (Place.Post o ask.instance) given refl) stack
           (files ∙ ap (λ a. filed_next old o mid.flow a lies) given) new e (subst Done given does)
 
-      by_stage : (t : Stage) → r.stage ≡ t → is_between t ≡ true → (lies : Below) → (t ≡ Descending → LiesBelow s r lies × AnswersBelow old.files old.flow r lies)
-          → reply ≡ (next_at k lies false r t).reply → Alone o (next_at k lies false r t).after mid.flow → mid.files ≡ filed_next old o mid.flow reply lies → Turned r old d new e
+      by_stage : (t : Stage) → r.stage ≡ t → is_between t ≡ true → (lies : Below)
+          → (t ≡ Descending → LiesBelow s r lies × AnswersBelow old.files old.flow r lies)
+          → reply ≡ (next_at k lies false r t).reply → Alone o (next_at k lies false r t).after mid.flow
+          → mid.files ≡ filed_next old o mid.flow reply lies → Turned r old d new e
       by_stage Descending st between lies finds said alone files = down_by st lies (finds refl).0 (finds refl).1 said alone files
       by_stage Ascending st between lies finds said alone files = up_by st (owed r.entries) refl lies said alone files
       by_stage _ st between lies finds said alone files = cc

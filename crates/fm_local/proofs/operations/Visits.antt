@@ -81,7 +81,8 @@ module _ (s : StackWorld) (v : VolumeId) (born : ℕ) (operation : Operation) wh
       elim (highest_or_none (is_candidate s v (last_of visited) born operation) s.instances) [
         | inl h ↦
             let i : ℕ = h.0 in
-            let rest = visits_within fuel (visited ++ i ∷ []) (omega (arith, enough, length-append visited (i ∷ []))) (room_visits s v born operation visited i room h.1) in
+            let rest = visits_within fuel (visited ++ i ∷ []) (omega (arith, enough, length-append visited (i ∷ [])))
+            (room_visits s v born operation visited i room h.1) in
             (i ∷ rest.0, (h.1, subst (λ (cursor : Option ℕ). Visits s v born operation cursor rest.0) (last_of-push visited i) rest.1))
         | inr none ↦ ([], none)
       ]
@@ -111,7 +112,8 @@ module _ (s : StackWorld) (v : VolumeId) (born : ℕ) (operation : Operation) wh
     candidate_live row passes =
         visited_is_live s v born operation row (and_parts (is_to_visit s v born operation row) (is_below_cursor s cursor row) passes).0
 
-    one_highest : (i j : ℕ) → IsHighest (is_candidate s v cursor born operation) s.instances i → IsHighest (is_candidate s v cursor born operation) s.instances j → i ≡ j
+    one_highest : (i j : ℕ) → IsHighest (is_candidate s v cursor born operation) s.instances i
+        → IsHighest (is_candidate s v cursor born operation) s.instances j → i ≡ j
     one_highest i j h k =
         let Apart = λ (a b : Instance). clashes a b ≡ false in
         let a = h.row in

@@ -48,7 +48,8 @@ module _ {W : Type 0} (chain : Chain W) (Meets : Option ℕ → List ℕ → Typ
 
   -- ---- a visit
   module _ (worker : WorkerId) (i : InstanceId) (st : r.stage ≡ Descending) (c : IsCourse Descending r.entries) (fresh : times i.0 (visited r.entries) ≡ 0)
-      (plain : ArePlain worker (length r.kept) (owed r.entries)) (meets : (below : List ℕ) → Meets (Some i.0) below → Meets (last_visited r.entries) (i.0 ∷ below)) where
+      (plain : ArePlain worker (length r.kept) (owed r.entries)) (meets : (below : List ℕ) → Meets (Some i.0) below
+      → Meets (last_visited r.entries) (i.0 ∷ below)) where
     abbrev asked : List Asker
     asked = askers (owed r.entries) r.kept p
 
@@ -63,9 +64,11 @@ module _ {W : Type 0} (chain : Chain W) (Meets : Option ℕ → List ℕ → Typ
       entries_are : visited_once.entries ≡ entries_as state
       entries_are =
           map-append (settle_pre state) r.entries (entry_of r.entries worker i (length r.kept) PreState.Running ∷ [])
-          ∙ ap (λ es. es ++ entry_of r.entries worker i (length r.kept) state ∷ []) (closed_stay (settle_pre state) (settling_pre state) Descending r.entries Descending c.order refl refl)
+          ∙ ap (λ es. es ++ entry_of r.entries worker i (length r.kept) state ∷ [])
+          (closed_stay (settle_pre state) (settling_pre state) Descending r.entries Descending c.order refl refl)
 
-      met : (below : List ℕ) (answer : Answer) (end : W) → Meets (Some i.0) below → Leads chain (Descends chain below) i.0 p back asked state old answer end → LeftOf chain Meets r old answer end
+      met : (below : List ℕ) (answer : Answer) (end : W) → Meets (Some i.0) below
+          → Leads chain (Descends chain below) i.0 p back asked state old answer end → LeftOf chain Meets r old answer end
       met below answer end at led =
           left_of Descending answer end st (
             i.0 ∷ below,
@@ -87,7 +90,8 @@ module _ {W : Type 0} (chain : Chain W) (Meets : Option ℕ → List ℕ → Typ
 
       asked_goes : owed visited_once.entries ≡ owed r.entries → askers (owed visited_once.entries) visited_once.kept (current_of back) ≡ asked
       asked_goes goes =
-          ap (λ asks. askers asks visited_once.kept (current_of back)) goes ∙ askers_above worker (owed r.entries) r.kept back.received back.changed plain ∙ asked_same (owed r.entries)
+          ap (λ asks. askers asks visited_once.kept (current_of back)) goes
+          ∙ askers_above worker (owed r.entries) r.kept back.received back.changed plain ∙ asked_same (owed r.entries)
 
       -- it asks for its postoperation, of any worker or of its own
       left_asking : (completion : Completion) (bound : Bool)
@@ -106,7 +110,8 @@ module _ {W : Type 0} (chain : Chain W) (Meets : Option ℕ → List ℕ → Typ
           ∙ asker_now i.0 completion ask (owed r.entries) r.kept back.received back.changed refl refl refl
           ∙ ap (λ q. asker i.0 q completion ∷ askers (owed r.entries) r.kept q) same in
           record {
-            plain = subst (ArePlain worker (length visited_once.kept)) (sym owes) (omega (arith, length-append r.kept (kept_of back.received back.changed)), refl, plain);
+            plain = subst (ArePlain worker (length visited_once.kept)) (sym owes)
+                (omega (arith, length-append r.kept (kept_of back.received back.changed)), refl, plain);
             left = λ answer end h.
                 let t : LeftAt chain Meets Descending visited_once (current_of back) old answer end =
                 subst (λ (u : Stage). LeftAt chain Meets u visited_once (current_of back) old answer end) leads h in
@@ -128,9 +133,11 @@ module _ {W : Type 0} (chain : Chain W) (Meets : Option ℕ → List ℕ → Typ
       pub left_passed : state ≡ PreState.Passed → Leaves worker chain Meets r visited_once old old
       left_passed is =
           let goes : owed visited_once.entries ≡ owed r.entries =
-          ap owed entries_are ∙ owed_goes r.entries worker i (length r.kept) state (ap (ask_in (record { instance = i; worker = worker; state = state; place = length r.kept })) is) in
+          ap owed entries_are ∙ owed_goes r.entries worker i (length r.kept) state
+          (ap (ask_in (record { instance = i; worker = worker; state = state; place = length r.kept })) is) in
           record {
-            plain = subst (ArePlain worker (length visited_once.kept)) (sym goes) (plain_above worker (owed r.entries) r.kept (kept_of back.received back.changed) plain);
+            plain = subst (ArePlain worker (length visited_once.kept)) (sym goes)
+                (plain_above worker (owed r.entries) r.kept (kept_of back.received back.changed) plain);
             left = λ answer end h.
                 let t : LeftAt chain Meets Descending visited_once (current_of back) old answer end =
                 subst (λ (u : Stage). LeftAt chain Meets u visited_once (current_of back) old answer end) (ap pre_leads is) h in
@@ -144,16 +151,19 @@ module _ {W : Type 0} (chain : Chain W) (Meets : Option ℕ → List ℕ → Typ
           → Leaves worker chain Meets r visited_once old (chain.completes status old)
       left_completed status is below at =
           let goes : owed visited_once.entries ≡ owed r.entries =
-          ap owed entries_are ∙ owed_goes r.entries worker i (length r.kept) state (ap (ask_in (record { instance = i; worker = worker; state = state; place = length r.kept })) is) in
+          ap owed entries_are ∙ owed_goes r.entries worker i (length r.kept) state
+          (ap (ask_in (record { instance = i; worker = worker; state = state; place = length r.kept })) is) in
           let said : visited_once.answer ≡ bare_answer status = ap (λ s. answer_after s r.answer) is in
           record {
-            plain = subst (ArePlain worker (length visited_once.kept)) (sym goes) (plain_above worker (owed r.entries) r.kept (kept_of back.received back.changed) plain);
+            plain = subst (ArePlain worker (length visited_once.kept)) (sym goes)
+                (plain_above worker (owed r.entries) r.kept (kept_of back.received back.changed) plain);
             left = λ answer end h.
                 let t : LeftAt chain Meets Ascending visited_once (current_of back) (chain.completes status old) answer end =
                 subst (λ (u : Stage). LeftAt chain Meets u visited_once (current_of back) (chain.completes status old) answer end) (ap pre_leads is) h in
                 met below answer end at
                 (subst (λ (s : PreState). Leads chain (Descends chain below) i.0 p back asked s old answer end) (sym is) (
-                  subst (λ (given : Answer). Rises chain asked given answer) said (subst (λ (xs : List Asker). Rises chain xs visited_once.answer answer) (asked_goes goes) t.0),
+                  subst (λ (given : Answer). Rises chain asked given answer) said
+                      (subst (λ (xs : List Asker). Rises chain xs visited_once.answer answer) (asked_goes goes) t.0),
                   t.1,
                 ));
           }
@@ -180,15 +190,18 @@ module _ {W : Type 0} (chain : Chain W) (Meets : Option ℕ → List ℕ → Typ
         }
 
   -- ---- the base
-  module _ (worker : WorkerId) (st : r.stage ≡ Descending) (plain : ArePlain worker (length r.kept) (owed r.entries)) (last : Meets (last_visited r.entries) []) (new : W) where
+  module _ (worker : WorkerId) (st : r.stage ≡ Descending) (plain : ArePlain worker (length r.kept) (owed r.entries))
+      (last : Meets (last_visited r.entries) []) (new : W) where
     -- it answers
-    at_base : (s : FlowRecord) (given : Answer) → chain.base_may p old given new → owed s.entries ≡ owed r.entries → s.kept ≡ r.kept → s.params ≡ Some p → s.stage ≡ Ascending → s.answer ≡ given
+    at_base : (s : FlowRecord) (given : Answer) → chain.base_may p old given new → owed s.entries ≡ owed r.entries → s.kept ≡ r.kept
+        → s.params ≡ Some p → s.stage ≡ Ascending → s.answer ≡ given
         → Leaves worker chain Meets r s old new
     at_base s given may owes kept params stage said = record {
       plain = subst (λ (ps : List Params). ArePlain worker (length ps) (owed s.entries)) (sym kept) (subst (ArePlain worker (length r.kept)) (sym owes) plain);
       left = λ answer end h.
           let t : LeftAt chain Meets Ascending s p new answer end =
-          subst (λ (u : Stage). LeftAt chain Meets u s p new answer end) stage (subst (λ (m : Option Params). LeftIn chain Meets s m new answer end) params h) in
+          subst (λ (u : Stage). LeftAt chain Meets u s p new answer end) stage
+          (subst (λ (m : Option Params). LeftIn chain Meets s m new answer end) params h) in
           let up : Rises chain (askers (owed r.entries) r.kept p) given answer =
           subst (λ (a : Answer). Rises chain (askers (owed r.entries) r.kept p) a answer) said
           (subst (λ (ps : List Params). Rises chain (askers (owed r.entries) ps p) s.answer answer) kept
@@ -232,10 +245,12 @@ pub record PutBack (place : ℕ) (r s : FlowRecord) (p : Params) : Type 0 where
   pub born : s.born ≡ r.born
   pub collected : s.collected ≡ r.collected
 
-pub put_back : (place : ℕ) (r : FlowRecord) (p : Params) (m : Option Params) → slice_get r.kept place ≡ m → r.params ≡ Some p → PutBack place r (unwound_to place r m) p
+pub put_back : (place : ℕ) (r : FlowRecord) (p : Params) (m : Option Params) → slice_get r.kept place ≡ m → r.params ≡ Some p
+    → PutBack place r (unwound_to place r m) p
 put_back place r p m at has = by_kept m at
   where
-    with_both : (q : Option Params) (kept : List Params) → q ≡ Some (sees r.kept place p) → kept ≡ take place r.kept → PutBack place r (record r { params = q; kept = kept }) p
+    with_both : (q : Option Params) (kept : List Params) → q ≡ Some (sees r.kept place p) → kept ≡ take place r.kept
+        → PutBack place r (record r { params = q; kept = kept }) p
     with_both q kept is were =
         record { params = is; kept = were; entries = refl; operation = refl; answer = refl; path = refl; volume = refl; born = refl; collected = refl }
 
@@ -244,20 +259,25 @@ put_back place r p m at has = by_kept m at
     by_kept (Some q) at = with_both (Some q) (take place r.kept) (ap (λ (m : Option Params). Some (unwrap_or m p)) (sym at)) refl
 
 -- the answer that stands meanwhile doesn't matter to the answer after it
-returned_same : (operation : Operation) (answer : Answer) (back : Data) → returned_answer operation (left_answer operation answer) back ≡ returned_answer operation answer back
+returned_same : (operation : Operation) (answer : Answer) (back : Data) → returned_answer operation (left_answer operation answer) back
+    ≡ returned_answer operation answer back
 returned_same operation answer back =
-    elim (stands operation) as (λ b. cond b (cond b answer (record answer { bytes = [] })) (record { status = back.status; information = back.information; bytes = back.out })
+    elim (stands operation) as (λ b. cond b (cond b answer (record answer { bytes = [] }))
+    (record { status = back.status; information = back.information; bytes = back.out })
     ≡ cond b answer (record { status = back.status; information = back.information; bytes = back.out })) [ true ↦ refl | false ↦ refl ]
 
-module _ {W : Type 0} (chain : Chain W) (Meets : Option ℕ → List ℕ → Type 0) (r : FlowRecord) (p : Params) (has : r.params ≡ Some p) (old : W) (worker : WorkerId) (ask : Ask)
-    (rest : List Ask) (next : owed r.entries ≡ ask ∷ rest) (st : r.stage ≡ Ascending) (c : IsCourse Ascending r.entries) (plain : ArePlain worker (length r.kept) (owed r.entries))
+module _ {W : Type 0} (chain : Chain W) (Meets : Option ℕ → List ℕ → Type 0) (r : FlowRecord) (p : Params) (has : r.params ≡ Some p)
+    (old : W) (worker : WorkerId) (ask : Ask)
+    (rest : List Ask) (next : owed r.entries ≡ ask ∷ rest) (st : r.stage ≡ Ascending) (c : IsCourse Ascending r.entries)
+    (plain : ArePlain worker (length r.kept) (owed r.entries))
     (kind : chain.operation ≡ r.operation) (back : Data) (same : back.received ≡ sees r.kept ask.place p)
     (may : chain.post_may ask.instance.0 (answered_data (sees r.kept ask.place p) (lent_answer chain.operation r.answer)) ask.completion Finished back) where
   abbrev pub posted_once : FlowRecord
   posted_once = post_returned_of Finished back (call_post worker ask r).after
 
   -- with the parameters at hand
-  given_post : (u : FlowRecord) (m : Option Params) → PutBack ask.place r u p → m ≡ Some (sees r.kept ask.place p) → Leaves worker chain Meets r (post_returned_of Finished back (give_post worker ask u m).after) old old
+  given_post : (u : FlowRecord) (m : Option Params) → PutBack ask.place r u p → m ≡ Some (sees r.kept ask.place p)
+      → Leaves worker chain Meets r (post_returned_of Finished back (give_post worker ask u m).after) old old
   given_post u None back' is = cc
   given_post u (Some q) back' is =
       let s = post_returned_of Finished back (give_post worker ask u (Some q)).after in
@@ -265,7 +285,8 @@ module _ {W : Type 0} (chain : Chain W) (Meets : Option ℕ → List ℕ → Typ
       let entries : s.entries ≡ r.entries ++ entry ∷ [] =
       map-append (settle_post PostState.Finished) u.entries (post_entry worker ask.instance PostState.Running ∷ [])
       ∙ ap (λ es. map (settle_post PostState.Finished) es ++ entry ∷ []) back'.entries
-      ∙ ap (λ es. es ++ entry ∷ []) (closed_stay (settle_post PostState.Finished) (settling_post PostState.Finished) Descending r.entries Ascending c.order refl refl) in
+      ∙ ap (λ es. es ++ entry ∷ []) (closed_stay (settle_post PostState.Finished) (settling_post PostState.Finished) Descending
+      r.entries Ascending c.order refl refl) in
       let owes : owed s.entries ≡ rest = ap owed entries ∙ owed_answered Ascending r.entries entry ask rest c next refl (λ j. refl) in
       let fall : ArePlain worker (length r.kept) (ask ∷ rest) = subst (ArePlain worker (length r.kept)) next plain in
       let long : length u.kept ≡ ask.place = ap length back'.kept ∙ omega (arith, length-take ask.place r.kept, fall.0) in
@@ -291,7 +312,9 @@ module _ {W : Type 0} (chain : Chain W) (Meets : Option ℕ → List ℕ → Typ
 -- ---- the ends
 
 -- an operation that is done has nothing left but its answer
-pub left_done : {W : Type 0} (chain : Chain W) (Meets : Option ℕ → List ℕ → Type 0) (r : FlowRecord) (p : Params) (old : W) → r.params ≡ Some p → r.stage ≡ Ascending → owed r.entries ≡ []
+pub left_done : {W : Type 0} (chain : Chain W) (Meets : Option ℕ → List ℕ → Type 0) (r : FlowRecord) (p : Params) (old : W)
+    → r.params ≡ Some p → r.stage ≡ Ascending → owed r.entries ≡ []
     → LeftOf chain Meets r old r.answer old
 left_done chain Meets r p old has st none =
-    left_of chain Meets r p has old Ascending r.answer old st (subst (λ (xs : List Ask). Rises chain (askers xs r.kept p) r.answer r.answer) (sym none) refl, refl)
+    left_of chain Meets r p has old Ascending r.answer old st
+    (subst (λ (xs : List Ask). Rises chain (askers xs r.kept p) r.answer r.answer) (sym none) refl, refl)

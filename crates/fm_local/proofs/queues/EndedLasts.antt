@@ -6,10 +6,13 @@ use Rattle.fm_local.proofs.queues.LooseOperations.{base_ends, begins, collects_o
 use Rattle.fm_local.proofs.queues.OtherRecords.{by_same}
 use Rattle.fm_local.proofs.queues.SameOperations as unmoved
 
-pub ended_lasts : (old : World) (s : Step) (r : StepReply) (new : World) (p : OpId) → IsSound old → Steps old s r new → hands_out s p ≡ false → IsEnded old.flow p → IsEnded new.flow p
-ended_lasts old (Step.Register name registration) (StepReply.Filter r) new p s h other = (by_same p old.flow new.flow (unmoved.registered old new name registration r h)).ended
+pub ended_lasts : (old : World) (s : Step) (r : StepReply) (new : World) (p : OpId) → IsSound old → Steps old s r new
+    → hands_out s p ≡ false → IsEnded old.flow p → IsEnded new.flow p
+ended_lasts old (Step.Register name registration) (StepReply.Filter r) new p s h other =
+    (by_same p old.flow new.flow (unmoved.registered old new name registration r h)).ended
 ended_lasts old (Step.Mount name) (StepReply.Volume r) new p s h other = (by_same p old.flow new.flow (unmoved.mounted old new name r h)).ended
-ended_lasts old (Step.Attach k f v name altitude) (StepReply.Instance r) new p s h other = (by_same p old.flow new.flow (unmoved.attached old new k f v name altitude r h)).ended
+ended_lasts old (Step.Attach k f v name altitude) (StepReply.Instance r) new p s h other =
+    (by_same p old.flow new.flow (unmoved.attached old new k f v name altitude r h)).ended
 ended_lasts old (Step.SetupDone k accept) (StepReply.Done r) new p s h other = (by_same p old.flow new.flow (unmoved.set_up old new k accept r h)).ended
 ended_lasts old (Step.Begin what) (StepReply.Operation r) new p s h other = (begins p old what r new h).ended
 ended_lasts old (Step.Next k o) (StepReply.Action r) new p s h other = nexts_ended p old k o r new h
@@ -20,7 +23,8 @@ ended_lasts old (Step.ResumePre k o verdict) (StepReply.Done r) new p s h other 
 ended_lasts old (Step.ResumePost k o) (StepReply.Done r) new p s h other = (post_resumes p old k s r new o h).ended
 ended_lasts old (Step.FirstHeld k kind) (StepReply.Held r) new p s h other = (by_same p old.flow new.flow (unmoved.held_found old new k kind r h)).ended
 ended_lasts old (Step.Collect o) (StepReply.Answer r) new p s h other = (collects_other p old o r new h other).ended
-ended_lasts old (Step.Allocate k what body) (StepReply.Context r) new p s h other = (by_same p old.flow new.flow (unmoved.allocated old new k what body r h)).ended
+ended_lasts old (Step.Allocate k what body) (StepReply.Context r) new p s h other =
+    (by_same p old.flow new.flow (unmoved.allocated old new k what body r h)).ended
 ended_lasts old (Step.Set k c mode wants) (StepReply.Set r) new p s h other = (by_same p old.flow new.flow (unmoved.set old new k c mode wants r h)).ended
 ended_lasts old (Step.Get k kind) (StepReply.Context r) new p s h other = (by_same p old.flow new.flow (unmoved.got old new k kind r h)).ended
 ended_lasts old (Step.Delete k kind wants) (StepReply.Old r) new p s h other = (by_same p old.flow new.flow (unmoved.deleted old new k kind wants r h)).ended

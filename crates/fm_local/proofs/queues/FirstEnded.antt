@@ -16,12 +16,14 @@ has_answer w o ended (why, none) = by_record (operation_at o w.flow) ended none.
     by_mark true r is h = cc
     by_mark false r is h = cc
 
-    by_record : (m : Option FlowRecord) → unwrap_or (option_map is_collectable m) false ≡ true → Err why ≡ unwrap_or (option_map collect_reply m) (Err Status.WrongStep) → ⊥
+    by_record : (m : Option FlowRecord) → unwrap_or (option_map is_collectable m) false ≡ true
+        → Err why ≡ unwrap_or (option_map collect_reply m) (Err Status.WrongStep) → ⊥
     by_record None is h = cc
     by_record (Some r) is h = by_mark (is_collectable r) r is h
 
 -- the first of those that ended
-first_waits : (w : World) (resumed ended : List OpId) (o : OpId) → Wait w.flow resumed (o ∷ ended) → Wait w.flow resumed ended × (is_among o resumed ≡ false) × (is_among o ended ≡ false)
+first_waits : (w : World) (resumed ended : List OpId) (o : OpId) → Wait w.flow resumed (o ∷ ended) → Wait w.flow resumed ended
+    × (is_among o resumed ≡ false) × (is_among o ended ≡ false)
 first_waits w resumed ended o h =
     let k = parts (not (is_among o ended)) (are_apart ended) h.once in (
       record {
@@ -53,7 +55,8 @@ module _ {F B : Type 0} (old new : Parts F B) (waits : Waiting old) where
   none_passed [] o is none = is
   none_passed (p ∷ passed) o is none =
       absurd (has_answer old.work.state p
-      (All-head (IsEnded old.work.state.flow) p (passed ++ o ∷ new.finished.items.items) (subst (λ (os : List OpId). All (IsEnded old.work.state.flow) os) is waits.done))
+      (All-head (IsEnded old.work.state.flow) p (passed ++ o ∷ new.finished.items.items)
+      (subst (λ (os : List OpId). All (IsEnded old.work.state.flow) os) is waits.done))
       (All-head (HasNoAnswer old.work.state) p passed none))
 
   pub hands_out : (said : Option (OpId × Reply)) → GivesFinished old said new → HandsOut old.finished.items.items old said new

@@ -43,7 +43,8 @@ module _ {F B : Type 0} (old now : Parts F B) (taken : Bounded OpId) (kept : now
           All-append (HasNoAnswer old.work.state) passed (o ∷ []) none
               (All-cons (HasNoAnswer old.work.state) o [] has_none (All-nil (HasNoAnswer old.work.state))),
         ),
-        ap (λ (w : World). record now { work = record now.work { state = w }; finished = taken }) same ∙ ap (λ (m : Parts F B). record m { finished = taken }) kept,
+        ap (λ (w : World). record now { work = record now.work { state = w }; finished = taken }) same
+            ∙ ap (λ (m : Parts F B). record m { finished = taken }) kept,
       )
 
   -- all are

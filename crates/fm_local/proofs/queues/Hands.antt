@@ -40,7 +40,8 @@ away : (w : World) (k : WorkerId) → callback_of w k ≡ None → hand_at w k �
 away w k e = grind arith
 
 -- a table with another hand
-with_other : (w : World) (k : WorkerId) (at : Callback) (t : ContextTable) (hand : List CtxId) → IsSound w → callback_of w k ≡ Some at → t.hands ≡ slice_set w.contexts.hands k.0 hand
+with_other : (w : World) (k : WorkerId) (at : Callback) (t : ContextTable) (hand : List CtxId) → IsSound w → callback_of w k ≡ Some at
+    → t.hands ≡ slice_set w.contexts.hands k.0 hand
     → hand_at (with_contexts w t) k ≡ Some hand
 with_other w k at t hand sound is e =
     let parts = callback_parts w.stack (file_of w.flow (worker_at w.workers k)) (place_in (worker_at w.workers k)) at is in
@@ -81,20 +82,23 @@ module _ (old : World) (k : WorkerId) (new : World) (sound : IsSound old) where
   same e = ap (λ w. hand_at w k) e
 
   -- one more in the hand
-  gained : (at : Callback) (t : ContextTable) (c : CtxId) → callback_of old k ≡ Some at → new ≡ with_contexts old t → t.hands ≡ slice_set old.contexts.hands k.0 (hand ++ c ∷ [])
+  gained : (at : Callback) (t : ContextTable) (c : CtxId) → callback_of old k ≡ Some at → new ≡ with_contexts old t
+      → t.hands ≡ slice_set old.contexts.hands k.0 (hand ++ c ∷ [])
       → hand_at new k ≡ option_map (more (Some c)) (hand_at old k)
   gained at t c is e hands =
       ap (λ w. hand_at w k) e ∙ with_other old k at t (hand ++ c ∷ []) sound is hands ∙ sym (ap (option_map (more (Some c))) (there old k at is))
 
   -- the same in the hand
-  rested : (at : Callback) (t : ContextTable) → callback_of old k ≡ Some at → new ≡ with_contexts old t → t.hands ≡ old.contexts.hands → hand_at new k ≡ option_map (more None) (hand_at old k)
+  rested : (at : Callback) (t : ContextTable) → callback_of old k ≡ Some at → new ≡ with_contexts old t → t.hands ≡ old.contexts.hands
+      → hand_at new k ≡ option_map (more None) (hand_at old k)
   rested at t is e hands =
       ap (λ w. hand_at w k) e ∙ there (with_contexts old t) k at is
       ∙ ap (λ (h : List (List CtxId)). Some (hand_of h k.0)) hands ∙ sym (ap (option_map (more None)) (there old k at is))
 
   -- ---- contexts
 
-  pub allocate_hand : (kind : ContextKind) (body : List ℕ) (result : Result CtxId Status) → Allocates old k kind body result new → Gains result (hand_at old k) (hand_at new k)
+  pub allocate_hand : (kind : ContextKind) (body : List ℕ) (result : Result CtxId Status) → Allocates old k kind body result new
+      → Gains result (hand_at old k) (hand_at new k)
   unfolding Allocates
   allocate_hand kind body result h =
       taken_by (λ r w. w ≡ new → Gains r (hand_at old k) (hand_at new k)) old k result new _ _ h (λ why e. sym (ap (λ w. hand_at w k) e))
@@ -106,13 +110,15 @@ module _ (old : World) (k : WorkerId) (new : World) (sound : IsSound old) where
       asked_by (λ r w. w ≡ new → Gains r (hand_at old k) (hand_at new k)) old k result new _ _ h (λ why e. sym (ap (λ w. hand_at w k) e))
       (λ at is c none event e. gained at (grabbed old.contexts k.0 c) c is event.1 refl) refl
 
-  deleted : (at : Callback) (wants : Bool) (m : Option CtxId) → callback_of old k ≡ Some at → new ≡ with_contexts old (delete_after (carries old) old.contexts k.0 wants m)
+  deleted : (at : Callback) (wants : Bool) (m : Option CtxId) → callback_of old k ≡ Some at
+      → new ≡ with_contexts old (delete_after (carries old) old.contexts k.0 wants m)
       → hand_at new k ≡ option_map (more (delete_reply wants m)) (hand_at old k)
   deleted at wants None is e = rested at _ is e refl
   deleted at true (Some c) is e = gained at _ c is e refl
   deleted at false (Some c) is e = rested at _ is e refl
 
-  pub delete_hand : (kind : ContextKind) (wants : Bool) (result : Result (Option CtxId) Status) → Deletes old k kind wants result new → GainsOld wants result (hand_at old k) (hand_at new k)
+  pub delete_hand : (kind : ContextKind) (wants : Bool) (result : Result (Option CtxId) Status) → Deletes old k kind wants result new
+      → GainsOld wants result (hand_at old k) (hand_at new k)
   unfolding Deletes
   delete_hand kind wants result h =
       asked_by (λ r w. w ≡ new → GainsOld wants r (hand_at old k) (hand_at new k)) old k result new _ _ h (λ why e. sym (ap (λ w. hand_at w k) e))
@@ -149,17 +155,20 @@ module _ (old : World) (k : WorkerId) (new : World) (sound : IsSound old) where
 
   pub read_hand : (c : CtxId) (result : Result (List ℕ) Status) → ReadsBody old k c result new → hand_at new k ≡ hand_at old k
   unfolding ReadsBody
-  read_hand c result h = taken_by (λ r w. w ≡ new → hand_at new k ≡ hand_at old k) old k result new _ _ h (λ why e. sym (ap (λ w. hand_at w k) e)) (λ at is v none event e. same event.1) refl
+  read_hand c result h = taken_by (λ r w. w ≡ new → hand_at new k ≡ hand_at old k) old k result new _ _ h
+      (λ why e. sym (ap (λ w. hand_at w k) e)) (λ at is v none event e. same event.1) refl
 
   pub write_hand : (c : CtxId) (bytes : List ℕ) (result : Result (Unit {0}) Status) → WritesBody old k c bytes result new → hand_at new k ≡ hand_at old k
   unfolding WritesBody
   write_hand c bytes result h =
-      asked_by (λ r w. w ≡ new → hand_at new k ≡ hand_at old k) old k result new _ _ h (λ why e. sym (ap (λ w. hand_at w k) e)) (λ at is v none event e. ap (λ w. hand_at w k) event) refl
+      asked_by (λ r w. w ≡ new → hand_at new k ≡ hand_at old k) old k result new _ _ h (λ why e. sym (ap (λ w. hand_at w k) e))
+      (λ at is v none event e. ap (λ w. hand_at w k) event) refl
 
   pub bump_hand : (c : CtxId) (place by : ℕ) (result : Result ℕ Status) → Bumps old k c place by result new → hand_at new k ≡ hand_at old k
   unfolding Bumps
   bump_hand c place by result h =
-      asked_by (λ r w. w ≡ new → hand_at new k ≡ hand_at old k) old k result new _ _ h (λ why e. sym (ap (λ w. hand_at w k) e)) (λ at is v none event e. ap (λ w. hand_at w k) event.1) refl
+      asked_by (λ r w. w ≡ new → hand_at new k ≡ hand_at old k) old k result new _ _ h (λ why e. sym (ap (λ w. hand_at w k) e))
+      (λ at is v none event e. ap (λ w. hand_at w k) event.1) refl
 
   module _ (at : Callback) (is : callback_of old k ≡ Some at) (c : CtxId) (object : Object) (wants : Bool) where
     by_mode : (o : CtxId) (mode : SetMode) (wants : Bool) → new ≡ with_contexts old (set_mode_after (carries old) old.contexts k.0 c object mode wants o)
@@ -169,7 +178,8 @@ module _ (old : World) (k : WorkerId) (new : World) (sound : IsSound old) where
     by_mode o Replace true e = ((λ hand said. tt), (λ hand said. tt), gained at _ o is e refl)
     by_mode o Replace false e = ((λ hand said. tt), (λ hand said. refl), rested at _ is e refl)
 
-    by_full : (o : CtxId) (mode : SetMode) (b : Bool) → new ≡ with_contexts old (cond b old.contexts (set_mode_after (carries old) old.contexts k.0 c object mode wants o))
+    by_full : (o : CtxId) (mode : SetMode) (b : Bool) → new
+        ≡ with_contexts old (cond b old.contexts (set_mode_after (carries old) old.contexts k.0 c object mode wants o))
         → GainsSet mode wants (set_answer (cond b HandFull (set_mode_reply mode (wanted wants o)))) (hand_at old k) (hand_at new k)
     by_full o mode true e = ap (λ w. hand_at w k) e
     by_full o mode false e = by_mode o mode wants e
@@ -180,14 +190,16 @@ module _ (old : World) (k : WorkerId) (new : World) (sound : IsSound old) where
     by_old Replace None e = ((λ hand said. tt), (λ hand said. none_wanted wants), rested at _ is e refl)
     by_old mode (Some o) e = by_full o mode (wants && is_hand_full old.contexts.hands k.0) e
 
-  pub set_hand : (c : CtxId) (mode : SetMode) (wants : Bool) (result : SetAnswer) → Sets old k c mode wants result new → GainsSet mode wants result (hand_at old k) (hand_at new k)
+  pub set_hand : (c : CtxId) (mode : SetMode) (wants : Bool) (result : SetAnswer) → Sets old k c mode wants result new
+      → GainsSet mode wants result (hand_at old k) (hand_at new k)
   unfolding Sets
   set_hand c mode wants result h = by_callback (callback_of old k) refl h
     where
       Held : SetAnswer → Type 0
       Held r = GainsSet mode wants r (hand_at old k) (hand_at new k)
 
-      by_object : (at : Callback) → callback_of old k ≡ Some at → (m : Option Context) (o : Option Object) → SetsOn old k c mode wants result new m o → Held result
+      by_object : (at : Callback) → callback_of old k ≡ Some at → (m : Option Context) (o : Option Object)
+          → SetsOn old k c mode wants result new m o → Held result
       by_object at is (Some x) (Some object) h = subst Held (sym h.0) (by_old at is c object wants mode (holder old.contexts.slots x.owner object) h.1)
       by_object at is (Some x) None h = absurd h
       by_object at is None o h = absurd h
@@ -227,7 +239,8 @@ module _ (old : World) (k : WorkerId) (new : World) (sound : IsSound old) where
       rests : new ≡ old → LosesSent (sent_by given) (hand_at old k) (hand_at new k)
       rests e = subst (λ (m : InHand). LosesSent (sent_by given) (hand_at old k) m) (sym (same e)) (keeps_sent (sent_by given) (hand_at old k))
 
-      by_place : (m : Option InstanceId) → place_in (worker_at old.workers k) ≡ m → (result : Result (Unit {0}) Status) → ResumesPreAt old k o given result new m
+      by_place : (m : Option InstanceId) → place_in (worker_at old.workers k) ≡ m → (result : Result (Unit {0}) Status)
+          → ResumesPreAt old k o given result new m
           → LosesSent (sent_by given) (hand_at old k) (hand_at new k)
       by_place None place result h = rests h.1
       by_place (Some i) place (Err why) h = rests h.1
@@ -246,14 +259,17 @@ module _ (old : World) (k : WorkerId) (new : World) (sound : IsSound old) where
           by_hands hands e =
               ap (λ w. hand_at w k) h.1.1 ∙ ap (λ (hs : List (List CtxId)). option_map (λ (r : Instance). hand_of hs k.0) row) e
 
-          lost : (c : CtxId) (m : Option Instance) → option_map (λ (r : Instance). without c hand) m ≡ option_map (without c) (option_map (λ (r : Instance). hand) m)
+          lost : (c : CtxId) (m : Option Instance) → option_map (λ (r : Instance). without c hand) m
+              ≡ option_map (without c) (option_map (λ (r : Instance). hand) m)
           lost c None = refl
           lost c (Some r) = refl
 
-          by_sent : (m : Option CtxId) → (sent_in state ≡ None) ⊎ (sent_in state ≡ sent_by given) → sent_in state ≡ m → LosesSent (sent_by given) (hand_at old k) (hand_at new k)
+          by_sent : (m : Option CtxId) → (sent_in state ≡ None) ⊎ (sent_in state ≡ sent_by given) → sent_in state ≡ m
+              → LosesSent (sent_by given) (hand_at old k) (hand_at new k)
           by_sent None cases is =
               subst (λ (x : InHand). LosesSent (sent_by given) (hand_at old k) x)
-              (sym (by_hands old.contexts.hands (h.1.0.hands ∙ ap (λ (m : Option CtxId). (sent old.contexts k m).hands) is))) (keeps_sent (sent_by given) (hand_at old k))
+              (sym (by_hands old.contexts.hands (h.1.0.hands ∙ ap (λ (m : Option CtxId). (sent old.contexts k m).hands) is)))
+              (keeps_sent (sent_by given) (hand_at old k))
           by_sent (Some c) (inl none) is = absurd (none-some c (sym none ∙ is))
           by_sent (Some c) (inr given_so) is =
               subst (λ (m : Option CtxId). LosesSent m (hand_at old k) (hand_at new k)) (sym is ∙ given_so)

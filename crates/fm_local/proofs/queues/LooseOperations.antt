@@ -118,7 +118,8 @@ module _ (p : OpId) (old : World) where
   module _ (k : WorkerId) (o : OpId) (result : Result FlowAction Status) (new : World) where
     next_changes : Nexts old k o result new → (new ≡ old) ⊎ ((lies : Below) × (new.flow ≡ changed o (λ r. (next_of k lies (drains_at old o) r).after) old.flow))
     unfolding Nexts
-    next_changes h = idle_by (λ r w. (w ≡ old) ⊎ ((lies : Below) × (w.flow ≡ changed o (λ r. (next_of k lies (drains_at old o) r).after) old.flow))) k result old new _ h (λ why. inl refl)
+    next_changes h = idle_by (λ r w. (w ≡ old) ⊎ ((lies : Below)
+        × (w.flow ≡ changed o (λ r. (next_of k lies (drains_at old o) r).after) old.flow))) k result old new _ h (λ why. inl refl)
         (λ idle at. inr (at.0, (lost result at.0 at.2 new at.4).flow ∙ ap flow_of at.3.1))
 
     pub nexts_other : Nexts old k o result new → (p.0 == o.0) ≡ false → Keeps p old new
@@ -127,7 +128,9 @@ module _ (p : OpId) (old : World) where
         by_end : (new ≡ old) ⊎ ((lies : Below) × (new.flow ≡ changed o (λ r. (next_of k lies (drains_at old o) r).after) old.flow)) → Keeps p old new
         by_end (inl same) = by_same p old.flow new.flow (ap flow_of same)
         by_end (inr (lies, is)) =
-            by_flow new _ is (by_record p old.flow (changed o (λ r. (next_of k lies (drains_at old o) r).after) old.flow) (others_changed p o (λ r. (next_of k lies (drains_at old o) r).after) old.flow differ (λ r. (next_stays k lies (drains_at old o) r).number)))
+            by_flow new _ is (by_record p old.flow (changed o (λ r. (next_of k lies (drains_at old o) r).after) old.flow)
+            (others_changed p o (λ r. (next_of k lies (drains_at old o) r).after) old.flow differ
+            (λ r. (next_stays k lies (drains_at old o) r).number)))
 
     pub nexts_ended : Nexts old k o result new → IsEnded old.flow p → IsEnded new.flow p
     nexts_ended h ended = by_end (next_changes h)
@@ -135,18 +138,21 @@ module _ (p : OpId) (old : World) where
         step : Below → FlowRecord → FlowRecord
         step lies r = (next_of k lies (drains_at old o) r).after
 
-        here : (lies : Below) (m : Option FlowRecord) → operation_at o old.flow ≡ m → unwrap_or (option_map is_collectable m) false ≡ true → IsEnded (changed o (step lies) old.flow) o
+        here : (lies : Below) (m : Option FlowRecord) → operation_at o old.flow ≡ m → unwrap_or (option_map is_collectable m) false
+            ≡ true → IsEnded (changed o (step lies) old.flow) o
         here lies None at h = cc
         here lies (Some r) at h =
             let same = ended_next k lies (drains_at old o) r h in
-            (alike_changed o o r (step lies) old.flow at (λ x. (next_stays k lies (drains_at old o) x).number) (λ l. subst (λ x. is_loose x ≡ true) (sym same) l)
+            (alike_changed o o r (step lies) old.flow at (λ x. (next_stays k lies (drains_at old o) x).number)
+            (λ l. subst (λ x. is_loose x ≡ true) (sym same) l)
             (λ l. subst (λ x. is_collectable x ≡ true) (sym same) l)).ended (ap (λ m. unwrap_or (option_map is_collectable m) false) at ∙ h)
 
         by_end : (new ≡ old) ⊎ ((lies : Below) × (new.flow ≡ changed o (λ r. (next_of k lies (drains_at old o) r).after) old.flow)) → IsEnded new.flow p
         by_end (inl same) = subst (λ (w : World). IsEnded w.flow p) (sym same) ended
         by_end (inr (lies, is)) = subst (λ (t : FlowTable). IsEnded t p) (sym is)
             (by_number (λ q. IsEnded old.flow q → IsEnded (changed o (step lies) old.flow) q) o p (here lies (operation_at o old.flow) refl)
-            (λ differ. (by_record p old.flow (changed o (step lies) old.flow) (others_changed p o (step lies) old.flow differ (λ r. (next_stays k lies (drains_at old o) r).number))).ended) ended)
+            (λ differ. (by_record p old.flow (changed o (step lies) old.flow)
+            (others_changed p o (step lies) old.flow differ (λ r. (next_stays k lies (drains_at old o) r).number))).ended) ended)
 
   -- ---- a callback, or the call of the base, is over
 
@@ -161,7 +167,8 @@ module _ (p : OpId) (old : World) where
         by_worker : (m : Option Place) → worker_at old.workers k ≡ m → PreReturnsAt old k given lent result new m → Keeps p old new
         by_worker (Some (Place.Pre o i)) at h =
             let x = inside_pre old k o i at sound.under_way in
-            unless_by (After (Unit {0})) Status.BadRequest _ result old new ((result ≡ Ok tt) × PreReturnsOver old k o (pre_step old k o i given lent) (state_at old k o i given) new) h refused (λ fits event.
+            unless_by (After (Unit {0})) Status.BadRequest _ result old new ((result ≡ Ok tt)
+            × PreReturnsOver old k o (pre_step old k o i given lent) (state_at old k o i given) new) h refused (λ fits event.
             let over : PreReturnsOver old k o (pre_step old k o i given lent) (state_at old k o i given) new = event.1 in
             by_flow new (changed o (pre_step old k o i given lent) old.flow) ((by_links over.0 new over.2).flow ∙ ap flow_of over.1.1)
             (busy_changed p o x.0.row (pre_step old k o i given lent) old.flow x.0.at (busy_at Stage.PreRunning x.0.row x.1 refl) (λ r. refl)))
@@ -174,7 +181,8 @@ module _ (p : OpId) (old : World) where
         by_worker : (m : Option Place) → worker_at old.workers k ≡ m → BaseReturnsAt old k call answer result new m → Keeps p old new
         by_worker (Some (Place.Base o)) at h =
             let x = inside_base old k o at sound.under_way in
-            unless_by (After (Unit {0})) Status.BadRequest _ result old new ((result ≡ Ok tt) × LosesLinks (base_returned old k o call answer) new) h refused (λ fits event.
+            unless_by (After (Unit {0})) Status.BadRequest _ result old new ((result ≡ Ok tt)
+            × LosesLinks (base_returned old k o call answer) new) h refused (λ fits event.
             by_flow new (changed o (base_step old call answer) old.flow) (by_links (base_returned old k o call answer) new event.1).flow
             (busy_changed p o x.0.row (base_step old call answer) old.flow x.0.at (busy_at Stage.InBase x.0.row x.1 refl) (λ r. refl)))
         by_worker _ at h = refused_by (After (Unit {0})) Status.WrongStep result old new h refused
@@ -186,7 +194,8 @@ module _ (p : OpId) (old : World) where
         by_worker : (lent : Option Data) (m : Option Place) → worker_at old.workers k ≡ m → PostReturnsAt old k given lent result new m → Keeps p old new
         by_worker (Some lent) (Some (Place.Post o i)) at h =
             let x = inside_post old k o i at sound.under_way in
-            unless_by (After (Unit {0})) Status.BadRequest _ result old new ((result ≡ Ok tt) × ReturnsFrom old k o (post_returned_of given lent) old.contexts new) h refused (λ fits event.
+            unless_by (After (Unit {0})) Status.BadRequest _ result old new ((result ≡ Ok tt)
+            × ReturnsFrom old k o (post_returned_of given lent) old.contexts new) h refused (λ fits event.
             by_flow new (changed o (post_returned_of given lent) old.flow) (ap flow_of event.1.1)
             (busy_changed p o x.0.row (post_returned_of given lent) old.flow x.0.at (busy_at Stage.PostRunning x.0.row x.1 refl) (λ r. refl)))
         by_worker None (Some (Place.Drain o i)) at h =
@@ -206,7 +215,8 @@ module _ (p : OpId) (old : World) where
         by_place : (m : Option InstanceId) → ResumesPreAt old k o given result new m → Keeps p old new
         by_place None h = refused_by (After (Unit {0})) Status.WrongStep result old new h refused
         by_place (Some i) h = answers_by (After (Unit {0})) _ result old new _ h refused (λ done none event.
-            let x = held_by old Hold.Pre o i sound.under_way (granted (lets_go given) (is_held_by old Hold.Pre o i) Status.BadRequest Status.NotPended none).1 in
+            let x = held_by old Hold.Pre o i sound.under_way (granted (lets_go given) (is_held_by old Hold.Pre o i) Status.BadRequest
+            Status.NotPended none).1 in
             by_flow new _ (by_links _ new event).flow
             (busy_changed p o x.row _ old.flow x.at (busy_at Stage.PreHeld x.row (held_pre i.0 x.row x.sound x.held).0 refl) (λ r. refl)))
 
@@ -223,18 +233,21 @@ module _ (p : OpId) (old : World) where
 
   -- ---- drains before their turn
 
-  pub drain_taken : (k : WorkerId) (i : InstanceId) (result : Result (Option (OpId × Completion)) Status) (new : World) → TakesDrain old k i result new → Keeps p old new
+  pub drain_taken : (k : WorkerId) (i : InstanceId) (result : Result (Option (OpId × Completion)) Status) (new : World)
+      → TakesDrain old k i result new → Keeps p old new
   unfolding TakesDrain
   drain_taken k i result new h =
       idle_by (After (Option (OpId × Completion))) k result old new _ h (λ why. nothing p old) (λ idle event.
-      answers_by (After (Option (OpId × Completion))) _ result old new _ event (λ why. nothing p old) (λ drain free e. where_stopping (is_stopping_at (row_at old.stack i)) drain e))
+      answers_by (After (Option (OpId × Completion))) _ result old new _ event (λ why. nothing p old)
+      (λ drain free e. where_stopping (is_stopping_at (row_at old.stack i)) drain e))
     where
       given : (drain : Option (OpId × Completion)) → DrainTaken i old.flow drain new.flow → Keeps p old new
       given None taken = by_same p old.flow new.flow taken.1
       given (Some (o, completion)) taken =
           let there = owing_there old.flow o i completion taken.owed in
           by_flow new _ taken.after
-          (alike_changed p o there.0 (drained_early i) old.flow there.1 (λ r. refl) (λ l. l) (λ ended. absurd (owing_not_ended i there.0 completion there.2 ended)))
+          (alike_changed p o there.0 (drained_early i) old.flow there.1 (λ r. refl) (λ l. l)
+          (λ ended. absurd (owing_not_ended i there.0 completion there.2 ended)))
 
       where_stopping : (b : Bool) (drain : Option (OpId × Completion)) → DrainsWhere b old k i drain new → Keeps p old new
       where_stopping true drain e = given drain e.0
@@ -249,7 +262,8 @@ module _ (p : OpId) (old : World) where
       over o i (Some r) at =
           by_bool (λ b. Stays p old.flow (cond b (removed o old.flow) (changed o (early_over i) old.flow))) (is_spent (early_over i r))
           (λ spent. spent_removed p o r old.flow at (first r.collected _ spent))
-          (λ needed. alike_changed p o r (early_over i) old.flow at (λ x. refl) (λ l. l) (λ ended. ap (λ asks. not r.collected && done_at r.stage asks) (owed_over i r) ∙ ended))
+          (λ needed. alike_changed p o r (early_over i) old.flow at (λ x. refl) (λ l. l)
+          (λ ended. ap (λ asks. not r.collected && done_at r.stage asks) (owed_over i r) ∙ ended))
 
       by_worker : (m : Option Place) → DrainReturnsAt old k result new m → Keeps p old new
       by_worker (Some (Place.EarlyDrain o i)) h = by_flow new _ (ap flow_of h.2) (over o i (operation_at o old.flow) refl)
@@ -264,7 +278,8 @@ module _ (p : OpId) (old : World) where
       by_found : (m : Option FlowRecord) → Stays p old.flow (collected_in o old.flow m)
       by_found None = by_same p old.flow old.flow refl
       by_found (Some r) =
-          by_bool (λ b. Stays p old.flow (cond b (cond (list_any is_running_drain r.entries) (changed o marked old.flow) (removed o old.flow)) old.flow)) (is_collectable r)
+          by_bool (λ b. Stays p old.flow (cond b (cond (list_any is_running_drain r.entries) (changed o marked old.flow)
+          (removed o old.flow)) old.flow)) (is_collectable r)
           (λ done. by_bool (λ b. Stays p old.flow (cond b (changed o marked old.flow) (removed o old.flow))) (list_any is_running_drain r.entries)
           (λ runs. by_record p old.flow (changed o marked old.flow) (others_changed p o marked old.flow differ (λ x. refl)))
           (λ runs. by_record p old.flow (removed o old.flow) (others_removed p o old.flow differ)))

@@ -25,7 +25,8 @@ same_flow t u resumed ended same h = subst (λ (x : FlowTable). Wait x resumed e
 
 -- what a callback leaves by what its port keeps
 pub calls_only : {F : Type 0} (is_quiet : F → Type 0) (filter : Option F) (old new : Work) (k : WorkerId) → (IsQuietIn is_quiet filter → new ≡ old)
-    → ◌≡◌ {A = Kept} (record { worker = k; standing = Some (standing_with new.resumed.items.items new.state) }) (record { worker = k; standing = Some (standing_with old.resumed.items.items old.state) })
+    → ◌≡◌ {A = Kept} (record { worker = k; standing = Some (standing_with new.resumed.items.items new.state) })
+    (record { worker = k; standing = Some (standing_with old.resumed.items.items old.state) })
     → CallsOnly is_quiet filter old new
 calls_only is_quiet filter old new k quiet kept =
     let same = same_Some _ _ (ap (λ (x : Kept). x.standing) kept) in
@@ -36,24 +37,30 @@ calls_only is_quiet filter old new k quiet kept =
     }
 
 -- an operation whose callback a worker is inside of isn't with nobody
-busy : (w : World) (o : OpId) (r : FlowRecord) (s : Stage) → operation_at o w.flow ≡ Some r → r.stage ≡ s → is_between s ≡ false → told is_loose false o w.flow ≡ false
+busy : (w : World) (o : OpId) (r : FlowRecord) (s : Stage) → operation_at o w.flow ≡ Some r → r.stage ≡ s → is_between s ≡ false
+    → told is_loose false o w.flow ≡ false
 busy w o r s at stage between = ap (λ m. unwrap_or (option_map is_loose m) false) at ∙ busy_at s r stage between
 
 module _ (w : World) (k : WorkerId) (o : OpId) (i : InstanceId) (resumed ended : List OpId) (sound : IsSound w) where
   pub pre_apart : IsIn k (Place.Pre o i) w → Wait w.flow resumed ended → (is_among o resumed ≡ false) × (is_among o ended ≡ false)
-  pre_apart there h = let x = inside_pre w k o i there sound.under_way in busy_apart w.flow resumed ended o (busy w o x.0.row Stage.PreRunning x.0.at x.1 refl) h
+  pre_apart there h = let x = inside_pre w k o i there sound.under_way in
+      busy_apart w.flow resumed ended o (busy w o x.0.row Stage.PreRunning x.0.at x.1 refl) h
 
   pub post_apart : IsIn k (Place.Post o i) w → Wait w.flow resumed ended → (is_among o resumed ≡ false) × (is_among o ended ≡ false)
-  post_apart there h = let x = inside_post w k o i there sound.under_way in busy_apart w.flow resumed ended o (busy w o x.0.row Stage.PostRunning x.0.at x.1 refl) h
+  post_apart there h = let x = inside_post w k o i there sound.under_way in
+      busy_apart w.flow resumed ended o (busy w o x.0.row Stage.PostRunning x.0.at x.1 refl) h
 
   pub drain_apart : IsIn k (Place.Drain o i) w → Wait w.flow resumed ended → (is_among o resumed ≡ false) × (is_among o ended ≡ false)
-  drain_apart there h = let x = inside_drain w k o i there sound.under_way in busy_apart w.flow resumed ended o (busy w o x.0.row (Stage.InDrain i) x.0.at x.1 refl) h
+  drain_apart there h = let x = inside_drain w k o i there sound.under_way in
+      busy_apart w.flow resumed ended o (busy w o x.0.row (Stage.InDrain i) x.0.at x.1 refl) h
 
 -- ---- what is next
 
 module _ (k : WorkerId) (o : OpId) (old : World) (said : Result FlowAction Status) (new : World) where
-  pub nexts_wait : (resumed ended : List OpId) → Nexts old k o said new → is_among o resumed ≡ false → is_among o ended ≡ false → Wait old.flow resumed ended → Wait new.flow resumed ended
-  nexts_wait resumed ended h going done waits = others_wait old.flow new.flow resumed ended o (λ p differ. nexts_other p old k o said new h differ) going done waits
+  pub nexts_wait : (resumed ended : List OpId) → Nexts old k o said new → is_among o resumed ≡ false → is_among o ended ≡ false
+      → Wait old.flow resumed ended → Wait new.flow resumed ended
+  nexts_wait resumed ended h going done waits = others_wait old.flow new.flow resumed ended o
+      (λ p differ. nexts_other p old k o said new h differ) going done waits
 
   by_lent : (said : Result FlowAction Status) → IsLent k o said new → IsGiven k o said new
   by_lent (Ok (FlowAction.Pre i lent)) h = h.0
@@ -99,15 +106,18 @@ module _ (k : WorkerId) (o : OpId) (old : World) (said : Result FlowAction Statu
       by_stage Stage.Ascending h = by_asks stops (owed r.entries) h
       by_stage _ h = cc
 
-      by_collected : (b : Bool) → Ok FlowAction.Done ≡ (cond b (turn (Err Status.WrongStep) r) (next_at k lies stops r r.stage)).reply → not b && done_at r.stage (owed r.entries) ≡ true
+      by_collected : (b : Bool) → Ok FlowAction.Done ≡ (cond b (turn (Err Status.WrongStep) r) (next_at k lies stops r r.stage)).reply
+          → not b && done_at r.stage (owed r.entries) ≡ true
       by_collected true h = cc
       by_collected false h = by_stage r.stage h
 
   ended_before : Ok FlowAction.Done ≡ said → Nexts old k o said new → IsEnded old.flow o
   unfolding Nexts
-  ended_before is h = idle_by (λ r w. Ok FlowAction.Done ≡ r → IsEnded old.flow o) k said old new _ h (λ why e. cc) (λ idle at e. by_record at.0 (operation_at o old.flow) (e ∙ at.3.0)) is
+  ended_before is h = idle_by (λ r w. Ok FlowAction.Done ≡ r → IsEnded old.flow o) k said old new _ h (λ why e. cc)
+      (λ idle at e. by_record at.0 (operation_at o old.flow) (e ∙ at.3.0)) is
     where
-      by_record : (lies : Below) (m : Option FlowRecord) → Ok FlowAction.Done ≡ unwrap_or (option_map (λ r. (next_of k lies (drains_at old o) r).reply) m) (Err Status.WrongStep)
+      by_record : (lies : Below) (m : Option FlowRecord) → Ok FlowAction.Done
+          ≡ unwrap_or (option_map (λ r. (next_of k lies (drains_at old o) r).reply) m) (Err Status.WrongStep)
           → unwrap_or (option_map is_collectable m) false ≡ true
       by_record lies None h = cc
       by_record lies (Some r) h = done_record lies (drains_at old o) r h
@@ -130,21 +140,26 @@ module _ (k : WorkerId) (o : OpId) (old : World) (said : Result FlowAction Statu
 
 -- ---- one begins, and one is handed out
 
-pub begins_wait : (old : World) (what : Request) (result : Result OpId Status) (new : World) (resumed ended : List OpId) → Begins old what result new → Wait old.flow resumed ended → Wait new.flow resumed ended
+pub begins_wait : (old : World) (what : Request) (result : Result OpId Status) (new : World) (resumed ended : List OpId)
+    → Begins old what result new → Wait old.flow resumed ended → Wait new.flow resumed ended
 begins_wait old what result new resumed ended h waits = waits_on old.flow new.flow resumed ended (λ p. begins p old what result new h) waits
 
-pub begun_apart : (old : World) (what : Request) (o : OpId) (new : World) (resumed ended : List OpId) → IsSound old → Begins old what (Ok o) new → Wait old.flow resumed ended
+pub begun_apart : (old : World) (what : Request) (o : OpId) (new : World) (resumed ended : List OpId) → IsSound old
+    → Begins old what (Ok o) new → Wait old.flow resumed ended
     → (is_among o resumed ≡ false) × (is_among o ended ≡ false)
 unfolding Begins
 begun_apart old what o new resumed ended sound h waits = new_apart old.flow resumed ended o sound.under_way.flow h.1.0 waits
 
-pub collects_wait : (old : World) (o : OpId) (result : Result Answer Status) (new : World) (resumed ended : List OpId) → Collects old o result new → is_among o resumed ≡ false → is_among o ended ≡ false
+pub collects_wait : (old : World) (o : OpId) (result : Result Answer Status) (new : World) (resumed ended : List OpId)
+    → Collects old o result new → is_among o resumed ≡ false → is_among o ended ≡ false
     → Wait old.flow resumed ended → Wait new.flow resumed ended
-collects_wait old o result new resumed ended h going done waits = others_wait old.flow new.flow resumed ended o (λ p differ. collects_other p old o result new h differ) going done waits
+collects_wait old o result new resumed ended h going done waits =
+    others_wait old.flow new.flow resumed ended o (λ p differ. collects_other p old o result new h differ) going done waits
 
 -- ---- the queue of those that ended
 
-pub put_waits : (t : FlowTable) (o : OpId) (resumed ended new : List OpId) → (new ≡ ended ++ o ∷ []) ⊎ (new ≡ drop 1 ended ++ o ∷ []) ⊎ (new ≡ drop 1 ended) → IsEnded t o
+pub put_waits : (t : FlowTable) (o : OpId) (resumed ended new : List OpId) → (new ≡ ended ++ o ∷ []) ⊎ (new ≡ drop 1 ended ++ o ∷ [])
+    ⊎ (new ≡ drop 1 ended) → IsEnded t o
     → (is_among o resumed ≡ false) × (is_among o ended ≡ false) → Wait t resumed ended → Wait t resumed new
 put_waits t o resumed ended new (inl e) is apart h = subst (Wait t resumed) (sym e) (ended_more t o resumed ended is apart.0 apart.1 h)
 put_waits t o resumed ended new (inr (inl e)) is apart h =
@@ -153,7 +168,8 @@ put_waits t o resumed ended new (inr (inr e)) is apart h = subst (Wait t resumed
 
 -- ---- the first that was resumed
 
-pub take_waits : (t : FlowTable) (o : OpId) (resumed left ended : List OpId) → resumed ≡ o ∷ left → Wait t resumed ended → Wait t left ended × (is_among o left ≡ false) × (is_among o ended ≡ false)
+pub take_waits : (t : FlowTable) (o : OpId) (resumed left ended : List OpId) → resumed ≡ o ∷ left → Wait t resumed ended
+    → Wait t left ended × (is_among o left ≡ false) × (is_among o ended ≡ false)
 take_waits t o resumed left ended is h = taken t o left ended (subst (λ (os : List OpId). Wait t os ended) is h)
 
 pub emptied_waits : (t : FlowTable) (resumed left ended : List OpId) → (resumed ≡ []) × (left ≡ []) → Wait t resumed ended → Wait t left ended

@@ -53,7 +53,8 @@ by_number P o p here other = elim (cases_Bool (p.0 == o.0)) [
 ]
 
 -- where somebody is inside the operation that changes, or a filter holds it, no other one changes
-pub busy_changed : (p o : OpId) (r : FlowRecord) (f : FlowRecord → FlowRecord) (t : FlowTable) → operation_at o t ≡ Some r → is_loose r ≡ false → ((x : FlowRecord) → (f x).number.0 ≡ x.number.0)
+pub busy_changed : (p o : OpId) (r : FlowRecord) (f : FlowRecord → FlowRecord) (t : FlowTable) → operation_at o t ≡ Some r
+    → is_loose r ≡ false → ((x : FlowRecord) → (f x).number.0 ≡ x.number.0)
     → Stays p t (changed o f t)
 busy_changed p o r f t at busy same =
     by_number (λ q. Stays q t (changed o f t)) o p
@@ -67,7 +68,8 @@ busy_changed p o r f t at busy same =
     loosely h = ap (λ m. unwrap_or (option_map is_loose m) false) at ∙ ended_loose r (sym (ap (λ m. unwrap_or (option_map is_collectable m) false) at) ∙ h)
 
 -- an operation that changes so that it is told as before
-pub alike_changed : (p o : OpId) (r : FlowRecord) (f : FlowRecord → FlowRecord) (t : FlowTable) → operation_at o t ≡ Some r → ((x : FlowRecord) → (f x).number.0 ≡ x.number.0)
+pub alike_changed : (p o : OpId) (r : FlowRecord) (f : FlowRecord → FlowRecord) (t : FlowTable) → operation_at o t ≡ Some r
+    → ((x : FlowRecord) → (f x).number.0 ≡ x.number.0)
     → (is_loose r ≡ true → is_loose (f r) ≡ true) → (is_collectable r ≡ true → is_collectable (f r) ≡ true) → Stays p t (changed o f t)
 alike_changed p o r f t at same loose ended =
     by_number (λ q. Stays q t (changed o f t)) o p
@@ -99,10 +101,13 @@ spent_removed p o r t at spent =
 -- one more operation comes behind the others
 pub one_more : (p : OpId) (x : FlowRecord) (t : FlowTable) (n : ℕ) → Stays p t (record { operations = t.operations ++ x ∷ []; next = n })
 one_more p x t n = record {
-  loose = λ h. ap (λ m. unwrap_or (option_map is_loose m) false) (find-append (is_number p) t.operations (x ∷ [])) ∙ first is_loose (find (is_number p) t.operations) _ h;
-  ended = λ h. ap (λ m. unwrap_or (option_map is_collectable m) false) (find-append (is_number p) t.operations (x ∷ [])) ∙ first is_collectable (find (is_number p) t.operations) _ h;
+  loose = λ h. ap (λ m. unwrap_or (option_map is_loose m) false) (find-append (is_number p) t.operations (x ∷ []))
+      ∙ first is_loose (find (is_number p) t.operations) _ h;
+  ended = λ h. ap (λ m. unwrap_or (option_map is_collectable m) false) (find-append (is_number p) t.operations (x ∷ []))
+      ∙ first is_collectable (find (is_number p) t.operations) _ h;
 }
   where
-    first : (test : FlowRecord → Bool) (a b : Option FlowRecord) → unwrap_or (option_map test a) false ≡ true → unwrap_or (option_map test (option_or a b)) false ≡ true
+    first : (test : FlowRecord → Bool) (a b : Option FlowRecord) → unwrap_or (option_map test a) false ≡ true
+        → unwrap_or (option_map test (option_or a b)) false ≡ true
     first test None b h = cc
     first test (Some r) b h = h

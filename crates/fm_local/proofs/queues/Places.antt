@@ -28,7 +28,8 @@ use Rattle.fm_local.proofs.instances.Rest.{is_in}
 abbrev on_shapes : OpId → Params → List Shape → Bool
 on_shapes o p shapes = unwrap_or (option_map (λ s. fit s.operation s.path p) (find (λ s. s.number.0 == o.0) shapes)) false
 
-on_records : (o : OpId) (p : Params) (rs : List FlowRecord) → unwrap_or (option_map (λ r. fit r.operation r.path p) (find (is_number o) rs)) false ≡ on_shapes o p (map shape_of rs)
+on_records : (o : OpId) (p : Params) (rs : List FlowRecord)
+    → unwrap_or (option_map (λ r. fit r.operation r.path p) (find (is_number o) rs)) false ≡ on_shapes o p (map shape_of rs)
 on_records o p [] = refl
 on_records o p (r ∷ rs) = elim (cases_Bool (is_number o r)) [ inl e ↦ rw e refl | inr e ↦ rw e (on_records o p rs) ]
 
@@ -50,11 +51,14 @@ module _ (k : WorkerId) where
 
   -- ---- an idle worker enters a callback
 
-  entered : {T : Type 0} (old : World) (v : T) (new : World) (a : Place) (Event : Type 0) → Unless Status.WrongStep (is_idle (worker_at old.workers k)) (Ok v) old new Event
+  entered : {T : Type 0} (old : World) (v : T) (new : World) (a : Place) (Event : Type 0)
+      → Unless Status.WrongStep (is_idle (worker_at old.workers k)) (Ok v) old new Event
       → (Event → new.workers ≡ put old.workers k a) → IsIn k a new
-  entered old v new a Event h goes = idle_by (λ result new. IsOk result → IsIn k a new) k (Ok v) old new Event h (λ why ok. cc) (λ idle event ok. is_in k old new a idle (goes event)) refl
+  entered old v new a Event h goes = idle_by (λ result new. IsOk result → IsIn k a new) k (Ok v) old new Event h (λ why ok. cc)
+      (λ idle event ok. is_in k old new a idle (goes event)) refl
 
-  pub attached_in : (old : World) (f : FilterId) (v : VolumeId) (name altitude : List ℕ) (i : InstanceId) (born : World) → Attaches old k f v name altitude (Ok i) born → IsIn k (Place.Setup i) born
+  pub attached_in : (old : World) (f : FilterId) (v : VolumeId) (name altitude : List ℕ) (i : InstanceId) (born : World)
+      → Attaches old k f v name altitude (Ok i) born → IsIn k (Place.Setup i) born
   unfolding Attaches
   attached_in old f v name altitude i born h = entered old i born (Place.Setup i) _ h (λ event. ap (λ (w : World). w.workers) event.1)
 
@@ -73,7 +77,8 @@ module _ (k : WorkerId) where
 
     pub draining_in : (o : OpId) (completion : Completion) → TakesDrain old k i (Ok (Some (o, completion))) new → IsIn k (Place.EarlyDrain o i) new
     unfolding TakesDrain
-    draining_in o completion h = entered old (Some (o, completion)) new (Place.EarlyDrain o i) _ h (λ event. by_stopping (is_stopping_at (row_at old.stack i)) event.1)
+    draining_in o completion h = entered old (Some (o, completion)) new (Place.EarlyDrain o i) _ h
+        (λ event. by_stopping (is_stopping_at (row_at old.stack i)) event.1)
       where
         by_stopping : (b : Bool) → DrainsWhere b old k i (Some (o, completion)) new → new.workers ≡ put old.workers k (Place.EarlyDrain o i)
         by_stopping true d = ap (λ (w : World). w.workers) d.1
@@ -85,25 +90,31 @@ module _ (k : WorkerId) where
 
   -- ---- and comes out of it, with the event that ends it
 
-  comes_out : (a : Place) (old before new : World) (At : Option Place → Type 0) → standing_of before ≡ standing_of old → IsIn k a old → At (worker_at before.workers k)
+  comes_out : (a : Place) (old before new : World) (At : Option Place → Type 0) → standing_of before ≡ standing_of old → IsIn k a old
+      → At (worker_at before.workers k)
       → (At (Some a) → new.workers ≡ put before.workers k Place.Idle) → IsOut k new
   comes_out a old before new At far there h leaves =
       let still = in_still a old before far there in
       left a before new still (leaves (subst At still h))
 
   module _ (old new : World) (ended : Result (Unit {0}) Status) where
-    pub setup_out : (may : Bool → Type 0) (i : InstanceId) → IsIn k (Place.Setup i) old → EndsFrom old (λ before. SetsUpWith may k before ended new) → IsOut k new
+    pub setup_out : (may : Bool → Type 0) (i : InstanceId) → IsIn k (Place.Setup i) old
+        → EndsFrom old (λ before. SetsUpWith may k before ended new) → IsOut k new
     unfolding SetsUp
-    setup_out may i there (before, far, (accepts, answer, sets)) = comes_out (Place.Setup i) old before new (SetsUpAt before k accepts ended new) far there sets (λ at. ap (λ (w : World). w.workers) at.4)
+    setup_out may i there (before, far, (accepts, answer, sets)) =
+        comes_out (Place.Setup i) old before new (SetsUpAt before k accepts ended new) far there sets
+        (λ at. ap (λ (w : World). w.workers) at.4)
 
-    pub query_out : (may : Bool → Type 0) (i : InstanceId) → IsIn k (Place.Query i) old → EndsFrom old (λ before. QueriesWith may k before ended new) → IsOut k new
+    pub query_out : (may : Bool → Type 0) (i : InstanceId) → IsIn k (Place.Query i) old
+        → EndsFrom old (λ before. QueriesWith may k before ended new) → IsOut k new
     unfolding QueryReturns
     query_out may i there (before, far, (allows, answer, returns)) =
         comes_out (Place.Query i) old before new (QueryReturnsAt before k allows ended new) far there returns (λ at. ap (λ (w : World). w.workers) at.2)
 
     pub unload_out : (may : Bool → Type 0) (f : FilterId) → IsIn k (Place.Unload f) old → UnloadsWith may k old ended new → IsOut k new
     unfolding UnloadReturns
-    unload_out may f there (allows, answer, returns) = comes_out (Place.Unload f) old old new (UnloadReturnsAt old k allows ended new) refl there returns (λ at. ap (λ (w : World). w.workers) at.1)
+    unload_out may f there (allows, answer, returns) = comes_out (Place.Unload f) old old new (UnloadReturnsAt old k allows ended new)
+        refl there returns (λ at. ap (λ (w : World). w.workers) at.1)
 
     pub drained_out : (o : OpId) (i : InstanceId) → IsIn k (Place.EarlyDrain o i) old → EndsFrom old (λ before. DrainReturns before k ended new) → IsOut k new
     unfolding DrainReturns
@@ -113,17 +124,21 @@ module _ (k : WorkerId) where
     -- the callbacks of a teardown can't be refused their end
     pub start_ends : (i : InstanceId) → IsIn k (Place.Start i) old → StartReturns old k ended new → StartReturns old k (Ok tt) new
     unfolding StartReturns
-    start_ends i there h = subst (λ (r : Result (Unit {0}) Status). StartReturnsAt old k r new (worker_at old.workers k)) (subst (StartReturnsAt old k ended new) there h).0 h
+    start_ends i there h = subst (λ (r : Result (Unit {0}) Status). StartReturnsAt old k r new (worker_at old.workers k))
+        (subst (StartReturnsAt old k ended new) there h).0 h
 
     pub complete_ends : (i : InstanceId) → IsIn k (Place.Complete i) old → CompleteReturns old k ended new → CompleteReturns old k (Ok tt) new
     unfolding CompleteReturns
-    complete_ends i there h = subst (λ (r : Result (Unit {0}) Status). CompleteReturnsAt old k r new (worker_at old.workers k)) (subst (CompleteReturnsAt old k ended new) there h).0 h
+    complete_ends i there h = subst (λ (r : Result (Unit {0}) Status). CompleteReturnsAt old k r new (worker_at old.workers k))
+        (subst (CompleteReturnsAt old k ended new) there h).0 h
 
   pub start_out : (old new : World) (i : InstanceId) → IsIn k (Place.Start i) old → EndsFrom old (λ before. StartReturns before k (Ok tt) new) → IsOut k new
   unfolding StartReturns
-  start_out old new i there (before, far, returns) = comes_out (Place.Start i) old before new (StartReturnsAt before k (Ok tt) new) far there returns (λ at. ap (λ (w : World). w.workers) at.2)
+  start_out old new i there (before, far, returns) = comes_out (Place.Start i) old before new (StartReturnsAt before k (Ok tt) new) far
+      there returns (λ at. ap (λ (w : World). w.workers) at.2)
 
-  pub complete_out : (old new : World) (i : InstanceId) → IsIn k (Place.Complete i) old → EndsFrom old (λ before. CompleteReturns before k (Ok tt) new) → IsOut k new
+  pub complete_out : (old new : World) (i : InstanceId) → IsIn k (Place.Complete i) old
+      → EndsFrom old (λ before. CompleteReturns before k (Ok tt) new) → IsOut k new
   unfolding CompleteReturns
   complete_out old new i there (before, far, returns) =
       comes_out (Place.Complete i) old before new (CompleteReturnsAt before k (Ok tt) new) far there returns (λ at. ap (λ (w : World). w.workers) at.4)
@@ -131,59 +146,82 @@ module _ (k : WorkerId) where
   -- ---- callbacks of an operation, and the call of its file system
 
   -- data that is the operation's is taken back
-  back_fits : (w : World) (o : OpId) (lent back : Data) → is_on w o lent.received ≡ true → HandsBack lent back → told (λ r. data_fits r.operation r.path back) false o w.flow ≡ true
+  back_fits : (w : World) (o : OpId) (lent back : Data) → is_on w o lent.received ≡ true → HandsBack lent back
+      → told (λ r. data_fits r.operation r.path back) false o w.flow ≡ true
   back_fits w o lent back on hands = by_record (find (is_number o) w.flow.operations) on
     where
-      by_record : (m : Option FlowRecord) → unwrap_or (option_map (λ r. fit r.operation r.path lent.received) m) false ≡ true → unwrap_or (option_map (λ r. data_fits r.operation r.path back) m) false ≡ true
+      by_record : (m : Option FlowRecord) → unwrap_or (option_map (λ r. fit r.operation r.path lent.received) m) false ≡ true
+          → unwrap_or (option_map (λ r. data_fits r.operation r.path back) m) false ≡ true
       by_record None on = cc
       by_record (Some r) on = fits_back r.operation r.path lent.received back on hands.received hands.laws
 
   module _ (o : OpId) (i : InstanceId) (old before new : World) (far : standing_of before ≡ standing_of old) (ended : Result (Unit {0}) Status) where
-    pub pre_out : (lent back : Data) (given : PreVerdict) → IsIn k (Place.Pre o i) old × (is_on old o lent.received ≡ true) → HandsBack lent back → PreReturns before k given back ended new → IsOut k new
+    pub pre_out : (lent back : Data) (given : PreVerdict) → IsIn k (Place.Pre o i) old × (is_on old o lent.received ≡ true)
+        → HandsBack lent back → PreReturns before k given back ended new → IsOut k new
     unfolding PreReturns
     pre_out lent back given (there, on) hands h =
         let fits = back_fits before o lent back (on_still old before o lent.received far ∙ on) hands in
         comes_out (Place.Pre o i) old before new (PreReturnsAt before k given back ended new) far there h (λ at.
-        let over = subst (λ (b : Bool). Unless Status.BadRequest b ended before new ((ended ≡ Ok tt) × PreReturnsOver before k o (pre_step before k o i given back) (state_at before k o i given) new)) fits at in
+        let over = subst (λ (b : Bool). Unless Status.BadRequest b ended before new ((ended ≡ Ok tt)
+        × PreReturnsOver before k o (pre_step before k o i given back) (state_at before k o i given) new)) fits at in
         (by_links over.1.0 new over.1.2).workers ∙ ap (λ (w : World). w.workers) over.1.1.1)
 
-    pub post_out : (lent back : Data) (given : PostVerdict) → IsIn k (Place.Post o i) old × (is_on old o lent.received ≡ true) → HandsBack lent back → PostReturns before k given (Some back) ended new
+    pub post_out : (lent back : Data) (given : PostVerdict) → IsIn k (Place.Post o i) old × (is_on old o lent.received ≡ true)
+        → HandsBack lent back → PostReturns before k given (Some back) ended new
         → IsOut k new
     unfolding PostReturns
     post_out lent back given (there, on) hands h =
         let fits = back_fits before o lent back (on_still old before o lent.received far ∙ on) hands in
         comes_out (Place.Post o i) old before new (PostReturnsAt before k given (Some back) ended new) far there h (λ at.
-        let over = subst (λ (b : Bool). Unless Status.BadRequest b ended before new ((ended ≡ Ok tt) × ReturnsFrom before k o (post_returned_of given back) before.contexts new)) fits at in
+        let over = subst (λ (b : Bool). Unless Status.BadRequest b ended before new ((ended ≡ Ok tt)
+        × ReturnsFrom before k o (post_returned_of given back) before.contexts new)) fits at in
         ap (λ (w : World). w.workers) over.1.1)
 
     pub drain_out : (given : PostVerdict) → IsIn k (Place.Drain o i) old → PostReturns before k given None ended new → IsOut k new
     unfolding PostReturns
-    drain_out given there h = comes_out (Place.Drain o i) old before new (PostReturnsAt before k given None ended new) far there h (λ at. ap (λ (w : World). w.workers) at.1.1)
+    drain_out given there h = comes_out (Place.Drain o i) old before new (PostReturnsAt before k given None ended new) far there h
+        (λ at. ap (λ (w : World). w.workers) at.1.1)
 
-  call_fits_back : (w : World) (o : OpId) (call : BaseCall) (answer : Answer) → told (λ r. call_fits r.operation r.volume r.path call) false o w.flow ≡ true → length answer.bytes ≤ 32768
+  call_fits_back : (w : World) (o : OpId) (call : BaseCall) (answer : Answer)
+      → told (λ r. call_fits r.operation r.volume r.path call) false o w.flow ≡ true → length answer.bytes ≤ 32768
       → told (base_fits call answer) false o w.flow ≡ true
   call_fits_back w o call answer fits size = by_record (find (is_number o) w.flow.operations) fits
     where
-      by_record : (m : Option FlowRecord) → unwrap_or (option_map (λ r. call_fits r.operation r.volume r.path call) m) false ≡ true → unwrap_or (option_map (base_fits call answer) m) false ≡ true
+      by_record : (m : Option FlowRecord) → unwrap_or (option_map (λ r. call_fits r.operation r.volume r.path call) m) false ≡ true
+          → unwrap_or (option_map (base_fits call answer) m) false ≡ true
       by_record None fits = cc
       by_record (Some r) fits = call_answered r call answer fits size
 
   pub call_out : (o : OpId) (old new : World) (call : BaseCall) (answer : Answer) (ended : Result (Unit {0}) Status)
-      → IsIn k (Place.Base o) old × (told (λ r. call_fits r.operation r.volume r.path call) false o old.flow ≡ true) → length answer.bytes ≤ 32768 → BaseReturns old k call answer ended new → IsOut k new
+      → IsIn k (Place.Base o) old × (told (λ r. call_fits r.operation r.volume r.path call) false o old.flow ≡ true)
+      → length answer.bytes ≤ 32768 → BaseReturns old k call answer ended new → IsOut k new
   unfolding BaseReturns
   call_out o old new call answer ended (there, on) size h =
       let at : BaseReturnsAt old k call answer ended new (Some (Place.Base o)) = subst (BaseReturnsAt old k call answer ended new) there h in
-      let over = subst (λ (b : Bool). Unless Status.BadRequest b ended old new ((ended ≡ Ok tt) × LosesLinks (base_returned old k o call answer) new)) (call_fits_back old o call answer on size) at in
+      let over = subst (λ (b : Bool). Unless Status.BadRequest b ended old new ((ended ≡ Ok tt)
+      × LosesLinks (base_returned old k o call answer) new)) (call_fits_back old o call answer on size) at in
       left (Place.Base o) old new there (by_links (base_returned old k o call answer) new over.1).workers
 
   -- whatever was next, the worker is idle once it is done
-  module _ {F D : Type 0} (pre : F → Data → PreVerdict → Data → Type 0) (post : F → Data → Completion → PostVerdict → Data → Type 0) (drained : F → Completion → Type 0)
+  module _ {F D : Type 0} (pre : F → Data → PreVerdict → Data → Type 0) (post : F → Data → Completion → PostVerdict → Data
+      → Type 0) (drained : F → Completion → Type 0)
       (carries : D → BaseCall → Answer → D → Type 0) (filters : ℕ → Option F) where
-    pub makes_out : (o : OpId) (said : Result FlowAction Status) (mid : World) (d : D) (new : World) (e : D) → IsLent k o said mid → Makes pre post drained carries filters k o said mid d new e → IsOut k new
-    makes_out o (Ok (FlowAction.Pre i lent)) mid d new e is (verdict, back, result, may, hands, (before, far, event), same) = pre_out o i mid before new far result lent back verdict is hands event
+    pub makes_out : (o : OpId) (said : Result FlowAction Status) (mid : World) (d : D) (new : World) (e : D) → IsLent k o said mid
+        → Makes pre post drained carries filters k o said mid d new e → IsOut k new
+    makes_out o (Ok (FlowAction.Pre i lent)) mid d new e is (verdict, back, result, may, hands, (before, far, event), same) =
+        pre_out o i mid before new far result lent back verdict is hands event
     makes_out o (Ok (FlowAction.Base call)) mid d new e is (answer, result, carried, size, event) = call_out o mid new call answer result is size event
-    makes_out o (Ok (FlowAction.Post i lent completion)) mid d new e is (verdict, back, result, may, hands, (before, far, event), same) = post_out o i mid before new far result lent back verdict is hands event
-    makes_out o (Ok (FlowAction.Drain i completion)) mid d new e is (result, called, (before, far, event), same) = drain_out o i mid before new far result Finished is event
+    makes_out o (Ok (FlowAction.Post i lent completion)) mid d new e is (
+      verdict,
+      back,
+      result,
+      may,
+      hands,
+      (before, far, event),
+      same,
+    ) = post_out o i mid before new far result lent back verdict is hands event
+    makes_out o (Ok (FlowAction.Drain i completion)) mid d new e is (result, called, (before, far, event), same) =
+        drain_out o i mid before new far result Finished is event
     makes_out o (Ok FlowAction.Moved) mid d new e is (same, bases) = same_out mid new same is
     makes_out o (Ok FlowAction.Held) mid d new e is (same, bases) = same_out mid new same is
     makes_out o (Ok FlowAction.Done) mid d new e is (same, bases) = same_out mid new same is
@@ -191,7 +229,8 @@ module _ (k : WorkerId) where
 
   -- ---- events that move no worker
 
-  pub registered_out : (old : World) (name : List ℕ) (registration : Registration) (result : Result FilterId Status) (new : World) → Registers old name registration result new → StaysOut k old new
+  pub registered_out : (old : World) (name : List ℕ) (registration : Registration) (result : Result FilterId Status) (new : World)
+      → Registers old name registration result new → StaysOut k old new
   unfolding Registers
   registered_out old name registration result new h = still_out old new (ap (λ (w : World). w.workers) h.1)
 
@@ -236,7 +275,8 @@ module _ (k : WorkerId) where
 
 -- ---- where all filters are plain a callback calls nothing
 
-pub quiet_in : {F : Type 0} (pre : F → Data → PreVerdict → Data → Type 0) (post : F → Data → Completion → PostVerdict → Data → Type 0) (is_quiet : F → Type 0) (filters : ℕ → Option F)
+pub quiet_in : {F : Type 0} (pre : F → Data → PreVerdict → Data → Type 0) (post : F → Data → Completion → PostVerdict → Data
+    → Type 0) (is_quiet : F → Type 0) (filters : ℕ → Option F)
     (s : StackWorld) (i : InstanceId) → ArePlainFilters pre post is_quiet filters → IsQuietIn is_quiet (filter_in filters s i.0)
 quiet_in {F} pre post is_quiet filters s i plain = by_row (slice_get s.instances i.0)
   where

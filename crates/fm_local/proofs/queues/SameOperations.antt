@@ -30,7 +30,8 @@ module _ (old new : World) where
 
   -- ---- filters, volumes and instances
 
-  pub registered : (name : List ℕ) (registration : Registration) (result : Result FilterId Status) → Registers old name registration result new → Unmoved old new
+  pub registered : (name : List ℕ) (registration : Registration) (result : Result FilterId Status)
+      → Registers old name registration result new → Unmoved old new
   unfolding Registers
   registered name registration result h = ap flow_of h.1
 
@@ -60,7 +61,8 @@ module _ (old new : World) where
 
   pub handle_dropped : (v : VolumeId) (result : Result (Option HandleId) Status) → DropsHandle old v result new → Unmoved old new
   unfolding DropsHandle
-  handle_dropped v result h = answers_by (After (Option HandleId)) _ result old new _ h (λ why. refl) (λ answer none event. by_lowest answer (lowest_on v old.files) event)
+  handle_dropped v result h = answers_by (After (Option HandleId)) _ result old new _ h (λ why. refl)
+      (λ answer none event. by_lowest answer (lowest_on v old.files) event)
     where
       by_lowest : (answer : Option HandleId) (m : Option FileHandle) → Drops old answer new m → Unmoved old new
       by_lowest answer None h = ap flow_of h.1
@@ -75,7 +77,8 @@ module _ (old new : World) where
   volume_finished v result h = ap flow_of h.1
 
   module _ (k : WorkerId) where
-    pub attached : (f : FilterId) (v : VolumeId) (name altitude : List ℕ) (result : Result InstanceId Status) → Attaches old k f v name altitude result new → Unmoved old new
+    pub attached : (f : FilterId) (v : VolumeId) (name altitude : List ℕ) (result : Result InstanceId Status)
+        → Attaches old k f v name altitude result new → Unmoved old new
     unfolding Attaches
     attached f v name altitude result h = idle_by (After InstanceId) k result old new _ h (λ why. refl) (λ idle event. ap flow_of event.1)
 

@@ -42,7 +42,8 @@ map_changed {B = B} f p to (x ∷ xs) same = elim (cases_Bool (p x)) [
 ]
 
 -- what is settled drains what it drained
-pub drained_same : (f : Entry → Entry) → ((e : Entry) → drain_of (f e) ≡ drain_of e) → (es : List Entry) → filter_map drain_of (map f es) ≡ filter_map drain_of es
+pub drained_same : (f : Entry → Entry) → ((e : Entry) → drain_of (f e) ≡ drain_of e) → (es : List Entry)
+    → filter_map drain_of (map f es) ≡ filter_map drain_of es
 drained_same f same [] = refl
 drained_same f same (e ∷ es) = ap₂ (λ m js. cons_option m js) (same e) (drained_same f same es)
 
@@ -79,12 +80,14 @@ let_go r not between = ap₂ (λ a b. not' a && b) not between
     not' true = false
     not' false = true
 
-leads_between : (hand : List CtxId) (given : PreVerdict) (operation : Operation) (has : Bool) → lets_go given ≡ true → is_between (pre_leads (verdict_counted (of_hand hand given) operation has)) ≡ true
+leads_between : (hand : List CtxId) (given : PreVerdict) (operation : Operation) (has : Bool) → lets_go given ≡ true
+    → is_between (pre_leads (verdict_counted (of_hand hand given) operation has)) ≡ true
 leads_between hand given operation has h = grind arith
 
 -- it stands with those that wait as before
 goes_on : (old : World) (o : OpId) (r : FlowRecord) (f : FlowRecord → FlowRecord) (resumed : List OpId) → operation_at o old.flow ≡ Some r → is_loose r ≡ false
-    → ((x : FlowRecord) → (f x).number.0 ≡ x.number.0) → ((x : FlowRecord) → shape_of (f x) ≡ shape_of x) → is_loose (f r) ≡ true → (c : ContextTable) (files : FileTable)
+    → ((x : FlowRecord) → (f x).number.0 ≡ x.number.0) → ((x : FlowRecord) → shape_of (f x) ≡ shape_of x) → is_loose (f r) ≡ true
+    → (c : ContextTable) (files : FileTable)
     → standing_with (resumed ++ o ∷ []) (record old { flow = changed o f old.flow; contexts = c; files = files }) ≡ standing_with resumed old
 goes_on old o r f resumed at busy same shaped loose c files =
     ap₂ (λ waiting shapes. record { stack = old.stack; workers = old.workers; operations = waiting ∷ shapes })
@@ -101,35 +104,43 @@ module _ (old : World) (k : WorkerId) (new : World) where
 
   pub allocate_stands : (kind : ContextKind) (body : List ℕ) (result : Result CtxId Status) → Allocates old k kind body result new → Stands old new
   unfolding Allocates
-  allocate_stands kind body result h = taken_by (After CtxId) old k result new _ _ h (λ why resumed. refl) (λ at in' v none event resumed. ap (standing_with resumed) event.1)
+  allocate_stands kind body result h = taken_by (After CtxId) old k result new _ _ h (λ why resumed. refl)
+      (λ at in' v none event resumed. ap (standing_with resumed) event.1)
 
   pub get_stands : (kind : ContextKind) (result : Result CtxId Status) → Gets old k kind result new → Stands old new
   unfolding Gets
-  get_stands kind result h = asked_by (After CtxId) old k result new _ _ h (λ why resumed. refl) (λ at in' v none event resumed. ap (standing_with resumed) event.1)
+  get_stands kind result h = asked_by (After CtxId) old k result new _ _ h (λ why resumed. refl)
+      (λ at in' v none event resumed. ap (standing_with resumed) event.1)
 
   pub delete_stands : (kind : ContextKind) (wants : Bool) (result : Result (Option CtxId) Status) → Deletes old k kind wants result new → Stands old new
   unfolding Deletes
-  delete_stands kind wants result h = asked_by (After (Option CtxId)) old k result new _ _ h (λ why resumed. refl) (λ at in' v none event resumed. ap (standing_with resumed) event.1)
+  delete_stands kind wants result h = asked_by (After (Option CtxId)) old k result new _ _ h (λ why resumed. refl)
+      (λ at in' v none event resumed. ap (standing_with resumed) event.1)
 
   pub reference_stands : (c : CtxId) (result : Result (Unit {0}) Status) → References old k c result new → Stands old new
   unfolding References
-  reference_stands c result h = asked_by (After (Unit {0})) old k result new _ _ h (λ why resumed. refl) (λ at in' v none event resumed. ap (standing_with resumed) event)
+  reference_stands c result h = asked_by (After (Unit {0})) old k result new _ _ h (λ why resumed. refl)
+      (λ at in' v none event resumed. ap (standing_with resumed) event)
 
   pub release_stands : (c : CtxId) (result : Result (Unit {0}) Status) → Releases old k c result new → Stands old new
   unfolding Releases
-  release_stands c result h = asked_by (After (Unit {0})) old k result new _ _ h (λ why resumed. refl) (λ at in' v none event resumed. ap (standing_with resumed) event)
+  release_stands c result h = asked_by (After (Unit {0})) old k result new _ _ h (λ why resumed. refl)
+      (λ at in' v none event resumed. ap (standing_with resumed) event)
 
   pub read_stands : (c : CtxId) (result : Result (List ℕ) Status) → ReadsBody old k c result new → Stands old new
   unfolding ReadsBody
-  read_stands c result h = taken_by (After (List ℕ)) old k result new _ _ h (λ why resumed. refl) (λ at in' v none event resumed. ap (standing_with resumed) event.1)
+  read_stands c result h = taken_by (After (List ℕ)) old k result new _ _ h (λ why resumed. refl)
+      (λ at in' v none event resumed. ap (standing_with resumed) event.1)
 
   pub write_stands : (c : CtxId) (bytes : List ℕ) (result : Result (Unit {0}) Status) → WritesBody old k c bytes result new → Stands old new
   unfolding WritesBody
-  write_stands c bytes result h = asked_by (After (Unit {0})) old k result new _ _ h (λ why resumed. refl) (λ at in' v none event resumed. ap (standing_with resumed) event)
+  write_stands c bytes result h = asked_by (After (Unit {0})) old k result new _ _ h (λ why resumed. refl)
+      (λ at in' v none event resumed. ap (standing_with resumed) event)
 
   pub bump_stands : (c : CtxId) (place by : ℕ) (result : Result ℕ Status) → Bumps old k c place by result new → Stands old new
   unfolding Bumps
-  bump_stands c place by result h = asked_by (After ℕ) old k result new _ _ h (λ why resumed. refl) (λ at in' v none event resumed. ap (standing_with resumed) event.1)
+  bump_stands c place by result h = asked_by (After ℕ) old k result new _ _ h (λ why resumed. refl)
+      (λ at in' v none event resumed. ap (standing_with resumed) event.1)
 
   pub set_stands : (c : CtxId) (mode : SetMode) (wants : Bool) (result : SetAnswer) → Sets old k c mode wants result new → Stands old new
   unfolding Sets
@@ -163,8 +174,10 @@ module _ (old : World) (k : WorkerId) (new : World) where
   unfolding ResumesPre
   resume_pre_stands o given result sound h resumed = by_place (place_in (worker_at old.workers k)) result h
     where
-      by_place : (m : Option InstanceId) (result : Result (Unit {0}) Status) → ResumesPreAt old k o given result new m → standing_with (queued o result resumed) new ≡ standing_with resumed old
-      by_place None result h = subst (λ (r : Result (Unit {0}) Status). standing_with (queued o r resumed) new ≡ standing_with resumed old) (sym h.0) (ap (standing_with resumed) h.1)
+      by_place : (m : Option InstanceId) (result : Result (Unit {0}) Status) → ResumesPreAt old k o given result new m
+          → standing_with (queued o result resumed) new ≡ standing_with resumed old
+      by_place None result h = subst (λ (r : Result (Unit {0}) Status). standing_with (queued o r resumed) new
+          ≡ standing_with resumed old) (sym h.0) (ap (standing_with resumed) h.1)
       by_place (Some i) (Err why) h = ap (standing_with resumed) h.1
       by_place (Some i) (Ok done) h =
           let free = granted (lets_go given) (is_held_by old Hold.Pre o i) Status.BadRequest Status.NotPended h.0 in
@@ -173,18 +186,22 @@ module _ (old : World) (k : WorkerId) (new : World) where
           let state = state_at old k o i given in
           let leads : is_between (pre_leads state) ≡ true =
           ap (λ s. is_between (pre_leads s)) (told_there (state_given old.stack (hand_of old.contexts.hands k.0) i given) PreState.Passed o old.flow x.row x.at)
-          ∙ leads_between (hand_of old.contexts.hands k.0) given x.row.operation (has_post old.stack (slice_get old.stack.instances i.0) x.row.operation) free.0 in
+          ∙ leads_between (hand_of old.contexts.hands k.0) given x.row.operation
+          (has_post old.stack (slice_get old.stack.instances i.0) x.row.operation) free.0 in
           ap (standing_with (resumed ++ o ∷ [])) h.1.1
           ∙ goes_on old o x.row (pre_settled state) resumed x.at (busy_at Stage.PreHeld x.row at refl) (λ r. refl) (pre_shaped state)
-          (let_go (pre_settled state x.row) (uncollected x.row Stage.PreHeld x.sound at refl) leads) new.contexts (filed_pre old o (changed o (pre_settled state) old.flow) state)
+          (let_go (pre_settled state x.row) (uncollected x.row Stage.PreHeld x.sound at refl) leads) new.contexts
+          (filed_pre old o (changed o (pre_settled state) old.flow) state)
 
   pub resume_post_stands : (o : OpId) (result : Result (Unit {0}) Status) → IsSound old → ResumesPost old k o result new
       → (resumed : List OpId) → standing_with (queued o result resumed) new ≡ standing_with resumed old
   unfolding ResumesPost
   resume_post_stands o result sound h resumed = by_place (place_in (worker_at old.workers k)) result h
     where
-      by_place : (m : Option InstanceId) (result : Result (Unit {0}) Status) → ResumesPostAt old o result new m → standing_with (queued o result resumed) new ≡ standing_with resumed old
-      by_place None result h = subst (λ (r : Result (Unit {0}) Status). standing_with (queued o r resumed) new ≡ standing_with resumed old) (sym h.0) (ap (standing_with resumed) h.1)
+      by_place : (m : Option InstanceId) (result : Result (Unit {0}) Status) → ResumesPostAt old o result new m
+          → standing_with (queued o result resumed) new ≡ standing_with resumed old
+      by_place None result h = subst (λ (r : Result (Unit {0}) Status). standing_with (queued o r resumed) new
+          ≡ standing_with resumed old) (sym h.0) (ap (standing_with resumed) h.1)
       by_place (Some i) (Err why) h = ap (standing_with resumed) h.1
       by_place (Some i) (Ok done) h =
           let x = held_by old Hold.Post o i sound.under_way (alone_granted (is_held_by old Hold.Post o i) Status.NotPended h.0) in

@@ -45,28 +45,33 @@ not_loose_among : (t : FlowTable) (o : OpId) → told is_loose false o t ≡ fal
 not_loose_among t o busy [] h = refl
 not_loose_among t o busy (x ∷ os) h =
     let k = parts (told is_loose false x t) (are_loose t os) h in
-    neither (x.0 == o.0) (is_among o os) (by_number (λ q. told is_loose false q t ≡ true → (q.0 == o.0) ≡ false) o x (λ loose. absurd (true≢false (sym loose ∙ busy))) (λ other loose. other) k.0)
+    neither (x.0 == o.0) (is_among o os) (by_number (λ q. told is_loose false q t ≡ true → (q.0 == o.0) ≡ false) o x
+    (λ loose. absurd (true≢false (sym loose ∙ busy))) (λ other loose. other) k.0)
     (not_loose_among t o busy os k.1)
 
 not_ended_among : (t : FlowTable) (o : OpId) → told is_loose false o t ≡ false → (os : List OpId) → All (IsEnded t) os → is_among o os ≡ false
 not_ended_among t o busy [] h = refl
 not_ended_among t o busy (x ∷ os) h =
     neither (x.0 == o.0) (is_among o os)
-    (by_number (λ q. IsLoose t q → (q.0 == o.0) ≡ false) o x (λ loose. absurd (true≢false (sym loose ∙ busy))) (λ other loose. other) (ended_is_loose t x (All-head (IsEnded t) x os h)))
+    (by_number (λ q. IsLoose t q → (q.0 == o.0) ≡ false) o x (λ loose. absurd (true≢false (sym loose ∙ busy))) (λ other loose. other)
+    (ended_is_loose t x (All-head (IsEnded t) x os h)))
     (not_ended_among t o busy os (All-tail (IsEnded t) x os h))
 
 -- an operation that somebody is inside of, or that a filter holds, doesn't wait
-pub busy_apart : (t : FlowTable) (resumed ended : List OpId) (o : OpId) → told is_loose false o t ≡ false → Wait t resumed ended → (is_among o resumed ≡ false) × (is_among o ended ≡ false)
+pub busy_apart : (t : FlowTable) (resumed ended : List OpId) (o : OpId) → told is_loose false o t ≡ false → Wait t resumed ended
+    → (is_among o resumed ≡ false) × (is_among o ended ≡ false)
 busy_apart t resumed ended o busy h =
     (not_loose_among t o busy resumed (parts (are_loose t resumed) (are_apart resumed) h.going).0, not_ended_among t o busy ended h.done)
 
 -- ---- an event comes
 
-loose_still : (t u : FlowTable) (os : List OpId) → ((p : OpId) → is_among p os ≡ true → IsLoose t p → IsLoose u p) → are_loose t os ≡ true → are_loose u os ≡ true
+loose_still : (t u : FlowTable) (os : List OpId) → ((p : OpId) → is_among p os ≡ true → IsLoose t p → IsLoose u p)
+    → are_loose t os ≡ true → are_loose u os ≡ true
 loose_still t u [] stays h = refl
 loose_still t u (x ∷ os) stays h =
     let k = parts (told is_loose false x t) (are_loose t os) h in
-    both (told is_loose false x u) (are_loose u os) (stays x (ap (λ b. b || is_among x os) (eq-eqb' x.0)) k.0) (loose_still t u os (λ p among. stays p (later (x.0 == p.0) (is_among p os) among)) k.1)
+    both (told is_loose false x u) (are_loose u os) (stays x (ap (λ b. b || is_among x os) (eq-eqb' x.0)) k.0)
+    (loose_still t u os (λ p among. stays p (later (x.0 == p.0) (is_among p os) among)) k.1)
   where
     later : (a b : Bool) → b ≡ true → a || b ≡ true
     later a b h = grind arith
@@ -98,7 +103,8 @@ waits_on t u resumed ended stays h =
     }
 
 -- or of one operation that doesn't wait
-pub others_wait : (t u : FlowTable) (resumed ended : List OpId) (o : OpId) → ((p : OpId) → (p.0 == o.0) ≡ false → Stays p t u) → is_among o resumed ≡ false → is_among o ended ≡ false
+pub others_wait : (t u : FlowTable) (resumed ended : List OpId) (o : OpId) → ((p : OpId) → (p.0 == o.0) ≡ false → Stays p t u)
+    → is_among o resumed ≡ false → is_among o ended ≡ false
     → Wait t resumed ended → Wait u resumed ended
 others_wait t u resumed ended o stays going done h =
     let k = parts (are_loose t resumed) (are_apart resumed) h.going in
@@ -110,12 +116,14 @@ others_wait t u resumed ended o stays going done h =
     }
   where
     another : (os : List OpId) → is_among o os ≡ false → (p : OpId) → is_among p os ≡ true → (p.0 == o.0) ≡ false
-    another os none p among = by_number (λ q. is_among q os ≡ true → (q.0 == o.0) ≡ false) o p (λ is. absurd (true≢false (sym is ∙ none))) (λ other is. other) among
+    another os none p among = by_number (λ q. is_among q os ≡ true → (q.0 == o.0) ≡ false) o p
+        (λ is. absurd (true≢false (sym is ∙ none))) (λ other is. other) among
 
 -- ---- one comes, and one goes
 
 -- the first of those that are to go on
-pub taken : (t : FlowTable) (o : OpId) (resumed ended : List OpId) → Wait t (o ∷ resumed) ended → Wait t resumed ended × (is_among o resumed ≡ false) × (is_among o ended ≡ false)
+pub taken : (t : FlowTable) (o : OpId) (resumed ended : List OpId) → Wait t (o ∷ resumed) ended → Wait t resumed ended
+    × (is_among o resumed ≡ false) × (is_among o ended ≡ false)
 taken t o resumed ended h =
     let k = parts (are_loose t (o ∷ resumed)) (are_apart (o ∷ resumed)) h.going in
     let loose = parts (told is_loose false o t) (are_loose t resumed) k.0 in
@@ -123,7 +131,8 @@ taken t o resumed ended h =
       record {
         going = both (are_loose t resumed) (are_apart resumed) loose.1 apart.1;
         done = h.done;
-        others = All-weaker (λ (p : OpId). is_among p (o ∷ resumed) ≡ false) (λ (p : OpId). is_among p resumed ≡ false) (λ p none. (none_of (o.0 == p.0) (is_among p resumed) none).1) ended h.others;
+        others = All-weaker (λ (p : OpId). is_among p (o ∷ resumed) ≡ false) (λ (p : OpId). is_among p resumed ≡ false)
+            (λ p none. (none_of (o.0 == p.0) (is_among p resumed) none).1) ended h.others;
         once = h.once;
       },
       untrue (is_among o resumed) apart.0,
@@ -154,7 +163,8 @@ apart_push (x ∷ os) o none h =
     last a b h = grind (arith, nat_tests)
 
 -- one that ended, behind the others
-pub ended_more : (t : FlowTable) (o : OpId) (resumed ended : List OpId) → IsEnded t o → is_among o resumed ≡ false → is_among o ended ≡ false → Wait t resumed ended → Wait t resumed (ended ++ o ∷ [])
+pub ended_more : (t : FlowTable) (o : OpId) (resumed ended : List OpId) → IsEnded t o → is_among o resumed ≡ false
+    → is_among o ended ≡ false → Wait t resumed ended → Wait t resumed (ended ++ o ∷ [])
 ended_more t o resumed ended is going done h = record {
   going = h.going;
   done = All-push (IsEnded t) ended o h.done is;
@@ -184,9 +194,11 @@ below_next t o below h = by_found (operation_at o t) refl h
     by_found : (m : Option FlowRecord) → operation_at o t ≡ m → unwrap_or (option_map is_loose m) false ≡ true → o.0 < t.next
     by_found None at h = cc
     by_found (Some r) at h =
-        subst (λ n. n < t.next) (same_number r.number.0 o.0 (found_passes (is_number o) t.operations r at)) (found_holds (λ (x : FlowRecord). x.number.0 < t.next) (is_number o) t.operations r below at)
+        subst (λ n. n < t.next) (same_number r.number.0 o.0 (found_passes (is_number o) t.operations r at))
+        (found_holds (λ (x : FlowRecord). x.number.0 < t.next) (is_number o) t.operations r below at)
 
-pub new_apart : (t : FlowTable) (resumed ended : List OpId) (o : OpId) → IsFlow t → o.0 ≡ t.next → Wait t resumed ended → (is_among o resumed ≡ false) × (is_among o ended ≡ false)
+pub new_apart : (t : FlowTable) (resumed ended : List OpId) (o : OpId) → IsFlow t → o.0 ≡ t.next → Wait t resumed ended
+    → (is_among o resumed ≡ false) × (is_among o ended ≡ false)
 new_apart t resumed ended o flow is h = busy_apart t resumed ended o (not_there (told is_loose false o t) refl) h
   where
     not_there : (b : Bool) → told is_loose false o t ≡ b → told is_loose false o t ≡ false
@@ -195,7 +207,8 @@ new_apart t resumed ended o flow is h = busy_apart t resumed ended o (not_there 
 
 -- ---- one that was held goes on
 
-module _ (t : FlowTable) (o : OpId) (r : FlowRecord) (f : FlowRecord → FlowRecord) (resumed : List OpId) (at : operation_at o t ≡ Some r) (busy : is_loose r ≡ false)
+module _ (t : FlowTable) (o : OpId) (r : FlowRecord) (f : FlowRecord → FlowRecord) (resumed : List OpId) (at : operation_at o t
+    ≡ Some r) (busy : is_loose r ≡ false)
     (same : (x : FlowRecord) → (f x).number.0 ≡ x.number.0) (loose : is_loose (f r) ≡ true) where
   abbrev after : FlowTable
   after = changed o f t
@@ -207,7 +220,8 @@ module _ (t : FlowTable) (o : OpId) (r : FlowRecord) (f : FlowRecord → FlowRec
   held = ap (λ m. unwrap_or (option_map is_loose m) false) at ∙ busy
 
   goes : told is_loose false o after ≡ true
-  goes = ap (λ m. unwrap_or (option_map is_loose m) false) (find_changed (is_number o) f t.operations (λ x. ap (λ n. n == o.0) (same x)) ∙ ap (option_map f) at) ∙ loose
+  goes = ap (λ m. unwrap_or (option_map is_loose m) false)
+      (find_changed (is_number o) f t.operations (λ x. ap (λ n. n == o.0) (same x)) ∙ ap (option_map f) at) ∙ loose
 
   last : (a b : ℕ) (c : Bool) → (a == b) ≡ false → c || ((b == a) || false) ≡ c
   last a b c h = grind (arith, nat_tests)
@@ -221,9 +235,11 @@ module _ (t : FlowTable) (o : OpId) (r : FlowRecord) (f : FlowRecord → FlowRec
   -- whether one has ended and isn't to go on
   left_same : (n : ℕ) → is_left after (resumed ++ o ∷ []) n ≡ is_left t resumed n
   left_same n = by_number (λ q. is_left after (resumed ++ o ∷ []) q.0 ≡ is_left t resumed q.0) o (record { 0 = n })
-      (ap (λ b. told is_collectable false o after && not b) (list_any-append (λ (q : OpId). q.0 == o.0) resumed (o ∷ []) ∙ own o.0 (is_among o resumed)) ∙ never (told is_collectable false o after)
+      (ap (λ b. told is_collectable false o after && not b) (list_any-append (λ (q : OpId). q.0 == o.0) resumed (o ∷ [])
+      ∙ own o.0 (is_among o resumed)) ∙ never (told is_collectable false o after)
       ∙ sym (ap (λ b. b && not (is_among o resumed)) not_ended))
-      (λ differ. ap₂ (λ m b. unwrap_or (option_map is_collectable m) false && not b) (others (record { 0 = n }) differ) (queued_among (record { 0 = n }) differ))
+      (λ differ. ap₂ (λ m b. unwrap_or (option_map is_collectable m) false && not b) (others (record { 0 = n }) differ)
+      (queued_among (record { 0 = n }) differ))
     where
       never : (b : Bool) → b && false ≡ false
       never true = refl
@@ -254,21 +270,24 @@ module _ (t : FlowTable) (o : OpId) (r : FlowRecord) (f : FlowRecord → FlowRec
   apart_first (x ∷ os) h =
       let k = parts (not (is_among x (os ++ o ∷ []))) (are_apart (os ++ o ∷ [])) h in
       let rest = apart_first os k.1 in
-      let n = none_of (is_among x os) ((o.0 == x.0) || false) (sym (list_any-append (λ (q : OpId). q.0 == x.0) os (o ∷ [])) ∙ untrue (is_among x (os ++ o ∷ [])) k.0) in
+      let n = none_of (is_among x os) ((o.0 == x.0) || false) (sym (list_any-append (λ (q : OpId). q.0 == x.0) os (o ∷ []))
+      ∙ untrue (is_among x (os ++ o ∷ [])) k.0) in
       (both (not (is_among x os)) (are_apart os) (turned (is_among x os) n.0) rest.0, neither (x.0 == o.0) (is_among o os) (swapped o.0 x.0 n.1) rest.1)
     where
       swapped : (a b : ℕ) → (a == b) || false ≡ false → (b == a) ≡ false
       swapped a b h = grind (arith, nat_tests)
 
   among_other : (os : List OpId) → is_among o os ≡ false → (p : OpId) → is_among p os ≡ true → (p.0 == o.0) ≡ false
-  among_other os none p among = by_number (λ q. is_among q os ≡ true → (q.0 == o.0) ≡ false) o p (λ is. absurd (true≢false (sym is ∙ none))) (λ other is. other) among
+  among_other os none p among = by_number (λ q. is_among q os ≡ true → (q.0 == o.0) ≡ false) o p
+      (λ is. absurd (true≢false (sym is ∙ none))) (λ other is. other) among
 
   goes_once : go_on_once t resumed ≡ true → go_on_once after (resumed ++ o ∷ []) ≡ true
   goes_once h =
       let k = parts (are_loose t resumed) (are_apart resumed) h in
       let none = not_loose_among t o held resumed k.0 in
       both (are_loose after (resumed ++ o ∷ [])) (are_apart (resumed ++ o ∷ []))
-      (loose_all resumed (loose_still t after resumed (λ p among is. ap (λ m. unwrap_or (option_map is_loose m) false) (others p (among_other resumed none p among)) ∙ is) k.0) goes)
+      (loose_all resumed (loose_still t after resumed (λ p among is. ap (λ m. unwrap_or (option_map is_loose m) false)
+      (others p (among_other resumed none p among)) ∙ is) k.0) goes)
       (apart_push resumed o none k.1)
 
   went_once : go_on_once after (resumed ++ o ∷ []) ≡ true → go_on_once t resumed ≡ true
@@ -276,7 +295,8 @@ module _ (t : FlowTable) (o : OpId) (r : FlowRecord) (f : FlowRecord → FlowRec
       let k = parts (are_loose after (resumed ++ o ∷ [])) (are_apart (resumed ++ o ∷ [])) h in
       let apart = apart_first resumed k.1 in
       both (are_loose t resumed) (are_apart resumed)
-      (loose_still after t resumed (λ p among is. ap (λ m. unwrap_or (option_map is_loose m) false) (sym (others p (among_other resumed apart.1 p among))) ∙ is) (loose_first resumed k.0)) apart.0
+      (loose_still after t resumed (λ p among is. ap (λ m. unwrap_or (option_map is_loose m) false)
+      (sym (others p (among_other resumed apart.1 p among))) ∙ is) (loose_first resumed k.0)) apart.0
 
   equal : (a b : Bool) → (a ≡ true → b ≡ true) → (b ≡ true → a ≡ true) → a ≡ b
   equal a b h g = grind arith
@@ -330,7 +350,8 @@ module _ (test : ℕ → Bool) where
     | inr e ↦ passed_in n ns (rw e at h)
   ]
 
-found_in : (o : OpId) (rs : List FlowRecord) → unwrap_or (option_map is_collectable (find (is_number o) rs)) false ≡ true → list_any (λ m. m == o.0) (map (λ (x : FlowRecord). x.number.0) rs) ≡ true
+found_in : (o : OpId) (rs : List FlowRecord) → unwrap_or (option_map is_collectable (find (is_number o) rs)) false ≡ true
+    → list_any (λ m. m == o.0) (map (λ (x : FlowRecord). x.number.0) rs) ≡ true
 found_in o [] h = h
 found_in o (x ∷ rs) h = elim (cases_Bool (x.number.0 == o.0)) [
   | inl e ↦ ap (λ b. b || list_any (λ m. m == o.0) (map (λ (y : FlowRecord). y.number.0) rs)) e
@@ -338,7 +359,8 @@ found_in o (x ∷ rs) h = elim (cases_Bool (x.number.0 == o.0)) [
 ]
 
 -- what stands with those that wait says that they wait
-pub waits_standing : (old new : World) (resumed after ended : List OpId) → standing_with after new ≡ standing_with resumed old → Wait old.flow resumed ended → Wait new.flow after ended
+pub waits_standing : (old new : World) (resumed after ended : List OpId) → standing_with after new ≡ standing_with resumed old
+    → Wait old.flow resumed ended → Wait new.flow after ended
 waits_standing old new resumed after ended same h = record {
   going = once (go_on_once new.flow after) (go_on_once old.flow resumed) (ap path_of same) h.going;
   done = ended_all ended h.done h.others;
@@ -362,9 +384,12 @@ waits_standing old new resumed after ended same h = record {
 
     still : (o : OpId) → IsEnded old.flow o → is_among o resumed ≡ false → (IsEnded new.flow o) × (is_among o after ≡ false)
     still o ended going =
-        let was : is_left old.flow resumed o.0 ≡ true = both (told is_collectable false o old.flow) (not (is_among o resumed)) ended (turned (is_among o resumed) going) in
-        let there = kept_in (is_left old.flow resumed) o.0 (map (λ (x : FlowRecord). x.number.0) old.flow.operations) (found_in o old.flow.operations ended) was in
-        let is = passed_in (is_left new.flow after) o.0 (map (λ (x : FlowRecord). x.number.0) new.flow.operations) (subst (λ ns. list_any (λ m. m == o.0) ns ≡ true) (sym (ap drained_of same)) there) in
+        let was : is_left old.flow resumed o.0 ≡ true = both (told is_collectable false o old.flow) (not (is_among o resumed)) ended
+        (turned (is_among o resumed) going) in
+        let there = kept_in (is_left old.flow resumed) o.0 (map (λ (x : FlowRecord). x.number.0) old.flow.operations)
+        (found_in o old.flow.operations ended) was in
+        let is = passed_in (is_left new.flow after) o.0 (map (λ (x : FlowRecord). x.number.0) new.flow.operations)
+        (subst (λ ns. list_any (λ m. m == o.0) ns ≡ true) (sym (ap drained_of same)) there) in
         let k = parts (told is_collectable false o new.flow) (not (is_among o after)) is in
         (k.0, untrue (is_among o after) k.1)
 
@@ -377,7 +402,8 @@ waits_standing old new resumed after ended same h = record {
     others_all : (os : List OpId) → All (IsEnded old.flow) os → All (λ o. is_among o resumed ≡ false) os → All (λ o. is_among o after ≡ false) os
     others_all [] h g = All-nil (λ (p : OpId). is_among p after ≡ false)
     others_all (o ∷ os) h g =
-        All-cons (λ (p : OpId). is_among p after ≡ false) o os (still o (All-head (IsEnded old.flow) o os h) (All-head (λ (p : OpId). is_among p resumed ≡ false) o os g)).1
+        All-cons (λ (p : OpId). is_among p after ≡ false) o os
+        (still o (All-head (IsEnded old.flow) o os h) (All-head (λ (p : OpId). is_among p resumed ≡ false) o os g)).1
         (others_all os (All-tail (IsEnded old.flow) o os h) (All-tail (λ (p : OpId). is_among p resumed ≡ false) o os g))
 
 -- and that all else stands

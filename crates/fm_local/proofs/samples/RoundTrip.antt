@@ -42,15 +42,19 @@ length-raised_by [] bytes = refl
 length-raised_by (i ∷ is) bytes = length-raised_by is (raised bytes) ∙ length-map bytes raised_byte
 
 -- the base's answer to a read or a write is known where no handle is open, and that is no success
-known_read : (files : FileTable) (s : Option StreamId) (h : Option HandleId) → (known_at files empty_table Operation.Read s h ≡ None) ⊎ (known_at files empty_table Operation.Read s h ≡ Some NoHandle)
+known_read : (files : FileTable) (s : Option StreamId) (h : Option HandleId) → (known_at files empty_table Operation.Read s h ≡ None)
+    ⊎ (known_at files empty_table Operation.Read s h ≡ Some NoHandle)
 known_read files None h = inl refl
 known_read files (Some s) None = inl refl
-known_read files (Some s) (Some h) = elim (is_none (handle_at h files)) as (λ b. (cond b (Some NoHandle) None ≡ None) ⊎ (cond b (Some NoHandle) None ≡ Some NoHandle)) [ true ↦ inr refl | false ↦ inl refl ]
+known_read files (Some s) (Some h) = elim (is_none (handle_at h files)) as (λ b. (cond b (Some NoHandle) None ≡ None)
+    ⊎ (cond b (Some NoHandle) None ≡ Some NoHandle)) [ true ↦ inr refl | false ↦ inl refl ]
 
-known_write : (files : FileTable) (s : Option StreamId) (h : Option HandleId) → (known_at files empty_table Operation.Write s h ≡ None) ⊎ (known_at files empty_table Operation.Write s h ≡ Some NoHandle)
+known_write : (files : FileTable) (s : Option StreamId) (h : Option HandleId) → (known_at files empty_table Operation.Write s h ≡ None)
+    ⊎ (known_at files empty_table Operation.Write s h ≡ Some NoHandle)
 known_write files None h = inl refl
 known_write files (Some s) None = inl refl
-known_write files (Some s) (Some h) = elim (is_none (handle_at h files)) as (λ b. (cond b (Some NoHandle) None ≡ None) ⊎ (cond b (Some NoHandle) None ≡ Some NoHandle)) [ true ↦ inr refl | false ↦ inl refl ]
+known_write files (Some s) (Some h) = elim (is_none (handle_at h files)) as (λ b. (cond b (Some NoHandle) None ≡ None)
+    ⊎ (cond b (Some NoHandle) None ≡ Some NoHandle)) [ true ↦ inr refl | false ↦ inl refl ]
 
 -- a change that is answered with success was made
 change_made : (change : List ℕ → List ℕ) (path : List ℕ) (was : Folder) (found : Option (List ℕ)) → (made_as (change_at change path was found)).status ≡ Success
@@ -87,7 +91,8 @@ gone path offset put was is made none = by_found (get was path) made none
     by_found None made none = cc
     by_found (Some file) made none = cc
 
-is_there : (path : List ℕ) (offset : ℕ) (put : List ℕ) (was is : Folder) → changed (written offset put) path was ≡ Ok is → (found : Option (List ℕ)) → get is path ≡ found
+is_there : (path : List ℕ) (offset : ℕ) (put : List ℕ) (was is : Folder) → changed (written offset put) path was ≡ Ok is
+    → (found : Option (List ℕ)) → get is path ≡ found
     → (file : List ℕ) × (get is path ≡ Some file)
 is_there path offset put was is made None at =
     absurd (gone path offset put was is made
@@ -95,7 +100,8 @@ is_there path offset put was is made None at =
 is_there path offset put was is made (Some file) at = (file, at)
 
 -- the bytes that count of a read
-counted_bytes : (offset len : ℕ) (answer : Answer) (handle : HandleId) → is_success answer.status ≡ true → (base_counted (Params.Read offset len) answer handle).bytes ≡ answer.bytes
+counted_bytes : (offset len : ℕ) (answer : Answer) (handle : HandleId) → is_success answer.status ≡ true
+    → (base_counted (Params.Read offset len) answer handle).bytes ≡ answer.bytes
 counted_bytes offset len answer handle ok = ap (λ b. (cond b (success_of (Params.Read offset len) answer handle) (bare_answer answer.status)).bytes) ok
 
 module _ {B : Type 0} (folder : B → Option Folder) (faults : B → ℕ) (filters : ℕ → Option Sample) (s : StackWorld) (x : Subject) where
@@ -114,7 +120,8 @@ module _ {B : Type 0} (folder : B → Option Folder) (faults : B → ℕ) (filte
     after : folder_of folder mid.device x.volume.0 ≡ Some is
     made : changed (written offset bytes) file was ≡ Ok is
 
-  written_so : (offset : ℕ) (bytes : List ℕ) (old mid : Under (List B)) (given : Answer) → given.status ≡ Success → IsSome (folder_of folder old.device x.volume.0)
+  written_so : (offset : ℕ) (bytes : List ℕ) (old mid : Under (List B)) (given : Answer) → given.status ≡ Success
+      → IsSome (folder_of folder old.device x.volume.0)
       → BaseMay (BasesCarry folder faults) on_write (Params.Write offset bytes) old given mid → Written offset bytes old mid
   written_so offset bytes old mid given ok known h =
       let c = called folder faults on_write (Params.Write offset bytes) old mid given ok (known_write old.files x.stream x.handle) h in
@@ -131,7 +138,8 @@ module _ {B : Type 0} (folder : B → Option Folder) (faults : B → ℕ) (filte
       }
 
   -- what is told of the file by a read that the base carried out
-  read_so : (offset len : ℕ) (file : List ℕ) (old new : Under (List B)) (given : Answer) → given.status ≡ Success → x.path ≡ Some file → IsSome (folder_of folder old.device x.volume.0)
+  read_so : (offset len : ℕ) (file : List ℕ) (old new : Under (List B)) (given : Answer) → given.status ≡ Success → x.path ≡ Some file
+      → IsSome (folder_of folder old.device x.volume.0)
       → BaseMay (BasesCarry folder faults) on_read (Params.Read offset len) old given new
       → tell_at (bytes_from offset len) (file_at (folder_of folder old.device x.volume.0) file) ≡ Ok given.bytes
   read_so offset len file old new given ok named known h =
@@ -149,7 +157,8 @@ module _ {B : Type 0} (folder : B → Option Folder) (faults : B → ℕ) (filte
       ∙ ap Ok (ap (λ (a : Answer). a.bytes) (sym k.done.said) ∙ sym bytes)
 
   -- it is told by a read of as many bytes
-  came_back : (offset : ℕ) (put : List ℕ) (old mid later new : Under (List B)) (w : Written offset put old mid) (given : Answer) → given.status ≡ Success → FileStays folder x mid later
+  came_back : (offset : ℕ) (put : List ℕ) (old mid later new : Under (List B)) (w : Written offset put old mid) (given : Answer)
+      → given.status ≡ Success → FileStays folder x mid later
       → BaseMay (BasesCarry folder faults) on_read (Params.Read offset (length put)) later given new → put ≡ given.bytes
   came_back offset put old mid later new w given ok stays h =
       let there : file_at (folder_of folder later.device x.volume.0) w.file ≡ get w.is w.file = stays w.file w.named ∙ ap (λ m. file_at m w.file) w.after in
@@ -167,9 +176,11 @@ round folder faults filters s x is offset bytes old mid later new wrote read shi
     let r = read_down folder faults filters s x is offset (length bytes) [] later new read shifts up in
     let came = came_up folder faults filters s x (asked_by is p []) r.given read
     (all_asked folder faults filters s x is p [] shifts (All-nil (AskedByShift folder faults filters s x))) r.up in
-    let base : BaseMay (BasesCarry folder faults) (record x { operation = Operation.Read }) (Params.Read offset (length (raised_by is bytes))) later r.given new =
+    let base : BaseMay (BasesCarry folder faults) (record x { operation = Operation.Read })
+    (Params.Read offset (length (raised_by is bytes))) later r.given new =
     subst (λ (n : ℕ). BaseMay (BasesCarry folder faults) (record x { operation = Operation.Read }) (Params.Read offset n) later r.given new)
     (sym (length-raised_by is bytes)) r.base in
     came.1
-    ∙ ap (lowered_by (asked_by is p [])) (sym (came_back folder faults filters s x offset (raised_by is bytes) old mid later new w r.given (sym came.0 ∙ read_ok) stays base))
+    ∙ ap (lowered_by (asked_by is p [])) (sym (came_back folder faults filters s x offset (raised_by is bytes) old mid later new w
+    r.given (sym came.0 ∙ read_ok) stays base))
     ∙ all_round is p [] bytes small

@@ -23,7 +23,8 @@ pub record Carried (path : Option (List ℕ)) (p : Params) (old new : Folder) (a
 module _ (p : Params) (old new : Folder) (answer : Answer) (ok : answer.status ≡ Success) where
   within : (file : List ℕ) (fits : Bool) → CarriesWithin fits file p old new answer → Carried (Some file) p old new answer
   within file true h =
-      let done = h.says (λ e. let s : NoMemory ≡ Success = no_success answer NoMemory e ok in cc) (λ e. let s : DeviceFault ≡ Success = no_success answer DeviceFault e ok in cc) in
+      let done = h.says (λ e. let s : NoMemory ≡ Success = no_success answer NoMemory e ok in cc) (λ e. let s : DeviceFault ≡ Success =
+      no_success answer DeviceFault e ok in cc) in
       record { file = file; named = refl; said = done.0; made = done.1 }
   within file false h = let s : BadRequest ≡ Success = no_success answer BadRequest h.0 ok in cc
 
@@ -56,7 +57,8 @@ module _ {B : Type 0} (folder : B → Option Folder) (faults : B → ℕ) (old n
     done = carried call.params f g answer ok call.path files known;
   }
 
-  by_base : (m : Option B) → slice_get old call.volume.0 ≡ m → BasesCarry folder faults old call answer new → IsSome (option_and_then folder m) → KnownCall folder old new call answer
+  by_base : (m : Option B) → slice_get old call.volume.0 ≡ m → BasesCarry folder faults old call answer new
+      → IsSome (option_and_then folder m) → KnownCall folder old new call answer
   by_base None at h some = absurd (false≢true some)
   by_base (Some a) at h some = let b = h.carried a at in by_folders a b.0 at b.1 (folder a) (folder b.0) refl refl b.2.known some
 
@@ -74,13 +76,15 @@ counted_by p answer handle true is ok = success_is answer.status is
 counted_by p answer handle false is ok = ok
 
 -- the device was called, and succeeded
-pub record Called {B : Type 0} (folder : B → Option Folder) (faults : B → ℕ) (x : Subject) (p : Params) (old : Under (List B)) (given : Answer) (new : Under (List B)) : Type 0 where
+pub record Called {B : Type 0} (folder : B → Option Folder) (faults : B → ℕ) (x : Subject) (p : Params) (old : Under (List B))
+    (given : Answer) (new : Under (List B)) : Type 0 where
   pub answer : Answer
   pub success : is_success answer.status ≡ true
   pub carries : BasesCarry folder faults old.device (call_on x p) answer new.device
   pub counts : given ≡ base_counted p answer (record { 0 = old.files.next })
 
-module _ {B : Type 0} (folder : B → Option Folder) (faults : B → ℕ) (x : Subject) (p : Params) (old new : Under (List B)) (given : Answer) (ok : given.status ≡ Success) where
+module _ {B : Type 0} (folder : B → Option Folder) (faults : B → ℕ) (x : Subject) (p : Params) (old new : Under (List B))
+    (given : Answer) (ok : given.status ≡ Success) where
   called_by : (known : Option Status) → (known ≡ None) ⊎ (known ≡ Some NoHandle) → BaseMayBy (BasesCarry folder faults) x p known old given new
       → Called folder faults x p old given new
   called_by None or h =

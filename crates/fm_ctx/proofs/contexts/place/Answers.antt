@@ -22,9 +22,11 @@ returns-clause-seated c =
     let r = open_row 0 c.args.entry in
     elim c.if-id-slots.branch [
       | then-id-slots w ↦
-          w.seats-is ∙ seats_put_first rows c.put.new.self c.in_ok-id.id r c.in_ok-id.ensures.ok c.requires.fresh (omega (arith, w.if-id-slots.true, c.len-slots.ensures)) c.requires.seated w.add.ensures
+          w.seats-is ∙ seats_put_first rows c.put.new.self c.in_ok-id.id r c.in_ok-id.ensures.ok c.requires.fresh
+          (omega (arith, w.if-id-slots.true, c.len-slots.ensures)) c.requires.seated w.add.ensures
       | else-id-slots w ↦
-          w.seats-is ∙ seats_put_again rows c.put.new.self c.in_ok-id.id r c.in_ok-id.ensures.ok c.requires.fresh (λ past. omega (arith, past, w.if-id-slots.false, c.len-slots.ensures)) c.requires.seated
+          w.seats-is ∙ seats_put_again rows c.put.new.self c.in_ok-id.id r c.in_ok-id.ensures.ok c.requires.fresh
+          (λ past. omega (arith, past, w.if-id-slots.false, c.len-slots.ensures)) c.requires.seated
     ]
 
 pub returns-clause-placed : goal.returns-clause-placed
@@ -34,9 +36,11 @@ returns-clause-placed c =
     let with_slots : ℕ → Waiting = λ n. record c.args.due.now { slots = n } in
     elim c.if-id-slots.branch [
       | then-id-slots w ↦
-          let long = long_first rows c.put.new.self c.in_ok-id.id r c.in_ok-id.ensures.ok c.requires.fresh (omega (arith, w.if-id-slots.true, c.len-slots.ensures)) in
+          let long = long_first rows c.put.new.self c.in_ok-id.id r c.in_ok-id.ensures.ok c.requires.fresh
+          (omega (arith, w.if-id-slots.true, c.len-slots.ensures)) in
           w.due-is ∙ w.add-then-id-slots.ensures ∙ ap (λ n. with_slots (n + 1)) c.requires.placed ∙ ap with_slots (sym long)
       | else-id-slots w ↦
-          let long = long_again rows c.put.new.self c.in_ok-id.id r c.in_ok-id.ensures.ok c.requires.fresh (λ past. omega (arith, past, w.if-id-slots.false, c.len-slots.ensures)) in
+          let long = long_again rows c.put.new.self c.in_ok-id.id r c.in_ok-id.ensures.ok c.requires.fresh
+          (λ past. omega (arith, past, w.if-id-slots.false, c.len-slots.ensures)) in
           w.due-is ∙ ap with_slots (c.requires.placed ∙ sym long)
     ]

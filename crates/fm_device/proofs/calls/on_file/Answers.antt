@@ -10,4 +10,5 @@ returns-in-Create-clause-carried g c = rw (← c.if-not-is_within_limits.ensures
 
 pub returns-in-Write-clause-carried : goal.returns-in-Write-clause-carried
 returns-in-Write-clause-carried g c = rw (← c.if-not-is_within_limits.ensures, c.in-Write.is, c.done-in-Write.ensures, ← c.as_slice.ensures)
-    (made_known c.args.path.now true (changed (written c.in-Write.offset c.as_slice.result.now) c.args.path.now) _ _ c.write.result c.write.ensures.makes (λ _ _. refl))
+    (made_known c.args.path.now true (changed (written c.in-Write.offset c.as_slice.result.now) c.args.path.now) _ _ c.write.result
+    c.write.ensures.makes (λ _ _. refl))

@@ -10,13 +10,15 @@ loop-place-init c = (omega arith, ap last_posted (sym (take_all (length c.args.e
 pub returns-then-is_some : goal.returns-then-is_some
 returns-then-is_some c =
     posted_here c.post_of-posted.result _ _
-    (posted_back c.args.entries.now c.loop-place.place _ c.post_of-posted.result c.loop-place-test.true c.loop-place.invariant.0 c.loop-place.invariant.1 c.post_of-posted.ensures)
+    (posted_back c.args.entries.now c.loop-place.place _ c.post_of-posted.result c.loop-place-test.true c.loop-place.invariant.0
+    c.loop-place.invariant.1 c.post_of-posted.ensures)
     (sym c.is_some.ensures ∙ c.if-is_some.true)
 
 pub loop-place-preserved : goal.loop-place-preserved
 loop-place-preserved c = (
   omega (arith, c.loop-place.invariant.0),
   posted_before c.post_of-posted.result _ _
-      (posted_back c.args.entries.now c.loop-place.place _ c.post_of-posted.result c.loop-place-test.true c.loop-place.invariant.0 c.loop-place.invariant.1 c.post_of-posted.ensures)
+      (posted_back c.args.entries.now c.loop-place.place _ c.post_of-posted.result c.loop-place-test.true c.loop-place.invariant.0
+      c.loop-place.invariant.1 c.post_of-posted.ensures)
       (sym c.is_some.ensures ∙ c.if-is_some.false),
 )

@@ -8,4 +8,5 @@ pub returns : goal.returns
 returns c =
     let facts = c.binary_search_by_key.ensures in
     let by_number = facts.position (λ (r : FlowRecord). r.number.0) (answers_always _ _ _ (λ f a r g called. search rules)) in
-    c.ok.ensures.value ∙ found_rising (λ (r : FlowRecord). r.number.0) c.args.number.0 c.args.operations.now c.binary_search_by_key.result c.requires facts.bound by_number
+    c.ok.ensures.value ∙ found_rising (λ (r : FlowRecord). r.number.0) c.args.number.0 c.args.operations.now
+    c.binary_search_by_key.result c.requires facts.bound by_number

@@ -4,5 +4,6 @@ use Rattle.fm_local.proofs.callbacks.goes_up.Goals as goal
 
 pub returns-clause-rest : goal.returns-clause-rest
 returns-clause-rest g c =
-    calls_found (numbered c.args.filters.now) (slice_get c.args.work.now.state.stack.instances c.args.instance.0) c.filter_of.result c.filter_of.ensures g.F.Minifilter.is_quiet
+    calls_found (numbered c.args.filters.now) (slice_get c.args.work.now.state.stack.instances c.args.instance.0) c.filter_of.result
+    c.filter_of.ensures g.F.Minifilter.is_quiet
     c.of.result c.args.work.now c.ask_post.new.port c.of.ensures c.ask_post.ensures.quiet c.ask_post.ensures.far

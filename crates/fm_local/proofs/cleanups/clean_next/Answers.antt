@@ -9,4 +9,5 @@ returns-in-Ok-None-clause-cleans g c =
 
 pub returns-in-Err-clause-cleans : goal.returns-in-Err-clause-cleans
 returns-in-Err-clause-cleans g c =
-    cleans_refused g.F.Minifilter.cleanup_may (numbered c.args.filters.now) WORKER c.args.state.now c.take_due.new.self c.in-Err.field-0 c.laws.ensures c.in-Err.ensures.event
+    cleans_refused g.F.Minifilter.cleanup_may (numbered c.args.filters.now) WORKER c.args.state.now c.take_due.new.self
+    c.in-Err.field-0 c.laws.ensures c.in-Err.ensures.event

@@ -8,7 +8,8 @@ use Rattle.fm_script.proofs.context_list.newer_than.Goals as goal
 
 pub returns-in-Some-newer_in_row : goal.returns-in-Some-newer_in_row
 returns-in-Some-newer_in_row c =
-    let there : position (is_context c.args.context) (reverse (drop (length c.loop-older.rest.now - 8) c.loop-older.rest.now)) ≡ Some c.in-Some-newer_in_row.place =
+    let there : position (is_context c.args.context) (reverse (drop (length c.loop-older.rest.now - 8) c.loop-older.rest.now))
+    ≡ Some c.in-Some-newer_in_row.place =
     rw (← c.in-Some.ensures.cases.1) (sym c.in-Some-newer_in_row.ensures) in
     omega (arith, c.loop-older.invariant.1, in_row (is_context c.args.context) (length c.loop-older.rest.now - 8) _ c.loop-older.rest.now there)
 
@@ -18,7 +19,8 @@ loop-older-preserved c =
     rw (← c.in-Some.ensures.cases.1) (sym c.in_default-newer_in_row.ensures) in
     let few : length c.in-Some.older.now + 8 ≡ length c.loop-older.rest.now = c.in-Some.ensures.cases.2 in
     let older : c.in-Some.older.now ≡ take (length c.loop-older.rest.now - 8) c.loop-older.rest.now = c.in-Some.ensures.cases.0 in
-    let past : position_or_len (is_context c.args.context) (reverse c.loop-older.rest.now) ≡ 8 + position_or_len (is_context c.args.context) (reverse c.in-Some.older.now) =
+    let past : position_or_len (is_context c.args.context) (reverse c.loop-older.rest.now)
+    ≡ 8 + position_or_len (is_context c.args.context) (reverse c.in-Some.older.now) =
     rw older (past_row (is_context c.args.context) (length c.loop-older.rest.now - 8) c.loop-older.rest.now none
     ∙ ap (λ (m : ℕ). m + position_or_len (is_context c.args.context) (reverse (take (length c.loop-older.rest.now - 8) c.loop-older.rest.now)))
     (omega (arith, few, length-drop (length c.loop-older.rest.now - 8) c.loop-older.rest.now))) in

@@ -12,7 +12,8 @@ loop-frame-preserved g c =
     let one = c.in-Ok.ensures.does in (
       so_far.0 ++ one.0,
       appends_more _ _ _ so_far.0 one.0 so_far.1 one.1,
-      does_more (Says g.E.Exec.operates g.E.Exec.controls) c.args.exec.now c.loop-frame.exec c.do_one.new.exec c.loop-frame.yielded c.in-Some.frame so_far.0 one.0 so_far.2 one.2,
+      does_more (Says g.E.Exec.operates g.E.Exec.controls) c.args.exec.now c.loop-frame.exec c.do_one.new.exec c.loop-frame.yielded
+          c.in-Some.frame so_far.0 one.0 so_far.2 one.2,
       λ before. c.in-Ok.ensures.handed (so_far.3 before),
     )
 
@@ -27,6 +28,7 @@ returns-in-Err-clause-does g c =
     ∙ ap (λ (fs : List Frame). c.loop-frame.yielded ++ fs) c.in-Some.ensures.steps.0 in (
       so_far.0 ++ one.0,
       appends_more _ _ _ so_far.0 one.0 so_far.1 one.1,
-      does_until (Says g.E.Exec.operates g.E.Exec.controls) c.in-Err.end c.args.exec.now c.loop-frame.exec c.do_one.new.exec c.loop-frame.yielded c.in-Some.frame left c.args.frames.items
+      does_until (Says g.E.Exec.operates g.E.Exec.controls) c.in-Err.end c.args.exec.now c.loop-frame.exec c.do_one.new.exec
+          c.loop-frame.yielded c.in-Some.frame left c.args.frames.items
           so_far.0 one.0 all so_far.2 one.2,
     )

@@ -8,5 +8,6 @@ returns-in-Err-clause-leaves g c first read written waits = c.in-Err.ensures.goe
 
 pub returns-clause-leaves : goal.returns-clause-leaves
 returns-clause-leaves g c first read written waits =
-    leaves_fault (Says g.E.Exec.operates g.E.Exec.controls) first c.loop.exec read written c.loop.decoder _ _ _ (c.loop.invariant.waits first read written waits)
+    leaves_fault (Says g.E.Exec.operates g.E.Exec.controls) first c.loop.exec read written c.loop.decoder _ _ _
+    (c.loop.invariant.waits first read written waits)
     (consumes_nothing (g.R.Source.remaining c.loop.source))

@@ -11,7 +11,8 @@ returns-in-Ok-clause-takes g c first input before stands =
     let done = c.do_all.ensures.does in (
       done.0,
       done.1,
-      takes_frames (Says g.E.Exec.operates g.E.Exec.controls) c.do_all.result first c.args.exec.now c.do_all.new.exec c.args.decoder.now c.feed.new.self input before
+      takes_frames (Says g.E.Exec.operates g.E.Exec.controls) c.do_all.result first c.args.exec.now c.do_all.new.exec
+          c.args.decoder.now c.feed.new.self input before
           c.args.piece.now done.0 c.in-Ok.frames.items stands c.in-Ok.ensures.ok done.2,
     )
 
@@ -25,7 +26,8 @@ returns-in-Err-BadRequest-clause-takes g c first input before stands =
     let told = c.tell_fault.ensures.tells in (
       told.0,
       told.1,
-      takes_fault (Says g.E.Exec.operates g.E.Exec.controls) c.tell_fault.result first c.args.exec.now c.args.decoder.now input before c.args.piece.now told.0 stands
+      takes_fault (Says g.E.Exec.operates g.E.Exec.controls) c.tell_fault.result first c.args.exec.now c.args.decoder.now input before
+          c.args.piece.now told.0 stands
           (c.feed.ensures.refused.0 (search rules)) told.2,
     )
 
@@ -36,5 +38,9 @@ returns-in-Err-BadRequest-clause-never g c is =
     subst (λ end. TellsFault end told.0) same told.2
 
 pub returns-in-Err-clause-takes : goal.returns-in-Err-clause-takes
-returns-in-Err-clause-takes g c first input before stands =
-    ([], appends_nothing _, takes_nothing (Says g.E.Exec.operates g.E.Exec.controls) first c.args.exec.now c.args.decoder.now input before c.args.piece.now stands)
+returns-in-Err-clause-takes g c first input before stands = (
+  [],
+  appends_nothing _,
+  takes_nothing (Says g.E.Exec.operates g.E.Exec.controls) first c.args.exec.now c.args.decoder.now input
+      before c.args.piece.now stands,
+)

@@ -10,6 +10,7 @@ returns-in-Ok-clause-takes g c first input before stands =
     let two = c.tell_behind.ensures.tells in (
       one.0 ++ two.0,
       appends_more _ _ _ one.0 two.0 one.1 two.1,
-      whole_more (Says g.E.Exec.operates g.E.Exec.controls) c.tell_behind.result first c.take_piece.new.exec c.take_piece.new.decoder (input ++ c.args.piece.now) before one.0
+      whole_more (Says g.E.Exec.operates g.E.Exec.controls) c.tell_behind.result first c.take_piece.new.exec c.take_piece.new.decoder
+          (input ++ c.args.piece.now) before one.0
           two.0 one.2 two.2,
     )

@@ -10,5 +10,6 @@ returns-then-seat-instance c =
     let seats = c.args.seats.now in
     let seat = c.in-Some.seat.now in
     let there : slice_get seats c.args.guess ≡ Some seat =
-    slice_get_read seats (length seats) c.args.guess seat refl (ltb-true c.args.guess (length seats) (sym c.in-Some.ensures.lookup.0)) c.in-Some.ensures.lookup.1 in
+    slice_get_read seats (length seats) c.args.guess seat refl (ltb-true c.args.guess (length seats) (sym c.in-Some.ensures.lookup.0))
+    c.in-Some.ensures.lookup.1 in
     sym (found_there seats c.requires c.args.instance c.args.guess seat there c.if-seat-instance.true (position (is_seat_of c.args.instance) seats) refl)

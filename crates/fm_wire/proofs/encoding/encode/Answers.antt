@@ -30,7 +30,8 @@ returns-clause-frame c =
     let put = c.in_ok-text.ensures in
     let short : length (fields_of c.args.frame.now.body) ≤ 32995 = omega arith in
     rw c.from_vec.ensures
-    (spelled_frame c.in_ok-text.text.items c.args.frame.now put.text (is_spelled c.args.frame.now (c.if-not-keeps_limits.ensures.0 refl) short) put.fits.0 put.fits.1 put.texts.0 put.texts.1)
+    (spelled_frame c.in_ok-text.text.items c.args.frame.now put.text
+    (is_spelled c.args.frame.now (c.if-not-keeps_limits.ensures.0 refl) short) put.fits.0 put.fits.1 put.texts.0 put.texts.1)
 
 pub returns-then-len-clause-none : goal.returns-then-len-clause-none
 returns-then-len-clause-none c =

@@ -11,5 +11,6 @@ returns-then-held-piece-lt4 c =
 pub returns : goal.returns
 returns c =
     let long : 4 ≤ length (c.args.held.now ++ c.args.piece.now) = omega (arith, length-append c.args.held.now c.args.piece.now) in
-    fault_across c.is_fault.result (c.args.held.now ++ c.args.piece.now) c.byte_across.result c.byte_across-2.result c.byte_across-3.result c.byte_across-4.result long
+    fault_across c.is_fault.result (c.args.held.now ++ c.args.piece.now) c.byte_across.result c.byte_across-2.result
+    c.byte_across-3.result c.byte_across-4.result long
     c.byte_across.ensures c.byte_across-2.ensures c.byte_across-3.ensures c.byte_across-4.ensures c.is_fault.ensures

@@ -20,7 +20,8 @@ invariant_of-self c = record {
   counted = closed_counted c.args.handle c.in-Some.row c.self.inside.streams.items c.self.inside.handles.items c.close_in.new.handles.items
       c.self.inside.opens.items c.take_open.new.opens.items c.self.invariant.rising.streams (sym c.close_in.ensures.found ∙ c.in-Some.is)
       c.close_in.ensures.items
-      (c.take_open.ensures.items ∙ ap (λ (xs : List FileStream). changed_at (λ n. n - 1) (position (is_stream c.in-Some.row.stream) xs) c.self.inside.opens.items)
+      (c.take_open.ensures.items ∙ ap (λ (xs : List FileStream). changed_at (λ n. n - 1) (position (is_stream c.in-Some.row.stream) xs)
+      c.self.inside.opens.items)
       c.deref.ensures.value)
       c.self.invariant.counted;
   named = c.self.invariant.named;

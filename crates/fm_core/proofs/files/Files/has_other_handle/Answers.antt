@@ -9,4 +9,5 @@ returns c =
     let own = c.own_on-own.ensures ∙ ap (λ (h : Option FileHandle). cond {A = ℕ} (is_own c.args.stream h) 1 0) c.handle.ensures in
     ap (λ n. nat_lt n c.opens_on.result) own
     ∙ ap (nat_lt (cond (is_own c.args.stream (handle_at c.args.handle t)) 1 0)) (c.opens_on.ensures ∙ ap (count_by (is_on c.args.stream)) handles)
-    ∙ others_counted c.args.stream c.args.handle t.handles (subst (λ (f : FilesKept). AllPairs IsOlder f.table.handles) c.self.view_is c.self.invariant.rising.handles)
+    ∙ others_counted c.args.stream c.args.handle t.handles
+    (subst (λ (f : FilesKept). AllPairs IsOlder f.table.handles) c.self.view_is c.self.invariant.rising.handles)

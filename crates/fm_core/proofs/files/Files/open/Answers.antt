@@ -18,7 +18,8 @@ invariant_of-self c =
     let counted = opened_counted h c.self.inside.streams.items c.self.inside.handles.items c.self.inside.opens.items c.add_open.new.opens.items
     c.self.invariant.rising.streams at c.self.invariant.counted in record {
       room = subst (λ n. 4096 ≤ n) (sym c.push_reserved.ensures.capacity) c.self.invariant.room;
-      rising = opened_rising h c.self.inside.streams.items c.self.inside.handles.items c.push_reserved.new.self.items c.self.inside.next handles refl c.self.invariant.rising;
+      rising = opened_rising h c.self.inside.streams.items c.self.inside.handles.items c.push_reserved.new.self.items
+          c.self.inside.next handles refl c.self.invariant.rising;
       counted = subst (λ (hs : List FileHandle). AreCounted c.self.inside.streams.items hs c.add_open.new.opens.items) (sym handles) counted;
       named = c.self.invariant.named;
     }

@@ -7,5 +7,6 @@ invariant_of-self-2 c =
       room = c.self.invariant.room;
       rising = c.self.invariant.rising;
       counted = c.self.invariant.counted;
-      named = reserved_named c.self.inside.streams.items c.self.inside.numbers c.try_reserve-3.new.self c.try_reserve-3.ensures.entries.2 c.self.invariant.named;
+      named = reserved_named c.self.inside.streams.items c.self.inside.numbers c.try_reserve-3.new.self
+          c.try_reserve-3.ensures.entries.2 c.self.invariant.named;
     })

@@ -14,7 +14,8 @@ invariant_of-self c = record {
   sound = (allocate_does _ _ _ _ _ _ (returns-clause-event c)).0.sound (subst IsSound c.self.view_is c.self.invariant.sound);
   tied = allocate_tied c.self.inside.contexts c.allocate.new.self c.self.inside.flow c.args.worker (allocate_refusal c.self.inside.contexts.table
       c.args.worker.0 c.args.body)
-      (new_context c.args.kind c.owner.result c.in-Some.caller.volume c.args.body) c.allocate.result c.laws.ensures.matched c.allocate.ensures c.self.invariant.tied;
+      (new_context c.args.kind c.owner.result c.in-Some.caller.volume c.args.body) c.allocate.result c.laws.ensures.matched
+      c.allocate.ensures c.self.invariant.tied;
 }
 
 pub returns-clause-held : goal.returns-clause-held

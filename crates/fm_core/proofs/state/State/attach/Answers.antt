@@ -9,4 +9,8 @@ returns-clause-event c = rw (sym c.is_idle.ensures ∙ c.if-not-is_idle.false, s
 
 pub invariant_of-self : goal.invariant_of-self
 invariant_of-self c =
-    record { sound = (attach_does _ _ _ _ _ _ _ _ (returns-clause-event c)).sound (subst IsSound c.self.view_is c.self.invariant.sound); tied = c.self.invariant.tied }
+    record {
+      sound = (attach_does _ _ _ _ _ _ _ _ (returns-clause-event c)).sound
+          (subst IsSound c.self.view_is c.self.invariant.sound);
+      tied = c.self.invariant.tied;
+    }

@@ -9,7 +9,8 @@ use Rattle.fm_core.proofs.state.State.base_returned.Goals as goal
 
 at : (c : In-Some) → worker_at (the_view c.self.inside).workers c.args.worker ≡ Some (Place.Base c.in-Some.operation)
 at c =
-    placed base_of Place.Base c.args.worker c.in-Some.operation c.place.result c.base_of.result base_is c.self.view_is c.place.ensures c.base_of.ensures c.in-Some.is
+    placed base_of Place.Base c.args.worker c.in-Some.operation c.place.result c.base_of.result base_is c.self.view_is c.place.ensures
+    c.base_of.ensures c.in-Some.is
 
 pub unreachable-requires : goal.unreachable-requires
 unreachable-requires c =

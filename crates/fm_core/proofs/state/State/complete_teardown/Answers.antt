@@ -6,9 +6,19 @@ use Rattle.fm_core.proofs.state.State.complete_teardown.Goals as goal
 pub returns-clause-event : goal.returns-clause-event
 unfolding CompletesTeardown
 returns-clause-event c =
-    rw (sym c.is_idle.ensures ∙ c.if-not-is_idle.false, sym c.self.view_is, sym c.is_queried-is_asked.ensures, sym c.in_flight-in_flight.ensures, c.note_entering.ensures)
+    rw (
+      sym c.is_idle.ensures ∙ c.if-not-is_idle.false,
+      sym c.self.view_is,
+      sym c.is_queried-is_asked.ensures,
+      sym c.in_flight-in_flight.ensures,
+      c.note_entering.ensures,
+    )
     (c.complete_teardown-result.ensures.event, refl)
 
 pub invariant_of-self : goal.invariant_of-self
 invariant_of-self c =
-    record { sound = (complete_teardown_does _ _ _ _ _ (returns-clause-event c)).sound (subst IsSound c.self.view_is c.self.invariant.sound); tied = c.self.invariant.tied }
+    record {
+      sound = (complete_teardown_does _ _ _ _ _ (returns-clause-event c)).sound
+          (subst IsSound c.self.view_is c.self.invariant.sound);
+      tied = c.self.invariant.tied;
+    }

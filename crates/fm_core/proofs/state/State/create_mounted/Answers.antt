@@ -16,7 +16,8 @@ returns c =
     ∙ ap (λ (n : ℕ). stream_for c.args.volume c.args.path n old.files) c.next_number-number.ensures.result in
     let begins = rw (c.births-born.ensures, c.in-Ok.ensures.paths, stream) at c.begin-begun.ensures in
     let files = rw (c.in-Ok.ensures.paths, c.is_ok.ensures.value, c.prepare.ensures.table, c.next_number-number.ensures.result) at c.note_create.ensures in
-    creates c.args.volume c.args.path c.args.mode c.begin-begun.result c.begin-begun.new.self c.note_create.new.files.table c.self.view_is c.requires begins files
+    creates c.args.volume c.args.path c.args.mode c.begin-begun.result c.begin-begun.new.self c.note_create.new.files.table
+    c.self.view_is c.requires begins files
 
 pub invariant_of-self-2 : goal.invariant_of-self-2
 invariant_of-self-2 c = record {

@@ -21,7 +21,8 @@ returns-clause-event c =
     let found = subst (λ (v : World). IsFound v c.in-Some.caller c.args.kind c.in-Ok.found) (sym c.self.view_is) c.in-Ok.ensures in
     let id = holder old.contexts.slots c.in-Ok.found.0 c.in-Ok.found.1 in
     let there = found_there old at.0 c.in-Some.caller c.args.kind c.in-Ok.found at.2 found in
-    let free = found_free old c.args.worker at.0 c.in-Some.caller c.args.kind (delete_refusal old.contexts c.args.worker.0 c.args.wants_old (there_at old c.args.kind at.0))
+    let free = found_free old c.args.worker at.0 c.in-Some.caller c.args.kind
+    (delete_refusal old.contexts c.args.worker.0 c.args.wants_old (there_at old c.args.kind at.0))
     at.1 at.2 found.free in
     let alike = delete_alike (carried_of c.self.inside.contexts) (carries old) old.contexts c.args.worker.0 c.args.wants_old id c.self.invariant.tied in
     rw (sym c.self.view_is, at.1, free, there)

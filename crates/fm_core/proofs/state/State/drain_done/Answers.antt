@@ -8,7 +8,10 @@ use Rattle.fm_core.proofs.state.State.drain_done.Goals as goal
 
 at : (c : In-Some) → worker_at (the_view c.self.inside).workers c.args.worker ≡ Some (Place.EarlyDrain c.in-Some.operation c.in-Some.instance)
 at c =
-    placed early_drain_of (λ p. Place.EarlyDrain p.0 p.1) c.args.worker (c.in-Some.operation, c.in-Some.instance) c.place.result c.early_drain_of.result early_is
+    placed early_drain_of (λ p. Place.EarlyDrain p.0 p.1) c.args.worker (
+      c.in-Some.operation,
+      c.in-Some.instance,
+    ) c.place.result c.early_drain_of.result early_is
     c.self.view_is c.place.ensures c.early_drain_of.ensures c.in-Some.is
 
 pub leave-requires : goal.leave-requires

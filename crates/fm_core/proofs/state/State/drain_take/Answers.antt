@@ -18,7 +18,8 @@ taken c = subst (λ d. DrainTaken c.args.instance c.self.inside.flow d c.drain_t
 pub bring-requires : goal.bring-requires
 bring-requires c =
     let at = (goal.at.bring-requires c).In-Some in
-    take_brings c.args.worker c.args.instance c.in-Some.operation c.in-Some.completion c.drain_take.new.self c.self.invariant c.self.view_is (idle at) refl (taken at)
+    take_brings c.args.worker c.args.instance c.in-Some.operation c.in-Some.completion c.drain_take.new.self c.self.invariant
+    c.self.view_is (idle at) refl (taken at)
 
 pub returns-clause-event : goal.returns-clause-event
 unfolding TakesDrain

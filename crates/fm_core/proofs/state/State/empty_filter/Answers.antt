@@ -13,7 +13,8 @@ returns-clause-event c =
 pub invariant_of-self : goal.invariant_of-self
 invariant_of-self c = record {
   sound = (empty_filter_does _ _ _ _ (returns-clause-event c)).0.sound (subst IsSound c.self.view_is c.self.invariant.sound);
-  tied = where_tied (is_linked_of (Owner.Filter c.args.filter)) c.empty_filter-result.result c.self.inside.contexts c.unlink_where.new.contexts c.self.inside.flow c.unlink_where.ensures c.self.invariant.tied;
+  tied = where_tied (is_linked_of (Owner.Filter c.args.filter)) c.empty_filter-result.result c.self.inside.contexts
+      c.unlink_where.new.contexts c.self.inside.flow c.unlink_where.ensures c.self.invariant.tied;
 }
 
 pub returns-clause-hand : goal.returns-clause-hand

@@ -22,7 +22,8 @@ returns-clause-event c =
 pub invariant_of-self : goal.invariant_of-self
 invariant_of-self c = record {
   sound = (empty_volume_does _ _ _ _ (returns-clause-event c)).0.sound (subst IsSound c.self.view_is c.self.invariant.sound);
-  tied = where_tied (is_linked_to (Object.Volume c.args.volume)) c.empty_volume-result.result c.self.inside.contexts c.unlink_where.new.contexts c.self.inside.flow c.unlink_where.ensures
+  tied = where_tied (is_linked_to (Object.Volume c.args.volume)) c.empty_volume-result.result c.self.inside.contexts
+      c.unlink_where.new.contexts c.self.inside.flow c.unlink_where.ensures
       c.self.invariant.tied;
 }
 

@@ -19,10 +19,12 @@ returns-clause-event c =
     let at = called_in c.args.worker c.in-Some.caller c.self.view_is (sym c.caller.ensures.callback ∙ c.in-Some.is) in
     let found = subst (λ (v : World). IsFound v c.in-Some.caller c.args.kind c.in-Ok.found) (sym c.self.view_is) c.in-Ok.ensures in
     let there = found_there old at.0 c.in-Some.caller c.args.kind c.in-Ok.found at.2 found in
-    let free = get_free old c.args.worker at.0 c.in-Some.caller c.args.kind c.in-Ok.found (get_refusal old.contexts c.args.worker.0 (there_at old c.args.kind at.0)) true
+    let free = get_free old c.args.worker at.0 c.in-Some.caller c.args.kind c.in-Ok.found
+    (get_refusal old.contexts c.args.worker.0 (there_at old c.args.kind at.0)) true
     at.1 at.2 found (sym c.is_there.ensures ∙ c.if-not-is_there.false) in
     rw (sym c.self.view_is, at.1, free, there)
-    (answers_up old c.self.inside.contexts c.get.new.self _ c.get.result _ _ (λ id e. (e.0, ap (λ (x : ContextsKept). with_contexts old x.table) e.1)) c.get.ensures)
+    (answers_up old c.self.inside.contexts c.get.new.self _ c.get.result _ _
+    (λ id e. (e.0, ap (λ (x : ContextsKept). with_contexts old x.table) e.1)) c.get.ensures)
 
 pub invariant_of-self : goal.invariant_of-self
 invariant_of-self c =

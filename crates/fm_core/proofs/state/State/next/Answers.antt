@@ -21,7 +21,8 @@ went : (c : After-next) (result : Result FlowAction Status) → c.next.result �
 went c result is =
     subst (λ x. Goes (the_view c.self.inside) c.args.worker c.args.operation c.in-Some.record.now c.lies_below-below.result x c.next.new.self) is
     (goes _ c.args.worker c.args.operation c.in-Some.record.now c.lies_below-below.result c.drains_next-drains.result c.next.result c.next.new.self
-    (sym c.record.ensures ∙ ap option_copied c.in-Some.is) c.lies_below-below.ensures.finds c.drains_next-drains.ensures c.next.ensures.reply c.next.ensures.after)
+    (sym c.record.ensures ∙ ap option_copied c.in-Some.is) c.lies_below-below.ensures.finds c.drains_next-drains.ensures
+    c.next.ensures.reply c.next.ensures.after)
 
 idle : (c : After-next) → is_idle (worker_at (the_view c.self.inside).workers c.args.worker) ≡ true
 idle c = subst (λ (w : World). is_idle (worker_at w.workers c.args.worker) ≡ true) (sym c.self.view_is) (sym c.is_idle.ensures ∙ c.if-not-is_idle.false)
@@ -30,7 +31,8 @@ pub returns-in-Err-clause-event : goal.returns-in-Err-clause-event
 returns-in-Err-clause-event c =
     let at = (goal.at.returns-in-Err-clause-event c).After-next in
     let old = the_view c.self.inside in
-    rw (sym c.self.view_is) (nexts old c.args.worker c.args.operation c.in-Some.record.now c.lies_below-below.result (Err c.in-Err.status) c.next.new.self old.workers old.contexts
+    rw (sym c.self.view_is) (nexts old c.args.worker c.args.operation c.in-Some.record.now c.lies_below-below.result
+    (Err c.in-Err.status) c.next.new.self old.workers old.contexts
     old.files (record old { flow = c.next.new.self }) (idle at) (went at _ c.in-Err.is) refl refl refl refl)
 
 pub invariant_of-self : goal.invariant_of-self
@@ -68,10 +70,12 @@ pub returns-in_default-known_in-clause-nothing : goal.returns-in_default-known_i
 returns-in_default-known_in-clause-nothing c = (next_does _ _ _ _ _ (returns-in_default-known_in-clause-event c)).2
 
 pub returns-in_default-known_in-clause-hand : goal.returns-in_default-known_in-clause-hand
-returns-in_default-known_in-clause-hand c = ((next_does _ _ _ _ _ (returns-in_default-known_in-clause-event c)).1 (subst IsSound c.self.view_is c.self.invariant.sound)).0
+returns-in_default-known_in-clause-hand c = ((next_does _ _ _ _ _ (returns-in_default-known_in-clause-event c)).1
+    (subst IsSound c.self.view_is c.self.invariant.sound)).0
 
 pub returns-in_default-known_in-clause-held : goal.returns-in_default-known_in-clause-held
-returns-in_default-known_in-clause-held c = ((next_does _ _ _ _ _ (returns-in_default-known_in-clause-event c)).1 (subst IsSound c.self.view_is c.self.invariant.sound)).1
+returns-in_default-known_in-clause-held c = ((next_does _ _ _ _ _ (returns-in_default-known_in-clause-event c)).1
+    (subst IsSound c.self.view_is c.self.invariant.sound)).1
 
 pub note_answer-requires : goal.note_answer-requires
 note_answer-requires c =

@@ -15,19 +15,23 @@ pass_down-requires-clause-lies c =
 
 pub end_callback-requires-clause-within : goal.end_callback-requires-clause-within
 end_callback-requires-clause-within c =
-    let d = comes (goal.at.end_callback-requires-clause-within c).After-laws in within_at c.args.worker Place.Idle c.self.invariant (idle_there _ c.args.worker d.idle)
+    let d = comes (goal.at.end_callback-requires-clause-within c).After-laws in
+    within_at c.args.worker Place.Idle c.self.invariant (idle_there _ c.args.worker d.idle)
 
 pub invariant_of-self : goal.invariant_of-self
 invariant_of-self c =
-    passed_down_state c.args.worker c.args.operation c.args.instance c.args.number c.self.invariant refl c.laws.ensures.matched (comes (goal.at.invariant_of-self c).After-laws)
+    passed_down_state c.args.worker c.args.operation c.args.instance c.args.number c.self.invariant refl c.laws.ensures.matched
+    (comes (goal.at.invariant_of-self c).After-laws)
     c.self.view_is c.pass_down.ensures c.end_callback.ensures
 
 pub returns-clause-event : goal.returns-clause-event
 returns-clause-event c =
-    passes_down c.args.worker c.args.operation c.args.instance c.args.number c.self.invariant refl c.laws.ensures.matched (comes (goal.at.returns-clause-event c).After-laws)
+    passes_down c.args.worker c.args.operation c.args.instance c.args.number c.self.invariant refl c.laws.ensures.matched
+    (comes (goal.at.returns-clause-event c).After-laws)
     c.self.view_is c.pass_down.ensures c.end_callback.ensures
 
 pub returns-clause-hand : goal.returns-clause-hand
 returns-clause-hand c =
-    passed_down_hand c.args.worker c.args.operation c.args.instance c.args.number c.self.invariant refl c.laws.ensures.matched (comes (goal.at.returns-clause-hand c).After-laws)
+    passed_down_hand c.args.worker c.args.operation c.args.instance c.args.number c.self.invariant refl c.laws.ensures.matched
+    (comes (goal.at.returns-clause-hand c).After-laws)
     c.self.view_is c.pass_down.ensures c.end_callback.ensures

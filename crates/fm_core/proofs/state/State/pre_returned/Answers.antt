@@ -48,7 +48,8 @@ invariant_of-self c = record {
 }
 
 -- the verdict that counts
-state : (c : After-pre_returned) → c.counted-state.result ≡ state_at (the_view c.self.inside) c.args.worker c.in-Some.operation c.in-Some.instance c.args.verdict
+state : (c : After-pre_returned) → c.counted-state.result
+    ≡ state_at (the_view c.self.inside) c.args.worker c.in-Some.operation c.in-Some.instance c.args.verdict
 state c =
     pre_state (the_view c.self.inside) c.args.worker c.in-Some.operation c.in-Some.instance c.in-Some-record.record.now c.args.verdict c.of_hand-verdict.result
     c.has_post-has_post.result c.counted-state.result

@@ -10,7 +10,8 @@ returns-clause-event c =
     let old = the_view c.self.inside in
     rw (sym c.self.view_is) (comes_up old c.args.worker c.in-Some._caller c.self.inside.contexts c.release.new.self _ c.release.result _ _ c.self.view_is
     (sym c.caller.ensures.callback ∙ c.in-Some.is) (λ v e. ap (λ (x : ContextsKept). with_contexts old x.table) e
-    ∙ ap (with_contexts old) (released_alike (carried_of c.self.inside.contexts) (carries old) old.contexts c.args.worker.0 c.args.context (c.self.invariant.tied c.args.context))) c.release.ensures)
+    ∙ ap (with_contexts old) (released_alike (carried_of c.self.inside.contexts) (carries old) old.contexts c.args.worker.0
+    c.args.context (c.self.invariant.tied c.args.context))) c.release.ensures)
 
 pub invariant_of-self : goal.invariant_of-self
 invariant_of-self c =

@@ -16,7 +16,8 @@ invariant_of-self c =
     let kept = c.self.inside.contexts in
     let there = holder kept.table.slots c.in-Ok.found.0 c.in-Ok.found.1 in record {
       sound = (set_does _ _ _ _ _ _ _ (returns-clause-event c)).0.sound (subst IsSound c.self.view_is c.self.invariant.sound);
-      tied = table_tied kept c.set-reply.new.self (set_after (carried_of kept) kept.table c.args.worker.0 c.args.context c.in-Ok.found.1 c.args.mode c.args.wants_old there)
+      tied = table_tied kept c.set-reply.new.self (set_after (carried_of kept) kept.table c.args.worker.0 c.args.context
+          c.in-Ok.found.1 c.args.mode c.args.wants_old there)
           c.self.inside.flow (set_there (carried_of kept) kept.table c.args.worker.0 c.args.context c.in-Ok.found.1 c.args.mode c.args.wants_old there)
           c.set-reply.ensures.after c.self.invariant.tied;
     }

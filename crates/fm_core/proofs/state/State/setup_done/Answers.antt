@@ -23,7 +23,8 @@ setup_done-result-requires c =
 pub returns-clause-event : goal.returns-clause-event
 unfolding SetsUp
 returns-clause-event c =
-    let tied = left_tied c.self.inside.contexts c.leave.new.self c.args.worker.0 c.self.inside.flow c.leave.ensures.table c.leave.ensures.carried c.self.invariant.tied in
+    let tied = left_tied c.self.inside.contexts c.leave.new.self c.args.worker.0 c.self.inside.flow c.leave.ensures.table
+    c.leave.ensures.carried c.self.invariant.tied in
     rw (sym c.self.view_is, at (goal.at.returns-clause-event c).In-Some, c.put.ensures) (
       c.setup_done-result.ensures.event,
       c.leave.new.self.table,
@@ -36,7 +37,8 @@ pub invariant_of-self : goal.invariant_of-self
 invariant_of-self c = record {
   sound = (setup_does _ _ _ _ _ (returns-clause-event c)).0.sound (subst IsSound c.self.view_is c.self.invariant.sound);
   tied = unless_tied c.in-Some.instance c.setup_done-result.result c.leave.new.self c.unlink_unless.new.contexts c.self.inside.flow c.unlink_unless.ensures
-      (left_tied c.self.inside.contexts c.leave.new.self c.args.worker.0 c.self.inside.flow c.leave.ensures.table c.leave.ensures.carried c.self.invariant.tied);
+      (left_tied c.self.inside.contexts c.leave.new.self c.args.worker.0 c.self.inside.flow c.leave.ensures.table
+      c.leave.ensures.carried c.self.invariant.tied);
 }
 
 pub returns-clause-held : goal.returns-clause-held

@@ -9,4 +9,8 @@ returns-clause-event c = rw (sym c.self.view_is, sym c.left_on-left.ensures) (c.
 
 pub invariant_of-self : goal.invariant_of-self
 invariant_of-self c =
-    record { sound = (start_dismount_does _ _ _ _ (returns-clause-event c)).sound (subst IsSound c.self.view_is c.self.invariant.sound); tied = c.self.invariant.tied }
+    record {
+      sound = (start_dismount_does _ _ _ _ (returns-clause-event c)).sound
+          (subst IsSound c.self.view_is c.self.invariant.sound);
+      tied = c.self.invariant.tied;
+    }

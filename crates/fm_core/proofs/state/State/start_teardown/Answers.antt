@@ -10,4 +10,8 @@ returns-clause-event c =
 
 pub invariant_of-self : goal.invariant_of-self
 invariant_of-self c =
-    record { sound = (start_teardown_does _ _ _ _ _ (returns-clause-event c)).sound (subst IsSound c.self.view_is c.self.invariant.sound); tied = c.self.invariant.tied }
+    record {
+      sound = (start_teardown_does _ _ _ _ _ (returns-clause-event c)).sound
+          (subst IsSound c.self.view_is c.self.invariant.sound);
+      tied = c.self.invariant.tied;
+    }

@@ -25,7 +25,8 @@ rewritten_is : (c : goal.After-bump) → c.bump.new.self ≡ updated (row_with (
 rewritten_is c =
     let i = row_named c.self.inside.rows c.args.id c.self.view_is c.requires.there in
     c.bump.ensures.rest i.row
-    ∙ ap₂ (λ (n : ℕ) (b : List ℕ). updated (row_with (with_number c.args.place n b)) c.self.inside.rows c.args.id.slot) (returns-clause-sum c) (body_row i c.self.view_is i.row)
+    ∙ ap₂ (λ (n : ℕ) (b : List ℕ). updated (row_with (with_number c.args.place n b)) c.self.inside.rows c.args.id.slot)
+    (returns-clause-sum c) (body_row i c.self.view_is i.row)
 
 pub returns-clause-after : goal.returns-clause-after
 returns-clause-after c =

@@ -42,7 +42,8 @@ shows c =
     let rows = c.self.inside.rows in
     let put = c.in-Ok.ensures.ok in
     shown _ c.self.inside.leaks put.1 (slots_put rows c.in-Ok.id (row_of c) put.0 (fresh c)) (carried_put rows c.in-Ok.id (row_of c) put.0 (fresh c))
-    c.put.ensures (ap (λ (w : Waiting). w.ids) c.in-Ok.ensures.placed) refl ∙ ap (λ (k : ContextsKept). kept_allocated k c.args.worker.0 c.in-Ok.id (context_of (row_of c))) c.self.view_is
+    c.put.ensures (ap (λ (w : Waiting). w.ids) c.in-Ok.ensures.placed) refl
+    ∙ ap (λ (k : ContextsKept). kept_allocated k c.args.worker.0 c.in-Ok.id (context_of (row_of c))) c.self.view_is
 
 pub invariant_of-self-2 : goal.invariant_of-self-2
 invariant_of-self-2 c =
@@ -60,5 +61,6 @@ invariant_of-self-2 c =
 pub returns : goal.returns
 returns c =
     let now = c.args.self.now in
-    let told = ap (λ (body : List ℕ). kept_allocated now c.args.worker.0 c.in-Ok.id (new_context c.args.kind c.args.owner c.args.volume body)) c.into_vec.ensures in
+    let told = ap (λ (body : List ℕ). kept_allocated now c.args.worker.0 c.in-Ok.id
+    (new_context c.args.kind c.args.owner c.args.volume body)) c.into_vec.ensures in
     (search rules, (subst (λ (k : ContextsKept). IsNew k.table.slots c.in-Ok.id) c.self.view_is c.in-Ok.ensures.ok.0, shows c ∙ told))

@@ -15,7 +15,13 @@ returns c =
     let s = sound_now c.self.invariant c.self.view_is in
     let was = count_cleaning c.args.worker.0 c.args.id s.lawful c.requires.within c.requires.cleaning in
     let i = row_named c.self.inside.rows c.args.id c.self.view_is was.0 in
-    shown _ c.self.inside.leaks c.clean.ensures (slots_changed i cleaned_row (λ o. None) refl refl) (carried_kept i cleaned_row (omega (arith, was.1, row_carried i c.self.view_is i.row, ap (λ (r : Row). r.carried) (row_read i i.row)))) refl refl refl
+    shown _ c.self.inside.leaks c.clean.ensures (slots_changed i cleaned_row (λ o. None) refl refl)
+    (carried_kept i cleaned_row (omega (
+      arith,
+      was.1,
+      row_carried i c.self.view_is i.row,
+      ap (λ (r : Row). r.carried) (row_read i i.row),
+    ))) refl refl refl
     ∙ ap (λ (k : ContextsKept). record k { table = cleaned k.table c.args.worker.0 c.args.id }) c.self.view_is
 
 pub end-requires : goal.end-requires

@@ -12,7 +12,8 @@ pub returns-clause-carried : goal.returns-clause-carried
 returns-clause-carried c =
     let inside = c.self.inside in
     ap (λ o. unwrap_or (option_map (λ (r : Row). r.carried) o) 0) c.named.ensures
-    ∙ sym (carried_row inside.rows inside.hands.items inside.due.ids inside.cleaning.items inside.leaks c.self.inside.left.items c.args.id) ∙ ap (λ (k : ContextsKept). carried_of k c.args.id) c.self.view_is
+    ∙ sym (carried_row inside.rows inside.hands.items inside.due.ids inside.cleaning.items inside.leaks c.self.inside.left.items
+    c.args.id) ∙ ap (λ (k : ContextsKept). carried_of k c.args.id) c.self.view_is
 
 pub returns-clause-count : goal.returns-clause-count
 returns-clause-count c =

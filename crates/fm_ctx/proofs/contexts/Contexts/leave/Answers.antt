@@ -15,7 +15,8 @@ release_left-requires-clause-noted c =
 pub returns-then-hand_len-gt0-clause-table : goal.returns-then-hand_len-gt0-clause-table
 returns-then-hand_len-gt0-clause-table c =
     let new = c.release_left.new.self.table in
-    leaves_noted c.args.self.now c.args.worker.0 (subst (λ (k : ContextsKept). Leaves (carried_of k) k.table new c.args.worker.0) c.note_left.ensures.noted c.release_left.ensures.table)
+    leaves_noted c.args.self.now c.args.worker.0 (subst (λ (k : ContextsKept). Leaves (carried_of k) k.table new c.args.worker.0)
+    c.note_left.ensures.noted c.release_left.ensures.table)
 
 pub returns-else-hand_len-gt0-clause-table : goal.returns-else-hand_len-gt0-clause-table
 returns-else-hand_len-gt0-clause-table c =

@@ -8,7 +8,13 @@ drop_reference-requires c =
     let s = sound_now c.self.invariant c.self.view_is in
     let i = row_held c.self.invariant c.self.view_is c.args.worker.0 c.args.id c.requires.within c.requires.held in
     let live = live_held s c.args.worker.0 c.args.id c.requires.within c.requires.held in
-    record { there = opens_at i; some = row_positive s i live; within = row_placed c.self.invariant i; absent = due_missing c.self.invariant c.self.view_is c.args.id live }
+    record {
+      there = opens_at i;
+      some = row_positive s i live;
+      within = row_placed c.self.invariant i;
+      absent =
+          due_missing c.self.invariant c.self.view_is c.args.id live;
+    }
 
 pub returns : goal.returns
 returns c =

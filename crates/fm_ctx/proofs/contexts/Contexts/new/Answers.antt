@@ -16,7 +16,8 @@ invariant_of-result c =
     let hands = c.loop-worker.invariant.hands ∙ ap (λ n. replicate {A = List CtxId} n []) all in
     let cleaning = c.loop-worker.invariant.cleaning ∙ ap (λ n. replicate {A = Option CtxId} n None) all in
     let left = c.loop-worker.invariant.left ∙ ap (λ n. replicate {A = List CtxId} n []) all in
-    let shows = shown [] 0 c.new-2.ensures refl refl hands (ap (λ (w : Waiting). w.ids) c.in_ok-new-3.ensures) cleaning ∙ ap (λ (ids : List (List CtxId)). record nothing_kept { table = record empty_table { left = ids } }) left in
+    let shows = shown [] 0 c.new-2.ensures refl refl hands (ap (λ (w : Waiting). w.ids) c.in_ok-new-3.ensures) cleaning
+    ∙ ap (λ (ids : List (List CtxId)). record nothing_kept { table = record empty_table { left = ids } }) left in
     record {
       sound = sound_as c.new-2.ensures shows sound_empty;
       seated = c.in_ok-new-2.ensures ∙ sym (ap seats_of c.new-2.ensures);

@@ -5,4 +5,5 @@ use Rattle.fm_ctx.proofs.contexts.Contexts.reference.Goals as goal
 
 pub grab-requires-clause-live : goal.grab-requires-clause-live
 grab-requires-clause-live c =
-    count_held (carried_of c.args.self.now) c.args.self.now.table c.args.worker.0 c.args.id (within_hands c.args.worker.0 c.laws.ensures.lawful c.requires) (sym c.if-not-holds.ensures.held)
+    count_held (carried_of c.args.self.now) c.args.self.now.table c.args.worker.0 c.args.id
+    (within_hands c.args.worker.0 c.laws.ensures.lawful c.requires) (sym c.if-not-holds.ensures.held)

@@ -23,4 +23,5 @@ link-requires-in-Replace-clause-live c =
 pub link-requires-in-Replace-clause-free : goal.link-requires-in-Replace-clause-free
 link-requires-in-Replace-clause-free c =
     subst (λ (k : ContextsKept). IsFree k.table c.args.id c.args.object) (sym c.unlink_for.ensures)
-    (free_at_last c.args.worker.0 c.args.wants_old c.in-Some.old c.args.id c.args.owner c.args.object c.laws.ensures.lawful c.requires.bare c.in-Some.ensures.found)
+    (free_at_last c.args.worker.0 c.args.wants_old c.in-Some.old c.args.id c.args.owner c.args.object c.laws.ensures.lawful
+    c.requires.bare c.in-Some.ensures.found)

@@ -17,7 +17,8 @@ returns-clause-reply c =
     let i = due_row c.in_ok-id.id c.self.invariant.sound c.in_ok-id.ensures.some.0 in
     let row = sym (c.entry-entry.ensures i.row) ∙ read_updated i (row_with []) i.row c.take_body-body.ensures.rest in
     let body = c.from_vec.ensures ∙ c.take_body-body.ensures.body i.row ∙ ap (λ (r : Row). r.body) (row_read i i.row) in
-    ap₂ (λ (r : Row) (bytes : List ℕ). Some (record { id = c.in_ok-id.id; kind = r.kind; owner = r.owner; body = bytes })) row body ∙ due_told i c.in_ok-id.ensures.some.0 c.self.view_is
+    ap₂ (λ (r : Row) (bytes : List ℕ). Some (record { id = c.in_ok-id.id; kind = r.kind; owner = r.owner; body = bytes })) row body
+    ∙ due_told i c.in_ok-id.ensures.some.0 c.self.view_is
 
 pub returns-clause-after : goal.returns-clause-after
 returns-clause-after c =
@@ -28,7 +29,8 @@ returns-clause-after c =
     let first : slice_get inside.due.ids 0 ≡ Some id = ap (λ (due : List CtxId). slice_get due 0) c.in_ok-id.ensures.some.0 in
     shown _ inside.leaks c.take_body-body.ensures.rest (slots_with i []) (carried_kept i (row_with []) refl)
     refl (sym (ap (λ (due : List CtxId). drop 1 due) c.in_ok-id.ensures.some.0)) refl
-    ∙ sym (ap (λ o. record kept { table = taken_of kept.table c.args.worker.0 o }) first) ∙ ap (λ (k : ContextsKept). record k { table = after_take_due k.table c.args.worker.0 }) c.self.view_is
+    ∙ sym (ap (λ o. record kept { table = taken_of kept.table c.args.worker.0 o }) first)
+    ∙ ap (λ (k : ContextsKept). record k { table = after_take_due k.table c.args.worker.0 }) c.self.view_is
 
 pub invariant_of-self-2 : goal.invariant_of-self-2
 invariant_of-self-2 c =

@@ -9,7 +9,13 @@ drop_reference-requires c =
     let s = sound_now c.self.invariant c.self.view_is in
     let i = row_linked c.self.invariant c.self.view_is c.args.id c.requires in
     let live = live_linked s c.args.id c.requires in
-    record { there = opens_at i; some = row_positive s i live; within = row_placed c.self.invariant i; absent = due_missing c.self.invariant c.self.view_is c.args.id live }
+    record {
+      there = opens_at i;
+      some = row_positive s i live;
+      within = row_placed c.self.invariant i;
+      absent =
+          due_missing c.self.invariant c.self.view_is c.args.id live;
+    }
 
 pub unlink-requires : goal.unlink-requires
 unlink-requires c = let i = row_linked c.self.invariant c.self.view_is c.args.id c.requires in opens_updated i lowered c.drop_reference.ensures.rows i.open_yet

@@ -21,7 +21,8 @@ sweep_slot-requires c = on_within c.args.object c.loop-next.self.table.slots c.i
 
 pub loop-next-smaller : goal.loop-next-smaller
 loop-next-smaller c =
-    last_falls (links_on c.loop-next.self.table.slots c.chain_to-chain.result) c.in-Some.slot c.next_on-next-in-Some.result c.loop-next.next c.in-Some.is c.next_on-next-in-Some.ensures
+    last_falls (links_on c.loop-next.self.table.slots c.chain_to-chain.result) c.in-Some.slot c.next_on-next-in-Some.result
+    c.loop-next.next c.in-Some.is c.next_on-next-in-Some.ensures
 
 pub loop-next-preserved : goal.loop-next-preserved
 loop-next-preserved c =

@@ -12,7 +12,8 @@ sweep_slot-requires c = omega (arith, length-swept c.loop-slot.invariant.swept.s
 
 pub loop-slot-preserved : goal.loop-slot-preserved
 loop-slot-preserved c = record {
-  swept = subst (λ (k : ContextsKept). SweptWhere (Of c.args.owner) c.args.self.now k (λ j. j < c.loop-slot.slot + 1)) (sym c.sweep_slot.ensures) (upto_more c.loop-slot.invariant.swept);
+  swept = subst (λ (k : ContextsKept). SweptWhere (Of c.args.owner) c.args.self.now k (λ j. j < c.loop-slot.slot + 1))
+      (sym c.sweep_slot.ensures) (upto_more c.loop-slot.invariant.swept);
   all = c.loop-slot.invariant.all;
 }
 

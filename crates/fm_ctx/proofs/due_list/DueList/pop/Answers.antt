@@ -8,15 +8,24 @@ use Rattle.fm_ctx.proofs.due_list.DueList.pop.Goals as goal
 
 pub returns-in_default-clause-none : goal.returns-in_default-clause-none
 returns-in_default-clause-none c =
-    let inside = c.self.inside in
-    (ap (λ (w : Waiting). w.ids) (sym c.self.view_is) ∙ none_waits inside.nexts.items (walk (length inside.nexts.items) inside.nexts.items inside.first) inside.first c.self.invariant.linked.chain c.in_default.is, refl)
+    let inside = c.self.inside in (
+      ap (λ (w : Waiting). w.ids) (sym c.self.view_is) ∙ none_waits inside.nexts.items
+          (walk (length inside.nexts.items) inside.nexts.items inside.first) inside.first c.self.invariant.linked.chain c.in_default.is,
+      refl,
+    )
 
 pub index-requires : goal.index-requires
 index-requires c =
     let inside = c.self.inside in
-    omega (arith, inside.nexts.ok.0, first_there (walk (length inside.nexts.items) inside.nexts.items inside.first) c.in-Some.id c.self.invariant.linked c.in-Some.is)
+    omega (
+      arith,
+      inside.nexts.ok.0,
+      first_there (walk (length inside.nexts.items) inside.nexts.items inside.first) c.in-Some.id
+          c.self.invariant.linked c.in-Some.is,
+    )
 
-popped : (c : After-and-self-inside) → Popped c.self.inside.nexts.items c.self.inside.last c.in-Some.id (walk (length c.self.inside.nexts.items) c.self.inside.nexts.items c.self.inside.first)
+popped : (c : After-and-self-inside) → Popped c.self.inside.nexts.items c.self.inside.last c.in-Some.id
+    (walk (length c.self.inside.nexts.items) c.self.inside.nexts.items c.self.inside.first)
 popped c = linked_pop (walk (length c.self.inside.nexts.items) c.self.inside.nexts.items c.self.inside.first) c.in-Some.id c.self.invariant.linked c.in-Some.is
 
 led : (c : After-and-self-inside) → c.index.result.now ≡ get_or c.self.inside.nexts.items c.in-Some.id.slot None

@@ -13,7 +13,8 @@ pushed c =
     let inside = c.self.inside in
     let within = subst (λ (w : Waiting). c.args.id.slot < w.slots) (sym c.self.view_is) c.requires.within in
     subst (λ (p : List (Option CtxId) × Option CtxId). AreLinked p.0 p.1 (Some c.args.id) (c.args.self.now.ids ++ c.args.id ∷ []))
-    (λ i. (sym c.lead.ensures.nexts i, sym c.or-self-inside.ensures i)) (linked_push c.args.id (linked_now c.self.invariant.linked c.self.view_is) within c.requires.absent)
+    (λ i. (sym c.lead.ensures.nexts i, sym c.or-self-inside.ensures i))
+    (linked_push c.args.id (linked_now c.self.invariant.linked c.self.view_is) within c.requires.absent)
 
 pub invariant_of-self : goal.invariant_of-self
 invariant_of-self c = due_list (pushed (goal.at.invariant_of-self c).After-or-self-inside) (omega (arith, c.self.invariant.fits, c.lead.ensures.room))

@@ -9,24 +9,34 @@ has-requires c = passed_within c.in-Some.slot c.loop-next.invariant c.in-Some.is
 
 pub returns-then-has : goal.returns-then-has
 returns-then-has c =
-    position_at (is_seat c.args.seat) c.args.self.now c.in-Some.slot None c.requires (passed_within c.in-Some.slot c.loop-next.invariant c.in-Some.is) (sym c.if-has.ensures)
+    position_at (is_seat c.args.seat) c.args.self.now c.in-Some.slot None c.requires
+    (passed_within c.in-Some.slot c.loop-next.invariant c.in-Some.is) (sym c.if-has.ensures)
 
 pub index-next-requires-in-Some : goal.index-next-requires-in-Some
 index-next-requires-in-Some c =
-    omega (arith, passed_within c.in-Some.slot c.loop-next.invariant c.in-Some.is, ap (λ (s : List (Option Seat)). length s) c.self.view_is, c.self.invariant.chained.matched, c.self.inside.nexts.ok.0)
+    omega (
+      arith,
+      passed_within c.in-Some.slot c.loop-next.invariant c.in-Some.is,
+      ap (λ (s : List (Option Seat)). length s) c.self.view_is,
+      c.self.invariant.chained.matched,
+      c.self.inside.nexts.ok.0,
+    )
 
 pub loop-next-smaller : goal.loop-next-smaller
 loop-next-smaller c =
     let chain = chain_of c.args.seat in
     let has = (passed_slot c.in-Some.slot c.loop-next.invariant c.in-Some.is).passes in
     let next = c.index-next-in-Some.result.now in
-    last_falls (stands c.args.self.now chain) c.in-Some.slot next c.loop-next.next c.in-Some.is (led_by chain c.in-Some.slot next (chained_as refl (sym c.self.view_is) c.self.invariant.chained) has c.index-next-in-Some.ensures)
+    last_falls (stands c.args.self.now chain) c.in-Some.slot next c.loop-next.next c.in-Some.is
+    (led_by chain c.in-Some.slot next (chained_as refl (sym c.self.view_is) c.self.invariant.chained) has c.index-next-in-Some.ensures)
 
 pub loop-next-preserved : goal.loop-next-preserved
 loop-next-preserved c =
     let has = (passed_slot c.in-Some.slot c.loop-next.invariant c.in-Some.is).passes in
     let next = c.index-next-in-Some.result.now in
-    passed_more c.in-Some.slot next c.loop-next.invariant c.in-Some.is (sym c.if-has.ensures) (led_by (chain_of c.args.seat) c.in-Some.slot next (chained_as refl (sym c.self.view_is) c.self.invariant.chained) has c.index-next-in-Some.ensures)
+    passed_more c.in-Some.slot next c.loop-next.invariant c.in-Some.is (sym c.if-has.ensures)
+    (led_by (chain_of c.args.seat) c.in-Some.slot next (chained_as refl (sym c.self.view_is) c.self.invariant.chained) has
+    c.index-next-in-Some.ensures)
 
 pub returns : goal.returns
 returns c = passed_all c.loop-next.invariant c.in_default.is

@@ -12,16 +12,27 @@ index_mut-entry-requires c = has_entry c.self.inside.slots.slots c.self.inside.l
 pub bump_number-requires : goal.bump_number-requires
 bump_number-requires c =
     let d = vacant_row 0 in
-    omega (arith, c.requires.within d, ap (λ (r : Row). length r.body) (row_now c.self.inside.slots.slots c.self.inside.lasts.items c.self.view_is c.args.slot c.requires.there c.index_mut-entry.result.now d c.index_mut-entry.ensures.value))
+    omega (
+      arith,
+      c.requires.within d,
+      ap (λ (r : Row). length r.body)
+          (row_now c.self.inside.slots.slots c.self.inside.lasts.items c.self.view_is c.args.slot c.requires.there
+          c.index_mut-entry.result.now d c.index_mut-entry.ensures.value),
+    )
 
 pub returns-clause-sum : goal.returns-clause-sum
 returns-clause-sum c d =
-    c.bump_number.ensures.sum ∙ sym (ap (λ (r : Row). raised c.args.place c.args.by r.body) (row_now c.self.inside.slots.slots c.self.inside.lasts.items c.self.view_is c.args.slot c.requires.there c.index_mut-entry.result.now d c.index_mut-entry.ensures.value))
+    c.bump_number.ensures.sum ∙ sym (ap (λ (r : Row). raised c.args.place c.args.by r.body)
+    (row_now c.self.inside.slots.slots c.self.inside.lasts.items c.self.view_is c.args.slot c.requires.there
+    c.index_mut-entry.result.now d c.index_mut-entry.ensures.value))
 
 pub returns-clause-rest : goal.returns-clause-rest
 returns-clause-rest c d =
-    let body = ap (λ (r : Row). r.body) (row_now c.self.inside.slots.slots c.self.inside.lasts.items c.self.view_is c.args.slot c.requires.there c.index_mut-entry.result.now d c.index_mut-entry.ensures.value) in
-    changed_now c.self.inside.slots.slots c.self.inside.lasts.items c.self.view_is c.args.slot c.requires.there c.index_mut-entry.result.now _ (row_with (with_number c.args.place c.bump_number.result c.index_mut-entry.result.now.body.items)) c.index_mut-entry.ensures.value refl
+    let body = ap (λ (r : Row). r.body) (row_now c.self.inside.slots.slots c.self.inside.lasts.items c.self.view_is c.args.slot
+    c.requires.there c.index_mut-entry.result.now d c.index_mut-entry.ensures.value) in
+    changed_now c.self.inside.slots.slots c.self.inside.lasts.items c.self.view_is c.args.slot c.requires.there
+    c.index_mut-entry.result.now _ (row_with (with_number c.args.place c.bump_number.result
+    c.index_mut-entry.result.now.body.items)) c.index_mut-entry.ensures.value refl
     (λ h. ap (λ (b : List ℕ). row_with b (open_row h c.index_mut-entry.result.now)) c.bump_number.ensures.rest)
     ∙ ap (λ (b : List ℕ). updated (row_with (with_number c.args.place c.bump_number.result b)) c.args.self.now c.args.slot) (sym body)
 

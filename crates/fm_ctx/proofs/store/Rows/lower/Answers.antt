@@ -9,13 +9,21 @@ index_mut-entry-requires c = has_entry c.self.inside.slots.slots c.self.inside.l
 pub overflow_sub-entry : goal.overflow_sub-entry
 overflow_sub-entry c =
     let d = vacant_row 0 in
-    omega (arith, c.requires.some d, ap (λ (r : Row). r.count) (row_now c.self.inside.slots.slots c.self.inside.lasts.items c.self.view_is c.args.slot c.requires.there c.index_mut-entry.result.now d c.index_mut-entry.ensures.value))
+    omega (
+      arith,
+      c.requires.some d,
+      ap (λ (r : Row). r.count)
+          (row_now c.self.inside.slots.slots c.self.inside.lasts.items c.self.view_is c.args.slot c.requires.there
+          c.index_mut-entry.result.now d c.index_mut-entry.ensures.value),
+    )
 
 pub returns-clause-last : goal.returns-clause-last
 returns-clause-last c d =
-    let count = ap (λ (r : Row). r.count) (row_now c.self.inside.slots.slots c.self.inside.lasts.items c.self.view_is c.args.slot c.requires.there c.index_mut-entry.result.now d c.index_mut-entry.ensures.value) in
+    let count = ap (λ (r : Row). r.count) (row_now c.self.inside.slots.slots c.self.inside.lasts.items c.self.view_is c.args.slot
+    c.requires.there c.index_mut-entry.result.now d c.index_mut-entry.ensures.value) in
     grind (arith, nat_tests, count, c.requires.some d)
 
 pub returns-clause-rest : goal.returns-clause-rest
 returns-clause-rest c =
-    changed_now c.self.inside.slots.slots c.self.inside.lasts.items c.self.view_is c.args.slot c.requires.there c.index_mut-entry.result.now _ lowered c.index_mut-entry.ensures.value refl (λ h. refl)
+    changed_now c.self.inside.slots.slots c.self.inside.lasts.items c.self.view_is c.args.slot c.requires.there
+    c.index_mut-entry.result.now _ lowered c.index_mut-entry.ensures.value refl (λ h. refl)

@@ -13,7 +13,8 @@ index-requires c =
 
 pub returns-in_default : goal.returns-in_default
 returns-in_default c =
-    ap (λ (o : Option Entry). named_row c.args.id (found_by c.args.id (get_or c.self.inside.lasts.items c.args.id.slot 0) o)) c.in_default.ensures ∙ named_now c.self.invariant c.self.view_is c.args.id
+    ap (λ (o : Option Entry). named_row c.args.id (found_by c.args.id (get_or c.self.inside.lasts.items c.args.id.slot 0) o))
+    c.in_default.ensures ∙ named_now c.self.invariant c.self.view_is c.args.id
 
 pub returns-then-entry : goal.returns-then-entry
 returns-then-entry c =
@@ -21,12 +22,14 @@ returns-then-entry c =
     elim c.then-entry.branch [
       | then-entry-via-then-entry w ↦ grind (arith, nat_tests, found, w.if-entry.true)
       | then-entry-via-else-entry+then-id-index w ↦
-          let last = get_or_default c.self.inside.lasts.items c.args.id.slot w.index.result.now 0 (given_now c.self.invariant c.args.id.slot c.in-Some.entry.now (sym c.in-Some.ensures)) in
+          let last = get_or_default c.self.inside.lasts.items c.args.id.slot w.index.result.now 0
+          (given_now c.self.invariant c.args.id.slot c.in-Some.entry.now (sym c.in-Some.ensures)) in
           grind (arith, nat_tests, found, w.if-entry.false, w.index.ensures, last, w.if-id-index.true)
     ]
 
 pub returns : goal.returns
 returns c =
     let found = named_at c.self.invariant c.self.view_is c.args.id c.in-Some.entry.now (sym c.in-Some.ensures) in
-    let last = get_or_default c.self.inside.lasts.items c.args.id.slot c.index.result.now 0 (given_now c.self.invariant c.args.id.slot c.in-Some.entry.now (sym c.in-Some.ensures)) in
+    let last = get_or_default c.self.inside.lasts.items c.args.id.slot c.index.result.now 0
+    (given_now c.self.invariant c.args.id.slot c.in-Some.entry.now (sym c.in-Some.ensures)) in
     grind (arith, nat_tests, found, c.if-entry.false, c.index.ensures, last, c.if-id-index.false)

@@ -15,8 +15,26 @@ loop-slot-preserved c =
     let within : c.loop-slot.slot < length c.args.self.now = omega (arith, c.loop-slot-test.true, c.len-slot-end.ensures) in
     let more = counted_more test c.args.self.now c.loop-slot.slot d within in
     elim c.if-is_open_of.branch [
-      | then-is_open_of w ↦ record { count = omega (arith, w.count-is, so_far.count, more, ap one (sym (c.is_open_of.ensures d) ∙ w.if-is_open_of.true)); few = omega (arith, w.count-is, so_far.few) }
-      | else-is_open_of w ↦ record { count = omega (arith, w.count-is, so_far.count, more, ap one (sym (c.is_open_of.ensures d) ∙ w.if-is_open_of.false)); few = omega (arith, w.count-is, so_far.few) }
+      | then-is_open_of w ↦ record {
+        count = omega (
+          arith,
+          w.count-is,
+          so_far.count,
+          more,
+          ap one (sym (c.is_open_of.ensures d) ∙ w.if-is_open_of.true),
+        );
+        few = omega (arith, w.count-is, so_far.few);
+      }
+      | else-is_open_of w ↦ record {
+        count = omega (
+          arith,
+          w.count-is,
+          so_far.count,
+          more,
+          ap one (sym (c.is_open_of.ensures d) ∙ w.if-is_open_of.false),
+        );
+        few = omega (arith, w.count-is, so_far.few);
+      }
     ]
 
 pub returns : goal.returns

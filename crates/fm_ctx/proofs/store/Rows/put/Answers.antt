@@ -18,13 +18,15 @@ free c = ap (λ (l : List (Option Entry)). get_or l c.vacant_key-slot.result Non
 here : (c : goal.After-insert_reserved) → get_or c.insert_reserved.new.self.slots c.vacant_key-slot.result None ≡ Some c.args.entry
 here c = ap (λ k. get_or c.insert_reserved.new.self.slots k None) (sym (key c)) ∙ c.insert_reserved.ensures.updates.changed
 
-others : (c : goal.After-insert_reserved) (j : ℕ) → j ≢ c.vacant_key-slot.result → get_or c.insert_reserved.new.self.slots j None ≡ get_or c.self.inside.slots.slots j None
+others : (c : goal.After-insert_reserved) (j : ℕ) → j ≢ c.vacant_key-slot.result → get_or c.insert_reserved.new.self.slots j None
+    ≡ get_or c.self.inside.slots.slots j None
 others c j apart =
     c.insert_reserved.ensures.updates.others j (λ is. apart (is ∙ key c)) ∙ ap (λ (l : List (Option Entry)). get_or l j None) (kept c)
 
 pub invariant_of-self-2 : goal.invariant_of-self-2
 invariant_of-self-2 c =
-    stored_put c.insert_reserved.new.self.slots c.self.invariant c.vacant_key-slot.result c.in_ok-generation.generation c.args.entry (free c) c.in_ok-generation.ensures.ok (here c) (others c) c.requires.opens
+    stored_put c.insert_reserved.new.self.slots c.self.invariant c.vacant_key-slot.result c.in_ok-generation.generation c.args.entry
+    (free c) c.in_ok-generation.ensures.ok (here c) (others c) c.requires.opens
 
 pub returns-clause-ok : goal.returns-clause-ok
 returns-clause-ok c =

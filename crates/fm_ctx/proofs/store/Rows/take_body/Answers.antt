@@ -10,9 +10,13 @@ index_mut-entry-requires c = has_entry c.self.inside.slots.slots c.self.inside.l
 
 pub returns-clause-body : goal.returns-clause-body
 returns-clause-body c d =
-    ap (λ (v : Vec ℕ). v.items) c.replace.ensures.value ∙ sym (ap (λ (r : Row). r.body) (row_now c.self.inside.slots.slots c.self.inside.lasts.items c.self.view_is c.args.slot c.requires.there c.index_mut-entry.result.now d c.index_mut-entry.ensures.value))
+    ap (λ (v : Vec ℕ). v.items) c.replace.ensures.value ∙ sym
+    (ap (λ (r : Row). r.body) (row_now c.self.inside.slots.slots c.self.inside.lasts.items c.self.view_is c.args.slot
+    c.requires.there c.index_mut-entry.result.now d c.index_mut-entry.ensures.value))
 
 pub returns-clause-rest : goal.returns-clause-rest
 returns-clause-rest c =
-    changed_now c.self.inside.slots.slots c.self.inside.lasts.items c.self.view_is c.args.slot c.requires.there c.index_mut-entry.result.now (record c.index_mut-entry.result.now { body = c.replace.new.dest }) (row_with []) c.index_mut-entry.ensures.value refl
+    changed_now c.self.inside.slots.slots c.self.inside.lasts.items c.self.view_is c.args.slot c.requires.there
+    c.index_mut-entry.result.now (record c.index_mut-entry.result.now { body = c.replace.new.dest })
+    (row_with []) c.index_mut-entry.ensures.value refl
     (λ h. ap (λ (b : List ℕ). row_with b (open_row h c.index_mut-entry.result.now)) (ap (λ (v : Vec ℕ). v.items) c.replace.ensures.after ∙ c.requires.bare))

@@ -7,4 +7,5 @@ index_mut-entry-requires c = has_entry c.self.inside.slots.slots c.self.inside.l
 
 pub returns : goal.returns
 returns c =
-    changed_now c.self.inside.slots.slots c.self.inside.lasts.items c.self.view_is c.args.slot c.requires c.index_mut-entry.result.now _ unlinked_row c.index_mut-entry.ensures.value refl (λ h. refl)
+    changed_now c.self.inside.slots.slots c.self.inside.lasts.items c.self.view_is c.args.slot c.requires c.index_mut-entry.result.now
+    _ unlinked_row c.index_mut-entry.ensures.value refl (λ h. refl)

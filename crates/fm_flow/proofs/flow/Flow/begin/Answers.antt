@@ -10,6 +10,7 @@ invariant_of-self-2 c =
     let is = ap (λ (r : FlowRecord). r.collected) made in
     let fresh = ap (λ (r : FlowRecord). r.entries) made in
     let creates = c.is_creating-is_creating.ensures ∙ ap is_creating (sym c.in_ok-record-2.ensures) in (
-      rw (c.in_ok-push.ensures.items, made) (flow_begins c.args.volume c.args.stream c.args.handle c.args.born c.args.path c.args.params _ c.requires.file c.requires.limits c.self.invariant.0 full),
+      rw (c.in_ok-push.ensures.items, made) (flow_begins c.args.volume c.args.stream c.args.handle c.args.born c.args.path
+          c.args.params _ c.requires.file c.requires.limits c.self.invariant.0 full),
       rw c.in_ok-push.ensures.items (tally_begun _ _ c.self.invariant.1 fresh is c.recounted-self-inside.ensures creates),
     )

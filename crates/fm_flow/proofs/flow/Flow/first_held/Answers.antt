@@ -11,5 +11,6 @@ returns-in_err-operation c =
 
 pub returns : goal.returns
 returns c =
-    first_told c.args.hold c.args.instance.0 c.deref.result.now (Some c.in_ok-operation.operation.now) (Some c.number.result) c.self.view_is c.deref.ensures.value
+    first_told c.args.hold c.args.instance.0 c.deref.result.now (Some c.in_ok-operation.operation.now)
+    (Some c.number.result) c.self.view_is c.deref.ensures.value
     c.self.invariant.0.ascending (sym (ap option_copied c.in_ok-operation.was) ∙ c.first_held.ensures) (ap Some c.number.ensures)

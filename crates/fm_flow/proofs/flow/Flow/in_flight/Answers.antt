@@ -6,7 +6,8 @@ use Rattle.fm_flow.proofs.Drains.{in_flight_counted}
 use Rattle.fm_flow.proofs.flow.Flow.in_flight.Goals as goal
 
 pub returns-then-instance-lt-INSTANCES : goal.returns-then-instance-lt-INSTANCES
-returns-then-instance-lt-INSTANCES c = c.of.ensures ∙ c.self.invariant.1.flights c.args.instance.0 (omega arith) ∙ ap (in_flight c.args.instance.0) c.self.view_is
+returns-then-instance-lt-INSTANCES c = c.of.ensures ∙ c.self.invariant.1.flights c.args.instance.0 (omega arith)
+    ∙ ap (in_flight c.args.instance.0) c.self.view_is
 
 pub returns : goal.returns
 returns c =

@@ -15,13 +15,15 @@ standing-place-requires c = record {
 
 pub pass_up-requires : goal.pass_up-requires
 pass_up-requires c =
-    let there = found c.args.number c.self.view_is (sym c.standing-place.ensures) c.deref.ensures.value refl c.as_mut-operation.ensures.value c.index_mut.ensures.value in
+    let there = found c.args.number c.self.view_is (sym c.standing-place.ensures) c.deref.ensures.value refl
+    c.as_mut-operation.ensures.value c.index_mut.ensures.value in
     let owes = said_there there (OwesNext c.args.ask) c.requires.owes in
     record { stage = owes.0; next = owes.1; may = c.requires.may }
 
 pub invariant_of-self : goal.invariant_of-self
 invariant_of-self c =
-    let there = found c.args.number c.self.view_is (sym c.standing-place.ensures) c.deref.ensures.value refl c.as_mut-operation.ensures.value c.index_mut.ensures.value in
+    let there = found c.args.number c.self.view_is (sym c.standing-place.ensures) c.deref.ensures.value refl
+    c.as_mut-operation.ensures.value c.index_mut.ensures.value in
     let owes = said_there there (OwesNext c.args.ask) c.requires.owes in
     let d = c.as_mut-operation.result.now in
     kept_set there c.self.invariant (passed_up c.args.worker c.args.ask) c.pass_up.ensures (passed_stays c.args.worker c.args.ask)
@@ -33,12 +35,14 @@ invariant_of-self c =
 
 pub leaves-requires : goal.leaves-requires
 leaves-requires c =
-    let there = found c.args.number c.self.view_is (sym c.standing-place.ensures) c.deref.ensures.value refl c.as_mut-operation.ensures.value c.index_mut.ensures.value in
+    let there = found c.args.number c.self.view_is (sym c.standing-place.ensures) c.deref.ensures.value refl
+    c.as_mut-operation.ensures.value c.index_mut.ensures.value in
     let owes = said_there there (OwesNext c.args.ask) c.requires.owes in
     may_leave there c.self.invariant (Some c.args.ask.instance) c.pass_up.new.self
     (passes_up c.args.worker c.args.ask c.as_mut-operation.result.now owes.0 owes.1 (sound_now there c.self.invariant) c.pass_up.ensures)
 
 pub returns : goal.returns
 returns c =
-    let there = found c.args.number c.self.view_is (sym c.standing-place.ensures) c.deref.ensures.value refl c.as_mut-operation.ensures.value c.index_mut.ensures.value in
+    let there = found c.args.number c.self.view_is (sym c.standing-place.ensures) c.deref.ensures.value refl
+    c.as_mut-operation.ensures.value c.index_mut.ensures.value in
     changed_some there (passed_up c.args.worker c.args.ask) c.pass_up.ensures

@@ -15,7 +15,8 @@ unreachable-requires-in_default-ask_at c =
     let deep = ap (λ (r : FlowRecord). position (is_of c.args.instance.0) (owed r.entries)) c.self.view_is ∙ sym c.depth_of.ensures ∙ c.in-Some.is in
     let read = c.ask_at.ensures ∙ ap (λ es. ask_at es c.remove.result) c.deref.ensures.value ∙ asked_early c.args.instance.0 c.self.inside.entries.items
     c.self.inside.owed _ c.in-Some.depth c.remove.result c.self.invariant.1.1.1.1.1.asks deep c.remove.ensures.place in
-    false≢true (sym (ap is_some (sym read ∙ c.in_default-ask_at.is)) ∙ any_found (is_of c.args.instance.0) (owed c.self.inside.entries.items) ∙ ap (owes c.args.instance.0) c.self.view_is ∙ c.requires)
+    false≢true (sym (ap is_some (sym read ∙ c.in_default-ask_at.is))
+    ∙ any_found (is_of c.args.instance.0) (owed c.self.inside.entries.items) ∙ ap (owes c.args.instance.0) c.self.view_is ∙ c.requires)
 
 pub invariant_of-self : goal.invariant_of-self
 invariant_of-self c =
@@ -30,7 +31,9 @@ invariant_of-self c =
             c.self.invariant.1.1.1.0,
             (
               c.self.invariant.1.1.1.1.0,
-              rw (c.push_reserved.ensures.items, c.remove.ensures.others) (noted_early c.self.inside.stage _ c.args.instance c.in-Some.depth c.self.invariant.0.course deep c.self.invariant.1.1.1.1.1),
+              rw (c.push_reserved.ensures.items, c.remove.ensures.others)
+                  (noted_early c.self.inside.stage _ c.args.instance c.in-Some.depth c.self.invariant.0.course deep
+                  c.self.invariant.1.1.1.1.1),
             ),
           ),
         ),

@@ -9,7 +9,16 @@ pub invariant_of-self : goal.invariant_of-self
 invariant_of-self c =
     let runs = subst (λ (r : FlowRecord). RunsEarly c.args.instance (Some r)) (sym c.self.view_is) c.requires in (
       rw (c.settle_drain.ensures.items) (sound_over c.args.instance _ runs c.self.invariant.0),
-      (omega arith, (omega arith, (c.self.invariant.1.1.1.0, (c.self.invariant.1.1.1.1.0, rw c.settle_drain.ensures.items (noted_drain _ _ c.self.invariant.1.1.1.1.1))))),
+      (
+        omega arith,
+        (
+          omega arith,
+          (
+            c.self.invariant.1.1.1.0,
+            (c.self.invariant.1.1.1.1.0, rw c.settle_drain.ensures.items (noted_drain _ _ c.self.invariant.1.1.1.1.1)),
+          ),
+        ),
+      ),
     )
 
 pub settle_drain-requires : goal.settle_drain-requires

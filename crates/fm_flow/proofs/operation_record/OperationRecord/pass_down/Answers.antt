@@ -23,7 +23,8 @@ invariant_of-self c =
             c.self.invariant.1.1.1.0,
             (
               c.self.invariant.1.1.1.1.0,
-              rw (c.push_reserved.ensures.items, c.note.ensures, end) (noted_ask _ c.self.invariant.1.1.1.1.1 c.args.worker c.args.instance c.args.completion _ course fresh),
+              rw (c.push_reserved.ensures.items, c.note.ensures, end)
+                  (noted_ask _ c.self.invariant.1.1.1.1.1 c.args.worker c.args.instance c.args.completion _ course fresh),
             ),
           ),
         ),

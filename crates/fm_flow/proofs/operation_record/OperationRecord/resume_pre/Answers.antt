@@ -11,7 +11,8 @@ invariant_of-self c =
     let stage = ap (λ (r : FlowRecord). r.stage) c.self.view_is ∙ c.requires.stage in
     let path = subst (λ s. HasPath s c.self.inside.path c.self.inside.lent_path) stage c.self.invariant.1.1.1.0 in
     let course = (at_stage _ PreHeld stage c.self.invariant.0).0 in (
-      rw (c.settle_pre-place.ensures.items, c.pre_leads-self-inside.ensures, c.complete.ensures) (sound_pre_resumed c.args.state _ stage c.requires.counted c.self.invariant.0),
+      rw (c.settle_pre-place.ensures.items, c.pre_leads-self-inside.ensures, c.complete.ensures)
+          (sound_pre_resumed c.args.state _ stage c.requires.counted c.self.invariant.0),
       (
         omega arith,
         (

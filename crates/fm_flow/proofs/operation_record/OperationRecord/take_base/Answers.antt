@@ -8,7 +8,14 @@ pub invariant_of-self : goal.invariant_of-self
 invariant_of-self c =
     let stage = ap (λ (r : FlowRecord). r.stage) c.self.view_is ∙ c.requires.stage in
     let fits = ap (λ (r : FlowRecord). base_fits c.args.call c.args.answer r) c.self.view_is ∙ c.requires.fits in (
-      rw (c.push_reserved.ensures.items, c.base_counted-answer.ensures, c.handle_given-self-inside.ensures, c.into_data.ensures, c.params.ensures, c.params-2.ensures)
+      rw (
+        c.push_reserved.ensures.items,
+        c.base_counted-answer.ensures,
+        c.handle_given-self-inside.ensures,
+        c.into_data.ensures,
+        c.params.ensures,
+        c.params-2.ensures,
+      )
           (sound_base c.args.call c.args.answer c.args.handle _ stage fits c.self.invariant.0),
       (
         omega arith,

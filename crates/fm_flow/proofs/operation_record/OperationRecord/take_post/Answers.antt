@@ -11,7 +11,14 @@ invariant_of-self c =
     let stage = ap (λ (r : FlowRecord). r.stage) c.self.view_is ∙ c.requires.stage in
     let fits = ap (λ (r : FlowRecord). data_fits r.operation r.path c.args.lent) c.self.view_is ∙ c.requires.fits in
     let course = (at_stage _ PostRunning stage c.self.invariant.0).0 in (
-      rw (c.settle_post.ensures.items, c.post_leads-self-inside.ensures, c.post_state-state.ensures, c.take_answer.ensures, c.take_answer-answer.ensures.answer, c.take_answer-answer.ensures.after)
+      rw (
+        c.settle_post.ensures.items,
+        c.post_leads-self-inside.ensures,
+        c.post_state-state.ensures,
+        c.take_answer.ensures,
+        c.take_answer-answer.ensures.answer,
+        c.take_answer-answer.ensures.after,
+      )
           (sound_post_returned c.args.verdict c.args.lent _ stage fits c.self.invariant.0),
       (
         omega arith,

@@ -7,5 +7,6 @@ use Rattle.fm_flow.proofs.owed_stack.OwedStack.remove.Goals as goal
 pub returns-clause-others : goal.returns-clause-others
 returns-clause-others c =
     let many = ap length c.self.view_is in
-    ap reverse c.remove.ensures.items ∙ reverse_remove c.self.inside.places.items (c.len.result - 1 - c.args.depth) c.args.depth (omega (arith, c.requires, many, length-reverse c.self.inside.places.items, c.len.ensures.value))
+    ap reverse c.remove.ensures.items ∙ reverse_remove c.self.inside.places.items (c.len.result - 1 - c.args.depth) c.args.depth
+    (omega (arith, c.requires, many, length-reverse c.self.inside.places.items, c.len.ensures.value))
     ∙ ap (λ ys. remove ys c.args.depth) c.self.view_is

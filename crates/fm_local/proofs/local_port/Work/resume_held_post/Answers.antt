@@ -8,19 +8,22 @@ use Rattle.fm_local.proofs.local_port.Work.resume_held_post.Goals as goal
 pub returns-in_err-resume_post-clause-stands : goal.returns-in_err-resume_post-clause-stands
 returns-in_err-resume_post-clause-stands c =
     let old = c.args.self.now in
-    (resume_post_stands old.state WORKER c.resume_post.new.self c.args.operation (Err c.in_err-resume_post.field-0.0) c.laws.ensures c.in_err-resume_post.ensures.event old.resumed.items.items)
+    (resume_post_stands old.state WORKER c.resume_post.new.self c.args.operation (Err c.in_err-resume_post.field-0.0) c.laws.ensures
+    c.in_err-resume_post.ensures.event old.resumed.items.items)
 
 pub returns-clause-stands : goal.returns-clause-stands
 returns-clause-stands c =
     let old = c.args.self.now in
     let queued = c.put.ensures.room (not_full _ _ _ c.is_full.ensures c.if-is_full.false) in
     (ap (λ os. standing_with os c.resume_post.new.self) queued
-    ∙ resume_post_stands old.state WORKER c.resume_post.new.self c.args.operation (Ok tt) c.laws.ensures c.in_ok-resume_post.ensures.event old.resumed.items.items)
+    ∙ resume_post_stands old.state WORKER c.resume_post.new.self c.args.operation
+    (Ok tt) c.laws.ensures c.in_ok-resume_post.ensures.event old.resumed.items.items)
 
 pub returns-in_err-resume_post-clause-hand : goal.returns-in_err-resume_post-clause-hand
 returns-in_err-resume_post-clause-hand c =
     let old = c.args.self.now in
-    resume_post_hand old.state WORKER c.resume_post.new.self c.laws.ensures c.args.operation (Err c.in_err-resume_post.field-0.0) c.in_err-resume_post.ensures.event
+    resume_post_hand old.state WORKER c.resume_post.new.self c.laws.ensures c.args.operation
+    (Err c.in_err-resume_post.field-0.0) c.in_err-resume_post.ensures.event
 
 pub returns-clause-hand : goal.returns-clause-hand
 returns-clause-hand c =

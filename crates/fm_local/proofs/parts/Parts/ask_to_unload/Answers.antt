@@ -15,7 +15,8 @@ returns-in_err-ask_unload-clause-between g c before =
     let why = c.in_err-ask_unload.field-0.0 in
     record {
       waits = same_flow _ _ _ _ (unmoved.unload_asked c.args.self.now.work.state refused WORKER c.args.filter (Err why) event) before.waits;
-      out = same_out WORKER c.args.self.now.work.state refused (ask_unload_refused c.args.self.now.work.state WORKER c.args.filter why refused event) before.out;
+      out = same_out WORKER c.args.self.now.work.state refused
+          (ask_unload_refused c.args.self.now.work.state WORKER c.args.filter why refused event) before.out;
       none_due = none_refused WORKER c.args.self.now.work.state c.args.filter why refused event before.none_due;
     }
 
@@ -30,6 +31,8 @@ returns-clause-between g c before =
     record {
       waits = subst (λ (m : Parts g.row.F.Denot g.row.B.Denot). Waiting m) (sym c.unloading.ensures.kept)
           (same_flow _ _ _ _ (unmoved.unloaded asked c.unloading.new.self.work.state WORKER allows c.unloading.result returns) waited);
-      out = unload_out WORKER asked c.unloading.new.self.work.state c.unloading.result may c.args.filter (unloading_in WORKER old c.args.filter asked event) c.unloading.ensures.event;
-      none_due = none_agreed WORKER may old c.args.filter asked event c.unloading.result c.unloading.new.self.work.state c.unloading.ensures.event before.none_due;
+      out = unload_out WORKER asked c.unloading.new.self.work.state c.unloading.result may c.args.filter
+          (unloading_in WORKER old c.args.filter asked event) c.unloading.ensures.event;
+      none_due = none_agreed WORKER may old c.args.filter asked event c.unloading.result c.unloading.new.self.work.state
+          c.unloading.ensures.event before.none_due;
     }

@@ -17,7 +17,8 @@ returns-in-Ok-clause-ready g c ready =
     let i = c.in_ok-instance.instance in
     let born = c.attach.new.self in
     attach_leaves c.args.self.now ready c.args.filter c.args.volume
-    c.args.name c.args.altitude i born (AgreesAt g.F.Minifilter.setup_may c.args.self.now.filters born i) (Ok tt) c.set_up.new.self c.in_ok-instance.ensures.event
+    c.args.name c.args.altitude i born (AgreesAt g.F.Minifilter.setup_may c.args.self.now.filters born i)
+    (Ok tt) c.set_up.new.self c.in_ok-instance.ensures.event
     (c.in-Ok.ensures.quiet ready.plain ready.settled)
 
 pub returns-in-Err-clause-ready : goal.returns-in-Err-clause-ready
@@ -25,7 +26,8 @@ returns-in-Err-clause-ready g c ready =
     let i = c.in_ok-instance.instance in
     let born = c.attach.new.self in
     attach_leaves c.args.self.now ready c.args.filter c.args.volume
-    c.args.name c.args.altitude i born (AgreesAt g.F.Minifilter.setup_may c.args.self.now.filters born i) (Err c.in-Err.status) c.set_up.new.self c.in_ok-instance.ensures.event
+    c.args.name c.args.altitude i born (AgreesAt g.F.Minifilter.setup_may c.args.self.now.filters born i)
+    (Err c.in-Err.status) c.set_up.new.self c.in_ok-instance.ensures.event
     (c.in-Err.ensures.quiet ready.plain ready.settled)
 
 pub returns-in_err-instance-clause-settles : goal.returns-in_err-instance-clause-settles
@@ -44,9 +46,13 @@ returns-in_err-instance-clause-between g c before =
     let event = c.in_err-instance.ensures.event in
     let refused = c.attach.new.self in
     record {
-      waits = same_flow _ _ _ _ (unmoved.attached c.args.self.now.work.state refused WORKER c.args.filter c.args.volume c.args.name c.args.altitude (Err c.in_err-instance.field-0.0) event) before.waits;
-      out = same_out WORKER c.args.self.now.work.state refused (attach_refused c.args.self.now.work.state WORKER c.args.filter c.args.volume c.args.name c.args.altitude c.in_err-instance.field-0.0 refused event) before.out;
-      none_due = none_attached WORKER c.args.self.now.work.state c.args.filter c.args.volume c.args.name c.args.altitude c.in_err-instance.field-0.0 refused event before.none_due;
+      waits = same_flow _ _ _ _ (unmoved.attached c.args.self.now.work.state refused WORKER c.args.filter c.args.volume c.args.name
+          c.args.altitude (Err c.in_err-instance.field-0.0) event) before.waits;
+      out = same_out WORKER c.args.self.now.work.state refused
+          (attach_refused c.args.self.now.work.state WORKER c.args.filter c.args.volume c.args.name c.args.altitude
+          c.in_err-instance.field-0.0 refused event) before.out;
+      none_due = none_attached WORKER c.args.self.now.work.state c.args.filter c.args.volume c.args.name c.args.altitude
+          c.in_err-instance.field-0.0 refused event before.none_due;
     }
 
 pub returns-in-Ok-clause-between : goal.returns-in-Ok-clause-between
@@ -54,8 +60,10 @@ returns-in-Ok-clause-between g c before =
     let event = c.in_ok-instance.ensures.event in
     let born = c.attach.new.self in
     record {
-      waits = c.set_up.ensures.waits (same_flow _ _ _ _ (unmoved.attached c.args.self.now.work.state born WORKER c.args.filter c.args.volume c.args.name c.args.altitude (Ok c.in_ok-instance.instance) event) before.waits);
-      out = c.set_up.ensures.out (attached_in WORKER c.args.self.now.work.state c.args.filter c.args.volume c.args.name c.args.altitude c.in_ok-instance.instance born event);
+      waits = c.set_up.ensures.waits (same_flow _ _ _ _ (unmoved.attached c.args.self.now.work.state born WORKER c.args.filter
+          c.args.volume c.args.name c.args.altitude (Ok c.in_ok-instance.instance) event) before.waits);
+      out = c.set_up.ensures.out (attached_in WORKER c.args.self.now.work.state c.args.filter c.args.volume c.args.name c.args.altitude
+          c.in_ok-instance.instance born event);
       none_due = c.set_up.ensures.none_due;
     }
 
@@ -64,7 +72,9 @@ returns-in-Err-clause-between g c before =
     let event = c.in_ok-instance.ensures.event in
     let born = c.attach.new.self in
     record {
-      waits = c.set_up.ensures.waits (same_flow _ _ _ _ (unmoved.attached c.args.self.now.work.state born WORKER c.args.filter c.args.volume c.args.name c.args.altitude (Ok c.in_ok-instance.instance) event) before.waits);
-      out = c.set_up.ensures.out (attached_in WORKER c.args.self.now.work.state c.args.filter c.args.volume c.args.name c.args.altitude c.in_ok-instance.instance born event);
+      waits = c.set_up.ensures.waits (same_flow _ _ _ _ (unmoved.attached c.args.self.now.work.state born WORKER c.args.filter
+          c.args.volume c.args.name c.args.altitude (Ok c.in_ok-instance.instance) event) before.waits);
+      out = c.set_up.ensures.out (attached_in WORKER c.args.self.now.work.state c.args.filter c.args.volume c.args.name c.args.altitude
+          c.in_ok-instance.instance born event);
       none_due = c.set_up.ensures.none_due;
     }

@@ -19,7 +19,8 @@ pub returns-then-start_and_drain-clause-quiet : goal.returns-then-start_and_drai
 returns-then-start_and_drain-clause-quiet g c plain rests settled =
     let alone = c.start_and_drain.ensures.quiet plain rests c.if-start_and_drain.true in
     let after =
-    settled_after c.args.self.now c.start_and_drain.new.self c.settle.new.self alone.resumed alone.bases alone.filters settled c.settle.ensures.tidies c.settle.ensures.kept in
+    settled_after c.args.self.now c.start_and_drain.new.self c.settle.new.self alone.resumed alone.bases alone.filters settled
+    c.settle.ensures.tidies c.settle.ensures.kept in
     (inr (alone.started, c.start_and_drain.new.self.work.state, alone.starts, alone.returns, after.0), after.1)
 
 pub returns-else-start_and_drain-clause-quiet : goal.returns-else-start_and_drain-clause-quiet

@@ -21,16 +21,19 @@ returns-in_default g c =
       out = λ out. turned.out (c.loop-made.invariant.1 out);
       waits = λ waits apart. let far = c.loop-made.invariant.3 waits apart in turned.waits far.0 far.1;
       ended = turned.ended;
-      goes = goes_to_end g.F.Minifilter g.B.Base WORKER c.args.operation c.args.self.now c.loop-made.self c.turn.new.self (ap (λ m. m.filters) c.loop-made.invariant.0.kept) c.loop-made._made c.loop-made.invariant.2
+      goes = goes_to_end g.F.Minifilter g.B.Base WORKER c.args.operation c.args.self.now c.loop-made.self c.turn.new.self
+          (ap (λ m. m.filters) c.loop-made.invariant.0.kept) c.loop-made._made c.loop-made.invariant.2
           c.turn.result turned.takes TURNS;
     }
 
 pub loop-made-preserved : goal.loop-made-preserved
 loop-made-preserved g c = (
   gone_more g.F.Minifilter g.B.Base WORKER c.args.operation c.args.self.now c.loop-made.self c.turn.new.self
-      c.loop-made._made c.loop-made.invariant.0 c.turn.result c.turn.ensures.turned c.turn.ensures.quiet c.turn.ensures.kept c.turn.ensures.at_once c.in-Goes.is,
+      c.loop-made._made c.loop-made.invariant.0 c.turn.result c.turn.ensures.turned c.turn.ensures.quiet c.turn.ensures.kept
+      c.turn.ensures.at_once c.in-Goes.is,
   λ out. c.turn.ensures.out (c.loop-made.invariant.1 out),
-  turns_more g.F.Minifilter g.B.Base WORKER c.args.operation c.args.self.now c.loop-made.self c.turn.new.self (ap (λ m. m.filters) c.loop-made.invariant.0.kept) c.loop-made._made c.loop-made.invariant.2
+  turns_more g.F.Minifilter g.B.Base WORKER c.args.operation c.args.self.now c.loop-made.self c.turn.new.self
+      (ap (λ m. m.filters) c.loop-made.invariant.0.kept) c.loop-made._made c.loop-made.invariant.2
       c.turn.result c.turn.ensures.takes c.in-Goes.is,
   λ waits apart. let far = c.loop-made.invariant.3 waits apart in c.turn.ensures.waits far.0 far.1,
 )
@@ -55,7 +58,8 @@ pub returns-clause-out : goal.returns-clause-out
 returns-clause-out g c = c.loop-made.invariant.1
 
 pub returns-clause-goes : goal.returns-clause-goes
-returns-clause-goes g c = goes_too_far g.F.Minifilter g.B.Base WORKER c.args.operation c.args.self.now c.loop-made.self c.loop-made._made TURNS c.loop-made.invariant.2 c.loop-made-test.false
+returns-clause-goes g c = goes_too_far g.F.Minifilter g.B.Base WORKER c.args.operation c.args.self.now c.loop-made.self
+    c.loop-made._made TURNS c.loop-made.invariant.2 c.loop-made-test.false
 
 pub returns-clause-waits : goal.returns-clause-waits
 returns-clause-waits g c =

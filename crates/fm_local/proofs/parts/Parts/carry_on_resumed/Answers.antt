@@ -41,7 +41,8 @@ pub returns-in-None-clause-waits : goal.returns-in-None-clause-waits
 returns-in-None-clause-waits g c waits =
     let now = c.loop-made.self in
     emptied_waits now.work.state.flow now.work.resumed.items.items c.take.new.self.items.items now.finished.items.items
-    (none_left now.work.resumed.items.items c.take.new.self.items.items (sym c.take.ensures.first ∙ c.in-None.is) c.take.ensures.rest) (c.loop-made.invariant.4 waits)
+    (none_left now.work.resumed.items.items c.take.new.self.items.items (sym c.take.ensures.first ∙ c.in-None.is) c.take.ensures.rest)
+    (c.loop-made.invariant.4 waits)
 
 pub returns-clause-waits : goal.returns-clause-waits
 returns-clause-waits g c =

@@ -19,7 +19,8 @@ returns-in-Err-clause-fold g c ready =
 
 pub returns-in-Ok-clause-refused : goal.returns-in-Ok-clause-refused
 returns-in-Ok-clause-refused g c why refused ends =
-    absurd (not_begun c.args.self.now.work.state (Request.OnHandle c.args.handle FileRequest.Cleanup) c.in-Ok.cleanup c.begin.new.self c.in-Ok.ensures.event why refused)
+    absurd (not_begun c.args.self.now.work.state (Request.OnHandle c.args.handle FileRequest.Cleanup) c.in-Ok.cleanup c.begin.new.self
+    c.in-Ok.ensures.event why refused)
 
 pub returns-in-Err-clause-refused : goal.returns-in-Err-clause-refused
 returns-in-Err-clause-refused g c =
@@ -35,10 +36,15 @@ returns-in-Err-clause-requests g c = (Err c.in-Err.status, c.begin.new.self, c.i
 pub returns-in-Ok-clause-between : goal.returns-in-Ok-clause-between
 returns-in-Ok-clause-between g c before =
     let event = c.in-Ok.ensures.event in
-    let waits = begins_wait c.args.self.now.work.state (Request.OnHandle c.args.handle FileRequest.Cleanup) (Ok c.in-Ok.cleanup) c.begin.new.self c.args.self.now.work.resumed.items.items c.args.self.now.finished.items.items event before.waits in
+    let waits = begins_wait c.args.self.now.work.state (Request.OnHandle c.args.handle FileRequest.Cleanup)
+    (Ok c.in-Ok.cleanup) c.begin.new.self c.args.self.now.work.resumed.items.items c.args.self.now.finished.items.items event
+    before.waits in
     record {
-      waits = c.close_after.ensures.waits waits (begun_apart c.args.self.now.work.state (Request.OnHandle c.args.handle FileRequest.Cleanup) c.in-Ok.cleanup c.begin.new.self c.args.self.now.work.resumed.items.items c.args.self.now.finished.items.items c.laws.ensures event before.waits);
-      out = c.close_after.ensures.out (begun_out WORKER c.args.self.now.work.state (Request.OnHandle c.args.handle FileRequest.Cleanup) (Ok c.in-Ok.cleanup) c.begin.new.self event before.out);
+      waits = c.close_after.ensures.waits waits (begun_apart c.args.self.now.work.state
+          (Request.OnHandle c.args.handle FileRequest.Cleanup) c.in-Ok.cleanup c.begin.new.self
+          c.args.self.now.work.resumed.items.items c.args.self.now.finished.items.items c.laws.ensures event before.waits);
+      out = c.close_after.ensures.out (begun_out WORKER c.args.self.now.work.state (Request.OnHandle c.args.handle FileRequest.Cleanup)
+          (Ok c.in-Ok.cleanup) c.begin.new.self event before.out);
       none_due = c.close_after.ensures.none_due;
     }
 
@@ -47,7 +53,8 @@ returns-in-Err-clause-between g c before =
     let event = c.in-Err.ensures.event in
     let what = Request.OnHandle c.args.handle FileRequest.Cleanup in
     c.close_where_cleaned.ensures.between record {
-      waits = begins_wait c.args.self.now.work.state what (Err c.in-Err.status) c.begin.new.self c.args.self.now.work.resumed.items.items c.args.self.now.finished.items.items event before.waits;
+      waits = begins_wait c.args.self.now.work.state what (Err c.in-Err.status) c.begin.new.self
+          c.args.self.now.work.resumed.items.items c.args.self.now.finished.items.items event before.waits;
       out = begun_out WORKER c.args.self.now.work.state what (Err c.in-Err.status) c.begin.new.self event before.out;
       none_due = none_begun WORKER c.args.self.now.work.state what c.in-Err.status c.begin.new.self event before.none_due;
     }

@@ -4,8 +4,10 @@ use Rattle.fm_local.proofs.parts.Parts.close_after.Goals as goal
 
 pub returns-clause-does : goal.returns-clause-does
 returns-clause-does g c plain began settled =
-    closes_in g.F.Minifilter g.B.Base WORKER c.args.cleanup c.args.handle c.args.self.now c.run_alone-cleaned.new.self c.then_close-reply.new.self c.settle.new.self
-    c.run_alone-cleaned.result c.then_close-reply.result (c.run_alone-cleaned.ensures.runs plain began settled) c.then_close-reply.ensures.stops c.then_close-reply.ensures.does
+    closes_in g.F.Minifilter g.B.Base WORKER c.args.cleanup c.args.handle c.args.self.now c.run_alone-cleaned.new.self
+    c.then_close-reply.new.self c.settle.new.self
+    c.run_alone-cleaned.result c.then_close-reply.result (c.run_alone-cleaned.ensures.runs plain began settled)
+    c.then_close-reply.ensures.stops c.then_close-reply.ensures.does
     c.settle.ensures.tidies c.settle.ensures.kept
 
 pub returns-clause-out : goal.returns-clause-out

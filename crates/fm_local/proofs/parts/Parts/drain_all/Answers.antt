@@ -14,7 +14,8 @@ loop-instance-preserved g c =
           absurd (true≢false (sym told ∙ (c.drain_first.ensures.none still).0)),
       (
         n + 1,
-        drains_more g.F.Minifilter.drained (numbered c.args.self.now.filters) WORKER c.args.instance n old.work.state now.work.state c.drain_first.new.self.work.state many c.drain_first.result told
+        drains_more g.F.Minifilter.drained (numbered c.args.self.now.filters) WORKER c.args.instance n old.work.state now.work.state
+            c.drain_first.new.self.work.state many c.drain_first.result told
             (rw (ap (λ m. m.filters) c.loop-instance.invariant.2) at c.drain_first.ensures.drains),
       ),
       calls_both old now c.drain_first.new.self c.loop-instance.invariant.2 c.drain_first.ensures.kept,
@@ -28,7 +29,8 @@ loop-instance-smaller g c = c.drain_first.ensures.less c.loop-instance-test.true
 pub returns-clause-drains : goal.returns-clause-drains
 returns-clause-drains g c =
     let (n, many) = c.loop-instance.invariant.1 in
-    drains_end g.F.Minifilter.drained (numbered c.args.self.now.filters) WORKER c.args.instance n c.args.self.now.work.state c.loop-instance.self.work.state c.drain_first.new.self.work.state many c.drain_first.result
+    drains_end g.F.Minifilter.drained (numbered c.args.self.now.filters) WORKER c.args.instance n c.args.self.now.work.state
+    c.loop-instance.self.work.state c.drain_first.new.self.work.state many c.drain_first.result
     c.loop-instance-test.false (rw (ap (λ m. m.filters) c.loop-instance.invariant.2) at c.drain_first.ensures.drains)
 
 pub returns-clause-out : goal.returns-clause-out

@@ -10,4 +10,5 @@ returns-clause-ends g c = rw (ap (λ m. m.work.state) c.note_left.ensures) (c.dr
 pub returns-clause-waits : goal.returns-clause-waits
 returns-clause-waits g c waits =
     subst (λ (m : Parts g.row.F.Denot g.row.B.Denot). Waiting m) (sym c.note_left.ensures)
-    (waits_on _ _ _ _ (λ p. drain_over p c.drain.new.self.work.state WORKER c.drain_done-ended.result c.drain_done-ended.new.self c.drain_done-ended.ensures.event) (c.drain.ensures.waits waits))
+    (waits_on _ _ _ _ (λ p. drain_over p c.drain.new.self.work.state WORKER c.drain_done-ended.result c.drain_done-ended.new.self
+    c.drain_done-ended.ensures.event) (c.drain.ensures.waits waits))

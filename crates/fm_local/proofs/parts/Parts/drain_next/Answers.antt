@@ -12,5 +12,6 @@ returns-clause-waits g c there waits =
     let mid = c.drain.new.self in
     let still = in_still WORKER (Place.Drain c.args.operation c.args.instance) c.args.self.now.work.state mid.work.state c.drain.ensures.far there in
     let waited = c.drain.ensures.waits waits in
-    let apart = drain_apart mid.work.state WORKER c.args.operation c.args.instance mid.work.resumed.items.items mid.finished.items.items c.laws.ensures still waited in
+    let apart = drain_apart mid.work.state WORKER c.args.operation c.args.instance mid.work.resumed.items.items
+    mid.finished.items.items c.laws.ensures still waited in
     (c.end_post.ensures.waits waited, subst (λ (m : Parts g.row.F.Denot g.row.B.Denot). IsApart c.args.operation m) (sym c.end_post.ensures.kept) (apart))

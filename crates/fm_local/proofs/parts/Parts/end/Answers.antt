@@ -22,7 +22,14 @@ returns-clause-settles g c =
     inr (
       c.tear_down_all.new.self,
       c.in_ok-tear_down_all.ensures.tears,
-      inr (c.empty_filter.new.self, c.clean_up.new.self.work.state, c.in_ok-empty_filter.ensures.event, c.clean_up.ensures.cleans, c.finish_filter.ensures.event, kept),
+      inr (
+        c.empty_filter.new.self,
+        c.clean_up.new.self.work.state,
+        c.in_ok-empty_filter.ensures.event,
+        c.clean_up.ensures.cleans,
+        c.finish_filter.ensures.event,
+        kept,
+      ),
     )
 
 pub returns-in_err-empty_filter-clause-between : goal.returns-in_err-empty_filter-clause-between
@@ -47,7 +54,9 @@ returns-clause-between g c before =
     let out = emptied_out WORKER c.tear_down_all.new.self.work.state c.args.filter (Ok tt) emptied event torn.out in
     let waits = same_flow _ _ _ _ (unmoved.filter_emptied c.tear_down_all.new.self.work.state emptied c.args.filter (Ok tt) event) torn.waits in
     record {
-      waits = same_flow _ _ _ _ (unmoved.filter_finished tidy c.finish_filter.new.self c.args.filter c.finish_filter.result ended) (c.clean_up.ensures.waits waits);
-      out = ended_out WORKER tidy c.args.filter c.finish_filter.result c.finish_filter.new.self ended (still_out WORKER emptied tidy c.clean_up.ensures.tidies.workers out);
+      waits = same_flow _ _ _ _ (unmoved.filter_finished tidy c.finish_filter.new.self c.args.filter c.finish_filter.result ended)
+          (c.clean_up.ensures.waits waits);
+      out = ended_out WORKER tidy c.args.filter c.finish_filter.result c.finish_filter.new.self ended
+          (still_out WORKER emptied tidy c.clean_up.ensures.tidies.workers out);
       none_due = none_ended WORKER tidy c.args.filter c.finish_filter.result c.finish_filter.new.self ended c.clean_up.ensures.none;
     }

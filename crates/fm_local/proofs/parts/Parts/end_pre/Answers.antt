@@ -6,10 +6,16 @@ use Rattle.fm_local.proofs.parts.Parts.end_pre.Goals as goal
 
 pub returns-in-Ok-clause-waits : goal.returns-in-Ok-clause-waits
 returns-in-Ok-clause-waits g c waits =
-    subst (λ (m : Parts g.row.F.Denot g.row.B.Denot). Waiting m) (sym (c.note_pre.ensures ∙ ap (λ (m : Parts g.row.F.Denot g.row.B.Denot). record m { trace = c.note_pre.new.self.trace }) c.note_left.ensures))
-    (waits_on _ _ _ _ (λ p. pre_ends p c.args.self.now.work.state WORKER c.laws.ensures _ c.pre_returned-ended.new.self c.args.answer.given c.args.back c.pre_returned-ended.ensures.event) waits)
+    subst (λ (m : Parts g.row.F.Denot g.row.B.Denot). Waiting m)
+    (sym (c.note_pre.ensures ∙ ap (λ (m : Parts g.row.F.Denot g.row.B.Denot). record m { trace = c.note_pre.new.self.trace })
+    c.note_left.ensures))
+    (waits_on _ _ _ _ (λ p. pre_ends p c.args.self.now.work.state WORKER c.laws.ensures _ c.pre_returned-ended.new.self
+    c.args.answer.given c.args.back c.pre_returned-ended.ensures.event) waits)
 
 pub returns-in-Err-clause-waits : goal.returns-in-Err-clause-waits
 returns-in-Err-clause-waits g c waits =
-    subst (λ (m : Parts g.row.F.Denot g.row.B.Denot). Waiting m) (sym (c.note_pre.ensures ∙ ap (λ (m : Parts g.row.F.Denot g.row.B.Denot). record m { trace = c.note_pre.new.self.trace }) c.note_left.ensures))
-    (waits_on _ _ _ _ (λ p. pre_ends p c.args.self.now.work.state WORKER c.laws.ensures _ c.pre_returned-ended.new.self c.args.answer.given c.args.back c.pre_returned-ended.ensures.event) waits)
+    subst (λ (m : Parts g.row.F.Denot g.row.B.Denot). Waiting m)
+    (sym (c.note_pre.ensures ∙ ap (λ (m : Parts g.row.F.Denot g.row.B.Denot). record m { trace = c.note_pre.new.self.trace })
+    c.note_left.ensures))
+    (waits_on _ _ _ _ (λ p. pre_ends p c.args.self.now.work.state WORKER c.laws.ensures _ c.pre_returned-ended.new.self
+    c.args.answer.given c.args.back c.pre_returned-ended.ensures.event) waits)

@@ -22,7 +22,8 @@ returns-clause-quiet g c plain rests settled was =
     let quiet = c.complete.ensures.quiet plain (completing_in WORKER old.work.state c.args.instance completing event) in
     let kept = c.complete.ensures.kept in
     let after =
-    settled_after old c.complete.new.self c.settle.new.self quiet.1 (ap (λ m. m.bases) kept) (ap (λ m. m.filters) kept) settled c.settle.ensures.tidies c.settle.ensures.kept in
+    settled_after old c.complete.new.self c.settle.new.self quiet.1 (ap (λ m. m.bases) kept)
+    (ap (λ m. m.filters) kept) settled c.settle.ensures.tidies c.settle.ensures.kept in
     (refl, inr (completing, c.complete.new.self.work.state, event, quiet.0, after.0), after.1)
 
 pub returns-then-not-is_stopping-clause-tells : goal.returns-then-not-is_stopping-clause-tells
@@ -34,7 +35,17 @@ returns-clause-tells g c =
     let old = c.args.self.now in
     let completing = c.complete_teardown.new.self in
     let event = c.in_ok-complete_teardown.ensures.event in
-    rw (sym c.is_stopping.ensures ∙ c.if-not-is_stopping.false) (inr (completing, c.complete.new.self, event, c.complete.ensures.called, c.complete.ensures.ends (completing_in WORKER old.work.state c.args.instance completing event), calls_untraced old c.complete.new.self c.complete.ensures.kept, c.settle.ensures.all, refl))
+    rw (sym c.is_stopping.ensures ∙ c.if-not-is_stopping.false)
+    (inr (
+      completing,
+      c.complete.new.self,
+      event,
+      c.complete.ensures.called,
+      c.complete.ensures.ends (completing_in WORKER old.work.state c.args.instance completing event),
+      calls_untraced old c.complete.new.self c.complete.ensures.kept,
+      c.settle.ensures.all,
+      refl,
+    ))
 
 pub returns-in_err-complete_teardown-clause-between : goal.returns-in_err-complete_teardown-clause-between
 returns-in_err-complete_teardown-clause-between g c before =
@@ -43,7 +54,8 @@ returns-in_err-complete_teardown-clause-between g c before =
     let why = c.in_err-complete_teardown.field-0.0 in
     record {
       waits = same_flow _ _ _ _ (unmoved.completing c.args.self.now.work.state refused WORKER c.args.instance (Err why) event) before.waits;
-      out = same_out WORKER c.args.self.now.work.state refused (complete_refused c.args.self.now.work.state WORKER c.args.instance why refused event) before.out;
+      out = same_out WORKER c.args.self.now.work.state refused
+          (complete_refused c.args.self.now.work.state WORKER c.args.instance why refused event) before.out;
       none_due = none_completed WORKER c.args.self.now.work.state c.args.instance why refused event before.none_due;
     }
 
@@ -53,7 +65,8 @@ returns-clause-between g c before =
     let mid = c.complete_teardown.new.self in
     let there = completing_in WORKER c.args.self.now.work.state c.args.instance mid event in
     record {
-      waits = c.settle.ensures.waits (c.complete.ensures.waits (same_flow _ _ _ _ (unmoved.completing c.args.self.now.work.state mid WORKER c.args.instance (Ok tt) event) before.waits));
+      waits = c.settle.ensures.waits (c.complete.ensures.waits
+          (same_flow _ _ _ _ (unmoved.completing c.args.self.now.work.state mid WORKER c.args.instance (Ok tt) event) before.waits));
       out = c.settle.ensures.out (complete_out WORKER mid c.complete.new.self.work.state c.args.instance there (c.complete.ensures.ends there));
       none_due = c.settle.ensures.none_due;
     }

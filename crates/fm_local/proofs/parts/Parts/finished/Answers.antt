@@ -23,8 +23,10 @@ returns-clause-between g c before =
     let (passed, is, none, collects) = c.in_ok-operation.ensures.takes in
     let done = c.take_done.new.self in
     let taken : IsBetween (record done { trace = c.hand_out.new.self.trace }) = record {
-      waits = waits_without c.args.self.now done before.waits c.in_ok-operation.operation c.in_ok-operation.answer c.in_ok-operation.ensures.takes (ap (λ m. m.work.resumed) c.in_ok-operation.ensures.kept);
+      waits = waits_without c.args.self.now done before.waits c.in_ok-operation.operation c.in_ok-operation.answer
+          c.in_ok-operation.ensures.takes (ap (λ m. m.work.resumed) c.in_ok-operation.ensures.kept);
       out = collected_out WORKER c.args.self.now.work.state c.in_ok-operation.operation (Ok c.in_ok-operation.answer) done.work.state collects before.out;
-      none_due = none_collected WORKER c.args.self.now.work.state c.in_ok-operation.operation (Ok c.in_ok-operation.answer) done.work.state collects before.none_due;
+      none_due = none_collected WORKER c.args.self.now.work.state c.in_ok-operation.operation
+          (Ok c.in_ok-operation.answer) done.work.state collects before.none_due;
     } in
     subst (λ (m : Parts g.row.F.Denot g.row.B.Denot). IsBetween m) (sym c.hand_out.ensures.kept) taken

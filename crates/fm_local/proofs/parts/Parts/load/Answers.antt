@@ -29,7 +29,8 @@ pub returns-clause-numbers : goal.returns-clause-numbers
 returns-clause-numbers g c =
     let old = c.args.self.now.filters in
     let number = c.in_ok-number.number in
-    let within = registered_within c.args.self.now.work.state c.args.name.now c.registration-registration.result number c.register.new.self c.in_ok-number.ensures.event in
+    let within = registered_within c.args.self.now.work.state c.args.name.now c.registration-registration.result number
+    c.register.new.self c.in_ok-number.ensures.event in
     noted_numbers old c.note.new.self c.note.ensures.all c.args.name.now number c.in_ok-place.place
     (found_place (place_called c.args.name.now old.all.items) c.in_ok-place.place c.in_ok-place.ensures) c.note.ensures.noted
     (subst (λ (n : ℕ). number.0 < n) (sym c.note.ensures.places) within)

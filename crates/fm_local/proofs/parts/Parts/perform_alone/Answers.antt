@@ -15,7 +15,8 @@ returns-in-Err-clause-does g c ready =
     c.begin.new.self c.in-Err.status c.in-Err.ensures.event)
 
 pub returns-in-Ok-clause-out : goal.returns-in-Ok-clause-out
-returns-in-Ok-clause-out g c out = c.run_alone.ensures.out (begun_out WORKER c.args.self.now.work.state c.args.request (Ok c.in-Ok.operation) c.begin.new.self c.in-Ok.ensures.event out)
+returns-in-Ok-clause-out g c out = c.run_alone.ensures.out
+    (begun_out WORKER c.args.self.now.work.state c.args.request (Ok c.in-Ok.operation) c.begin.new.self c.in-Ok.ensures.event out)
 
 pub returns-in-Err-clause-out : goal.returns-in-Err-clause-out
 returns-in-Err-clause-out g c = begun_out WORKER c.args.self.now.work.state c.args.request (Err c.in-Err.status) c.begin.new.self c.in-Err.ensures.event
@@ -28,8 +29,12 @@ returns-in-Err-clause-performs g c = inl (c.in-Err.status, c.in-Err.ensures.even
 
 pub returns-in-Ok-clause-waits : goal.returns-in-Ok-clause-waits
 returns-in-Ok-clause-waits g c waits =
-    (c.run_alone.ensures.waits (begins_wait c.args.self.now.work.state c.args.request (Ok c.in-Ok.operation) c.begin.new.self c.args.self.now.work.resumed.items.items c.args.self.now.finished.items.items c.in-Ok.ensures.event waits) (begun_apart c.args.self.now.work.state c.args.request c.in-Ok.operation c.begin.new.self c.args.self.now.work.resumed.items.items c.args.self.now.finished.items.items c.laws.ensures c.in-Ok.ensures.event waits)).0
+    (c.run_alone.ensures.waits (begins_wait c.args.self.now.work.state c.args.request (Ok c.in-Ok.operation) c.begin.new.self
+    c.args.self.now.work.resumed.items.items c.args.self.now.finished.items.items c.in-Ok.ensures.event waits)
+    (begun_apart c.args.self.now.work.state c.args.request c.in-Ok.operation c.begin.new.self
+    c.args.self.now.work.resumed.items.items c.args.self.now.finished.items.items c.laws.ensures c.in-Ok.ensures.event waits)).0
 
 pub returns-in-Err-clause-waits : goal.returns-in-Err-clause-waits
 returns-in-Err-clause-waits g c waits =
-    (begins_wait c.args.self.now.work.state c.args.request (Err c.in-Err.status) c.begin.new.self c.args.self.now.work.resumed.items.items c.args.self.now.finished.items.items c.in-Err.ensures.event waits)
+    (begins_wait c.args.self.now.work.state c.args.request (Err c.in-Err.status) c.begin.new.self
+    c.args.self.now.work.resumed.items.items c.args.self.now.finished.items.items c.in-Err.ensures.event waits)

@@ -18,8 +18,11 @@ returns-else-is_err-clause-ends g c = (c.setup-accepted.new.self.work.state, c.s
 
 pub returns-then-is_err-clause-out : goal.returns-then-is_err-clause-out
 returns-then-is_err-clause-out g c there =
-    finished_out WORKER c.settle.new.self.work.state c.args.instance c.finish.result c.finish.new.self c.finish.ensures.event (c.settle.ensures.out (setup_out WORKER c.args.self.now.work.state
-    c.setup-accepted.new.self.work.state c.setup-accepted.result (AgreesAt g.F.Minifilter.setup_may c.args.self.now.filters c.args.self.now.work.state c.args.instance) c.args.instance there c.setup-accepted.ensures.ends))
+    finished_out WORKER c.settle.new.self.work.state c.args.instance c.finish.result c.finish.new.self c.finish.ensures.event
+    (c.settle.ensures.out (setup_out WORKER c.args.self.now.work.state
+    c.setup-accepted.new.self.work.state c.setup-accepted.result
+    (AgreesAt g.F.Minifilter.setup_may c.args.self.now.filters c.args.self.now.work.state c.args.instance) c.args.instance there
+    c.setup-accepted.ensures.ends))
 
 pub returns-else-is_err-clause-out : goal.returns-else-is_err-clause-out
 returns-else-is_err-clause-out g c there =
@@ -27,7 +30,8 @@ returns-else-is_err-clause-out g c there =
     (AgreesAt g.F.Minifilter.setup_may c.args.self.now.filters c.args.self.now.work.state c.args.instance) c.args.instance there c.setup-accepted.ensures.ends)
 
 pub returns-then-is_err-clause-tidily : goal.returns-then-is_err-clause-tidily
-returns-then-is_err-clause-tidily g c = ends_tidily WORKER c.args.instance c.setup-accepted.result c.finish.new.self (c.settle.new.self.work.state, c.finish.result, c.settle.ensures.none_due, c.finish.ensures.event)
+returns-then-is_err-clause-tidily g c = ends_tidily WORKER c.args.instance c.setup-accepted.result c.finish.new.self
+    (c.settle.new.self.work.state, c.finish.result, c.settle.ensures.none_due, c.finish.ensures.event)
 
 pub returns-then-is_err-clause-settles : goal.returns-then-is_err-clause-settles
 returns-then-is_err-clause-settles g c = (
@@ -53,7 +57,8 @@ returns-else-is_err-clause-settles g c = (
 
 pub returns-then-is_err-clause-waits : goal.returns-then-is_err-clause-waits
 returns-then-is_err-clause-waits g c waits =
-    same_flow _ _ _ _ (unmoved.finished c.settle.new.self.work.state c.finish.new.self c.args.instance c.finish.result c.finish.ensures.event) (c.settle.ensures.waits (c.setup-accepted.ensures.waits waits))
+    same_flow _ _ _ _ (unmoved.finished c.settle.new.self.work.state c.finish.new.self c.args.instance c.finish.result
+    c.finish.ensures.event) (c.settle.ensures.waits (c.setup-accepted.ensures.waits waits))
 
 pub returns-else-is_err-clause-waits : goal.returns-else-is_err-clause-waits
 returns-else-is_err-clause-waits g c waits =

@@ -11,13 +11,18 @@ pub returns-clause-ends : goal.returns-clause-ends
 returns-clause-ends g c there =
     let told = c.tell.new.work.state in
     let still = in_still WORKER (Place.Start c.args.instance) c.args.self.now.work.state told c.tell.ensures.rest.far there in
-    rw (ap (λ m. m.work.state) c.note_left.ensures)
-    (told, c.tell.ensures.rest.far, start_ends WORKER told c.start_returned.new.self c.start_returned.result c.args.instance still c.start_returned.ensures.event)
+    rw (ap (λ m. m.work.state) c.note_left.ensures) (
+      told,
+      c.tell.ensures.rest.far,
+      start_ends WORKER told c.start_returned.new.self c.start_returned.result c.args.instance still
+          c.start_returned.ensures.event,
+    )
 
 pub returns-clause-quiet : goal.returns-clause-quiet
 returns-clause-quiet g c plain there =
     let old = c.args.self.now in
-    let same = c.tell.ensures.rest.quiet (quiet_in g.F.Minifilter.pre_may g.F.Minifilter.post_may g.F.Minifilter.is_quiet (numbered old.filters) old.work.state.stack c.args.instance plain) in
+    let same = c.tell.ensures.rest.quiet (quiet_in g.F.Minifilter.pre_may g.F.Minifilter.post_may g.F.Minifilter.is_quiet
+    (numbered old.filters) old.work.state.stack c.args.instance plain) in
     let still = subst (λ (d : Work). IsIn WORKER (Place.Start c.args.instance) d.state) (sym same) there in
     let ends = start_ends WORKER c.tell.new.work.state c.start_returned.new.self c.start_returned.result c.args.instance still c.start_returned.ensures.event in
     let returns = subst (λ (d : Work). StartReturns d.state WORKER (Ok tt) c.start_returned.new.self) same ends in

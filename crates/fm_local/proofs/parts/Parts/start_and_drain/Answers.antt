@@ -39,7 +39,8 @@ returns-in-Ok-clause-quiet g c plain rests is =
 pub returns-in-Err-clause-none : goal.returns-in-Err-clause-none
 returns-in-Err-clause-none g c is =
     let old = c.args.self.now in
-    ap (λ (w : World). record old { work = record old.work { state = w } }) (start_refused WORKER c.args.instance old.work.state c.in-Err.field-0 c.start_teardown.new.self c.in-Err.ensures.event)
+    ap (λ (w : World). record old { work = record old.work { state = w } })
+    (start_refused WORKER c.args.instance old.work.state c.in-Err.field-0 c.start_teardown.new.self c.in-Err.ensures.event)
 
 pub returns-in-Ok-clause-out : goal.returns-in-Ok-clause-out
 returns-in-Ok-clause-out g c out =
@@ -62,8 +63,10 @@ returns-in-Err-clause-kept g c = refl
 
 pub returns-in-Ok-clause-waits : goal.returns-in-Ok-clause-waits
 returns-in-Ok-clause-waits g c waits =
-    c.drain_all.ensures.waits (c.start.ensures.waits (same_flow _ _ _ _ (unmoved.starting c.args.self.now.work.state c.start_teardown.new.self WORKER c.args.instance (Ok tt) c.in-Ok.ensures.event) waits))
+    c.drain_all.ensures.waits (c.start.ensures.waits (same_flow _ _ _ _
+    (unmoved.starting c.args.self.now.work.state c.start_teardown.new.self WORKER c.args.instance (Ok tt) c.in-Ok.ensures.event) waits))
 
 pub returns-in-Err-clause-waits : goal.returns-in-Err-clause-waits
 returns-in-Err-clause-waits g c waits =
-    same_flow _ _ _ _ (unmoved.starting c.args.self.now.work.state c.start_teardown.new.self WORKER c.args.instance (Err c.in-Err.field-0) c.in-Err.ensures.event) waits
+    same_flow _ _ _ _ (unmoved.starting c.args.self.now.work.state c.start_teardown.new.self WORKER c.args.instance
+    (Err c.in-Err.field-0) c.in-Err.ensures.event) waits

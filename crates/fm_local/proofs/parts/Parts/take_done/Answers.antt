@@ -4,7 +4,8 @@ use Rattle.fm_local.proofs.parts.Parts.take_done.Goals as goal
 
 pub loop-operation-preserved : goal.loop-operation-preserved
 loop-operation-preserved g c =
-    passed_over c.args.self.now c.loop-operation.self c.take.new.self c.loop-operation.invariant.1 c.in-Some.operation c.in_default-collect.field-0 c.collect.new.self c.in_default-collect.ensures.event
+    passed_over c.args.self.now c.loop-operation.self c.take.new.self c.loop-operation.invariant.1 c.in-Some.operation
+    c.in_default-collect.field-0 c.collect.new.self c.in_default-collect.ensures.event
     (sym c.in-Some.ensures.first) c.in-Some.ensures.rest c.loop-operation.invariant.0
 
 pub returns-clause-takes : goal.returns-clause-takes

@@ -42,7 +42,8 @@ returns-clause-goes g c plain rests settled leaves =
     let first = c.begin_teardown.ensures.quiet plain rests settled in
     let still = started_still WORKER old mid plain rests c.args.instance c.laws.ensures first in
     let then = c.in_ok-end_teardown.ensures.quiet still.0.plain still.0.rests still.0.settled still.1 in
-    ends_well WORKER c.args.instance old.work.state mid.work.state c.end_teardown.new.self.work.state c.clean_up.new.self.work.state c.laws.ensures rests first.0 then.1 c.clean_up.ensures.tidies
+    ends_well WORKER c.args.instance old.work.state mid.work.state c.end_teardown.new.self.work.state c.clean_up.new.self.work.state
+    c.laws.ensures rests first.0 then.1 c.clean_up.ensures.tidies
     leaves c.laws-2.ensures c.clean_up.ensures.none c.finish.result c.finish.new.self c.finish.ensures.event c.finish.ensures.waiting
 
 pub returns-in_err-end_teardown-clause-tears : goal.returns-in_err-end_teardown-clause-tears
@@ -56,7 +57,14 @@ returns-clause-tears g c =
     let kept = ap (λ (m : Parts g.row.F.Denot g.row.B.Denot). record m { work = record m.work { state = ended } }) c.clean_up.ensures.kept in (
       c.begin_teardown.new.self,
       c.begin_teardown.ensures.drains,
-      inr (c.end_teardown.new.self, c.clean_up.new.self.work.state, c.in_ok-end_teardown.ensures.tells, c.clean_up.ensures.cleans, c.finish.ensures.event, kept),
+      inr (
+        c.end_teardown.new.self,
+        c.clean_up.new.self.work.state,
+        c.in_ok-end_teardown.ensures.tells,
+        c.clean_up.ensures.cleans,
+        c.finish.ensures.event,
+        kept,
+      ),
     )
 
 pub returns-in_err-end_teardown-clause-between : goal.returns-in_err-end_teardown-clause-between

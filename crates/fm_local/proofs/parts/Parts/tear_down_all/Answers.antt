@@ -21,7 +21,8 @@ loop-at-preserved g c = (
       let still = first_still WORKER old now plain rests c.args.filter c.loop-at.at first in
       let step = c.in_ok-tear_down_if.ensures.quiet still.plain still.rests still.settled in
       (torn_first WORKER c.args.filter c.loop-at.at old.work.state now.work.state new.work.state first.0 step.1, settled_both old now new first.1 step.2),
-  tears_more g.F.Minifilter g.B.Base WORKER TURNS RESUMPTIONS c.args.filter c.loop-at.at c.args.self.now c.loop-at.self c.tear_down_if.new.self c.loop-at.invariant.1 c.in_ok-tear_down_if.ensures.tears,
+  tears_more g.F.Minifilter g.B.Base WORKER TURNS RESUMPTIONS c.args.filter c.loop-at.at c.args.self.now c.loop-at.self
+      c.tear_down_if.new.self c.loop-at.invariant.1 c.in_ok-tear_down_if.ensures.tears,
   λ before. c.in_ok-tear_down_if.ensures.between (c.loop-at.invariant.2 before),
 )
 

@@ -22,7 +22,8 @@ returns-clause-out g c out =
     let old = c.args.self.now in
     let mid = c.next-said.new.self in
     let lends = lent WORKER c.args.operation old.work.state c.laws.ensures out c.next-said.result mid c.next-said.ensures.event in
-    makes_out WORKER g.F.Minifilter.pre_may g.F.Minifilter.post_may g.F.Minifilter.drained (BasesCarry g.B.Base.folder g.B.Base.faults) (numbered old.filters) c.args.operation c.next-said.result mid old.bases.all.items
+    makes_out WORKER g.F.Minifilter.pre_may g.F.Minifilter.post_may g.F.Minifilter.drained (BasesCarry g.B.Base.folder g.B.Base.faults)
+    (numbered old.filters) c.args.operation c.next-said.result mid old.bases.all.items
     c.act.new.self.work.state c.act.new.self.bases.all.items lends c.act.ensures.makes
 
 pub returns-clause-waits : goal.returns-clause-waits
@@ -30,7 +31,8 @@ returns-clause-waits g c waits apart =
     let old = c.args.self.now in
     let said = c.next-said in
     c.act.ensures.waits (given WORKER c.args.operation old.work.state said.result said.new.self c.laws.ensures said.ensures.event)
-    (nexts_wait WORKER c.args.operation old.work.state said.result said.new.self old.work.resumed.items.items old.finished.items.items said.ensures.event apart.0 apart.1 waits) apart
+    (nexts_wait WORKER c.args.operation old.work.state said.result said.new.self old.work.resumed.items.items old.finished.items.items
+    said.ensures.event apart.0 apart.1 waits) apart
 
 pub returns-clause-ended : goal.returns-clause-ended
 returns-clause-ended g c is =

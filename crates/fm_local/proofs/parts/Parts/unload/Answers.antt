@@ -12,7 +12,8 @@ pub returns-in_err-ask_to_unload-clause-ready : goal.returns-in_err-ask_to_unloa
 returns-in_err-ask_to_unload-clause-ready g c ready =
     let old = c.args.self.now in
     loaded_leaves c.args.filter old ready
-    (MayAgree g.F.Minifilter.unload_may (numbered old.filters c.args.filter.0)) c.in_err-ask_to_unload.field-0.0 c.ask_to_unload.new.self c.in_err-ask_to_unload.ensures.asks
+    (MayAgree g.F.Minifilter.unload_may (numbered old.filters c.args.filter.0)) c.in_err-ask_to_unload.field-0.0
+    c.ask_to_unload.new.self c.in_err-ask_to_unload.ensures.asks
     (settled_state old c.ask_to_unload.new.self c.in_err-ask_to_unload.ensures.kept ready.settled)
 
 pub returns-clause-quiet : goal.returns-clause-quiet
@@ -43,7 +44,8 @@ returns-then-is_unloading-clause-settles g c =
 pub returns-in_err-ask_to_unload-clause-settles : goal.returns-in_err-ask_to_unload-clause-settles
 returns-in_err-ask_to_unload-clause-settles g c =
     let exit = err_from_is_err_and c.from_residual.result c.from_residual.ensures.1 in
-    rw (exit.1, exit.2, sym c.is_unloading.ensures ∙ c.if-is_unloading.false) (inl (refl, c.in_err-ask_to_unload.ensures.asks, c.in_err-ask_to_unload.ensures.kept))
+    rw (exit.1, exit.2, sym c.is_unloading.ensures ∙ c.if-is_unloading.false)
+    (inl (refl, c.in_err-ask_to_unload.ensures.asks, c.in_err-ask_to_unload.ensures.kept))
 
 pub returns-clause-settles : goal.returns-clause-settles
 returns-clause-settles g c =

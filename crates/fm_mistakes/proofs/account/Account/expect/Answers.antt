@@ -14,7 +14,8 @@ expects_at wanted old new place found at =
 
 pub returns : goal.returns
 returns c =
-    let found : position (is_open c.args.wanted c.args.self.now.request) c.args.self.now.told.items ≡ Some c.in-Some.place = sym c.open_place.ensures ∙ c.in-Some.is in
+    let found : position (is_open c.args.wanted c.args.self.now.request) c.args.self.now.told.items ≡ Some c.in-Some.place =
+    sym c.open_place.ensures ∙ c.in-Some.is in
     let within : c.in-Some.place < length c.args.self.now.told.items =
     (position-Some (is_open c.args.wanted c.args.self.now.request) c.args.self.now.told.items c.in-Some.place (told_now c.args.wanted 0) found).0 in
     expects_at c.args.wanted c.args.self.now _ c.in-Some.place found

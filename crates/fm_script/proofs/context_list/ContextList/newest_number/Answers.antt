@@ -9,6 +9,9 @@ returns-then-is_same c =
     let newest = c.self.inside.newest.items in
     let number = c.in_ok-number.field-0.now in
     let last = c.in_ok-last.last.now in
-    let kept : slice_get newest c.args.context.slot ≡ Some number = found_at newest c.deref.result.now c.args.context.slot number c.deref.ensures.value c.in_ok-number.ensures.lookup.0 c.in_ok-number.ensures.lookup.1 in
-    let there : slice_get ids number ≡ Some last = found_at ids c.deref-2.result.now number last c.deref-2.ensures.value c.in_ok-last.ensures.lookup.0 c.in_ok-last.ensures.lookup.1 in
+    let kept : slice_get newest c.args.context.slot ≡ Some number =
+    found_at newest c.deref.result.now c.args.context.slot number c.deref.ensures.value c.in_ok-number.ensures.lookup.0
+    c.in_ok-number.ensures.lookup.1 in
+    let there : slice_get ids number ≡ Some last = found_at ids c.deref-2.result.now number last c.deref-2.ensures.value
+    c.in_ok-last.ensures.lookup.0 c.in_ok-last.ensures.lookup.1 in
     rw (← c.self.view_is) (newest_is c.args.context last ids newest number c.self.invariant kept there (sym c.if-is_same.ensures))

@@ -21,7 +21,8 @@ pub invariant_of-self : goal.invariant_of-self
 invariant_of-self c =
     let row = emptying_read c.args.instance c.index.result.now c.self.view_is c.requires c.index.ensures in
     let at =
-    found_at _ _ _ c.args.instance c.index.result.now.volume (Some c.in-Some.place) _ c.seats_at-seats.ensures c.deref.ensures.value c.place_of.ensures c.in-Some.is in
+    found_at _ _ _ c.args.instance c.index.result.now.volume (Some c.in-Some.place) _ c.seats_at-seats.ensures c.deref.ensures.value
+    c.place_of.ensures c.in-Some.is in
     rw (c.set_phase.ensures, c.remove_at.ensures) (finished_kept _ _ c.args.instance c.index.result.now c.in-Some.place c.self.invariant row.1 row.2 at)
 
 pub returns-clause-follows : goal.returns-clause-follows

@@ -8,7 +8,13 @@ returns-in_ok-new-in-Ok-read-clause-ok c =
     let read = c.in-Ok-read.ensures in
     let shared = c.in_ok-new-in-Ok-read.ensures in (
       Operation (request.Create (record { 0 = c.split_u8-volume.result.0 }) c.in_ok-new-in-Ok-read.field-0 c.in-Ok.mode),
-      record { code_is = refl; fields_are = rw (shared, c.in-Ok.ensures.ok, read.value, ← c.split_u8-mode.ensures.spelled) (sym c.split_u8-volume.ensures.spelled); fits = c.split_u8-volume.ensures.small; limits = tt },
+      record {
+        code_is = refl;
+        fields_are = rw (shared, c.in-Ok.ensures.ok, read.value, ← c.split_u8-mode.ensures.spelled)
+            (sym c.split_u8-volume.ensures.spelled);
+        fits = c.split_u8-volume.ensures.small;
+        limits = tt;
+      },
       rw (shared, read.value) (read.accepted.0 refl),
       refl,
     )
@@ -18,6 +24,12 @@ returns-in-Err-read-clause-refused c =
     let read = c.in-Err-read.ensures in
     inr (inr (
       Operation (request.Create (record { 0 = c.split_u8-volume.result.0 }) c.split_u8-mode.result.1.now c.in-Ok.mode),
-      record { code_is = refl; fields_are = rw (c.in-Ok.ensures.ok, ← c.split_u8-mode.ensures.spelled) (sym c.split_u8-volume.ensures.spelled); fits = c.split_u8-volume.ensures.small; limits = tt },
+      record {
+        code_is = refl;
+        fields_are = rw (c.in-Ok.ensures.ok, ← c.split_u8-mode.ensures.spelled)
+            (sym c.split_u8-volume.ensures.spelled);
+        fits = c.split_u8-volume.ensures.small;
+        limits = tt;
+      },
       (read.refused, refuted read.accepted.1),
     ))

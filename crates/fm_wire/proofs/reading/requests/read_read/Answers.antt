@@ -16,7 +16,8 @@ returns-then-len-gt-TRANSFER c =
     inl (
       refl,
       no_read c.args.fields.now (λ h o l e limit.
-          let same = same_length c.args.fields.now _ _ _ _ _ c.split_u32-len.result.0 h o l handle.spelled offset.spelled len.spelled e len.small (omega arith) in
+          let same = same_length c.args.fields.now _ _ _ _ _ c.split_u32-len.result.0 h o l handle.spelled offset.spelled len.spelled e
+          len.small (omega arith) in
           omega (arith, same, c.if-len-gt-TRANSFER.true)),
     )
 
@@ -24,5 +25,16 @@ pub returns : goal.returns
 returns c =
     let handle = c.split_u64-handle.ensures in
     let offset = c.split_u64-offset.ensures in
-    let len = c.split_u32-len.ensures in
-    (Operation (request.OnHandle (record { 0 = c.split_u64-handle.result.0 }) (file.Read c.split_u64-offset.result.0 c.split_u32-len.result.0)), record { code_is = refl; fields_are = joined_three _ _ _ _ _ _ c.split_u32-len.result.1.now handle.spelled offset.spelled len.spelled (omega arith); fits = (handle.small, (offset.small, len.small)); limits = c.if-len-gt-TRANSFER.false }, tt, refl)
+    let len = c.split_u32-len.ensures in (
+      Operation (request.OnHandle (record { 0 = c.split_u64-handle.result.0 })
+          (file.Read c.split_u64-offset.result.0 c.split_u32-len.result.0)),
+      record {
+        code_is = refl;
+        fields_are = joined_three _ _ _ _ _ _ c.split_u32-len.result.1.now handle.spelled offset.spelled
+            len.spelled (omega arith);
+        fits = (handle.small, (offset.small, len.small));
+        limits = c.if-len-gt-TRANSFER.false;
+      },
+      tt,
+      refl,
+    )

@@ -11,5 +11,15 @@ returns-then-fields-ne16 c = inl (refl, request_of_wrong_size 5 c.args.fields.no
 pub returns : goal.returns
 returns c =
     let handle = c.split_u64-handle.ensures in
-    let size = c.split_u64-size.ensures in
-    (Operation (request.OnHandle (record { 0 = c.split_u64-handle.result.0 }) (file.SetSize c.split_u64-size.result.0)), record { code_is = refl; fields_are = joined_two _ _ _ _ c.split_u64-size.result.1.now handle.spelled size.spelled (omega arith); fits = (handle.small, size.small); limits = tt }, tt, refl)
+    let size = c.split_u64-size.ensures in (
+      Operation (request.OnHandle (record { 0 = c.split_u64-handle.result.0 }) (file.SetSize c.split_u64-size.result.0)),
+      record {
+        code_is = refl;
+        fields_are = joined_two _ _ _ _ c.split_u64-size.result.1.now handle.spelled size.spelled
+            (omega arith);
+        fits = (handle.small, size.small);
+        limits = tt;
+      },
+      tt,
+      refl,
+    )

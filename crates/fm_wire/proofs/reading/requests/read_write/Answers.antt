@@ -18,5 +18,15 @@ returns-clause-ok c =
     let handle = c.split_u64-handle.ensures in
     let offset = c.split_u64-offset.ensures in
     let copied = c.in_ok-copy_of.ensures in
-    let long = c.if-fields.false in
-    (Operation (request.OnHandle (record { 0 = c.split_u64-handle.result.0 }) (file.Write c.split_u64-offset.result.0 c.in_ok-copy_of.field-0)), record { code_is = refl; fields_are = rw (copied, ← offset.spelled) (sym handle.spelled); fits = (handle.small, offset.small); limits = rw copied (omega arith) }, tt, refl)
+    let long = c.if-fields.false in (
+      Operation (request.OnHandle (record { 0 = c.split_u64-handle.result.0 })
+          (file.Write c.split_u64-offset.result.0 c.in_ok-copy_of.field-0)),
+      record {
+        code_is = refl;
+        fields_are = rw (copied, ← offset.spelled) (sym handle.spelled);
+        fits = (handle.small, offset.small);
+        limits = rw copied (omega arith);
+      },
+      tt,
+      refl,
+    )

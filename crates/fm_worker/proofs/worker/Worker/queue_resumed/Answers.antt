@@ -7,6 +7,7 @@ pub jobs-preserved : goal.jobs-preserved
 jobs-preserved g c =
     let was = c.jobs.self.own in
     let is = c.put.new.own in
-    put_on (tally_of c.args.self.now.own.pass).puts c.args.self.now.own.port.resumed was.port.resumed is.port.resumed c.take.new.self c.in-Some-first.operation c.first.result
+    put_on (tally_of c.args.self.now.own.pass).puts c.args.self.now.own.port.resumed was.port.resumed is.port.resumed c.take.new.self
+    c.in-Some-first.operation c.first.result
     (tally_of was.pass) (tally_of is.pass) c.put.result c.jobs.invariant c.first.ensures c.in-Some-first.is c.put.ensures.put c.if-not-put.false
     (ap (λ p. p.resumed) c.put.ensures.port) c.take.ensures.rest

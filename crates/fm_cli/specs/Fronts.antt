@@ -54,3 +54,7 @@ Fronts words front = (fault_of front_app words ≡ []) × HasValues (matches_of 
 -- the command doesn't take the words, or finds no values in them
 abbrev pub HasNoFront : List (List ℕ) → Type 0
 HasNoFront words = (fault_of front_app words ≢ []) ⊎ LacksValues (matches_of front_app words)
+
+-- nothing is wrong with these words, and they were taken as the rules of the command say
+abbrev pub TakesWords : List (List ℕ) → List Row → Type 0
+TakesWords words rows = (fault_of front_app words ≡ []) × (rows ≡ matches_of front_app words)

@@ -2,7 +2,7 @@
 
 ghost use Rattle.std.specs.Prelude.{◌≡◌, ◌≢◌, ◌⊎◌, ◌≤◌, IfErr, IfOk, MatchOption, Err, [], codes, false, map, option_map};
 ghost use Rattle.clap.specs.Words.{app_of, fault_of, first_of, found_of, kind_of, matches_of, one_of, rows_of, rule_of};
-ghost use Rattle.fm_cli.specs.Fronts.{Fronts, HasNoFront, HasValues, LacksValues, ReadsWorkers, front_app, required_rule, workers_rule};
+ghost use Rattle.fm_cli.specs.Fronts.{Fronts, HasNoFront, HasValues, LacksValues, ReadsWorkers, TakesWords, front_app, required_rule, workers_rule};
 
 use clap::error::ErrorKind;
 use clap::{Arg, ArgAction, ArgMatches, Command, Error};
@@ -61,8 +61,7 @@ fn status_of(error: &Error) -> Status
 
 // What clap makes of the words.
 fn parse<'a>(alloc: Global, words: &'a [&'a str]) -> Result<ArgMatches<'a>, Status>
-    ensures taken { IfOk result (λ matches. (fault_of front_app (map (λ word. word.now) words.now) ≡ [])
-        × (rows_of (found_of matches) ≡ matches_of front_app (map (λ word. word.now) words.now))) }
+    ensures taken { IfOk result (λ matches. TakesWords (map (λ word. word.now) words.now) (rows_of (found_of matches))) }
     ensures refused { result ≡ Err Status.BadRequest → fault_of front_app (map (λ word. word.now) words.now) ≢ [] }
     ensures errors { IfErr result (λ status. (status ≡ Status.BadRequest) ⊎ (status ≡ Status.NoMemory)) }
 {

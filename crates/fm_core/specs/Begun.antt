@@ -1,5 +1,5 @@
 -- Beginning an operation, step by step.
-use Rattle.std.specs.Prelude.{◌≡◌, Bool, cond, Option, Some, None, Result}
+use Rattle.std.specs.Prelude.{◌≡◌, Bool, cond, Option, Some, None, Result, MatchResult}
 use Rattle.fm_types.specs.Refusals.{AnswersOrMemory}
 use Rattle.fm_types.specs.declared.ids.HandleId.{HandleId}
 use Rattle.fm_types.specs.declared.ids.OpId.{OpId}
@@ -33,3 +33,7 @@ pub record IsAsked (w : World) (h : HandleId) (p : Params) (x : FileHandle) (v :
   pub there : stream_at x.stream w.files ≡ Some stream
   pub volume : stream.volume ≡ v
   pub free : asked_refused w h p ≡ None
+
+-- such an operation, or what refuses it
+abbrev pub IsAskedOr : World → HandleId → Params → Result (FileHandle × VolumeId) Status → Type 0
+IsAskedOr w h p result = MatchResult result (λ at. IsAsked w h p at.0 at.1) (λ status. asked_refused w h p ≡ Some status)

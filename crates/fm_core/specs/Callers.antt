@@ -1,8 +1,11 @@
 -- Whose callback a worker is in, as the code reads it.
-use Rattle.std.specs.Prelude.{Bool, true, false, Option, Some, None, option_map}
+use Rattle.std.specs.Prelude.{ℕ, List, Bool, true, false, Option, Some, None, option_map, option_and_then}
 use Rattle.fm_types.specs.declared.context_kind.ContextKind.{ContextKind}
 use Rattle.fm_types.specs.declared.context_kind.ContextKind.TheVariants as kind
 use Rattle.fm_types.specs.declared.ids.FilterId.{FilterId}
+use Rattle.fm_types.specs.declared.ids.OpId.{OpId}
+use Rattle.fm_types.specs.declared.ids.WorkerId.{WorkerId}
+use Rattle.fm_data.specs.declared.verdict.PreVerdict.{PreVerdict}
 use Rattle.fm_types.specs.declared.status.Status.{Status}
 use Rattle.fm_types.specs.declared.status.Status.TheVariants as status
 use Rattle.fm_stack.specs.declared.instance.Instance.{Instance}
@@ -13,8 +16,14 @@ use Rattle.fm_ctx.specs.declared.object.Object.{Object}
 use Rattle.fm_ctx.specs.declared.object.Object.TheVariants as object
 use Rattle.fm_ctx.specs.declared.owner.Owner.{Owner}
 use Rattle.fm_ctx.specs.declared.owner.Owner.TheVariants as owner
-use Rattle.fm_world.specs.Owners.{has_kind, is_closing, filter_by}
+use Rattle.fm_flow.specs.Table.{FlowTable}
+use Rattle.fm_world.specs.About.{about_operation}
+use Rattle.fm_world.specs.Hands.{taken_by_resume}
+use Rattle.fm_world.specs.Owners.{has_kind, is_closing, filter_by, place_in}
+use Rattle.fm_world.specs.Workers.{worker_at}
+use Rattle.fm_world.specs.World.{World}
 use Rattle.fm_world.specs.ContextEvents.{Callback}
+use Rattle.fm_world.specs.declared.about.AboutOperation.{AboutOperation}
 use Rattle.fm_core.specs.declared.caller.Caller.{Caller}
 
 abbrev pub caller_of : Callback → Caller
@@ -50,3 +59,11 @@ refused_in None = Some status.NoInstance
 refused_in (Some phase.Detached) = Some status.NoInstance
 refused_in (Some phase.Emptying) = None
 refused_in (Some _) = Some status.WrongStep
+
+-- the path of the operation of that number
+abbrev pub path_about : FlowTable → Option OpId → Option (List ℕ)
+path_about t number = option_and_then (λ (o : AboutOperation). o.path) (about_operation t number)
+
+-- how many contexts a verdict for a held preoperation takes from the hand of a worker that is in a callback
+abbrev pub taken_at : World → WorkerId → OpId → PreVerdict → ℕ
+taken_at w k o given = taken_by_resume w k o given (place_in (worker_at w.workers k))

@@ -1,9 +1,9 @@
 //! What a callback may know of what it is called for.
 
-ghost use Rattle.std.specs.Prelude.{◌≡◌, true, is_some, IfErr, IfOk, option_and_then};
+ghost use Rattle.std.specs.Prelude.{◌≡◌, true, is_some, IfErr, IfOk};
 ghost use Rattle.fm_world.specs.About.{Tells, about_of, about_on, about_operation};
-ghost use Rattle.fm_world.specs.declared.about.AboutOperation.{AboutOperation};
 ghost use Rattle.fm_world.specs.Owners.{operation_in, row_at};
+ghost use Rattle.fm_core.specs.Callers.{path_about};
 
 use crate::caller::{instance_in, operation_in};
 use crate::state::State;
@@ -28,7 +28,7 @@ impl State {
     fn about_operation(&self, place: Place) -> Result<Option<AboutOperation>, Status>
         ensures told { IfOk result (λ told. told ≡ about_operation self.now.flow (operation_in place)) }
         ensures memory { IfErr result (λ why. why ≡ Status.NoMemory) }
-        ensures path { IfErr result (λ why. is_some (option_and_then (λ (o : AboutOperation). o.path) (about_operation self.now.flow (operation_in place))) ≡ true) }
+        ensures path { IfErr result (λ why. is_some (path_about self.now.flow (operation_in place)) ≡ true) }
     {
         let Some(number) = operation_in(place) else {
             return Ok(None);

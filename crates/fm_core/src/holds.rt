@@ -3,10 +3,9 @@
 ghost use Rattle.std.specs.Prelude.{◌≡◌, true, false, IfNone, IfSome, Some, None};
 ghost use Rattle.fm_flow.specs.Table.{operation_at, told};
 ghost use Rattle.fm_flow.specs.Holds.{is_held};
-ghost use Rattle.fm_world.specs.Workers.{worker_at};
-ghost use Rattle.fm_world.specs.Owners.{place_in};
 ghost use Rattle.fm_world.specs.Events.{ResumesPre, ResumesPost, FindsHeld, lets_go, sync_worker};
-ghost use Rattle.fm_world.specs.Hands.{OnlyHandOf, KeepsHands, HoldsFewer, taken_by_resume};
+ghost use Rattle.fm_world.specs.Hands.{OnlyHandOf, KeepsHands, HoldsFewer};
+ghost use Rattle.fm_core.specs.Callers.{taken_at};
 
 use crate::descent::{drains_next, has_post};
 use crate::references::{of_hand, send, sent_in};
@@ -56,7 +55,7 @@ impl State {
     ) -> Result<(), Status>
         ensures event { ResumesPre self.old worker operation verdict result self.new }
         ensures hand { OnlyHandOf worker.0 self.old self.new }
-        ensures held { HoldsFewer worker.0 result (taken_by_resume self.old worker operation verdict (place_in (worker_at self.old.workers worker))) self.old self.new }
+        ensures held { HoldsFewer worker.0 result (taken_at self.old worker operation verdict) self.old self.new }
     {
         let Some(instance) = self.instance_of(worker) else {
             return Err(Status::WrongStep);

@@ -1,6 +1,6 @@
 //! Requests: how operations begin.
 
-ghost use Rattle.std.specs.Prelude.{◌≡◌, ◌<◌, All, ◌||◌, ◌∷◌, false, cond, Some, None, MatchResult, OnErr, length};
+ghost use Rattle.std.specs.Prelude.{◌≡◌, ◌<◌, All, ◌||◌, ◌∷◌, false, cond, Some, None, OnErr, length};
 ghost use Rattle.fm_types.specs.Refusals.{first_of};
 ghost use Rattle.fm_stack.specs.Events.{is_mounted_phase};
 ghost use Rattle.fm_data.specs.Params.{operation_of};
@@ -12,7 +12,7 @@ ghost use Rattle.fm_world.specs.declared.file.FileStream.{FileStream};
 ghost use Rattle.fm_world.specs.Events.{Begins, has_no_handle_left, moved_on, asked_refused, volume_refusals};
 ghost use Rattle.fm_world.specs.Hands.{KeepsHands};
 ghost use Rattle.fm_core.specs.FilesKept.{found_at};
-ghost use Rattle.fm_core.specs.Begun.{Asks, IsAsked, refusal_by};
+ghost use Rattle.fm_core.specs.Begun.{Asks, IsAsked, IsAskedOr, refusal_by};
 
 use crate::file_name::FileName;
 use crate::files::Files;
@@ -222,7 +222,7 @@ impl State {
 
     /// The handle and the volume of an operation that nothing refuses but want of memory.
     fn on_handle(&self, handle: HandleId, params: &Params) -> Result<(FileHandle, VolumeId), Status>
-        ensures { MatchResult result (λ at. IsAsked self.now handle params.now at.0 at.1) (λ status. asked_refused self.now handle params.now ≡ Some status) }
+        ensures { IsAskedOr self.now handle params.now result }
     {
         if !params.is_within_limits() {
             return Err(Status::BadRequest);

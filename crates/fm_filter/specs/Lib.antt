@@ -1,3 +1,4 @@
+pub mod Absent
 pub mod Either
 pub mod Handed
 pub mod Hands

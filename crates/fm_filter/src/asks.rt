@@ -1,6 +1,7 @@
 //! The calls of the callbacks that get a port, and what is answered if there is no filter.
 
 ghost use Rattle.std.specs.Prelude.{◌≡◌, MatchOption, false, ⊤};
+ghost use Rattle.fm_filter.specs.Absent.{SkipsPre, SkipsPost};
 
 use crate::callbacks::Callbacks;
 use crate::port::Port;
@@ -24,7 +25,7 @@ pub fn ask_pre<P: Port, F: Callbacks>(
     lent: &mut CallbackData,
     port: &mut P,
 ) -> PreVerdict
-    ensures may { MatchOption filter.entry (result ≡ PreVerdict.NoCallback × lent.new ≡ lent.old) (λ f. F.pre_may f.now lent.old result lent.new) }
+    ensures may { MatchOption filter.entry (SkipsPre lent.old result lent.new) (λ f. F.pre_may f.now lent.old result lent.new) }
     ensures kept { lent.new.received ≡ lent.old.received }
     ensures quiet { MatchOption filter.entry ⊤ (λ f. F.is_quiet f.now) → port.new ≡ port.old }
     ensures far { P.kept port.new ≡ P.kept port.old }
@@ -42,7 +43,7 @@ pub fn ask_post<P: Port, F: Callbacks>(
     completion: Completion,
     port: &mut P,
 ) -> PostVerdict
-    ensures may { MatchOption filter.entry (result ≡ PostVerdict.Finished × lent.new ≡ lent.old) (λ f. F.post_may f.now lent.old completion result lent.new) }
+    ensures may { MatchOption filter.entry (SkipsPost lent.old result lent.new) (λ f. F.post_may f.now lent.old completion result lent.new) }
     ensures kept { lent.new.received ≡ lent.old.received }
     ensures quiet { MatchOption filter.entry ⊤ (λ f. F.is_quiet f.now) → port.new ≡ port.old }
     ensures far { P.kept port.new ≡ P.kept port.old }

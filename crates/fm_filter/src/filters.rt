@@ -1,8 +1,8 @@
 //! The filters that a manager has.
 
-ghost use Rattle.std.specs.Prelude.{◌≡◌, MatchOption, Some, None, length, ok_or, option_and_then, replicate, slice_set};
+ghost use Rattle.std.specs.Prelude.{◌≡◌, Some, None, length, ok_or, option_and_then, replicate, slice_set};
 ghost use Rattle.fm_stack.specs.Instances.{same_name};
-ghost use Rattle.fm_filter.specs.Handed.{handed_in, numbered, place_called};
+ghost use Rattle.fm_filter.specs.Handed.{IsFoundAs, handed_in, numbered, place_called};
 
 use fm_types::limits::FILTERS;
 use fm_types::{FilterId, Name, Status};
@@ -47,7 +47,7 @@ impl<F: Drop> Filters<F> {
 
     /// The filter at a place.
     pub fn at(&self, place: usize) -> Option<&F>
-        ensures { MatchOption result (handed_in self.now place ≡ None) (λ found. handed_in self.now place ≡ Some found.now) }
+        ensures { IsFoundAs (handed_in self.now place) result }
     {
         match self.all.get(place) {
             Some(row) => Some(&row.1),
@@ -69,7 +69,7 @@ impl<F: Drop> Filters<F> {
 
     /// The filter that a number stands for.
     pub fn of(&self, filter: Option<FilterId>) -> Option<&F>
-        ensures { let wanted = option_and_then (λ number. numbered self.now number.0) filter in MatchOption result (wanted ≡ None) (λ found. wanted ≡ Some found.now) }
+        ensures { IsFoundAs (option_and_then (λ number. numbered self.now number.0) filter) result }
     {
         let filter = filter?;
         let place = *self.loaded.get(usize::from(filter.0))?;

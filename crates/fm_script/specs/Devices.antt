@@ -1,8 +1,9 @@
 -- What the devices of a script answer.
-use Rattle.std.specs.Prelude.{◌≡◌, ℕ, ◌+◌, ◌-◌, ◌^◌, ◌==◌, cond, min, Bool, true, false, List}
+use Rattle.std.specs.Prelude.{◌≡◌, ℕ, ◌+◌, ◌-◌, ◌^◌, ◌==◌, ◌++◌, ◌∷◌, [], cond, min, nat_lt, replicate, Bool, true, false, List}
 use Rattle.std.specs.List.{list_any}
 use Rattle.fm_types.specs.declared.status.Status.TheVariants.{DeviceFault}
 use Rattle.fm_script.specs.Words.{Answer, BaseCall}
+use Rattle.std.specs.FinMap.{empty}
 use Rattle.fm_base.specs.Folders.{Folder}
 use Rattle.fm_device.specs.Devices.{bare, CarriesCall}
 use Rattle.fm_script.specs.declared.devices.Devices.{Devices}
@@ -25,3 +26,11 @@ pub record Calls (old : Devices) (call : BaseCall) (answer : Answer) (new : Devi
   pub failures : new.failures ≡ cond (is_failing new.calls old.failing.items) (one_more old.failures) old.failures
   pub failing : new.failing ≡ old.failing
   pub folders : CallsOrFails (is_failing new.calls old.failing.items) old.folders call answer new.folders
+
+-- the call of a number will fail, unless it was made
+abbrev pub failing_with : ℕ → ℕ → List ℕ → List ℕ
+failing_with number calls failing = cond (nat_lt calls number) (failing ++ number ∷ []) failing
+
+-- no file, no call that was made, and none that will fail
+abbrev pub AreFresh : Devices → Type 0
+AreFresh devices = (devices.folders ≡ replicate 8 empty) × (devices.failing.items ≡ []) × (devices.calls ≡ 0) × (devices.failures ≡ 0)

@@ -37,3 +37,7 @@ Says line result old new = Holds (text_with old.held line) result old new
 abbrev pub Changes : {W : Type 0} → W → Result W ScriptEnd → Printed → Printed → (W → Option (List ℕ)) → Type 0
 Changes other (Ok writer) old new contents = Appends old.given (contents writer) old.held × (new ≡ record { given = contents other; held = [] })
 Changes other (Err end) old new contents = (new.held ≡ []) × (end ≡ WriteFault)
+
+-- a text is held back behind the others
+abbrev pub Adds : List ℕ → Printed → Printed → Type 0
+Adds text old new = new ≡ record old { held = old.held ++ text }

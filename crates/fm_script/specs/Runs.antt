@@ -1,6 +1,6 @@
 -- What the lines of a script make of the manager's state, of what its workers were lent, and of the devices: each is a run of events, and the devices
 -- change by the calls alone that a `next` gave.
-use Rattle.std.specs.Prelude.{◌≡◌, ◌⊎◌, ℕ, ◌==◌, ◌++◌, Bool, true, false, List, [], ◌∷◌, Option, option_map, Result, Ok, Err, cond, nat_lt, slice_get, slice_index_or}
+use Rattle.std.specs.Prelude.{◌≡◌, ◌⊎◌, ℕ, ◌==◌, ◌++◌, Bool, true, false, List, [], ◌∷◌, Option, option_map, Some, Result, Ok, Err, MatchResult, cond, nat_lt, slice_get, slice_index_or}
 use Rattle.fm_script.specs.Words.{CtxId, FilterId, VolumeId, InstanceId, OpId, WorkerId, Status, PreVerdict, World, Step, StepReply, Given, Task}
 use Rattle.fm_data.specs.declared.verdict.PostVerdict.TheVariants.{Finished}
 use Rattle.fm_world.specs.Events.{Attaches, SetsUp}
@@ -166,6 +166,10 @@ pub record Wants (result : Result (Unit {0}) ScriptEnd) (old new : Interpreter) 
   pub ends : result ≡ Err NoMemory
   pub stays : Stays old new
   pub printed : after ≡ before
+
+-- a task is done, and the line is given that tells it; where memory is refused nothing has changed
+abbrev pub PerformsAs : {E : Type 0} → Task → Result (Option Said) E → Interpreter → Interpreter → Type 0
+PerformsAs t result old new = MatchResult result (λ said. Performs t (λ line. said ≡ Some line) old new) (λ _. Stays old new)
 
 -- a task is done, unless memory for a note is wanting
 abbrev pub PerformsOr : Task → Result (Unit {0}) ScriptEnd → Interpreter → Interpreter → Printed → Printed → Type 0

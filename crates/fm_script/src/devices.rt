@@ -3,7 +3,7 @@
 
 ghost use Rattle.std.specs.Prelude.{◌≡◌, ◌≤◌, ◌++◌, ◌∷◌, [], IfOk, IfErr, cond, nat_lt, length, replicate, OnOk, OnErr};
 ghost use Rattle.std.specs.FinMap.{empty};
-ghost use Rattle.fm_script.specs.Devices.{Calls, CallsOrFails, is_failing};
+ghost use Rattle.fm_script.specs.Devices.{AreFresh, Calls, CallsOrFails, failing_with, is_failing};
 
 use fm_data::{Answer, BaseCall};
 use fm_device::{Device, MemoryDevices};
@@ -23,7 +23,7 @@ pub struct Devices {
 impl Devices {
     /// Empty folders, and no call that fails. It fails itself where there is no memory for them.
     pub fn new(alloc: Global) -> Result<Self, AllocError>
-        ensures { IfOk result (λ devices. (devices.folders ≡ replicate 8 empty) × (devices.failing.items ≡ []) × (devices.calls ≡ 0) × (devices.failures ≡ 0)) }
+        ensures { IfOk result AreFresh }
     {
         Ok(Devices {
             alloc,
@@ -36,7 +36,7 @@ impl Devices {
 
     /// The call of that number, counted from 1, will fail. A call that was made stays as it was.
     pub fn fail(&mut self, number: u64) -> Result<(), AllocError>
-        ensures ok { OnOk result (self.new.failing.items ≡ cond (nat_lt self.old.calls number) (self.old.failing.items ++ number ∷ []) self.old.failing.items) }
+        ensures ok { OnOk result (self.new.failing.items ≡ failing_with number self.old.calls self.old.failing.items) }
         ensures err { OnErr result (self.new.failing.items ≡ self.old.failing.items) }
         ensures rest { (self.new.folders ≡ self.old.folders) × (self.new.calls ≡ self.old.calls) × (self.new.failures ≡ self.old.failures) }
     {

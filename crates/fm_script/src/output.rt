@@ -1,10 +1,8 @@
 //! Where a script prints: lines are held back until there are enough of them, or until it is flushed.
 
 ghost use Rattle.std.specs.Prelude.{◌≡◌, ◌<◌, ◌++◌, [], IfErr, IfOk, OnErr, length, vec_capacity};
-ghost use Rattle.fm_core.specs.Passing.{numbered};
-ghost use Rattle.fm_data.specs.declared.verdict.PreVerdict.TheVariants as PreVerdict;
-ghost use Rattle.fm_script.specs.Printing.{Changes, HandsOver, Holds, Says, printed};
-ghost use Rattle.fm_script.specs.Passed.{down_text, up_text};
+ghost use Rattle.fm_script.specs.Printing.{Adds, Changes, HandsOver, Holds, Says, printed};
+ghost use Rattle.fm_script.specs.Passed.{asks_said, down_text, up_text};
 ghost use Rattle.fm_script.specs.Sayings.{text_with};
 ghost use Rattle.fm_script.specs.declared.said.Said.TheVariants as SaidOf;
 ghost use Rattle.fm_script.specs.declared.said.Word.TheVariants as WordOf;
@@ -53,7 +51,7 @@ impl<W: Write + Drop> Output<W> {
 
     /// Prints the line for a preoperation that asks for its postoperation, as `say` does.
     pub fn say_down(&mut self, instance: InstanceId, number: u64) -> Result<(), ScriptEnd>
-        ensures { Says (SaidOf.Answered instance.0 (PreVerdict.WithCallback (numbered number))) result (printed W.contents self.old) (printed W.contents self.new) }
+        ensures { Says (asks_said instance.0 number) result (printed W.contents self.old) (printed W.contents self.new) }
     {
         if let Ok(()) = self.append_down(instance) {
             return self.hand_on();
@@ -73,7 +71,7 @@ impl<W: Write + Drop> Output<W> {
 
     // Appends the line for a preoperation that asks for its postoperation. The error says that memory was refused, and nothing is appended.
     fn append_down(&mut self, instance: InstanceId) -> Result<(), AllocError>
-        ensures ok { IfOk result (λ _. printed W.contents self.new ≡ record (printed W.contents self.old) { held = self.old.text.items ++ down_text instance.0 }) }
+        ensures ok { IfOk result (λ _. Adds (down_text instance.0) (printed W.contents self.old) (printed W.contents self.new)) }
         ensures err { OnErr result (printed W.contents self.new ≡ printed W.contents self.old) }
     {
         self.passed.make(instance)?;
@@ -82,7 +80,7 @@ impl<W: Write + Drop> Output<W> {
 
     // The same for a postoperation.
     fn append_up(&mut self, instance: InstanceId) -> Result<(), AllocError>
-        ensures ok { IfOk result (λ _. printed W.contents self.new ≡ record (printed W.contents self.old) { held = self.old.text.items ++ up_text instance.0 }) }
+        ensures ok { IfOk result (λ _. Adds (up_text instance.0) (printed W.contents self.old) (printed W.contents self.new)) }
         ensures err { OnErr result (printed W.contents self.new ≡ printed W.contents self.old) }
     {
         self.passed.make(instance)?;

@@ -1,5 +1,5 @@
 -- A connection that is being served: what was read and sent so far.
-use Rattle.std.specs.Prelude.{◌≡◌, ◌≢◌, ◌<◌, ◌≤◌, ℕ, false, true, List, [], Option, Some, None, Result, Ok, Err, length, take}
+use Rattle.std.specs.Prelude.{◌≡◌, ◌≢◌, ◌<◌, ◌≤◌, ℕ, false, true, List, [], Option, Some, None, Result, Ok, Err, MatchResult, length, take}
 use Rattle.std.specs.Io.KnownBytes.{Appends, Consumes, IsAtEnd}
 use Rattle.fm_wire.specs.declared.frame.Frame.{Frame}
 use Rattle.fm_wire.specs.Stream.{IsPartial, Keeps, Splits}
@@ -112,3 +112,11 @@ module _ {S : Type 0} (answers : S → Frame → Frame → S → Type 0) where
   abbrev pub Goes : Result (Unit {0}) ServeEnd → S → Option (List ℕ) → Option (List ℕ) → Option (List ℕ) → Option (List ℕ) → Option (List ℕ) → S → Type 0
   Goes (Ok _) first read_old written_old decoder read_now written_now now = Waits first read_old written_old decoder read_now written_now now
   Goes (Err end) first read_old written_old decoder read_now written_now now = Leaves answers end read_old written_old first read_now written_now now
+
+-- a sink took that many bytes from the front of a text, or failed and took none
+abbrev pub AppendsFront : {E : Type 0} → Result ℕ E → List ℕ → Option (List ℕ) → Option (List ℕ) → Type 0
+AppendsFront result text old new = MatchResult result (λ count. Appends old new (take count text)) (λ _. Appends old new [])
+
+-- what a sink took is such a text
+abbrev pub AppendsSuch : Option (List ℕ) → Option (List ℕ) → (List ℕ → Type 0) → Type 0
+AppendsSuch old new IsSuch = (output : List ℕ) × Appends old new output × IsSuch output

@@ -2,7 +2,7 @@
 
 ghost use Rattle.std.specs.Prelude.{◌≡◌, ◌<◌, ◌≤◌, ◌+◌, ◌-◌, ◌^◌, ◌++◌, ◌⊎◌, Option, List, ℕ, Err, IfOk, OnOk, length};
 ghost use Rattle.std.specs.Io.KnownBytes.{Appends};
-ghost use Rattle.fm_server.specs.Connections.{Goes, HandsOn, HandsOnAt, LastEnd, Stands, Takes, TakesWhole, TellsBehind, Waits};
+ghost use Rattle.fm_server.specs.Connections.{AppendsSuch, Goes, HandsOn, HandsOnAt, LastEnd, Stands, Takes, TakesWhole, TellsBehind, Waits};
 ghost use Rattle.fm_server.specs.Replies.{Says};
 ghost use Rattle.fm_server.specs.Serving.{Leaves};
 
@@ -47,7 +47,7 @@ fn take_piece<W: Sink, E: Exec>(
 
 // Tells the fault that stands after the frames that came, if one does.
 fn tell_behind<W: Sink>(alloc: Global, decoder: &Decoder, sink: &mut W) -> Result<(), ServeEnd>
-    ensures tells { (output : List ℕ) × Appends (W.contents sink.old) (W.contents sink.new) output × TellsBehind result decoder.now output }
+    ensures tells { AppendsSuch (W.contents sink.old) (W.contents sink.new) (TellsBehind result decoder.now) }
     ensures handed { HandsOn result (W.handed_on sink.old) (W.handed_on sink.new) }
     ensures fault { result ≡ Err ServeEnd.WriteFault → W.failed sink.new }
     ensures never { result ≡ Err ServeEnd.ReadFault → ⊥ }

@@ -1,8 +1,8 @@
 //! Writing to a sink until all was taken.
 
-ghost use Rattle.std.specs.Prelude.{◌≡◌, ◌<◌, ◌≤◌, ℕ, List, [], Err, IfErr, IfOk, MatchResult, length, take};
+ghost use Rattle.std.specs.Prelude.{◌≡◌, ◌<◌, ◌≤◌, [], Err, IfErr, IfOk, length};
 ghost use Rattle.std.specs.Io.KnownBytes.{Appends};
-ghost use Rattle.fm_server.specs.Connections.{HandsOn, HandsOnAt, SendsAnswer, SendsText, TellsFault};
+ghost use Rattle.fm_server.specs.Connections.{AppendsFront, AppendsSuch, HandsOn, HandsOnAt, SendsAnswer, SendsText, TellsFault};
 
 use crate::replies::{bare_reply, text_of};
 use crate::serve_end::ServeEnd;
@@ -15,9 +15,7 @@ use std::alloc::Global;
 fn put_some<W: Sink>(sink: &mut W, text: &[u8]) -> Result<usize, ServeEnd>
     requires { 0 < length text.now }
     ensures some { IfOk result (λ count. (0 < count) × (count ≤ length text.now)) }
-    ensures appends { MatchResult result
-        (λ count. Appends (W.contents sink.old) (W.contents sink.new) (take count text.now))
-        (λ _. Appends (W.contents sink.old) (W.contents sink.new) []) }
+    ensures appends { AppendsFront result text.now (W.contents sink.old) (W.contents sink.new) }
     ensures fault { IfErr result (λ end. (end ≡ ServeEnd.WriteFault) × W.failed sink.new) }
 {
     match sink.put(text) {
@@ -40,7 +38,7 @@ fn finish<W: Sink>(sink: &mut W) -> Result<(), ServeEnd>
 
 /// Writes a text, all of it if the sink doesn't fail, and has it handed on.
 pub(crate) fn put_whole<W: Sink>(sink: &mut W, text: &[u8]) -> Result<(), ServeEnd>
-    ensures sends { (output : List ℕ) × Appends (W.contents sink.old) (W.contents sink.new) output × SendsText result text.now output }
+    ensures sends { AppendsSuch (W.contents sink.old) (W.contents sink.new) (SendsText result text.now) }
     ensures handed { IfOk result (λ _. W.handed_on sink.new) }
     ensures fault { IfErr result (λ end. (end ≡ ServeEnd.WriteFault) × W.failed sink.new) }
 {
@@ -64,7 +62,7 @@ pub(crate) fn send<W: Sink>(
     number: u32,
     answer: &Frame,
 ) -> Result<(), ServeEnd>
-    ensures sends { (output : List ℕ) × Appends (W.contents sink.old) (W.contents sink.new) output × SendsAnswer result number answer.now output }
+    ensures sends { AppendsSuch (W.contents sink.old) (W.contents sink.new) (SendsAnswer result number answer.now) }
     ensures handed { HandsOn result (W.handed_on sink.old) (W.handed_on sink.new) }
     ensures fault { result ≡ Err ServeEnd.WriteFault → W.failed sink.new }
 {
@@ -76,7 +74,7 @@ pub(crate) fn send<W: Sink>(
 
 /// Answers a frame fault, which ends the connection.
 pub(crate) fn tell_fault<W: Sink>(alloc: Global, sink: &mut W) -> ServeEnd
-    ensures tells { (output : List ℕ) × Appends (W.contents sink.old) (W.contents sink.new) output × TellsFault result output }
+    ensures tells { AppendsSuch (W.contents sink.old) (W.contents sink.new) (TellsFault result) }
     ensures handed { HandsOnAt result (W.handed_on sink.old) (W.handed_on sink.new) }
     ensures fault { result ≡ ServeEnd.WriteFault → W.failed sink.new }
 {

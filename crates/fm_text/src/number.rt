@@ -1,17 +1,14 @@
 //! Numbers, ids and statuses, as words spell them.
 
-ghost use Rattle.std.specs.Prelude.{◌≡◌, ◌<◌, ◌≤◌, ◌⊎◌, ◌+◌, ◌*◌, ◌^◌, ℕ, IfNone, IfSome, MatchOption, true, false};
-ghost use Rattle.std.specs.Char.{digit_value, is_ascii_digit};
+ghost use Rattle.std.specs.Prelude.{◌≡◌, ◌<◌, ◌≤◌, ◌⊎◌, ◌+◌, ◌*◌, ◌^◌, ℕ, IfNone, IfSome, true, false};
 ghost use Rattle.fm_types.specs.Statuses.{number_of};
-ghost use Rattle.fm_text.specs.Numbers.{id_read, number_read};
+ghost use Rattle.fm_text.specs.Numbers.{WithDigit, id_read, number_read};
 
 use fm_types::Status;
 
 // The number with one digit more, as far as the byte is a digit and there is such a u64.
 fn with_digit(number: u64, byte: u8) -> Option<u64>
-    ensures { MatchOption result
-        ((is_ascii_digit byte ≡ false) ⊎ (2 ^ 64 ≤ number * 10 + digit_value byte))
-        (λ more. (is_ascii_digit byte ≡ true) × (more ≡ number * 10 + digit_value byte) × (more < 2 ^ 64)) }
+    ensures { WithDigit number byte result }
 {
     if !byte.is_ascii_digit() {
         return None;

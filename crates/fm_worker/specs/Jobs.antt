@@ -26,3 +26,7 @@ pub record HandsOn (puts : List Job) (waiting : List OpId) (after : List Job) (l
 -- nothing that a callback resumed waits here, if nothing did before
 abbrev pub LeavesNone : List OpId → List OpId → Type 0
 LeavesNone waiting left = waiting ≡ [] → left ≡ []
+
+-- the same of the jobs that a pass put
+abbrev pub MovesJobs : PassTally → List OpId → PassTally → List OpId → Type 0
+MovesJobs before waiting after left = HandsOn before.puts waiting after.puts left

@@ -27,3 +27,9 @@ ResumesPre verdict o hand resumed result new after = Holding (Resumed verdict re
 -- a postoperation is resumed
 abbrev pub ResumesPost : OpId → HandView → List OpId → Result (Unit {0}) Status → HandView → List OpId → Type 0
 ResumesPost o hand resumed result new after = (new ≡ hand) × Waits o resumed result after
+
+-- an operation waits with those that callbacks resumed, or where no place is left it is set aside
+abbrev pub WaitsOr : OpId → List OpId → List OpId → List OpId → List OpId → Type 0
+WaitsOr operation resumed aside resumed_after aside_after = MatchBool (lacks_room operation resumed)
+    ((resumed_after ≡ resumed) × (aside_after ≡ put_in operation aside))
+    ((resumed_after ≡ put_in operation resumed) × (aside_after ≡ aside))

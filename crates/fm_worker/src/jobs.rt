@@ -149,7 +149,7 @@ impl<'a, F: Callbacks, L: Ledger, R: Wait, G: CallbackHook, D: Device> Worker<'a
     /// Puts the jobs that were set aside, as many as the queue has room for.
     #[tactic(auto, using(crate::proofs::Handing::hands_none))]
     pub(crate) fn requeue(&mut self)
-        ensures moved { HandsOn (tally_of self.old.own.pass).puts self.old.own.waiting.aside (tally_of self.new.own.pass).puts self.new.own.waiting.aside }
+        ensures moved { MovesJobs (tally_of self.old.own.pass) self.old.own.waiting.aside (tally_of self.new.own.pass) self.new.own.waiting.aside }
         ensures kept { self.new.own.port.resumed ≡ self.old.own.port.resumed }
     {
         let rt = self.shared.rt;
@@ -167,7 +167,7 @@ impl<'a, F: Callbacks, L: Ledger, R: Wait, G: CallbackHook, D: Device> Worker<'a
     /// Makes jobs of what callbacks resumed, as many as the queue has room for.
     #[tactic(auto, using(crate::proofs::Handing::hands_none))]
     pub(crate) fn queue_resumed(&mut self)
-        ensures moved { HandsOn (tally_of self.old.own.pass).puts self.old.own.port.resumed (tally_of self.new.own.pass).puts self.new.own.port.resumed }
+        ensures moved { MovesJobs (tally_of self.old.own.pass) self.old.own.port.resumed (tally_of self.new.own.pass) self.new.own.port.resumed }
     {
         let rt = self.shared.rt;
         'jobs: for _ in rt.forever() {

@@ -1,8 +1,7 @@
 //! What belongs to one thread alone.
 
-ghost use Rattle.std.specs.Prelude.{◌≡◌, MatchBool};
-ghost use Rattle.fm_worker.specs.OpQueues.{put_in};
-ghost use Rattle.fm_worker.specs.Ports.{lacks_room};
+ghost use Rattle.std.specs.Prelude.{◌≡◌};
+ghost use Rattle.fm_worker.specs.Ports.{WaitsOr};
 
 use crate::op_queue::OpQueue;
 use crate::port::HandPort;
@@ -68,7 +67,7 @@ impl<'a, F: Drop, L: Ledger, R: Wait, D: Device> Own<'a, F, L, R, D> {
     pub(crate) fn let_go(&mut self, operation: OpId)
         ensures pass { self.new.pass ≡ self.old.pass }
         ensures hand { self.new.port.hand ≡ self.old.port.hand }
-        ensures waits { MatchBool (lacks_room operation self.old.port.resumed) (self.new.port.resumed ≡ self.old.port.resumed × self.new.waiting.aside ≡ put_in operation self.old.waiting.aside) (self.new.port.resumed ≡ put_in operation self.old.port.resumed × self.new.waiting.aside ≡ self.old.waiting.aside) }
+        ensures waits { WaitsOr operation self.old.port.resumed self.old.waiting.aside self.new.port.resumed self.new.waiting.aside }
     {
         if self.port.lacks_room(operation) {
             self.waiting.aside.put(operation);

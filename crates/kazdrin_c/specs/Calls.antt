@@ -139,3 +139,13 @@ BasedThat e bytes old result new (Some status) = (status_at e.status e.number �
 
 abbrev pub BasedTold : KazdrinEvent → List ℕ → SessionHost → ℕ → SessionHost → Type 0
 BasedTold e bytes old result new = (made : Option Status) × BasedThat e bytes old result new made
+
+-- the same three as a call on an open handle has them: what was given and told first
+abbrev pub StepOn : KazdrinEvent → List ℕ → KazdrinTold → List ℕ → ℕ → KazdrinTold → List ℕ → SessionHost → SessionHost → Type 0
+StepOn e bytes before room result told after old new = StepTold e bytes old before room result new told after
+
+abbrev pub AttachOn : KazdrinEvent → List ℕ → List ℕ → KazdrinTold → List ℕ → ℕ → KazdrinTold → List ℕ → SessionHost → SessionHost → Type 0
+AttachOn e name altitude before room result told after old new = AttachTold e name altitude old before room result new told after
+
+abbrev pub LentOn : KazdrinEvent → KazdrinData → List ℕ → ℕ → KazdrinData → List ℕ → SessionHost → SessionHost → Type 0
+LentOn e before room result told after old new = LentTold e old before room result new told after (slice_get old.session.lent e.worker)

@@ -1,7 +1,7 @@
 //! What lies behind a handle: a session, and a file system in memory for each of its volumes.
 
 ghost use Rattle.std.specs.Prelude.{◌≡◌, IfErr, IfOk, slice_get};
-ghost use Rattle.kazdrin_c.specs.Calls.{AnswerPut, AttachTold, BaseTold, BasedTold, ChangeTold, LentTold, Makes, NextTold, PostTold, PreTold, PutsAnswer, ReturnsAnswer, StepTold};
+ghost use Rattle.kazdrin_c.specs.Calls.{AnswerPut, AttachTold, BaseTold, BasedTold, ChangeTold, LentOn, Makes, NextTold, PostTold, PreTold, PutsAnswer, ReturnsAnswer, StepTold};
 ghost use Rattle.kazdrin_c.specs.Counts.{counts_of, held_told, left_told};
 ghost use Rattle.kazdrin_c.specs.Opened.{IsFresh};
 ghost use Rattle.kazdrin_c.specs.Phases.{phase_named, phase_told};
@@ -152,7 +152,7 @@ impl SessionHost {
 
     /// What the worker was lent, for its callback to look at. Refused with 30 if there is no such worker. Nothing changes.
     pub fn lent(&self, event: &KazdrinEvent, told: &mut KazdrinData, room: &mut [u8]) -> u32
-        ensures { LentTold event.now self.now told.old room.old result self.now told.new room.new (slice_get self.now.session.lent event.now.worker) }
+        ensures { LentOn event.now told.old room.old result told.new room.new self.now self.now }
     {
         let Some(lent) = self.session.lent(WorkerId(event.worker)) else {
             return 30;

@@ -3,7 +3,7 @@
 
 ghost use Rattle.std.specs.Prelude.{◌≡◌, ◌≢◌, IfSome, slice_get};
 ghost use Rattle.kazdrin_c.specs.Opened.{CallsOn, HasFresh, IsFresh, Opened};
-ghost use Rattle.kazdrin_c.specs.Calls.{AnswerPut, AttachTold, BaseTold, BasedTold, ChangeTold, LentTold, NextTold, PostTold, PreTold, StepTold};
+ghost use Rattle.kazdrin_c.specs.Calls.{AnswerPut, AttachOn, BaseTold, BasedTold, ChangeTold, LentOn, NextTold, PostTold, PreTold, StepOn};
 ghost use Rattle.kazdrin_c.specs.Counts.{CountsTold, HeldTold, LeftTold};
 ghost use Rattle.kazdrin_c.specs.Phases.{PhaseTold};
 ghost use Rattle.kazdrin_c.specs.Named.{post_named, verdict_named};
@@ -79,7 +79,7 @@ pub extern "C" fn kazdrin_step(
     told: &mut KazdrinTold,
     room: &mut [u8],
 ) -> u32
-    ensures { CallsOn kazdrin.old result kazdrin.new (λ old new. StepTold event.now bytes.now old told.old room.old result new told.new room.new) }
+    ensures { CallsOn kazdrin.old result kazdrin.new (StepOn event.now bytes.now told.old room.old result told.new room.new) }
 {
     let Some(mut host) = kazdrin.take(alloc) else {
         return CLOSED;
@@ -100,7 +100,7 @@ pub extern "C" fn kazdrin_attach(
     told: &mut KazdrinTold,
     room: &mut [u8],
 ) -> u32
-    ensures { CallsOn kazdrin.old result kazdrin.new (λ old new. AttachTold event.now name.now altitude.now old told.old room.old result new told.new room.new) }
+    ensures { CallsOn kazdrin.old result kazdrin.new (AttachOn event.now name.now altitude.now told.old room.old result told.new room.new) }
 {
     let Some(mut host) = kazdrin.take(alloc) else {
         return CLOSED;
@@ -204,7 +204,7 @@ pub extern "C" fn kazdrin_lent(
     told: &mut KazdrinData,
     room: &mut [u8],
 ) -> u32
-    ensures { CallsOn kazdrin.old result kazdrin.new (λ old new. LentTold event.now old told.old room.old result new told.new room.new (slice_get old.session.lent event.now.worker)) }
+    ensures { CallsOn kazdrin.old result kazdrin.new (LentOn event.now told.old room.old result told.new room.new) }
 {
     let Some(host) = kazdrin.take(alloc) else {
         return CLOSED;

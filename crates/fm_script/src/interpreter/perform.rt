@@ -2,7 +2,7 @@
 
 ghost use Rattle.std.specs.Prelude.{◌≡◌, ◌∷◌, [], IfOk, IfSome, MatchResult};
 ghost use Rattle.fm_script.specs.Lines.{TellsLine};
-ghost use Rattle.fm_script.specs.Runs.{Performs, Stays};
+ghost use Rattle.fm_script.specs.Runs.{Performs, PerformsAs, Stays};
 ghost use Rattle.fm_script.specs.declared.task.Task.TheVariants as TaskOf;
 
 use super::Interpreter;
@@ -93,7 +93,7 @@ impl Interpreter {
 
     // One event.
     fn told_event(&mut self, step: Step) -> Result<Option<Said>, AllocError>
-        ensures { MatchResult result (λ said. Performs (TaskOf.Event step) (λ line. said ≡ Some line) self.old self.new) (λ _. Stays self.old self.new) }
+        ensures { PerformsAs (TaskOf.Event step) result self.old self.new }
     {
         let reply = self.event(step)?;
         Ok(Some(said_of(&self.contexts, reply)))
@@ -151,7 +151,7 @@ impl Interpreter {
         instance: InstanceId,
         verdict: PreVerdict,
     ) -> Result<Option<Said>, AllocError>
-        ensures { MatchResult result (λ said. Performs (TaskOf.Plan instance verdict) (λ line. said ≡ Some line) self.old self.new) (λ _. Stays self.old self.new) }
+        ensures { PerformsAs (TaskOf.Plan instance verdict) result self.old self.new }
     {
         self.plan(instance, verdict)?;
         Ok(Some(Said::Plain(Word::Ok)))
@@ -159,7 +159,7 @@ impl Interpreter {
 
     // A device call that will fail.
     fn told_fail(&mut self, number: u64) -> Result<Option<Said>, AllocError>
-        ensures { MatchResult result (λ said. Performs (TaskOf.Fail number) (λ line. said ≡ Some line) self.old self.new) (λ _. Stays self.old self.new) }
+        ensures { PerformsAs (TaskOf.Fail number) result self.old self.new }
     {
         self.fail(number)?;
         Ok(Some(Said::Plain(Word::Ok)))

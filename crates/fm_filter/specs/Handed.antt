@@ -1,5 +1,6 @@
 -- The filters that a manager was handed, each under its name, and which of them a number stands for.
-use Rattle.std.specs.Prelude.{◌≡◌, Bor, List, MatchOption, Option, None, Some, option_and_then, option_map, position, slice_get, ℕ}
+use Rattle.std.specs.Prelude.{◌≡◌, List, MatchOption, Option, None, Some, option_and_then, option_map, position, slice_get, ℕ}
+use Rattle.std.specs.Borrow.{Bor}
 use Rattle.fm_stack.specs.Instances.{same_name}
 use Rattle.fm_filter.specs.declared.filters.Filters.{Filters}
 

@@ -1,5 +1,5 @@
 -- Where a script prints: its lines are held back until there are enough of them, and then the writer is given them all.
-use Rattle.std.specs.Prelude.{◌≡◌, ℕ, nat_lt, List, [], length, Option, Result, Ok, Err}
+use Rattle.std.specs.Prelude.{◌≡◌, ◌++◌, ℕ, nat_lt, List, [], length, Option, Result, Ok, Err}
 use Rattle.std.specs.Io.KnownBytes.{Appends}
 use Rattle.fm_script.specs.Reading.{Either}
 use Rattle.fm_script.specs.Sayings.{text_with}

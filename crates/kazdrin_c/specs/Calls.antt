@@ -1,5 +1,5 @@
 -- What a call of C makes of a session, and what C is told.
-use Rattle.std.specs.Prelude.{◌≡◌, ◌==◌, ℕ, Bool, List, [], Option, Some, None, Result, Ok, Err, cond, length, nat_lt, unwrap_or}
+use Rattle.std.specs.Prelude.{◌≡◌, ◌==◌, ℕ, Bool, List, [], Option, Some, None, Result, Ok, Err, cond, length, nat_lt, slice_get, unwrap_or}
 use Rattle.fm_types.specs.declared.status.Status.{Status}
 use Rattle.fm_world.specs.declared.step.Step.{Step}
 use Rattle.fm_world.specs.declared.step.StepReply.{StepReply}

@@ -6,7 +6,7 @@ use Rattle.fm_world.proofs.Words.{HoldsFewer, HoldsMore, given_with, hand_len, i
 use Rattle.fm_world.proofs.Words.{is_left_by, keeps_links, keeps_links_by, place_in, row_at, AreOwned, IsOwned, IsSound, IsUnderWay, most_at, ContextTable}
 use Rattle.fm_world.proofs.Words.{CtxId, FlowRecord, FlowTable, Instance, InstanceId, IsLawful, OpId, Phase, PostRunning, PreRunning, PreState, StackWorld}
 use Rattle.fm_world.proofs.Words.{Status, WorkerId, carried, cleaning_of, grabbed, hand_of, in_flight, is_completing, is_detached, is_setup, last_posted}
-use Rattle.fm_world.proofs.Words.{last_visited, released, AtComplete, AtQuery, AtSetup, AtStart, Desk, cleanup_in, is_at, worker_at, World, carries, FileObject}
+use Rattle.fm_world.proofs.Words.{last_visited, released, AtComplete, AtQuery, AtSetup, AtStart, InstanceCallback, cleanup_in, is_at, worker_at, World, carries, FileObject}
 use Rattle.fm_world.proofs.Words.{Place, All, Bool, List, None, Ok, Option, Result, Some, [], ap, arith, cond, false, find, get_or, length, not, option_map}
 use Rattle.fm_world.proofs.Words.{refl, slice_get, slice_set, subst, sym, true, ℕ, ◌++◌, ◌+◌, ◌<◌, ◌∙◌, ◌∷◌, ◌≡◌, ◌≢◌, ◌≤◌, ◌⊎◌, eq-eqb, leb-false}
 use Rattle.fm_world.proofs.Words.{common_steps, get_or-set_same, set-get_or, All-push, none-some, same_Some}
@@ -14,7 +14,7 @@ use Rattle.fm_ctx.proofs.Counts.{count_held}
 use Rattle.fm_world.proofs.Belonging.{AllCarry, AllFit, AllHold, AllPass, BelongsStill, OwnersStay, all_carry_still, all_hold, all_without, belongs_still}
 use Rattle.fm_world.proofs.Belonging.{filters_same, held_has, owners_changed, owners_same, passes_changed}
 use Rattle.fm_world.proofs.Events.{asked_by, taken_by}
-use Rattle.fm_world.proofs.Keeps.{desk_place, worker_below}
+use Rattle.fm_world.proofs.Keeps.{callback_place, worker_below}
 use Rattle.fm_world.proofs.Operations.{both_same, inside_post, inside_pre}
 use Rattle.fm_world.proofs.Staying.{Does, Gives, HandMore, TableStays, hand_given, lasts, makes, nothing, slots_changed, still, unchanged}
 use Rattle.fm_world.proofs.Ties.{drained_there}
@@ -57,23 +57,23 @@ flown_in : (w : World) (j i : InstanceId) → Some j ≡ Some i → 1 ≤ in_fli
 flown_in w j i is flies = subst (λ (x : InstanceId). 1 ≤ in_flight x.0 w.flow) (same_Some j i is) flies
 
 -- the instance may have a worker in such a callback
-staffed_open : (d : Desk) (row : Instance) → 1 ≤ most_at d row → IsOpen row.phase
-staffed_open d row h = grind arith
+workers_open : (d : InstanceCallback) (row : Instance) → 1 ≤ most_at d row → IsOpen row.phase
+workers_open d row h = grind arith
 
-open_desk : (w : World) (k : WorkerId) (a : Place) (d : Desk) (j i : InstanceId) (row : Instance) → IsSound w
+open_callback : (w : World) (k : WorkerId) (a : Place) (d : InstanceCallback) (j i : InstanceId) (row : Instance) → IsSound w
     → worker_at w.workers k ≡ Some a → is_at d j.0 a ≡ true
     → Some j ≡ Some i → row_at w.stack i ≡ Some row → IsOpen row.phase
-open_desk w k a d j i row s at is same there =
-    let place = desk_place w k a d j s.under_way at is in
+open_callback w k a d j i row s at is same there =
+    let place = callback_place w k a d j s.under_way at is in
     let own : place.0 ≡ row = same_Some place.0 row (sym place.1 ∙ ap (λ (x : InstanceId). slice_get w.stack.instances x.0) (same_Some j i same) ∙ there) in
-    staffed_open d row (subst (λ x. 1 ≤ most_at d x) own place.2)
+    workers_open d row (subst (λ x. 1 ≤ most_at d x) own place.2)
 
 open_at : (w : World) (k : WorkerId) (i : InstanceId) (row : Instance) (m : Option Place) → IsSound w → worker_at w.workers k ≡ m → place_in m ≡ Some i
     → row_at w.stack i ≡ Some row → IsOpen row.phase
-open_at w k i row (Some (Place.Setup j)) s at is there = open_desk w k (Place.Setup j) AtSetup j i row s at (eq-eqb j.0 j.0 refl) is there
-open_at w k i row (Some (Place.Query j)) s at is there = open_desk w k (Place.Query j) AtQuery j i row s at (eq-eqb j.0 j.0 refl) is there
-open_at w k i row (Some (Place.Start j)) s at is there = open_desk w k (Place.Start j) AtStart j i row s at (eq-eqb j.0 j.0 refl) is there
-open_at w k i row (Some (Place.Complete j)) s at is there = open_desk w k (Place.Complete j) AtComplete j i row s at (eq-eqb j.0 j.0 refl) is there
+open_at w k i row (Some (Place.Setup j)) s at is there = open_callback w k (Place.Setup j) AtSetup j i row s at (eq-eqb j.0 j.0 refl) is there
+open_at w k i row (Some (Place.Query j)) s at is there = open_callback w k (Place.Query j) AtQuery j i row s at (eq-eqb j.0 j.0 refl) is there
+open_at w k i row (Some (Place.Start j)) s at is there = open_callback w k (Place.Start j) AtStart j i row s at (eq-eqb j.0 j.0 refl) is there
+open_at w k i row (Some (Place.Complete j)) s at is there = open_callback w k (Place.Complete j) AtComplete j i row s at (eq-eqb j.0 j.0 refl) is there
 open_at w k i row (Some (Place.Pre o j)) s at is there = flown_row w i row s there (flown_in w j i is (pre_flies w k o j s.under_way at))
 open_at w k i row (Some (Place.Post o j)) s at is there = flown_row w i row s there (flown_in w j i is (post_flies w k o j s.under_way at))
 open_at w k i row (Some (Place.Drain o j)) s at is there =

@@ -3,9 +3,9 @@ use Rattle.fm_world.proofs.Words.{hand_counted, references_cons, references_none
 use Rattle.fm_world.proofs.Words.{context_at-other, held, is_id, references, cleaned, emptied, taken_due, taken_of, is_open, change_context, context_at}
 use Rattle.fm_world.proofs.Words.{carried_among, carried_by, carried_in, total, finish_row, is_emptying, length-updated, updated-other, none_refuses, Cleans}
 use Rattle.fm_world.proofs.Words.{CleansAt, Finishes, TakesDue, after_due, filter_of, is_gone_at, totalled_for, names_there, AskCarries, CarriesIn, HoldsIn}
-use Rattle.fm_world.proofs.Words.{belongs, fits, is_flown, is_flown_by, place_in, row_at, IsOwned, IsSound, IsStaffed, IsUnderWay, Ask, Context, ContextTable}
+use Rattle.fm_world.proofs.Words.{belongs, fits, is_flown, is_flown_by, place_in, row_at, IsOwned, IsSound, HasWorkers, IsUnderWay, Ask, Context, ContextTable}
 use Rattle.fm_world.proofs.Words.{CtxId, Due, FilterId, FlowRecord, Instance, InstanceId, Owner, Phase, Slot, StackWorld, Status, WorkerId, cleaning_of}
-use Rattle.fm_world.proofs.Words.{finished, hand_of, is_emptying_at, one, open_of, owed, Desk, cleanup_in, put, worker_at, World, Place, All, Bool, Err, List}
+use Rattle.fm_world.proofs.Words.{finished, hand_of, is_emptying_at, one, open_of, owed, InstanceCallback, cleanup_in, put, worker_at, World, Place, All, Bool, Err, List}
 use Rattle.fm_world.proofs.Words.{None, Ok, Option, Result, Some, [], ap, arith, false, get_or, inl, length, nat_lt, not, option_map, refl, slice_get}
 use Rattle.fm_world.proofs.Words.{slice_set, subst, sym, true, ℕ, ◌<◌, ◌∙◌, ◌∷◌, ◌≡◌, and_from, and_parts, cases_eq, eq-eqb, ltb-false, ltb-true, common_steps}
 use Rattle.fm_world.proofs.Words.{get_or-set_other, get_or-set_same, All-cons, All-nil, none-some, slice_get_within}
@@ -18,16 +18,16 @@ use Rattle.fm_world.proofs.Events.{idle_by}
 use Rattle.fm_world.proofs.Keeps.{Outside, follows_same, outside_of, stack_changes, worker_below, worker_moves}
 use Rattle.fm_world.proofs.Owning.{empty_hand, owned_moves}
 use Rattle.fm_world.proofs.Staying.{CleansOn, Does, Lasts, SlotsStay, contexts_in, lasts, makes, nothing, slots_changed, still, unchanged}
-use Rattle.fm_world.proofs.Ties.{AtNoDesk, at_none, staffed_still}
+use Rattle.fm_world.proofs.Ties.{InNoCallback, at_none, workers_still}
 
 -- ---- a worker goes into a cleanup, or comes out of it
 
 -- a worker goes between idleness and a cleanup
-goes_keeps : (w : World) (k : WorkerId) (a b : Place) → worker_at w.workers k ≡ Some a → Outside a → Outside b → AtNoDesk a → AtNoDesk b
+goes_keeps : (w : World) (k : WorkerId) (a b : Place) → worker_at w.workers k ≡ Some a → Outside a → Outside b → InNoCallback a → InNoCallback b
     → IsUnderWay w → IsUnderWay (record w { workers = put w.workers k b })
 goes_keeps w k a b at from to off on s =
     worker_moves w w.stack k a b at from to s.stack (follows_same w.stack)
-    (λ d i. staffed_still d i w.workers k a b (slice_get w.stack.instances i) at off on (s.desks d i)) s
+    (λ d i. workers_still d i w.workers k a b (slice_get w.stack.instances i) at off on (s.instance_callbacks d i)) s
 
 -- the tie of cleanups and places, where one worker goes elsewhere
 cleaning_moves : (w : World) (k : WorkerId) (o : Option CtxId) (b : Place) → k.0 < length w.workers → k.0 < length w.contexts.cleaning → o ≡ cleanup_in (Some b)
@@ -198,8 +198,8 @@ cleaned_does old k number result new h = by_place (worker_at old.workers k) refl
 emptying_is : (p : Phase) → is_emptying p ≡ true → p ≡ Phase.Emptying
 emptying_is p h = grind arith
 
-finish_staffs : (d : Desk) (row : Instance) (n : ℕ) → row.phase ≡ Phase.Emptying → IsStaffed d (Some row) n → IsStaffed d (Some (finish_row row)) n
-finish_staffs d row n was h = grind arith
+finish_workers : (d : InstanceCallback) (row : Instance) (n : ℕ) → row.phase ≡ Phase.Emptying → HasWorkers d (Some row) n → HasWorkers d (Some (finish_row row)) n
+finish_workers d row n was h = grind arith
 
 finish_fits : (s : StackWorld) (i : InstanceId) (o : Option Context) → fits s o ≡ true → is_open (Owner.Instance i) o ≡ false → fits (finished s i) o ≡ true
 finish_fits s i o fit closed = grind (arith, and_parts, updated-other, and_from, owner_stays, eq-eqb, link_stays, others_link)
@@ -223,8 +223,8 @@ finish_does old i (Ok done) new h =
     let belongs = belongs_still old.stack slots t slots (filters_updated old.stack t finish_row i.0 refl (λ row. refl)) (owners_same slots slots refl) in
     record {
       under_way = stack_changes old t (finished_keeps old.stack i s.under_way.stack row.0 row.1 row.2) (finished_follows old.stack i)
-          (λ d j n. at_updated (λ x m. IsStaffed d (slice_get rows x) n → IsStaffed d m n) finish_row rows i.0 row.0 row.1
-          (λ h. finish_staffs d row.0 n emptying (subst (λ m. IsStaffed d m n) row.1 h)) (λ x apart h. h) j) s.under_way;
+          (λ d j n. at_updated (λ x m. HasWorkers d (slice_get rows x) n → HasWorkers d m n) finish_row rows i.0 row.0 row.1
+          (λ h. finish_workers d row.0 n emptying (subst (λ m. HasWorkers d m n) row.1 h)) (λ x apart h. h) j) s.under_way;
       filed = s.filed;
       links = s.links;
       owned = record {

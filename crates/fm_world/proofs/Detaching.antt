@@ -1,8 +1,8 @@
 -- What the events by which an instance is detached do: its filter is asked, its teardown starts and is completed.
 use Rattle.fm_world.proofs.Words.{goes_on_follows, goes_on_keeps, Filter, Volume, none_refuses, hand_len, left_by, holds_links_by, is_flown, row_at, IsSound}
-use Rattle.fm_world.proofs.Words.{IsStaffed, IsUnderWay, is_made, AsksDetach, CompleteReturns, CompleteReturnsAt, CompletesTeardown, QueryReturns}
+use Rattle.fm_world.proofs.Words.{HasWorkers, IsUnderWay, is_made, AsksDetach, CompleteReturns, CompleteReturnsAt, CompletesTeardown, QueryReturns}
 use Rattle.fm_world.proofs.Words.{QueryReturnsAt, StartReturns, StartReturnsAt, StartsTeardown, Instance, InstanceId, Leaves, Phase, StackWorld, Status}
-use Rattle.fm_world.proofs.Words.{WorkerId, in_flight, is_attached, is_completing, is_stopping, one, AtComplete, AtQuery, AtSetup, AtStart, Desk}
+use Rattle.fm_world.proofs.Words.{WorkerId, in_flight, is_attached, is_completing, is_stopping, one, AtComplete, AtQuery, AtSetup, AtStart, InstanceCallback}
 use Rattle.fm_world.proofs.Words.{after_entering, cleanup_in, is_at, is_queried, put, worker_at, World, carries, Place, Bool, Err, List, None, Ok, Option}
 use Rattle.fm_world.proofs.Words.{Result, Some, ap, arith, count_by, false, inr, length, not, refl, slice_get, subst, sym, true, ℕ, ◌&&◌, ◌+◌, ◌∙◌, ◌≡◌, eq-eqb}
 use Rattle.fm_world.proofs.Words.{ltb-false, or_parts, true≢false}
@@ -13,7 +13,7 @@ use Rattle.fm_stack.specs.declared.instance.StartMark.{StartMark}
 use Rattle.fm_world.proofs.Callbacks.{not_false}
 use Rattle.fm_world.proofs.Cases.{none_any, one_true}
 use Rattle.fm_world.proofs.Events.{answers_by, idle_by}
-use Rattle.fm_world.proofs.Keeps.{Restaffs, desk_enters, desk_place, desk_returns, follows_same, row_stays, row_updated}
+use Rattle.fm_world.proofs.Keeps.{MovesWorkers, callback_enters, callback_place, callback_ends, follows_same, row_stays, row_updated}
 use Rattle.fm_world.proofs.Owning.{GoesOnAt, RowsGoOn, emptied_owned, goes_owned, goes_same, returns_owned, row_goes, rows_same}
 use Rattle.fm_world.proofs.Staying.{Does, SlotsStay, hand_emptied, lasts, makes, nothing, slots_swept, still, table_after, table_same, unchanged}
 use Rattle.fm_stack.specs.Detaching as stack
@@ -23,19 +23,19 @@ use Rattle.fm_stack.specs.Detaching as stack
 pub query_place : (w : World) (k : WorkerId) (i : InstanceId) → IsUnderWay w → worker_at w.workers k ≡ Some (Place.Query i)
     → (row : Instance) × (slice_get w.stack.instances i.0 ≡ Some row) × (is_flown row.phase ≡ true)
 query_place w k i s at =
-    let place = desk_place w k (Place.Query i) AtQuery i s at (eq-eqb i.0 i.0 refl) in
+    let place = callback_place w k (Place.Query i) AtQuery i s at (eq-eqb i.0 i.0 refl) in
     (place.0, place.1, one_true (is_flown place.0.phase) place.2)
 
 pub start_place : (w : World) (k : WorkerId) (i : InstanceId) → IsUnderWay w → worker_at w.workers k ≡ Some (Place.Start i)
     → (row : Instance) × (slice_get w.stack.instances i.0 ≡ Some row) × (is_stopping row.phase && is_made row.start ≡ true)
 start_place w k i s at =
-    let place = desk_place w k (Place.Start i) AtStart i s at (eq-eqb i.0 i.0 refl) in
+    let place = callback_place w k (Place.Start i) AtStart i s at (eq-eqb i.0 i.0 refl) in
     (place.0, place.1, one_true (is_stopping place.0.phase && is_made place.0.start) place.2)
 
 pub complete_place : (w : World) (k : WorkerId) (i : InstanceId) → IsUnderWay w → worker_at w.workers k ≡ Some (Place.Complete i)
     → (row : Instance) × (slice_get w.stack.instances i.0 ≡ Some row) × (is_completing row.phase ≡ true)
 complete_place w k i s at =
-    let place = desk_place w k (Place.Complete i) AtComplete i s at (eq-eqb i.0 i.0 refl) in
+    let place = callback_place w k (Place.Complete i) AtComplete i s at (eq-eqb i.0 i.0 refl) in
     (place.0, place.1, one_true (is_completing place.0.phase) place.2)
 
 -- ---- the filter is asked
@@ -44,13 +44,13 @@ not_queried : (i : InstanceId) (workers : List Place) → is_queried i workers �
 not_queried i workers h = none_any (is_at AtQuery i.0) workers h
 
 -- nobody is in a query of the instance, which is attached, and one comes to be
-asks_staffs : (i : InstanceId) (row : Instance) (d : Desk) (workers : List Place) (m : ℕ) → is_attached row.phase ≡ true
+asks_workers : (i : InstanceId) (row : Instance) (d : InstanceCallback) (workers : List Place) (m : ℕ) → is_attached row.phase ≡ true
     → count_by (is_at AtQuery i.0) workers ≡ 0
     → m + one (is_at d i.0 Place.Idle) ≡ count_by (is_at d i.0) workers + one (is_at d i.0 (Place.Query i))
-    → IsStaffed d (Some row) (count_by (is_at d i.0) workers)
-    → IsStaffed d (Some row) m
-asks_staffs i row AtQuery workers m is none moves h = grind (arith, eq-eqb)
-asks_staffs i row d workers m is none moves h = grind arith
+    → HasWorkers d (Some row) (count_by (is_at d i.0) workers)
+    → HasWorkers d (Some row) m
+asks_workers i row AtQuery workers m is none moves h = grind (arith, eq-eqb)
+asks_workers i row d workers m is none moves h = grind arith
 
 pub ask_detach_does : (old : World) (k : WorkerId) (i : InstanceId) (result : Result (Unit {0}) Status) (new : World)
     → AsksDetach old k i result new → Does old new
@@ -63,8 +63,8 @@ ask_detach_does old k i result new h =
     let tests = or_parts (not uses) asked (none_refuses (stack.ask_detach_refusals old.stack i asked) free).1.0 in
     let row = passes_row stack.is_in_use (row_at old.stack i) (not_false uses tests.0) in
     makes old (record old { workers = put old.workers k (Place.Query i) }) new e (still old.contexts) (λ s. record {
-      under_way = desk_enters old k (Place.Query i) i old.stack row.0 row.0 at refl refl (row_stays old.stack i.0 row.0 row.1)
-          (λ d m moves h. asks_staffs i row.0 d old.workers m row.2 (not_queried i old.workers tests.1) moves h) s.under_way.stack
+      under_way = callback_enters old k (Place.Query i) i old.stack row.0 row.0 at refl refl (row_stays old.stack i.0 row.0 row.1)
+          (λ d m moves h. asks_workers i row.0 d old.workers m row.2 (not_queried i old.workers tests.1) moves h) s.under_way.stack
           (follows_same old.stack) s.under_way;
       owned = goes_owned old k Place.Idle (Place.Query i) old.stack at refl refl refl (rows_same old old.stack refl) (omega arith) (λ v h. h) s;
       filed = s.filed;
@@ -93,13 +93,13 @@ ends old new k a t at na leaves e filters volumes keeps = (
 
 -- ---- the filter answered
 
-query_staffs : (i : InstanceId) (row : Instance) → Restaffs i.0 (Place.Query i) Place.Idle (Some row) (Some row)
-query_staffs i row AtQuery n m moves h = grind (arith, eq-eqb)
-query_staffs i row d n m moves h = grind arith
+query_workers : (i : InstanceId) (row : Instance) → MovesWorkers i.0 (Place.Query i) Place.Idle (Some row) (Some row)
+query_workers i row AtQuery n m moves h = grind (arith, eq-eqb)
+query_workers i row d n m moves h = grind arith
 
-stop_staffs : (i : InstanceId) (row : Instance) → is_attached row.phase ≡ true → Restaffs i.0 (Place.Query i) Place.Idle (Some row) (Some (stack.stop_row row))
-stop_staffs i row was AtQuery n m moves h = grind (arith, eq-eqb)
-stop_staffs i row was d n m moves h = grind arith
+stop_workers : (i : InstanceId) (row : Instance) → is_attached row.phase ≡ true → MovesWorkers i.0 (Place.Query i) Place.Idle (Some row) (Some (stack.stop_row row))
+stop_workers i row was AtQuery n m moves h = grind (arith, eq-eqb)
+stop_workers i row was d n m moves h = grind arith
 
 pub stop_goes : (w : World) (j : ℕ) (row : Instance) → GoesOnAt w j row (stack.stop_row row)
 stop_goes w j row = record { filter = refl; left = λ h. refl; keeps = λ h. refl; quiet = λ h. absurd (true≢false h) }
@@ -120,7 +120,7 @@ query_does old k allow result new h = by_place (worker_at old.workers k) refl h
     by_result i (Err why) at h = ends old new k (Place.Query i) old.stack at refl h.1 (made i old.stack h.0.1 h.2) refl refl (λ s.
         let place = query_place old k i s.under_way at in (
           rows_same old old.stack refl,
-          desk_returns old k (Place.Query i) i old.stack place.0 place.0 at refl refl (row_stays old.stack i.0 place.0 place.1) (query_staffs i place.0)
+          callback_ends old k (Place.Query i) i old.stack place.0 place.0 at refl refl (row_stays old.stack i.0 place.0 place.1) (query_workers i place.0)
               s.under_way.stack (follows_same old.stack) s.under_way,
         ))
     by_result i (Ok done) at h =
@@ -132,7 +132,7 @@ query_does old k allow result new h = by_place (worker_at old.workers k) refl h
         let changes = row_updated old.stack t stack.stop_row i.0 row.0 refl row.1 in
         ends old new k (Place.Query i) t at refl h.1 (made i t h.0.1 h.2) refl refl (λ s. (
           row_goes old t i.0 row.0 (stack.stop_row row.0) changes (stop_goes old i.0 row.0),
-          desk_returns old k (Place.Query i) i t row.0 (stack.stop_row row.0) at refl refl changes (stop_staffs i row.0 row.2)
+          callback_ends old k (Place.Query i) i t row.0 (stack.stop_row row.0) at refl refl changes (stop_workers i row.0 row.2)
               (goes_on_keeps old.stack t goes s.under_way.stack) (goes_on_follows old.stack t goes) s.under_way,
         ))
 
@@ -143,11 +143,11 @@ query_does old k allow result new h = by_place (worker_at old.workers k) refl h
 
 -- ---- the teardown starts
 
-start_staffs : (i : InstanceId) (row : Instance) → stack.is_to_start row ≡ true → (d : Desk) (n m : ℕ)
+start_workers : (i : InstanceId) (row : Instance) → stack.is_to_start row ≡ true → (d : InstanceCallback) (n m : ℕ)
     → m + one (is_at d i.0 Place.Idle) ≡ n + one (is_at d i.0 (Place.Start i))
-    → IsStaffed d (Some row) n → IsStaffed d (Some (stack.with_start StartMark.Made row)) m
-start_staffs i row is AtStart n m moves h = grind (arith, eq-eqb)
-start_staffs i row is d n m moves h = grind arith
+    → HasWorkers d (Some row) n → HasWorkers d (Some (stack.with_start StartMark.Made row)) m
+start_workers i row is AtStart n m moves h = grind (arith, eq-eqb)
+start_workers i row is d n m moves h = grind arith
 
 pub start_teardown_does : (old : World) (k : WorkerId) (i : InstanceId) (result : Result (Unit {0}) Status) (new : World)
     → StartsTeardown old k i result new → Does old new
@@ -167,8 +167,8 @@ start_teardown_does old k i result new h =
         let changes = row_updated old.stack t change i.0 row.0 refl row.1 in
         makes old (record old { stack = t; workers = put old.workers k (Place.Start i) }) new
         (e ∙ ap (λ x. record old { stack = x; workers = put old.workers k (Place.Start i) }) h.1) (still old.contexts) (λ s. record {
-          under_way = desk_enters old k (Place.Start i) i t row.0 (change row.0) at refl refl changes
-              (λ d m moves h. start_staffs i row.0 row.2 d (count_by (is_at d i.0) old.workers) m moves h)
+          under_way = callback_enters old k (Place.Start i) i t row.0 (change row.0) at refl refl changes
+              (λ d m moves h. start_workers i row.0 row.2 d (count_by (is_at d i.0) old.workers) m moves h)
               (goes_on_keeps old.stack t goes s.under_way.stack) (goes_on_follows old.stack t goes) s.under_way;
           owned = goes_owned old k Place.Idle (Place.Start i) t at refl refl refl
               (row_goes old t i.0 row.0 (change row.0) changes (goes_same old i.0 row.0 (change row.0) refl refl)) (omega arith) (λ v h. h) s;
@@ -176,9 +176,9 @@ start_teardown_does old k i result new h =
           links = s.links;
         })
 
-started_staffs : (i : InstanceId) (row : Instance) → Restaffs i.0 (Place.Start i) Place.Idle (Some row) (Some (stack.with_start StartMark.Returned row))
-started_staffs i row AtStart n m moves h = grind (arith, eq-eqb)
-started_staffs i row d n m moves h = grind arith
+started_workers : (i : InstanceId) (row : Instance) → MovesWorkers i.0 (Place.Start i) Place.Idle (Some row) (Some (stack.with_start StartMark.Returned row))
+started_workers i row AtStart n m moves h = grind (arith, eq-eqb)
+started_workers i row d n m moves h = grind arith
 
 pub start_returned_does : (old : World) (k : WorkerId) (result : Result (Unit {0}) Status) (new : World) → StartReturns old k result new
     → Does old new × (hand_len k.0 new ≡ left_by AtStart (worker_at old.workers k) (hand_len k.0 old))
@@ -195,7 +195,7 @@ start_returned_does old k result new h = by_place (worker_at old.workers k) refl
         let row = start_place old k i s.under_way at in
         let changes = row_updated old.stack t change i.0 row.0 refl row.1 in (
           row_goes old t i.0 row.0 (change row.0) changes (goes_same old i.0 row.0 (change row.0) refl refl),
-          desk_returns old k (Place.Start i) i t row.0 (change row.0) at refl refl changes (started_staffs i row.0)
+          callback_ends old k (Place.Start i) i t row.0 (change row.0) at refl refl changes (started_workers i row.0)
               (goes_on_keeps old.stack t goes s.under_way.stack) (goes_on_follows old.stack t goes) s.under_way,
         ))
     by_place _ at h = (unchanged old new h.1, ap (hand_len k.0) h.1)
@@ -203,13 +203,13 @@ start_returned_does old k result new h = by_place (worker_at old.workers k) refl
 -- ---- the teardown is completed
 
 -- the start returned, and nobody is in a query
-complete_staffs : (i : InstanceId) (row : Instance) (d : Desk) (workers : List Place) (m : ℕ) → stack.is_to_complete row ≡ true
+complete_workers : (i : InstanceId) (row : Instance) (d : InstanceCallback) (workers : List Place) (m : ℕ) → stack.is_to_complete row ≡ true
     → count_by (is_at AtQuery i.0) workers ≡ 0
     → m + one (is_at d i.0 Place.Idle) ≡ count_by (is_at d i.0) workers + one (is_at d i.0 (Place.Complete i))
-    → IsStaffed d (Some row) (count_by (is_at d i.0) workers)
-    → IsStaffed d (Some (stack.in_phase Phase.Completing row)) m
-complete_staffs i row AtComplete workers m is none moves h = grind (arith, eq-eqb)
-complete_staffs i row d workers m is none moves h = grind arith
+    → HasWorkers d (Some row) (count_by (is_at d i.0) workers)
+    → HasWorkers d (Some (stack.in_phase Phase.Completing row)) m
+complete_workers i row AtComplete workers m is none moves h = grind (arith, eq-eqb)
+complete_workers i row d workers m is none moves h = grind arith
 
 -- nothing is in flight at it
 complete_goes : (w : World) (j : ℕ) (row : Instance) → in_flight j w.flow ≡ 0 → GoesOnAt w j row (stack.in_phase Phase.Completing row)
@@ -238,8 +238,8 @@ complete_teardown_does old k i result new h =
         let none : in_flight i.0 old.flow ≡ 0 = omega (arith, ltb-false 0 (in_flight i.0 old.flow) frees.1.1.0) in
         makes old (record old { stack = t; workers = put old.workers k (Place.Complete i) }) new
         (e ∙ ap (λ x. record old { stack = x; workers = put old.workers k (Place.Complete i) }) h.1) (still old.contexts) (λ s. record {
-          under_way = desk_enters old k (Place.Complete i) i t row.0 (change row.0) at refl refl changes
-              (λ d m moves h. complete_staffs i row.0 d old.workers m row.2 (not_queried i old.workers tests.1) moves h)
+          under_way = callback_enters old k (Place.Complete i) i t row.0 (change row.0) at refl refl changes
+              (λ d m moves h. complete_workers i row.0 d old.workers m row.2 (not_queried i old.workers tests.1) moves h)
               (goes_on_keeps old.stack t goes s.under_way.stack) (goes_on_follows old.stack t goes) s.under_way;
           owned = goes_owned old k Place.Idle (Place.Complete i) t at refl refl refl
               (row_goes old t i.0 row.0 (change row.0) changes (complete_goes old i.0 row.0 none)) (omega arith) (λ v h. h) s;
@@ -247,10 +247,10 @@ complete_teardown_does old k i result new h =
           links = s.links;
         })
 
-empty_staffs : (i : InstanceId) (row : Instance) → is_completing row.phase ≡ true
-    → Restaffs i.0 (Place.Complete i) Place.Idle (Some row) (Some (stack.in_phase Phase.Emptying row))
-empty_staffs i row is AtComplete n m moves h = grind (arith, eq-eqb)
-empty_staffs i row is d n m moves h = grind arith
+empty_workers : (i : InstanceId) (row : Instance) → is_completing row.phase ≡ true
+    → MovesWorkers i.0 (Place.Complete i) Place.Idle (Some row) (Some (stack.in_phase Phase.Emptying row))
+empty_workers i row is AtComplete n m moves h = grind (arith, eq-eqb)
+empty_workers i row is d n m moves h = grind arith
 
 completing_rests : (p : Phase) → is_completing p ≡ true → is_flown p ≡ false
 completing_rests p h = grind arith
@@ -271,8 +271,8 @@ complete_returned_does old k result new h = by_place (worker_at old.workers k) r
                 let goes = emptying_goes_on old.stack i (ap (passes stack.is_in_complete) row.1 ∙ row.2) in
                 let owned = emptied_owned old k (Place.Complete i) i row.0 h.1 new.contexts at refl row.1 (completing_rests row.0.phase row.2) h.2 h.3 s in
                 subst IsSound (sym h.4) (record {
-                  under_way = desk_returns old k (Place.Complete i) i t row.0 (change row.0) at refl refl (row_updated old.stack t change i.0 row.0 refl row.1)
-                      (empty_staffs i row.0 row.2) (goes_on_keeps old.stack t goes s.under_way.stack) (goes_on_follows old.stack t goes) s.under_way;
+                  under_way = callback_ends old k (Place.Complete i) i t row.0 (change row.0) at refl refl (row_updated old.stack t change i.0 row.0 refl row.1)
+                      (empty_workers i row.0 row.2) (goes_on_keeps old.stack t goes s.under_way.stack) (goes_on_follows old.stack t goes) s.under_way;
                   owned = owned.0;
                   filed = s.filed;
                   links = owned.1;

@@ -15,7 +15,7 @@ use Rattle.fm_world.proofs.Keeps.{stack_changes}
 use Rattle.fm_world.proofs.Losing.{loses_sound, sweeps_named, sweeps_owned}
 use Rattle.fm_world.proofs.Owning.{rows_same}
 use Rattle.fm_world.proofs.Staying.{Does, SlotsStay, lasts, loses_lasts, slots_swept, still, unchanged}
-use Rattle.fm_world.proofs.Unloading.{goes_does, stops_go, stops_staff}
+use Rattle.fm_world.proofs.Unloading.{goes_does, stops_go, stops_workers}
 use Rattle.fm_stack.specs.Dismounting as volumes
 
 -- ---- its start
@@ -39,7 +39,7 @@ unfolding StartsDismount volumes.StartsDismount
 start_dismount_does old v (Err why) new h = unchanged old new (h.1 ∙ ap (λ x. record old { stack = x }) h.0.1)
 start_dismount_does old v (Ok done) new h =
     let t = volumes.dismounting old.stack v in
-    goes_does old new t h.0.1 h.1 (dismounting_goes_on old.stack v) (stops_staff (volumes.is_on v) old.stack t refl)
+    goes_does old new t h.0.1 h.1 (dismounting_goes_on old.stack v) (stops_workers (volumes.is_on v) old.stack t refl)
     (stops_go (volumes.is_on v) old t refl) (omega arith)
     (volumes_stay (volumes.volume_in VolumePhase.Dismounting) old.stack v (λ x there h. refl))
 

@@ -2,7 +2,7 @@
 use Rattle.fm_world.proofs.Words.{CompleteReturns, CompleteReturnsAt, QueryReturns, QueryReturnsAt, ResumesPre, SetsUp, SetsUpAt, StartReturns, StartReturnsAt}
 use Rattle.fm_world.proofs.Words.{HoldsFewer, KeepsHands, given_with, hand_len, left_by, left_by_setup, taken_by_resume, place_in, sent_in, state_at, first_of}
 use Rattle.fm_world.proofs.Words.{CtxId, InstanceId, OpId, Status, WorkerId, PreState, PreVerdict, Completion, hand_of, holds, of_hand, has_post, verdict_counted}
-use Rattle.fm_world.proofs.Words.{AtComplete, AtQuery, AtSetup, AtStart, Desk, worker_at, World, Place, Bool, Err, List, None, Ok, Option, Result, Some, [], ap}
+use Rattle.fm_world.proofs.Words.{AtComplete, AtQuery, AtSetup, AtStart, InstanceCallback, worker_at, World, Place, Bool, Err, List, None, Ok, Option, Result, Some, [], ap}
 use Rattle.fm_world.proofs.Words.{arith, cond, length, option_map, unwrap_or, refl, slice_get, subst, sym, told, ℕ, ◌+◌, ◌∷◌, ◌≡◌, ◌≤◌, Operation, state_given, FlowRecord, operation_at, not}
 use Rattle.std.proofs.lemmas.List.{get_or_past}
 use Rattle.fm_world.specs.Hands.{worker_pairs}

@@ -1,12 +1,12 @@
 -- What a step of one operation leaves of what is under way; and the operation that a worker is inside of.
 use Rattle.fm_world.proofs.Words.{flow_changes, Stays, unspent, drain_opens, done_at, is_done, is_number, is_spent, IsStack, all_change, found_holds, returned}
 use Rattle.fm_world.proofs.Words.{AtBase, AtDrain, AtPost, AtPre, Spot, drains_running, is_in_at, is_in_drain, is_spot, spot_of, stands_at, AreUnderWay}
-use Rattle.fm_world.proofs.Words.{IsAmong, IsStaffed, IsUnderWay, FlowRecord, FlowTable, InBase, InDrain, InstanceId, IsFlow, OpId, PostRunning, PreRunning}
-use Rattle.fm_world.proofs.Words.{StackWorld, Stage, WorkerId, changed, last_posted, last_visited, operation_at, owed, told, Desk, is_at, put, worker_at, World}
+use Rattle.fm_world.proofs.Words.{IsAmong, HasWorkers, IsUnderWay, FlowRecord, FlowTable, InBase, InDrain, InstanceId, IsFlow, OpId, PostRunning, PreRunning}
+use Rattle.fm_world.proofs.Words.{StackWorld, Stage, WorkerId, changed, last_posted, last_visited, operation_at, owed, told, InstanceCallback, is_at, put, worker_at, World}
 use Rattle.fm_world.proofs.Words.{Place, All, AllPairs, List, Some, ap, arith, count_by, false, length, length-set, option_map, refl, slice_get, subst, sym}
 use Rattle.fm_world.proofs.Words.{true, unwrap_or, ℕ, ◌&&◌, ◌+◌, ◌<◌, ◌==◌, ◌∙◌, ◌≡◌, and_from, eq-eqb, false≢true, same_Some}
 use Rattle.fm_flow.proofs.Flows.{still_ascends}
-use Rattle.fm_world.proofs.Ties.{AtNoDesk, at_none, staffed_still, BalancesDrains, BalancesSpots, InDrains, Matches, drains_balance, in_no_drain, is_running}
+use Rattle.fm_world.proofs.Ties.{InNoCallback, at_none, workers_still, BalancesDrains, BalancesSpots, InDrains, Matches, drains_balance, in_no_drain, is_running}
 use Rattle.fm_world.proofs.Ties.{matches_idle, spot_base, spot_drain, spot_post, spot_pre, spots_balance, standing, tied_moves, tied_there}
 use Rattle.fm_flow.specs.Sound as flow
 
@@ -20,19 +20,19 @@ pub record AreInStep (s : StackWorld) (t : FlowTable) (ws : List Place) : Type 0
   pub hands : length ws ≡ 48
   pub workers : (o : OpId) (spot : Spot) → count_by (is_in_at o spot) ws ≡ stands_at o spot t
   pub drains : (o : OpId) (i : ℕ) → count_by (is_in_drain o i) ws ≡ drains_running o i t
-  pub desks : (d : Desk) (i : ℕ) → IsStaffed d (slice_get s.instances i) (count_by (is_at d i) ws)
+  pub instance_callbacks : (d : InstanceCallback) (i : ℕ) → HasWorkers d (slice_get s.instances i) (count_by (is_at d i) ws)
 
 pub in_step : {s : StackWorld} {t : FlowTable} {ws : List Place} → AreUnderWay s t ws → AreInStep s t ws
-in_step u = record { stack = u.stack; ascending = u.flow.ascending; among = u.among; hands = u.hands; workers = u.workers; drains = u.drains; desks = u.desks }
+in_step u = record { stack = u.stack; ascending = u.flow.ascending; among = u.among; hands = u.hands; workers = u.workers; drains = u.drains; instance_callbacks = u.instance_callbacks }
 
 pub with_laws : {s : StackWorld} {t : FlowTable} {ws : List Place} → AreInStep s t ws → IsFlow t → AreUnderWay s t ws
-with_laws u flow = record { stack = u.stack; flow = flow; among = u.among; hands = u.hands; workers = u.workers; drains = u.drains; desks = u.desks }
+with_laws u flow = record { stack = u.stack; flow = flow; among = u.among; hands = u.hands; workers = u.workers; drains = u.drains; instance_callbacks = u.instance_callbacks }
 
 -- one operation changes, and one worker goes elsewhere with it
 pub step_moves : (w : World) (o : OpId) (r : FlowRecord) (f : FlowRecord → FlowRecord) (k : WorkerId) (a b : Place)
     → operation_at o w.flow ≡ Some r → worker_at w.workers k ≡ Some a
     → ((x : FlowRecord) → Stays x (f x)) → IsAmong w.stack (f r) → BalancesSpots o a b r (f r) → BalancesDrains o a b r (f r)
-    → AtNoDesk a → AtNoDesk b → IsUnderWay w
+    → InNoCallback a → InNoCallback b → IsUnderWay w
     → AreInStep w.stack (changed o f w.flow) (put w.workers k b)
 step_moves w o r f k a b at worker stays among spots drains from to s =
     let number : (x : FlowRecord) → (f x).number.0 ≡ x.number.0 = λ x. (stays x).number in
@@ -45,7 +45,7 @@ step_moves w o r f k a b at worker stays among spots drains from to s =
       workers = λ p x. tied_moves (λ q. is_in_at q x) (standing x) w.workers w.flow k a b o r f worker at number (spots x) p (s.workers p x);
       drains = λ p i. tied_moves (λ q. is_in_drain q i) (λ y. drain_opens i y.entries) w.workers w.flow k a b o r f worker at number
           (drains i) p (s.drains p i);
-      desks = λ d i. staffed_still d i w.workers k a b (slice_get w.stack.instances i) worker from to (s.desks d i);
+      instance_callbacks = λ d i. workers_still d i w.workers k a b (slice_get w.stack.instances i) worker from to (s.instance_callbacks d i);
     }
 
 -- and the record is still needed
@@ -53,7 +53,7 @@ pub step_keeps : (w : World) (o : OpId) (r : FlowRecord) (f : FlowRecord → Flo
     → operation_at o w.flow ≡ Some r → worker_at w.workers k ≡ Some a
     → ((x : FlowRecord) → Stays x (f x)) → flow.IsSound (f r) → is_spent (f r) ≡ false → IsAmong w.stack (f r)
     → BalancesSpots o a b r (f r) → BalancesDrains o a b r (f r)
-    → AtNoDesk a → AtNoDesk b → IsUnderWay w
+    → InNoCallback a → InNoCallback b → IsUnderWay w
     → IsUnderWay (record w { flow = changed o f w.flow; workers = put w.workers k b })
 step_keeps w o r f k a b at worker stays sound needed among spots drains from to s =
     with_laws (step_moves w o r f k a b at worker stays among spots drains from to s)
@@ -119,7 +119,7 @@ inside_drain w k o i at s = let x = inside w k (Place.Drain o i) o (AtDrain i.0)
 pub return_keeps : (old : World) (k : WorkerId) (a : Place) (o : OpId) (r : FlowRecord) (f : FlowRecord → FlowRecord) (n : ℕ → ℕ)
     → worker_at old.workers k ≡ Some a
     → operation_at o old.flow ≡ Some r → ((x : FlowRecord) → Stays x (f x)) → Matches o a (spot_of r) → is_running (f r).stage ≡ false → InDrains o a n
-    → ((i : ℕ) → drain_opens i (f r).entries + n i ≡ drain_opens i r.entries) → AtNoDesk a → flow.IsSound (f r) → is_done r ≡ false → IsAmong old.stack (f r)
+    → ((i : ℕ) → drain_opens i (f r).entries + n i ≡ drain_opens i r.entries) → InNoCallback a → flow.IsSound (f r) → is_done r ≡ false → IsAmong old.stack (f r)
     → IsUnderWay old → IsUnderWay (returned old k o f)
 return_keeps old k a o r f n at there stays matches quiet from even outside sound undone among s =
     step_keeps old o r f k a Place.Idle there at stays sound

@@ -2,7 +2,7 @@
 use Rattle.fm_world.proofs.Words.{leave_keeps, sweep_keeps, swept, swept_slot, accept_row, refuse_row, Follows, IsStack, Volume, slice_get-kept}
 use Rattle.fm_world.proofs.Words.{slice_get-set_other, slice_get-set_same, updated-other, Attaches, EmptiesUnless, Mounts, Registers, SetsUp, SetsUpAt}
 use Rattle.fm_world.proofs.Words.{hand_len, left_by_setup, names_there, HoldsIn, fits, holds_links_by, is_flown, is_flown_by, is_left_by, keeps_links}
-use Rattle.fm_world.proofs.Words.{keeps_links_by, place_in, row_at, IsOwned, IsSound, IsStaffed, Context, ContextTable, CtxId, FilterId, FlowTable, Instance}
+use Rattle.fm_world.proofs.Words.{keeps_links_by, place_in, row_at, IsOwned, IsSound, HasWorkers, Context, ContextTable, CtxId, FilterId, FlowTable, Instance}
 use Rattle.fm_world.proofs.Words.{InstanceId, IsLawful, Leaves, Owner, Phase, Slot, StackWorld, Status, Sweeps, VolumeId, WorkerId, carried, cleaning_of}
 use Rattle.fm_world.proofs.Words.{hand_of, in_flight, is_detached, is_linked_of, is_setup, after_attach, cleanup_in, put, worker_at, World, carries, Place}
 use Rattle.fm_world.proofs.Words.{All, Bool, Err, List, None, Ok, Option, Result, Some, [], ap, arith, false, inl, inr, length, map, not, refl, slice_get}
@@ -110,7 +110,7 @@ stack_does old new t is e same keeps filters volumes =
     makes old (record old { stack = t }) new (e ∙ ap (λ x. record old { stack = x }) is) (still old.contexts) (λ s.
     let stack = keeps s.under_way.stack in
     record {
-      under_way = stack_changes old t stack.0 stack.1 (λ d j n h. subst (λ (xs : List Instance). IsStaffed d (slice_get xs j) n) (sym same) h) s.under_way;
+      under_way = stack_changes old t stack.0 stack.1 (λ d j n h. subst (λ (xs : List Instance). HasWorkers d (slice_get xs j) n) (sym same) h) s.under_way;
       owned = stack_owned old t (rows_same old t same) filters volumes s.owned;
       filed = s.filed;
       links = s.links;

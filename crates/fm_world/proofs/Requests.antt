@@ -84,7 +84,7 @@ operation_begins old v stream handle path p on within free s =
       hands = s.hands;
       workers = λ o x. s.workers o x ∙ sym (told_push (standing x) o old.flow.operations fresh (ap one (quiet x)));
       drains = λ o i. s.drains o i ∙ sym (told_push (λ (x : FlowRecord). drain_opens i x.entries) o old.flow.operations fresh refl);
-      desks = s.desks;
+      instance_callbacks = s.instance_callbacks;
     }
 
 pub total_push : (f : FlowRecord → ℕ) (rs : List FlowRecord) (r : FlowRecord) → f r ≡ 0 → total f (rs ++ r ∷ []) ≡ total f rs
@@ -327,7 +327,7 @@ goes_keeps w o r at done d flow u =
       hands = u.hands;
       workers = λ p x. u.workers p x ∙ told_without (standing x) p w.flow o r u.ascending at (ap one (quiet x));
       drains = λ p i. u.drains p i ∙ told_without (λ (y : FlowRecord). drain_opens i y.entries) p w.flow o r u.ascending at (none_running i r.entries d);
-      desks = u.desks;
+      instance_callbacks = u.instance_callbacks;
     }
 
 -- ---- collect
@@ -357,7 +357,7 @@ collect_does old o result new h = makes old (record old { flow = collected_of o 
         hands = u.hands;
         workers = λ p x. u.workers p x ∙ told_same (standing x) p old.flow o r marked at (λ y. refl) refl;
         drains = λ p i. u.drains p i ∙ told_same (opens i) p old.flow o r marked at (λ y. refl) refl;
-        desks = u.desks;
+        instance_callbacks = u.instance_callbacks;
       };
       owned = flow_owned old (changed o marked old.flow) lawful
           (carry_changed old.stack old.contexts.slots old.flow o r marked at (asks_of old o r at s.owned) s.owned.completions)

@@ -72,7 +72,7 @@ step_stays w o r f at stays sound undone among before after drains s =
       hands = s.hands;
       workers = λ p x. s.workers p x ∙ told_same (standing x) p w.flow o r f at number (nowhere x);
       drains = λ p i. s.drains p i ∙ told_same (λ (y : FlowRecord). drain_opens i y.entries) p w.flow o r f at number (drains i);
-      desks = s.desks;
+      instance_callbacks = s.instance_callbacks;
     }
 
 -- ---- a preoperation

@@ -1,8 +1,8 @@
 -- Workers and operations stay tied: a worker goes into an operation or leaves it as the operation's stage and its drains say.
 use Rattle.fm_world.proofs.Words.{one_of_and, same_either, drain_opens, is_number, find_changed, find_unchanged, AtBase, AtDrain, AtPost, AtPre, Spot}
-use Rattle.fm_world.proofs.Words.{drains_running, is_in_at, is_in_drain, is_spot, spot_at, spot_of, stands_at, IsStaffed, Entry, FlowRecord, FlowTable, InBase}
+use Rattle.fm_world.proofs.Words.{drains_running, is_in_at, is_in_drain, is_spot, spot_at, spot_of, stands_at, HasWorkers, Entry, FlowRecord, FlowTable, InBase}
 use Rattle.fm_world.proofs.Words.{InDrain, Instance, InstanceId, OpId, PostRunning, PreRunning, Stage, WorkerId, changed, last_posted, last_visited, one}
-use Rattle.fm_world.proofs.Words.{operation_at, told, Desk, is_at, put, worker_at, Place, Bool, List, None, Option, Some, ap, arith, cond, count_by, false}
+use Rattle.fm_world.proofs.Words.{operation_at, told, InstanceCallback, is_at, put, worker_at, Place, Bool, List, None, Option, Some, ap, arith, cond, count_by, false}
 use Rattle.fm_world.proofs.Words.{find, inl, inr, option_map, refl, subst, sym, true, unwrap_or, ℕ, ◌&&◌, ◌+◌, ◌==◌, ◌∙◌, ◌≡◌, ◌≤◌, and_right, cases_eq, eq-eqb}
 use Rattle.fm_world.proofs.Words.{eqb-true, ne_eqb, nat_tests, sum_by-set, get_or_from_slice_get, slice_get_within}
 use Rattle.fm_world.proofs.Cases.{count-some, one_true}
@@ -25,24 +25,24 @@ count_stays p workers k a b h na nb =
     grind (arith, count_moves)
 
 -- the instance whose callback a worker is in that doesn't belong to an operation
-abbrev pub desk_of : Place → Option InstanceId
-desk_of (Place.Setup i) = Some i
-desk_of (Place.Query i) = Some i
-desk_of (Place.Start i) = Some i
-desk_of (Place.Complete i) = Some i
-desk_of _ = None
+abbrev pub own_callback_of : Place → Option InstanceId
+own_callback_of (Place.Setup i) = Some i
+own_callback_of (Place.Query i) = Some i
+own_callback_of (Place.Start i) = Some i
+own_callback_of (Place.Complete i) = Some i
+own_callback_of _ = None
 
-abbrev pub AtNoDesk : Place → Type 0
-AtNoDesk a = (d : Desk) (i : ℕ) → is_at d i a ≡ false
+abbrev pub InNoCallback : Place → Type 0
+InNoCallback a = (d : InstanceCallback) (i : ℕ) → is_at d i a ≡ false
 
-pub at_none : (a : Place) → desk_of a ≡ None → AtNoDesk a
+pub at_none : (a : Place) → own_callback_of a ≡ None → InNoCallback a
 at_none a h d i = grind arith
 
 -- a worker goes from one such place to another
-pub staffed_still : (d : Desk) (i : ℕ) (workers : List Place) (k : WorkerId) (a b : Place) (m : Option Instance)
-    → worker_at workers k ≡ Some a → AtNoDesk a → AtNoDesk b
-    → IsStaffed d m (count_by (is_at d i) workers) → IsStaffed d m (count_by (is_at d i) (put workers k b))
-staffed_still d i workers k a b m at from to h = subst (IsStaffed d m) (sym (count_stays (is_at d i) workers k a b at (from d i) (to d i))) h
+pub workers_still : (d : InstanceCallback) (i : ℕ) (workers : List Place) (k : WorkerId) (a b : Place) (m : Option Instance)
+    → worker_at workers k ≡ Some a → InNoCallback a → InNoCallback b
+    → HasWorkers d m (count_by (is_at d i) workers) → HasWorkers d m (count_by (is_at d i) (put workers k b))
+workers_still d i workers k a b m at from to h = subst (HasWorkers d m) (sym (count_stays (is_at d i) workers k a b at (from d i) (to d i))) h
 
 -- what is counted of an operation, after a change of one
 told_changed : (read : FlowRecord → ℕ) (p : OpId) (t : FlowTable) (o : OpId) (r : FlowRecord) (f : FlowRecord → FlowRecord) → operation_at o t ≡ Some r

@@ -25,7 +25,7 @@ use Rattle.fm_world.proofs.Losing.{loses_sound}
 use Rattle.fm_world.proofs.Operations.{step_keeps, told_there}
 use Rattle.fm_world.proofs.Owning.{empty_hand}
 use Rattle.fm_world.proofs.Staying.{Does, Gives, HandMore, hand_given, loses_lasts, nothing, table_same}
-use Rattle.fm_world.proofs.Ties.{AtNoDesk, at_none, BalancesSpots, InDrains, Matches, drains_balance, in_a_drain, in_no_drain, is_running, matches_drain}
+use Rattle.fm_world.proofs.Ties.{InNoCallback, at_none, BalancesSpots, InDrains, Matches, drains_balance, in_a_drain, in_no_drain, is_running, matches_drain}
 use Rattle.fm_world.proofs.Ties.{matches_idle, matches_post, matches_pre, quiet_is_nowhere, spots_balance, standing}
 use Rattle.fm_flow.specs.Sound as flow
 
@@ -163,7 +163,7 @@ placed_by o _ = Place.Idle
 
 pub record Placed (o : OpId) (reply : Result FlowAction Status) : Type 0 where
   pub drains : InDrains o (placed_by o reply) (λ i. drains_given i reply)
-  pub outside : AtNoDesk (placed_by o reply)
+  pub outside : InNoCallback (placed_by o reply)
   pub puts : (workers : List Place) (k : WorkerId) → worker_at workers k ≡ Some Place.Idle → after_next workers k o reply ≡ put workers k (placed_by o reply)
 
 pub placed : (o : OpId) (reply : Result FlowAction Status) → Placed o reply

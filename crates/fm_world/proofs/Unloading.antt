@@ -1,7 +1,7 @@
 -- What the events by which a filter is unloaded do: it is asked or forced, its instances are stopped, and it is emptied and finished.
 use Rattle.fm_world.proofs.Words.{goes_on_follows, goes_on_keeps, Follows, IsStack, Filter, length-updated, with_contexts, KeepsHands, OnlyHandOf, pairs_in}
-use Rattle.fm_world.proofs.Words.{IsSound, IsStaffed, IsUnderWay, AsksUnload, EmptiesFilter, FinishesFilter, ForcesUnload, UnloadReturns, UnloadReturnsAt}
-use Rattle.fm_world.proofs.Words.{CtxId, FilterId, Instance, Owner, StackWorld, Status, WorkerId, hand_of, is_attached, is_linked_of, updated, Desk, put}
+use Rattle.fm_world.proofs.Words.{IsSound, HasWorkers, IsUnderWay, AsksUnload, EmptiesFilter, FinishesFilter, ForcesUnload, UnloadReturns, UnloadReturnsAt}
+use Rattle.fm_world.proofs.Words.{CtxId, FilterId, Instance, Owner, StackWorld, Status, WorkerId, hand_of, is_attached, is_linked_of, updated, InstanceCallback, put}
 use Rattle.fm_world.proofs.Words.{worker_at, World, Place, Bool, Err, List, None, Ok, Option, Result, Some, ap, arith, cond, inl, inr, length, map, option_map}
 use Rattle.fm_world.proofs.Words.{refl, slice_get, subst, sym, true, ℕ, ◌&&◌, ◌∙◌, ◌≡◌, ◌≤◌, and_parts, cases_Bool, slice_get-map}
 use Rattle.fm_stack.proofs.GoingOn.{StackGoesOn}
@@ -11,11 +11,11 @@ use Rattle.fm_world.proofs.Belonging.{VolumesStay}
 use Rattle.fm_world.proofs.Cases.{by_option}
 use Rattle.fm_world.proofs.Detaching.{stop_goes}
 use Rattle.fm_world.proofs.Events.{answers_by, idle_by}
-use Rattle.fm_world.proofs.Keeps.{StaffsStill, follows_same, is_outside, outside_of, stack_changes, worker_moves}
+use Rattle.fm_world.proofs.Keeps.{KeepsWorkers, follows_same, is_outside, outside_of, stack_changes, worker_moves}
 use Rattle.fm_world.proofs.Losing.{sweeps_named, sweeps_owned}
 use Rattle.fm_world.proofs.Owning.{GoesOnAt, RowsGoOn, goes_owned, goes_same, rows_same, stack_owned}
 use Rattle.fm_world.proofs.Staying.{Does, SlotsStay, lasts, makes, nothing, slots_swept, still, unchanged}
-use Rattle.fm_world.proofs.Ties.{at_none, desk_of, staffed_still}
+use Rattle.fm_world.proofs.Ties.{at_none, own_callback_of, workers_still}
 use Rattle.fm_stack.specs.Unloading as filters
 use Rattle.fm_stack.specs.declared.filter.FilterPhase.TheVariants as phase
 
@@ -23,11 +23,11 @@ use Rattle.fm_stack.specs.declared.filter.FilterPhase.TheVariants as phase
 
 -- filters go on, and instances perhaps
 unload_moves : (w : World) (t : StackWorld) (k : WorkerId) (a b : Place) → worker_at w.workers k ≡ Some a → is_outside a ≡ true → is_outside b ≡ true
-    → desk_of a ≡ None → desk_of b ≡ None → IsStack t → Follows w.stack t → StaffsStill w.stack t → IsUnderWay w
+    → own_callback_of a ≡ None → own_callback_of b ≡ None → IsStack t → Follows w.stack t → KeepsWorkers w.stack t → IsUnderWay w
     → IsUnderWay (record w { stack = t; workers = put w.workers k b })
-unload_moves w t k a b at from to off on stack follows staffs s =
+unload_moves w t k a b at from to off on stack follows numbers s =
     worker_moves w t k a b at (outside_of a from) (outside_of b to) stack follows
-    (λ d i. staffs d i _ (staffed_still d i w.workers k a b (slice_get w.stack.instances i) at (at_none a off) (at_none b on) (s.desks d i))) s
+    (λ d i. numbers d i _ (workers_still d i w.workers k a b (slice_get w.stack.instances i) at (at_none a off) (at_none b on) (s.instance_callbacks d i))) s
 
 pub ask_unload_does : (old : World) (k : WorkerId) (f : FilterId) (result : Result (Unit {0}) Status) (new : World)
     → AsksUnload old k f result new → Does old new
@@ -53,15 +53,15 @@ stop_by P test row stays stops = elim (cases_Bool (test row && is_attached row.p
   | inr fails ↦ subst (λ b. P (cond b (stop_row row) row)) (sym fails) stays
 ]
 
-stopped_staffs : (d : Desk) (row : Instance) (n : ℕ) → is_attached row.phase ≡ true → IsStaffed d (Some row) n → IsStaffed d (Some (stop_row row)) n
-stopped_staffs d row n is h = grind arith
+stopped_workers : (d : InstanceCallback) (row : Instance) (n : ℕ) → is_attached row.phase ≡ true → HasWorkers d (Some row) n → HasWorkers d (Some (stop_row row)) n
+stopped_workers d row n is h = grind arith
 
 -- instances are stopped that pass a test, where they are attached
-pub stops_staff : (test : Instance → Bool) (s t : StackWorld) → t.instances ≡ map (filters.stop_where test) s.instances → StaffsStill s t
-stops_staff test s t is d i n h =
-    subst (λ m. IsStaffed d m n) (sym (ap (λ (xs : List Instance). slice_get xs i) is ∙ slice_get-map (filters.stop_where test) s.instances i))
-    (by_option (λ m. IsStaffed d m n → IsStaffed d (option_map (filters.stop_where test) m) n) (slice_get s.instances i) (λ none h. h)
-    (λ row there h. stop_by (λ x. IsStaffed d (Some x) n) test row h (λ is. stopped_staffs d row n is h)) h)
+pub stops_workers : (test : Instance → Bool) (s t : StackWorld) → t.instances ≡ map (filters.stop_where test) s.instances → KeepsWorkers s t
+stops_workers test s t is d i n h =
+    subst (λ m. HasWorkers d m n) (sym (ap (λ (xs : List Instance). slice_get xs i) is ∙ slice_get-map (filters.stop_where test) s.instances i))
+    (by_option (λ m. HasWorkers d m n → HasWorkers d (option_map (filters.stop_where test) m) n) (slice_get s.instances i) (λ none h. h)
+    (λ row there h. stop_by (λ x. HasWorkers d (Some x) n) test row h (λ is. stopped_workers d row n is h)) h)
 
 pub stops_go : (test : Instance → Bool) (w : World) (t : StackWorld) → t.instances ≡ map (filters.stop_where test) w.stack.instances → RowsGoOn w t
 stops_go test w t is j row there = (
@@ -103,7 +103,7 @@ unload_does old k allow result new h = by_place (worker_at old.workers k) refl h
         returns f t at h.0.1 h.1 (stops_go (filters.is_of f) old t refl) (more_filters old.stack (filters.filter_in phase.Unloading) f) (λ v h. h)
         (λ s. unload_moves old t k (Place.Unload f) Place.Idle at refl refl refl refl (goes_on_keeps old.stack t goes s.stack)
         (goes_on_follows old.stack t goes)
-        (stops_staff (filters.is_of f) old.stack t refl) s)
+        (stops_workers (filters.is_of f) old.stack t refl) s)
 
     by_place : (m : Option Place) → worker_at old.workers k ≡ m → UnloadReturnsAt old k allow result new m → Does old new
     by_place (Some (Place.Unload f)) at h = by_result f result at h
@@ -112,27 +112,27 @@ unload_does old k allow result new h = by_place (worker_at old.workers k) refl h
 -- ---- nobody is asked
 
 -- filters, volumes and instances go on; contexts and workers stay
-goes_sound : (old : World) (t : StackWorld) → StackGoesOn old.stack t → StaffsStill old.stack t → RowsGoOn old t → length old.stack.filters ≤ length t.filters
+goes_sound : (old : World) (t : StackWorld) → StackGoesOn old.stack t → KeepsWorkers old.stack t → RowsGoOn old t → length old.stack.filters ≤ length t.filters
     → VolumesStay old.stack t → IsSound old → IsSound (record old { stack = t })
-goes_sound old t goes staffs on filters volumes s = record {
-  under_way = stack_changes old t (goes_on_keeps old.stack t goes s.under_way.stack) (goes_on_follows old.stack t goes) staffs s.under_way;
+goes_sound old t goes numbers on filters volumes s = record {
+  under_way = stack_changes old t (goes_on_keeps old.stack t goes s.under_way.stack) (goes_on_follows old.stack t goes) numbers s.under_way;
   owned = stack_owned old t on filters volumes s.owned;
   filed = s.filed;
   links = s.links;
 }
 
 pub goes_does : (old new : World) (t : StackWorld) → new.stack ≡ t → new ≡ record old { stack = new.stack } → StackGoesOn old.stack t
-    → StaffsStill old.stack t → RowsGoOn old t
+    → KeepsWorkers old.stack t → RowsGoOn old t
     → length old.stack.filters ≤ length t.filters → VolumesStay old.stack t → Does old new
-goes_does old new t is e goes staffs on filters volumes =
-    makes old (record old { stack = t }) new (e ∙ ap (λ x. record old { stack = x }) is) (still old.contexts) (goes_sound old t goes staffs on filters volumes)
+goes_does old new t is e goes numbers on filters volumes =
+    makes old (record old { stack = t }) new (e ∙ ap (λ x. record old { stack = x }) is) (still old.contexts) (goes_sound old t goes numbers on filters volumes)
 
 pub force_unload_does : (old : World) (f : FilterId) (result : Result (Unit {0}) Status) (new : World) → ForcesUnload old f result new → Does old new
 unfolding ForcesUnload filters.ForcesUnload
 force_unload_does old f (Err why) new h = unchanged old new (h.1 ∙ ap (λ x. record old { stack = x }) h.0.1)
 force_unload_does old f (Ok done) new h =
     let t = filters.unloading old.stack f in
-    goes_does old new t h.0.1 h.1 (unloading_goes_on old.stack f) (stops_staff (filters.is_of f) old.stack t refl) (stops_go (filters.is_of f) old t refl)
+    goes_does old new t h.0.1 h.1 (unloading_goes_on old.stack f) (stops_workers (filters.is_of f) old.stack t refl) (stops_go (filters.is_of f) old t refl)
     (more_filters old.stack (filters.filter_in phase.Unloading) f) (λ v h. h)
 
 -- ---- its end

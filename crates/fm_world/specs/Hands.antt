@@ -9,7 +9,7 @@ use Rattle.fm_world.specs.declared.set_answer.SetAnswer.{SetAnswer}
 use Rattle.fm_world.specs.declared.set_answer.SetAnswer.TheVariants as answer
 use Rattle.fm_world.specs.declared.place.Place.{Place}
 use Rattle.fm_world.specs.declared.place.Place.TheVariants as place
-use Rattle.fm_world.specs.Workers.{Desk, AtSetup, AtQuery, AtStart, AtComplete}
+use Rattle.fm_world.specs.Workers.{InstanceCallback, AtSetup, AtQuery, AtStart, AtComplete}
 use Rattle.fm_world.specs.World.{World}
 
 -- how many references a list of hands has in all
@@ -65,7 +65,7 @@ given_by_drain None = 0
 given_by_drain (Some (o, completion)) = given_with completion.context
 
 -- the end of such a callback, whatever its answer, leaves none
-abbrev pub left_by : Desk → Option Place → ℕ → ℕ
+abbrev pub left_by : InstanceCallback → Option Place → ℕ → ℕ
 left_by AtSetup (Some (place.Setup i)) n = 0
 left_by AtQuery (Some (place.Query i)) n = 0
 left_by AtStart (Some (place.Start i)) n = 0

@@ -12,7 +12,7 @@ use Rattle.fm_world.specs.Files.{FileTable}
 use Rattle.fm_world.specs.FileLaws.{FilesHold}
 use Rattle.fm_world.specs.Links.{names_there}
 use Rattle.fm_world.specs.World.{World}
-use Rattle.fm_world.specs.Workers.{worker_at, cleanup_in, Desk, AtSetup, AtQuery, AtStart, AtComplete, is_at}
+use Rattle.fm_world.specs.Workers.{worker_at, cleanup_in, InstanceCallback, AtSetup, AtQuery, AtStart, AtComplete, is_at}
 use Rattle.fm_world.specs.Owners.{row_at, place_in, HoldsIn, AskCarries, fits, is_flown, is_flown_by}
 use Rattle.fm_world.specs.Descent.{IsDescent, HasRoom}
 use Rattle.fm_world.specs.Headline.{Spot, is_in_at, stands_at, is_in_drain, drains_running}
@@ -39,22 +39,22 @@ is_made _ = false
 -- how many workers are there, at least and at most: one is in the setup callback of an instance in Setup; one in the teardown-start callback of an instance
 -- whose start was made and didn't return, which is where it is stopping; one in the teardown-complete callback of one that is completing; and perhaps one in
 -- a query of one that is attached or stopping
-abbrev pub least_at : Desk → Instance → ℕ
+abbrev pub least_at : InstanceCallback → Instance → ℕ
 least_at AtSetup row = one (is_setup row.phase)
 least_at AtQuery row = 0
 least_at AtStart row = one (is_made row.start)
 least_at AtComplete row = one (is_completing row.phase)
 
-abbrev pub most_at : Desk → Instance → ℕ
+abbrev pub most_at : InstanceCallback → Instance → ℕ
 most_at AtSetup row = one (is_setup row.phase)
 most_at AtQuery row = one (is_flown row.phase)
 most_at AtStart row = one (is_stopping row.phase && is_made row.start)
 most_at AtComplete row = one (is_completing row.phase)
 
 -- so many workers are right for an instance; for one that isn't there, none
-abbrev pub IsStaffed : Desk → Option Instance → ℕ → Type 0
-IsStaffed d None n = n ≡ 0
-IsStaffed d (Some row) n = (least_at d row ≤ n) × (n ≤ most_at d row)
+abbrev pub HasWorkers : InstanceCallback → Option Instance → ℕ → Type 0
+HasWorkers d None n = n ≡ 0
+HasWorkers d (Some row) n = (least_at d row ≤ n) × (n ≤ most_at d row)
 
 -- filters, volumes, instances, operations and workers together
 pub record AreUnderWay (s : StackWorld) (t : FlowTable) (ws : List Place) : Type 0 where
@@ -64,7 +64,7 @@ pub record AreUnderWay (s : StackWorld) (t : FlowTable) (ws : List Place) : Type
   pub hands : length ws ≡ 48
   pub workers : (o : OpId) (spot : Spot) → count_by (is_in_at o spot) ws ≡ stands_at o spot t
   pub drains : (o : OpId) (i : ℕ) → count_by (is_in_drain o i) ws ≡ drains_running o i t
-  pub desks : (d : Desk) (i : ℕ) → IsStaffed d (slice_get s.instances i) (count_by (is_at d i) ws)
+  pub instance_callbacks : (d : InstanceCallback) (i : ℕ) → HasWorkers d (slice_get s.instances i) (count_by (is_at d i) ws)
 
 -- contexts, streams and handles don't matter to it
 abbrev pub IsUnderWay : World → Type 0

@@ -40,11 +40,11 @@ after_attach workers k (Ok i) = put workers k (place.Setup i)
 after_attach workers k (Err status) = workers
 
 -- the callbacks of an instance that don't belong to an operation
-pub data Desk : Type 0 where
-  AtSetup : Desk
-  AtQuery : Desk
-  AtStart : Desk
-  AtComplete : Desk
+pub data InstanceCallback : Type 0 where
+  AtSetup : InstanceCallback
+  AtQuery : InstanceCallback
+  AtStart : InstanceCallback
+  AtComplete : InstanceCallback
 
 -- a worker in the setup callback of that instance, in a query of it, in its teardown-start, and in its teardown-complete
 abbrev pub is_in_setup : ℕ → Place → Bool
@@ -64,7 +64,7 @@ is_in_complete i (place.Complete j) = j.0 == i
 is_in_complete i _ = false
 
 -- one of these
-abbrev pub is_at : Desk → ℕ → Place → Bool
+abbrev pub is_at : InstanceCallback → ℕ → Place → Bool
 is_at AtSetup i a = is_in_setup i a
 is_at AtQuery i a = is_in_query i a
 is_at AtStart i a = is_in_start i a

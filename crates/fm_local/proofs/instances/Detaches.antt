@@ -12,10 +12,10 @@ use Rattle.fm_stack.specs.Instances.{is_completing, is_detached, is_gone_at, is_
 use Rattle.fm_flow.specs.Table.{in_flight, total}
 use Rattle.fm_flow.specs.Counts.{flight}
 use Rattle.fm_flow.specs.Drains.{owed_to}
-use Rattle.fm_world.specs.Sound.{IsStaffed, is_made, least_at}
+use Rattle.fm_world.specs.Sound.{HasWorkers, is_made, least_at}
 use Rattle.fm_world.specs.Teardowns.{QueryReturnsAt, StartReturnsAt, CompleteReturnsAt, QueryReturns}
 use Rattle.fm_world.specs.Words.{one}
-use Rattle.fm_world.specs.Workers.{Desk, AtSetup, AtStart, AtComplete, after_entering, is_at, is_queried, is_in_query}
+use Rattle.fm_world.specs.Workers.{InstanceCallback, AtSetup, AtStart, AtComplete, after_entering, is_at, is_queried, is_in_query}
 use Rattle.fm_local.specs.Quietly.{AsksQuietly, WasTold}
 use Rattle.fm_local.proofs.instances.Rest.{CalmAfter, Undisturbed, ask_refused, both, by_tidying, calm_both, calm_finished, calm_same, calm_tidied, goes}
 use Rattle.fm_local.proofs.instances.Rest.{happened, is_in, no_count, none_in, others_stay, refused_same, rests_on, stays_fewer, stops, through}
@@ -169,11 +169,11 @@ module _ (k : WorkerId) (i : InstanceId) where
   none_out m h = grind arith
 
   module _ (w : World) (sound : IsSound w) (rests : IsAtRest k w) (row : Instance) (there : slice_get w.stack.instances i.0 ≡ Some row) where
-    none_at : (d : Desk) → is_at d i.0 Place.Idle ≡ false → least_at d row ≤ 0
+    none_at : (d : InstanceCallback) → is_at d i.0 Place.Idle ≡ false → least_at d row ≤ 0
     none_at d not =
-        let staffed : IsStaffed d (Some row) (count_by (is_at d i.0) w.workers) =
-        subst (λ (m : Option Instance). IsStaffed d m (count_by (is_at d i.0) w.workers)) there (sound.under_way.desks d i.0) in
-        subst (λ n. least_at d row ≤ n) (no_count (is_at d i.0) not w.workers rests.all) staffed.0
+        let workers_there : HasWorkers d (Some row) (count_by (is_at d i.0) w.workers) =
+        subst (λ (m : Option Instance). HasWorkers d m (count_by (is_at d i.0) w.workers)) there (sound.under_way.instance_callbacks d i.0) in
+        subst (λ n. least_at d row ≤ n) (no_count (is_at d i.0) not w.workers rests.all) workers_there.0
 
     pub not_out : is_made row.start ≡ false
     not_out = none_out (is_made row.start) (none_at AtStart refl)

@@ -181,6 +181,45 @@ fn say_ready<W: Write>(out: &mut W) -> Result<(), Fault> {
     out.flush().map_err(outside)
 }
 
+/// Where connections come in, and where it is said that they are taken.
+#[derive(Drop)]
+struct Listening<W: Drop> {
+    listener: UnixListener,
+    incoming: Incoming,
+    out: W,
+}
+
+impl<W: Write + Drop> Listening<W> {
+    // Says that connections are taken, and takes them until a Stop came.
+    fn serve<R: Wait + Clock>(self, connections: &Connections<'_, R>) -> Served<W> {
+        let Listening {
+            listener,
+            incoming,
+            mut out,
+        } = self;
+        let served = say_ready(&mut out);
+        if served.is_ok() {
+            accept(connections, listener, incoming);
+        }
+        Served { served, out }
+    }
+
+    // Takes none, since not all threads could be made.
+    fn give_up(self) -> Served<W> {
+        Served {
+            served: Err(Fault::Memory(AllocError)),
+            out: self.out,
+        }
+    }
+}
+
+/// What taking connections came to: whether all threads could be made and `ready` be said, and the writer.
+#[derive(Drop)]
+struct Served<W: Drop> {
+    served: Result<(), Fault>,
+    out: W,
+}
+
 // Unloads each filter, after the end of a dismount that began.
 fn unload_all<F: Callbacks, L: Ledger, R: Wait, D: Device>(
     connection: &mut Connection<'_, F, L, R, D>,
@@ -265,11 +304,11 @@ fn gather_workers<F: Callbacks, L: Ledger, R: Wait, D: Device>(
     }
 }
 
-/// How a server's threads ended: whether nothing stayed open, and whether all of them could be made and `ready` be said.
+/// How a server's threads ended: whether nothing stayed open, and what taking connections came to.
 #[derive(Drop)]
-struct Outcome {
+struct Outcome<W: Drop> {
     is_clean: bool,
-    served: Result<(), Fault>,
+    served: Served<W>,
 }
 
 /// What the threads of a server own: workers, and places for connections.
@@ -355,10 +394,8 @@ where
 fn serve_connections<F, L, R, D, W>(
     connections: &Connections<'_, R>,
     all: &mut [Connection<'_, F, L, R, D>],
-    listener: UnixListener,
-    incoming: Incoming,
-    out: W,
-) -> (Result<(), Fault>, W)
+    listening: Listening<W>,
+) -> Served<W>
 where
     F: Callbacks + Send + Sync,
     L: Ledger + Send + Sync,
@@ -369,15 +406,11 @@ where
     let rt = connections.rt();
     let every = all.iter_mut();
     thread::scope(thread::scope_env(), rt, |scope| {
-        let mut out = out;
-        if !start_connections(scope, connections, every) {
-            return (Err(Fault::Memory(AllocError)), out);
+        if start_connections(scope, connections, every) {
+            listening.serve(connections)
+        } else {
+            listening.give_up()
         }
-        let told = say_ready(&mut out);
-        if told.is_ok() {
-            accept(connections, listener, incoming);
-        }
-        (told, out)
     })
 }
 
@@ -387,10 +420,8 @@ fn serve_in<'s, 'a: 's, 'c, E, F, L, R, D, W>(
     workers: IterMut<'s, ServerWorker<'a, F, L, R, D>>,
     connections: &Connections<'_, R>,
     all: &mut [Connection<'c, F, L, R, D>],
-    listener: UnixListener,
-    incoming: Incoming,
-    out: W,
-) -> (usize, Result<(), Fault>, W)
+    listening: Listening<W>,
+) -> (usize, Served<W>)
 where
     F: Callbacks + Send + Sync + 's,
     L: Ledger + Send + Sync + 's,
@@ -399,11 +430,12 @@ where
     W: Write + Drop,
 {
     let (started, are_all) = start_workers(scope, workers);
-    if !are_all {
-        return (started, Err(Fault::Memory(AllocError)), out);
-    }
-    let (served, out) = serve_connections(connections, all, listener, incoming, out);
-    (started, served, out)
+    let served = if are_all {
+        serve_connections(connections, all, listening)
+    } else {
+        listening.give_up()
+    };
+    (started, served)
 }
 
 // A thread for each worker, and the connections beside them, until the last has ended; then the workers end.
@@ -412,10 +444,8 @@ fn serve_beside<'a, F, L, R, D, W>(
     leftovers: &Leftovers,
     manager: &Manager<F, L>,
     parts: ThreadParts<'a, F, L, R, D>,
-    listener: UnixListener,
-    incoming: Incoming,
-    out: W,
-) -> (Outcome, ThreadParts<'a, F, L, R, D>, W)
+    listening: Listening<W>,
+) -> (Outcome<W>, ThreadParts<'a, F, L, R, D>)
 where
     F: Callbacks + Send + Sync,
     L: Ledger + Send + Sync,
@@ -429,18 +459,10 @@ where
     } = parts;
     let rt = connections.rt();
     let every = workers.iter_mut();
-    let (outcome, mut all, out) = thread::scope(thread::scope_env(), rt, |scope| {
-        let (started, served, out) = serve_in(
-            scope,
-            every,
-            connections,
-            &mut all,
-            listener,
-            incoming,
-            out,
-        );
+    let (outcome, mut all) = thread::scope(thread::scope_env(), rt, |scope| {
+        let (started, served) = serve_in(scope, every, connections, &mut all, listening);
         let is_clean = end_connections(leftovers, &mut all, manager.filters(rt), started);
-        (Outcome { is_clean, served }, all, out)
+        (Outcome { is_clean, served }, all)
     });
     end_filters(&mut all, manager.filters(rt));
     (
@@ -449,18 +471,17 @@ where
             workers,
             connections: all,
         },
-        out,
     )
 }
 
-// A server's threads over that manager, from their workers to their hands.
+// A server's threads over that manager, from their workers to their hands. Where they can't be made the writer comes back with the status.
 fn run_threads<'a, F, L, R, D, W>(
     rt: &'a R,
     alloc: Global,
     manager: &'a Manager<F, L>,
     endpoint: Endpoint<D>,
     out: W,
-) -> (Result<(Outcome, Vec<Hand<L>>), Status>, W)
+) -> Result<(Outcome<W>, Vec<Hand<L>>), (Status, W)>
 where
     F: Callbacks + Send + Sync,
     L: Ledger + Send + Sync,
@@ -476,15 +497,15 @@ where
     } = endpoint;
     let (queue, mut passes) = match JobQueue::new(alloc, JOBS, WORKERS) {
         Ok(made) => made,
-        Err(status) => return (Err(status), out),
+        Err(status) => return Err((status, out)),
     };
     let (rundown, mut seats) = match RundownGate::new(alloc, 1, CONNECTIONS) {
         Ok(made) => made,
-        Err(status) => return (Err(status), out),
+        Err(status) => return Err((status, out)),
     };
     let leftovers = match Leftovers::new(alloc) {
         Ok(leftovers) => leftovers,
-        Err(status) => return (Err(status), out),
+        Err(status) => return Err((status, out)),
     };
     let gate = NoHook;
     let shared = ServerShared {
@@ -498,27 +519,24 @@ where
     };
     let mut hands = match Vec::with_capacity(alloc, WORKERS) {
         Ok(hands) => hands,
-        Err(_) => return (Err(Status::NoMemory), out),
+        Err(_) => return Err((Status::NoMemory, out)),
     };
     let parts = match shared.parts(&mut passes, &mut seats, workers, connections) {
         Ok(parts) => parts,
-        Err(status) => return (Err(status), out),
+        Err(status) => return Err((status, out)),
     };
     let (connections, incoming) = match Connections::new(rt, alloc, bell) {
         Ok(made) => made,
-        Err(status) => return (Err(status), out),
+        Err(status) => return Err((status, out)),
     };
-    let (outcome, parts, out) = serve_beside(
-        &connections,
-        &leftovers,
-        manager,
-        parts,
+    let listening = Listening {
         listener,
         incoming,
         out,
-    );
+    };
+    let (outcome, parts) = serve_beside(&connections, &leftovers, manager, parts, listening);
     gather_hands(parts, &mut hands);
-    (Ok((outcome, hands)), out)
+    Ok((outcome, hands))
 }
 
 /// A server: its manager of these filters, the threads over it, and what it says at its end. `Memory` if a growth was refused, `Outside` if the socket, the writer or the start
@@ -545,27 +563,15 @@ where
         Ok(manager) => manager,
         Err(status) => return (Err(fault_of(status)), out),
     };
-    let (ended, out) = run_threads(rt, alloc, &manager, endpoint, out);
-    match ended {
-        Ok(
-            (
-                Outcome {
-                    is_clean,
-                    served: Ok(()),
-                },
-                hands,
-            ),
-        ) => (Ok(end(rt, manager, hands, is_clean)), out),
-        Ok(
-            (
-                Outcome {
-                    served: Err(fault),
-                    ..
-                },
-                _hands,
-            ),
-        ) => (Err(fault), out),
-        Err(status) => (Err(fault_of(status)), out),
+    let (outcome, hands) = match run_threads(rt, alloc, &manager, endpoint, out) {
+        Ok(ended) => ended,
+        Err((status, out)) => return (Err(fault_of(status)), out),
+    };
+    let Outcome { is_clean, served } = outcome;
+    let Served { served, out } = served;
+    match served {
+        Ok(()) => (Ok(end(rt, manager, hands, is_clean)), out),
+        Err(fault) => (Err(fault), out),
     }
 }
 

@@ -2,6 +2,7 @@
 //! postoperation that would be: it is drained early, and then anybody may carry the read on.
 
 ghost use Rattle.std.specs.Prelude.{◌≡◌};
+ghost use Rattle.fm_lock.specs.Blanks.{IsBlankOf};
 
 use crate::fixture::{
     Folder, MemoryWorker, Workers, attach, begin, create, folder, make_workers, mounted, on_file,
@@ -93,9 +94,7 @@ fn drained_day<L: Ledger, R: Wait + Clock>(
     blank: Blank,
     has_upper: bool,
 ) -> Result<Seen, Status>
-    requires name { blank.name ≡ L.name }
-    requires parts { blank.parts ≡ L.parts }
-    requires all { blank.parts ≡ 49 }
+    requires blank { IsBlankOf blank.name blank.parts L.name L.parts }
 {
     let manager = mounted::<Ties, L, R>(rt, alloc, filters(alloc)?, blank)?;
     let (queue, mut passes) = JobQueue::new(alloc, 2, 3)?;

@@ -2,6 +2,7 @@
 //! turn alone the client does itself.
 
 ghost use Rattle.std.specs.Prelude.{◌≡◌};
+ghost use Rattle.fm_lock.specs.Blanks.{IsBlankOf};
 
 use crate::fixture::{
     MemoryWorker, VOLUME, attach, begin, create, mounted, new_worker, on_file, read,
@@ -47,9 +48,7 @@ fn carry_alone<L: Ledger, R: Wait>(
 }
 
 fn crowded_day<L: Ledger, R: Wait>(rt: &R, alloc: Global, blank: Blank) -> Result<Seen, Status>
-    requires name { blank.name ≡ L.name }
-    requires parts { blank.parts ≡ L.parts }
-    requires all { blank.parts ≡ 49 }
+    requires blank { IsBlankOf blank.name blank.parts L.name L.parts }
 {
     let manager = mounted::<Ties, L, R>(rt, alloc, filters(alloc)?, blank)?;
     let (queue, mut passes) = JobQueue::new(alloc, 1, 1)?;
@@ -106,9 +105,7 @@ fn come_back<L: Ledger, R: Wait>(
 }
 
 fn bound_day<L: Ledger, R: Wait>(rt: &R, alloc: Global, blank: Blank) -> Result<Bound, Status>
-    requires name { blank.name ≡ L.name }
-    requires parts { blank.parts ≡ L.parts }
-    requires all { blank.parts ≡ 49 }
+    requires blank { IsBlankOf blank.name blank.parts L.name L.parts }
 {
     let manager = mounted::<Ties, L, R>(rt, alloc, filters(alloc)?, blank)?;
     let (queue, mut passes) = JobQueue::new(alloc, 1, 2)?;

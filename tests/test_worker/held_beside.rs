@@ -1,6 +1,7 @@
 //! A read that its filter holds once the detach was asked for.
 
 ghost use Rattle.std.specs.Prelude.{◌≡◌};
+ghost use Rattle.fm_lock.specs.Blanks.{IsBlankOf};
 
 use crate::fixture::{
     MemoryWorker, attach, carried, collect, create, mounted, new_worker, read, work_off,
@@ -62,9 +63,7 @@ fn beside_day<L: Ledger, R: Wait + Clock>(
     alloc: Global,
     blank: Blank,
 ) -> Result<bool, Status>
-    requires name { blank.name ≡ L.name }
-    requires parts { blank.parts ≡ L.parts }
-    requires all { blank.parts ≡ 49 }
+    requires blank { IsBlankOf blank.name blank.parts L.name L.parts }
 {
     let manager = mounted::<Sample, L, R>(rt, alloc, hold(alloc)?, blank)?;
     let (queue, mut passes) = JobQueue::new(alloc, 272, 2)?;

@@ -2,6 +2,7 @@
 
 ghost use Rattle.std.specs.Prelude.{◌≡◌, All, IfSome};
 ghost use Rattle.fm_rundown.specs.Seats.{IsSeatOf};
+ghost use Rattle.fm_lock.specs.Blanks.{IsBlankOf};
 
 use crate::fixture::{
     MemoryWorker, VOLUME, alone, attach, create, mounted, new_worker, shift, write,
@@ -171,9 +172,7 @@ fn scene_day<L: Ledger, R: Wait + Clock>(
     blank: Blank,
     play: Play,
 ) -> Result<bool, Status>
-    requires name { blank.name ≡ L.name }
-    requires parts { blank.parts ≡ L.parts }
-    requires all { blank.parts ≡ 49 }
+    requires blank { IsBlankOf blank.name blank.parts L.name L.parts }
 {
     let manager = mounted::<Sample, L, R>(rt, alloc, shift(alloc)?, blank)?;
     let (queue, mut passes) = JobQueue::new(alloc, 272, 2)?;

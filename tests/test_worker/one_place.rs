@@ -1,6 +1,7 @@
 //! Two clients that wait at one place: their operations' numbers are 32 apart.
 
 ghost use Rattle.std.specs.Prelude.{◌≡◌};
+ghost use Rattle.fm_lock.specs.Blanks.{IsBlankOf};
 
 use crate::fixture::{
     MemoryWorker, Workers, attach, begin, create, folder, make_workers, mounted, on_file, read,
@@ -68,9 +69,7 @@ fn wait_for_two<L: Ledger + Send + Sync, R: Threads + Wait + Clock + Sync>(
     alloc: Global,
     blank: Blank,
 ) -> Result<[Status; 2], Status>
-    requires name { blank.name ≡ L.name }
-    requires parts { blank.parts ≡ L.parts }
-    requires all { blank.parts ≡ 49 }
+    requires blank { IsBlankOf blank.name blank.parts L.name L.parts }
 {
     let manager = mounted::<Ties, L, R>(rt, alloc, filters(alloc)?, blank)?;
     let (queue, mut passes) = JobQueue::new(alloc, 272, 3)?;

@@ -3,6 +3,7 @@
 
 ghost use Rattle.std.specs.Prelude.{◌≡◌, All, IfSome};
 ghost use Rattle.fm_rundown.specs.Seats.{IsSeatOf};
+ghost use Rattle.fm_lock.specs.Blanks.{IsBlankOf};
 
 use crate::fixture::{MemoryWorker, mounted, new_worker, work_off};
 use fm_data::{FileRequest, Request};
@@ -176,9 +177,7 @@ fn played<L: Ledger, R: Wait + Clock>(
     blank: Blank,
     list: &str,
 ) -> Result<String, Status>
-    requires name { blank.name ≡ L.name }
-    requires parts { blank.parts ≡ L.parts }
-    requires all { blank.parts ≡ 49 }
+    requires blank { IsBlankOf blank.name blank.parts L.name L.parts }
 {
     let log = Arc::new(alloc, Log::new(alloc)?)?;
     let manager = mounted::<_, L, R>(rt, alloc, recorders(alloc, &log)?, blank)?;
@@ -204,9 +203,7 @@ fn is_as_listed<L: Ledger, R: Wait + Clock>(
     blank: Blank,
     place: usize,
 ) -> Result<bool, Status>
-    requires name { blank.name ≡ L.name }
-    requires parts { blank.parts ≡ L.parts }
-    requires all { blank.parts ≡ 49 }
+    requires blank { IsBlankOf blank.name blank.parts L.name L.parts }
 {
     let Some(list) = ORDER.trim().split("\n\n").nth(place) else {
         return Ok(false);

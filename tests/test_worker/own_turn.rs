@@ -1,6 +1,7 @@
 //! A client that waits, in a thread of its own, for its synchronized read, which a lower instance holds and another thread lets go: its turn comes while it waits.
 
 ghost use Rattle.std.specs.Prelude.{◌≡◌};
+ghost use Rattle.fm_lock.specs.Blanks.{IsBlankOf};
 
 use crate::fixture::{
     LOOKS, MemoryWorker, Workers, attach, begin, create, folder, make_workers, mounted, on_file,
@@ -84,9 +85,7 @@ fn own_turn<L: Ledger + Send + Sync, R: Threads + Wait + Clock + Sync>(
     blank: Blank,
     waits: Waits,
 ) -> Result<(Status, u64), Status>
-    requires name { blank.name ≡ L.name }
-    requires parts { blank.parts ≡ L.parts }
-    requires all { blank.parts ≡ 49 }
+    requires blank { IsBlankOf blank.name blank.parts L.name L.parts }
 {
     let manager = mounted::<Ties, L, R>(rt, alloc, filters(alloc)?, blank)?;
     let (queue, mut passes) = JobQueue::new(alloc, 1, 3)?;
@@ -137,9 +136,7 @@ fn look_again<L: Ledger, R: Wait + Clock>(
     blank: Blank,
     looks: Looks,
 ) -> Result<[Option<bool>; 2], Status>
-    requires name { blank.name ≡ L.name }
-    requires parts { blank.parts ≡ L.parts }
-    requires all { blank.parts ≡ 49 }
+    requires blank { IsBlankOf blank.name blank.parts L.name L.parts }
 {
     let manager = mounted::<Ties, L, R>(rt, alloc, filters(alloc)?, blank)?;
     let (queue, mut passes) = JobQueue::new(alloc, 1, 3)?;
@@ -181,9 +178,7 @@ fn turn_behind_a_stop<L: Ledger, R: Wait + Clock>(
     alloc: Global,
     blank: Blank,
 ) -> Result<(bool, [Option<bool>; 2]), Status>
-    requires name { blank.name ≡ L.name }
-    requires parts { blank.parts ≡ L.parts }
-    requires all { blank.parts ≡ 49 }
+    requires blank { IsBlankOf blank.name blank.parts L.name L.parts }
 {
     let manager = mounted::<Ties, L, R>(rt, alloc, filters(alloc)?, blank)?;
     let (queue, mut passes) = JobQueue::new(alloc, 272, 3)?;

@@ -2,6 +2,7 @@
 
 ghost use Rattle.std.specs.Prelude.{◌≡◌, All, IfSome};
 ghost use Rattle.fm_queue.specs.Passes.{IsPassOf};
+ghost use Rattle.fm_lock.specs.Blanks.{IsBlankOf};
 
 use crate::fixture::{
     Folder, Workers, attach, begin, create, folder, make_workers, mounted, on_file, read, work_off,
@@ -139,9 +140,7 @@ fn set_aside<L: Ledger, R: Wait, D: Device>(
 
 // With room for two jobs: a job and a Stop.
 fn aside_day<L: Ledger, R: Wait>(rt: &R, alloc: Global, blank: Blank) -> Result<bool, Status>
-    requires name { blank.name ≡ L.name }
-    requires parts { blank.parts ≡ L.parts }
-    requires all { blank.parts ≡ 49 }
+    requires blank { IsBlankOf blank.name blank.parts L.name L.parts }
 {
     let manager = mounted::<Ties, L, R>(rt, alloc, filters(alloc)?, blank)?;
     let (queue, mut passes) = JobQueue::new(alloc, 2, 5)?;

@@ -1,6 +1,7 @@
 //! A synchronized postoperation comes back to the worker that made its preoperation.
 
 ghost use Rattle.std.specs.Prelude.{◌≡◌};
+ghost use Rattle.fm_lock.specs.Blanks.{IsBlankOf};
 
 use crate::fixture::{
     Workers, attach, begin, collect, create, folder, make_workers, mounted, on_file, read, work_off,
@@ -113,9 +114,7 @@ fn homing_day<L: Ledger, R: Wait + Clock>(
     alloc: Global,
     blank: Blank,
 ) -> Result<Seen, Status>
-    requires name { blank.name ≡ L.name }
-    requires parts { blank.parts ≡ L.parts }
-    requires all { blank.parts ≡ 49 }
+    requires blank { IsBlankOf blank.name blank.parts L.name L.parts }
 {
     let manager = mounted::<Ties, L, R>(rt, alloc, filters(alloc)?, blank)?;
     let (queue, mut passes) = JobQueue::new(alloc, 272, 3)?;

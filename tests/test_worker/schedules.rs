@@ -1,6 +1,7 @@
 //! Filters under many orders of their callbacks: by seeds, and by a search over all.
 
 ghost use Rattle.std.specs.Prelude.{◌≡◌};
+ghost use Rattle.fm_lock.specs.Blanks.{IsBlankOf};
 
 use crate::fixture::{
     Folder, MemoryWorker, Numbers, Workers, alone, attach, begin, collect, create, end, folder,
@@ -150,9 +151,7 @@ fn run_at<L: Ledger + Send + Sync, R: Threads + Wait + Clock + Sync>(
     chooser: Chooser,
     reads: usize,
 ) -> Result<Run, Status>
-    requires name { blank.name ≡ L.name }
-    requires parts { blank.parts ≡ L.parts }
-    requires all { blank.parts ≡ 49 }
+    requires blank { IsBlankOf blank.name blank.parts L.name L.parts }
 {
     let counted = Arc::new(alloc, AtomicU64::new(0))?;
     let manager = mounted::<Unlocked, L, R>(rt, alloc, filters(alloc, &counted)?, blank)?;

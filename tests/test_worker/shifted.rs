@@ -1,6 +1,7 @@
 //! What workers' callbacks change.
 
 ghost use Rattle.std.specs.Prelude.{◌≡◌};
+ghost use Rattle.fm_lock.specs.Blanks.{IsBlankOf};
 
 use crate::fixture::{
     Folder, MemoryWorker, VOLUME, Workers, attach, carried, create, folder, make_workers, mounted,
@@ -76,9 +77,7 @@ fn shift_day<L: Ledger, R: Wait + Clock>(
     alloc: Global,
     blank: Blank,
 ) -> Result<Shifted, Status>
-    requires name { blank.name ≡ L.name }
-    requires parts { blank.parts ≡ L.parts }
-    requires all { blank.parts ≡ 49 }
+    requires blank { IsBlankOf blank.name blank.parts L.name L.parts }
 {
     let manager = mounted::<Sample, L, R>(rt, alloc, shift(alloc)?, blank)?;
     let (queue, mut passes) = JobQueue::new(alloc, 272, 3)?;

@@ -2,6 +2,7 @@
 //! lengths. Each round must end, every context must be cleaned up, and there must have been some.
 
 ghost use Rattle.std.specs.Prelude.{◌≡◌};
+ghost use Rattle.fm_lock.specs.Blanks.{IsBlankOf};
 
 use crate::fixture::{
     Folder, MemoryWorker, Numbers, VOLUME, Workers, create, end, folder, make_workers, mounted,
@@ -328,9 +329,7 @@ fn stress_round<L: Ledger + Send + Sync, R: Threads + Wait + Clock + Sync>(
     places: usize,
     seed: u64,
 ) -> Result<(u64, Numbers), Status>
-    requires name { blank.name ≡ L.name }
-    requires parts { blank.parts ≡ L.parts }
-    requires all { blank.parts ≡ 49 }
+    requires blank { IsBlankOf blank.name blank.parts L.name L.parts }
 {
     let manager = mounted::<Sample, L, R>(rt, alloc, filters(alloc)?, blank)?;
     let (queue, mut passes) = JobQueue::new(alloc, places, 4)?;

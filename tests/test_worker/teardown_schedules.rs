@@ -1,6 +1,7 @@
 //! A detach beside reads under orders that seeds pick, and a client that the hook has to pass over.
 
 ghost use Rattle.std.specs.Prelude.{◌≡◌};
+ghost use Rattle.fm_lock.specs.Blanks.{IsBlankOf};
 
 use crate::fixture::{
     Folder, MemoryWorker, Numbers, Workers, begin, end, folder, hands_of, make_workers, mounted,
@@ -192,9 +193,7 @@ fn run_at<L: Ledger + Send + Sync, R: Threads + Wait + Clock + Sync>(
     beside: Beside,
     patience: u64,
 ) -> Result<Run, Status>
-    requires name { blank.name ≡ L.name }
-    requires parts { blank.parts ≡ L.parts }
-    requires all { blank.parts ≡ 49 }
+    requires blank { IsBlankOf blank.name blank.parts L.name L.parts }
 {
     let manager = mounted::<Sample, L, R>(rt, alloc, filters(alloc)?, blank)?;
     let (queue, mut passes) = JobQueue::new(alloc, 272, 3)?;

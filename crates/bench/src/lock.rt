@@ -2,6 +2,7 @@
 //! and collected: five events.
 
 ghost use Rattle.std.specs.Prelude.{◌≡◌};
+ghost use Rattle.fm_lock.specs.Blanks.{IsBlankOf};
 
 use crate::a_second;
 use fm_core::{Action, State};
@@ -115,9 +116,7 @@ fn shared<L: Ledger + Send + Sync, R: Threads + Wait + Sync>(
     is_four: bool,
     listings: u64,
 ) -> Result<(), Status>
-    requires name { blank.name ≡ L.name }
-    requires parts { blank.parts ≡ L.parts }
-    requires all { blank.parts ≡ 49 }
+    requires blank { IsBlankOf blank.name blank.parts L.name L.parts }
 {
     let manager = Manager::<(), L>::new(alloc, Vec::new(alloc), blank)?;
     manager.mount(rt, Name::read(b"v")?)?;

@@ -2,6 +2,7 @@
 
 ghost use Rattle.std.specs.Prelude.{◌≡◌, All};
 ghost use Rattle.fm_queue.specs.Passes.{IsPassOf};
+ghost use Rattle.fm_lock.specs.Blanks.{IsBlankOf};
 
 use crate::a_second;
 use crate::works::Works;
@@ -189,9 +190,7 @@ fn shared<F: Minifilter, L: Ledger + Send + Sync, R: Threads + Wait + Sync>(
     filter: F,
     load: Load,
 ) -> Result<(), Status>
-    requires name { blank.name ≡ L.name }
-    requires parts { blank.parts ≡ L.parts }
-    requires all { blank.parts ≡ 49 }
+    requires blank { IsBlankOf blank.name blank.parts L.name L.parts }
 {
     let mut filters = Vec::new(alloc);
     filters.push((Name::read(b"f")?, filter))?;

@@ -1,6 +1,7 @@
 //! The same scripts by a manager that threads share: each line is one of its events, by the hand of the line's worker.
 
 ghost use Rattle.std.specs.Prelude.{◌≡◌};
+ghost use Rattle.fm_lock.specs.Blanks.{IsBlankOf};
 
 use fm_core::{Hold, Step, StepReply};
 use fm_script::ScriptEnd;
@@ -87,9 +88,7 @@ fn run_by_hands<L: Ledger, R: Wait>(
     blank: Blank,
     stored: &Stored,
 ) -> Result<bool, ScriptEnd>
-    requires name { blank.name ≡ L.name }
-    requires parts { blank.parts ≡ L.parts }
-    requires all { blank.parts ≡ 49 }
+    requires blank { IsBlankOf blank.name blank.parts L.name L.parts }
 {
     let mut rows = Rows::<L>::new(rt, alloc, stored.script, blank)?;
     let (start, rest) = before_resume(stored.script);

@@ -3,6 +3,7 @@
 ghost use Rattle.std.specs.Prelude.{◌≡◌, All, IfSome};
 ghost use Rattle.fm_queue.specs.Passes.{IsPassOf};
 ghost use Rattle.fm_rundown.specs.Seats.{IsSeatOf};
+ghost use Rattle.fm_lock.specs.Blanks.{IsBlankOf};
 
 use crate::connection::Connection;
 use crate::connections::{Connections, Incoming};
@@ -555,9 +556,7 @@ where
     R: Threads + Wait + Sync + Clock,
     D: Device + Send,
     W: Write + Drop,
-    requires name { blank.name ≡ L.name }
-    requires parts { blank.parts ≡ L.parts }
-    requires all { blank.parts ≡ 49 }
+    requires blank { IsBlankOf blank.name blank.parts L.name L.parts }
 {
     let manager = match mounted::<F, L, R>(rt, alloc, filters, blank) {
         Ok(manager) => manager,
@@ -582,9 +581,7 @@ fn mounted<F: Callbacks, L: Ledger, R: Wait>(
     filters: Vec<(Name, F)>,
     blank: Blank,
 ) -> Result<Manager<F, L>, Status>
-    requires name { blank.name ≡ L.name }
-    requires parts { blank.parts ≡ L.parts }
-    requires all { blank.parts ≡ 49 }
+    requires blank { IsBlankOf blank.name blank.parts L.name L.parts }
 {
     let manager = Manager::<F, L>::new(alloc, filters, blank)?;
     manager.mount(rt, Name::read(b"v0")?)?;

@@ -1,3 +1,4 @@
+pub mod Blanks
 pub mod Views
 pub mod Hired
 pub mod Events

@@ -8,6 +8,7 @@ ghost use Rattle.fm_world.specs.Events.{Collects, Registers, sync_worker};
 ghost use Rattle.fm_lock.specs.Events.{EventAlone, EventBy, KeepsHired, is_by, is_register};
 ghost use Rattle.fm_lock.specs.Turns.{place_of};
 ghost use Rattle.fm_lock.specs.Views.{HandView};
+ghost use Rattle.fm_lock.specs.Blanks.{IsBlankOf};
 
 use crate::hand::Hand;
 use fm_core::State;
@@ -60,9 +61,7 @@ impl<L: Ledger> Locked<L> {
     /// Before the first event: all hands are in. The blank is this ledger's own, in 49 parts: one for each worker, and one that stays. Refused with 1 alone,
     /// if memory is refused for the state.
     pub fn new(alloc: Global, blank: Blank) -> Result<Locked<L>, Status>
-        requires name { blank.name ≡ L.name }
-        requires parts { blank.parts ≡ L.parts }
-        requires all { blank.parts ≡ 49 }
+        requires blank { IsBlankOf blank.name blank.parts L.name L.parts }
         ensures empty { IfOk result (λ locked. locked ≡ record { world = empty_world; hired = replicate 48 false; loaded = replicate 16 None }) }
         ensures memory { IfErr result (λ status. status ≡ Status.NoMemory) }
     {

@@ -8,6 +8,7 @@ ghost use Rattle.fm_ctx.specs.Counting.{born, cleaned_count};
 ghost use Rattle.fm_lock.specs.Events.{HandAfter};
 ghost use Rattle.fm_lock.specs.Hired.{place_called};
 ghost use Rattle.fm_lock.specs.Views.{held_by};
+ghost use Rattle.fm_lock.specs.Blanks.{IsBlankOf};
 
 use crate::hand::Hand;
 use crate::locked::Locked;
@@ -69,9 +70,7 @@ impl<F: Drop, L: Ledger> Manager<F, L> {
         filters: Vec<(Name, F)>,
         blank: Blank,
     ) -> Result<Manager<F, L>, Status>
-        requires name { blank.name ≡ L.name }
-        requires parts { blank.parts ≡ L.parts }
-        requires all { blank.parts ≡ 49 }
+        requires blank { IsBlankOf blank.name blank.parts L.name L.parts }
         ensures filters { IfOk result (λ manager. manager.filters ≡ filters) }
         ensures memory { IfErr result (λ status. status ≡ Status.NoMemory) }
     {

@@ -1,6 +1,7 @@
 //! What a script's lines have done, done by a manager that threads share.
 
 ghost use Rattle.std.specs.Prelude.{◌≡◌};
+ghost use Rattle.fm_lock.specs.Blanks.{IsBlankOf};
 
 use crate::declared::Declared;
 use fm_altitude::Altitude;
@@ -82,9 +83,7 @@ impl<L: Ledger> Driver<L> {
         filters: Vec<(Name, Declared)>,
         blank: Blank,
     ) -> Result<Driver<L>, Status>
-        requires name { blank.name ≡ L.name }
-        requires parts { blank.parts ≡ L.parts }
-        requires all { blank.parts ≡ 49 }
+        requires blank { IsBlankOf blank.name blank.parts L.name L.parts }
     {
         let manager = Manager::new(alloc, filters, blank)?;
         let mut hands = Vec::new(alloc);

@@ -1,6 +1,7 @@
 //! A script's lines through a manager that threads share.
 
 ghost use Rattle.std.specs.Prelude.{◌≡◌};
+ghost use Rattle.fm_lock.specs.Blanks.{IsBlankOf};
 
 use crate::declared::Declared;
 use crate::driver::Driver;
@@ -64,9 +65,7 @@ impl<L: Ledger> Rows<L> {
         script: &[u8],
         blank: Blank,
     ) -> Result<Rows<L>, ScriptEnd>
-        requires name { blank.name ≡ L.name }
-        requires parts { blank.parts ≡ L.parts }
-        requires all { blank.parts ≡ 49 }
+        requires blank { IsBlankOf blank.name blank.parts L.name L.parts }
     {
         let reader = Runner::new(alloc, Vec::new(alloc))?;
         let filters = filters_of(&reader, alloc, script)?;

@@ -1,6 +1,7 @@
 //! What no script can say of a manager: its hands and its end, two threads at once, and one that waits for what the other carries on.
 
 ghost use Rattle.std.specs.Prelude.{◌≡◌};
+ghost use Rattle.fm_lock.specs.Blanks.{IsBlankOf};
 
 use fm_data::{Answer, Request};
 use fm_flow::FlowAction;
@@ -37,9 +38,7 @@ fn hands_of<L: Ledger, R: Wait>(
     alloc: Global,
     blank: Blank,
 ) -> Result<(Status, Numbers), Status>
-    requires name { blank.name ≡ L.name }
-    requires parts { blank.parts ≡ L.parts }
-    requires all { blank.parts ≡ 49 }
+    requires blank { IsBlankOf blank.name blank.parts L.name L.parts }
 {
     let manager = Manager::<(), L>::new(alloc, Vec::new(alloc), blank)?;
     let first = manager.hire(rt)?;
@@ -116,9 +115,7 @@ fn with_volume<L: Ledger, R: Wait>(
     alloc: Global,
     blank: Blank,
 ) -> Result<Manager<(), L>, Status>
-    requires name { blank.name ≡ L.name }
-    requires parts { blank.parts ≡ L.parts }
-    requires all { blank.parts ≡ 49 }
+    requires blank { IsBlankOf blank.name blank.parts L.name L.parts }
 {
     let manager = Manager::<(), L>::new(alloc, Vec::new(alloc), blank)?;
     manager.mount(rt, Name::read(b"v")?)?;
@@ -130,9 +127,7 @@ fn two_lives<L: Ledger + Send + Sync, R: Threads + Wait + Sync>(
     alloc: Global,
     blank: Blank,
 ) -> Result<([u32; 2], Numbers), Status>
-    requires name { blank.name ≡ L.name }
-    requires parts { blank.parts ≡ L.parts }
-    requires all { blank.parts ≡ 49 }
+    requires blank { IsBlankOf blank.name blank.parts L.name L.parts }
 {
     let manager = with_volume::<L, R>(rt, alloc, blank)?;
     let mut first = manager.hire(rt)?;
@@ -160,9 +155,7 @@ fn waits<L: Ledger + Send + Sync, R: Threads + Wait + Sync>(
     alloc: Global,
     blank: Blank,
 ) -> Result<(u32, Numbers), Status>
-    requires name { blank.name ≡ L.name }
-    requires parts { blank.parts ≡ L.parts }
-    requires all { blank.parts ≡ 49 }
+    requires blank { IsBlankOf blank.name blank.parts L.name L.parts }
 {
     let manager = with_volume::<L, R>(rt, alloc, blank)?;
     let mut hand = manager.hire(rt)?;

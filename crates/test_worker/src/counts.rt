@@ -1,6 +1,7 @@
 //! What workers' callbacks count.
 
 ghost use Rattle.std.specs.Prelude.{◌≡◌};
+ghost use Rattle.fm_lock.specs.Blanks.{IsBlankOf};
 
 use crate::fixture::{
     LOOKS, MemoryWorker, Numbers, Workers, attach, begin, collect, create, end, folder, hands_of,
@@ -98,9 +99,7 @@ fn meter_day<L: Ledger + Send + Sync, R: Threads + Wait + Clock + Sync>(
     alloc: Global,
     blank: Blank,
 ) -> Result<(u64, Numbers), Status>
-    requires name { blank.name ≡ L.name }
-    requires parts { blank.parts ≡ L.parts }
-    requires all { blank.parts ≡ 49 }
+    requires blank { IsBlankOf blank.name blank.parts L.name L.parts }
 {
     let manager = mounted::<Sample, L, R>(rt, alloc, meter(alloc)?, blank)?;
     let (queue, mut passes) = JobQueue::new(alloc, 272, 3)?;

@@ -2,6 +2,7 @@
 
 ghost use Rattle.std.specs.Prelude.{◌≡◌, All};
 ghost use Rattle.fm_queue.specs.Passes.{IsPassOf};
+ghost use Rattle.fm_lock.specs.Blanks.{IsBlankOf};
 
 use fm_altitude::Altitude;
 use fm_base::MemoryBase;
@@ -95,9 +96,7 @@ pub fn mounted<F: Minifilter, L: Ledger, R: Wait>(
     filters: Vec<(Name, F)>,
     blank: Blank,
 ) -> Result<Manager<F, L>, Status>
-    requires name { blank.name ≡ L.name }
-    requires parts { blank.parts ≡ L.parts }
-    requires all { blank.parts ≡ 49 }
+    requires blank { IsBlankOf blank.name blank.parts L.name L.parts }
 {
     let manager = Manager::<F, L>::new(alloc, filters, blank)?;
     manager.mount(rt, Name::read(b"v")?)?;

@@ -1,6 +1,7 @@
 //! What a detach does with operations that its filter holds.
 
 ghost use Rattle.std.specs.Prelude.{◌≡◌};
+ghost use Rattle.fm_lock.specs.Blanks.{IsBlankOf};
 
 use crate::fixture::{
     MemoryWorker, Numbers, Workers, attach, begin, carried, collect, create, end, folder, hands_of,
@@ -76,9 +77,7 @@ fn holding_day<L: Ledger, R: Wait + Clock>(
     alloc: Global,
     blank: Blank,
 ) -> Result<(Resumed, Numbers), Status>
-    requires name { blank.name ≡ L.name }
-    requires parts { blank.parts ≡ L.parts }
-    requires all { blank.parts ≡ 49 }
+    requires blank { IsBlankOf blank.name blank.parts L.name L.parts }
 {
     let manager = mounted::<Sample, L, R>(rt, alloc, hold(alloc)?, blank)?;
     let (queue, mut passes) = JobQueue::new(alloc, 272, 3)?;

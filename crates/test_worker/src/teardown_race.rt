@@ -1,6 +1,7 @@
 //! A teardown in the middle of reads that two workers carry on.
 
 ghost use Rattle.std.specs.Prelude.{◌≡◌};
+ghost use Rattle.fm_lock.specs.Blanks.{IsBlankOf};
 
 use crate::fixture::{
     Folder, MemoryWorker, Numbers, Workers, alone, attach, begin, create, end, folder, hands_of,
@@ -148,9 +149,7 @@ fn racing_round<L: Ledger + Send + Sync, R: Threads + Wait + Clock + Sync>(
     alloc: Global,
     blank: Blank,
 ) -> Result<Numbers, Status>
-    requires name { blank.name ≡ L.name }
-    requires parts { blank.parts ≡ L.parts }
-    requires all { blank.parts ≡ 49 }
+    requires blank { IsBlankOf blank.name blank.parts L.name L.parts }
 {
     let manager = mounted::<Sample, L, R>(rt, alloc, filters(alloc)?, blank)?;
     let (queue, mut passes) = JobQueue::new(alloc, 272, 3)?;

@@ -63,7 +63,7 @@ pub(crate) fn look_up(
     }
 }
 
-/// A file has that stream from here on.
+/// A file has that stream from here on. The room was made with the stream's, so this takes no memory.
 pub(crate) fn note(numbers: &mut HashMap<FileName, StreamId>, name: FileName, stream: StreamId)
     requires { 0 < spare numbers.old }
     ensures { Notes numbers.old numbers.new name (Some stream) }

@@ -48,7 +48,7 @@ pub(crate) struct Files {
     streams: Vec<FileStream>,
     /// How many handles are open on the stream of each place.
     opens: Vec<u32>,
-    /// The stream of each file that has one.
+    /// The stream of each file that has one. The table's seed is fixed: paths that are chosen with hashes alike make a create as slow as a walk, and nothing else.
     numbers: HashMap<FileName, StreamId>,
     handles: Vec<FileHandle>,
     next: u64,

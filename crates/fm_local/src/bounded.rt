@@ -6,7 +6,8 @@ ghost use Rattle.std.specs.VecDeque.{deque_capacity};
 use std::alloc::{AllocError, Global};
 use std::collections::VecDeque;
 
-/// A queue of a bounded length, whose room is taken when it is made.
+/// A queue of a bounded length, whose room is taken when it is made. It keeps no limit beside that capacity: so `put` can say that nothing is lost while there is
+/// room.
 #[derive(Drop)]
 pub struct Bounded<T> {
     items: VecDeque<T>,

@@ -1,4 +1,5 @@
-//! The callbacks of filters, each between the event that enters it and the one that ends it.
+//! The callbacks of filters, each between the event that enters it and the one that ends it. That no filter is under a number can't come, since `load` alone gives
+//! numbers; a callback without a filter agrees to nothing, and lets operations pass.
 
 ghost use Rattle.std.specs.Prelude.{◌≡◌, Ok};
 ghost use Rattle.fm_filter.specs.Standing.{standing_of};

@@ -62,6 +62,7 @@ impl<L: Ledger> Locked<L> {
         if !self.state.is_idle(worker) || self.state.hand_len(worker) as u64 != hand.held() {
             return Err((hand, Status::WrongStep));
         }
+        // No hand is in and out at once. The parts of the ledger say so, and a single hand doesn't: so it is tested.
         if !self.hired[at] {
             return Err((hand, Status::WrongStep));
         }

@@ -72,7 +72,8 @@ impl<F: Drop, L: Ledger> Manager<F, L> {
         self.locked(rt).post_returned(hand, verdict, lent)
     }
 
-    /// Writes the bytes of a context that the hand has, which takes no memory. It answers as the State does: 30, 25, 32.
+    /// Writes the bytes of a context that the hand has, which takes no memory. It answers as the State does: 30, 25, 32. The bytes are lent: an event as a value
+    /// would own a copy of them, which could want memory.
     pub fn write_body<R: Wait>(
         &self,
         rt: &R,

@@ -8,21 +8,21 @@ use Rattle.fm_script.specs.Ids.{filter_in, instance_in, worker_in}
 use Rattle.fm_script.specs.Tasks.{filter_ids, instance_ids, one_id, only_instance, only_volume, only_worker, answered_read, event}
 
 -- a worker and the instance whose callback it enters
-abbrev pub asked_at : World → ℕ → ℕ → Result (WorkerId × InstanceId) Status
-asked_at w k i = instance_in w i >>= λ own. worker_in k >>= λ by. Ok (by, own)
+abbrev pub worker_and_instance : World → ℕ → ℕ → Result (WorkerId × InstanceId) Status
+worker_and_instance w k i = instance_in w i >>= λ own. worker_in k >>= λ by. Ok (by, own)
 
 -- the same, as the only words
 abbrev pub asked_instance : World → List (List ℕ) → Result (WorkerId × InstanceId) Status
-asked_instance w (worker ∷ instance ∷ []) = instance_ids worker instance >>= λ ids. asked_at w ids.0 ids.1
+asked_instance w (worker ∷ instance ∷ []) = instance_ids worker instance >>= λ ids. worker_and_instance w ids.0 ids.1
 asked_instance w _ = Err BadRequest
 
 -- a worker and the filter whose callback it enters
-abbrev pub asked_of : World → ℕ → ℕ → Result (WorkerId × FilterId) Status
-asked_of w k f = filter_in w f >>= λ own. worker_in k >>= λ by. Ok (by, own)
+abbrev pub worker_and_filter : World → ℕ → ℕ → Result (WorkerId × FilterId) Status
+worker_and_filter w k f = filter_in w f >>= λ own. worker_in k >>= λ by. Ok (by, own)
 
 -- the same, as the only words
 abbrev pub asked_filter : World → List (List ℕ) → Result (WorkerId × FilterId) Status
-asked_filter w (worker ∷ filter ∷ []) = filter_ids worker filter >>= λ ids. asked_of w ids.0 ids.1
+asked_filter w (worker ∷ filter ∷ []) = filter_ids worker filter >>= λ ids. worker_and_filter w ids.0 ids.1
 asked_filter w _ = Err BadRequest
 
 -- the filter that is the only word

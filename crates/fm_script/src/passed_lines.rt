@@ -57,7 +57,8 @@ impl PassedLines {
         }
     }
 
-    /// Makes the lines for an instance, and for all of lower numbers. It fails if there is no memory for them.
+    /// Makes the lines for an instance, and for all of lower numbers. It fails if there is no memory for them: then the line is made as any other, and a script
+    /// ends for want of memory only where that one has no room.
     pub fn make(&mut self, instance: InstanceId) -> Result<(), AllocError>
         ensures { IfOk result (λ _. instance.0 < self.new) }
     {

@@ -1,7 +1,7 @@
 //! The commands by which instances are detached, filters unloaded and volumes dismounted, and what is in flight at an instance.
 
 ghost use Rattle.std.specs.Prelude.{◌≡◌, map};
-ghost use Rattle.fm_script.specs.TeardownCommands.{asked_at, asked_filter, asked_instance, asked_of, only_filter, teardown_read};
+ghost use Rattle.fm_script.specs.TeardownCommands.{worker_and_instance, asked_filter, asked_instance, worker_and_filter, only_filter, teardown_read};
 
 use crate::command::{one_id, only_instance, only_volume, only_worker, read_answered, two_ids};
 use crate::ids::{filter_in, instance_in, worker_in};
@@ -83,8 +83,12 @@ pub(crate) fn read_teardown_command(
 }
 
 // A worker and the instance whose callback it enters.
-fn asked_at(state: &State, worker: u64, instance: u64) -> Result<(WorkerId, InstanceId), Status>
-    ensures { result ≡ asked_at state.now worker instance }
+fn worker_and_instance(
+    state: &State,
+    worker: u64,
+    instance: u64,
+) -> Result<(WorkerId, InstanceId), Status>
+    ensures { result ≡ worker_and_instance state.now worker instance }
 {
     let instance = instance_in(state, instance)?;
     Ok((worker_in(worker)?, instance))
@@ -98,12 +102,16 @@ fn read_asked_instance(state: &State, words: &[&[u8]]) -> Result<(WorkerId, Inst
         return Err(Status::BadRequest);
     };
     let (worker, instance) = two_ids(b'w', worker, b'i', instance)?;
-    asked_at(state, worker, instance)
+    worker_and_instance(state, worker, instance)
 }
 
 // A worker and the filter whose callback it enters.
-fn asked_of(state: &State, worker: u64, filter: u64) -> Result<(WorkerId, FilterId), Status>
-    ensures { result ≡ asked_of state.now worker filter }
+fn worker_and_filter(
+    state: &State,
+    worker: u64,
+    filter: u64,
+) -> Result<(WorkerId, FilterId), Status>
+    ensures { result ≡ worker_and_filter state.now worker filter }
 {
     let filter = filter_in(state, filter)?;
     Ok((worker_in(worker)?, filter))
@@ -117,7 +125,7 @@ fn read_asked_filter(state: &State, words: &[&[u8]]) -> Result<(WorkerId, Filter
         return Err(Status::BadRequest);
     };
     let (worker, filter) = two_ids(b'w', worker, b'f', filter)?;
-    asked_of(state, worker, filter)
+    worker_and_filter(state, worker, filter)
 }
 
 // The filter that is the only word.

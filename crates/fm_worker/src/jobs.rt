@@ -4,7 +4,7 @@ ghost use Rattle.std.specs.Prelude.{◌≡◌, ◌&&◌, [], MatchBool, cond};
 ghost use Rattle.fm_queue.specs.Passes.{tally_of};
 ghost use Rattle.fm_queue.specs.Tallies.{after_put};
 ghost use Rattle.fm_worker.specs.Between.{IsFree};
-ghost use Rattle.fm_worker.specs.Jobs.{HandsOn, IsKept, LeavesNone, is_for_another};
+ghost use Rattle.fm_worker.specs.Jobs.{IsKept, LeavesNone, MovesJobs, is_for_another};
 
 use crate::hook::CallbackHook;
 use crate::op_queue::OpQueue;

@@ -89,7 +89,8 @@ impl<'a, F: Callbacks, L: Ledger, R: Wait, G: CallbackHook, D: Device> Worker<'a
         unreachable!()
     }
 
-    // One turn of an operation. None if the operation can go on; and else whether a context is due.
+    // One turn of an operation. None if the operation can go on; and else whether a context is due. An operation is done before any `next` says so, and whoever
+    // waits for it may have collected it already: so a refusal of `next` ends the turns.
     fn take_turn(&mut self, operation: OpId) -> Option<bool> {
         let shared = &self.shared;
         let Turn {

@@ -137,6 +137,7 @@ module _ (k : WorkerId) (i : InstanceId) where
         let over = through k old started back (Place.Start i) idle (starting_at old started starts) (start_at back returns).2 in
         record {
           undisturbed = both old back new over (by_tidying back new tidies);
+          -- the change of its row doesn't make it stopping
           fewer = λ j h.
               let changed = subst (λ (s : StackWorld). stops s j ≡ true) (start_stack back new returns tidies) h in
               stays_fewer (stack.with_start StartMark.Made) (λ row t. t) old.stack.instances i.0 j
@@ -265,12 +266,14 @@ module _ (k : WorkerId) (i : InstanceId) where
         tidies.stack ∙ ap (λ (w : World). w.stack) (complete_at back returns).4
         ∙ ap (λ (w : World). stack.emptying w.stack i) (completing_at old completing completes)
 
+    -- once its teardown-complete has returned all is calm, no other instance came to be stopping, and this one stops no more
     complete_leaves : (back new : World) → CompleteReturns completing k (Ok tt) back → Tidies back new → CalmAfter old new × (stops new.stack i.0 ≡ false)
     complete_leaves back new returns tidies =
         let over = through k old completing back (Place.Complete i) idle (completing_at old completing completes) (complete_at back returns).4 in
         let is = complete_stack back new returns tidies in (
           record {
             undisturbed = both old back new over (by_tidying back new tidies);
+            -- neither of the two changes of its row makes it stopping
             fewer = λ j h.
                 let changed = subst (λ (s : StackWorld). stops s j ≡ true) is h in
                 stays_fewer (stack.in_phase Phase.Completing) (λ row t. cc) old.stack.instances i.0 j

@@ -57,7 +57,8 @@ impl Interpreter {
         Ok(read_command(state, contexts, keyword, words))
     }
 
-    // The same of a command that takes bytes, which its last word spells.
+    // The same of a command that takes bytes, which its last word spells. They are read before the other words. That changes no refusal: a word that can't be read
+    // is 32 wherever it stands, and no id is looked up before.
     #[inline(never)]
     fn read_bytes(
         &self,

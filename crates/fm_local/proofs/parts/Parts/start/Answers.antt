@@ -7,6 +7,7 @@ use Rattle.fm_local.proofs.queues.ManagerWaits.{same_flow}
 use Rattle.fm_local.specs.Waits.{Waiting}
 use Rattle.fm_local.proofs.parts.Parts.start.Goals as goal
 
+-- the callback leaves the worker in its place, the return takes it out, and to note leaks changes no World
 pub returns-clause-ends : goal.returns-clause-ends
 returns-clause-ends g c there =
     let told = c.tell.new.work.state in

@@ -1,6 +1,7 @@
 //! The trial program.
 
-ghost use Rattle.std.specs.Prelude.{◌≡◌};
+ghost use Rattle.std.specs.Prelude.{◌≡◌, IfOk, length, true};
+ghost use Rattle.fm_trial.specs.Scenarios.{TakesLines};
 ghost use Rattle.fm_trial.specs.Verdicts.{worse};
 
 use crate::reporter::Reporter;
@@ -44,10 +45,12 @@ fn take_all<F: Minifilter, W: Write>(
     alloc: Global,
     format: TrialFormat,
     scenario: &mut Scenario<F>,
-    text: &str,
+    lines: &[&str],
     out: &mut W,
-) -> io::Result<bool> {
-    for (place, line) in text.split('\n').enumerate() {
+) -> io::Result<bool>
+    ensures { IfOk result (λ is_known. is_known ≡ true → TakesLines (length lines.now) scenario.old.account scenario.new.account) }
+{
+    for (place, line) in lines.iter().enumerate() {
         let line = line.strip_suffix('\r').unwrap_or(line);
         let mut said = String::new(alloc);
         let is_known = scenario
@@ -79,12 +82,13 @@ fn tell<F: Minifilter, W: Write>(
     out: &mut W,
 ) -> io::Result<u8> {
     let reporter = reporter_of(alloc, format);
+    let lines: Vec<&str> = text.split('\n').collect(alloc)?;
     let mut scenario = Scenario::new(alloc, filters, reporter).map_err(failed)?;
     let mut said = String::new(alloc);
     scenario.begin(file, &mut said).map_err(failed)?;
     format.write(alloc, said.as_str(), out)?;
     said.clear();
-    let status = if take_all(alloc, format, &mut scenario, text, out)? {
+    let status = if take_all(alloc, format, &mut scenario, lines.as_slice(), out)? {
         scenario.end(&mut said).map_err(failed)?
     } else {
         scenario.break_off(&mut said).map_err(failed)?

@@ -1,5 +1,11 @@
 //! A scenario under way.
 
+ghost use Rattle.std.specs.Prelude.{◌≡◌, ◌≤◌, ◌++◌, ◌∷◌, [], IfOk};
+ghost use Rattle.fm_local.specs.Offered.{ForgetsReport, leaks, refused_calls, steps};
+ghost use Rattle.fm_mistakes.specs.Accounts.{TellsAll, status_of};
+ghost use Rattle.fm_mistakes.specs.Findings.{findings};
+ghost use Rattle.fm_trial.specs.Scenarios.{AsksAs, EndsAs, IsFresh, IsMetAs, Keeps, LineExpects, RepliesTo, ReportsAs, TakesLine};
+
 use crate::expectation::{Expectation, expected_words};
 use crate::line::ScenarioLine;
 use crate::line_request::LineRequest;
@@ -7,7 +13,7 @@ use crate::report::{
     TrialManager, holder_of, write_attached, write_finding, write_reply, write_told,
 };
 use crate::reporter::Reporter;
-use fm_base::MemoryBase;
+use fm_base::{Base, MemoryBase};
 use fm_core::Place;
 use fm_data::Reply;
 use fm_exec::LocalExec;
@@ -47,7 +53,9 @@ impl<F: Minifilter> Scenario<F> {
         alloc: Global,
         filters: Vec<(Name, F)>,
         reporter: Reporter,
-    ) -> Result<Scenario<F>, Status> {
+    ) -> Result<Scenario<F>, Status>
+        ensures { IfOk result (λ scenario. IsFresh scenario.account) }
+    {
         let mut manager: TrialManager<F> = TrialManager::new(alloc, filters)?;
         manager.mount(Name::read(b"v0")?, MemoryBase::new(alloc))?;
         Ok(Scenario {
@@ -63,7 +71,9 @@ impl<F: Minifilter> Scenario<F> {
     }
 
     /// Appends what stands before the first line. Refused with 1, if memory is refused.
-    pub(crate) fn begin(&mut self, file: Option<&str>, text: &mut String) -> Result<(), Status> {
+    pub(crate) fn begin(&mut self, file: Option<&str>, text: &mut String) -> Result<(), Status>
+        ensures { self.new.account ≡ self.old.account }
+    {
         let volume = VolumeId(0);
         if let Some(name) = self.exec.manager().state().volume_name(volume) {
             self.reporter.begin(text, file, (volume, name))?;
@@ -77,7 +87,9 @@ impl<F: Minifilter> Scenario<F> {
         number: usize,
         line: &str,
         text: &mut String,
-    ) -> Result<bool, Status> {
+    ) -> Result<bool, Status>
+        ensures { IfOk result (λ known. TakesLine known self.old.account self.new.account) }
+    {
         self.reporter.take_line(number, line)?;
         if !line.is_empty() {
             self.lines = number;
@@ -95,7 +107,10 @@ impl<F: Minifilter> Scenario<F> {
     }
 
     // The reply to a request. What is none is answered 32.
-    fn reply_to(&mut self, body: Body) -> Reply {
+    fn reply_to(&mut self, body: Body) -> Reply
+        ensures reply { RepliesTo F.Minifilter (⟦<MemoryBase as Base>⟧) body self.old.exec.manager result self.new.exec.manager }
+        ensures account { self.new.account ≡ self.old.account }
+    {
         match body {
             Body::Operation(request) => self.exec.operate_by(request),
             Body::Control(control) => self.exec.control_by(control),
@@ -105,7 +120,9 @@ impl<F: Minifilter> Scenario<F> {
     }
 
     // Makes a request.
-    fn ask(&mut self, line: &str, body: Body, text: &mut String) -> Result<(), Status> {
+    fn ask(&mut self, line: &str, body: Body, text: &mut String) -> Result<(), Status>
+        ensures { IfOk result (λ _. AsksAs self.old.account self.new.account) }
+    {
         self.reporter.ask(text, line, &body)?;
         self.account.begin_request();
         let asked = LineRequest::of(&body);
@@ -119,12 +136,9 @@ impl<F: Minifilter> Scenario<F> {
     }
 
     // Appends what callbacks did since the last request, which mistakes they made, and the reply.
-    fn report(
-        &mut self,
-        asked: LineRequest,
-        reply: &Reply,
-        text: &mut String,
-    ) -> Result<(), Status> {
+    fn report(&mut self, asked: LineRequest, reply: &Reply, text: &mut String) -> Result<(), Status>
+        ensures { IfOk result (λ _. ReportsAs self.old.exec.manager self.old.account self.new.account) }
+    {
         self.reporter
             .say_steps(text, self.exec.manager(), asked, reply)?;
         self.tell_findings(text)?;
@@ -137,14 +151,19 @@ impl<F: Minifilter> Scenario<F> {
     }
 
     // Forgets what was told of, and counts what couldn't be.
-    fn forget_report(&mut self) {
+    fn forget_report(&mut self)
+        ensures forgets { ForgetsReport self.old.exec.manager self.new.exec.manager }
+        ensures kept { Keeps self.old.account self.new.account }
+    {
         let dropped = self.exec.manager().dropped();
         self.account.drop_more(dropped);
         self.exec.forget_report();
     }
 
     // Appends the instances that were attached since the last request.
-    fn tell_instances(&mut self, text: &mut String) -> Result<(), Status> {
+    fn tell_instances(&mut self, text: &mut String) -> Result<(), Status>
+        ensures { self.new.account ≡ self.old.account }
+    {
         let manager = self.exec.manager();
         let instances = manager.state().instances();
         for number in self.instances..instances {
@@ -157,7 +176,10 @@ impl<F: Minifilter> Scenario<F> {
     }
 
     // Appends what is told of what the manager noted, and keeps it for the lines that expect it.
-    fn tell_findings(&mut self, text: &mut String) -> Result<(), Status> {
+    fn tell_findings(&mut self, text: &mut String) -> Result<(), Status>
+        ensures told { IfOk result (λ _. TellsAll (findings (steps self.old.exec.manager) (leaks self.old.exec.manager) (refused_calls self.old.exec.manager)) self.old.account self.new.account) }
+        ensures same { self.new.exec ≡ self.old.exec }
+    {
         let manager = self.exec.manager();
         let found = findings(self.alloc, manager)?;
         say_findings(
@@ -172,7 +194,9 @@ impl<F: Minifilter> Scenario<F> {
     }
 
     // Appends the replies of operations that were held and have ended. In lines the step by which each was handed out stands with the next request.
-    fn take_finished(&mut self, text: &mut String) -> Result<(), Status> {
+    fn take_finished(&mut self, text: &mut String) -> Result<(), Status>
+        ensures { IfOk result (λ _. Keeps self.old.account self.new.account) }
+    {
         say_finished(&mut self.exec, &mut self.reporter, &mut self.held, text)?;
         if let Reporter::Objects(_) = self.reporter {
             self.forget_report();
@@ -181,7 +205,9 @@ impl<F: Minifilter> Scenario<F> {
     }
 
     // Whether the last request came to what is expected.
-    fn is_met(&mut self, expected: &Expectation) -> bool {
+    fn is_met(&mut self, expected: &Expectation) -> bool
+        ensures { IsMetAs expected.now result self.old.account self.new.account }
+    {
         match (expected, &self.last) {
             (Expectation::Told(wanted), Some(_)) => self.account.expect(*wanted),
             (_, Some(reply)) => expected.is_met(reply),
@@ -196,7 +222,9 @@ impl<F: Minifilter> Scenario<F> {
         line: &str,
         expected: &Expectation,
         text: &mut String,
-    ) -> Result<(), Status> {
+    ) -> Result<(), Status>
+        ensures { IfOk result (λ _. LineExpects expected.now self.old.account self.new.account) }
+    {
         let is_met = self.is_met(expected);
         if !is_met {
             self.account.miss();
@@ -225,7 +253,10 @@ impl<F: Minifilter> Scenario<F> {
 
     /// The end: what is still held, open or alive is said, and what became of contexts. The exit status: 0; 5 if a mistake was told that no line expects, or if
     /// something wasn't kept of which it could have been told; 1 if an expectation wasn't met. Refused with 1, if memory is refused.
-    pub(crate) fn end(&mut self, text: &mut String) -> Result<u8, Status> {
+    pub(crate) fn end(&mut self, text: &mut String) -> Result<u8, Status>
+        ensures status { IfOk result (λ status. status ≡ status_of self.new.account) }
+        ensures held { IfOk result (λ _. EndsAs self.old.held.items self.old.account self.new.account) }
+    {
         self.tell_held(text)?;
         let mut words = String::new(self.alloc);
         self.write_left(&mut words)?;
@@ -236,7 +267,9 @@ impl<F: Minifilter> Scenario<F> {
     }
 
     /// The end behind a line that says nothing: its exit status, 2. In lines nothing is appended. Refused with 1, if memory is refused.
-    pub(crate) fn break_off(&mut self, text: &mut String) -> Result<u8, Status> {
+    pub(crate) fn break_off(&mut self, text: &mut String) -> Result<u8, Status>
+        ensures { IfOk result (λ status. status ≡ 2) }
+    {
         if let Reporter::Objects(_) = self.reporter {
             let mut words = String::new(self.alloc);
             self.write_left(&mut words)?;
@@ -247,7 +280,9 @@ impl<F: Minifilter> Scenario<F> {
     }
 
     // Appends that operations are held. In objects each stands by itself, with who holds it.
-    fn tell_held(&mut self, text: &mut String) -> Result<(), Status> {
+    fn tell_held(&mut self, text: &mut String) -> Result<(), Status>
+        ensures { IfOk result (λ _. EndsAs self.old.held.items self.old.account self.new.account) }
+    {
         if self.held.is_empty() {
             return Ok(());
         }

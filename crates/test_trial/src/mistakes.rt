@@ -5,11 +5,12 @@ ghost use Rattle.std.specs.Prelude.{◌≡◌};
 use fm_core::SetMode;
 use fm_data::{CallbackData, Completion, Params, PostVerdict, PreVerdict};
 use fm_filter::{Agreeable, Port};
-use fm_types::{Bytes, ContextKind, ContextMask, CtxId, OpId, OpMask, Registration};
+use fm_types::{Bytes, ContextKind, ContextMask, CtxId, OpId, OpMask, Registration, Status};
 use std::alloc::Global;
 
 /// A read at 0 leaves a reference behind, at 1 it releases one twice, at 2 it uses a context after its release, at 3 it sets it then, at 4 it resumes an
-/// operation that nobody holds, and at 5 it sends a context along, whose reference the postoperation leaves behind. At 6 it holds the read for ever. Others pass.
+/// operation that nobody holds, and at 5 it sends a context along, whose reference the postoperation leaves behind. At 6 it holds the read, and at 8 it sets a
+/// status and holds it. From 100 on it lets the operation of that number less 100 go. Others pass.
 #[derive(Clone, Copy)]
 pub struct Mistakes {
     alloc: Global,
@@ -93,7 +94,15 @@ impl Agreeable for Mistakes {
                 });
             }
             6 => return PreVerdict::Pending,
-            _ => {}
+            8 => {
+                lent.set_status(Status::AccessDenied, 0);
+                return PreVerdict::Pending;
+            }
+            at => {
+                if let Some(number) = at.checked_sub(100) {
+                    let _ = port.resume_pre(OpId(number), PreVerdict::NoCallback);
+                }
+            }
         }
         PreVerdict::NoCallback
     }

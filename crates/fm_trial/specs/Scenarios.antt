@@ -45,11 +45,11 @@ pub record Reports (found : List Finding) (old new : Account) : Type 0 where
 abbrev pub ReportsAs : {F B : Type 0} → Parts F B → Account → Account → Type 0
 ReportsAs m old new = Reports (findings (steps m) (leaks m) (refused_calls m)) old new × (new.request ≡ old.request)
 
--- a request: what the manager noted of it is told of it alone
+-- a request: some findings are told of it, and nothing else of what was told changes
 abbrev pub AsksAs : Account → Account → Type 0
 AsksAs old new = (found : List Finding) × Reports found old new
 
--- an expectation is met: one of a mistake by a telling of its own, any other by the reply
+-- an expectation is met or not: one of a mistake is met only by a telling of its own, and of any other nothing is said but that the account stays
 abbrev pub IsMetAs : Expectation → Bool → Account → Account → Type 0
 IsMetAs (expectation.Told wanted) met old new = Expects wanted old met new ⊎ ((met ≡ false) × (new ≡ old))
 IsMetAs _ met old new = new ≡ old

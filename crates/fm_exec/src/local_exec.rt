@@ -3,7 +3,7 @@
 ghost use Rattle.std.specs.Prelude.{◌≡◌};
 ghost use Rattle.fm_exec.specs.Locals.{Answers, AnswersControl, Loads};
 ghost use Rattle.fm_local.specs.Actions.{GivesFinished};
-ghost use Rattle.fm_local.specs.Offered.{ForgetsReport, HandsOutFirst, SameAround};
+ghost use Rattle.fm_local.specs.Offered.{ForgetsReport, HandsOutFirst, HasNoReport, SameAround};
 
 use crate::said::{filter_reply, instance_reply, number_reply, status_reply, unit_reply};
 use fm_base::Base;
@@ -45,6 +45,7 @@ impl<F: Minifilter, B: Base> LocalExec<F, B> {
     /// Forgets the steps, the leaks and the refused calls that could be read, as the manager's `forget_report`.
     pub fn forget_report(&mut self)
         ensures forgets { ForgetsReport self.old.manager self.new.manager }
+        ensures none { HasNoReport self.new.manager }
         ensures same { self.new.alloc ≡ self.old.alloc }
     {
         self.manager.forget_report();

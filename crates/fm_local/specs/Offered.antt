@@ -1,11 +1,12 @@
 -- What a manager's calls promise, over all that its filters and its file systems say of themselves.
-use Rattle.std.specs.Prelude.{[], ◌≡◌, List, Option, Result, ℕ}
+use Rattle.std.specs.Prelude.{[], ◌≡◌, ◌+◌, ◌-◌, ◌^◌, List, Option, Result, min, ℕ}
 use Rattle.std.specs.Global.{Vec}
 use Rattle.fm_local.specs.Words.{FilterId, InstanceId, OpId, Status, VolumeId, World, Parts}
 use Rattle.fm_data.specs.declared.request.Reply.{Reply}
 use Rattle.fm_data.specs.declared.request.Request.{Request}
 use Rattle.fm_filter.specs.declared.minifilter.Minifilter as filter
 use Rattle.fm_base.specs.declared.base.Base as base
+use Rattle.fm_local.specs.declared.bounded.Bounded.{Bounded}
 use Rattle.fm_local.specs.declared.parts.TheConstants.{WORKER}
 use Rattle.fm_local.specs.declared.requests.TheConstants.{RESUMPTIONS}
 use Rattle.fm_types.specs.declared.limits.TheConstants.{TURNS}
@@ -25,6 +26,10 @@ use Rattle.fm_local.specs.Quietly.{AttachesQuietly, DetachesQuietly, LeavesReady
 
 -- ---- what a manager has
 
+-- it keeps nothing, and nothing went since it was made or cleared
+abbrev pub IsCleared : {T : Type 0} → Bounded T → Type 0
+IsCleared queue = (queue.items.items ≡ []) × (queue.dropped ≡ 0)
+
 module _ {F B : Type 0} where
   -- its state
   abbrev pub world : Parts F B → World
@@ -43,6 +48,10 @@ module _ {F B : Type 0} where
 
   abbrev pub refused_calls : Parts F B → List Refusal
   refused_calls m = m.work.refusals.items.items
+
+  -- how many of these can't be read any more, as far as a number of 64 bits tells
+  abbrev pub dropped_count : Parts F B → ℕ
+  dropped_count m = min (min (m.trace.dropped + m.leaks.dropped) (2 ^ 64 - 1) + m.work.refusals.dropped) (2 ^ 64 - 1)
 
   -- it has these filters, none of which is loaded, and no volume
   pub record IsNew (filters : Vec (List ℕ × F)) (m : Parts F B) : Type 0 where
@@ -77,6 +86,10 @@ module _ {F B : Type 0} where
   -- all but what can be read
   abbrev pub ForgetsReport : Parts F B → Parts F B → Type 0
   ForgetsReport old new = new ≡ record old { work = record old.work { refusals = new.work.refusals }; leaks = new.leaks; trace = new.trace }
+
+  -- nothing can be read, and nothing is missing
+  abbrev pub HasNoReport : Parts F B → Type 0
+  HasNoReport m = IsCleared m.trace × IsCleared m.leaks × IsCleared m.work.refusals
 
   -- all but the state, what ended, and what can be read
   abbrev pub SameAround : Parts F B → Parts F B → Type 0

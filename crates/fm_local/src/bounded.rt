@@ -1,6 +1,6 @@
 //! Queues that take their memory once.
 
-ghost use Rattle.std.specs.Prelude.{◌≡◌, ◌⊎◌, ◌↔◌, ◌<◌, ◌≤◌, ◌++◌, ◌∷◌, [], IfOk, IsTrue, drop, length, nat_le, slice_get};
+ghost use Rattle.std.specs.Prelude.{◌≡◌, ◌⊎◌, ◌↔◌, ◌<◌, ◌≤◌, ◌+◌, ◌-◌, ◌^◌, ◌++◌, ◌∷◌, [], IfOk, IsTrue, cond, drop, length, min, nat_le, slice_get};
 ghost use Rattle.std.specs.VecDeque.{deque_capacity};
 
 use std::alloc::{AllocError, Global};
@@ -19,6 +19,7 @@ impl<T: Copy> Bounded<T> {
     pub fn new(alloc: Global, limit: usize) -> Result<Bounded<T>, AllocError>
         ensures empty { IfOk result (λ queue. queue.items.items ≡ []) }
         ensures room { IfOk result (λ queue. limit ≤ deque_capacity queue.items) }
+        ensures whole { IfOk result (λ queue. queue.dropped ≡ 0) }
     {
         let items = VecDeque::with_capacity(alloc, limit)?;
         Ok(Bounded { items, dropped: 0 })
@@ -61,6 +62,7 @@ impl<T: Copy> Bounded<T> {
 
     /// Puts an item behind the others; where there is no room it goes in the place of the one put longest ago.
     pub fn put(&mut self, item: T)
+        ensures counted { self.new.dropped ≡ cond (nat_le (deque_capacity self.old.items) (length self.old.items.items)) (min (self.old.dropped + 1) (2 ^ 64 - 1)) self.old.dropped }
         ensures room { length self.old.items.items < deque_capacity self.old.items → self.new.items.items ≡ self.old.items.items ++ item ∷ [] }
         ensures full { 0 < deque_capacity self.old.items → deque_capacity self.old.items ≤ length self.old.items.items → self.new.items.items ≡ drop 1 self.old.items.items ++ item ∷ [] }
         ensures any { (self.new.items.items ≡ self.old.items.items ++ item ∷ []) ⊎ (self.new.items.items ≡ drop 1 self.old.items.items ++ item ∷ []) ⊎ (self.new.items.items ≡ drop 1 self.old.items.items) }
@@ -74,6 +76,7 @@ impl<T: Copy> Bounded<T> {
 
     /// Takes the item put longest ago.
     pub fn take(&mut self) -> Option<T>
+        ensures counted { self.new.dropped ≡ self.old.dropped }
         ensures first { result ≡ slice_get self.old.items.items 0 }
         ensures rest { self.new.items.items ≡ drop 1 self.old.items.items }
     {
@@ -82,7 +85,8 @@ impl<T: Copy> Bounded<T> {
 
     /// Takes all items away.
     pub fn clear(&mut self)
-        ensures { self.new.items.items ≡ [] }
+        ensures empty { self.new.items.items ≡ [] }
+        ensures whole { self.new.dropped ≡ 0 }
     {
         self.items.clear();
         self.dropped = 0;

@@ -7,7 +7,7 @@ ghost use Rattle.fm_local.specs.Actions.{GivesFinished, RefusesIn};
 ghost use Rattle.fm_local.specs.Between.{IsBetween};
 ghost use Rattle.fm_local.specs.Lending.{LendsBase};
 ghost use Rattle.fm_local.specs.Managers.{HasRooms};
-ghost use Rattle.fm_local.specs.Offered.{AnswersAny, AnswersReady, AttachesAny, AttachesAs, AttachesReady, DetachesAny, DetachesAs, DetachesReady, ForgetsReport, HandsOutFirst, IsNew, LoadsAs, MountsAs, Numbers, Places, Ready, SameAround, SameFilters, SameHanded, StaysReady, StaysReadyAlike, StaysReadyIfPlain, UnloadsAny, UnloadsAs, UnloadsReady, file_systems, leaks, refused_calls, steps, world};
+ghost use Rattle.fm_local.specs.Offered.{AnswersAny, AnswersReady, AttachesAny, AttachesAs, AttachesReady, DetachesAny, DetachesAs, DetachesReady, ForgetsReport, HandsOutFirst, HasNoReport, IsNew, LoadsAs, MountsAs, Numbers, Places, Ready, SameAround, SameFilters, SameHanded, StaysReady, StaysReadyAlike, StaysReadyIfPlain, UnloadsAny, UnloadsAs, UnloadsReady, dropped_count, file_systems, leaks, refused_calls, steps, world};
 
 use crate::leak::Leak;
 use crate::parts::Parts;
@@ -120,7 +120,9 @@ impl<F: Minifilter, B: Base> LocalManager<F, B> {
     }
 
     /// How many steps, leaks and refused calls can't be read any more, since there was no room for them; 0 again once the report is forgotten.
-    pub fn dropped(&self) -> u64 {
+    pub fn dropped(&self) -> u64
+        ensures { result ≡ dropped_count self.now }
+    {
         let parts = &self.parts;
         let refusals = parts.work.refusals.dropped();
         let leaks = parts.leaks.dropped();
@@ -133,7 +135,8 @@ impl<F: Minifilter, B: Base> LocalManager<F, B> {
 
     /// Forgets the steps, the leaks and the refused calls that could be read. Nothing else changes.
     pub fn forget_report(&mut self)
-        ensures { ForgetsReport self.old self.new }
+        ensures forgets { ForgetsReport self.old self.new }
+        ensures none { HasNoReport self.new }
     {
         self.parts.forget_report();
     }

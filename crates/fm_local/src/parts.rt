@@ -6,7 +6,7 @@ ghost use Rattle.std.specs.List.{IsItemAtMut};
 ghost use Rattle.fm_local.specs.Between.{StaysBetween};
 ghost use Rattle.fm_local.specs.Lending.{LendsOf};
 ghost use Rattle.fm_local.specs.Managers.{HasRooms};
-ghost use Rattle.fm_local.specs.Offered.{ForgetsReport, HasNoneDue, IsNew, IsOut, LoadsAs, MountsAs, Numbers, Places, Ready, SameFilters, SameHanded, StaysReady, StaysReadyIfPlain, file_systems};
+ghost use Rattle.fm_local.specs.Offered.{ForgetsReport, HasNoReport, HasNoneDue, IsNew, IsOut, LoadsAs, MountsAs, Numbers, Places, Ready, SameFilters, SameHanded, StaysReady, StaysReadyIfPlain, file_systems};
 ghost use Rattle.fm_local.specs.Waits.{Waiting};
 
 use crate::bounded::Bounded;
@@ -83,7 +83,8 @@ impl<F: Minifilter, B: Base> Parts<F, B> {
 
     /// As `LocalManager::forget_report`.
     pub(crate) fn forget_report(&mut self)
-        ensures { ForgetsReport self.old self.new }
+        ensures forgets { ForgetsReport self.old self.new }
+        ensures none { HasNoReport self.new }
     {
         self.work.refusals.clear();
         self.leaks.clear();

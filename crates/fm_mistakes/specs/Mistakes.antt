@@ -1,5 +1,5 @@
 -- Which mistake is told of what a callback did.
-use Rattle.std.specs.Prelude.{Option, Some, None, Bool, ℕ, true, false, nat_eq, ◌&&◌, ◌||◌}
+use Rattle.std.specs.Prelude.{Option, Some, None, Bool, ℕ, true, false, nat_eq, ◌&&◌, ◌||◌, List, [], ◌∷◌, bytes_eq, codes, find}
 use Rattle.fm_data.specs.declared.verdict.PreVerdict.{PreVerdict}
 use Rattle.fm_data.specs.declared.verdict.PreVerdict.TheVariants as verdict
 use Rattle.fm_flow.specs.declared.entry.PreState.{PreState}
@@ -46,6 +46,28 @@ number_of told.StatusNotCompleted = 125
 number_of told.CreateCompleted = 221
 number_of told.CloseCompleted = 222
 number_of told.FixedAnswer = 223
+
+-- as it is told
+abbrev pub id_of : Mistake → List ℕ
+id_of told.Leak = codes "KZ0101"
+id_of told.ReleasedTwice = codes "KZ0102"
+id_of told.NotReferenced = codes "KZ0103"
+id_of told.SetNotReferenced = codes "KZ0110"
+id_of told.HeldToTheEnd = codes "KZ0111"
+id_of told.NotHeld = codes "KZ0113"
+id_of told.NoPost = codes "KZ0124"
+id_of told.StatusNotCompleted = codes "KZ0125"
+id_of told.CreateCompleted = codes "KZ0221"
+id_of told.CloseCompleted = codes "KZ0222"
+id_of told.FixedAnswer = codes "KZ0223"
+
+abbrev pub all_mistakes : List Mistake
+all_mistakes =
+    told.Leak ∷ told.ReleasedTwice ∷ told.NotReferenced ∷ told.SetNotReferenced ∷ told.HeldToTheEnd ∷ told.NotHeld ∷ told.NoPost ∷ told.StatusNotCompleted ∷ told.CreateCompleted ∷ told.CloseCompleted ∷ told.FixedAnswer ∷ []
+
+-- the mistake that is told so
+unfoldable pub mistake_read : List ℕ → Option Mistake
+mistake_read id = find (λ m. bytes_eq (id_of m) id) all_mistakes
 
 -- whether two statuses are the same
 abbrev pub is_same_status : Status → Status → Bool

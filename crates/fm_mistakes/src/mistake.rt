@@ -1,7 +1,7 @@
 //! Mistakes of filters, by the numbers under which the host for drivers in C tells them.
 
-ghost use Rattle.std.specs.Prelude.{◌≡◌};
-ghost use Rattle.fm_mistakes.specs.Mistakes.{is_limit, is_misuse, is_same_status, mistake_of, number_of, post_mistake, pre_mistake, unless};
+ghost use Rattle.std.specs.Prelude.{◌≡◌, bytes_eq, find};
+ghost use Rattle.fm_mistakes.specs.Mistakes.{id_of, is_limit, is_misuse, is_same_status, mistake_of, mistake_read, number_of, post_mistake, pre_mistake, unless};
 
 use fm_core::PreState;
 use fm_data::PreVerdict;
@@ -51,6 +51,13 @@ const ALL: [Mistake; 11] = [
     Mistake::FixedAnswer,
 ];
 
+// The one that is told so.
+fn told_as(all: &[Mistake], id: &str) -> Option<Mistake>
+    ensures { result ≡ find (λ told. bytes_eq (id_of told) id.now) all.now }
+{
+    all.iter().copied().find(|told| told.id() == id)
+}
+
 impl Mistake {
     /// Its number, which stays.
     pub fn number(self) -> u16
@@ -72,7 +79,9 @@ impl Mistake {
     }
 
     /// Its number as it is told.
-    pub fn id(self) -> &'static str {
+    pub fn id(self) -> &'static str
+        ensures { result.now ≡ id_of self }
+    {
         match self {
             Mistake::Leak => "KZ0101",
             Mistake::ReleasedTwice => "KZ0102",
@@ -105,9 +114,12 @@ impl Mistake {
         matches!(self, Mistake::ReleasedTwice | Mistake::NotHeld)
     }
 
-    /// The mistake of that number.
-    pub fn read(id: &str) -> Option<Mistake> {
-        ALL.into_iter().find(|told| told.id() == id)
+    /// The mistake that is told so.
+    #[tactic(auto, unfolding(crate::specs::Mistakes::mistake_read))]
+    pub fn read(id: &str) -> Option<Mistake>
+        ensures { result ≡ mistake_read id.now }
+    {
+        told_as(&ALL, id)
     }
 
     /// Which mistake a refused call of a port is; none where a filter may meet that refusal.

@@ -1,32 +1,33 @@
--- What the lines of a scenario make of its account: what is told, and what of that is expected.
-use Rattle.std.specs.Prelude.{◌≡◌, ◌⊎◌, ◌≤◌, ◌<◌, ◌++◌, ◌∷◌, [], ℕ, zero, suc, List, Bool, true, false}
+-- What the lines of a scenario make of it: what its manager answers, what is told of that, and what of it is expected.
+use Rattle.std.specs.Prelude.{◌≡◌, ◌⊎◌, ◌≤◌, ◌<◌, ◌++◌, ◌∷◌, [], ℕ, zero, suc, List, Bool, true, false, Option, Some, None, filter, is_none, is_some, nat_eq, not, ◌&&◌}
+use Rattle.std.specs.Global.{Vec}
 use Rattle.fm_types.specs.declared.ids.OpId.{OpId}
 use Rattle.fm_types.specs.declared.status.Status.TheVariants.{BadRequest}
+use Rattle.fm_types.specs.Statuses.{number_of}
 use Rattle.fm_data.specs.declared.request.Reply.{Reply}
+use Rattle.fm_data.specs.declared.request.Reply.TheVariants as reply
 use Rattle.fm_wire.specs.declared.frame.Body.{Body}
 use Rattle.fm_wire.specs.declared.frame.Body.TheVariants as body
+use Rattle.fm_wire.specs.declared.frame.Control.TheVariants as control
 use Rattle.fm_filter.specs.declared.minifilter.Minifilter as filter
-use Rattle.fm_base.specs.declared.base.Base as base
+use Rattle.fm_base.specs.contracts.memory_base.MemoryBaseBase.TheImpl as memory
+use Rattle.fm_base.specs.Folders.{Folder}
 use Rattle.fm_exec.specs.Locals.{Answers, AnswersControl}
 use Rattle.fm_exec.specs.Said.{status_reply}
 use Rattle.fm_local.specs.declared.parts.Parts.{Parts}
-use Rattle.fm_local.specs.Offered.{leaks, refused_calls, steps}
+use Rattle.fm_local.specs.Offered.{ForgetsReport, HandsOutFirst, HasNoReport, SameAround, dropped_count, leaks, refused_calls, steps}
 use Rattle.fm_mistakes.specs.declared.account.Account.{Account}
-use Rattle.fm_mistakes.specs.declared.finding.Finding.{Finding}
-use Rattle.fm_mistakes.specs.declared.mistake.Mistake.{Mistake}
 use Rattle.fm_mistakes.specs.declared.mistake.Mistake.TheVariants as told
-use Rattle.fm_mistakes.specs.Accounts.{Expects, told_now, tellings}
+use Rattle.fm_mistakes.specs.Accounts.{Expects, status_of, told_now, tellings}
 use Rattle.fm_mistakes.specs.Findings.{findings}
 use Rattle.fm_trial.specs.declared.expectation.Expectation.{Expectation}
 use Rattle.fm_trial.specs.declared.expectation.Expectation.TheVariants as expectation
+use Rattle.fm_trial.specs.declared.line.ScenarioLine.{ScenarioLine}
+use Rattle.fm_trial.specs.declared.line.ScenarioLine.TheVariants as line
+use Rattle.fm_trial.specs.declared.scenario.Scenario.{Scenario}
+use Rattle.fm_trial.specs.Lines.{IsWithoutReturn, Says, reply_meets, text_lines}
 
--- what the manager answers to a request; what is none is answered 32
-module _ {F B : Type 0} (f : filter.Ghosts F) (b : base.Ghosts B) where
-  abbrev pub RepliesTo : Body → Parts F B → Reply → Parts F B → Type 0
-  RepliesTo (body.Operation request) old said new = Answers f b request old said new
-  RepliesTo (body.Control control) old said new = AnswersControl f b control old said new
-  RepliesTo (body.Reply reply) old said new = (said ≡ status_reply BadRequest) × (new ≡ old)
-  RepliesTo (body.Refused status) old said new = (said ≡ status_reply status) × (new ≡ old)
+-- ---- the account
 
 -- what was told stays, and no more of it is expected; more may have been dropped
 pub record Keeps (old new : Account) : Type 0 where
@@ -35,52 +36,172 @@ pub record Keeps (old new : Account) : Type 0 where
   pub unmet : new.unmet ≡ old.unmet
   pub dropped : old.dropped ≤ new.dropped
 
--- these findings are told of the last request
-pub record Reports (found : List Finding) (old new : Account) : Type 0 where
-  pub told : new.told.items ≡ old.told.items ++ tellings new.request found
+-- all that a manager noted is told of the last request, and what it couldn't keep is counted
+pub record Reports {F B : Type 0} (noted : Parts F B) (old new : Account) : Type 0 where
+  pub told : new.told.items ≡ old.told.items ++ tellings new.request (findings (steps noted) (leaks noted) (refused_calls noted))
   pub unmet : new.unmet ≡ old.unmet
-  pub dropped : old.dropped ≤ new.dropped
+  pub kept : old.dropped ≤ new.dropped
+  pub dropped : dropped_count noted ≤ new.dropped
 
--- all is told that the manager noted
-abbrev pub ReportsAs : {F B : Type 0} → Parts F B → Account → Account → Type 0
-ReportsAs m old new = Reports (findings (steps m) (leaks m) (refused_calls m)) old new × (new.request ≡ old.request)
-
--- a request: some findings are told of it, and nothing else of what was told changes
-abbrev pub AsksAs : Account → Account → Type 0
-AsksAs old new = (found : List Finding) × Reports found old new
-
--- an expectation is met or not: one of a mistake is met only by a telling of its own, and of any other nothing is said but that the account stays
-abbrev pub IsMetAs : Expectation → Bool → Account → Account → Type 0
-IsMetAs (expectation.Told wanted) met old new = Expects wanted old met new ⊎ ((met ≡ false) × (new ≡ old))
-IsMetAs _ met old new = new ≡ old
+-- whether the last reply is as expected; a mistake is expected by a line only if it was told of the last request, and no other line expects that telling
+abbrev pub IsMetAs : Expectation → Option Reply → Bool → Account → Account → Type 0
+IsMetAs expected None met old new = (met ≡ false) × (new ≡ old)
+IsMetAs (expectation.Told wanted) (Some said) met old new = Expects wanted old met new
+IsMetAs expected (Some said) met old new = (met ≡ reply_meets expected said) × (new ≡ old)
 
 -- a line that expects something: where that isn't so it is counted
 abbrev pub CountsUnmet : Bool → Account → Account → Type 0
 CountsUnmet true old new = new ≡ old
 CountsUnmet false old new = (new ≡ record old { unmet = new.unmet }) × (0 < new.unmet)
 
-abbrev pub LineExpects : Expectation → Account → Account → Type 0
-LineExpects expected old new = (met : Bool) × (between : Account) × IsMetAs expected met old between × CountsUnmet met between new
+abbrev pub LineExpects : Expectation → Option Reply → Account → Account → Type 0
+LineExpects expected last old new = (met : Bool) × (between : Account) × IsMetAs expected last met old between × CountsUnmet met between new
 
--- a line: one that says nothing, a request, an expectation, or one that can't be read, after which nothing is done
-abbrev pub TakesLine : Bool → Account → Account → Type 0
-TakesLine false old new = new ≡ old
-TakesLine true old new = (new ≡ old) ⊎ AsksAs old new ⊎ ((expected : Expectation) × LineExpects expected old new)
-
--- the end: that operations are held is told once
+-- that operations are held is told once
 abbrev pub EndsAs : List OpId → Account → Account → Type 0
 EndsAs [] old new = new ≡ old
 EndsAs (o ∷ held) old new =
     (new ≡ record old { told = new.told; request = new.request })
     × (new.told.items ≡ old.told.items ++ told_now told.HeldToTheEnd new.request ∷ [])
 
--- so many lines, one after the other, each of which says something
-abbrev pub TakesLines : ℕ → Account → Account → Type 0
-TakesLines zero old new = new ≡ old
-TakesLines (suc n) old new = (mid : Account) × TakesLines n old mid × TakesLine true mid new
+-- ---- requests
 
--- nothing was told or expected yet
-pub record IsFresh (a : Account) : Type 0 where
-  pub told : a.told.items ≡ []
-  pub unmet : a.unmet ≡ 0
-  pub dropped : a.dropped ≡ 0
+-- one without which the requests behind it may test nothing
+abbrev pub is_set_up : Body → Bool
+is_set_up (body.Control (control.Load name)) = true
+is_set_up (body.Control (control.Attach i v name altitude)) = true
+is_set_up _ = false
+
+abbrev pub is_refused : Reply → Bool
+is_refused (reply.Done status information bytes) = not (nat_eq (number_of status) 0)
+is_refused _ = false
+
+-- ---- the manager
+
+-- the operations that filters hold: one more, where that is the reply
+abbrev pub held_by : Reply → List OpId
+held_by (reply.Held operation) = operation ∷ []
+held_by _ = []
+
+-- without the one whose reply was handed out
+abbrev pub held_without : OpId → List OpId → List OpId
+held_without operation held = filter (λ o. not (nat_eq o.0 operation.0)) held
+
+abbrev pub held_beside : Option (OpId × Reply) → List OpId → List OpId
+held_beside (Some (operation, said)) held = held_without operation held
+held_beside None held = held
+
+module _ {F B : Type 0} where
+  -- the reply of an operation that ended is handed out, if one has, and that one is held no more
+  pub record HandsOutNext (old : Parts F B) (held : List OpId) (new : Parts F B) (left : List OpId) : Type 0 where
+    pub said : Option (OpId × Reply)
+    pub first : HandsOutFirst old said new
+    pub around : SameAround old new
+    pub kept : left ≡ held_beside said held
+
+  -- so many times
+  abbrev pub HandsOutMany : ℕ → Parts F B → List OpId → Parts F B → List OpId → Type 0
+  HandsOutMany zero old held new left = (new ≡ old) × (left ≡ held)
+  HandsOutMany (suc n) old held new left =
+      (mid : Parts F B) × (between : List OpId) × HandsOutMany n old held mid between × HandsOutNext mid between new left
+
+  abbrev pub HandsOutAll : Parts F B → List OpId → Parts F B → List OpId → Type 0
+  HandsOutAll old held new left = (count : ℕ) × HandsOutMany count old held new left
+
+  -- replies are handed out, and what the manager noted of that may be forgotten
+  abbrev pub Finishes : Parts F B → List OpId → Parts F B → List OpId → Type 0
+  Finishes old held new left = (gave : Parts F B) × HandsOutAll old held gave left × ForgetsReport gave new
+
+  -- what the manager noted is forgotten before
+  abbrev pub GoesOn : Parts F B → List OpId → Parts F B → List OpId → Type 0
+  GoesOn old held new left = (forgot : Parts F B) × ForgetsReport old forgot × HasNoReport forgot × Finishes forgot held new left
+
+-- ---- scenarios
+
+-- whether a line says something
+abbrev pub is_known : ScenarioLine → Bool
+is_known line.Unknown = false
+is_known _ = true
+
+module _ {F : Type 0} where
+  -- a manager of these filters, which was asked nothing; nothing was told or expected yet
+  pub record IsFresh (filters : Vec (List ℕ × F)) (s : Scenario F) : Type 0 where
+    pub handed : s.exec.manager.filters.all ≡ filters
+    pub last : s.last ≡ None
+    pub refused : s.refused ≡ None
+    pub held : s.held.items ≡ []
+    pub told : s.account.told.items ≡ []
+    pub unmet : s.account.unmet ≡ 0
+    pub dropped : s.account.dropped ≡ 0
+
+  -- nothing is asked, and nothing that was asked changes
+  pub record AsksNothing (old new : Scenario F) : Type 0 where
+    pub manager : new.exec ≡ old.exec
+    pub last : new.last ≡ old.last
+    pub held : new.held ≡ old.held
+
+  -- a set-up that was refused, of which no line expects anything, is counted as an expectation that isn't met
+  pub record Settles (old new : Scenario F) : Type 0 where
+    pub unmet : CountsUnmet (is_none old.refused) old.account new.account
+    pub refused : new.refused ≡ None
+    pub rest : AsksNothing old new
+
+  -- the end: a set-up that was refused is counted, and so is that nothing was asked, and that operations are held is told
+  pub record Ends (old : Scenario F) (end : Account) : Type 0 where
+    pub settled : Account
+    pub asked : Account
+    pub expected : CountsUnmet (is_none old.refused) old.account settled
+    pub tested : CountsUnmet (is_some old.last) settled asked
+    pub holds : EndsAs old.held.items asked end
+
+  -- its exit status where all lines said something, and behind one that says nothing
+  abbrev pub EndsAfter : Bool → Scenario F → ℕ → Type 0
+  EndsAfter true last status = (end : Account) × Ends last end × (status ≡ status_of end)
+  EndsAfter false last status = status ≡ 2
+
+module _ {F : Type 0} (f : filter.Ghosts F) where
+  -- what the manager answers to a request over files in memory; what is none is answered 32
+  abbrev pub RepliesTo : Body → Parts F Folder → Reply → Parts F Folder → Type 0
+  RepliesTo (body.Operation request) old said new = Answers f memory.ghosts request old said new
+  RepliesTo (body.Control control) old said new = AnswersControl f memory.ghosts control old said new
+  RepliesTo (body.Reply reply) old said new = (said ≡ status_reply BadRequest) × (new ≡ old)
+  RepliesTo (body.Refused status) old said new = (said ≡ status_reply status) × (new ≡ old)
+
+  -- a request: the manager answers it, and all that it then noted is told of this request
+  pub record Asks (asked : Body) (old new : Scenario F) : Type 0 where
+    pub said : Reply
+    pub answered : Parts F Folder
+    pub replies : RepliesTo asked old.exec.manager said answered
+    pub reports : Reports answered old.account new.account
+    pub request : old.account.request ≤ new.account.request
+    pub last : new.last ≡ Some said
+    pub refused : is_some new.refused ≡ (is_set_up asked && is_refused said)
+    pub goes_on : GoesOn answered (old.held.items ++ held_by said) new.exec.manager new.held.items
+
+  -- a line that says that
+  abbrev pub TakesSaid : ScenarioLine → Scenario F → Scenario F → Type 0
+  TakesSaid (line.Request asked) old new = (settled : Scenario F) × Settles old settled × Asks asked settled new
+  TakesSaid (line.Expect expected) old new = AsksNothing old new × (new.refused ≡ None) × LineExpects expected old.last old.account new.account
+  TakesSaid _ old new = AsksNothing old new × (new.refused ≡ old.refused) × (new.account ≡ old.account)
+
+  -- a line, and whether it says something
+  abbrev pub TakesLine : List ℕ → Bool → Scenario F → Scenario F → Type 0
+  TakesLine text known old new = (said : ScenarioLine) × Says text said × (known ≡ is_known said) × TakesSaid said old new
+
+  -- one line after the other, each of which says something
+  abbrev pub TakesLines : List (List ℕ) → Scenario F → Scenario F → Type 0
+  TakesLines [] old new = new ≡ old
+  TakesLines (whole ∷ lines) old new =
+      (text : List ℕ) × (mid : Scenario F) × IsWithoutReturn whole text × TakesLine text true old mid × TakesLines lines mid new
+
+  -- a scenario of that text over these filters, from its beginning to its end, and what it came to
+  pub record IsWhole (filters : Vec (List ℕ × F)) (text : List ℕ) (end : Account) : Type 0 where
+    pub first : Scenario F
+    pub last : Scenario F
+    pub fresh : IsFresh filters first
+    pub lines : TakesLines (text_lines text) first last
+    pub ends : Ends last end
+
+  -- its exit status: 2, or what it came to
+  abbrev pub EndsScenario : Vec (List ℕ × F) → List ℕ → ℕ → Type 0
+  EndsScenario filters text status = (status ≡ 2) ⊎ ((end : Account) × IsWhole filters text end × (status ≡ status_of end))

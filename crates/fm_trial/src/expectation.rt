@@ -1,5 +1,8 @@
 //! What a scenario expects of a request.
 
+ghost use Rattle.std.specs.Prelude.{◌≡◌, IfOk, IfSome, map};
+ghost use Rattle.fm_trial.specs.Lines.{IsSpelled, reply_meets};
+
 use fm_data::Reply;
 use fm_mistakes::Mistake;
 use fm_text::{read_hex, read_number};
@@ -31,7 +34,9 @@ pub(crate) fn expected_words(alloc: Global, line: &str) -> Result<String, AllocE
 }
 
 // Reads the words behind `expect`, but for bytes.
-fn read_plain(words: &[&str]) -> Option<Expectation> {
+fn read_plain(words: &[&str]) -> Option<Expectation>
+    ensures { IfSome result (λ expected. IsSpelled expected (map (λ word. word.now) words.now)) }
+{
     match words {
         ["held"] => Some(Expectation::Held),
         ["status", number] | [number] => Some(Expectation::Status(read_number(number.as_bytes())?)),
@@ -42,7 +47,9 @@ fn read_plain(words: &[&str]) -> Option<Expectation> {
 
 impl Expectation {
     /// Reads the words behind `expect`: `N` or `status N`, `bytes HEX`, `held`, `told KZ0101`. None if they are others. Fails if memory is refused.
-    pub(crate) fn read(alloc: Global, words: &[&str]) -> Result<Option<Expectation>, AllocError> {
+    pub(crate) fn read(alloc: Global, words: &[&str]) -> Result<Option<Expectation>, AllocError>
+        ensures { IfOk result (λ read. IfSome read (λ expected. IsSpelled expected (map (λ word. word.now) words.now))) }
+    {
         if let ["bytes", bytes] = words {
             return match read_hex(alloc, bytes.as_bytes())? {
                 Some(bytes) => Ok(Some(Expectation::Bytes(bytes))),
@@ -53,7 +60,9 @@ impl Expectation {
     }
 
     /// Whether a reply is as expected. What was told with it isn't its own.
-    pub(crate) fn is_met(&self, reply: &Reply) -> bool {
+    pub(crate) fn is_met(&self, reply: &Reply) -> bool
+        ensures { result ≡ reply_meets self.now reply.now }
+    {
         match (self, reply) {
             (Expectation::Status(number), Reply::Done { status, .. }) => {
                 u64::from(status.number()) == *number

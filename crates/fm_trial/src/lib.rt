@@ -12,6 +12,8 @@ mod program;
 mod report;
 mod reporter;
 mod scenario;
+mod scenario_text;
+mod text;
 mod trial_format;
 mod words;
 

@@ -1,6 +1,10 @@
 //! One line of a scenario.
 
+ghost use Rattle.std.specs.Prelude.{◌≡◌, IfOk, map};
+ghost use Rattle.fm_trial.specs.Lines.{IsSaid, Says};
+
 use crate::expectation::Expectation;
+use crate::text::words_of;
 use fm_cli::request_of;
 use fm_types::Status;
 use fm_wire::Body;
@@ -19,17 +23,10 @@ pub(crate) enum ScenarioLine {
     Unknown,
 }
 
-// The words of a line.
-fn words_of(alloc: Global, text: &str) -> Result<Vec<&str>, AllocError> {
-    let mut words = Vec::new(alloc);
-    for word in text.split_ascii_whitespace() {
-        words.push(word)?;
-    }
-    Ok(words)
-}
-
 // The line of these words, which are no remark.
-fn read_words(alloc: Global, words: &[&str]) -> Result<ScenarioLine, Status> {
+fn read_words(alloc: Global, words: &[&str]) -> Result<ScenarioLine, Status>
+    ensures { IfOk result (IsSaid (map (λ word. word.now) words.now)) }
+{
     if let ["expect", expected @ ..] = words {
         return Ok(match Expectation::read(alloc, expected)? {
             Some(expectation) => ScenarioLine::Expect(expectation),
@@ -45,7 +42,9 @@ fn read_words(alloc: Global, words: &[&str]) -> Result<ScenarioLine, Status> {
 
 impl ScenarioLine {
     /// Reads a line. Refused with 1, if memory is refused.
-    pub(crate) fn read(alloc: Global, text: &str) -> Result<ScenarioLine, Status> {
+    pub(crate) fn read(alloc: Global, text: &str) -> Result<ScenarioLine, Status>
+        ensures { IfOk result (Says text.now) }
+    {
         let words = words_of(alloc, text)?;
         match words.as_slice() {
             [] => Ok(ScenarioLine::Nothing),

@@ -1,11 +1,14 @@
 //! The trial program.
 
-ghost use Rattle.std.specs.Prelude.{◌≡◌, IfOk, length, true};
-ghost use Rattle.fm_trial.specs.Scenarios.{TakesLines};
-ghost use Rattle.fm_trial.specs.Verdicts.{worse};
+ghost use Rattle.std.specs.Prelude.{◌≡◌, ◌<◌, All, IfOk, List, Ok, length, map, true};
+ghost use Rattle.fm_trial.specs.declared.scenario_text.ScenarioText.{ScenarioText};
+ghost use Rattle.fm_trial.specs.Scenarios.{EndsAfter, EndsScenario, IsFresh, TakesLines};
+ghost use Rattle.fm_trial.specs.Verdicts.{PassesText, worse};
 
 use crate::reporter::Reporter;
 use crate::scenario::{Scenario, WRONG_FILE};
+use crate::scenario_text::ScenarioText;
+use crate::text::{lines_of, without_return};
 use crate::trial_format::TrialFormat;
 use crate::words::Words;
 use fm_filter::Minifilter;
@@ -13,7 +16,6 @@ use fm_report::{RunFault, Summary, Teller};
 use fm_types::{Name, Status};
 use std::alloc::{AllocError, Global};
 use std::env::{self, Env};
-use std::fs;
 use std::io::{self, Read, Write};
 use std::rt::Files;
 
@@ -48,10 +50,10 @@ fn take_all<F: Minifilter, W: Write>(
     lines: &[&str],
     out: &mut W,
 ) -> io::Result<bool>
-    ensures { IfOk result (λ is_known. is_known ≡ true → TakesLines (length lines.now) scenario.old.account scenario.new.account) }
+    ensures { IfOk result (λ is_known. is_known ≡ true → TakesLines F.Minifilter (map (λ line. line.now) lines.now) scenario.old scenario.new) }
 {
     for (place, line) in lines.iter().enumerate() {
-        let line = line.strip_suffix('\r').unwrap_or(line);
+        let line = without_return(line);
         let mut said = String::new(alloc);
         let is_known = scenario
             .take(place.saturating_add(1), line, &mut said)
@@ -72,6 +74,40 @@ fn reporter_of(alloc: Global, format: TrialFormat) -> Reporter {
     }
 }
 
+// A scenario over these filters, whose beginning is written.
+fn begin<F: Minifilter, W: Write>(
+    alloc: Global,
+    format: TrialFormat,
+    file: Option<&str>,
+    filters: Vec<(Name, F)>,
+    out: &mut W,
+) -> io::Result<Scenario<F>>
+    ensures { IfOk result (IsFresh filters) }
+{
+    let reporter = reporter_of(alloc, format);
+    let mut scenario = Scenario::new(alloc, filters, reporter).map_err(failed)?;
+    let mut said = String::new(alloc);
+    scenario.begin(file, &mut said).map_err(failed)?;
+    format.write(alloc, said.as_str(), out)?;
+    Ok(scenario)
+}
+
+// Ends a scenario, of which all lines said something or the last one didn't, and writes what that comes to: its exit status.
+fn end<F: Minifilter, W: Write>(
+    alloc: Global,
+    format: TrialFormat,
+    scenario: &mut Scenario<F>,
+    is_known: bool,
+    out: &mut W,
+) -> io::Result<u8>
+    ensures { IfOk result (EndsAfter is_known scenario.old) }
+{
+    let mut said = String::new(alloc);
+    let status = scenario.finish(is_known, &mut said).map_err(failed)?;
+    format.write(alloc, said.as_str(), out)?;
+    Ok(status)
+}
+
 // Tells a scenario from its beginning to its end: its exit status.
 fn tell<F: Minifilter, W: Write>(
     alloc: Global,
@@ -80,20 +116,13 @@ fn tell<F: Minifilter, W: Write>(
     filters: Vec<(Name, F)>,
     text: &str,
     out: &mut W,
-) -> io::Result<u8> {
-    let reporter = reporter_of(alloc, format);
-    let lines: Vec<&str> = text.split('\n').collect(alloc)?;
-    let mut scenario = Scenario::new(alloc, filters, reporter).map_err(failed)?;
-    let mut said = String::new(alloc);
-    scenario.begin(file, &mut said).map_err(failed)?;
-    format.write(alloc, said.as_str(), out)?;
-    said.clear();
-    let status = if take_all(alloc, format, &mut scenario, lines.as_slice(), out)? {
-        scenario.end(&mut said).map_err(failed)?
-    } else {
-        scenario.break_off(&mut said).map_err(failed)?
-    };
-    format.write(alloc, said.as_str(), out)?;
+) -> io::Result<u8>
+    ensures { IfOk result (EndsScenario F.Minifilter filters text.now) }
+{
+    let lines = lines_of(alloc, text)?;
+    let mut scenario = begin(alloc, format, file, filters, out)?;
+    let is_known = take_all(alloc, format, &mut scenario, lines.as_slice(), out)?;
+    let status = end(alloc, format, &mut scenario, is_known, out)?;
     Ok(status)
 }
 
@@ -105,7 +134,9 @@ fn run<F: Minifilter, W: Write>(
     filters: Vec<(Name, F)>,
     text: &str,
     out: &mut W,
-) -> io::Result<u8> {
+) -> io::Result<u8>
+    ensures { IfOk result (EndsScenario F.Minifilter filters text.now) }
+{
     format.begin(out)?;
     let told = tell(alloc, format, file, filters, text, out);
     format.end(out)?;
@@ -168,33 +199,59 @@ fn unread_objects(alloc: Global, file: &str, words: &str) -> Result<String, Allo
     Ok(text)
 }
 
-// Runs the scenario of a file: its exit status.
-fn run_file<R, F, E, W>(
-    rt: &R,
+// Runs a scenario over filters that are made for it: its exit status.
+fn run_text<F, E, W>(
+    alloc: Global,
     format: TrialFormat,
-    file: &str,
+    scenario: &ScenarioText,
     make: &E,
     out: &mut W,
 ) -> io::Result<u8>
 where
-    R: Files + AllocGlobal,
     F: Minifilter,
     E: Fn(Global) -> Result<Vec<(Name, F)>, Status>,
     W: Write,
     requires { E.IsAlwaysCallable make.now }
+    ensures { IfOk result (λ status. status ≡ 0 → PassesText F.Minifilter (λ filters. E.post make.now alloc (Ok filters)) scenario.now) }
 {
-    let alloc = rt.alloc();
-    say_file(alloc, format, file, out)?;
-    match fs::read_to_string(rt, file) {
+    let file = scenario.file();
+    if let Some(name) = file {
+        say_file(alloc, format, name, out)?;
+    }
+    match &scenario.text {
         Ok(text) => {
             let filters = make(alloc).map_err(failed)?;
-            run(alloc, format, Some(file), filters, text.as_str(), out)
+            let status = run(alloc, format, file, filters, text.as_str(), out)?;
+            Ok(status)
         }
         Err(error) => {
-            say_unread(alloc, format, file, &error, out)?;
+            say_unread(alloc, format, file.unwrap_or_default(), error, out)?;
             Ok(WRONG_FILE)
         }
     }
+}
+
+// Runs scenarios one after the other: the exit status that says most.
+fn run_all<F, E, W>(
+    alloc: Global,
+    format: TrialFormat,
+    texts: &[ScenarioText],
+    make: &E,
+    out: &mut W,
+) -> io::Result<u8>
+where
+    F: Minifilter,
+    E: Fn(Global) -> Result<Vec<(Name, F)>, Status>,
+    W: Write,
+    requires { E.IsAlwaysCallable make.now }
+    ensures { IfOk result (λ status. status ≡ 0 → All (PassesText F.Minifilter (λ filters. E.post make.now alloc (Ok filters))) texts.now) }
+{
+    let mut worst = 0;
+    for scenario in texts {
+        let status = run_text(alloc, format, scenario, make, out)?;
+        worst = worse(worst, status);
+    }
+    Ok(worst)
 }
 
 /// Runs the scenarios of the files that the program's words name, each over filters that are made for it, or the one of the input where no word is a file.
@@ -203,7 +260,7 @@ where
 /// reply. With the word `--json` the objects of docs/JSON.md are printed instead, one a line, and with `--page` the page of `fltview` that has them. The exit
 /// status: 0; 5 if a mistake was told that no line expects, or steps weren't kept of which one could have been told; 1 if an expectation isn't met; 2 if a line is no request and no expectation, or a file can't be read.
 /// It is 2 too, with a sentence on standard error and nothing else, for another word that begins with `--`, for both words, and for a page of several files. It
-/// fails if memory is refused, if the filters can't be made, or if a write fails.
+/// fails if memory is refused, if the filters can't be made, or if a write fails. The clause says nothing of which files are read, and what is in them.
 pub fn trial<R, I, F, E, W>(rt: &R, input: I, make: E, out: &mut W) -> io::Result<u8>
 where
     R: Env + Eprint + Files + AllocGlobal,
@@ -212,6 +269,7 @@ where
     E: Fn(Global) -> Result<Vec<(Name, F)>, Status>,
     W: Write,
     requires { E.IsAlwaysCallable make }
+    ensures { IfOk result (λ status. status ≡ 0 → (texts : List ScenarioText) × (0 < length texts) × All (PassesText F.Minifilter (λ filters. (alloc : _) × E.post make alloc (Ok filters))) texts) }
 {
     let alloc = rt.alloc();
     let words: Vec<String> = env::args(rt)?.skip(1).collect(alloc)?;
@@ -222,15 +280,7 @@ where
             return Ok(WRONG_FILE);
         }
     };
-    if files.is_empty() {
-        let text = io::read_to_string(alloc, input)?;
-        let filters = make(alloc).map_err(failed)?;
-        return run(alloc, format, None, filters, text.as_str(), out);
-    }
-    let mut worst = 0;
-    for file in &files {
-        let status = run_file(rt, format, file.as_str(), &make, out)?;
-        worst = worse(worst, status);
-    }
-    Ok(worst)
+    let texts = ScenarioText::all(rt, input, files)?;
+    let status = run_all(alloc, format, texts.as_slice(), &make, out)?;
+    Ok(status)
 }

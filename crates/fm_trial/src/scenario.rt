@@ -1,10 +1,10 @@
 //! A scenario under way.
 
-ghost use Rattle.std.specs.Prelude.{◌≡◌, ◌≤◌, ◌++◌, ◌∷◌, [], IfOk};
-ghost use Rattle.fm_local.specs.Offered.{ForgetsReport, leaks, refused_calls, steps};
+ghost use Rattle.std.specs.Prelude.{◌≡◌, ◌≤◌, ◌++◌, ◌&&◌, ◌∷◌, [], Some, None, IfOk, is_some};
+ghost use Rattle.fm_local.specs.Offered.{ForgetsReport, HasNoReport, dropped_count, leaks, refused_calls, steps};
 ghost use Rattle.fm_mistakes.specs.Accounts.{TellsAll, status_of};
 ghost use Rattle.fm_mistakes.specs.Findings.{findings};
-ghost use Rattle.fm_trial.specs.Scenarios.{AsksAs, EndsAs, IsFresh, IsMetAs, Keeps, LineExpects, RepliesTo, ReportsAs, TakesLine};
+ghost use Rattle.fm_trial.specs.Scenarios.{Asks, CountsUnmet, Ends, EndsAfter, EndsAs, Finishes, HandsOutAll, HandsOutNext, IsFresh, IsMetAs, Keeps, LineExpects, RepliesTo, Reports, Settles, TakesLine, held_by, held_without, is_refused, is_set_up};
 
 use crate::expectation::{Expectation, expected_words};
 use crate::line::ScenarioLine;
@@ -13,7 +13,7 @@ use crate::report::{
     TrialManager, holder_of, write_attached, write_finding, write_reply, write_told,
 };
 use crate::reporter::Reporter;
-use fm_base::{Base, MemoryBase};
+use fm_base::MemoryBase;
 use fm_core::Place;
 use fm_data::Reply;
 use fm_exec::LocalExec;
@@ -24,7 +24,7 @@ use fm_report::Summary;
 use fm_server::status_reply;
 use fm_types::limits::OPERATIONS;
 use fm_types::{CtxId, InstanceId, Name, OpId, Status, VolumeId};
-use fm_wire::Body;
+use fm_wire::{Body, Control};
 use std::alloc::{AllocError, Global};
 use std::fmt::Write;
 
@@ -45,6 +45,15 @@ pub(crate) struct Scenario<F> {
     held: Vec<OpId>,
     /// The last line that isn't empty.
     lines: usize,
+    /// The line of the last request, where that is a load or an attach that was refused and no line behind it expects anything.
+    refused: Option<SetUpLine>,
+}
+
+/// A line that asks for a load or an attach.
+#[derive(Drop)]
+struct SetUpLine {
+    number: usize,
+    text: String,
 }
 
 impl<F: Minifilter> Scenario<F> {
@@ -54,7 +63,7 @@ impl<F: Minifilter> Scenario<F> {
         filters: Vec<(Name, F)>,
         reporter: Reporter,
     ) -> Result<Scenario<F>, Status>
-        ensures { IfOk result (λ scenario. IsFresh scenario.account) }
+        ensures { IfOk result (IsFresh filters) }
     {
         let mut manager: TrialManager<F> = TrialManager::new(alloc, filters)?;
         manager.mount(Name::read(b"v0")?, MemoryBase::new(alloc))?;
@@ -67,12 +76,13 @@ impl<F: Minifilter> Scenario<F> {
             instances: 0,
             held: Vec::new(alloc),
             lines: 0,
+            refused: None,
         })
     }
 
     /// Appends what stands before the first line. Refused with 1, if memory is refused.
     pub(crate) fn begin(&mut self, file: Option<&str>, text: &mut String) -> Result<(), Status>
-        ensures { self.new.account ≡ self.old.account }
+        ensures { self.new ≡ record self.old { reporter = self.new.reporter } }
     {
         let volume = VolumeId(0);
         if let Some(name) = self.exec.manager().state().volume_name(volume) {
@@ -88,17 +98,24 @@ impl<F: Minifilter> Scenario<F> {
         line: &str,
         text: &mut String,
     ) -> Result<bool, Status>
-        ensures { IfOk result (λ known. TakesLine known self.old.account self.new.account) }
+        ensures { IfOk result (λ known. TakesLine F.Minifilter line.now known self.old self.new) }
     {
-        self.reporter.take_line(number, line)?;
-        if !line.is_empty() {
-            self.lines = number;
-        }
         match ScenarioLine::read(self.alloc, line)? {
-            ScenarioLine::Nothing => self.reporter.say_nothing(text, line)?,
-            ScenarioLine::Request(body) => self.ask(line, body, text)?,
-            ScenarioLine::Expect(expected) => self.expect(number, line, &expected, text)?,
+            ScenarioLine::Nothing => {
+                self.go_to(number, line)?;
+                self.reporter.say_nothing(text, line)?;
+            }
+            ScenarioLine::Request(body) => {
+                self.settle(text)?;
+                self.go_to(number, line)?;
+                self.ask(line, body, text)?;
+            }
+            ScenarioLine::Expect(expected) => {
+                self.go_to(number, line)?;
+                self.expect(number, line, &expected, text)?;
+            }
             ScenarioLine::Unknown => {
+                self.go_to(number, line)?;
                 self.reporter.say_unknown(text, number, line)?;
                 return Ok(false);
             }
@@ -106,10 +123,38 @@ impl<F: Minifilter> Scenario<F> {
         Ok(true)
     }
 
+    // A load or an attach that was refused is an expectation that isn't met, where no line behind it expects anything.
+    fn settle(&mut self, text: &mut String) -> Result<(), Status>
+        ensures { IfOk result (λ _. Settles self.old self.new) }
+    {
+        let Some(set_up) = self.refused.take() else {
+            return Ok(());
+        };
+        self.account.miss();
+        let answered = self.answered()?;
+        let line = (set_up.number, "it was refused, and no line expects that");
+        self.reporter
+            .take_line(set_up.number, set_up.text.as_str())?;
+        self.reporter
+            .say_expectation(text, line, "0", false, answered.as_str())?;
+        Ok(())
+    }
+
+    // Goes on to a line.
+    fn go_to(&mut self, number: usize, line: &str) -> Result<(), AllocError>
+        ensures { self.new ≡ record self.old { reporter = self.new.reporter; lines = self.new.lines } }
+    {
+        self.reporter.take_line(number, line)?;
+        if !line.is_empty() {
+            self.lines = number;
+        }
+        Ok(())
+    }
+
     // The reply to a request. What is none is answered 32.
     fn reply_to(&mut self, body: Body) -> Reply
-        ensures reply { RepliesTo F.Minifilter (⟦<MemoryBase as Base>⟧) body self.old.exec.manager result self.new.exec.manager }
-        ensures account { self.new.account ≡ self.old.account }
+        ensures reply { RepliesTo F.Minifilter body self.old.exec.manager result self.new.exec.manager }
+        ensures same { self.new ≡ record self.old { exec = self.new.exec } }
     {
         match body {
             Body::Operation(request) => self.exec.operate_by(request),
@@ -121,23 +166,57 @@ impl<F: Minifilter> Scenario<F> {
 
     // Makes a request.
     fn ask(&mut self, line: &str, body: Body, text: &mut String) -> Result<(), Status>
-        ensures { IfOk result (λ _. AsksAs self.old.account self.new.account) }
+        ensures { IfOk result (λ _. Asks F.Minifilter body self.old self.new) }
     {
         self.reporter.ask(text, line, &body)?;
         self.account.begin_request();
         let asked = LineRequest::of(&body);
+        let is_set_up = is_set_up(&body);
         let reply = self.reply_to(body);
         self.report(asked, &reply, text)?;
+        self.keep(is_set_up, line, reply)?;
+        self.take_finished(text)?;
+        Ok(())
+    }
+
+    // Keeps a reply for the lines that expect it, whether it refuses a set-up, and which operation it says is held.
+    fn keep(&mut self, is_set_up: bool, line: &str, reply: Reply) -> Result<(), AllocError>
+        ensures held { IfOk result (λ _. self.new.held.items ≡ self.old.held.items ++ held_by reply) }
+        ensures last { IfOk result (λ _. self.new.last ≡ Some reply) }
+        ensures refused { IfOk result (λ _. is_some self.new.refused ≡ (is_set_up && is_refused reply)) }
+        ensures same { self.new ≡ record self.old { held = self.new.held; last = self.new.last; refused = self.new.refused } }
+    {
         if let Reply::Held(operation) = &reply {
             self.held.push(*operation)?;
         }
+        self.refused = self.set_up_line(is_set_up && is_refused(&reply), line)?;
         self.last = Some(reply);
-        self.take_finished(text)
+        Ok(())
+    }
+
+    // The line, if it is one.
+    fn set_up_line(&self, is_one: bool, line: &str) -> Result<Option<SetUpLine>, AllocError>
+        ensures { IfOk result (λ kept. is_some kept ≡ is_one) }
+    {
+        if !is_one {
+            return Ok(None);
+        }
+        let mut text = String::new(self.alloc);
+        text.push_str(line)?;
+        Ok(Some(SetUpLine {
+            number: self.lines,
+            text,
+        }))
     }
 
     // Appends what callbacks did since the last request, which mistakes they made, and the reply.
     fn report(&mut self, asked: LineRequest, reply: &Reply, text: &mut String) -> Result<(), Status>
-        ensures { IfOk result (λ _. ReportsAs self.old.exec.manager self.old.account self.new.account) }
+        ensures reports { IfOk result (λ _. Reports self.old.exec.manager self.old.account self.new.account) }
+        ensures request { IfOk result (λ _. self.new.account.request ≡ self.old.account.request) }
+        ensures forgets { IfOk result (λ _. ForgetsReport self.old.exec.manager self.new.exec.manager) }
+        ensures none { IfOk result (λ _. HasNoReport self.new.exec.manager) }
+        ensures last { IfOk result (λ _. self.new.last ≡ self.old.last) }
+        ensures held { IfOk result (λ _. self.new.held ≡ self.old.held) }
     {
         self.reporter
             .say_steps(text, self.exec.manager(), asked, reply)?;
@@ -153,7 +232,10 @@ impl<F: Minifilter> Scenario<F> {
     // Forgets what was told of, and counts what couldn't be.
     fn forget_report(&mut self)
         ensures forgets { ForgetsReport self.old.exec.manager self.new.exec.manager }
+        ensures none { HasNoReport self.new.exec.manager }
         ensures kept { Keeps self.old.account self.new.account }
+        ensures dropped { dropped_count self.old.exec.manager ≤ self.new.account.dropped }
+        ensures same { self.new ≡ record self.old { exec = self.new.exec; account = self.new.account } }
     {
         let dropped = self.exec.manager().dropped();
         self.account.drop_more(dropped);
@@ -162,7 +244,7 @@ impl<F: Minifilter> Scenario<F> {
 
     // Appends the instances that were attached since the last request.
     fn tell_instances(&mut self, text: &mut String) -> Result<(), Status>
-        ensures { self.new.account ≡ self.old.account }
+        ensures { self.new ≡ record self.old { instances = self.new.instances } }
     {
         let manager = self.exec.manager();
         let instances = manager.state().instances();
@@ -178,7 +260,7 @@ impl<F: Minifilter> Scenario<F> {
     // Appends what is told of what the manager noted, and keeps it for the lines that expect it.
     fn tell_findings(&mut self, text: &mut String) -> Result<(), Status>
         ensures told { IfOk result (λ _. TellsAll (findings (steps self.old.exec.manager) (leaks self.old.exec.manager) (refused_calls self.old.exec.manager)) self.old.account self.new.account) }
-        ensures same { self.new.exec ≡ self.old.exec }
+        ensures same { self.new ≡ record self.old { reporter = self.new.reporter; account = self.new.account } }
     {
         let manager = self.exec.manager();
         let found = findings(self.alloc, manager)?;
@@ -195,7 +277,10 @@ impl<F: Minifilter> Scenario<F> {
 
     // Appends the replies of operations that were held and have ended. In lines the step by which each was handed out stands with the next request.
     fn take_finished(&mut self, text: &mut String) -> Result<(), Status>
-        ensures { IfOk result (λ _. Keeps self.old.account self.new.account) }
+        ensures kept { IfOk result (λ _. Keeps self.old.account self.new.account) }
+        ensures last { IfOk result (λ _. self.new.last ≡ self.old.last) }
+        ensures refused { IfOk result (λ _. self.new.refused ≡ self.old.refused) }
+        ensures finishes { IfOk result (λ _. Finishes self.old.exec.manager self.old.held.items self.new.exec.manager self.new.held.items) }
     {
         say_finished(&mut self.exec, &mut self.reporter, &mut self.held, text)?;
         if let Reporter::Objects(_) = self.reporter {
@@ -206,7 +291,8 @@ impl<F: Minifilter> Scenario<F> {
 
     // Whether the last request came to what is expected.
     fn is_met(&mut self, expected: &Expectation) -> bool
-        ensures { IsMetAs expected.now result self.old.account self.new.account }
+        ensures met { IsMetAs expected.now self.old.last result self.old.account self.new.account }
+        ensures same { self.new ≡ record self.old { account = self.new.account } }
     {
         match (expected, &self.last) {
             (Expectation::Told(wanted), Some(_)) => self.account.expect(*wanted),
@@ -223,8 +309,10 @@ impl<F: Minifilter> Scenario<F> {
         expected: &Expectation,
         text: &mut String,
     ) -> Result<(), Status>
-        ensures { IfOk result (λ _. LineExpects expected.now self.old.account self.new.account) }
+        ensures expects { IfOk result (λ _. LineExpects expected.now self.old.last self.old.account self.new.account) }
+        ensures same { self.new ≡ record self.old { account = self.new.account; refused = None } }
     {
+        self.refused = None;
         let is_met = self.is_met(expected);
         if !is_met {
             self.account.miss();
@@ -251,12 +339,26 @@ impl<F: Minifilter> Scenario<F> {
         Ok(text)
     }
 
-    /// The end: what is still held, open or alive is said, and what became of contexts. The exit status: 0; 5 if a mistake was told that no line expects, or if
-    /// something wasn't kept of which it could have been told; 1 if an expectation wasn't met. Refused with 1, if memory is refused.
-    pub(crate) fn end(&mut self, text: &mut String) -> Result<u8, Status>
-        ensures status { IfOk result (λ status. status ≡ status_of self.new.account) }
-        ensures held { IfOk result (λ _. EndsAs self.old.held.items self.old.account self.new.account) }
+    /// The end, where all lines said something, or behind one that says nothing. Refused with 1, if memory is refused.
+    pub(crate) fn finish(&mut self, is_known: bool, text: &mut String) -> Result<u8, Status>
+        ensures { IfOk result (EndsAfter is_known self.old) }
     {
+        if !is_known {
+            return self.break_off(text);
+        }
+        let status = self.end(text)?;
+        Ok(status)
+    }
+
+    // The end: what is still held, open or alive is said, and what became of contexts. The exit status: 0; 5 if a mistake was told that no line expects, or if
+    // something wasn't kept of which it could have been told; 1 if an expectation wasn't met. That a load or an attach is refused of which no line expects
+    // anything, and that nothing was asked, count as expectations that weren't met. Refused with 1, if memory is refused.
+    fn end(&mut self, text: &mut String) -> Result<u8, Status>
+        ensures status { IfOk result (λ status. status ≡ status_of self.new.account) }
+        ensures ends { IfOk result (λ _. Ends self.old self.new.account) }
+    {
+        self.settle(text)?;
+        self.check_asked(text)?;
         self.tell_held(text)?;
         let mut words = String::new(self.alloc);
         self.write_left(&mut words)?;
@@ -266,8 +368,8 @@ impl<F: Minifilter> Scenario<F> {
         Ok(status)
     }
 
-    /// The end behind a line that says nothing: its exit status, 2. In lines nothing is appended. Refused with 1, if memory is refused.
-    pub(crate) fn break_off(&mut self, text: &mut String) -> Result<u8, Status>
+    // The end behind a line that says nothing: its exit status, 2. In lines nothing is appended. Refused with 1, if memory is refused.
+    fn break_off(&mut self, text: &mut String) -> Result<u8, Status>
         ensures { IfOk result (λ status. status ≡ 2) }
     {
         if let Reporter::Objects(_) = self.reporter {
@@ -277,6 +379,21 @@ impl<F: Minifilter> Scenario<F> {
                 .end(text, &self.tally(WRONG_FILE), words.as_str())?;
         }
         Ok(WRONG_FILE)
+    }
+
+    // A scenario that asks for nothing tests nothing: that is an expectation that isn't met.
+    fn check_asked(&mut self, text: &mut String) -> Result<(), Status>
+        ensures asked { IfOk result (λ _. CountsUnmet (is_some self.old.last) self.old.account self.new.account) }
+        ensures same { self.new ≡ record self.old { account = self.new.account } }
+    {
+        if self.last.is_some() {
+            return Ok(());
+        }
+        self.account.miss();
+        let line = (self.lines, "there is no request up to here");
+        self.reporter
+            .say_expectation(text, line, "a request", false, "")?;
+        Ok(())
     }
 
     // Appends that operations are held. In objects each stands by itself, with who holds it.
@@ -372,19 +489,63 @@ fn say_findings<F: Minifilter>(
     Ok(())
 }
 
-// Appends the replies of operations that were held and have ended, of which nobody holds one any more. Fails if memory is refused.
+// Whether the requests behind it may test nothing without it: a load and an attach.
+fn is_set_up(body: &Body) -> bool
+    ensures { result ≡ is_set_up body.now }
+{
+    matches!(
+        body,
+        Body::Control(Control::Load { .. } | Control::Attach { .. })
+    )
+}
+
+// Whether the reply is a refusal.
+fn is_refused(reply: &Reply) -> bool
+    ensures { result ≡ is_refused reply.now }
+{
+    match reply {
+        Reply::Done { status, .. } => status.number() != 0,
+        Reply::Held(_) => false,
+    }
+}
+
+// One that is held no more goes from a list.
+fn let_go(held: &mut Vec<OpId>, operation: OpId)
+    ensures { held.new.items ≡ held_without operation held.old.items }
+{
+    held.retain(|other| *other != operation);
+}
+
+// Appends the reply of the first operation that was held and has ended, which nobody holds any more. Whether there was one. Fails if memory is refused.
+fn say_next_finished<F: Minifilter>(
+    exec: &mut LocalExec<F, MemoryBase>,
+    reporter: &mut Reporter,
+    held: &mut Vec<OpId>,
+    text: &mut String,
+) -> Result<bool, AllocError>
+    ensures { IfOk result (λ _. HandsOutNext exec.old.manager held.old.items exec.new.manager held.new.items) }
+{
+    let Some((operation, reply)) = exec.finished() else {
+        return Ok(false);
+    };
+    reporter.say_finished(text, operation, &reply)?;
+    let_go(held, operation);
+    Ok(true)
+}
+
+// Appends the replies of all of them. Fails if memory is refused.
 fn say_finished<F: Minifilter>(
     exec: &mut LocalExec<F, MemoryBase>,
     reporter: &mut Reporter,
     held: &mut Vec<OpId>,
     text: &mut String,
-) -> Result<(), AllocError> {
+) -> Result<(), AllocError>
+    ensures { IfOk result (λ _. HandsOutAll exec.old.manager held.old.items exec.new.manager held.new.items) }
+{
     for _ in 0..OPERATIONS {
-        let Some((operation, reply)) = exec.finished() else {
-            break;
-        };
-        reporter.say_finished(text, operation, &reply)?;
-        held.retain(|other| *other != operation);
+        if !say_next_finished(exec, reporter, held, text)? {
+            return Ok(());
+        }
     }
     Ok(())
 }

@@ -1,0 +1,22 @@
+use Rattle.std.proofs.Common.{◌≡◌, ◌∙◌, List, Option, ap, is_some, subst}
+use Rattle.fm_types.specs.declared.ids.OpId.{OpId}
+use Rattle.fm_data.specs.declared.request.Reply.{Reply}
+use Rattle.fm_trial.specs.declared.scenario.Scenario.{Scenario}
+use Rattle.fm_trial.specs.Scenarios.{CountsUnmet, EndsAs}
+use Rattle.fm_trial.proofs.scenario.Scenario.end.Goals as goal
+
+pub returns-clause-ends : goal.returns-clause-ends
+returns-clause-ends g c =
+    let old = c.args.self.now in
+    let settled = c.settle.new.self in
+    let asked = c.check_asked.new.self in
+    let end = c.tell_held.new.self in
+    let last : settled.last ≡ old.last = c.in_ok-settle.ensures.rest.last in
+    let held : asked.held.items ≡ old.held.items =
+    ap (λ (s : Scenario _). s.held.items) c.in_ok-check_asked.ensures.same ∙ ap (λ os. os.items) c.in_ok-settle.ensures.rest.held in record {
+      settled = settled.account;
+      asked = asked.account;
+      expected = c.in_ok-settle.ensures.unmet;
+      tested = subst (λ (said : Option Reply). CountsUnmet (is_some said) settled.account asked.account) last c.in_ok-check_asked.ensures.asked;
+      holds = subst (λ (os : List OpId). EndsAs os asked.account end.account) held c.in_ok-tell_held.ensures;
+    }

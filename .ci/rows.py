@@ -23,6 +23,7 @@ FIRST = {
     "fm_local": ["test_local"],
     "fm_samples": ["test_local", "test_worker"],
     "fm_script": ["test_script", "examples"],
+    "fm_trial": ["test_trial"],
     "fm_cli": ["test_server", "test_front"],
     "fm_worker": ["test_worker", "test_front"],
     "fm_world": ["test_core", "test_local"],
@@ -55,6 +56,11 @@ def apply(edit, folder):
             path.write_text(text.replace(old, line[5:]))
 
 
+def read_or(path, other):
+    """What a file has, or another text where there is none."""
+    return path.read_text() if path.exists() else other
+
+
 def runs_well(copy, crate):
     """Whether the crate's tests, or its program, come out as they should, and what is said if they can't be built."""
     if is_tested(crate):
@@ -63,8 +69,11 @@ def runs_well(copy, crate):
         if "run=none" in said:
             raise ValueError(said)
         return ran.returncode == 0
-    ran = subprocess.run(["rt", "try"], cwd=copy / "crates" / crate, capture_output=True, text=True)
-    return ran.returncode == 0 and ran.stdout == (TOP / "crates" / crate / "stdout").read_text()
+    folder = TOP / "crates" / crate
+    words = read_or(folder / "args", "").split()
+    data = [word for path in sorted(folder.glob("data/*")) for word in ("--data", f"{path.name}={path}")]
+    ran = subprocess.run(["rt", "try", *data, "--", *words], cwd=copy / "crates" / crate, capture_output=True, text=True)
+    return ran.returncode == int(read_or(folder / "status", "0")) and ran.stdout == read_or(folder / "stdout", "")
 
 
 def shown_by(edit, crate):

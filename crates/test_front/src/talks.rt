@@ -204,13 +204,14 @@ where
     is_well
 }
 
-// A dismount begins beside the read that is left, and then the server is stopped.
+// A dismount begins beside the read that is left, and then the server is stopped. All other places are taken: where one more client is answered, the one that
+// left the read is gone, and its close isn't in the way of the dismount.
 fn begun<R>(rt: &R, alloc: Global, at: &Front) -> Option<bool>
 where
     R: Net<Listener = TcpListener, Stream = TcpStream> + Clock,
 {
+    let streams = connect(rt, alloc, at, 31)?;
     let is_well = leave_read(rt, alloc, at)?;
-    let streams = connect(rt, alloc, at, 1)?;
     Some(follow(alloc, streams.as_slice(), &BEGINS) && is_well)
 }
 

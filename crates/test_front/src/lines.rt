@@ -8,7 +8,7 @@ use std::thread;
 use std::time::{Clock, Duration};
 
 /// How often the client looks whether the server is there, a millisecond apart.
-const LOOKS: u32 = 20_000;
+pub const LOOKS: u32 = 20_000;
 
 /// The words of a request, its exit status, and what the client prints.
 pub type Line = (&'static [&'static str], u8, &'static str);

@@ -1,17 +1,17 @@
 //! What clients do with a server until it ends.
 
 use crate::abandoned::abandoned;
-use crate::lines::{DONE, Line, ask, ask_all, comes, wait_for_server};
+use crate::lines::{DONE, LOOKS, Line, ask, ask_all, comes, wait_for_server};
 use crate::peer::{exchange, follow, is_done, send, take};
 use crate::steps::{BEGINS, CLOSES, ENDS, HOLDS, OWN, REFUSED, SHARES, WRITES};
 use fm_cli::Front;
 use std::alloc::{AllocError, Global};
-use std::fs;
 use std::io::{Read, Write};
 use std::net::{Net, Shutdown, TcpListener, TcpStream};
 use std::os::unix::net::UnixStream;
 use std::rt::Files;
 use std::time::{Clock, Duration};
+use std::{fs, thread};
 
 /// How many milliseconds a reply is waited for that may not come, and how often a file is flushed then.
 const PATIENCE: u64 = 30;
@@ -47,14 +47,29 @@ pub enum Talk {
     Abandoned(&'static [&'static str]),
 }
 
+// A connection that the server has taken: it is tried until it is answered, since one that has just ended may still count.
+fn taken<R>(rt: &R, alloc: Global, at: &Front) -> Option<UnixStream>
+where
+    R: Net<Listener = TcpListener, Stream = TcpStream> + Clock,
+{
+    for _ in 0..LOOKS {
+        let stream = UnixStream::connect(rt, at.socket).ok()?;
+        if exchange(alloc, &stream, &["list", "0"]).is_some() {
+            return Some(stream);
+        }
+        thread::sleep(rt, Duration::from_millis(1));
+    }
+    None
+}
+
 // So many connections.
 fn connect<R>(rt: &R, alloc: Global, at: &Front, count: usize) -> Option<Vec<UnixStream>>
 where
-    R: Net<Listener = TcpListener, Stream = TcpStream>,
+    R: Net<Listener = TcpListener, Stream = TcpStream> + Clock,
 {
     let mut streams = Vec::new(alloc);
     for _ in 0..count {
-        streams.push(UnixStream::connect(rt, at.socket).ok()?).ok()?;
+        streams.push(taken(rt, alloc, at)?).ok()?;
     }
     Some(streams)
 }
@@ -129,7 +144,7 @@ where
 // Two connections ask for all that there is, and the host's file has the bytes that the filter makes of theirs.
 fn pair<R>(rt: &R, alloc: Global, at: &Front) -> Option<bool>
 where
-    R: Files + AllocGlobal + Net<Listener = TcpListener, Stream = TcpStream>,
+    R: Files + AllocGlobal + Net<Listener = TcpListener, Stream = TcpStream> + Clock,
 {
     let streams = connect(rt, alloc, at, 2)?;
     let streams = streams.as_slice();
@@ -147,7 +162,7 @@ where
 // One connection is refused what another has.
 fn refused<R>(rt: &R, alloc: Global, at: &Front) -> Option<bool>
 where
-    R: Net<Listener = TcpListener, Stream = TcpStream>,
+    R: Net<Listener = TcpListener, Stream = TcpStream> + Clock,
 {
     let streams = connect(rt, alloc, at, 2)?;
     Some(follow(alloc, streams.as_slice(), &REFUSED))
@@ -156,7 +171,7 @@ where
 // One connection meets the server's own filter.
 fn own<R>(rt: &R, alloc: Global, at: &Front) -> Option<bool>
 where
-    R: Net<Listener = TcpListener, Stream = TcpStream>,
+    R: Net<Listener = TcpListener, Stream = TcpStream> + Clock,
 {
     let streams = connect(rt, alloc, at, 1)?;
     Some(follow(alloc, streams.as_slice(), &OWN))
@@ -165,7 +180,7 @@ where
 // A dismount closes a handle: its file stays, though it was to go with it.
 fn dismounted<R>(rt: &R, alloc: Global, at: &Front) -> Option<bool>
 where
-    R: Files + AllocGlobal + Net<Listener = TcpListener, Stream = TcpStream>,
+    R: Files + AllocGlobal + Net<Listener = TcpListener, Stream = TcpStream> + Clock,
 {
     let streams = connect(rt, alloc, at, 2)?;
     Some(follow(alloc, streams.as_slice(), &CLOSES) && has_bytes(rt, alloc, at, "x", b"a"))
@@ -218,7 +233,7 @@ where
 // A read that a filter holds has no answer, until another connection flushes another file.
 fn waits<R>(rt: &R, alloc: Global, at: &Front) -> Option<bool>
 where
-    R: Net<Listener = TcpListener, Stream = TcpStream>,
+    R: Net<Listener = TcpListener, Stream = TcpStream> + Clock,
 {
     let streams = connect(rt, alloc, at, 2)?;
     let (reader, other) = (streams.first()?, streams.get(1)?);

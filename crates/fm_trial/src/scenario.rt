@@ -133,8 +133,7 @@ impl<F: Minifilter> Scenario<F> {
         self.account.miss();
         let answered = self.answered()?;
         let line = (set_up.number, "it was refused, and no line expects that");
-        self.reporter
-            .take_line(set_up.number, set_up.text.as_str())?;
+        self.reporter.take_line(self.lines, set_up.text.as_str())?;
         self.reporter
             .say_expectation(text, line, "0", false, answered.as_str())?;
         Ok(())

@@ -47,6 +47,9 @@ unload 0
 read what
 """.encode()
 
+# What a trial can't do without: where it is refused and no line expects that, it counts as unmet.
+SET_UPS = ("load", "attach")
+
 # The word of a step in a trial's lines, for each event that tells one.
 STEPS = {"Pre": "pre", "Base": "base", "Post": "post", "PostHeld": "post", "Drained": "drain", "Replied": "reply"}
 
@@ -153,6 +156,13 @@ def script_faults(all_told, events, script):
     return faults
 
 
+def line_of(told, texts):
+    """The line that an object of a trial is of. A set-up that was refused is told as unmet before the next request, so remarks may stand between."""
+    if told["event"] != "Unmet" or not told["command"].startswith(SET_UPS):
+        return told["line"]
+    return max(number for number, text in enumerate(texts, 1) if number <= told["line"] and text.split()[:1] and text.split()[0] in SET_UPS)
+
+
 def trial_faults(program, all_told, scenario):
     """What is wrong with a trial as a whole: whether its lines say the same."""
     faults = frame_faults(all_told)
@@ -166,7 +176,8 @@ def trial_faults(program, all_told, scenario):
     if told_lines != [told["words"] for told in all_told if told["event"] == "Told" and told["id"] != "KZ0111"]:
         faults.append("its lines tell something else")
     unmet = [int(line.split()[1]) for line in lines if re.match(r"line [0-9]+ failed", line)]
-    if unmet != [told["line"] for told in all_told if told["event"] == "Unmet"]:
+    texts = scenario.read_text().split("\n")
+    if unmet != [line_of(told, texts) for told in all_told if told["event"] == "Unmet"]:
         faults.append("its lines have other expectations that weren't met")
     heads = {"mistake": "TOLD", "limit": "LIMIT"}
     if any(told["words"].split()[:2] != [heads[told["telling"]], told["id"]] for told in all_told if told["event"] == "Told"):
@@ -180,10 +191,11 @@ def line_faults(all_told, scenario):
     """Whether each line of a scenario has the objects of its kind."""
     faults = []
     wanted = {"#": {"Comment"}, "expect": {"Met", "Unmet"}}
-    for number, line in enumerate(scenario.read_text().split("\n"), 1):
+    texts = scenario.read_text().split("\n")
+    for number, line in enumerate(texts, 1):
         words = line.split()
         kind = "" if not words else "#" if words[0].startswith("#") else words[0]
-        here = {told["event"] for told in all_told if told["line"] == number} - {"Told", "End"}
+        here = {told["event"] for told in all_told if line_of(told, texts) == number} - {"Told", "End"}
         right = wanted.get(kind)
         if (not words and here) or (right and (len(here) != 1 or not here <= right)) or (words and not right and not here):
             faults.append(f"line {number} has the objects {sorted(here)}")

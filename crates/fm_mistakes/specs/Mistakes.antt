@@ -63,7 +63,8 @@ id_of told.FixedAnswer = codes "KZ0223"
 
 abbrev pub all_mistakes : List Mistake
 all_mistakes =
-    told.Leak ∷ told.ReleasedTwice ∷ told.NotReferenced ∷ told.SetNotReferenced ∷ told.HeldToTheEnd ∷ told.NotHeld ∷ told.NoPost ∷ told.StatusNotCompleted ∷ told.CreateCompleted ∷ told.CloseCompleted ∷ told.FixedAnswer ∷ []
+    told.Leak ∷ told.ReleasedTwice ∷ told.NotReferenced ∷ told.SetNotReferenced ∷ told.HeldToTheEnd ∷ told.NotHeld ∷ told.NoPost
+    ∷ told.StatusNotCompleted ∷ told.CreateCompleted ∷ told.CloseCompleted ∷ told.FixedAnswer ∷ []
 
 -- the mistake that is told so
 unfoldable pub mistake_read : List ℕ → Option Mistake

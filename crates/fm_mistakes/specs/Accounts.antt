@@ -1,12 +1,12 @@
 -- What was told of a scenario, and what of it was expected.
-use Rattle.std.specs.Prelude.{◌≡◌, ℕ, List, Bool, true, false, nat_eq, nat_lt, not, ◌&&◌, ◌||◌, ◌++◌, cond, count_by, map, position, MatchOption}
+use Rattle.std.specs.Prelude.{◌≡◌, ◌+◌, ◌-◌, ◌^◌, ℕ, List, Bool, true, false, nat_eq, nat_lt, min, not, ◌&&◌, ◌||◌, ◌++◌, cond, count_by, map, position, MatchOption}
 use Rattle.fm_types.specs.Lists.{updated}
 use Rattle.fm_mistakes.specs.declared.mistake.Mistake.{Mistake}
 use Rattle.fm_mistakes.specs.declared.account.ToldMistake.{ToldMistake}
 use Rattle.fm_mistakes.specs.declared.account.Account.{Account}
 use Rattle.fm_mistakes.specs.declared.finding.Finding.{Finding}
 use Rattle.fm_mistakes.specs.Findings.{mistake_in}
-use Rattle.fm_mistakes.specs.Mistakes.{is_limit, is_misuse, number_of}
+use Rattle.fm_mistakes.specs.Mistakes.{is_leak, is_limit, is_misuse, number_of}
 
 -- told just now, and not expected yet
 abbrev pub told_now : Mistake → ℕ → ToldMistake
@@ -18,6 +18,17 @@ counts_as_mistake told = not told.is_expected && not (is_limit told.mistake)
 
 abbrev pub is_told_misuse : ToldMistake → Bool
 is_told_misuse told = is_misuse told.mistake
+
+abbrev pub is_told_leak : ToldMistake → Bool
+is_told_leak told = is_leak told.mistake
+
+-- how many references that callbacks left behind were told
+abbrev pub told_leaks : Account → ℕ
+told_leaks a = count_by is_told_leak a.told.items
+
+-- the number of the next request, as far as 64 bits tell
+abbrev pub next_request : ℕ → ℕ
+next_request request = min (request + 1) (2 ^ 64 - 1)
 
 -- that mistake of that request, which no line expects yet
 abbrev pub is_open : Mistake → ℕ → ToldMistake → Bool

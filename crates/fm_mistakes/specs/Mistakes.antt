@@ -27,6 +27,11 @@ is_limit told.CloseCompleted = true
 is_limit told.FixedAnswer = true
 is_limit _ = false
 
+-- a reference that a callback left behind
+abbrev pub is_leak : Mistake → Bool
+is_leak told.Leak = true
+is_leak _ = false
+
 -- where something was given back, or let go on, that isn't held
 abbrev pub is_misuse : Mistake → Bool
 is_misuse told.ReleasedTwice = true

@@ -1,7 +1,7 @@
 //! What was told of a scenario so far, what of it was expected, and how the scenario ends.
 
 ghost use Rattle.std.specs.Prelude.{◌≡◌, ◌≤◌, ◌<◌, ◌++◌, ◌∷◌, [], IfOk, OnErr, OnOk, count_by, position};
-ghost use Rattle.fm_mistakes.specs.Accounts.{Expects, TellsAll, counts_as_mistake, is_open, is_told_misuse, status_of, tellings, told_now};
+ghost use Rattle.fm_mistakes.specs.Accounts.{Expects, TellsAll, counts_as_mistake, is_open, is_told_leak, is_told_misuse, next_request, status_of, tellings, told_leaks, told_now};
 
 use crate::finding::Finding;
 use crate::mistake::Mistake;
@@ -31,6 +31,13 @@ impl ToldMistake {
         ensures { result ≡ is_told_misuse self.now }
     {
         self.mistake.is_misuse()
+    }
+
+    // Whether it is a reference that a callback left behind.
+    fn is_leak(&self) -> bool
+        ensures { result ≡ is_told_leak self.now }
+    {
+        self.mistake.is_leak()
     }
 
     // Whether it is that mistake, told of that request, and no line expects it yet.
@@ -84,8 +91,7 @@ impl Account {
 
     /// Another request is made: what was told before it isn't expected by the lines that follow.
     pub fn begin_request(&mut self)
-        ensures same { self.new ≡ record self.old { request = self.new.request } }
-        ensures later { self.old.request ≤ self.new.request }
+        ensures { self.new ≡ record self.old { request = next_request self.old.request } }
     {
         self.request = self.request.saturating_add(1);
     }
@@ -175,6 +181,13 @@ impl Account {
         ensures { result ≡ count_by is_told_misuse self.now.told.items }
     {
         self.told.iter().filter(|told| told.is_misuse()).count()
+    }
+
+    /// How many references that callbacks left behind were told.
+    pub fn leaks(&self) -> usize
+        ensures { result ≡ told_leaks self.now }
+    {
+        self.told.iter().filter(|told| told.is_leak()).count()
     }
 
     /// How many expectations weren't met.

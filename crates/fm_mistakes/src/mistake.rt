@@ -1,7 +1,7 @@
 //! Mistakes of filters, by the numbers under which the host for drivers in C tells them.
 
 ghost use Rattle.std.specs.Prelude.{◌≡◌, bytes_eq, find};
-ghost use Rattle.fm_mistakes.specs.Mistakes.{id_of, is_limit, is_misuse, is_same_status, mistake_of, mistake_read, number_of, post_mistake, pre_mistake, unless};
+ghost use Rattle.fm_mistakes.specs.Mistakes.{id_of, is_leak, is_limit, is_misuse, is_same_status, mistake_of, mistake_read, number_of, post_mistake, pre_mistake, unless};
 
 use fm_core::PreState;
 use fm_data::PreVerdict;
@@ -105,6 +105,13 @@ impl Mistake {
             self,
             Mistake::CreateCompleted | Mistake::CloseCompleted | Mistake::FixedAnswer
         )
+    }
+
+    /// Whether it is a reference that a callback left behind.
+    pub fn is_leak(self) -> bool
+        ensures { result ≡ is_leak self }
+    {
+        matches!(self, Mistake::Leak)
     }
 
     /// Whether something was given back or let go on that isn't held.

@@ -1,5 +1,5 @@
 -- What lines count and tell.
-use Rattle.std.proofs.Common.{◌≡◌, ◌∙◌, ◌++◌, ◌<◌, Bool, true, false, ap, subst, sym, arith}
+use Rattle.std.proofs.Common.{◌≡◌, ◌∙◌, ◌++◌, ◌<◌, Bool, ℕ, true, false, ap, subst, sym, arith}
 use Rattle.fm_local.specs.declared.parts.Parts.{Parts}
 use Rattle.fm_local.specs.Offered.{leaks, refused_calls, steps}
 use Rattle.fm_mistakes.specs.declared.account.Account.{Account}
@@ -17,8 +17,8 @@ counts_met met between new is same = subst (λ b. CountsUnmet b between new) (sy
 
 module _ {F B : Type 0} (noted : Parts F B) where
   -- what is told after a request began is told after what was told before it
-  pub begins : (old began new : Account) → began ≡ record old { request = began.request } → Reports noted began new → Reports noted old new
-  begins old began new same reports =
+  pub begins : (old began new : Account) (n : ℕ) → began ≡ record old { request = n } → Reports noted began new → Reports noted old new
+  begins old began new n same reports =
       let told = ap (λ (a : Account). a.told.items) same in
       let unmet = ap (λ (a : Account). a.unmet) same in
       let dropped = ap (λ (a : Account). a.dropped) same in record {

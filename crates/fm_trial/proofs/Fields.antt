@@ -1,6 +1,11 @@
 -- What stays of a scenario where other fields change.
-use Rattle.std.proofs.Common.{◌≡◌, ◌∙◌, List, None, ℕ, ap}
+use Rattle.std.proofs.Common.{◌≡◌, ◌∙◌, List, None, Ok, ℕ, ap, codes, subst, sym}
 use Rattle.std.specs.Global.{Vec}
+use Rattle.fm_types.specs.declared.ids.VolumeId.{VolumeId}
+use Rattle.fm_world.specs.Events.{Mounts}
+use Rattle.fm_world.specs.World.{empty_world}
+use Rattle.fm_local.specs.declared.parts.Parts.{Parts}
+use Rattle.fm_local.specs.Offered.{ForgetsReport, HasNoReport, IsNew, MountsAs, SameFilters, world}
 use Rattle.fm_trial.specs.declared.scenario.Scenario.{Scenario}
 use Rattle.fm_trial.specs.Scenarios.{AsksNothing, IsFresh, Settles}
 
@@ -37,6 +42,8 @@ module _ {F : Type 0} where
   pub begins : (filters : Vec (List ℕ × F)) (old new : Scenario F) → new ≡ record old { reporter = new.reporter } → IsFresh filters old → IsFresh filters new
   begins filters old new same fresh = record {
     handed = ap (λ (s : Scenario F). s.exec.manager.filters.all) same ∙ fresh.handed;
+    mounted = subst (λ (s : Scenario F). (volume : VolumeId) × Mounts empty_world (codes "v0") (Ok volume) (world s.exec.manager)) (sym same) fresh.mounted;
+    unnoted = subst (λ (s : Scenario F). HasNoReport s.exec.manager) (sym same) fresh.unnoted;
     last = ap (λ (s : Scenario F). s.last) same ∙ fresh.last;
     refused = ap (λ (s : Scenario F). s.refused) same ∙ fresh.refused;
     held = ap (λ (s : Scenario F). s.held.items) same ∙ fresh.held;
@@ -44,3 +51,16 @@ module _ {F : Type 0} where
     unmet = ap (λ (s : Scenario F). s.account.unmet) same ∙ fresh.unmet;
     dropped = ap (λ (s : Scenario F). s.account.dropped) same ∙ fresh.dropped;
   }
+
+module _ {F B : Type 0} where
+  -- a manager that was made, got its volume, and was cleared
+  pub is_mounted : (filters : Vec (List ℕ × F)) (made mounted cleared : Parts F B) (name : List ℕ) (volume : VolumeId) → IsNew filters made → name ≡ codes "v0"
+      → MountsAs name made (Ok volume) mounted → ForgetsReport mounted cleared → Mounts empty_world (codes "v0") (Ok volume) (world cleared)
+  is_mounted filters made mounted cleared name volume new is event forgets =
+      subst (λ w. Mounts empty_world (codes "v0") (Ok volume) w) (sym (ap world forgets))
+      (subst (λ n. Mounts empty_world n (Ok volume) (world mounted)) is (subst (λ w. Mounts w name (Ok volume) (world mounted)) new.state event))
+
+  pub has_handed : (filters : Vec (List ℕ × F)) (made mounted cleared : Parts F B) → IsNew filters made → SameFilters made mounted → ForgetsReport mounted cleared
+      → cleared.filters.all ≡ filters
+  has_handed filters made mounted cleared new same forgets =
+      ap (λ (m : Parts F B). m.filters.all) forgets ∙ ap (λ f. f.all) same ∙ new.handed

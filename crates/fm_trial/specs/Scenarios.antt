@@ -1,7 +1,8 @@
 -- What the lines of a scenario make of it: what its manager answers, what is told of that, and what of it is expected.
-use Rattle.std.specs.Prelude.{◌≡◌, ◌⊎◌, ◌≤◌, ◌<◌, ◌++◌, ◌∷◌, [], ℕ, zero, suc, List, Bool, true, false, Option, Some, None, filter, is_none, is_some, nat_eq, not, ◌&&◌}
+use Rattle.std.specs.Prelude.{◌≡◌, ◌⊎◌, ◌≤◌, ◌<◌, ◌++◌, ◌∷◌, [], ℕ, zero, suc, List, Bool, true, false, Ok, Option, Some, None, codes, filter, is_none, is_some, nat_eq, not, ◌&&◌}
 use Rattle.std.specs.Global.{Vec}
 use Rattle.fm_types.specs.declared.ids.OpId.{OpId}
+use Rattle.fm_types.specs.declared.ids.VolumeId.{VolumeId}
 use Rattle.fm_types.specs.declared.status.Status.TheVariants.{BadRequest}
 use Rattle.fm_types.specs.Statuses.{number_of}
 use Rattle.fm_data.specs.declared.request.Reply.{Reply}
@@ -15,10 +16,12 @@ use Rattle.fm_base.specs.Folders.{Folder}
 use Rattle.fm_exec.specs.Locals.{Answers, AnswersControl}
 use Rattle.fm_exec.specs.Said.{status_reply}
 use Rattle.fm_local.specs.declared.parts.Parts.{Parts}
-use Rattle.fm_local.specs.Offered.{ForgetsReport, HandsOutFirst, HasNoReport, SameAround, dropped_count, leaks, refused_calls, steps}
+use Rattle.fm_local.specs.Offered.{ForgetsReport, HandsOutFirst, HasNoReport, SameAround, dropped_count, leaks, refused_calls, steps, world}
+use Rattle.fm_world.specs.Events.{Mounts}
+use Rattle.fm_world.specs.World.{empty_world}
 use Rattle.fm_mistakes.specs.declared.account.Account.{Account}
 use Rattle.fm_mistakes.specs.declared.mistake.Mistake.TheVariants as told
-use Rattle.fm_mistakes.specs.Accounts.{Expects, status_of, told_now, tellings}
+use Rattle.fm_mistakes.specs.Accounts.{Expects, next_request, status_of, told_leaks, told_now, tellings}
 use Rattle.fm_mistakes.specs.Findings.{findings}
 use Rattle.fm_trial.specs.declared.expectation.Expectation.{Expectation}
 use Rattle.fm_trial.specs.declared.expectation.Expectation.TheVariants as expectation
@@ -53,6 +56,11 @@ IsMetAs expected (Some said) met old new = (met ≡ reply_meets expected said) �
 abbrev pub CountsUnmet : Bool → Account → Account → Type 0
 CountsUnmet true old new = new ≡ old
 CountsUnmet false old new = (new ≡ record old { unmet = new.unmet }) × (0 < new.unmet)
+
+-- what wasn't told, though it could have been: that isn't so, or it is counted
+abbrev pub CountsDropped : Bool → Account → Account → Type 0
+CountsDropped true old new = new ≡ old
+CountsDropped false old new = (new ≡ record old { dropped = new.dropped }) × (0 < new.dropped)
 
 abbrev pub LineExpects : Expectation → Option Reply → Account → Account → Type 0
 LineExpects expected last old new = (met : Bool) × (between : Account) × IsMetAs expected last met old between × CountsUnmet met between new
@@ -124,9 +132,11 @@ is_known line.Unknown = false
 is_known _ = true
 
 module _ {F : Type 0} where
-  -- a manager of these filters, which was asked nothing; nothing was told or expected yet
+  -- a manager of these filters, none of which is loaded, with one volume, which was asked nothing and noted nothing; nothing was told or expected yet
   pub record IsFresh (filters : Vec (List ℕ × F)) (s : Scenario F) : Type 0 where
     pub handed : s.exec.manager.filters.all ≡ filters
+    pub mounted : (volume : VolumeId) × Mounts empty_world (codes "v0") (Ok volume) (world s.exec.manager)
+    pub unnoted : HasNoReport s.exec.manager
     pub last : s.last ≡ None
     pub refused : s.refused ≡ None
     pub held : s.held.items ≡ []
@@ -146,13 +156,19 @@ module _ {F : Type 0} where
     pub refused : new.refused ≡ None
     pub rest : AsksNothing old new
 
-  -- the end: a set-up that was refused is counted, and so is that nothing was asked, and that operations are held is told
+  -- whether as many references that callbacks left behind were told as the world counts
+  abbrev pub tells_leaks : Scenario F → Account → Bool
+  tells_leaks s told = nat_eq (told_leaks told) (world s.exec.manager).contexts.leaks
+
+  -- the end: a set-up that was refused is counted, and so is that nothing was asked, and that a reference wasn't told; that operations are held is told
   pub record Ends (old : Scenario F) (end : Account) : Type 0 where
     pub settled : Account
     pub asked : Account
+    pub counted : Account
     pub expected : CountsUnmet (is_none old.refused) old.account settled
     pub tested : CountsUnmet (is_some old.last) settled asked
-    pub holds : EndsAs old.held.items asked end
+    pub left : CountsDropped (tells_leaks old asked) asked counted
+    pub holds : EndsAs old.held.items counted end
 
   -- its exit status where all lines said something, and behind one that says nothing
   abbrev pub EndsAfter : Bool → Scenario F → ℕ → Type 0
@@ -173,7 +189,7 @@ module _ {F : Type 0} (f : filter.Ghosts F) where
     pub answered : Parts F Folder
     pub replies : RepliesTo asked old.exec.manager said answered
     pub reports : Reports answered old.account new.account
-    pub request : old.account.request ≤ new.account.request
+    pub request : new.account.request ≡ next_request old.account.request
     pub last : new.last ≡ Some said
     pub refused : is_some new.refused ≡ (is_set_up asked && is_refused said)
     pub goes_on : GoesOn answered (old.held.items ++ held_by said) new.exec.manager new.held.items

@@ -3,7 +3,9 @@ use Rattle.std.specs.Prelude.{◌≡◌, ℕ, List, Ok, string_bytes, ◌||◌, 
 use Rattle.std.specs.Global.{Vec}
 use Rattle.fm_filter.specs.declared.minifilter.Minifilter as filter
 use Rattle.fm_mistakes.specs.declared.account.Account.{Account}
-use Rattle.fm_mistakes.specs.Accounts.{counts_as_mistake}
+use Rattle.fm_local.specs.Offered.{world}
+use Rattle.fm_mistakes.specs.Accounts.{counts_as_mistake, told_leaks}
+use Rattle.fm_trial.specs.declared.scenario.Scenario.{Scenario}
 use Rattle.fm_trial.specs.declared.scenario_text.ScenarioText.{ScenarioText}
 use Rattle.fm_trial.specs.Scenarios.{IsWhole}
 
@@ -17,10 +19,14 @@ pub record IsWell (a : Account) : Type 0 where
   pub met : a.unmet ≡ 0
   pub kept : a.dropped ≡ 0
 
+-- each reference that a callback left behind was told, as many as the world counts, so that a line of its own expected it
+abbrev pub TellsLeaks : {F : Type 0} → Scenario F → Account → Type 0
+TellsLeaks last end = told_leaks end ≡ (world last.exec.manager).contexts.leaks
+
 module _ {F : Type 0} (f : filter.Ghosts F) where
   -- a scenario of that text over these filters, each line of which says something, and that came to no trouble
   abbrev pub Passes : Vec (List ℕ × F) → List ℕ → Type 0
-  Passes filters text = (end : Account) × IsWhole f filters text end × IsWell end
+  Passes filters text = (end : Account) × (whole : IsWhole f filters text end) × IsWell end × TellsLeaks whole.last end
 
   -- a scenario whose text was read, over filters that may be made
   abbrev pub PassesText : (Vec (List ℕ × F) → Type 0) → ScenarioText → Type 0

@@ -4,7 +4,7 @@ ghost use Rattle.std.specs.Prelude.{◌≡◌, ◌≤◌, ◌++◌, ◌&&◌, �
 ghost use Rattle.fm_local.specs.Offered.{ForgetsReport, HasNoReport, dropped_count, leaks, refused_calls, steps};
 ghost use Rattle.fm_mistakes.specs.Accounts.{TellsAll, status_of};
 ghost use Rattle.fm_mistakes.specs.Findings.{findings};
-ghost use Rattle.fm_trial.specs.Scenarios.{Asks, CountsUnmet, Ends, EndsAfter, EndsAs, Finishes, HandsOutAll, HandsOutNext, IsFresh, IsMetAs, Keeps, LineExpects, RepliesTo, Reports, Settles, TakesLine, held_by, held_without, is_refused, is_set_up};
+ghost use Rattle.fm_trial.specs.Scenarios.{Asks, CountsDropped, CountsUnmet, Ends, EndsAfter, EndsAs, Finishes, HandsOutAll, HandsOutNext, IsFresh, IsMetAs, Keeps, LineExpects, RepliesTo, Reports, Settles, TakesLine, held_by, held_without, is_refused, is_set_up, tells_leaks};
 
 use crate::expectation::{Expectation, expected_words};
 use crate::line::ScenarioLine;
@@ -67,6 +67,7 @@ impl<F: Minifilter> Scenario<F> {
     {
         let mut manager: TrialManager<F> = TrialManager::new(alloc, filters)?;
         manager.mount(Name::read(b"v0")?, MemoryBase::new(alloc))?;
+        manager.forget_report();
         Ok(Scenario {
             alloc,
             exec: LocalExec::new(alloc, manager),
@@ -358,6 +359,7 @@ impl<F: Minifilter> Scenario<F> {
     {
         self.settle(text)?;
         self.check_asked(text)?;
+        self.check_leaks();
         self.tell_held(text)?;
         let mut words = String::new(self.alloc);
         self.write_left(&mut words)?;
@@ -383,16 +385,27 @@ impl<F: Minifilter> Scenario<F> {
     // A scenario that asks for nothing tests nothing: that is an expectation that isn't met.
     fn check_asked(&mut self, text: &mut String) -> Result<(), Status>
         ensures asked { IfOk result (λ _. CountsUnmet (is_some self.old.last) self.old.account self.new.account) }
-        ensures same { self.new ≡ record self.old { account = self.new.account } }
+        ensures same { self.new ≡ record self.old { account = self.new.account; reporter = self.new.reporter } }
     {
         if self.last.is_some() {
             return Ok(());
         }
         self.account.miss();
         let line = (self.lines, "there is no request up to here");
+        self.reporter.take_line(self.lines, "")?;
         self.reporter
             .say_expectation(text, line, "a request", false, "")?;
         Ok(())
+    }
+
+    // As many references that callbacks left behind were told as the manager's state counts: else something wasn't kept.
+    fn check_leaks(&mut self)
+        ensures left { CountsDropped (tells_leaks self.old self.old.account) self.old.account self.new.account }
+        ensures same { self.new ≡ record self.old { account = self.new.account } }
+    {
+        if self.account.leaks() as u64 != self.exec.manager().state().leaks() {
+            self.account.drop_more(1);
+        }
     }
 
     // Appends that operations are held. In objects each stands by itself, with who holds it.

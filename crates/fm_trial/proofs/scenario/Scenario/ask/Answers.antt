@@ -1,4 +1,4 @@
-use Rattle.std.proofs.Common.{◌≡◌, ◌∙◌, ◌++◌, ◌≤◌, List, ap, rules, subst, sym}
+use Rattle.std.proofs.Common.{◌≡◌, ◌∙◌, ◌++◌, List, ap, rules, subst}
 use Rattle.fm_types.specs.declared.ids.OpId.{OpId}
 use Rattle.fm_mistakes.specs.declared.account.Account.{Account}
 use Rattle.fm_trial.specs.declared.scenario.Scenario.{Scenario}
@@ -14,7 +14,7 @@ returns g c =
     let kept = c.keep.new.self in
     let new = c.take_finished.new.self in
     let said = c.reply_to-reply.result in
-    let began = c.begin_request.ensures.same in
+    let began = c.begin_request.ensures in
     let account : replied.account ≡ c.begin_request.new.self = ap (λ (s : Scenario _). s.account) c.reply_to-reply.ensures.same in
     let held : replied.held ≡ old.held = ap (λ (s : Scenario _). s.held) c.reply_to-reply.ensures.same in
     let same : kept.account ≡ reported.account = ap (λ (s : Scenario _). s.account) c.in_ok-keep.ensures.same in
@@ -32,8 +32,8 @@ returns g c =
       said = said;
       answered = replied.exec.manager;
       replies = c.reply_to-reply.ensures.reply;
-      reports = stays replied.exec.manager old.account reported.account new.account (begins replied.exec.manager old.account _ reported.account began reports) keeps;
-      request = subst (λ n. old.account.request ≤ n) (sym number) c.begin_request.ensures.later;
+      reports = stays replied.exec.manager old.account reported.account new.account (begins replied.exec.manager old.account _ reported.account _ began reports) keeps;
+      request = number ∙ ap (λ (a : Account). a.request) began;
       last = c.in_ok-take_finished.ensures.last ∙ c.in_ok-keep.ensures.last;
       refused = search rules;
       goes_on = (reported.exec.manager, c.in_ok-report.ensures.forgets, c.in_ok-report.ensures.none, finishes);

@@ -1,8 +1,10 @@
-use Rattle.std.proofs.Common.{◌≡◌, ◌∙◌, List, Option, ap, is_some, subst}
+use Rattle.std.proofs.Common.{◌≡◌, ◌∙◌, List, Option, ap, is_some, nat_eq, subst}
 use Rattle.fm_types.specs.declared.ids.OpId.{OpId}
 use Rattle.fm_data.specs.declared.request.Reply.{Reply}
 use Rattle.fm_trial.specs.declared.scenario.Scenario.{Scenario}
-use Rattle.fm_trial.specs.Scenarios.{CountsUnmet, EndsAs}
+use Rattle.fm_local.specs.Offered.{world}
+use Rattle.fm_mistakes.specs.Accounts.{told_leaks}
+use Rattle.fm_trial.specs.Scenarios.{CountsDropped, CountsUnmet, EndsAs}
 use Rattle.fm_trial.proofs.scenario.Scenario.end.Goals as goal
 
 pub returns-clause-ends : goal.returns-clause-ends
@@ -10,13 +12,19 @@ returns-clause-ends g c =
     let old = c.args.self.now in
     let settled = c.settle.new.self in
     let asked = c.check_asked.new.self in
+    let counted = c.check_leaks.new.self in
     let end = c.tell_held.new.self in
     let last : settled.last ≡ old.last = c.in_ok-settle.ensures.rest.last in
-    let held : asked.held.items ≡ old.held.items =
-    ap (λ (s : Scenario _). s.held.items) c.in_ok-check_asked.ensures.same ∙ ap (λ os. os.items) c.in_ok-settle.ensures.rest.held in record {
+    let manager : asked.exec.manager ≡ old.exec.manager =
+    ap (λ (s : Scenario _). s.exec.manager) c.in_ok-check_asked.ensures.same ∙ ap (λ e. e.manager) c.in_ok-settle.ensures.rest.manager in
+    let held : counted.held.items ≡ old.held.items =
+    ap (λ (s : Scenario _). s.held.items) c.check_leaks.ensures.same
+    ∙ ap (λ (s : Scenario _). s.held.items) c.in_ok-check_asked.ensures.same ∙ ap (λ os. os.items) c.in_ok-settle.ensures.rest.held in record {
       settled = settled.account;
       asked = asked.account;
+      counted = counted.account;
       expected = c.in_ok-settle.ensures.unmet;
       tested = subst (λ (said : Option Reply). CountsUnmet (is_some said) settled.account asked.account) last c.in_ok-check_asked.ensures.asked;
-      holds = subst (λ (os : List OpId). EndsAs os asked.account end.account) held c.in_ok-tell_held.ensures;
+      left = subst (λ m. CountsDropped (nat_eq (told_leaks asked.account) (world m).contexts.leaks) asked.account counted.account) manager c.check_leaks.ensures.left;
+      holds = subst (λ (os : List OpId). EndsAs os counted.account end.account) held c.in_ok-tell_held.ensures;
     }

@@ -1,5 +1,5 @@
 //! A read that its client carried on itself, up to where it is held, and whose next turn is the client's alone. Another client detaches the instance whose
-//! postoperation that would be: it is drained early, and then anybody may carry the read on.
+//! postoperation that would be: it is drained early, and then anybody may carry the read on. Of two such reads one detach drains both.
 
 ghost use Rattle.std.specs.Prelude.{◌≡◌};
 ghost use Rattle.fm_lock.specs.Blanks.{IsBlankOf};
@@ -32,16 +32,19 @@ struct Seen {
     told: Result<Option<Answer>, Status>,
 }
 
-// Fills a queue of two places, begins the read, which its client then carries on, and has the worker take the two Stops.
+// Fills a queue of that many places, begins the read, which its client then carries on, and has the worker take the Stops.
 fn carry_alone<L: Ledger, R: Wait>(
     client: &mut Own<'_, L, R>,
     worker: &mut Own<'_, L, R>,
+    places: usize,
 ) -> Result<OpId, Status> {
-    client.stop_worker();
-    client.stop_worker();
+    for _ in 0..places {
+        client.stop_worker();
+    }
     let reading = client.begin(read(0, 0))?;
-    worker.work();
-    worker.work();
+    for _ in 0..places {
+        worker.work();
+    }
     Ok(reading)
 }
 
@@ -76,7 +79,7 @@ fn drain<L: Ledger, R: Wait + Clock>(
     if has_upper {
         attach(client, b"asks", b"300")?;
     }
-    let reading = carry_alone(client, worker)?;
+    let reading = carry_alone(client, worker, 2)?;
     let_go(other, worker)?;
     let resumed = manager.is_done(rt, reading);
     other.detach(tied)?;
@@ -122,4 +125,62 @@ fn drained_turn_is_a_job_again(rt: HostRuntime) {
             )
         );
     }
+}
+
+/// Which of two reads are done: before the detach, and after it and the jobs that came of it.
+type Done = [Option<bool>; 2];
+
+// Two reads at once, and one detach. The queue has room for what the detach lets go of, and for a Stop.
+fn drain_both<L: Ledger, R: Wait + Clock>(
+    rt: &R,
+    alloc: Global,
+    manager: &Manager<Ties, L>,
+    workers: &mut Tied<'_, L, R, Folder>,
+) -> Result<(Done, Done), Status> {
+    let Workers {
+        client,
+        first: other,
+        second: worker,
+    } = workers;
+    begin(rt, manager, client, create(alloc, b"x")?)?;
+    work_off(client, worker);
+    let tied = attach(client, b"own", b"200")?;
+    attach(client, b"holds", b"100")?;
+    let one = carry_alone(client, worker, 3)?;
+    let two = carry_alone(client, worker, 3)?;
+    let_go(other, worker)?;
+    let_go(other, worker)?;
+    let before = [manager.is_done(rt, one), manager.is_done(rt, two)];
+    other.detach(tied)?;
+    work_off(other, worker);
+    Ok((
+        before,
+        [manager.is_done(rt, one), manager.is_done(rt, two)],
+    ))
+}
+
+fn both_day<L: Ledger, R: Wait + Clock>(
+    rt: &R,
+    alloc: Global,
+    blank: Blank,
+) -> Result<(Done, Done), Status>
+    requires blank { IsBlankOf blank.name blank.parts L.name L.parts }
+{
+    let manager = mounted::<Ties, L, R>(rt, alloc, filters(alloc)?, blank)?;
+    let (queue, mut passes) = JobQueue::new(alloc, 3, 3)?;
+    let hook = Watch::new();
+    let below = folder(alloc)?;
+    let mut workers = make_workers(rt, alloc, &manager, &queue, &hook, &mut passes, below)?;
+    drain_both(rt, alloc, &manager, &mut workers)
+}
+
+#[test]
+fn two_turns_are_drained(rt: HostRuntime) {
+    let seen = both_day::<Brand, _>(&rt, rt.alloc(), Blank::new(PARTS));
+    assert!(rt;
+        matches!(
+            seen,
+            Ok(([Some(false), Some(false)], [Some(true), Some(true)]))
+        )
+    );
 }

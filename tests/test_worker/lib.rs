@@ -4,6 +4,8 @@
 #[cfg(test)]
 mod drained_turn;
 #[cfg(test)]
+mod ends;
+#[cfg(test)]
 mod fixture;
 #[cfg(test)]
 mod full_queue;
@@ -11,6 +13,8 @@ mod full_queue;
 mod held_beside;
 #[cfg(test)]
 mod in_flight;
+#[cfg(test)]
+mod keeper;
 #[cfg(test)]
 mod one_place;
 #[cfg(test)]
@@ -35,3 +39,5 @@ mod teardown_schedules;
 mod ties;
 #[cfg(test)]
 mod unlocked;
+#[cfg(test)]
+mod work_items;

@@ -171,6 +171,52 @@ fn a_turn_that_was_looked_for_too_early(rt: HostRuntime) {
     }
 }
 
+// The same of two reads: the client looks once, when both are let go. Whether they are done before that and after it.
+fn look_at_two<L: Ledger, R: Wait + Clock>(
+    rt: &R,
+    alloc: Global,
+    blank: Blank,
+) -> Result<[Option<bool>; 4], Status>
+    requires blank { IsBlankOf blank.name blank.parts L.name L.parts }
+{
+    let manager = mounted::<Ties, L, R>(rt, alloc, filters(alloc)?, blank)?;
+    let (queue, mut passes) = JobQueue::new(alloc, 1, 3)?;
+    let hook = Watch::new();
+    let below = folder(alloc)?;
+    let Workers {
+        mut client,
+        first: mut other,
+        second: mut worker,
+    } = make_workers(rt, alloc, &manager, &queue, &hook, &mut passes, below)?;
+    attach(&mut client, b"own", b"200")?;
+    attach(&mut client, b"holds", b"100")?;
+    client.stop_worker();
+    begin(rt, &manager, &mut worker, create(alloc, b"x")?)?;
+    let one = begin(rt, &manager, &mut client, read(0, 0))?;
+    let two = begin(rt, &manager, &mut client, read(0, 0))?;
+    begin(rt, &manager, &mut other, on_file(FileRequest::Flush))?;
+    begin(rt, &manager, &mut other, on_file(FileRequest::Flush))?;
+    let early = (manager.is_done(rt, one), manager.is_done(rt, two));
+    client.put_aside();
+    Ok([
+        early.0,
+        early.1,
+        manager.is_done(rt, one),
+        manager.is_done(rt, two),
+    ])
+}
+
+#[test]
+fn two_turns_of_one_client(rt: HostRuntime) {
+    let seen = look_at_two::<Brand, _>(&rt, rt.alloc(), Blank::new(PARTS));
+    assert!(rt;
+        matches!(
+            seen,
+            Ok([Some(false), Some(false), Some(true), Some(true)])
+        )
+    );
+}
+
 // A worker carries a read on, up to where it is held, and ends at its Stop. Whether it takes jobs then, and whether the read is done: once it was let go, and once
 // the worker has looked for its turn as a client does.
 fn turn_behind_a_stop<L: Ledger, R: Wait + Clock>(

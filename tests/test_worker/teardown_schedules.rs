@@ -49,7 +49,7 @@ type Scheduled<'a, L, R> = MemoryWorker<'a, Sample, L, R, ScheduleHook<'a, R>>;
 enum Beside {
     /// It detaches both instances, one after the other.
     Detach,
-    /// It reads, and waits for the answer without leaving the hook.
+    /// It has a worker read, and waits for the answer without leaving the hook.
     Read,
 }
 
@@ -119,7 +119,20 @@ fn put_and_detach<L: Ledger, R: Wait + Clock + Sync>(
     put
 }
 
-// Reads and waits for the answer, while workers wait for jobs.
+// Has a worker carry a read on, and waits for its answer. Refused with 30 if none comes.
+fn read_by_a_worker<L: Ledger, R: Wait + Clock + Sync>(
+    rt: &R,
+    manager: &Manager<Sample, L>,
+    client: &mut Scheduled<'_, L, R>,
+) -> Result<(), Status> {
+    let reading = begin(rt, manager, client, read(0, 0))?;
+    match client.wait_for(reading, Duration::from_millis(LONG))? {
+        Some(_) => Ok(()),
+        None => Err(Status::WrongStep),
+    }
+}
+
+// Reads and waits, while workers wait for jobs.
 fn wait_and_put<L: Ledger, R: Wait + Clock + Sync>(
     rt: &R,
     manager: &Manager<Sample, L>,
@@ -128,7 +141,7 @@ fn wait_and_put<L: Ledger, R: Wait + Clock + Sync>(
     begun: &mut Vec<OpId>,
 ) -> Result<(), Status> {
     hook.enter(CLIENT);
-    let answered = client.answer(read(0, 0));
+    let answered = read_by_a_worker(rt, manager, client);
     let put = put_last(rt, manager, client, begun);
     hook.leave(CLIENT);
     answered?;

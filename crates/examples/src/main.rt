@@ -26,11 +26,10 @@ const SHOWN: [&str; 5] = [
 ];
 
 // Those that are shown in words alone.
-const SAID: [&str; 4] = [
+const SAID: [&str; 3] = [
     "rows/leak_of_a_verdict",
     "rows/not_sent_along",
     "rows/leak_of_a_drain",
-    "rows/unmet",
 ];
 
 // A reader that gives a script in pieces of at most that many bytes, and is interrupted before each.

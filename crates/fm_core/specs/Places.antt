@@ -46,6 +46,10 @@ abbrev pub complete_of : Option Place → Option InstanceId
 complete_of (Some (place.Complete i)) = Some i
 complete_of _ = None
 
+abbrev pub is_routine : Option Place → Bool
+is_routine (Some (place.Routine i file)) = true
+is_routine _ = false
+
 abbrev pub unload_of : Option Place → Option FilterId
 unload_of (Some (place.Unload f)) = Some f
 unload_of _ = None

@@ -15,13 +15,13 @@ use fm_stack::{Phase, Stack, VolumePhase};
 use fm_types::{ContextKind, FilterId, HandleId, InstanceId, OpId, StreamId, VolumeId, WorkerId};
 use fm_world::{FileObject, Place};
 
-/// An instance in one of whose callbacks a worker is.
+/// An instance in one of whose callbacks or routines a worker is.
 #[derive(Clone, Copy, Debug, PartialEq, Eq)]
 pub(crate) struct Caller {
     pub(crate) instance: InstanceId,
     pub(crate) filter: FilterId,
     pub(crate) volume: VolumeId,
-    /// The file that the callback's operation is on.
+    /// The file that the callback's operation, or the routine, is on.
     pub(crate) file: Option<FileObject>,
 }
 
@@ -49,7 +49,7 @@ impl Caller {
     }
 }
 
-/// The instance whose callback it is.
+/// The instance whose callback or routine it is.
 pub(crate) fn instance_in(place: Place) -> Option<InstanceId>
     ensures { result ≡ instance_in place }
 {
@@ -61,7 +61,8 @@ pub(crate) fn instance_in(place: Place) -> Option<InstanceId>
         | Place::EarlyDrain(_, instance)
         | Place::Query(instance)
         | Place::Start(instance)
-        | Place::Complete(instance) => Some(instance),
+        | Place::Complete(instance)
+        | Place::Routine(instance, _) => Some(instance),
         Place::Idle | Place::Base(_) | Place::Cleanup(_) | Place::Unload(_) => None,
     }
 }
@@ -82,6 +83,7 @@ pub(crate) fn operation_in(place: Place) -> Option<OpId>
         | Place::Query(_)
         | Place::Start(_)
         | Place::Complete(_)
+        | Place::Routine(_, _)
         | Place::Unload(_) => None,
     }
 }
@@ -98,6 +100,9 @@ fn file_object(stream: Option<StreamId>, handle: Option<HandleId>) -> Option<Fil
 fn file_of(flow: &Flow, place: Place) -> Option<FileObject>
     ensures { result ≡ file_of flow.now (Some place) }
 {
+    if let Place::Routine(_, file) = place {
+        return file;
+    }
     let record = flow.record(operation_in(place)?)?;
     file_object(record.stream(), record.handle())
 }

@@ -23,6 +23,7 @@ mod passing;
 mod readers;
 mod references;
 mod requests;
+mod routines;
 mod runs;
 mod state;
 mod target;

@@ -64,7 +64,7 @@ impl State {
 
     /// Makes one event, and tells what it answered. What a refusal hands back is dropped. Of the workers' hands it changes at most that of the worker that the
     /// event names, by as much as its kind and its answer say.
-    #[tactic(auto, using(fm_world::proofs::Handing::keeps_held, fm_world::proofs::Handing::setup_left, fm_world::proofs::Handing::query_left, fm_world::proofs::Handing::start_left, fm_world::proofs::Handing::complete_left, fm_world::proofs::Handing::resume_left))]
+    #[tactic(auto, using(fm_world::proofs::Handing::keeps_held, fm_world::proofs::Handing::setup_left, fm_world::proofs::Handing::query_left, fm_world::proofs::Handing::start_left, fm_world::proofs::Handing::complete_left, fm_world::proofs::Handing::routine_left, fm_world::proofs::Handing::resume_left))]
     pub fn step(&mut self, step: Step) -> StepReply
         ensures event { Steps self.old step result self.new }
         ensures hands { HandsAfter (worker_of step) step result self.old self.new }
@@ -159,6 +159,12 @@ impl State {
                 worker, instance,
             )),
             Step::CompleteReturned { worker } => StepReply::Done(self.complete_returned(worker)),
+            Step::EnterRoutine {
+                worker,
+                instance,
+                handle,
+            } => StepReply::Done(self.enter_routine(worker, instance, handle)),
+            Step::RoutineReturned { worker } => StepReply::Done(self.routine_returned(worker)),
             Step::AskUnload { worker, filter } => StepReply::Done(self.ask_unload(worker, filter)),
             Step::UnloadReturned { worker, allow } => StepReply::Done(self.unload_returned(
                 worker, allow,

@@ -3,9 +3,11 @@
 ghost use Rattle.std.specs.Prelude.{◌≡◌, ℕ};
 ghost use Rattle.std.specs.List.{list_any};
 ghost use Rattle.fm_world.specs.Workers.{worker_at, is_queried, is_in_query, AtQuery, AtStart, AtComplete};
+ghost use Rattle.fm_world.specs.Teardowns.{unfinished_at};
 ghost use Rattle.fm_world.specs.Teardowns.{AsksDetach, QueryReturns, StartsTeardown, StartReturns, CompletesTeardown, CompleteReturns};
 ghost use Rattle.fm_world.specs.Hands.{OnlyHandOf, KeepsHands, hand_len, left_by};
 
+use crate::routines::routines_at;
 use crate::state::State;
 use crate::workers::{complete_of, note_entering, put, query_of, start_of};
 use fm_ctx::Owner;
@@ -29,6 +31,13 @@ fn is_queried(instance: InstanceId, workers: &[Place]) -> bool
 }
 
 impl State {
+    // What a teardown waits for: at most 256 operations and 48 workers.
+    fn unfinished_at(&self, instance: InstanceId) -> u64
+        ensures { result ≡ unfinished_at self.now instance }
+    {
+        self.flow.in_flight(instance) + routines_at(instance, &self.workers)
+    }
+
     /// Asks the filter of an instance whether it may be detached (`FltDetachVolume`): the worker is then in the query callback
     /// (`InstanceQueryTeardownCallback`). Refused, nothing changed: 30 where the worker isn't idle or isn't there, 8 where the instance isn't there or is
     /// Detached, 13 where it isn't Attached or a query of it runs, 12 where its filter registered no query callback. It takes no memory.
@@ -98,7 +107,7 @@ impl State {
 
     /// Completes the teardown of an instance: the worker is then in the callback that says so (`InstanceTeardownCompleteCallback`). Refused, nothing
     /// changed: 30 where the worker isn't idle or isn't there, 8 where the instance isn't there or is Detached, 30 where it isn't Stopping, its teardown-start
-    /// callback didn't return or a query of it runs, 34 with the number of operations that are in flight at it. It takes no memory.
+    /// callback didn't return or a query of it runs, 34 with the number of operations that are in flight at it and of its filter's routines. It takes no memory.
     #[tactic(auto, unfolding(fm_world::specs::Teardowns::CompletesTeardown))]
     pub fn complete_teardown(
         &mut self,
@@ -112,8 +121,8 @@ impl State {
             return Err(Status::WrongStep);
         }
         let is_asked = is_queried(instance, &self.workers);
-        let in_flight = self.flow.in_flight(instance);
-        let result = self.stack.complete_teardown(instance, is_asked, in_flight);
+        let unfinished = self.unfinished_at(instance);
+        let result = self.stack.complete_teardown(instance, is_asked, unfinished);
         note_entering(
             &mut self.workers,
             worker,

@@ -4,7 +4,7 @@ ghost use Rattle.std.specs.Prelude.{◌≡◌, Ok, option_map};
 ghost use Rattle.fm_ctx.specs.declared.due.Due.{Due as DueContext};
 ghost use Rattle.fm_world.specs.ContextEvents.{after_due};
 ghost use Rattle.fm_world.specs.Workers.{put, after_attach, after_entering, after_next, cleanup_in};
-ghost use Rattle.fm_core.specs.Places.{setup_of, pre_of, base_of, post_of, drain_of, early_drain_of, query_of, start_of, complete_of, unload_of};
+ghost use Rattle.fm_core.specs.Places.{setup_of, pre_of, base_of, post_of, drain_of, early_drain_of, query_of, start_of, complete_of, is_routine, unload_of};
 
 use fm_ctx::Due;
 use fm_flow::FlowAction;
@@ -99,6 +99,13 @@ pub(crate) fn complete_of(place: Option<Place>) -> Option<InstanceId>
         Place::Complete(instance) => Some(instance),
         _ => None,
     }
+}
+
+/// Whether it is a routine of an instance.
+pub(crate) fn is_routine(place: Option<Place>) -> bool
+    ensures { result ≡ is_routine place }
+{
+    matches!(place, Some(Place::Routine(_, _)))
 }
 
 /// The filter whose unload callback it is.

@@ -9,6 +9,7 @@ mod either;
 mod filters;
 mod minifilter;
 mod port;
+mod work_item;
 
 pub use crate::agreeable::Agreeable;
 pub use crate::asks::{ask_post, ask_pre, ask_query, ask_setup, let_go, tell_complete, tell_start};
@@ -17,3 +18,4 @@ pub use crate::either::Either;
 pub use crate::filters::Filters;
 pub use crate::minifilter::Minifilter;
 pub use crate::port::Port;
+pub use crate::work_item::WorkItem;

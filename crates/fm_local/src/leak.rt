@@ -56,6 +56,7 @@ fn write_place<W: fmt::Write>(f: &mut fmt::Formatter<W>, place: Place) -> fmt::R
         Place::Query(instance) => write_of(f, instance, "query"),
         Place::Start(instance) => write_of(f, instance, "start"),
         Place::Complete(instance) => write_of(f, instance, "complete"),
+        Place::Routine(instance, _) => write_of(f, instance, "routine"),
         Place::Idle | Place::Base(_) | Place::Cleanup(_) | Place::Unload(_) => Ok(()),
     }
 }

@@ -385,6 +385,39 @@ impl<F: Drop, L: Ledger> Manager<F, L> {
         done_in(self.step(rt, hand, Step::CompleteReturned { worker }))
     }
 
+    /// The worker enters a routine of an instance's filter, on no file or on that of a handle (`FltQueueGenericWorkItem`). It answers as the State does: 30, 8,
+    /// 13, 14, 32.
+    #[tactic(auto, using(crate::proofs::AnswerKinds::stays))]
+    pub fn enter_routine<R: Wait>(
+        &self,
+        rt: &R,
+        hand: &mut Hand<L>,
+        instance: InstanceId,
+        handle: Option<HandleId>,
+    ) -> Result<(), Status>
+        ensures { hand.new ≡ hand.old }
+    {
+        let worker = hand.worker();
+        done_in(self.step(
+            rt,
+            hand,
+            Step::EnterRoutine {
+                worker,
+                instance,
+                handle,
+            },
+        ))
+    }
+
+    /// That routine returns: the hand is empty. It answers as the State does: 30.
+    #[tactic(auto, using(crate::proofs::AnswerKinds::done_held))]
+    pub fn routine_returned<R: Wait>(&self, rt: &R, hand: &mut Hand<L>) -> Result<(), Status>
+        ensures { Holding (Left result) hand.old hand.new }
+    {
+        let worker = hand.worker();
+        done_in(self.step(rt, hand, Step::RoutineReturned { worker }))
+    }
+
     /// An instance ends, once its contexts are cleaned up. It answers as the State does: 8, 30, 34.
     pub fn finish<R: Wait>(&self, rt: &R, instance: InstanceId) -> Result<(), Status> {
         done_in(self.step_alone(rt, Step::Finish { instance }))

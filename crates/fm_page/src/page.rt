@@ -449,8 +449,8 @@ function drawOwn(svg, run, told) {
   if (told.event === 'Refused') drawRefused(svg, told, x, y);
   else if (told.event === 'EarlyDrained' && y) add(svg, 'path', { class: 'red', d: 'M' + x + ' ' + y + 'm-5 -5l10 10m0 -10l-10 10' });
   else if (told.event === 'InEarlyDrain' && y) add(svg, 'circle', { class: 'red', cx: x, cy: y, r: 3 });
-  else if (['InSetup', 'InQuery', 'InStart', 'InComplete'].includes(told.event) && y) add(svg, 'path', { class: 'callback', d: 'M' + (x + 4) + ' ' + (y - 8) + 'h-6v16h6' });
-  else if (['SetUp', 'Queried', 'Started', 'Completed'].includes(told.event) && y) add(svg, 'path', { class: 'callback', d: 'M' + (x - 4) + ' ' + (y - 8) + 'h6v16h-6' });
+  else if (['InSetup', 'InQuery', 'InStart', 'InComplete', 'InRoutine'].includes(told.event) && y) add(svg, 'path', { class: 'callback', d: 'M' + (x + 4) + ' ' + (y - 8) + 'h-6v16h6' });
+  else if (['SetUp', 'Queried', 'Started', 'Completed', 'RoutineReturned'].includes(told.event) && y) add(svg, 'path', { class: 'callback', d: 'M' + (x - 4) + ' ' + (y - 8) + 'h6v16h-6' });
   else if (['Dismounting', 'VolumeEmptied', 'VolumeFinished', 'Dropped'].includes(told.event) && volume) drawEnd(svg, told, x, volume.y);
   const context = run.contexts.get(told.context);
   if (context && context.y !== undefined && told.event !== 'Pre') drawHit(svg, told, x, context.y + 4);

@@ -201,7 +201,7 @@ pub fn operation_in(place: Place) -> Option<u64> {
     }
 }
 
-/// The instance whose callback is there.
+/// The instance whose callback or routine is there.
 pub fn instance_in(place: Place) -> Option<u64> {
     match place {
         Place::Setup(instance)
@@ -211,12 +211,13 @@ pub fn instance_in(place: Place) -> Option<u64> {
         | Place::EarlyDrain(_, instance)
         | Place::Query(instance)
         | Place::Start(instance)
-        | Place::Complete(instance) => Some(u64::from(instance.0)),
+        | Place::Complete(instance)
+        | Place::Routine(instance, _) => Some(u64::from(instance.0)),
         _ => None,
     }
 }
 
-/// The name of the callback that is there.
+/// The name of the callback that is there, or of what else a worker may be in.
 pub fn callback_of(place: Place) -> &'static str {
     match place {
         Place::Idle => "none",
@@ -230,6 +231,7 @@ pub fn callback_of(place: Place) -> &'static str {
         Place::Query(_) => "query",
         Place::Start(_) => "teardown-start",
         Place::Complete(_) => "teardown-complete",
+        Place::Routine(_, _) => "routine",
         Place::Unload(_) => "unload",
     }
 }

@@ -11,7 +11,7 @@ pub enum Kind {
     Mounted,
     /// An instance was attached, and its setup was accepted.
     Attached,
-    /// A worker came into a callback, or into the file system's call.
+    /// A worker came into a callback, into a routine, or into the file system's call.
     InSetup,
     InPre,
     InBase,
@@ -22,14 +22,16 @@ pub enum Kind {
     InQuery,
     InStart,
     InComplete,
+    InRoutine,
     InUnload,
     /// A worker is in nothing.
     Idle,
-    /// A callback of a setup, of a teardown, of an unload or of an early drain returned.
+    /// A callback of a setup, of a teardown, of an unload or of an early drain, or a routine, returned.
     SetUp,
     Queried,
     Started,
     Completed,
+    RoutineReturned,
     Unloaded,
     EarlyDrained,
     /// An operation began.
@@ -149,6 +151,7 @@ impl Kind {
             Place::Query(_) => Kind::InQuery,
             Place::Start(_) => Kind::InStart,
             Place::Complete(_) => Kind::InComplete,
+            Place::Routine(_, _) => Kind::InRoutine,
             Place::Unload(_) => Kind::InUnload,
         }
     }
@@ -160,6 +163,7 @@ impl Kind {
             Place::Query(_) => Kind::Queried,
             Place::Start(_) => Kind::Started,
             Place::Complete(_) => Kind::Completed,
+            Place::Routine(_, _) => Kind::RoutineReturned,
             Place::Unload(_) => Kind::Unloaded,
             Place::EarlyDrain(..) => Kind::EarlyDrained,
             _ => Kind::Idle,
@@ -182,12 +186,14 @@ impl Kind {
             Kind::InQuery => "InQuery",
             Kind::InStart => "InStart",
             Kind::InComplete => "InComplete",
+            Kind::InRoutine => "InRoutine",
             Kind::InUnload => "InUnload",
             Kind::Idle => "Idle",
             Kind::SetUp => "SetUp",
             Kind::Queried => "Queried",
             Kind::Started => "Started",
             Kind::Completed => "Completed",
+            Kind::RoutineReturned => "RoutineReturned",
             Kind::Unloaded => "Unloaded",
             Kind::EarlyDrained => "EarlyDrained",
             Kind::Began => "Began",
@@ -258,12 +264,14 @@ impl Kind {
             Kind::InQuery => "%w is in the query of %i",
             Kind::InStart => "%w is in the teardown-start of %i",
             Kind::InComplete => "%w is in the teardown-complete of %i",
+            Kind::InRoutine => "%w is in a routine of %i",
             Kind::InUnload => "%w is in the unload of %f",
             Kind::Idle => "%w is idle",
             Kind::SetUp => "%i is attached",
             Kind::Queried => "%i is stopping",
             Kind::Started => "the teardown-start of %i is over",
             Kind::Completed => "%i is being emptied: its contexts are taken off",
+            Kind::RoutineReturned => "the routine of %i is over",
             Kind::Unloaded => "%f is being unloaded: its instances are stopping",
             Kind::EarlyDrained => "drain  %i of %o, before its turn",
             Kind::Began => "%O",
@@ -392,6 +400,7 @@ impl Kind {
                 | Kind::InQuery
                 | Kind::InStart
                 | Kind::InComplete
+                | Kind::InRoutine
                 | Kind::InUnload
         )
     }

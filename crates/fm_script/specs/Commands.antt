@@ -69,6 +69,8 @@ spelling keyword.Start = codes "start"
 spelling keyword.Started = codes "started"
 spelling keyword.Complete = codes "complete"
 spelling keyword.Completed = codes "completed"
+spelling keyword.Enter = codes "enter"
+spelling keyword.Left = codes "left"
 spelling keyword.Unload = codes "unload"
 spelling keyword.Unloaded = codes "unloaded"
 spelling keyword.EmptyF = codes "emptyf"
@@ -90,7 +92,7 @@ all_keywords =
     keyword.Set ∷ keyword.Get ∷ keyword.Del ∷ keyword.Ref ∷ keyword.Rel ∷ keyword.Body ∷ keyword.WBody ∷ keyword.Bump ∷ keyword.Due ∷
     keyword.Cleaned ∷ keyword.Count ∷ keyword.Leaks ∷ keyword.Read ∷ keyword.Write ∷ keyword.Size ∷ keyword.SetSize ∷ keyword.Flush ∷
     keyword.Delete ∷ keyword.Cleanup ∷ keyword.Close ∷ keyword.Fail ∷ keyword.Failures ∷ keyword.Resume ∷ keyword.ResPost ∷
-    keyword.Query ∷ keyword.Queried ∷ keyword.Start ∷ keyword.Started ∷ keyword.Complete ∷ keyword.Completed ∷ keyword.Unload ∷
+    keyword.Query ∷ keyword.Queried ∷ keyword.Start ∷ keyword.Started ∷ keyword.Complete ∷ keyword.Completed ∷ keyword.Enter ∷ keyword.Left ∷ keyword.Unload ∷
     keyword.Unloaded ∷ keyword.EmptyF ∷ keyword.FinishF ∷ keyword.Flight ∷ keyword.Drain ∷ keyword.Drained ∷
     keyword.Dismount ∷ keyword.Drop ∷ keyword.EmptyV ∷ keyword.FinishV ∷ keyword.QuerySize ∷ keyword.SetDelete ∷ []
 
@@ -235,6 +237,8 @@ is_of_teardowns keyword.Start = true
 is_of_teardowns keyword.Started = true
 is_of_teardowns keyword.Complete = true
 is_of_teardowns keyword.Completed = true
+is_of_teardowns keyword.Enter = true
+is_of_teardowns keyword.Left = true
 is_of_teardowns keyword.Finish = true
 is_of_teardowns keyword.Unload = true
 is_of_teardowns keyword.Unloaded = true

@@ -155,7 +155,7 @@ fn is_of_contexts(keyword: Keyword) -> bool
     )
 }
 
-// Whether it is of a detach, an unload or a dismount.
+// Whether it is of a detach, a routine, an unload or a dismount.
 fn is_of_teardowns(keyword: Keyword) -> bool
     ensures { result ≡ is_of_teardowns keyword }
 {
@@ -167,6 +167,8 @@ fn is_of_teardowns(keyword: Keyword) -> bool
             | Keyword::Started
             | Keyword::Complete
             | Keyword::Completed
+            | Keyword::Enter
+            | Keyword::Left
             | Keyword::Finish
             | Keyword::Unload
             | Keyword::Unloaded

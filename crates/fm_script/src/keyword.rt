@@ -53,6 +53,8 @@ pub enum Keyword {
     Started,
     Complete,
     Completed,
+    Enter,
+    Left,
     Unload,
     Unloaded,
     EmptyF,
@@ -76,7 +78,7 @@ fn beginning_with(letter: u8) -> &'static [Keyword]
     ensures { (rest : List ℕ) → find (λ k. bytes_eq (spelling k) (letter ∷ rest)) result.now ≡ keyword_read (letter ∷ rest) }
 {
     match letter {
-        b'l' => &[Keyword::Load, Keyword::List, Keyword::Leaks],
+        b'l' => &[Keyword::Load, Keyword::List, Keyword::Leaks, Keyword::Left],
         b'm' => &[Keyword::Mount],
         b'a' => &[Keyword::Attach, Keyword::Alloc],
         b'n' => &[Keyword::Next],
@@ -131,7 +133,7 @@ fn beginning_with(letter: u8) -> &'static [Keyword]
         b'w' => &[Keyword::WBody, Keyword::Write],
         b'q' => &[Keyword::Query, Keyword::Queried, Keyword::QuerySize],
         b'u' => &[Keyword::Unload, Keyword::Unloaded],
-        b'e' => &[Keyword::EmptyF, Keyword::EmptyV],
+        b'e' => &[Keyword::Enter, Keyword::EmptyF, Keyword::EmptyV],
         _ => &[],
     }
 }
@@ -148,7 +150,7 @@ fn spelled(keywords: &[Keyword], word: &[u8]) -> Option<Keyword>
 
 impl Keyword {
     /// All of them.
-    pub const ALL: [Keyword; 60] = [
+    pub const ALL: [Keyword; 62] = [
         Keyword::Load,
         Keyword::Mount,
         Keyword::Attach,
@@ -196,6 +198,8 @@ impl Keyword {
         Keyword::Started,
         Keyword::Complete,
         Keyword::Completed,
+        Keyword::Enter,
+        Keyword::Left,
         Keyword::Unload,
         Keyword::Unloaded,
         Keyword::EmptyF,
@@ -282,6 +286,8 @@ impl Keyword {
             Keyword::Started => b"started",
             Keyword::Complete => b"complete",
             Keyword::Completed => b"completed",
+            Keyword::Enter => b"enter",
+            Keyword::Left => b"left",
             Keyword::Unload => b"unload",
             Keyword::Unloaded => b"unloaded",
             Keyword::EmptyF => b"emptyf",

@@ -1,10 +1,10 @@
-//! The commands by which instances are detached, filters unloaded and volumes dismounted, and what is in flight at an instance.
+//! The commands by which instances are detached, routines entered, filters unloaded and volumes dismounted, and what is in flight at an instance.
 
 ghost use Rattle.std.specs.Prelude.{◌≡◌, map};
-ghost use Rattle.fm_script.specs.TeardownCommands.{worker_and_instance, asked_filter, asked_instance, worker_and_filter, only_filter, teardown_read};
+ghost use Rattle.fm_script.specs.TeardownCommands.{worker_and_instance, asked_filter, asked_instance, worker_and_filter, only_filter, enter_on, enter_read, teardown_read};
 
-use crate::command::{one_id, only_instance, only_volume, only_worker, read_answered, two_ids};
-use crate::ids::{filter_in, instance_in, worker_in};
+use crate::command::{id, one_id, only_instance, only_volume, only_worker, read_answered, two_ids};
+use crate::ids::{filter_in, handle_in, instance_in, worker_in};
 use crate::keyword::Keyword;
 use crate::task::Task;
 use fm_core::{State, Step};
@@ -39,6 +39,10 @@ pub(crate) fn read_teardown_command(
             Ok(Task::Event(Step::CompleteTeardown { worker, instance }))
         }
         Keyword::Completed => Ok(Task::Event(Step::CompleteReturned {
+            worker: only_worker(words)?,
+        })),
+        Keyword::Enter => read_enter(state, words),
+        Keyword::Left => Ok(Task::Event(Step::RoutineReturned {
             worker: only_worker(words)?,
         })),
         Keyword::Finish => Ok(Task::Event(Step::Finish {
@@ -103,6 +107,40 @@ fn read_asked_instance(state: &State, words: &[&[u8]]) -> Result<(WorkerId, Inst
     };
     let (worker, instance) = two_ids(b'w', worker, b'i', instance)?;
     worker_and_instance(state, worker, instance)
+}
+
+// `enter W I` or `enter W I H`: a routine of the instance, on no file or on that of the handle.
+fn read_enter(state: &State, words: &[&[u8]]) -> Result<Task, Status>
+    ensures { result ≡ enter_read state.now (map (λ word. word.now) words.now) }
+{
+    match words {
+        [worker, instance] => {
+            let (worker, instance) = two_ids(b'w', worker, b'i', instance)?;
+            let (worker, instance) = worker_and_instance(state, worker, instance)?;
+            let handle = None;
+            Ok(Task::Event(Step::EnterRoutine {
+                worker,
+                instance,
+                handle,
+            }))
+        }
+        [worker, instance, handle] => enter_on(state, worker, instance, handle),
+        _ => Err(Status::BadRequest),
+    }
+}
+
+fn enter_on(state: &State, worker: &[u8], instance: &[u8], handle: &[u8]) -> Result<Task, Status>
+    ensures { result ≡ enter_on state.now worker.now instance.now handle.now }
+{
+    let (worker, instance) = two_ids(b'w', worker, b'i', instance)?;
+    let handle = id(b'h', handle)?;
+    let handle = Some(handle_in(state, handle)?);
+    let (worker, instance) = worker_and_instance(state, worker, instance)?;
+    Ok(Task::Event(Step::EnterRoutine {
+        worker,
+        instance,
+        handle,
+    }))
 }
 
 // A worker and the filter whose callback it enters.

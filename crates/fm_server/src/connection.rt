@@ -20,8 +20,8 @@ use std::alloc::{AllocError, Global};
 /// How often `serve` reads.
 pub const MOST_READS: u32 = u32::MAX;
 
-/// How many bytes a read may give.
-const PIECE: usize = 16_384;
+/// How many bytes a read may give: more than the longest frame has, so that most come whole.
+const PIECE: usize = 65_536;
 
 // Takes the next piece: answers the frames that are whole now, or the fault that stands in front.
 fn take_piece<W: Sink, E: Exec>(

@@ -1,5 +1,5 @@
 //! What a script expects of its own lines, so that it is a test: `#! expect TEXT` after a line says that it printed TEXT, and `#! expect status N`, anywhere,
-//! with which status the run ends.
+//! with which status the run ends. No other line begins with `#!`, so that a slip of the pen is no remark.
 
 ghost use Rattle.std.specs.Prelude.{◌≡◌};
 ghost use Rattle.fm_view.specs.Ends.{status_met};
@@ -7,8 +7,11 @@ ghost use Rattle.fm_view.specs.Ends.{status_met};
 use fm_text::read_number;
 use std::alloc::Global;
 
-/// What an expectation begins with.
-const MARK: &[u8] = b"#! expect";
+/// What an expectation begins with, and no other line.
+const MARK: &[u8] = b"#!";
+
+/// What stands behind that.
+const EXPECT: &[u8] = b" expect";
 
 /// What one on the status begins with.
 const STATUS: &[u8] = b"status";
@@ -77,18 +80,19 @@ pub struct Expectations {
     pub misuses: u64,
 }
 
-/// What a line expects, if it is an expectation.
+/// What a line expects, if it begins as an expectation does.
 pub fn expected_in(line: &[u8]) -> Option<Expected<'_>> {
-    match line.strip_prefix(MARK)? {
-        [] => Some(Expected::Wrong("nothing stands behind it")),
-        [b' ', text @ ..] => Some(read(text)),
-        _ => None,
+    let words = line.strip_prefix(MARK)?;
+    match words.strip_prefix(EXPECT) {
+        Some([]) => Some(Expected::Wrong("nothing stands behind it")),
+        Some([b' ', text @ ..]) => Some(read(text)),
+        _ => Some(Expected::Wrong("no such line; the nearest is #! expect TEXT")),
     }
 }
 
 /// The text behind the mark of an expectation, and the space behind that.
 pub fn behind_mark(line: &[u8]) -> &[u8] {
-    match line.strip_prefix(MARK) {
+    match line.get(MARK.len() + EXPECT.len()..) {
         Some([_, text @ ..]) => text,
         _ => b"",
     }
@@ -106,9 +110,14 @@ fn read(text: &[u8]) -> Expected<'_> {
     }
 }
 
-// The number of a status.
+// The number of a status. With 2 and 6 a run ends that isn't as its lines expect, so no line can expect these.
 fn read_status(number: &[u8]) -> Expected<'_> {
     match read_number(number) {
+        Some(2 | 6) => {
+            Expected::Wrong(
+                "2 and 6 say that a run isn't as its lines expect, so no line expects them",
+            )
+        }
         Some(status) if status <= MOST => Expected::Status(status as u8),
         _ => Expected::Wrong("a status is a number from 0 to 255"),
     }

@@ -362,7 +362,7 @@ impl LineContext<'_> {
         }
     }
 
-    // A step of a detach.
+    // A step of a detach, or of a routine.
     fn teardown_step(&self, step: &Step, said: &Said) -> Event {
         match step {
             Step::AskDetach { worker, instance } => entered(*worker, Place::Query(*instance)),
@@ -377,10 +377,16 @@ impl LineContext<'_> {
             Step::CompleteTeardown { worker, instance } => {
                 entered(*worker, Place::Complete(*instance))
             }
+            Step::EnterRoutine {
+                worker,
+                instance,
+                ..
+            } => entered(*worker, Place::Routine(*instance, None)),
             Step::QueryReturned { worker, .. }
             | Step::StartReturned { worker }
             | Step::DrainDone { worker }
             | Step::CompleteReturned { worker }
+            | Step::RoutineReturned { worker }
             | Step::UnloadReturned { worker, .. } => self.returned(*worker),
             Step::Finish { instance } => of_instance(Kind::Finished, u64::from(instance.0)),
             Step::AskUnload { worker, filter } => entered(*worker, Place::Unload(*filter)),

@@ -415,12 +415,13 @@ fn say_wrong_step(text: &mut Text, refusal: &RefusedLine<'_>, task: &Task) {
     }
 }
 
-// The instance of a step of a teardown.
+// The instance of a step of a teardown, or of a routine.
 fn torn(task: &Task) -> Option<InstanceId> {
     match task {
         Task::Event(
             Step::StartTeardown { instance, .. }
             | Step::CompleteTeardown { instance, .. }
+            | Step::EnterRoutine { instance, .. }
             | Step::Finish { instance },
         ) => Some(*instance),
         _ => None,

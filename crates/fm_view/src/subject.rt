@@ -76,6 +76,7 @@ pub fn instance_of(task: &Task, place: Place) -> Option<u64> {
             | Step::StartTeardown { instance, .. }
             | Step::DrainTake { instance, .. }
             | Step::CompleteTeardown { instance, .. }
+            | Step::EnterRoutine { instance, .. }
             | Step::Finish { instance },
         ) => Some(u64::from(instance.0)),
         _ => instance_in(place),

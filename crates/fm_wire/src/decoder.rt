@@ -1,12 +1,12 @@
 //! The decoder: frames out of a stream that comes in pieces.
 
-ghost use Rattle.std.specs.Prelude.{◌≡◌, ◌↔◌, ◌⊎◌, ◌++◌, [], Ok, Err, Some, None, IsTrue, IfSome, IfOk, IfErr, OnErr};
+ghost use Rattle.std.specs.Prelude.{◌≡◌, ◌≤◌, ◌↔◌, ◌⊎◌, ◌++◌, [], Ok, Err, Some, None, IsTrue, IfSome, IfOk, IfErr, OnErr, OnOk, drop, length};
 ghost use Rattle.fm_wire.specs.Stream.{Gives, IsFault, Refuses, Splits};
 
 use crate::frame::Frame;
 use crate::stream::{is_fault, is_fault_across, read_frames};
 use fm_types::Status;
-use std::alloc::Global;
+use std::alloc::{AllocError, Global};
 use std::marker::Model;
 
 /// Reads a stream of frames that comes in pieces, however it is cut. Between two pieces it holds less
@@ -42,6 +42,30 @@ fn take_from_piece(alloc: Global, held: &mut Vec<u8>, piece: &[u8]) -> Result<Ve
     Ok(frames)
 }
 
+// Lets go of so many bytes at the front. The rest moves at once; a drain would turn it round, and take off byte by byte.
+fn keep_from(held: &mut Vec<u8>, count: usize) -> Result<(), AllocError>
+    requires { count ≤ length held.old.items }
+    ensures ok { OnOk result (held.new.items ≡ drop count held.old.items) }
+    ensures err { OnErr result (held.new.items ≡ held.old.items) }
+{
+    if count > 0 {
+        let rest = held.split_off(count)?;
+        *held = rest;
+    }
+    Ok(())
+}
+
+// Takes the whole frames from the front.
+fn take_front(alloc: Global, held: &mut Vec<u8>) -> Result<Vec<Frame>, Status>
+    ensures ok { IfOk result (λ frames. Splits held.old.items frames.items held.new.items) }
+    ensures err { OnErr result (held.new.items ≡ held.old.items) }
+    ensures refused { IfErr result (λ status. status ≡ Status.NoMemory) }
+{
+    let (frames, used) = read_frames(alloc, held.as_slice())?;
+    keep_from(held, used)?;
+    Ok(frames)
+}
+
 // Appends the piece to what is held, and takes the whole frames from the front.
 fn take_from_held(alloc: Global, held: &mut Vec<u8>, piece: &[u8]) -> Result<Vec<Frame>, Status>
     ensures ok { IfOk result (λ frames. Splits (held.old.items ++ piece.now) frames.items held.new.items) }
@@ -50,11 +74,8 @@ fn take_from_held(alloc: Global, held: &mut Vec<u8>, piece: &[u8]) -> Result<Vec
 {
     let before = held.len();
     held.extend_from_slice(piece)?;
-    match read_frames(alloc, held.as_slice()) {
-        Ok((frames, used)) => {
-            held.drain(..used);
-            Ok(frames)
-        }
+    match take_front(alloc, held) {
+        Ok(frames) => Ok(frames),
         Err(status) => {
             held.truncate(before);
             Err(status)

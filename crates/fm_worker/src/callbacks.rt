@@ -10,7 +10,7 @@ use crate::shared::WorkerShared;
 use fm_data::{CallbackData, Completion, PostVerdict};
 use fm_device::Device;
 use fm_filter::{
-    Callbacks, ask_post, ask_pre, ask_query, ask_setup, let_go, tell_complete, tell_start,
+    Callbacks, WorkItem, ask_post, ask_pre, ask_query, ask_setup, let_go, tell_complete, tell_start,
 };
 use fm_types::{FilterId, InstanceId, Status};
 use std::sync::Wait;
@@ -157,6 +157,21 @@ impl<'a, F: Callbacks, L: Ledger, R: Wait, G: CallbackHook> WorkerShared<'a, F, 
         if self
             .manager
             .start_returned(self.rt, &mut own.port.hand)
+            .is_err()
+        {
+            self.wait_forever();
+        }
+    }
+
+    /// Runs a work item in the routine that the thread is in.
+    pub(crate) fn work<D: Device, W: WorkItem>(&self, own: &mut Own<'a, F, L, R, D>, item: &W)
+        requires pass { IsPassOf self.now.queue.now own.old.pass }
+        ensures free { IsFree self.now.queue.now own.new.port.hand.held own.new.pass }
+    {
+        item.run(&mut own.port);
+        if self
+            .manager
+            .routine_returned(self.rt, &mut own.port.hand)
             .is_err()
         {
             self.wait_forever();

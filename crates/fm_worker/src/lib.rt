@@ -12,6 +12,7 @@ mod jobs;
 mod op_queue;
 mod own;
 mod port;
+mod routines;
 mod shared;
 mod teardowns;
 mod turns;

@@ -6,7 +6,7 @@ use Rattle.fm_world.proofs.Words.{HoldsFewer, HoldsMore, given_with, hand_len, i
 use Rattle.fm_world.proofs.Words.{is_left_by, keeps_links, keeps_links_by, place_in, row_at, AreOwned, IsOwned, IsSound, IsUnderWay, most_at, ContextTable}
 use Rattle.fm_world.proofs.Words.{CtxId, FlowRecord, FlowTable, Instance, InstanceId, IsLawful, OpId, Phase, PostRunning, PreRunning, PreState, StackWorld}
 use Rattle.fm_world.proofs.Words.{Status, WorkerId, carried, cleaning_of, grabbed, hand_of, in_flight, is_completing, is_detached, is_setup, last_posted}
-use Rattle.fm_world.proofs.Words.{last_visited, released, AtComplete, AtQuery, AtSetup, AtStart, InstanceCallback, cleanup_in, is_at, worker_at, World, carries, FileObject}
+use Rattle.fm_world.proofs.Words.{last_visited, released, AtComplete, AtQuery, AtRoutine, AtSetup, AtStart, InstanceCallback, cleanup_in, is_at, worker_at, World, carries, FileObject}
 use Rattle.fm_world.proofs.Words.{Place, All, Bool, List, None, Ok, Option, Result, Some, [], ap, arith, cond, false, find, get_or, length, not, option_map}
 use Rattle.fm_world.proofs.Words.{refl, slice_get, slice_set, subst, sym, true, ℕ, ◌++◌, ◌+◌, ◌<◌, ◌∙◌, ◌∷◌, ◌≡◌, ◌≢◌, ◌≤◌, ◌⊎◌, eq-eqb, leb-false}
 use Rattle.fm_world.proofs.Words.{common_steps, get_or-set_same, set-get_or, All-push, none-some, same_Some}
@@ -74,6 +74,7 @@ open_at w k i row (Some (Place.Setup j)) s at is there = open_callback w k (Plac
 open_at w k i row (Some (Place.Query j)) s at is there = open_callback w k (Place.Query j) AtQuery j i row s at (eq-eqb j.0 j.0 refl) is there
 open_at w k i row (Some (Place.Start j)) s at is there = open_callback w k (Place.Start j) AtStart j i row s at (eq-eqb j.0 j.0 refl) is there
 open_at w k i row (Some (Place.Complete j)) s at is there = open_callback w k (Place.Complete j) AtComplete j i row s at (eq-eqb j.0 j.0 refl) is there
+open_at w k i row (Some (Place.Routine j file)) s at is there = open_callback w k (Place.Routine j file) AtRoutine j i row s at (eq-eqb j.0 j.0 refl) is there
 open_at w k i row (Some (Place.Pre o j)) s at is there = flown_row w i row s there (flown_in w j i is (pre_flies w k o j s.under_way at))
 open_at w k i row (Some (Place.Post o j)) s at is there = flown_row w i row s there (flown_in w j i is (post_flies w k o j s.under_way at))
 open_at w k i row (Some (Place.Drain o j)) s at is there =

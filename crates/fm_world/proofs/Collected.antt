@@ -3,6 +3,7 @@ use Rattle.fm_world.proofs.Words.{drain_opens, is_running_drain, is_number, is_s
 use Rattle.fm_world.proofs.Words.{is_in_drain, Entry, FlowRecord, FlowTable, IsFlow, OpId, one, operation_at, Place, All, AllPairs, Bool, List, None, Option}
 use Rattle.fm_world.proofs.Words.{Some, [], ap, arith, count_by, false, get_or, inl, inr, length, nat_le, option_map, refl, suc, sym, true, unwrap_or, ℕ, ◌+◌}
 use Rattle.fm_world.proofs.Words.{◌<◌, ◌==◌, ◌∷◌, ◌≡◌, ◌≤◌, cases_Bool, nat_tests, All-head, All-tail, list_any}
+use Rattle.std.proofs.lemmas.List.Sums.{count_by-le-length}
 use Rattle.fm_types.proofs.Firsts.{stands_there}
 use Rattle.fm_types.proofs.Rising.{stands_rising}
 use Rattle.fm_flow.specs.Counts.{drain_opens_at}
@@ -42,13 +43,6 @@ workers_split n k (x ∷ ws) below = omega (
   count-cons (λ y. is_from (k + 1) (drain_number y)) x ws,
   count-cons (λ y. is_from n (drain_number y)) x ws,
 )
-
-one_few : (b : Bool) → one b ≤ 1
-one_few b = grind arith
-
-count_few : (p : Place → Bool) (ws : List Place) → count_by p ws ≤ length ws
-count_few p [] = omega arith
-count_few p (x ∷ ws) = omega (arith, one_few (p x), count_few p ws, count-cons p x ws)
 
 one_less : (a b : Bool) → (a ≡ true → b ≡ true) → one a ≤ one b
 one_less a b implies = grind arith
@@ -121,6 +115,6 @@ collected_few ws t flow hands drains =
     omega (
       arith,
       few_from ws 0 t.operations flow.ascending (λ k d l. omega arith) (has_worker ws t flow drains),
-      count_few (λ x. is_from 0 (drain_number x)) ws,
+      count_by-le-length (λ x. is_from 0 (drain_number x)) ws,
       hands,
     )

@@ -2,7 +2,8 @@
 use Rattle.fm_world.proofs.Words.{goes_on_follows, goes_on_keeps, Filter, Volume, none_refuses, hand_len, left_by, holds_links_by, is_flown, row_at, IsSound}
 use Rattle.fm_world.proofs.Words.{HasWorkers, IsUnderWay, is_made, AsksDetach, CompleteReturns, CompleteReturnsAt, CompletesTeardown, QueryReturns}
 use Rattle.fm_world.proofs.Words.{QueryReturnsAt, StartReturns, StartReturnsAt, StartsTeardown, Instance, InstanceId, Leaves, Phase, StackWorld, Status}
-use Rattle.fm_world.proofs.Words.{WorkerId, in_flight, is_attached, is_completing, is_stopping, one, AtComplete, AtQuery, AtSetup, AtStart, InstanceCallback}
+use Rattle.fm_world.proofs.Words.{WorkerId, in_flight, is_attached, is_completing, is_stopping, one, AtComplete, AtQuery, AtRoutine, AtSetup, AtStart}
+use Rattle.fm_world.proofs.Words.{InstanceCallback, routines_at, unfinished_at, ◌≤◌}
 use Rattle.fm_world.proofs.Words.{after_entering, cleanup_in, is_at, is_queried, put, worker_at, World, carries, Place, Bool, Err, List, None, Ok, Option}
 use Rattle.fm_world.proofs.Words.{Result, Some, ap, arith, count_by, false, inr, length, not, refl, slice_get, subst, sym, true, ℕ, ◌&&◌, ◌+◌, ◌∙◌, ◌≡◌, eq-eqb}
 use Rattle.fm_world.proofs.Words.{ltb-false, or_parts, true≢false}
@@ -64,7 +65,7 @@ ask_detach_does old k i result new h =
     let row = passes_row stack.is_in_use (row_at old.stack i) (not_false uses tests.0) in
     makes old (record old { workers = put old.workers k (Place.Query i) }) new e (still old.contexts) (λ s. record {
       under_way = callback_enters old k (Place.Query i) i old.stack row.0 row.0 at refl refl (row_stays old.stack i.0 row.0 row.1)
-          (λ d m moves h. asks_workers i row.0 d old.workers m row.2 (not_queried i old.workers tests.1) moves h) s.under_way.stack
+          (λ d m few moves h. asks_workers i row.0 d old.workers m row.2 (not_queried i old.workers tests.1) moves h) s.under_way.stack
           (follows_same old.stack) s.under_way;
       owned = goes_owned old k Place.Idle (Place.Query i) old.stack at refl refl refl (rows_same old old.stack refl) (omega arith) (λ v h. h) s;
       filed = s.filed;
@@ -74,7 +75,7 @@ ask_detach_does old k i result new h =
 -- ---- a callback returns
 
 -- and its instance goes on; what its worker held is gone
-ends : (old new : World) (k : WorkerId) (a : Place) (t : StackWorld) → worker_at old.workers k ≡ Some a → cleanup_in (Some a) ≡ None
+pub ends : (old new : World) (k : WorkerId) (a : Place) (t : StackWorld) → worker_at old.workers k ≡ Some a → cleanup_in (Some a) ≡ None
     → Leaves (carries old) old.contexts new.contexts k.0 → new ≡ record old { stack = t; workers = put old.workers k Place.Idle; contexts = new.contexts }
     → t.filters ≡ old.stack.filters → t.volumes ≡ old.stack.volumes
     → (IsSound old → RowsGoOn old t × IsUnderWay (record old { stack = t; workers = put old.workers k Place.Idle }))
@@ -168,7 +169,7 @@ start_teardown_does old k i result new h =
         makes old (record old { stack = t; workers = put old.workers k (Place.Start i) }) new
         (e ∙ ap (λ x. record old { stack = x; workers = put old.workers k (Place.Start i) }) h.1) (still old.contexts) (λ s. record {
           under_way = callback_enters old k (Place.Start i) i t row.0 (change row.0) at refl refl changes
-              (λ d m moves h. start_workers i row.0 row.2 d (count_by (is_at d i.0) old.workers) m moves h)
+              (λ d m few moves h. start_workers i row.0 row.2 d (count_by (is_at d i.0) old.workers) m moves h)
               (goes_on_keeps old.stack t goes s.under_way.stack) (goes_on_follows old.stack t goes) s.under_way;
           owned = goes_owned old k Place.Idle (Place.Start i) t at refl refl refl
               (row_goes old t i.0 row.0 (change row.0) changes (goes_same old i.0 row.0 (change row.0) refl refl)) (omega arith) (λ v h. h) s;
@@ -202,18 +203,21 @@ start_returned_does old k result new h = by_place (worker_at old.workers k) refl
 
 -- ---- the teardown is completed
 
--- the start returned, and nobody is in a query
+-- the start returned, and nobody is in a query, nor in a routine
 complete_workers : (i : InstanceId) (row : Instance) (d : InstanceCallback) (workers : List Place) (m : ℕ) → stack.is_to_complete row ≡ true
-    → count_by (is_at AtQuery i.0) workers ≡ 0
+    → count_by (is_at AtQuery i.0) workers ≡ 0 → count_by (is_at AtRoutine i.0) workers ≡ 0
     → m + one (is_at d i.0 Place.Idle) ≡ count_by (is_at d i.0) workers + one (is_at d i.0 (Place.Complete i))
     → HasWorkers d (Some row) (count_by (is_at d i.0) workers)
     → HasWorkers d (Some (stack.in_phase Phase.Completing row)) m
-complete_workers i row AtComplete workers m is none moves h = grind (arith, eq-eqb)
-complete_workers i row d workers m is none moves h = grind arith
+complete_workers i row AtComplete workers m is none rest moves h = grind (arith, eq-eqb)
+complete_workers i row d workers m is none rest moves h = grind arith
 
 -- nothing is in flight at it
 complete_goes : (w : World) (j : ℕ) (row : Instance) → in_flight j w.flow ≡ 0 → GoesOnAt w j row (stack.in_phase Phase.Completing row)
 complete_goes w j row none = record { filter = refl; left = λ h. refl; keeps = λ h. refl; quiet = λ h. inr none }
+
+none_left : (n m : ℕ) → n + m ≤ 0 → (n ≡ 0) × (m ≡ 0)
+none_left n m h = (omega (arith, h), omega (arith, h))
 
 pub complete_teardown_does : (old : World) (k : WorkerId) (i : InstanceId) (result : Result (Unit {0}) Status) (new : World)
     → CompletesTeardown old k i result new → Does old new
@@ -222,7 +226,7 @@ complete_teardown_does old k i result new h =
     idle_by (λ _ w. Does old w) k result old new _ h (λ why. nothing old) (λ at event. by_result result at event.0 event.1)
   where
     by_result : (result : Result (Unit {0}) Status) → worker_at old.workers k ≡ Some Place.Idle
-        → stack.CompletesTeardown old.stack i (is_queried i old.workers) (in_flight i.0 old.flow) result new.stack
+        → stack.CompletesTeardown old.stack i (is_queried i old.workers) (unfinished_at old i) result new.stack
         → new ≡ record old { stack = new.stack; workers = after_entering old.workers k (Place.Complete i) result } → Does old new
     by_result (Err why) at h e = unchanged old new (e ∙ ap (λ x. record old { stack = x }) h.1)
     by_result (Ok done) at h e =
@@ -230,19 +234,19 @@ complete_teardown_does old k i result new h =
         let change = stack.in_phase Phase.Completing in
         let asked = is_queried i old.workers in
         let completes = passes stack.is_to_complete (row_at old.stack i) in
-        let frees = none_refuses (stack.complete_refusals old.stack i asked (in_flight i.0 old.flow)) h.0 in
+        let frees = none_refuses (stack.complete_refusals old.stack i asked (unfinished_at old i)) h.0 in
         let tests = or_parts (not completes) asked frees.1.0 in
         let row = passes_row stack.is_to_complete (row_at old.stack i) (not_false completes tests.0) in
         let goes = completing_goes_on old.stack i (not_false completes tests.0) in
         let changes = row_updated old.stack t change i.0 row.0 refl row.1 in
-        let none : in_flight i.0 old.flow ≡ 0 = omega (arith, ltb-false 0 (in_flight i.0 old.flow) frees.1.1.0) in
+        let none = none_left (in_flight i.0 old.flow) (routines_at i old.workers) (ltb-false 0 (unfinished_at old i) frees.1.1.0) in
         makes old (record old { stack = t; workers = put old.workers k (Place.Complete i) }) new
         (e ∙ ap (λ x. record old { stack = x; workers = put old.workers k (Place.Complete i) }) h.1) (still old.contexts) (λ s. record {
           under_way = callback_enters old k (Place.Complete i) i t row.0 (change row.0) at refl refl changes
-              (λ d m moves h. complete_workers i row.0 d old.workers m row.2 (not_queried i old.workers tests.1) moves h)
+              (λ d m few moves h. complete_workers i row.0 d old.workers m row.2 (not_queried i old.workers tests.1) none.1 moves h)
               (goes_on_keeps old.stack t goes s.under_way.stack) (goes_on_follows old.stack t goes) s.under_way;
           owned = goes_owned old k Place.Idle (Place.Complete i) t at refl refl refl
-              (row_goes old t i.0 row.0 (change row.0) changes (complete_goes old i.0 row.0 none)) (omega arith) (λ v h. h) s;
+              (row_goes old t i.0 row.0 (change row.0) changes (complete_goes old i.0 row.0 none.0)) (omega arith) (λ v h. h) s;
           filed = s.filed;
           links = s.links;
         })

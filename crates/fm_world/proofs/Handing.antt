@@ -1,5 +1,6 @@
 -- What events make of workers' numbers of references, said without a World.
 use Rattle.fm_world.proofs.Words.{CompleteReturns, CompleteReturnsAt, QueryReturns, QueryReturnsAt, ResumesPre, SetsUp, SetsUpAt, StartReturns, StartReturnsAt}
+use Rattle.fm_world.proofs.Words.{AtRoutine, RoutineReturns, RoutineReturnsAt}
 use Rattle.fm_world.proofs.Words.{HoldsFewer, KeepsHands, given_with, hand_len, left_by, left_by_setup, taken_by_resume, place_in, sent_in, state_at, first_of}
 use Rattle.fm_world.proofs.Words.{CtxId, InstanceId, OpId, Status, WorkerId, PreState, PreVerdict, Completion, hand_of, holds, of_hand, has_post, verdict_counted}
 use Rattle.fm_world.proofs.Words.{AtComplete, AtQuery, AtSetup, AtStart, InstanceCallback, worker_at, World, Place, Bool, Err, List, None, Ok, Option, Result, Some, [], ap}
@@ -69,6 +70,15 @@ pub complete_left : (old : World) (k : WorkerId) (r : Result (Unit {0}) Status) 
     → hand_len k.0 new ≡ left_by AtComplete (worker_at old.workers k) (hand_len k.0 old) → Left r (hand_len k.0 old) (hand_len k.0 new)
 unfolding CompleteReturns
 complete_left old k r new h e = complete_at old k r new (worker_at old.workers k) (hand_len k.0 old) (hand_len k.0 new) h e
+
+routine_at : (old : World) (k : WorkerId) (r : Result (Unit {0}) Status) (new : World) (at : Option Place) (n m : ℕ)
+    → RoutineReturnsAt old k r new at → m ≡ left_by AtRoutine at n → Left r n m
+routine_at old k r new at n m h e = grind (arith, wrong_left, done_left)
+
+pub routine_left : (old : World) (k : WorkerId) (r : Result (Unit {0}) Status) (new : World) → RoutineReturns old k r new
+    → hand_len k.0 new ≡ left_by AtRoutine (worker_at old.workers k) (hand_len k.0 old) → Left r (hand_len k.0 old) (hand_len k.0 new)
+unfolding RoutineReturns
+routine_left old k r new h e = routine_at old k r new (worker_at old.workers k) (hand_len k.0 old) (hand_len k.0 new) h e
 
 -- ---- a preoperation is resumed: what its verdict sends along is at most the context that it names
 

@@ -4,6 +4,7 @@ use Rattle.fm_world.proofs.Words.{IsFileSound, HasWorkers, IsUnderWay, most_at, 
 use Rattle.fm_world.proofs.Words.{first_of, is_setup, one, updated, AtSetup, InstanceCallback, is_at, put, worker_at, World, Place, Bool, Err, List, None, Ok, Option}
 use Rattle.fm_world.proofs.Words.{Result, Some, [], ap, arith, count_by, false, inl, inr, length, length-set, refl, slice_get, subst, suc, sym, true, zero, ℕ}
 use Rattle.fm_world.proofs.Words.{◌++◌, ◌+◌, ◌<◌, ◌∙◌, ◌∷◌, ◌≡◌, ◌≢◌, ◌≤◌, cases_eq, eq-eqb, ne_eqb, slice_get_within}
+use Rattle.std.proofs.lemmas.List.Sums.{count_by-le-length}
 use Rattle.fm_stack.proofs.Attaching.{attached_follows, attached_keeps}
 use Rattle.fm_stack.proofs.SettingUp.{accepted_follows, accepted_keeps, refused_follows, refused_keeps}
 use Rattle.fm_world.proofs.Amongs.{among_follows}
@@ -91,16 +92,20 @@ MovesWorkers i a b x y = (d : InstanceCallback) (n m : ℕ) → m + one (is_at d
 -- one instance changes perhaps, and one worker goes into a callback of it or comes out of it
 pub workers_move : (w : World) (t : StackWorld) (k : WorkerId) (a b : Place) (i : ℕ) → worker_at w.workers k ≡ Some a → InOwnCallback i a → InOwnCallback i b
     → ((j : ℕ) → j ≢ i → slice_get t.instances j ≡ slice_get w.stack.instances j)
-    → ((d : InstanceCallback) (m : ℕ) → m + one (is_at d i a) ≡ count_by (is_at d i) w.workers + one (is_at d i b) → HasWorkers d (slice_get t.instances i) m) → IsUnderWay w
+    → ((d : InstanceCallback) (m : ℕ) → m ≤ 48 → m + one (is_at d i a) ≡ count_by (is_at d i) w.workers + one (is_at d i b)
+    → HasWorkers d (slice_get t.instances i) m) → IsUnderWay w
     → (d : InstanceCallback) (j : ℕ) → HasWorkers d (slice_get t.instances j) (count_by (is_at d j) (put w.workers k b))
 workers_move w t k a b i at from to others here s d j = elim (cases_eq j i) [
   | inl is ↦
       subst (λ x. HasWorkers d (slice_get t.instances x) (count_by (is_at d x) (put w.workers k b))) (sym is)
-      (here d (count_by (is_at d i) (put w.workers k b)) (count_moves (is_at d i) w.workers k a b at))
+      (here d (count_by (is_at d i) (put w.workers k b)) (few_at d) (count_moves (is_at d i) w.workers k a b at))
   | inr apart ↦
       subst (λ m. HasWorkers d m (count_by (is_at d j) (put w.workers k b))) (sym (others j apart))
       (subst (HasWorkers d (slice_get w.stack.instances j)) (sym (count_stays (is_at d j) w.workers k a b at (from d j apart) (to d j apart))) (s.instance_callbacks d j))
 ]
+  where
+    few_at : (d : InstanceCallback) → count_by (is_at d i) (put w.workers k b) ≤ 48
+    few_at d = omega (arith, count_by-le-length (is_at d i) (put w.workers k b), length-set w.workers k.0 b, s.hands)
 
 -- the instance whose callback a worker is in is there, and may have it there
 pub callback_place : (w : World) (k : WorkerId) (a : Place) (d : InstanceCallback) (i : InstanceId) → IsUnderWay w → worker_at w.workers k ≡ Some a → is_at d i.0 a ≡ true
@@ -142,7 +147,7 @@ attach_keeps old k f v name altitude i idle free is s =
     (attached_keeps old.stack f v name altitude s.stack free) (attached_follows old.stack f v name altitude s.stack)
     (workers_move old t k Place.Idle (Place.Setup i) i.0 idle (λ d j _. at_none Place.Idle refl d j) (in_own_callback (Place.Setup i) i refl)
     (λ j apart. others_push rows row j (λ e. apart (e ∙ sym is)))
-    (λ d m moves. subst (λ o. HasWorkers d o m) (sym here)
+    (λ d m few moves. subst (λ o. HasWorkers d o m) (sym here)
     (attach_workers f v name altitude i d (count_by (is_at d i.0) old.workers) m moves
     (subst (λ o. HasWorkers d o (count_by (is_at d i.0) old.workers)) none (s.instance_callbacks d i.0)))) s)
     s
@@ -169,20 +174,20 @@ row_stays s i row there = record { was = there; now = there; others = λ j apart
 
 pub callback_moves : (old : World) (k : WorkerId) (a b : Place) (i : InstanceId) (t : StackWorld) (x y : Instance) → worker_at old.workers k ≡ Some a
     → Outside a → Outside b → InOwnCallback i.0 a → InOwnCallback i.0 b → RowChanges old.stack t i.0 x y
-    → ((d : InstanceCallback) (m : ℕ) → m + one (is_at d i.0 a) ≡ count_by (is_at d i.0) old.workers + one (is_at d i.0 b)
+    → ((d : InstanceCallback) (m : ℕ) → m ≤ 48 → m + one (is_at d i.0 a) ≡ count_by (is_at d i.0) old.workers + one (is_at d i.0 b)
     → HasWorkers d (Some x) (count_by (is_at d i.0) old.workers) → HasWorkers d (Some y) m)
     → IsStack t → Follows old.stack t → IsUnderWay old → IsUnderWay (record old { stack = t; workers = put old.workers k b })
 callback_moves old k a b i t x y at from to off on row here stack follows s =
     worker_moves old t k a b at from to stack follows
     (workers_move old t k a b i.0 at off on row.others
-    (λ d m moves. subst (λ o. HasWorkers d o m) (sym row.now)
-    (here d m moves (subst (λ o. HasWorkers d o (count_by (is_at d i.0) old.workers)) row.was (s.instance_callbacks d i.0)))) s)
+    (λ d m few moves. subst (λ o. HasWorkers d o m) (sym row.now)
+    (here d m few moves (subst (λ o. HasWorkers d o (count_by (is_at d i.0) old.workers)) row.was (s.instance_callbacks d i.0)))) s)
     s
 
 -- a callback is entered
 pub callback_enters : (old : World) (k : WorkerId) (b : Place) (i : InstanceId) (t : StackWorld) (x y : Instance) → worker_at old.workers k ≡ Some Place.Idle
     → is_outside b ≡ true → own_callback_of b ≡ Some i → RowChanges old.stack t i.0 x y
-    → ((d : InstanceCallback) (m : ℕ) → m + one (is_at d i.0 Place.Idle) ≡ count_by (is_at d i.0) old.workers + one (is_at d i.0 b)
+    → ((d : InstanceCallback) (m : ℕ) → m ≤ 48 → m + one (is_at d i.0 Place.Idle) ≡ count_by (is_at d i.0) old.workers + one (is_at d i.0 b)
     → HasWorkers d (Some x) (count_by (is_at d i.0) old.workers) → HasWorkers d (Some y) m)
     → IsStack t → Follows old.stack t → IsUnderWay old → IsUnderWay (record old { stack = t; workers = put old.workers k b })
 callback_enters old k b i t x y at outside own row here stack follows s =
@@ -195,7 +200,7 @@ pub callback_ends : (old : World) (k : WorkerId) (a : Place) (i : InstanceId) (t
     → IsStack t → Follows old.stack t → IsUnderWay old → IsUnderWay (record old { stack = t; workers = put old.workers k Place.Idle })
 callback_ends old k a i t x y at outside own row still_right stack follows s =
     callback_moves old k a Place.Idle i t x y at (outside_of a outside) (outside_of Place.Idle refl) (in_own_callback a i own) (λ d j _. at_none Place.Idle refl d j) row
-    (λ d m moves h. still_right d (count_by (is_at d i.0) old.workers) m moves h) stack follows s
+    (λ d m few moves h. still_right d (count_by (is_at d i.0) old.workers) m moves h) stack follows s
 
 -- ---- the end of a setup callback
 

@@ -27,6 +27,7 @@ pub mod Resumes
 pub mod Staying
 pub mod Draining
 pub mod Detaching
+pub mod Routines
 pub mod Unloading
 pub mod Dismounting
 pub mod Handing

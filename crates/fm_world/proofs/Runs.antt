@@ -2,7 +2,7 @@
 use Rattle.fm_world.proofs.Words.{lawful_alike, is_id-same, none_if_not_held, held, holds, is_id, references, is_open, context_at, context_in, link_count}
 use Rattle.fm_world.proofs.Words.{carried_among, carried_by, carried_in, flight, times, total, count-cons, all_at, empty_files, DescendsIn, Headline, IsAscent}
 use Rattle.fm_world.proofs.Words.{IsInOrder, IsSynchronized, RulesKeepHeadline, names_there, AskCarries, CarriesIn, HoldsIn, belongs, belongs_by, fits}
-use Rattle.fm_world.proofs.Words.{is_flown_by, is_left_by, keeps_links_by, link_fits, may_link, owner_fits, place_in, row_at, IsAmong, IsSound, Run, RunThrough}
+use Rattle.fm_world.proofs.Words.{AtRoutine, HasWorkers, routines_at, is_flown_by, is_left_by, keeps_links_by, link_fits, may_link, owner_fits, place_in, row_at, IsAmong, IsSound, Run, RunThrough}
 use Rattle.fm_world.proofs.Words.{Steps, Ask, Context, CtxId, FlowRecord, Instance, InstanceId, Object, Owner, Slot, StackWorld, WorkerId, hand_of, instances}
 use Rattle.fm_world.proofs.Words.{one, open_of, owed, owner_at, cleanup_in, worker_at, World, empty_stack, empty_world, reference_count, Step, StepReply}
 use Rattle.fm_world.proofs.Words.{Place, All, Bool, List, None, Option, Some, [], ap, arith, cond, false, get_or, is_some, option_and_then, option_map, refl}
@@ -25,6 +25,7 @@ use Rattle.fm_world.proofs.Owning.{attach_does, mount_does, register_does, setup
 use Rattle.fm_world.proofs.Requests.{begin_does, collect_does}
 use Rattle.fm_world.proofs.Resumes.{first_held_does, resume_post_does, resume_pre_does}
 use Rattle.fm_world.proofs.Returns.{base_does, post_does, pre_does}
+use Rattle.fm_world.proofs.Routines.{enter_routine_does, routine_returned_does}
 use Rattle.fm_world.proofs.Staying.{Does}
 use Rattle.fm_world.proofs.Turns.{next_does}
 use Rattle.fm_world.proofs.Unloading.{ask_unload_does, empty_filter_does, finish_filter_does, force_unload_does, unload_does}
@@ -184,6 +185,9 @@ none_counted o (x ∷ slots) h =
 flown_is_left : (m : Option Instance) → is_left_by m ≡ false → is_flown_by m ≡ false
 flown_is_left m h = grind arith
 
+none_in_routines : (m : Option Instance) (n : ℕ) → is_flown_by m ≡ false → HasWorkers AtRoutine m n → n ≡ 0
+none_in_routines m n rests h = grind arith
+
 pub headline_from : (w : World) → IsSound w → Headline w
 headline_from w s =
     let h = s.under_way in
@@ -213,6 +217,7 @@ headline_from w s =
             (λ x fit. not_owned w.stack i x.context gone fit) w.contexts.slots k.fits),
         k.quiet i (flown_is_left (row_at w.stack i) gone),
       );
+      routines = λ i rests. none_in_routines (row_at w.stack i) (routines_at i w.workers) rests (h.instance_callbacks AtRoutine i.0);
     }
 
 -- what each event does
@@ -250,6 +255,8 @@ step_does old (Step.DrainTake k i) (StepReply.Drained r) new h = (drain_take_doe
 step_does old (Step.DrainDone k) (StepReply.Done r) new h = (drain_done_does old k r new h).0
 step_does old (Step.CompleteTeardown k i) (StepReply.Done r) new h = complete_teardown_does old k i r new h
 step_does old (Step.CompleteReturned k) (StepReply.Done r) new h = (complete_returned_does old k r new h).0
+step_does old (Step.EnterRoutine k i f) (StepReply.Done r) new h = enter_routine_does old k i f r new h
+step_does old (Step.RoutineReturned k) (StepReply.Done r) new h = (routine_returned_does old k r new h).0
 step_does old (Step.AskUnload k f) (StepReply.Done r) new h = ask_unload_does old k f r new h
 step_does old (Step.UnloadReturned k allow) (StepReply.Done r) new h = unload_does old k allow r new h
 step_does old (Step.ForceUnload f) (StepReply.Done r) new h = force_unload_does old f r new h

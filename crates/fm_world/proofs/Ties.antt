@@ -24,12 +24,13 @@ count_stays p workers k a b h na nb =
     let from : one (p a) ≡ 0 = ap one na in
     grind (arith, count_moves)
 
--- the instance whose callback a worker is in that doesn't belong to an operation
+-- the instance whose callback a worker is in that doesn't belong to an operation, or whose routine
 abbrev pub own_callback_of : Place → Option InstanceId
 own_callback_of (Place.Setup i) = Some i
 own_callback_of (Place.Query i) = Some i
 own_callback_of (Place.Start i) = Some i
 own_callback_of (Place.Complete i) = Some i
+own_callback_of (Place.Routine i file) = Some i
 own_callback_of _ = None
 
 abbrev pub InNoCallback : Place → Type 0

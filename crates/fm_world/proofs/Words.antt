@@ -94,7 +94,9 @@ pub use Rattle.fm_world.specs.Owners.{row_at}
 pub use Rattle.fm_world.specs.Sound.{AreOwned, AreUnderWay, IsAmong, IsAmongAt, IsFileSound, IsFiled, IsOwned, IsSound, HasWorkers, IsUnderWay, NoneLeft}
 pub use Rattle.fm_world.specs.Sound.{is_made, most_at}
 pub use Rattle.fm_world.specs.Steps.{Run, RunThrough, Steps}
-pub use Rattle.fm_world.specs.Teardowns.{CompleteReturnsAt, QueryReturnsAt, StartReturnsAt, UnloadReturnsAt}
+pub use Rattle.fm_world.specs.Routines.{RoutineReturnsAt, file_by, routine_refusals}
+unfoldable pub use Rattle.fm_world.specs.Routines.{EntersRoutine, RoutineReturns}
+pub use Rattle.fm_world.specs.Teardowns.{CompleteReturnsAt, QueryReturnsAt, StartReturnsAt, UnloadReturnsAt, unfinished_at}
 unfoldable pub use Rattle.fm_world.specs.Teardowns.{AsksDetach, AsksUnload, CompleteReturns, CompletesTeardown, EmptiesFilter, FinishesFilter, ForcesUnload}
 unfoldable pub use Rattle.fm_world.specs.Teardowns.{QueryReturns, StartReturns, StartsTeardown, UnloadReturns}
 pub use Rattle.fm_world.specs.Words.{Answer, Answers, AnswersOrMemory, Ask, Context, ContextKind, ContextTable, CtxId, Descending, Due, Entry, FilterId}
@@ -105,8 +107,8 @@ pub use Rattle.fm_world.specs.Words.{empty_table, finished, first_of, grabbed, h
 pub use Rattle.fm_world.specs.Words.{is_below_cursor, is_candidate, is_completing, is_create, is_creating, is_detached, is_emptying_at, is_full, is_linked_of}
 pub use Rattle.fm_world.specs.Words.{is_lower_at, is_mounted, is_on_stream, is_setup, is_stopping, is_to_visit, last_posted, last_visited, link_at, one}
 pub use Rattle.fm_world.specs.Words.{open_of, operation_at, owed, owner_at, posted, released, told, updated, visited, without_first}
-pub use Rattle.fm_world.specs.Workers.{AtComplete, AtQuery, AtSetup, AtStart, InstanceCallback, after_attach, after_entering, after_next, cleanup_in, gives_nothing, is_at}
-pub use Rattle.fm_world.specs.Workers.{is_idle, is_queried, put, worker_at}
+pub use Rattle.fm_world.specs.Workers.{AtComplete, AtQuery, AtRoutine, AtSetup, AtStart, InstanceCallback, after_attach, after_entering, after_next, cleanup_in, gives_nothing, is_at}
+pub use Rattle.fm_world.specs.Workers.{is_idle, is_queried, put, routines_at, worker_at}
 pub use Rattle.fm_world.specs.World.{World, carries, empty_stack, empty_world, reference_count}
 pub use Rattle.fm_world.specs.declared.file.FileHandle.{FileHandle}
 pub use Rattle.fm_world.specs.declared.file.FileObject.{FileObject}

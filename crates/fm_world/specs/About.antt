@@ -1,4 +1,4 @@
--- What a callback may know of what it is called for: its instance, that one's filter and volume, and the operation.
+-- What a callback or a routine may know of what it is called for: its instance, that one's filter and volume, and the operation.
 use Rattle.std.specs.Prelude.{◌≡◌, Bool, true, is_some, Option, Some, None, option_map, option_and_then, slice_get, Result, Ok, Err}
 use Rattle.fm_types.specs.declared.status.Status.TheVariants as status
 use Rattle.fm_stack.specs.declared.volume.Volume.{Volume}

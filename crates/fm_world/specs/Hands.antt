@@ -9,7 +9,7 @@ use Rattle.fm_world.specs.declared.set_answer.SetAnswer.{SetAnswer}
 use Rattle.fm_world.specs.declared.set_answer.SetAnswer.TheVariants as answer
 use Rattle.fm_world.specs.declared.place.Place.{Place}
 use Rattle.fm_world.specs.declared.place.Place.TheVariants as place
-use Rattle.fm_world.specs.Workers.{InstanceCallback, AtSetup, AtQuery, AtStart, AtComplete}
+use Rattle.fm_world.specs.Workers.{InstanceCallback, AtSetup, AtQuery, AtStart, AtComplete, AtRoutine}
 use Rattle.fm_world.specs.World.{World}
 
 -- how many references a list of hands has in all
@@ -70,6 +70,7 @@ left_by AtSetup (Some (place.Setup i)) n = 0
 left_by AtQuery (Some (place.Query i)) n = 0
 left_by AtStart (Some (place.Start i)) n = 0
 left_by AtComplete (Some (place.Complete i)) n = 0
+left_by AtRoutine (Some (place.Routine i file)) n = 0
 left_by _ _ n = n
 
 abbrev pub left_by_setup : Option Place → ℕ → ℕ

@@ -14,8 +14,8 @@ use Rattle.fm_world.specs.declared.place.Place.TheVariants as place
 use Rattle.fm_world.specs.FileLaws.{FilesHold}
 use Rattle.fm_world.specs.Links.{names_there}
 use Rattle.fm_world.specs.World.{World, carries, reference_count, empty_world}
-use Rattle.fm_world.specs.Workers.{worker_at, cleanup_in}
-use Rattle.fm_world.specs.Owners.{row_at, place_in, is_left_by, keeps_links_by, fits, HoldsIn, AskCarries}
+use Rattle.fm_world.specs.Workers.{worker_at, cleanup_in, routines_at}
+use Rattle.fm_world.specs.Owners.{row_at, place_in, is_left_by, keeps_links_by, is_flown_by, fits, HoldsIn, AskCarries}
 use Rattle.fm_world.specs.Steps.{Run}
 use Rattle.fm_world.specs.Descent.{IsDescent}
 
@@ -60,6 +60,7 @@ is_in_at o _ (place.Cleanup c) = false
 is_in_at o _ (place.Query i) = false
 is_in_at o _ (place.Start i) = false
 is_in_at o _ (place.Complete i) = false
+is_in_at o _ (place.Routine i file) = false
 is_in_at o _ (place.Unload f) = false
 
 -- where that is, by its stage and its last entry; nowhere, where it is with no worker
@@ -97,6 +98,7 @@ is_in_drain o i (place.Cleanup c) = false
 is_in_drain o i (place.Query j) = false
 is_in_drain o i (place.Start j) = false
 is_in_drain o i (place.Complete j) = false
+is_in_drain o i (place.Routine j file) = false
 is_in_drain o i (place.Unload f) = false
 
 -- how many drains of an instance run in the operation of that number
@@ -134,7 +136,7 @@ pub record Headline (w : World) : Type 0 where
   pub links : All (λ (s : Slot). names_there w.files s.context ≡ true) w.contexts.slots
   -- the streams are those that an open handle or a create under way is on, and each number and each path stands once
   pub files : FilesHold w.files w.flow
-  -- a worker's references are to contexts of the instance whose callback it is in, or to volume contexts of its filter; so are those that
+  -- a worker's references are to contexts of the instance whose callback or routine it is in, or to volume contexts of its filter; so are those that
   -- a completion carries, of the instance that it is owed to
   pub holders : (k : WorkerId) → All (HoldsIn w.stack w.contexts.slots (place_in (worker_at w.workers k))) (hand_of w.contexts.hands k.0)
   pub completions : All (λ (r : FlowRecord). All (AskCarries w.stack w.contexts.slots) (owed r.entries)) w.flow.operations
@@ -143,6 +145,8 @@ pub record Headline (w : World) : Type 0 where
       → owner_at w.contexts.slots c ≡ Some (owner.Instance i) → reference_count w c ≡ 0
   -- a detached instance owns no context that isn't cleaned, and nothing is in flight at it
   pub detached : (i : InstanceId) → is_left_by (row_at w.stack i) ≡ false → (open_of w.contexts.slots (owner.Instance i) ≡ 0) × (in_flight i.0 w.flow ≡ 0)
+  -- and of an instance whose setup isn't over, or whose teardown was completed, no routine runs
+  pub routines : (i : InstanceId) → is_flown_by (row_at w.stack i) ≡ false → routines_at i w.workers ≡ 0
 
 -- every list of events, with every answer that the rules allow, leads from the empty World to one that keeps the Headline
 abbrev pub RulesKeepHeadline : Type 0

@@ -11,6 +11,7 @@ pub mod ContextEvents
 pub mod About
 pub mod Teardowns
 pub mod EarlyDrains
+pub mod Routines
 pub mod Dismounts
 pub mod Steps
 pub mod Descent

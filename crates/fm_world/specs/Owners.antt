@@ -16,7 +16,7 @@ use Rattle.fm_world.specs.declared.file.FileObject.{FileObject}
 use Rattle.fm_world.specs.declared.place.Place.{Place}
 use Rattle.fm_world.specs.declared.place.Place.TheVariants as place
 
--- the instance whose callback a worker is in: for an operation, for its setup, or for its teardown
+-- the instance whose callback a worker is in: for an operation, for its setup, for its teardown, or a routine of its filter
 abbrev pub instance_in : Place → Option InstanceId
 instance_in (place.Setup i) = Some i
 instance_in (place.Pre o i) = Some i
@@ -26,6 +26,7 @@ instance_in (place.EarlyDrain o i) = Some i
 instance_in (place.Query i) = Some i
 instance_in (place.Start i) = Some i
 instance_in (place.Complete i) = Some i
+instance_in (place.Routine i file) = Some i
 instance_in place.Idle = None
 instance_in (place.Base o) = None
 instance_in (place.Cleanup c) = None
@@ -53,13 +54,16 @@ operation_in (place.Cleanup c) = None
 operation_in (place.Query i) = None
 operation_in (place.Start i) = None
 operation_in (place.Complete i) = None
+operation_in (place.Routine i file) = None
 operation_in (place.Unload f) = None
 
 abbrev pub file_at : FlowTable → Option OpId → Option FileObject
 file_at t None = None
 file_at t (Some o) = told (λ r. file_object r.stream r.handle) None o t
 
+-- a routine says itself which file it is on, a callback by its operation
 abbrev pub file_of : FlowTable → Option Place → Option FileObject
+file_of t (Some (place.Routine i file)) = file
 file_of t m = file_at t (option_and_then operation_in m)
 
 -- what a callback of an instance may work on: the instance is there

@@ -1,5 +1,5 @@
 -- What an induction over events needs besides the Headline, and from which the Headline follows.
-use Rattle.std.specs.Prelude.{◌≡◌, ℕ, ◌+◌, ◌<◌, ◌≤◌, ◌&&◌, Bool, true, false, List, length, All, count_by, Option, Some, None, slice_get}
+use Rattle.std.specs.Prelude.{◌≡◌, ℕ, ◌+◌, ◌<◌, ◌≤◌, ◌&&◌, Bool, true, false, cond, List, length, All, count_by, Option, Some, None, slice_get}
 use Rattle.fm_world.specs.Words.{InstanceId, WorkerId, OpId, VolumeId, Operation, Instance, StackWorld, is_setup, NonePasses, is_candidate, cleaning_of}
 use Rattle.fm_world.specs.Words.{hand_of, IsLawful, Slot, Stage, InBase, Entry, FlowRecord, visited, last_visited, has_base, owed, creates, FlowTable, IsFlow}
 use Rattle.fm_world.specs.Words.{in_flight, carried, ContextTable, one, is_stopping, is_completing}
@@ -12,7 +12,7 @@ use Rattle.fm_world.specs.Files.{FileTable}
 use Rattle.fm_world.specs.FileLaws.{FilesHold}
 use Rattle.fm_world.specs.Links.{names_there}
 use Rattle.fm_world.specs.World.{World}
-use Rattle.fm_world.specs.Workers.{worker_at, cleanup_in, InstanceCallback, AtSetup, AtQuery, AtStart, AtComplete, is_at}
+use Rattle.fm_world.specs.Workers.{worker_at, cleanup_in, InstanceCallback, AtSetup, AtQuery, AtStart, AtComplete, AtRoutine, is_at}
 use Rattle.fm_world.specs.Owners.{row_at, place_in, HoldsIn, AskCarries, fits, is_flown, is_flown_by}
 use Rattle.fm_world.specs.Descent.{IsDescent, HasRoom}
 use Rattle.fm_world.specs.Headline.{Spot, is_in_at, stands_at, is_in_drain, drains_running}
@@ -37,19 +37,21 @@ is_made mark.Made = true
 is_made _ = false
 
 -- how many workers are there, at least and at most: one is in the setup callback of an instance in Setup; one in the teardown-start callback of an instance
--- whose start was made and didn't return, which is where it is stopping; one in the teardown-complete callback of one that is completing; and perhaps one in
--- a query of one that is attached or stopping
+-- whose start was made and didn't return, which is where it is stopping; one in the teardown-complete callback of one that is completing; perhaps one in
+-- a query of one that is attached or stopping; and any number in routines of such a one
 abbrev pub least_at : InstanceCallback → Instance → ℕ
 least_at AtSetup row = one (is_setup row.phase)
 least_at AtQuery row = 0
 least_at AtStart row = one (is_made row.start)
 least_at AtComplete row = one (is_completing row.phase)
+least_at AtRoutine row = 0
 
 abbrev pub most_at : InstanceCallback → Instance → ℕ
 most_at AtSetup row = one (is_setup row.phase)
 most_at AtQuery row = one (is_flown row.phase)
 most_at AtStart row = one (is_stopping row.phase && is_made row.start)
 most_at AtComplete row = one (is_completing row.phase)
+most_at AtRoutine row = cond (is_flown row.phase) 48 0
 
 -- so many workers are right for an instance; for one that isn't there, none
 abbrev pub HasWorkers : InstanceCallback → Option Instance → ℕ → Type 0

@@ -46,6 +46,8 @@ worker_of (step.DrainTake k i) = Some k
 worker_of (step.DrainDone k) = Some k
 worker_of (step.CompleteTeardown k i) = Some k
 worker_of (step.CompleteReturned k) = Some k
+worker_of (step.EnterRoutine k i h) = Some k
+worker_of (step.RoutineReturned k) = Some k
 worker_of (step.Finish i) = None
 worker_of (step.AskUnload k f) = Some k
 worker_of (step.UnloadReturned k allow) = Some k
@@ -106,6 +108,7 @@ Holds (step.StartReturned k) answer old new = OfDone answer (λ r. Left r old ne
 Holds (step.DrainTake k i) answer old new = OfDrained answer (λ r. More r given_by_drain old new)
 Holds (step.DrainDone k) answer old new = OfDone answer (λ r. Nothing r old new)
 Holds (step.CompleteReturned k) answer old new = OfDone answer (λ r. Left r old new)
+Holds (step.RoutineReturned k) answer old new = OfDone answer (λ r. Left r old new)
 Holds _ answer old new = new ≡ old
 
 -- what an event makes of hands: of its worker's alone, and of none if it names no worker

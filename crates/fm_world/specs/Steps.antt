@@ -11,6 +11,7 @@ use Rattle.fm_world.specs.World.{World}
 use Rattle.fm_world.specs.ContextEvents.{Allocates, Sets, Gets, Deletes, References, Releases, ReadsBody, WritesBody, Bumps, TakesDue, Cleans, Finishes}
 use Rattle.fm_world.specs.Teardowns.{AsksDetach, QueryReturns, StartsTeardown, StartReturns, CompletesTeardown, CompleteReturns}
 use Rattle.fm_world.specs.EarlyDrains.{TakesDrain, DrainReturns}
+use Rattle.fm_world.specs.Routines.{EntersRoutine, RoutineReturns}
 use Rattle.fm_world.specs.Dismounts.{StartsDismount, DropsHandle, EmptiesVolume, FinishesVolume}
 use Rattle.fm_world.specs.Teardowns.{AsksUnload, UnloadReturns, ForcesUnload, EmptiesFilter, FinishesFilter}
 use Rattle.fm_world.specs.Events.{Registers, Mounts, Attaches, SetsUp, Begins, Nexts, PreReturns, BaseReturns, PostReturns, ResumesPre, ResumesPost, FindsHeld, Collects}
@@ -114,6 +115,8 @@ Steps old (step.DrainTake k i) answer new = OfDrained answer (λ r. TakesDrain o
 Steps old (step.DrainDone k) answer new = OfDone answer (λ r. DrainReturns old k r new)
 Steps old (step.CompleteTeardown k i) answer new = OfDone answer (λ r. CompletesTeardown old k i r new)
 Steps old (step.CompleteReturned k) answer new = OfDone answer (λ r. CompleteReturns old k r new)
+Steps old (step.EnterRoutine k i h) answer new = OfDone answer (λ r. EntersRoutine old k i h r new)
+Steps old (step.RoutineReturned k) answer new = OfDone answer (λ r. RoutineReturns old k r new)
 Steps old (step.Finish i) answer new = OfDone answer (λ r. Finishes old i r new)
 Steps old (step.AskUnload k f) answer new = OfDone answer (λ r. AsksUnload old k f r new)
 Steps old (step.UnloadReturned k allow) answer new = OfDone answer (λ r. UnloadReturns old k allow r new)

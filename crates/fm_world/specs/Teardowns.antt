@@ -1,7 +1,7 @@
 -- The events by which instances are detached and filters unloaded: the refusals of each, in their order, and what it makes of the World. A refusal changes
 -- nothing, but for the end of a callback, which returns whatever the answer: what its worker still holds leaks.
 -- An event that a worker makes is refused first of all, with WrongStep, where the worker isn't in the right place.
-use Rattle.std.specs.Prelude.{◌≡◌, Bool, Option, Some, Result, Ok, Err}
+use Rattle.std.specs.Prelude.{◌≡◌, ◌+◌, ℕ, Bool, Option, Some, Result, Ok, Err}
 use Rattle.fm_world.specs.Words.{FilterId, InstanceId, WorkerId, Status, first_of, Answers, Context, ContextTable, Leaves, Sweeps, is_linked_of, open_of, in_flight}
 use Rattle.fm_types.specs.declared.status.Status.TheVariants as status
 use Rattle.fm_ctx.specs.declared.owner.Owner.TheVariants as owner
@@ -10,7 +10,7 @@ use Rattle.fm_stack.specs.Unloading as filters
 use Rattle.fm_world.specs.declared.place.Place.{Place}
 use Rattle.fm_world.specs.declared.place.Place.TheVariants as place
 use Rattle.fm_world.specs.World.{World, carries}
-use Rattle.fm_world.specs.Workers.{worker_at, put, is_idle, is_queried, is_asked_to_unload, after_entering}
+use Rattle.fm_world.specs.Workers.{worker_at, put, is_idle, is_queried, routines_at, is_asked_to_unload, after_entering}
 use Rattle.fm_world.specs.Events.{Unless}
 
 -- ---- an instance is detached
@@ -48,11 +48,15 @@ StartReturnsAt old k result new _ = (result ≡ Err status.WrongStep) × (new �
 unfoldable pub StartReturns : World → WorkerId → Result (Unit {0}) Status → World → Type 0
 StartReturns old k result new = StartReturnsAt old k result new (worker_at old.workers k)
 
--- by an idle worker, which then is in the teardown-complete callback, where nothing is in flight
+-- what a teardown waits for: operations in flight at the instance, and its filter's routines
+abbrev pub unfinished_at : World → InstanceId → ℕ
+unfinished_at w i = in_flight i.0 w.flow + routines_at i w.workers
+
+-- by an idle worker, which then is in the teardown-complete callback, where nothing is left to wait for
 unfoldable pub CompletesTeardown : World → WorkerId → InstanceId → Result (Unit {0}) Status → World → Type 0
 CompletesTeardown old k i result new =
     Unless status.WrongStep (is_idle (worker_at old.workers k)) result old new
-    (stack.CompletesTeardown old.stack i (is_queried i old.workers) (in_flight i.0 old.flow) result new.stack
+    (stack.CompletesTeardown old.stack i (is_queried i old.workers) (unfinished_at old i) result new.stack
     × (new ≡ record old { stack = new.stack; workers = after_entering old.workers k (place.Complete i) result }))
 
 -- the instance's contexts lose their links

@@ -1,5 +1,5 @@
 -- Where workers are.
-use Rattle.std.specs.Prelude.{ℕ, ◌==◌, Bool, true, false, List, Option, Some, None, slice_get, slice_set, Result, Ok, Err}
+use Rattle.std.specs.Prelude.{ℕ, ◌==◌, Bool, true, false, List, count_by, Option, Some, None, slice_get, slice_set, Result, Ok, Err}
 use Rattle.std.specs.List.{list_any}
 use Rattle.fm_world.specs.Words.{WorkerId, CtxId, OpId, InstanceId, FilterId, Status, FlowAction}
 use Rattle.fm_flow.specs.declared.action.FlowAction.TheVariants as action
@@ -31,6 +31,7 @@ cleanup_in (Some (place.EarlyDrain o i)) = None
 cleanup_in (Some (place.Query i)) = None
 cleanup_in (Some (place.Start i)) = None
 cleanup_in (Some (place.Complete i)) = None
+cleanup_in (Some (place.Routine i file)) = None
 cleanup_in (Some (place.Unload f)) = None
 cleanup_in None = None
 
@@ -39,14 +40,15 @@ abbrev pub after_attach : List Place → WorkerId → Result InstanceId Status �
 after_attach workers k (Ok i) = put workers k (place.Setup i)
 after_attach workers k (Err status) = workers
 
--- the callbacks of an instance that don't belong to an operation
+-- the callbacks of an instance that don't belong to an operation, and its filter's routines
 pub data InstanceCallback : Type 0 where
   AtSetup : InstanceCallback
   AtQuery : InstanceCallback
   AtStart : InstanceCallback
   AtComplete : InstanceCallback
+  AtRoutine : InstanceCallback
 
--- a worker in the setup callback of that instance, in a query of it, in its teardown-start, and in its teardown-complete
+-- a worker in the setup callback of that instance, in a query of it, in its teardown-start, in its teardown-complete, and in a routine of it
 abbrev pub is_in_setup : ℕ → Place → Bool
 is_in_setup i (place.Setup j) = j.0 == i
 is_in_setup i _ = false
@@ -63,12 +65,21 @@ abbrev pub is_in_complete : ℕ → Place → Bool
 is_in_complete i (place.Complete j) = j.0 == i
 is_in_complete i _ = false
 
+abbrev pub is_in_routine : ℕ → Place → Bool
+is_in_routine i (place.Routine j file) = j.0 == i
+is_in_routine i _ = false
+
 -- one of these
 abbrev pub is_at : InstanceCallback → ℕ → Place → Bool
 is_at AtSetup i a = is_in_setup i a
 is_at AtQuery i a = is_in_query i a
 is_at AtStart i a = is_in_start i a
 is_at AtComplete i a = is_in_complete i a
+is_at AtRoutine i a = is_in_routine i a
+
+-- how many workers are in routines of the instance
+abbrev pub routines_at : InstanceId → List Place → ℕ
+routines_at i workers = count_by (is_in_routine i.0) workers
 
 -- a worker in an unload callback of that filter
 abbrev pub is_in_unload : ℕ → Place → Bool

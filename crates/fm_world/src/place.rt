@@ -1,8 +1,9 @@
 //! Where a worker is.
 
+use crate::file::FileObject;
 use fm_types::{CtxId, FilterId, InstanceId, OpId};
 
-/// Where a worker is: idle, or inside one callback of an instance, one call of the base or one cleanup of a context.
+/// Where a worker is: idle, or inside one callback or routine of an instance, one call of the base or one cleanup of a context.
 #[derive(Clone, Copy, Debug, PartialEq, Eq)]
 pub enum Place {
     /// In none: it may be given any callback or call.
@@ -27,6 +28,8 @@ pub enum Place {
     Start(InstanceId),
     /// In the callback that completes the instance's teardown.
     Complete(InstanceId),
+    /// In a routine of the instance's filter that is no callback: a work item, a thread, a timer (`FltQueueGenericWorkItem`). It may be on an open file.
+    Routine(InstanceId, Option<FileObject>),
     /// In the filter's unload callback.
     Unload(FilterId),
 }

@@ -181,6 +181,16 @@ pub enum Step {
     CompleteReturned {
         worker: WorkerId,
     },
+    /// The worker enters a routine of an instance's filter, which may be on an open file.
+    EnterRoutine {
+        worker: WorkerId,
+        instance: InstanceId,
+        handle: Option<HandleId>,
+    },
+    /// The routine that the worker is in returns.
+    RoutineReturned {
+        worker: WorkerId,
+    },
     /// The instance ends, once its contexts are cleaned up.
     Finish {
         instance: InstanceId,
@@ -271,6 +281,8 @@ impl Step {
             | Step::DrainDone { worker }
             | Step::CompleteTeardown { worker, .. }
             | Step::CompleteReturned { worker }
+            | Step::EnterRoutine { worker, .. }
+            | Step::RoutineReturned { worker }
             | Step::AskUnload { worker, .. }
             | Step::UnloadReturned { worker, .. } => Some(*worker),
         }

@@ -101,6 +101,15 @@ verdict_named e =
     (cond (e.mode == 3) (option_map verdict.Complete (status_at e.status e.number))
     (cond (e.mode == 4) (Some verdict.Pending) None))))
 
+-- the handle that a routine is on, if it is on one
+abbrev pub file_handle_in : KazdrinEvent → Option HandleId
+file_handle_in e = cond (e.flag == 0) None (Some (handle_in e))
+
+abbrev pub routine_named : KazdrinEvent → Option Step
+routine_named e =
+    cond (e.event == 47) (Some (step.EnterRoutine (worker_in e) (instance_in e) (file_handle_in e)))
+    (cond (e.event == 48) (Some (step.RoutineReturned (worker_in e))) None)
+
 abbrev pub unload_named : KazdrinEvent → Option Step
 unload_named e =
     cond (e.event == 38) (Some (step.AskUnload (worker_in e) (filter_in e)))
@@ -111,7 +120,7 @@ unload_named e =
     (cond (e.event == 43) (Some (step.StartDismount (volume_in e)))
     (cond (e.event == 44) (Some (step.DropHandle (volume_in e)))
     (cond (e.event == 45) (Some (step.EmptyVolume (volume_in e)))
-    (cond (e.event == 46) (Some (step.FinishVolume (volume_in e))) None))))))))
+    (cond (e.event == 46) (Some (step.FinishVolume (volume_in e))) (routine_named e)))))))))
 
 abbrev pub teardown_named : KazdrinEvent → Option Step
 teardown_named e =

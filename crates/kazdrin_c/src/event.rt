@@ -1,7 +1,7 @@
 //! What C says of an event: one structure for all of them, and the event that it names.
 
 ghost use Rattle.std.specs.Prelude.{◌≡◌, IfErr, IfOk, None};
-ghost use Rattle.kazdrin_c.specs.Named.{attach_named, completion_in, context_named, create_mode_named, file_named, kind_named, registration_in, request_named, set_mode_named, hold_named, status_at, step_named, teardown_named, unload_named, post_named, verdict_named, flag_in};
+ghost use Rattle.kazdrin_c.specs.Named.{attach_named, completion_in, context_named, create_mode_named, file_named, kind_named, registration_in, request_named, set_mode_named, hold_named, status_at, step_named, teardown_named, unload_named, routine_named, file_handle_in, post_named, verdict_named, flag_in};
 ghost use Rattle.kazdrin_c.specs.Refusals.{Unnamed, Unread, UnreadTexts, takes_memory};
 
 use fm_altitude::Altitude;
@@ -376,8 +376,37 @@ impl KazdrinEvent {
             44 => Step::DropHandle { volume },
             45 => Step::EmptyVolume { volume },
             46 => Step::FinishVolume { volume },
+            _ => return self.routine_step(),
+        };
+        Ok(step)
+    }
+
+    // What a filter does outside of callbacks.
+    fn routine_step(&self) -> Result<Step, Status>
+        ensures named { IfOk result (λ step. routine_named self.now ≡ Some step) }
+        ensures refused { IfErr result (λ status. Unnamed (takes_memory self.now) (routine_named self.now) status) }
+    {
+        let worker = WorkerId(self.worker);
+        let instance = InstanceId(self.instance);
+        let step = match self.event {
+            47 => Step::EnterRoutine {
+                worker,
+                instance,
+                handle: self.file_handle(),
+            },
+            48 => Step::RoutineReturned { worker },
             _ => return Err(Status::BadRequest),
         };
         Ok(step)
+    }
+
+    fn file_handle(&self) -> Option<HandleId>
+        ensures { result ≡ file_handle_in self.now }
+    {
+        if self.is_flagged() {
+            Some(HandleId(self.handle))
+        } else {
+            None
+        }
     }
 }

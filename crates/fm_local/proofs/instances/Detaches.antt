@@ -15,7 +15,8 @@ use Rattle.fm_flow.specs.Drains.{owed_to}
 use Rattle.fm_world.specs.Sound.{HasWorkers, is_made, least_at}
 use Rattle.fm_world.specs.Teardowns.{QueryReturnsAt, StartReturnsAt, CompleteReturnsAt, QueryReturns}
 use Rattle.fm_world.specs.Words.{one}
-use Rattle.fm_world.specs.Workers.{InstanceCallback, AtSetup, AtStart, AtComplete, after_entering, is_at, is_queried, is_in_query}
+use Rattle.fm_world.specs.Workers.{InstanceCallback, AtSetup, AtStart, AtComplete, after_entering, is_at, is_queried, is_in_query, is_in_routine}
+use Rattle.fm_world.specs.Teardowns.{unfinished_at}
 use Rattle.fm_local.specs.Quietly.{AsksQuietly, WasTold}
 use Rattle.fm_local.proofs.instances.Rest.{CalmAfter, Undisturbed, ask_refused, both, by_tidying, calm_both, calm_finished, calm_same, calm_tidied, goes}
 use Rattle.fm_local.proofs.instances.Rest.{happened, is_in, no_count, none_in, others_stay, refused_same, rests_on, stays_fewer, stops, through}
@@ -220,6 +221,9 @@ module _ (k : WorkerId) (i : InstanceId) where
   none_flies : (t : FlowTable) → t.operations ≡ [] → in_flight i.0 t ≡ 0
   none_flies t none = ap (λ rs. total (flight i.0) rs) none
 
+  none_unfinished : (w : World) → IsAtRest k w → unfinished_at w i ≡ 0
+  none_unfinished w rests = omega (arith, none_flies w.flow rests.operations, no_count (is_in_routine i.0) refl w.workers rests.all)
+
   completes_row : (row : Instance) (asked : Bool) (n : ℕ) → stack.is_to_complete row ≡ true → asked ≡ false → n ≡ 0
       → first_of ((is_detached row.phase, Status.NoInstance) ∷ (not (stack.is_to_complete row) || asked, Status.WrongStep)
       ∷ (nat_lt 0 n, Status.Busy n) ∷ []) ≡ None
@@ -238,11 +242,11 @@ module _ (k : WorkerId) (i : InstanceId) where
   completes old why new rests was stopping h =
       let event =
       subst (λ (b : Bool). Unless {T = Unit {0}} Status.WrongStep b (Err why) old new
-      (stack.CompletesTeardown old.stack i (is_queried i old.workers) (in_flight i.0 old.flow) (Err why) new.stack
+      (stack.CompletesTeardown old.stack i (is_queried i old.workers) (unfinished_at old i) (Err why) new.stack
       × (new ≡ record old { stack = new.stack; workers = after_entering old.workers k (Place.Complete i) (Err why) })))
       (ap is_idle rests.idle) h in
-      none-some why (sym (complete_refusals (slice_get old.stack.instances i.0) (is_queried i old.workers) (in_flight i.0 old.flow) (was stopping)
-      (none_in (is_in_query i.0) refl old.workers rests.all) (none_flies old.flow rests.operations)) ∙ event.0.0)
+      none-some why (sym (complete_refusals (slice_get old.stack.instances i.0) (is_queried i old.workers) (unfinished_at old i) (was stopping)
+      (none_in (is_in_query i.0) refl old.workers rests.all) (none_unfinished old rests)) ∙ event.0.0)
 
   completing_at : (old completing : World) → CompletesTeardown old k i (Ok tt) completing
       → completing ≡ record old { stack = stack.completing old.stack i; workers = put old.workers k (Place.Complete i) }

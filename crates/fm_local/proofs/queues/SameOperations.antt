@@ -13,6 +13,7 @@ use Rattle.fm_world.specs.ContextEvents.{callback_of, object_for, set_refused}
 use Rattle.fm_world.specs.Dismounts.{Drops, DropsHandle, EmptiesVolume, FinishesVolume, StartsDismount, lowest_on}
 use Rattle.fm_world.specs.Events.{FindsHeld, FindsHeldAt, SetsUp, SetsUpAt}
 use Rattle.fm_world.specs.Owners.{place_in}
+use Rattle.fm_world.specs.Routines.{EntersRoutine, RoutineReturns, RoutineReturnsAt}
 use Rattle.fm_world.specs.Teardowns.{CompleteReturnsAt, ForcesUnload, QueryReturns, QueryReturnsAt, StartReturnsAt}
 use Rattle.fm_world.specs.declared.file.FileHandle.{FileHandle}
 use Rattle.fm_world.specs.declared.set_answer.SetAnswer.{SetAnswer}
@@ -125,6 +126,19 @@ module _ (old new : World) where
       where
         by_worker : (m : Option Place) → CompleteReturnsAt old k result new m → Unmoved old new
         by_worker (Some (Place.Complete i)) h = ap flow_of h.4
+        by_worker _ h = ap flow_of h.1
+
+    pub entered_routine : (i : InstanceId) (handle : Option HandleId) (result : Result (Unit {0}) Status) → EntersRoutine old k i handle result new → Unmoved old new
+    unfolding EntersRoutine
+    entered_routine i handle result h = idle_by (After (Unit {0})) k result old new _ h (λ why. refl) (λ idle event.
+        answers_by (After (Unit {0})) _ result old new _ event (λ why. refl) (λ done none e. ap flow_of e))
+
+    pub routine_returned : (result : Result (Unit {0}) Status) → RoutineReturns old k result new → Unmoved old new
+    unfolding RoutineReturns
+    routine_returned result h = by_worker (worker_at old.workers k) h
+      where
+        by_worker : (m : Option Place) → RoutineReturnsAt old k result new m → Unmoved old new
+        by_worker (Some (Place.Routine i file)) h = ap flow_of h.2
         by_worker _ h = ap flow_of h.1
 
     pub unload_asked : (f : FilterId) (result : Result (Unit {0}) Status) → AsksUnload old k f result new → Unmoved old new

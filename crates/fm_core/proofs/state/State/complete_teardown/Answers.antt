@@ -8,9 +8,9 @@ unfolding CompletesTeardown
 returns-clause-event c =
     rw (
       sym c.is_idle.ensures ∙ c.if-not-is_idle.false,
+      sym c.unfinished_at-unfinished.ensures,
       sym c.self.view_is,
       sym c.is_queried-is_asked.ensures,
-      sym c.in_flight-in_flight.ensures,
       c.note_entering.ensures,
     )
     (c.complete_teardown-result.ensures.event, refl)

@@ -1,0 +1,13 @@
+//! What a filter does outside of callbacks.
+
+ghost use Rattle.std.specs.Prelude.{◌≡◌};
+
+use crate::port::Port;
+
+/// What a filter does for an instance outside of callbacks: a work item (`PFLT_GENERIC_WORKITEM_ROUTINE`), a thread, a timer. The manager calls it with none of
+/// its locks held, in a routine of the instance. It gets a port for what it may call of the manager, as callbacks do, and resumes there what the instance holds
+/// (`FltCompletePendedPreOperation`). It changes nothing that the port keeps.
+pub trait WorkItem {
+    fn run<P: Port>(&self, port: &mut P)
+        ensures far { P.kept port.new ≡ P.kept port.old };
+}

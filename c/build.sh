@@ -5,6 +5,7 @@
 #
 #   --explore           a program that runs a scenario under every schedule (docs/EXPLORE.md)
 #   --serve             a server of the drivers, behind the frames of docs/FRAMES.md
+#   --image             a program that loads binaries of drivers too, those of its words that end with .sys; then no DRIVER has to be named (docs/BINARY.md)
 #   --sanitize=WORDS    under these sanitizers of the compiler; `thread` watches the drivers alone
 #   --main FILE         a main program of your own, above c/include/kzflt.h
 #   --fuzz, --libfuzzer a program of random requests, as c/fuzz.sh makes it
@@ -23,9 +24,11 @@ usage() {
 kind=""
 sanitizers=""
 main=""
+image=""
 while [ $# -gt 0 ]; do
     case "$1" in
     --explore | --serve | --fuzz | --libfuzzer) kind=${1#--} ;;
+    --image) image=image ;;
     --sanitize=?*) sanitizers=${1#--sanitize=} ;;
     --main)
         [ $# -gt 1 ] || usage
@@ -37,7 +40,11 @@ while [ $# -gt 0 ]; do
     esac
     shift
 done
-[ $# -ge 2 ] && [ "$1" != --driver ] || usage
+[ $# -ge "$([ -n "$image" ] && echo 1 || echo 2)" ] && [ "$1" != --driver ] || usage
+if [ -n "$image" ] && [ "$(uname -m)" != x86_64 ]; then
+    say "binaries of drivers run on x86-64 alone"
+    exit 2
+fi
 program=$1
 shift
 cc=${CC:-cc}
@@ -82,7 +89,7 @@ if ! mkdir -p "$out" 2> /dev/null || [ ! -w "$out" ]; then
 fi
 exec 9> "$out/.lock"
 flock 9
-key=$("${make[@]}" where LIBRARIES="host $kind" CC="$cc" CFLAGS="$host_cflags")
+key=$("${make[@]}" where LIBRARIES="host $kind $image" CC="$cc" CFLAGS="$host_cflags")
 exec 9>&-
 host=$out/$key
 
@@ -112,6 +119,11 @@ libfuzzer)
     ;;
 serve | fuzz) libraries=("$host/libkazdrin_$kind.a" "${libraries[@]}") ;;
 esac
+# The loader reads the words first: the program's main comes behind its own.
+if [ -n "$image" ]; then
+    libraries=("$host/libkazdrin_image.a" "${libraries[@]}")
+    link="$link -Wl,--wrap=main"
+fi
 if [ "$sanitizers" = thread ]; then
     driver="$driver -fsanitize=thread $(volatiles)"
     link="$link -fsanitize=thread"
@@ -148,6 +160,7 @@ includes+=(-I"$room/tmh")
 trap 'rm -rf "$room"' EXIT
 count=0
 : > "$room/entries"
+: > "$room/declarations"
 # WPP's preprocessor makes a .tmh file of each source, with the trace functions that its project names: here they do nothing.
 tracing() {
     local name
@@ -264,10 +277,12 @@ while [ $# -gt 0 ]; do
 done
 {
     cat "$room/declarations"
-    echo "const struct { const char *name; int (*entry)(void *, void *); } kz_drivers[] = {"
+    table=kz_drivers
+    [ -z "$image" ] || table=kz_linked_drivers
+    echo "const struct { const char *name; int (*entry)(void *, void *); } $table[] = {"
     cat "$room/entries"
-    echo "};"
-    echo "const unsigned long kz_drivers_count = sizeof kz_drivers / sizeof kz_drivers[0];"
+    echo "{0, 0}};"
+    echo "const unsigned long ${table}_count = $count;"
     echo "const struct { const char *name; int (*entry)(int, void *); _Bool is_wide; } kz_programs[] = {"
     cat "$room/programs"
     echo "{0, 0, 0}};"
@@ -280,9 +295,10 @@ fi
 kit=("$support/liblibc_c.a")
 [ ! -f "$support/libos_c.a" ] || kit=("$support/libos_c.a" "${kit[@]}")
 others=()
-[ "$programs" = 0 ] || others=("$room"/program_*.o)
+[ "$count" = 0 ] || others=("$room"/driver_*.o)
+[ "$programs" = 0 ] || others+=("$room"/program_*.o)
 status=0
-$cc $link -o "$program" "$room/drivers.c" "$room"/driver_*.o "${others[@]}" "${libraries[@]}" "$library" "${kit[@]}" -pthread 2> "$room/said" || status=$?
+$cc $link -o "$program" "$room/drivers.c" "${others[@]}" "${libraries[@]}" "$library" "${kit[@]}" -pthread 2> "$room/said" || status=$?
 cat "$room/said" >&2
 missing=$(sed -n "s/.*undefined reference to [\`']\([A-Za-z_0-9]*\)'.*/\1/p" "$room/said" | sort -u | tr '\n' ' ')
 [ -z "$missing" ] || say "neither in your sources nor in this kit: $missing(docs/PROFILE.md has what is)"

@@ -138,7 +138,7 @@ static void tell(const Access *before, bool was_write, int client, const void *f
         snprintf(place, sizeof place, "@%lx", (unsigned long)(uintptr_t)from);
     snprintf(text, sizeof text, "RACE: %s at %s (" KZ_MARK "%s" KZ_MARK "), and %s at @%lx (" KZ_MARK "%s" KZ_MARK "), and nothing orders them", now, place, kz_me->name,
              words[before->is_atomic][was_write], (unsigned long)before->from, other->name);
-    ex_found(RACE, text);
+    ex_found_race(text, (uintptr_t)from, before->from);
 }
 
 /* A plain read beside an interlocked write is what drivers do on purpose. */
@@ -178,7 +178,7 @@ static void look_at_freed(uintptr_t address, const void *from, bool is_write)
             snprintf(place, sizeof place, "@%x", shadow->freed[at].from);
         snprintf(text, sizeof text, "USE AFTER FREE: %s at @%lx (" KZ_MARK "%s" KZ_MARK ") of memory that %s gave back at %s", words[0][is_write], (unsigned long)(uintptr_t)from, kz_me->name,
                  ex_runners[shadow->freed[at].client].name, place);
-        ex_found(RACE, text);
+        ex_found_race(text, (uintptr_t)from, shadow->freed[at].from);
         return;
     }
 }
@@ -228,19 +228,10 @@ static bool is_point(uintptr_t start, uintptr_t end, bool is_atomic)
     return is_atomic || (!ex->is_coarse && (is_shared(start >> 3) || ((end - 1) >> 3 != start >> 3 && is_shared((end - 1) >> 3))));
 }
 
-void ex_access(const void *address, size_t size, bool is_write, bool is_atomic, const void *from)
+/* The access is compared with those of others, and kept. */
+static void note(const void *address, size_t size, bool is_write, bool is_atomic, const void *from)
 {
     uintptr_t start = (uintptr_t)address, end = start + size;
-    if (is_atomic && shadow && (shadow->is_learning || !ex->is_running) && !ex_is_stack(address))
-        learn(address);
-    if (!is_watched() || ex_is_stack(address))
-        return;
-    if (ex->is_independent && !is_atomic) { /* whether this is a point depends on who met it before */
-        ex_use((const void *)start, false);
-        ex_use((const void *)(end - 1), false);
-    }
-    if (is_point(start, end, is_atomic))
-        ex_memory_point(address, size, from);
     if (ex->is_traced)
         ex_trace_access(address, is_write, is_atomic, from);
     for (uintptr_t tag = start >> 3; ex->is_independent && tag << 3 < end; tag++)
@@ -260,6 +251,52 @@ void ex_access(const void *address, size_t size, bool is_write, bool is_atomic, 
         *mine = (Access){shadow->clock[me][me], (uint32_t)(uintptr_t)from, is_same ? mine->bytes | bytes : bytes, is_atomic};
         shadow->hash += access_hash(cell, me, is_write);
     }
+}
+
+void ex_access(const void *address, size_t size, bool is_write, bool is_atomic, const void *from)
+{
+    uintptr_t start = (uintptr_t)address, end = start + size;
+    if (is_atomic && shadow && (shadow->is_learning || !ex->is_running) && !ex_is_stack(address))
+        learn(address);
+    if (!is_watched() || ex_is_stack(address))
+        return;
+    if (ex->is_independent && !is_atomic) { /* whether this is a point depends on who met it before */
+        ex_use((const void *)start, false);
+        ex_use((const void *)(end - 1), false);
+    }
+    if (is_point(start, end, is_atomic))
+        ex_memory_point(address, size, from);
+    note(address, size, is_write, is_atomic, from);
+}
+
+/* ---- The kit's calls over a driver's memory (c/host/lib). Each client has the line of the driver that made the call it is in, and how deep it is; no line where the host itself made it. */
+static struct {
+    unsigned depth;
+    const void *from;
+} calls[RUNNERS + 1];
+
+void ex_forget_lib_calls(void)
+{
+    memset(calls, 0, sizeof calls);
+}
+
+void ex_enter_lib(const void *from)
+{
+    if (is_watched() && calls[kz_me->number].depth++ == 0)
+        calls[kz_me->number].from = kz_me->inside ? NULL : from;
+}
+
+void ex_leave_lib(void)
+{
+    if (is_watched() && calls[kz_me->number].depth > 0)
+        calls[kz_me->number].depth--;
+}
+
+/* No other client goes on inside such a call: in the kit too it is the driver's line that is interrupted, before it or behind it. */
+void ex_lib_access(const void *address, size_t size, bool is_write)
+{
+    if (is_watched() && calls[kz_me->number].depth > 0 && calls[kz_me->number].from && size && !ex_is_stack(address))
+        note(address, size, is_write, false, calls[kz_me->number].from);
 }
 
 static void take(Object *one)

@@ -1,5 +1,11 @@
 /* The clients of a run: coroutines of one thread. One that stands at a point, waits or has ended asks who goes on. */
 #include "explore.h"
+#include "core/clock.h"
+#include "manager/perform.h"
+#include "manager/work.h"
+#include "kit/dpc.h"
+#include "kit/timer.h"
+#include "run/load.h"
 
 #include <signal.h>
 #include <sys/mman.h>
@@ -208,12 +214,11 @@ static bool can_others(const Runner *me)
     return false;
 }
 
-static bool wait(KzCan *can, void *what, KzWaits why, const char *text)
+static bool wait(KzCan *can, void *what, const char *text)
 {
     Runner *me = mine();
     if (ex->is_independent)
         ex_use_all();
-    me->client->why = why;
     me->can = can;
     me->what = what;
     me->timed_out = false;
@@ -239,7 +244,7 @@ static void yield(Runner *me, const void *from)
     me->from = from;
     me->yields = true;
     me->has_moved = false;
-    wait(has_let_others, me, KZ_WAITS_AS_THERE, "what it looks at again and again");
+    wait(has_let_others, me, "what it looks at again and again");
     me->yields = me->has_moved = false;
 }
 
@@ -526,6 +531,7 @@ void ex_run(void)
         else if (ex_runners[at].client)
             make(&ex_runners[at], at, live);
     ex->current = 0;
+    ex_forget_lib_calls();
     ex->is_running = true;
     Runner *before = NULL;
     for (int client = choose(NULL); client; client = ex->is_reduced || ex->is_independent ? choose(before) : 0) {

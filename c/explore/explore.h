@@ -2,8 +2,8 @@
 #ifndef KZ_EXPLORE_H
 #define KZ_EXPLORE_H
 
-#include "host.h"
-#include "run/beside.h"
+#include "core/beside.h"
+#include "core/client.h"
 #include "run/scenario.h"
 
 #include <setjmp.h>
@@ -91,6 +91,7 @@ typedef struct {
 typedef struct {
     KindOf of;
     char text[TEXT];
+    uintptr_t sides[2]; /* of a race: the driver's code on its two sides, as addresses; 0 where there is none */
     unsigned preemptions, switches, steps;
     size_t schedule_length;
 } Found;
@@ -103,6 +104,9 @@ typedef struct {
     unsigned client, step;
     const char *text;
     const void *from;
+    const void *object; /* that is taken or given */
+    const char *name;   /* of it, in the text */
+    bool is_lock;       /* it is one, which the client holds from now on, or no more */
     bool is_preemption;
 } Event;
 
@@ -258,6 +262,11 @@ void ex_open_shadow(void);
 void ex_start_clocks(void);
 void ex_touch(const void *object, size_t size, KzTouch how);
 void ex_access(const void *address, size_t size, bool is_write, bool is_atomic, const void *from);
+/* A call of the kit over a driver's memory begins, at that line of the driver; it is over; it reads or writes, at the same line. */
+void ex_enter_lib(const void *from);
+void ex_leave_lib(void);
+void ex_lib_access(const void *address, size_t size, bool is_write);
+void ex_forget_lib_calls(void);
 void ex_in_order(const void *object);
 /* Cells that interlocked or volatile accesses meet in the set-up, and in runs before the search: plain accesses to them are points too. */
 void ex_learn_cells(bool is);
@@ -289,7 +298,10 @@ const char *ex_schedule_text(size_t length);
 /* found.c */
 void ex_end_search(const char *full);
 void ex_stop_at(const char *unknown);
+/* The first line of it, or all of its lines; of a race, between these two places of the driver's code. */
 void ex_found(KindOf of, const char *text);
+void ex_found_lines(KindOf of, const char *text);
+void ex_found_race(const char *text, uintptr_t now, uintptr_t before);
 void ex_say(const KzSaid *said);
 void ex_keep_found(void);
 void ex_report_kind(const Kind *kind);

@@ -1,6 +1,8 @@
 /* Faults: the first write to a page of the image, a crash of the driver's, and code that never comes to a point. */
 #define _GNU_SOURCE
 #include "explore.h"
+#include "core/crash.h"
+#include "core/place.h"
 
 #include <signal.h>
 #include <sys/time.h>
@@ -16,11 +18,19 @@ static void leave_run(KindOf of, const char *what, const void *at)
     siglongjmp(ex->out, 1);
 }
 
+/* What a binary may not do by itself in this process, or takes for an exception. */
+static bool is_carried_on(int signal, siginfo_t *information, void *context)
+{
+    return kz_binaries.carry_out && (kz_binaries.carry_out(signal, information, context) || kz_binaries.raise(signal, information, context));
+}
+
 static void handle(int signal, siginfo_t *information, void *context)
 {
     const ucontext_t *machine = context;
     char what[40];
     if (signal == SIGSEGV && ex_opens_page(information->si_addr))
+        return;
+    if (is_carried_on(signal, information, context))
         return;
     if (!ex->is_running) {
         sigaction(signal, &(struct sigaction){.sa_handler = SIG_DFL}, NULL);

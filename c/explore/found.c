@@ -1,24 +1,44 @@
 /* What was found, by kinds: two runs that differ only by the numbers of operations found the same. */
 #include "explore.h"
+#include "core/said.h"
 
 /* ---- Of the run that goes on. */
-void ex_found(KindOf of, const char *text)
+static Found *add(KindOf of, const char *text)
 {
     for (size_t at = 0; at < ex->found_count; at++)
         if (ex->found[at].of == of && strcmp(ex->found[at].text, text) == 0)
-            return;
+            return NULL;
     if (ex->found_count == sizeof ex->found / sizeof ex->found[0])
-        return;
+        return NULL;
     Found *one = &ex->found[ex->found_count++];
     *one = (Found){.of = of, .preemptions = ex->preemptions, .switches = ex->switches, .steps = ex->steps, .schedule_length = ex->schedule_length};
     snprintf(one->text, sizeof one->text, "%s", text);
-    bool has_lines = of == STUCK || of == END || strncmp(text, "LIMIT:", 6) == 0;
-    one->text[has_lines ? sizeof one->text - 1 : strcspn(one->text, "\n")] = 0;
-    if (ex->is_traced && of == RACE) {
-        char line[TEXT + 8];
-        snprintf(line, sizeof line, "  %s\n", text);
-        ex_trace_text(line);
-    }
+    return one;
+}
+
+void ex_found(KindOf of, const char *text)
+{
+    Found *one = add(of, text);
+    if (one)
+        one->text[strcspn(one->text, "\n")] = 0;
+}
+
+void ex_found_lines(KindOf of, const char *text)
+{
+    add(of, text);
+}
+
+void ex_found_race(const char *text, uintptr_t now, uintptr_t before)
+{
+    char line[TEXT + 8];
+    Found *one = add(RACE, text);
+    if (!one)
+        return;
+    one->sides[0] = now;
+    one->sides[1] = before;
+    snprintf(line, sizeof line, "  %s\n", text);
+    if (ex->is_traced)
+        ex_trace_found(line);
 }
 
 /* What is said, each line with its client's name. */
@@ -61,7 +81,7 @@ void ex_say(const KzSaid *said)
     else if (said->kind == KZ_SAID_LIMIT && said->message == KZM_UNKNOWN_WAIT && kz_me != &kz_first) {
         ex_stop_at(said->text);
     } else if (said->kind == KZ_SAID_LIMIT) {
-        ex->is_limited |= said->message == KZM_NOWHERE_TO_RESUME || said->message == KZM_LEFT_OUT;
+        ex->is_limited |= said->message == KZM_LEFT_OUT;
         ex_found(LIMITED, said->text);
     }
 }

@@ -24,8 +24,11 @@ typedef struct {
     uint8_t *is_open;
 } Range;
 
+enum { MOST_RANGES = 64 };
+
 static struct {
-    Range ranges[2];
+    Range ranges[MOST_RANGES]; /* the program's, the first client's memory, and what drivers that are binaries have */
+    int ranges_count;
     char *pages[1 << 16];
     uint64_t hashes[1 << 16]; /* of the pages as they are put back */
     size_t pages_count;
@@ -65,7 +68,7 @@ bool ex_is_heap(const void *address)
 
 bool ex_is_program(const void *address)
 {
-    return (const char *)address >= __data_start && (const char *)address < _end;
+    return ((const char *)address >= __data_start && (const char *)address < _end) || kz_is_binary(address);
 }
 
 /* ---- The C library's calls. */
@@ -153,8 +156,11 @@ void ex_take_image(void)
     image = map(NULL, sizeof *image);
     take(&image->ranges[0], __data_start, _end);
     take(&image->ranges[1], arena(0), next[0]);
+    image->ranges_count = 2;
+    for (char *start, *end; kz_binaries.data && image->ranges_count < MOST_RANGES && kz_binaries.data((unsigned)image->ranges_count - 2, &start, &end); image->ranges_count++)
+        take(&image->ranges[image->ranges_count], start, end);
     image->is_taken = true;
-    for (int at = 0; at < 2; at++) {
+    for (int at = 0; at < image->ranges_count; at++) {
         Range *range = &image->ranges[at];
         memcpy(range->copy, range->start, (size_t)(range->end - range->start));
         mprotect(range->start, (size_t)(range->end - range->start), PROT_READ);
@@ -170,7 +176,7 @@ void ex_clear_arenas(void)
 
 static Range *range_of(const char *address)
 {
-    for (int at = 0; image && image->is_taken && at < 2; at++)
+    for (int at = 0; image && image->is_taken && at < image->ranges_count; at++)
         if (address >= image->ranges[at].start && address < image->ranges[at].end)
             return &image->ranges[at];
     return NULL;

@@ -1,5 +1,7 @@
 /* The explorer's program: it runs a scenario under every schedule with at most so many preemptions. */
 #include "explore.h"
+#include "core/said.h"
+#include "run/open.h"
 #include "run/words.h"
 
 #include <signal.h>
@@ -35,8 +37,6 @@ static void start_run(void)
 static void tell_stuck(void)
 {
     char text[TEXT];
-    for (int at = 1; at <= ex->runners_count; at++)
-        ex->is_limited |= ex_runners[at].state == WAITING && ex_runners[at].client->why == KZ_WAITS_FOR_US;
     size_t used = (size_t)snprintf(text, sizeof text, ex->is_limited ? "LIMIT: nobody goes on here, which needn't be so on Windows" : "STUCK");
     for (int at = 1; at <= ex->runners_count; at++) {
         const Runner *one = &ex_runners[at];
@@ -44,7 +44,7 @@ static void tell_stuck(void)
         if (!is_idle && one->state != ENDED && used + 1 < sizeof text)
             used += (size_t)snprintf(text + used, sizeof text - used, "\n  %s waits for %s", one->name, one->client->waits);
     }
-    ex_found(ex->is_limited ? LIMITED : STUCK, text);
+    ex_found_lines(ex->is_limited ? LIMITED : STUCK, text);
 }
 
 static int compare_lines(const void *a, const void *b)
@@ -64,7 +64,7 @@ static void tell_end(void)
     for (size_t at = 0; at < count && used + 1 < sizeof text; at++)
         if (!at || strcmp(lines[at], lines[at - 1]) != 0)
             used += (size_t)snprintf(text + used, sizeof text - used, "\n  %s", lines[at]);
-    ex_found(END, text);
+    ex_found_lines(END, text);
 }
 
 static void finish_run(void)
@@ -376,7 +376,6 @@ static int merge(const Asked *asked)
 {
     int ended = ex_merge(asked->merges, asked->merges_count);
     ex->is_whole = !ended;
-    ex->is_reduced = strstr(ex->search, " --reduce") || strstr(ex->search, " --states");
     if (ended == 3)
         return 3;
     put_merged();

@@ -1,6 +1,7 @@
 /* A schedule as a page for a browser: a lane for each client, a row for each step, with the line of the driver's source, what the step touches, the locks that are held, and what was found. It has the colours of the
  * page of a script. */
 #include "explore.h"
+#include "core/said.h"
 
 static const char style[] =
     ":root { color-scheme: light dark; --paper: #ffffff; --ink: #1c1e21; --quiet: #6b7178; --rule: #d7dade; --panel: #f5f6f8; --pick: #fff3c4; --bad: #c01818; --hold: #c25e00; --good: #23803c; --bar: #ffd98a; --edge: #a87b12; }\n"
@@ -60,34 +61,23 @@ static void put_text(FILE *to, const char *text)
 /* ---- Locks and objects that a client has taken and not let go. */
 enum { HELD = 16 };
 typedef struct {
-    const char *names[RUNNERS + 1][HELD];
+    const Event *taken[RUNNERS + 1][HELD];
     unsigned counts[RUNNERS + 1];
 } Holds;
-
-static bool is_lock(const char *text)
-{
-    return strstr(text, "Acquire") || strstr(text, "Release") || strstr(text, "Mutex") || strstr(text, "Lock");
-}
-
-static const char *object_of(const char *text)
-{
-    const char *colon = strstr(text, ": ");
-    return colon ? colon + 2 : text;
-}
 
 static void note_hold(Holds *holds, const Event *one)
 {
     unsigned *count = &holds->counts[one->client];
-    const char **names = holds->names[one->client];
-    if (!is_lock(one->text) || strstr(one->text, "Context"))
+    const Event **taken = holds->taken[one->client];
+    if (!one->is_lock)
         return;
     if (one->kind == EVENT_TAKES && *count < HELD) {
-        names[(*count)++] = object_of(one->text);
+        taken[(*count)++] = one;
         return;
     }
     for (unsigned at = *count; one->kind == EVENT_GIVES && at-- > 0;)
-        if (strcmp(names[at], object_of(one->text)) == 0) {
-            memmove(names + at, names + at + 1, (--*count - at) * sizeof *names);
+        if (taken[at]->object == one->object) {
+            memmove(taken + at, taken + at + 1, (--*count - at) * sizeof *taken);
             return;
         }
 }
@@ -96,15 +86,9 @@ static void note_hold(Holds *holds, const Event *one)
 /* Whether what was found names this place of the code. */
 static bool is_side(const void *from)
 {
-    char place[32];
-    if (!from)
-        return false;
-    int length = snprintf(place, sizeof place, "@%lx", (unsigned long)(uintptr_t)from);
-    for (size_t at = 0; at < ex->found_count; at++) {
-        const char *found = ex->found[at].of == RACE ? strstr(ex->found[at].text, place) : NULL;
-        if (found && !strchr("0123456789abcdef", found[length] ? found[length] : ' '))
+    for (size_t at = 0; from && at < ex->found_count; at++)
+        if (ex->found[at].sides[0] == (uintptr_t)from || ex->found[at].sides[1] == (uintptr_t)from)
             return true;
-    }
     return false;
 }
 
@@ -138,10 +122,10 @@ static void put_events(FILE *to, size_t from, size_t end)
     bool is_open = false;
     for (size_t at = from; at < end; at++) {
         const Event *one = &ex->events[at];
-        if ((one->kind == EVENT_TAKES || one->kind == EVENT_GIVES) && !is_lock(one->text))
+        if ((one->kind == EVENT_TAKES || one->kind == EVENT_GIVES) && !one->is_lock)
             continue;
         if (!goes_on(at, from)) {
-            fprintf(to, is_open ? "</div><div class=\"%s\">" : "<div class=\"%s\">", one->kind == EVENT_SAID && strncmp(one->text, "  RACE", 6) == 0 ? "bad" : classes[one->kind]);
+            fprintf(to, is_open ? "</div><div class=\"%s\">" : "<div class=\"%s\">", classes[one->kind]);
             is_open = true;
         }
         put_text(to, one->text);
@@ -193,7 +177,7 @@ static void put_row(FILE *to, size_t at, Holds *holds)
             put_step(to, at);
         for (unsigned lock = 0; lock < holds->counts[client]; lock++) {
             fputs("<div class=\"lock\">holds ", to);
-            put_text(to, holds->names[client][lock]);
+            put_text(to, holds->taken[client][lock]->name);
             fputs("</div>", to);
         }
         fputs("</td>", to);

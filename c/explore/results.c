@@ -71,7 +71,7 @@ int ex_save(const char *path)
     if (to) {
         fprintf(to, "kazdrin search 1\n");
         put_text(to, "search", ex->search);
-        fprintf(to, "shard %u %u\nwhole %d\n", ex->shard, ex->shards ? ex->shards : 1, ex->is_whole);
+        fprintf(to, "shard %u %u\nwhole %d\nreduced %d\n", ex->shard, ex->shards ? ex->shards : 1, ex->is_whole, ex->is_reduced);
         for (int at = 0; at < ex->counted_count; at++)
             put_numbers(to, &ex->counted[at]);
         for (int at = 0; at < ex->kinds_count; at++)
@@ -156,7 +156,7 @@ static bool read_path(char *text)
 typedef struct {
     Kind kind;
     Counted at;
-    bool is_right, is_whole, has_place;
+    bool is_right, is_whole, is_reduced, has_place;
     unsigned shard, shards;
 } Reading;
 
@@ -164,7 +164,7 @@ static void read_line(char *line, Reading *from)
 {
     Counted one = {0};
     unsigned long long count, seed;
-    int of, whole;
+    int of, whole, reduced;
     if (strncmp(line, "counted ", 8) == 0) {
         from->is_right = read_numbers(line, &one);
         add_numbers(&one);
@@ -183,6 +183,8 @@ static void read_line(char *line, Reading *from)
         return;
     } else if (sscanf(line, "whole %d", &whole) == 1) {
         from->is_whole = whole;
+    } else if (sscanf(line, "reduced %d", &reduced) == 1) {
+        from->is_reduced = reduced;
     } else if (strncmp(line, "at ", 3) == 0) {
         from->is_right = from->has_place = read_numbers(line + 3, &from->at);
     } else if (strncmp(line, "path", 4) == 0) {
@@ -241,6 +243,7 @@ int ex_merge(char **paths, int count)
 {
     bool *is_there = ex_map(65536);
     unsigned shards = 0, missing = 0;
+    bool is_reduced = false;
     int status = 0;
     for (int at = 0; at < count; at++) {
         Reading reading = {.is_right = true};
@@ -252,12 +255,14 @@ int ex_merge(char **paths, int count)
             return 3;
         }
         shards = reading.shards;
+        is_reduced |= reading.is_reduced;
         is_there[reading.shard] = true;
         if (!reading.is_whole) {
             fprintf(stderr, "%s: part %u/%u isn't whole\n", paths[at], reading.shard, reading.shards);
             status = 4;
         }
     }
+    ex->is_reduced = is_reduced;
     for (unsigned at = 0; at < shards; at++)
         if (!is_there[at] && !missing++)
             fprintf(stderr, "part %u/%u isn't there\n", at, shards);

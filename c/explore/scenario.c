@@ -1,5 +1,6 @@
 /* The runners of a scenario, and the one of work items. */
 #include "explore.h"
+#include "manager/work.h"
 
 static KzClient clients[KZ_FIRST_THREAD]; /* by their numbers */
 
@@ -33,7 +34,6 @@ static int add_workers(void)
         fprintf(stderr, "with these clients there is room for %d workers\n", KZ_FIRST_THREAD - first);
         return 2;
     }
-    kz_work_at_once = workers > 1;
     for (unsigned at = 0; at < workers; at++) {
         if (at)
             snprintf(names[at], sizeof names[at], "work.%u", at + 1);

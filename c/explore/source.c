@@ -1,5 +1,6 @@
 /* Lines of sources, and names of variables. */
 #include "explore.h"
+#include "core/source.h"
 
 #include <stdlib.h>
 #include <unistd.h>

@@ -1,5 +1,7 @@
 /* One schedule, step by step: who goes on, where it stands, what it touches and what is said. */
 #include "explore.h"
+#include "core/piece.h"
+#include "core/said.h"
 
 static void append(const char *text)
 {
@@ -76,15 +78,30 @@ void ex_trace_access(const void *address, bool is_write, bool is_atomic, const v
     }
 }
 
+/* Whether the client took the object as a lock before. */
+static bool was_lock(const void *object)
+{
+    for (size_t at = ex->events_count; at-- > 0;)
+        if (ex->events[at].object == object && ex->events[at].client == kz_me->number)
+            return ex->events[at].is_lock;
+    return false;
+}
+
 /* A lock is taken or let go, an object is waited for or set. */
 void ex_trace_object(const void *object, bool is_taken, const char *call)
 {
     char name[96], text[160];
     describe(object, name, sizeof name);
-    snprintf(text, sizeof text, "%s: %s", call, name);
+    int before = snprintf(text, sizeof text, "%s: ", call);
+    snprintf(text + before, sizeof text - (size_t)before, "%s", name);
+    bool is_lock = is_taken ? KzIsHeld(object) > 0 : was_lock(object);
     Event *one = new_event(is_taken ? EVENT_TAKES : EVENT_GIVES, kz_me->number);
-    if (one)
+    if (one) {
         one->text = ex_kept(text);
+        one->name = one->text + before;
+        one->object = object;
+        one->is_lock = is_lock;
+    }
 }
 
 static void put_touches(void)
@@ -110,6 +127,7 @@ void ex_trace_text(const char *text)
 
 void ex_trace_found(const char *text)
 {
+    append(text);
     note(EVENT_FOUND, text);
 }
 

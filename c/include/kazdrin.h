@@ -95,7 +95,9 @@ enum {
     KZE_START_DISMOUNT = 43,    /* volume */
     KZE_DROP_HANDLE = 44,       /* volume */
     KZE_EMPTY_VOLUME = 45,      /* volume */
-    KZE_FINISH_VOLUME = 46      /* volume */
+    KZE_FINISH_VOLUME = 46,     /* volume */
+    KZE_ENTER_ROUTINE = 47,     /* worker, instance; handle where flag isn't 0 */
+    KZE_ROUTINE_RETURNED = 48   /* worker */
 };
 
 /* Operations in `pre` and `post` of KZE_REGISTER. */

@@ -1,6 +1,8 @@
 /* The protocol has a size alone. Owners, times and modes are those that the mount saw or was given, or its own. */
 #include "attributes.h"
 
+#include "below.h"
+
 #include <unistd.h>
 
 Node *node_at(fuse_ino_t number)
@@ -43,6 +45,8 @@ struct stat attributes_of(const Mount *mount, const Look *look, uint64_t size)
         .st_mtim = look->changed,
         .st_ctim = look->changed,
     };
+    if (look->is_folder)
+        below_tell_folder(mount, look->path, &attributes);
     return attributes;
 }
 

@@ -62,15 +62,30 @@ static int open_at(int below, const char *path, int flags)
     return (int)syscall(SYS_openat2, below, path[0] ? path : ".", &how, sizeof how);
 }
 
+static bool tell_of(const Mount *mount, const char *path, struct stat *is)
+{
+    int file = mount->below == -1 ? -1 : open_at(mount->below, path, O_PATH);
+    if (file == -1)
+        return false;
+    bool is_known = fstat(file, is) == 0;
+    close(file);
+    return is_known;
+}
+
 char below_kind(const Mount *mount, const char *path)
 {
     struct stat is;
-    int file = mount->below == -1 ? -1 : open_at(mount->below, path, O_PATH);
-    if (file == -1)
-        return 0;
-    bool is_known = fstat(file, &is) == 0;
-    close(file);
-    return !is_known ? 0 : S_ISDIR(is.st_mode) ? 'd' : S_ISREG(is.st_mode) ? 'f' : 0;
+    return !tell_of(mount, path, &is) ? 0 : S_ISDIR(is.st_mode) ? 'd' : S_ISREG(is.st_mode) ? 'f' : 0;
+}
+
+void below_tell_folder(const Mount *mount, const char *path, struct stat *attributes)
+{
+    struct stat is;
+    if (!tell_of(mount, path, &is))
+        return;
+    attributes->st_mtim = is.st_mtim;
+    attributes->st_ctim = is.st_ctim;
+    attributes->st_nlink = is.st_nlink;
 }
 
 bool below_is_folder(const Mount *mount, const char *path)

@@ -16,6 +16,8 @@ bool below_is_full(const Mount *mount, uint64_t bytes);
 void below_tell_size(fuse_req_t request, fuse_ino_t number);
 /* Whether a path is that of a folder: one that lies below, or one of -o folders. */
 bool below_is_folder(const Mount *mount, const char *path);
+/* A folder's times and its count of links are those that it has below. */
+void below_tell_folder(const Mount *mount, const char *path, struct stat *attributes);
 /* Makes a folder, which its owner may always use; removes an empty one; gives an empty one another name. Each answers 0 or an errno once that is written out, and EPERM where no folder is
  * named. */
 int below_make_folder(const Mount *mount, const char *path, mode_t mode);

@@ -82,26 +82,26 @@ static int add_names(fuse_req_t request, Mount *mount, Listing *listing, char *n
     return error;
 }
 
-/* One entry of a folder that lies below. Files in the root aren't taken from here: the server lists them. A name that no path has is passed over, and what is neither a file nor a folder. */
-static int add_entry(fuse_req_t request, Listing *listing, const char *folder, const char *name)
+/* One entry of a folder that lies below, if it is of those kinds. A name that no path has is passed over, and what is neither a file nor a folder. */
+static int add_entry(fuse_req_t request, Listing *listing, const char *folder, const char *name, const char *kinds)
 {
     Mount *mount = fuse_req_userdata(request);
     char path[LONGEST_PATH + 1];
     if (strcmp(name, ".") == 0 || strcmp(name, "..") == 0 || path_join(path, folder, name) != 0 || path_is_in(mount->options.folders, path))
         return 0;
     char kind = below_kind(mount, path);
-    bool is_shown = kind == 'd' || (kind == 'f' && folder[0] && !nodes_is_hidden(&mount->nodes, path));
+    bool is_shown = kind && strchr(kinds, kind) && (kind == 'd' || !nodes_is_hidden(&mount->nodes, path));
     return is_shown ? add(request, listing, name, path, kind == 'd') : 0;
 }
 
-/* What lies in a folder below. */
-static int add_below(fuse_req_t request, Listing *listing, const char *folder)
+/* What lies in a folder below, of those kinds. */
+static int add_below(fuse_req_t request, Listing *listing, const char *folder, const char *kinds)
 {
     Mount *mount = fuse_req_userdata(request);
     DIR *list = mount->below == -1 ? NULL : below_list(mount, folder);
     int error = 0;
     for (const struct dirent *entry = list ? readdir(list) : NULL; entry && error == 0; entry = readdir(list))
-        error = add_entry(request, listing, folder, entry->d_name);
+        error = add_entry(request, listing, folder, entry->d_name, kinds);
     if (list)
         closedir(list);
     return error;
@@ -124,7 +124,7 @@ static int ask_list(Call *call, char **names)
     return error;
 }
 
-/* Names of deleted files are asked for before the list, which still has them: between the two one may go, and none may come back. */
+/* The files in the root, which the server lists: EOVERFLOW where its reply has no room for them. Names of deleted files are asked for before the list, which still has them: between the two one may go, and none may come back. */
 static int add_files(fuse_req_t request, Listing *listing)
 {
     Call call = call_of(request);
@@ -148,8 +148,10 @@ static int list(fuse_req_t request, fuse_ino_t number, Listing *listing)
     if (error == 0)
         error = add_folders(request, listing, mount->options.folders, look.path);
     if (error == 0)
-        error = add_below(request, listing, look.path);
-    return error == 0 && look.path[0] == '\0' ? add_files(request, listing) : error;
+        error = add_below(request, listing, look.path, look.path[0] ? "df" : "d");
+    if (error == 0 && !look.path[0])
+        error = add_files(request, listing);
+    return error == EOVERFLOW && mount->below != -1 ? add_below(request, listing, "", "f") : error;
 }
 
 /* Whoever still reads it has the mutex. */

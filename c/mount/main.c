@@ -96,7 +96,7 @@ static bool add_words(struct fuse_args *words, const Options *options)
 {
     char most[64];
     snprintf(most, sizeof most, "-omax_read=%u,subtype=kazdrin", LARGEST_REQUEST);
-    if (options->is_for_others && fuse_opt_add_arg(words, "-oallow_other,default_permissions") != 0)
+    if (fuse_opt_add_arg(words, options->is_for_others ? "-oallow_other,default_permissions" : "-odefault_permissions") != 0)
         return false;
     return fuse_opt_add_arg(words, most) == 0;
 }

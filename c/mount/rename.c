@@ -1,4 +1,4 @@
-/* Renames by a copy, which are asked for by -o copyrename or -o below: so a filter that denies a deletion or a create isn't got round. A file that is open keeps its name: EXDEV. What is there under the new name is overwritten; a crash between leaves both.
+/* Renames by a copy, which are asked for by -o copyrename or -o below: so a filter that denies a deletion or a create isn't got round. A file that is open keeps its name: EBUSY, so that nobody deletes and copies instead. What is there under the new name is overwritten; a crash between leaves both.
  * Nobody interrupts it, for then too little would have been copied. */
 #include "rename.h"
 
@@ -13,15 +13,16 @@
 #include <string.h>
 #include <unistd.h>
 
-/* So often, and so many milliseconds apart, it is looked whether the last close came meanwhile. */
+/* So often it is looked whether the last close came meanwhile, at first after so many microseconds, and each time after twice as many. */
 #define LOOKS 20
-#define PAUSE_MILLISECONDS 10
+#define SHORTEST_PAUSE 50
+#define LONGEST_PAUSE 20000
 
 bool stays_open(Nodes *nodes, const char *path, bool (*is_open)(Nodes *nodes, const char *path))
 {
     bool is_so = is_open(nodes, path);
-    for (unsigned look = 0; is_so && look < LOOKS; look++) {
-        usleep(PAUSE_MILLISECONDS * 1000);
+    for (unsigned look = 0, pause = SHORTEST_PAUSE; is_so && look < LOOKS; look++, pause = pause * 2 < LONGEST_PAUSE ? pause * 2 : LONGEST_PAUSE) {
+        usleep(pause);
         is_so = is_open(nodes, path);
     }
     return is_so;
@@ -59,18 +60,35 @@ static int copy_bytes(Call *call, uint64_t from, uint64_t to)
     return error != 0 ? error : -count;
 }
 
+/* What is there under the new name is lost as soon as the copy begins: so there has to be room for all of it before. */
+static int ask_for_room(Call *call)
+{
+    Reply reply;
+    int error = call_do(call, request_handle(FRAME_QUERY_SIZE, call->handle), &reply);
+    return error == 0 && below_is_full(call->mount, reply.information) ? ENOSPC : error;
+}
+
+/* The file that is copied is the line's. */
+static int open_source(Call *call, const char *path)
+{
+    Reply reply;
+    int error = call_ask(call, request_create((uint8_t)call->mount->options.volume, CREATE_EXISTING, path), &reply);
+    error = error != 0 ? error : errno_of_look(reply.status);
+    if (error == 0) {
+        call->has_handle = true;
+        call->handle = reply.information;
+    }
+    return error != 0 ? error : ask_for_room(call);
+}
+
 /* Both handles are the line's. */
 static int copy(Call *call, const char *path, const char *to, bool is_new)
 {
     Reply reply;
     uint8_t volume = (uint8_t)call->mount->options.volume;
-    int error = call_ask(call, request_create(volume, CREATE_EXISTING, path), &reply);
-    error = error != 0 ? error : errno_of_look(reply.status);
-    if (error != 0)
-        return error;
-    call->has_handle = true;
-    call->handle = reply.information;
-    error = call_do(call, request_create(volume, is_new ? CREATE_NEW : CREATE_ALWAYS, to), &reply);
+    int error = open_source(call, path);
+    if (error == 0)
+        error = call_do(call, request_create(volume, is_new ? CREATE_NEW : CREATE_ALWAYS, to), &reply);
     if (error != 0)
         return error;
     uint64_t copied = reply.information;
@@ -97,7 +115,7 @@ static int rename_path(Call *call, const char *path, const char *to, bool is_new
     if (error == 0 && gate_of(first) != gate_of(second))
         error = call_enter(&other, second, ALONE);
     if (error == 0 && (nodes_is_open(&mount->nodes, path) || nodes_is_open(&mount->nodes, to) || nodes_is_hidden(&mount->nodes, to)))
-        error = EXDEV;
+        error = EBUSY;
     if (error == 0)
         error = copy(call, path, to, is_new);
     if (error == 0)
@@ -128,7 +146,7 @@ static int rename_alone(fuse_req_t request, Mount *mount, const char *path, cons
     if (below_is_folder(mount, to))
         return EISDIR;
     if (stays_open(&mount->nodes, path, nodes_is_open) || stays_open(&mount->nodes, to, nodes_is_open))
-        return EXDEV;
+        return EBUSY;
     int error = wait_before(request, path, to);
     return error != 0 || strcmp(path, to) == 0 ? error : rename_file(mount, path, to, is_new);
 }

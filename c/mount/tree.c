@@ -161,8 +161,10 @@ int tree_rename(Mount *mount, const char *path, const char *to, bool is_new)
 {
     if (lies_in(to, path))
         return EINVAL;
-    if (path_is_in(mount->options.folders, path) || path_is_in(mount->options.folders, to) || stays_open(&mount->nodes, path, nodes_is_open_in))
+    if (path_is_in(mount->options.folders, path) || path_is_in(mount->options.folders, to))
         return EXDEV;
+    if (stays_open(&mount->nodes, path, nodes_is_open_in))
+        return EBUSY;
     int error = each(mount, path, to, 0, can_move);
     if (error == 0)
         error = make_way(mount, to, is_new);

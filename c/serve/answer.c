@@ -1,9 +1,15 @@
 /* The host is one thread's, and so is all of this. */
 #include "answer.h"
 
-#include "host.h"
+#include "core/client.h"
+#include "core/clock.h"
+#include "core/state.h"
+#include "manager/filter.h"
+#include "manager/instance.h"
+#include "manager/mount.h"
+#include "manager/perform.h"
+#include "run/sink.h"
 
-#include <stdlib.h>
 #include <string.h>
 
 static Link *all;
@@ -230,9 +236,7 @@ void answer_end(Link *link)
     close_all(link);
     for (size_t at = 0; at < link->handles_count; at++)
         link_add(&leftovers, link->handles[at]);
-    free(link->handles);
-    link->handles = NULL;
-    link->handles_count = link->handles_room = 0;
+    link->handles_count = 0;
     answer_leftovers();
 }
 

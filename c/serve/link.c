@@ -1,17 +1,16 @@
+/* A connection of a client: what is read of it, and what is written to it. */
 #include "link.h"
 
-#include "host.h"
-
 #include <errno.h>
-#include <stdlib.h>
 #include <string.h>
 #include <sys/socket.h>
 #include <unistd.h>
 
 void link_begin(Link *link, int socket)
 {
-    memset(link, 0, sizeof *link);
     link->socket = socket;
+    link->is_ended = link->is_faulted = link->is_waiting = link->is_close_due = false;
+    link->in_length = link->out_length = link->out_sent = link->handles_count = 0;
 }
 
 bool link_is_idle(const Link *link)
@@ -77,13 +76,8 @@ bool link_has(const Link *link, uint64_t handle)
 
 void link_add(Link *link, uint64_t handle)
 {
-    if (link->handles_count == link->handles_room) {
-        link->handles_room = link->handles_room * 2 + 16;
-        link->handles = realloc(link->handles, link->handles_room * sizeof *link->handles);
-        if (!link->handles)
-            exit(1);
-    }
-    link->handles[link->handles_count++] = handle;
+    if (link->handles_count < HANDLES)
+        link->handles[link->handles_count++] = handle;
 }
 
 void link_forget(Link *link, uint64_t handle)

@@ -5,6 +5,7 @@
 #include "wire/server.h"
 
 #define LINKS 32
+#define HANDLES 4096 /* as many as a manager has at once */
 
 typedef struct {
     int socket; /* -1: the place is free */
@@ -19,8 +20,8 @@ typedef struct {
     bool is_waiting;    /* a filter holds its operation */
     bool is_close_due;  /* that was a cleanup, and the close comes behind it */
     uint64_t operation;
-    uint64_t *handles; /* that it opened */
-    size_t handles_count, handles_room;
+    uint64_t handles[HANDLES]; /* that it opened */
+    size_t handles_count;
 } Link;
 
 void link_begin(Link *link, int socket);

@@ -2,9 +2,11 @@
  * Exit status: 0, or 5 where a driver's mistake was told, 1 for want of memory, 2 for wrong words, 3 where the folder or the socket isn't to be had. */
 #define _GNU_SOURCE
 #include "answer.h"
-#include "host.h"
+
+#include "kzflt.h"
 
 #include <errno.h>
+#include <fcntl.h>
 #include <poll.h>
 #include <signal.h>
 #include <sys/socket.h>
@@ -15,6 +17,24 @@ extern const KzDriver kz_drivers[];
 extern const size_t kz_drivers_count;
 
 static Link links[LINKS];
+
+/* Besides those of connections: for the folder's files, of which one is open at a time, and for what a driver's test opens. */
+enum { SPARE_DESCRIPTORS = 8, REST_MILLISECONDS = 20 };
+
+/* Whether there are descriptors for all connections: they are opened once, and closed again. */
+static bool has_descriptors(int listener)
+{
+    int opened[LINKS + SPARE_DESCRIPTORS];
+    size_t count = 0;
+    while (count < LINKS + SPARE_DESCRIPTORS && (opened[count] = fcntl(listener, F_DUPFD_CLOEXEC, 0)) != -1)
+        count++;
+    int error = errno;
+    bool is_enough = count == LINKS + SPARE_DESCRIPTORS;
+    while (count > 0)
+        close(opened[--count]);
+    errno = error;
+    return is_enough;
+}
 
 static int fault(const char *what)
 {
@@ -36,19 +56,20 @@ static int listen_at(const char *path)
     return -1;
 }
 
-/* A client beyond the last place is let go at once. */
-static void accept_one(int listener)
+/* A client beyond the last place is let go at once. False: none can be had now. */
+static bool accept_one(int listener)
 {
     size_t at = 0;
     int client = accept4(listener, NULL, NULL, SOCK_CLOEXEC);
     if (client == -1)
-        return;
+        return errno == EAGAIN || errno == EINTR || errno == ECONNABORTED;
     while (at < LINKS && links[at].socket != -1)
         at++;
     if (at < LINKS)
         link_begin(&links[at], client);
     else
         close(client);
+    return true;
 }
 
 typedef enum { NO_FRAME, A_FRAME, A_STOP } Answered;
@@ -62,6 +83,7 @@ static Answered answer_one(Link *link)
         return NO_FRAME;
     bool is_stop = answer_frame(link, body, length);
     link_drop_frame(link, length);
+    link->is_faulted |= is_stop; /* nothing comes behind the reply to a Stop */
     answer_due_closes();
     return is_stop ? A_STOP : A_FRAME;
 }
@@ -142,18 +164,17 @@ static bool serve_links(const struct pollfd *places)
     return is_stop;
 }
 
-/* Until a Stop was answered and the last client is gone. */
+/* Until a Stop was answered and the last client is gone. Where no connection can be had, the listener rests for a moment, since it stays readable. */
 static void serve(int listener)
 {
-    bool is_stopping = false;
+    bool is_stopping = false, is_resting = false;
     struct pollfd places[LINKS + 1];
     while (watch(places) > 0 || !is_stopping) {
-        places[LINKS] = (struct pollfd){listener, POLLIN, 0};
-        if (poll(places, is_stopping ? LINKS : LINKS + 1, -1) == -1)
+        places[LINKS] = (struct pollfd){is_stopping || is_resting ? -1 : listener, POLLIN, 0};
+        if (poll(places, LINKS + 1, is_resting ? REST_MILLISECONDS : -1) == -1)
             continue;
         is_stopping |= serve_links(places);
-        if (!is_stopping && places[LINKS].revents)
-            accept_one(listener);
+        is_resting = !is_stopping && places[LINKS].revents && !accept_one(listener);
     }
 }
 
@@ -172,6 +193,9 @@ int main(int count, char **words)
     int listener = listen_at(words[2]);
     if (listener == -1)
         return fault(words[2]);
+    if (!has_descriptors(listener))
+        return fault("descriptors for all connections");
+    signal(SIGXFSZ, SIG_IGN); /* a file that may not get longer is the device's failure */
     if (kz_open(kz_drivers, kz_drivers_count) != 0)
         return 1;
     kz_is_quiet = 1;

@@ -1,8 +1,17 @@
 /* Calls of the base: those that aren't about a file's bytes are answered here, and of the others the names and numbers are kept. */
-#include "filesystem/tree.h"
+#include "filesystem/call.h"
 
-#include "filesystem/ranges.h"
-#include "manager/base.h"
+#include "core/clock.h"
+#include "core/operation.h"
+#include "filesystem/deletion.h"
+#include "filesystem/disk.h"
+#include "filesystem/folder.h"
+#include "filesystem/name.h"
+#include "filesystem/node.h"
+#include "filesystem/notice.h"
+#include "filesystem/rename.h"
+#include "filesystem/tree.h"
+#include "filesystem/tunnel.h"
 
 static uint32_t moved; /* a bit for each volume where a name isn't its file's key any more */
 
@@ -158,12 +167,12 @@ void kz_note_call(KzOp *op, const KazdrinData *call)
     case KZE_WRITE:
         if (call->length && call->offset + call->length > node->size)
             node->size = call->offset + call->length;
-        node->written = node->changed = kz_system_time();
+        node->written = node->changed = kz_time();
         kz_notify(name, FILE_NOTIFY_CHANGE_LAST_WRITE | FILE_NOTIFY_CHANGE_SIZE, FILE_ACTION_MODIFIED);
         break;
     case KZE_SET_SIZE:
         node->size = call->offset;
-        node->written = node->changed = kz_system_time();
+        node->written = node->changed = kz_time();
         kz_notify(name, FILE_NOTIFY_CHANGE_SIZE, FILE_ACTION_MODIFIED);
         break;
     case KZE_CLOSE:

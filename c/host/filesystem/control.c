@@ -1,8 +1,13 @@
 /* What the file system makes of the other operations: extended attributes, security, quotas, locks of bytes, control codes, sections, and what has no file. */
-#include "filesystem/answers.h"
+#include "filesystem/control.h"
 
+#include "core/operation.h"
+#include "filesystem/name.h"
+#include "filesystem/node.h"
+#include "filesystem/notice.h"
+#include "filesystem/query.h"
 #include "filesystem/ranges.h"
-#include "manager/carrier.h"
+#include "filesystem/tree.h"
 
 /* ---- Extended attributes: a chain, as it was set. */
 static bool is_chain(const uint8_t *bytes, size_t length, size_t *wrong)

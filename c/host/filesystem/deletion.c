@@ -1,15 +1,21 @@
 /* Deletions. A file that is marked goes with its last handle, or its name at once, by POSIX semantics: before the cleanup of the last one begins, the manager is told to mark it too, by an
  * operation that no instance hears. So its bytes go with that handle's close, as those of a file that was marked in the manager in the first place. */
+#include "filesystem/deletion.h"
+
+#include "core/told.h"
+#include "filesystem/call.h"
+#include "filesystem/disk.h"
+#include "filesystem/folder.h"
+#include "filesystem/name.h"
+#include "filesystem/notice.h"
+#include "filesystem/rename.h"
+#include "filesystem/store.h"
 #include "filesystem/tree.h"
-
-#include "manager/below.h"
-#include "manager/base.h"
-
-static const KzOwn unheard = {.is_unheard = true, .is_waited_for = true};
+#include "filesystem/tunnel.h"
 
 static bool is_empty(const KzName *directory)
 {
-    for (KzName *one = kz_first_name(); one; one = one->next)
+    for (KzName *one = kz_all_names(); one; one = one->next)
         if (kz_is_below(one, directory->volume, directory->text) && one->node->exists)
             return false;
     return true;
@@ -87,26 +93,29 @@ static void drop_bytes(KzNode *node)
     }
     node->exists = false;
     if (!node->is_marked_there)
-        node->is_abandoned = !kz_delete_by_key(node->volume, node->key);
+        node->is_abandoned = !kz.store->drop(node->volume, node->key);
 }
 
 static void take_streams(KzName *name)
 {
-    for (KzName *one = kz_first_name(), *next; one; one = next) {
+    for (KzName *one = kz_all_names(), *next; one; one = next) {
         next = one->next;
         if (!kz_is_stream_of(one, name))
             continue;
         kz_take_away(one);
-        next = kz_first_name();
+        next = kz_all_names();
     }
 }
 
 /* The named streams of a file go with its last name, or else stay by another one. */
 static void end_streams(KzName *name)
 {
-    KzName *other = kz_first_name();
-    while (other && (other->is_gone || other->node != name->node))
-        other = other->next;
+    const KzName *other = NULL;
+    if (!kz_has_streams())
+        return;
+    for (const KzName *one = kz_all_names(); one; one = one->next)
+        if (!one->is_gone && one->node == name->node && (!other || strcmp(one->text, other->text) < 0))
+            other = one;
     if (other)
         kz_move_with(name->volume, name->text, other->text, true);
     else
@@ -155,7 +164,7 @@ void kz_begin_cleanup(KzFile *file)
     KzNode *node = file->name->node;
     file->is_leaving = true;
     node->leaving++;
-    if (goes(node) && kz_below(&unheard, file, (KazdrinEvent){.event = KZE_SET_DELETE, .handle = file->handle}, "", 0).reply.status == KZS_OK)
+    if (goes(node) && kz.store->mark(file))
         node->is_marked_there = true;
 }
 

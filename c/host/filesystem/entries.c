@@ -1,8 +1,13 @@
 /* The entries of a directory, by the kit's classes. */
-#include "filesystem/answers.h"
+#include "filesystem/entries.h"
 
-#include "manager/carrier.h"
-#include "manager/base.h"
+#include "core/operation.h"
+#include "lib/letters.h"
+#include "filesystem/disk.h"
+#include "filesystem/name.h"
+#include "filesystem/notice.h"
+#include "filesystem/query.h"
+#include "filesystem/tree.h"
 
 /* Where a class has what it says of a file: all but plain names begin as FILE_DIRECTORY_INFORMATION does. */
 typedef struct {
@@ -74,7 +79,7 @@ static bool next_entry(const KzFile *file, Entry *found)
     *found = (Entry){NULL, NULL};
     if (dots(file, found))
         return true;
-    for (const KzName *one = kz_first_name(); one; one = one->next) {
+    for (const KzName *one = kz_all_names(); one; one = one->next) {
         if (!kz_is_below(one, file->volume, file->name->text) || !one->node->exists)
             continue;
         const char *part = part_of(one, file->name->text);

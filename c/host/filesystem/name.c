@@ -1,15 +1,67 @@
-/* Names, in the order of their bytes, and the files that they stand for. */
-#include "filesystem/tree.h"
+/* Names, and the files that they stand for. */
+#include "filesystem/name.h"
 
-#include "manager/base.h"
+#include "core/memory.h"
+#include "core/module.h"
+#include "filesystem/call.h"
+#include "filesystem/disk.h"
+#include "filesystem/folder.h"
+#include "filesystem/node.h"
+#include "filesystem/tree.h"
+#include "filesystem/tunnel.h"
 #include "wire/frame.h"
 
 #include <stdlib.h>
 
-static KzName *names;
+static KzName *names, *places[KZ_NAME_PLACES];
+static bool is_sorted;
+static unsigned streams; /* names with a colon */
+
+/* The first so many of a list in the order of their bytes, those that are alike as they stood; `rest` is what stands behind them. */
+static KzName *sorted(KzName *list, size_t count, KzName **rest)
+{
+    if (count == 1) {
+        *rest = list->next;
+        list->next = NULL;
+        return list;
+    }
+    KzName *first = sorted(list, count / 2, rest), *second = sorted(*rest, count - count / 2, rest), *whole = NULL, **end = &whole;
+    while (first && second) {
+        KzName **less = strcmp(first->text, second->text) <= 0 ? &first : &second;
+        *end = *less;
+        end = &(*less)->next;
+        *less = *end;
+    }
+    *end = first ? first : second;
+    return whole;
+}
+
+static void sort(void)
+{
+    size_t count = 0;
+    for (const KzName *one = names; one; one = one->next)
+        count++;
+    KzName *rest;
+    names = count ? sorted(names, count, &rest) : NULL;
+    for (KzName *one = names, *before = NULL; one; before = one, one = one->next)
+        one->before = before;
+    is_sorted = true;
+}
+
+bool kz_has_streams(void)
+{
+    return streams > 0;
+}
+
+KzName *kz_all_names(void)
+{
+    return names;
+}
 
 KzName *kz_first_name(void)
 {
+    if (!is_sorted)
+        sort();
     return names;
 }
 
@@ -28,27 +80,39 @@ bool kz_is_same_name(PFLT_VOLUME volume, const char *a, const char *b, size_t le
 
 KzName *kz_find_name(PFLT_VOLUME volume, const char *text)
 {
-    for (KzName *one = names; one; one = one->next)
+    for (KzName *one = places[kz_name_place(volume, text)]; one; one = one->same)
         if (!one->is_gone && one->volume == volume && kz_is_same_name(volume, one->text, text, sizeof one->text))
             return one;
     return NULL;
 }
 
-static void put_in_order(KzName *name)
+static void put_in(KzName *name)
 {
-    KzName **at = &names;
-    while (*at && strcmp((*at)->text, name->text) < 0)
-        at = &(*at)->next;
-    name->next = *at;
-    *at = name;
+    KzName **place = &places[kz_name_place(name->volume, name->text)];
+    name->same = *place;
+    *place = name;
+    name->before = NULL;
+    name->next = names;
+    if (names)
+        names->before = name;
+    names = name;
+    is_sorted = false;
+    streams += strchr(name->text, ':') != NULL;
 }
 
 static void take_out(KzName *name)
 {
-    KzName **at = &names;
+    KzName **at = &places[kz_name_place(name->volume, name->text)];
     while (*at != name)
-        at = &(*at)->next;
-    *at = name->next;
+        at = &(*at)->same;
+    *at = name->same;
+    if (name->before)
+        name->before->next = name->next;
+    else
+        names = name->next;
+    if (name->next)
+        name->next->before = name->before;
+    streams -= strchr(name->text, ':') != NULL;
 }
 
 KzName *kz_add_name(PFLT_VOLUME volume, const char *text, KzNode *node)
@@ -58,7 +122,7 @@ KzName *kz_add_name(PFLT_VOLUME volume, const char *text, KzNode *node)
     made->node = node;
     snprintf(made->text, sizeof made->text, "%s", text);
     node->names++;
-    put_in_order(made);
+    put_in(made);
     return made;
 }
 
@@ -66,7 +130,8 @@ void kz_move_name(KzName *name, const char *text)
 {
     take_out(name);
     snprintf(name->text, sizeof name->text, "%s", text);
-    put_in_order(name);
+    name->cached = 0;
+    put_in(name);
 }
 
 /* A file of the host machine is there before anybody spoke of it. */
@@ -153,14 +218,18 @@ const char *kz_key_of(const KzFile *file)
 }
 
 void kz_free_nodes(void);
-void kz_free_tree(void)
+static void free_tree(void)
 {
     while (names) {
         KzName *gone = names;
         names = gone->next;
         free(gone);
     }
+    memset(places, 0, sizeof places);
+    streams = 0;
     kz_free_nodes();
     kz_free_tunnel();
     kz_free_calls();
 }
+
+const KzModule kz_tree_module = {.free = free_tree};

@@ -1,18 +1,15 @@
 /* Files by their keys. */
+#include "filesystem/node.h"
+
+#include "core/clock.h"
+#include "core/memory.h"
 #include "filesystem/tree.h"
 
 #include <stdlib.h>
 
-static KzNode *nodes;
+static KzNode *nodes, *places[KZ_NAME_PLACES];
 enum { RECORDS = 1024 };
 static uint16_t sequences[RECORDS]; /* how many files there were of each record, as far as their IDs say */
-
-LONGLONG kz_system_time(void)
-{
-    LARGE_INTEGER time;
-    KeQuerySystemTime(&time);
-    return time.QuadPart;
-}
 
 uint64_t kz_allocated(PFLT_VOLUME volume, uint64_t size)
 {
@@ -29,7 +26,7 @@ void kz_keep_bytes(KzBytes *kept, const void *bytes, size_t length)
 
 static bool is_key(PFLT_VOLUME volume, const char *key)
 {
-    for (const KzNode *one = nodes; one; one = one->next)
+    for (const KzNode *one = places[kz_name_place(volume, key)]; one; one = one->same)
         if (one->volume == volume && strcmp(one->key, key) == 0)
             return true;
     return false;
@@ -51,17 +48,27 @@ KzNode *kz_new_node(PFLT_VOLUME volume, const char *text)
     choose_key(made, text);
     made->links = 1;
     made->attributes = FILE_ATTRIBUTE_NORMAL;
+    KzNode **place = &places[kz_name_place(volume, made->key)];
+    made->same = *place;
+    *place = made;
     made->next = nodes;
+    if (nodes)
+        nodes->before = made;
     return nodes = made;
 }
 
 void kz_free_node(KzNode *node)
 {
-    KzNode **at = &nodes;
-    while (*at && *at != node)
-        at = &(*at)->next;
-    if (*at)
-        *at = node->next;
+    KzNode **at = &places[kz_name_place(node->volume, node->key)];
+    while (*at != node)
+        at = &(*at)->same;
+    *at = node->same;
+    if (node->before)
+        node->before->next = node->next;
+    else
+        nodes = node->next;
+    if (node->next)
+        node->next->before = node->before;
     free(node->ea.bytes);
     free(node->security.bytes);
     free(node);
@@ -84,7 +91,7 @@ void kz_begin_node(KzNode *node, bool is_directory)
     node->is_marked = node->is_marked_there = node->is_kept = false;
     node->id = new_id(node);
     node->size = node->allocation = 0;
-    node->created = node->accessed = node->written = node->changed = kz_system_time();
+    node->created = node->accessed = node->written = node->changed = kz_time();
     node->attributes = is_directory ? FILE_ATTRIBUTE_DIRECTORY : FILE_ATTRIBUTE_NORMAL;
     kz_keep_bytes(&node->ea, NULL, 0);
     kz_keep_bytes(&node->security, NULL, 0);

@@ -1,8 +1,15 @@
 /* Who waits for a change in a directory. Such an operation stays in the file system, until something changes, its handle's cleanup is over, it is cancelled, or the volume goes; then whoever
  * comes to it carries it on. A change tells one entry: none is kept between two of them. */
-#include "filesystem/answers.h"
+#include "filesystem/notice.h"
 
-#include "manager/carrier.h"
+#include "core/client.h"
+#include "core/memory.h"
+#include "core/module.h"
+#include "core/operation.h"
+#include "lib/letters.h"
+#include "filesystem/name.h"
+#include "filesystem/store.h"
+#include "filesystem/tree.h"
 
 #include <stdlib.h>
 
@@ -88,12 +95,12 @@ bool kz_run_notice(void)
         return false;
     Notice *gone = *at;
     *at = gone->next;
-    kz_go_on_from_base(gone->op, gone->status);
+    kz.store->go_on(gone->op, gone->status);
     free(gone);
     return true;
 }
 
-void kz_free_notices(void)
+static void free_notices(void)
 {
     while (notices) {
         Notice *gone = notices;
@@ -101,3 +108,5 @@ void kz_free_notices(void)
         free(gone);
     }
 }
+
+const KzModule kz_notice_module = {.free = free_notices};

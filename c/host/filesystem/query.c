@@ -1,5 +1,11 @@
 /* What the file system knows of a file, by the kit's classes. */
-#include "filesystem/answers.h"
+#include "filesystem/query.h"
+
+#include "lib/letters.h"
+#include "filesystem/deletion.h"
+#include "filesystem/name.h"
+#include "filesystem/node.h"
+#include "filesystem/tree.h"
 
 /* The fields that several classes have. What lies between two fields is zeros. */
 static void show_basic(const KzNode *node, FILE_BASIC_INFORMATION *to)

@@ -1,6 +1,8 @@
 /* Locks of ranges of bytes. One that can't be had is refused at once: none waits. */
 #include "filesystem/ranges.h"
 
+#include "core/memory.h"
+#include "core/module.h"
 #include "filesystem/tree.h"
 
 #include <stdlib.h>
@@ -76,7 +78,7 @@ bool kz_is_locked(const KzFile *file, uint64_t from, uint64_t length, bool is_wr
     return false;
 }
 
-void kz_free_ranges(void)
+static void free_ranges(void)
 {
     while (locks) {
         Lock *gone = locks;
@@ -84,3 +86,5 @@ void kz_free_ranges(void)
         free(gone);
     }
 }
+
+const KzModule kz_range_module = {.free = free_ranges};

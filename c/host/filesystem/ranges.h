@@ -1,6 +1,6 @@
 /* Locks of ranges of bytes, each a file object's. */
-#ifndef KZ_RANGES_H
-#define KZ_RANGES_H
+#ifndef KZ_FILESYSTEM_RANGES_H
+#define KZ_FILESYSTEM_RANGES_H
 
 #include "host.h"
 
@@ -10,12 +10,12 @@ typedef struct {
     ULONG key;
 } KzRange;
 
+extern const struct KzModule kz_range_module;
 NTSTATUS kz_lock_range(KzFile *file, const KzRange *range);
 NTSTATUS kz_unlock_range(KzFile *file, const KzRange *range);
 /* All of the file object's, or those with that key. */
 NTSTATUS kz_unlock_ranges(KzFile *file, const ULONG *key);
 /* Whether a read or a write by that file object meets a lock of another one. */
 bool kz_is_locked(const KzFile *file, uint64_t from, uint64_t length, bool is_write);
-void kz_free_ranges(void);
 
 #endif

@@ -1,7 +1,20 @@
 /* Renames and hard links: where they lead to, what stands in their way, and what of the names moves. */
-#include "filesystem/tree.h"
+#include "filesystem/rename.h"
 
-#include "manager/base.h"
+#include "core/clock.h"
+#include "lib/letters.h"
+#include "filesystem/call.h"
+#include "filesystem/deletion.h"
+#include "filesystem/disk.h"
+#include "filesystem/fileobject.h"
+#include "filesystem/folder.h"
+#include "filesystem/handle.h"
+#include "filesystem/name.h"
+#include "filesystem/node.h"
+#include "filesystem/notice.h"
+#include "filesystem/tree.h"
+#include "filesystem/tunnel.h"
+#include "filesystem/volumes.h"
 #include "wire/frame.h"
 
 /* ---- Where to. */
@@ -48,7 +61,7 @@ bool kz_destination(const KzFile *file, HANDLE root, const WCHAR *name, ULONG le
 /* ---- What stands in the way: the refusals in the order of the kit's file systems. */
 static bool has_open_below(PFLT_VOLUME volume, const char *text)
 {
-    for (const KzName *one = kz_first_name(); one; one = one->next)
+    for (const KzName *one = kz_all_names(); one; one = one->next)
         if (kz_is_below(one, volume, text) && one->node->opens)
             return true;
     return false;
@@ -122,9 +135,9 @@ void kz_move_with(PFLT_VOLUME volume, const char *from, const char *to, bool is_
 {
     char text[600];
     size_t length = strlen(from);
-    for (KzName *one = kz_first_name(); one; one = one->next)
+    for (KzName *one = kz_all_names(); one; one = one->next)
         one->is_to_move = !one->is_gone && one->volume == volume && kz_is_same_name(volume, one->text, from, length) && (one->text[length] == ':' || (one->text[length] == '/' && !is_streams));
-    for (KzName *one = kz_first_name(), *next; one; one = next) {
+    for (KzName *one = kz_all_names(), *next; one; one = next) {
         next = one->next;
         if (!one->is_to_move)
             continue;
@@ -132,7 +145,7 @@ void kz_move_with(PFLT_VOLUME volume, const char *from, const char *to, bool is_
         if (snprintf(text, sizeof text, "%s%s", to, one->text + length) > LONGEST_PATH)
             continue;
         kz_move_name(one, text);
-        next = kz_first_name();
+        next = kz_all_names();
     }
 }
 
@@ -169,7 +182,7 @@ static NTSTATUS put_in_place(KzName *from, KzName *to, const char *text, bool is
             kz_notify(to, FILE_NOTIFY_CHANGE_FILE_NAME, FILE_ACTION_REMOVED);
         kz_take_away(to);
     }
-    from->node->changed = kz_system_time();
+    from->node->changed = kz_time();
     return is_link ? link_to(from, text) : move_to(from, text);
 }
 

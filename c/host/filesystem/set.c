@@ -1,7 +1,14 @@
 /* What the file system is told of a file, by the kit's classes. */
-#include "filesystem/answers.h"
+#include "filesystem/set.h"
 
-#include "manager/carrier.h"
+#include "core/operation.h"
+#include "filesystem/deletion.h"
+#include "filesystem/name.h"
+#include "filesystem/notice.h"
+#include "filesystem/query.h"
+#include "filesystem/rename.h"
+#include "filesystem/store.h"
+#include "filesystem/tree.h"
 
 NTSTATUS kz_answer_query(KzOp *op, const FLT_PARAMETERS *now)
 {
@@ -51,7 +58,7 @@ static NTSTATUS set_end(KzFile *file, LONGLONG size)
 {
     if (size < 0)
         return STATUS_INVALID_PARAMETER;
-    return file->name->node->is_directory ? STATUS_INVALID_PARAMETER : kz_cut_unheard(file, (uint64_t)size);
+    return file->name->node->is_directory ? STATUS_INVALID_PARAMETER : kz.store->cut(file, (uint64_t)size);
 }
 
 static NTSTATUS set_allocation(KzFile *file, LONGLONG size)
@@ -60,7 +67,7 @@ static NTSTATUS set_allocation(KzFile *file, LONGLONG size)
     if (size < 0 || node->is_directory)
         return STATUS_INVALID_PARAMETER;
     node->allocation = (uint64_t)size;
-    return (uint64_t)size < node->size ? kz_cut_unheard(file, (uint64_t)size) : STATUS_SUCCESS;
+    return (uint64_t)size < node->size ? kz.store->cut(file, (uint64_t)size) : STATUS_SUCCESS;
 }
 
 static NTSTATUS set_position(KzFile *file, LARGE_INTEGER place)

@@ -1,13 +1,19 @@
 /* What the file system says of its volume, by the kit's classes. */
-#include "filesystem/answers.h"
+#include "filesystem/volumes.h"
 
-#include "manager/carrier.h"
+#include "core/clock.h"
+#include "core/module.h"
+#include "core/operation.h"
+#include "lib/letters.h"
+#include "filesystem/name.h"
+#include "filesystem/query.h"
+#include "filesystem/tree.h"
 
 enum { UNITS = 65536, LETTERS = 32 };
 
 static char labels[8][LETTERS + 1];
 
-void kz_free_labels(void)
+static void free_labels(void)
 {
     memset(labels, 0, sizeof labels);
 }
@@ -15,7 +21,7 @@ void kz_free_labels(void)
 static LONGLONG free_units(PFLT_VOLUME volume)
 {
     uint64_t used = 0;
-    for (const KzName *one = kz_first_name(); one; one = one->next)
+    for (const KzName *one = kz_all_names(); one; one = one->next)
         if (!one->is_gone && one->volume == volume && one->node->exists)
             used += kz_allocation_of(one->node) / volume->sector;
     return used < UNITS ? (LONGLONG)(UNITS - used) : 0;
@@ -93,3 +99,25 @@ NTSTATUS kz_answer_volume(KzOp *op, const FLT_PARAMETERS *now)
         return set_label(op->volume, now);
     return query(op->volume, (int)now->QueryVolumeInformation.FsInformationClass, &room);
 }
+
+static const char *behind(const char *name, const char *prefix)
+{
+    size_t length = strlen(prefix);
+    return KzStrnicmp(name, prefix, length) == 0 ? name + length : NULL;
+}
+
+PFLT_VOLUME kz_volume_named(const char *name, const char **rest)
+{
+    for (size_t at = 0; at < kz.volumes_count; at++) {
+        char device[64], letter[] = {(char)('C' + at), ':', 0};
+        snprintf(device, sizeof device, "/Device/%s", kz.volumes[at]->name);
+        const char *folder = behind(name, "/?" "?/") ? behind(name, "/?" "?/") : behind(name, "/DosDevices/");
+        *rest = folder ? behind(folder, letter) : behind(name, device);
+        if (*rest && (**rest == '/' || !**rest))
+            return kz.volumes[at];
+    }
+    *rest = behind(name, "/SystemRoot/");
+    return *rest && kz.volumes_count ? kz.volumes[0] : NULL;
+}
+
+const KzModule kz_label_module = {.free = free_labels};

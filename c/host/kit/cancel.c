@@ -1,5 +1,16 @@
 /* Cancelling: a request's own, or that of a process that ends. Of an operation that a filter holds the queue's routine is called, or the one that the filter has set; who set none isn't told. */
-#include "filesystem/answers.h"
+#include "kit/cancel.h"
+
+#include "core/client.h"
+#include "core/operation.h"
+#include "core/place.h"
+#include "core/state.h"
+#include "core/told.h"
+#include "filesystem/notice.h"
+#include "manager/below.h"
+#include "manager/context.h"
+#include "manager/operation.h"
+#include "kit/queue.h"
 
 BOOLEAN FltIsIoCanceled(PFLT_CALLBACK_DATA CallbackData)
 {
@@ -51,13 +62,13 @@ static bool is_in_queue(PFLT_CALLBACK_DATA_QUEUE queue, PFLT_CALLBACK_DATA data)
 static bool leaves_queue(PFLT_CALLBACK_DATA_QUEUE queue, PFLT_CALLBACK_DATA data)
 {
     KIRQL irql = 0;
-    queue->Acquire(queue, &irql);
+    KZ_CALL_DRIVER(queue->Acquire, queue, &irql);
     bool is_there = is_in_queue(queue, data);
     if (is_there) {
-        queue->RemoveIo(queue, data);
+        KZ_CALL_DRIVER(queue->RemoveIo, queue, data);
         kz_leave_queue(data);
     }
-    queue->Release(queue, irql);
+    KZ_CALL_DRIVER(queue->Release, queue, irql);
     return is_there;
 }
 
@@ -74,9 +85,9 @@ static void call_routine(KzOp *op)
     kz_scheduler->touch(&op->cancel, 0, KZT_TAKES);
     unsigned depth = kz_let_driver("cancel", queue ? (PVOID)queue->CompleteCanceledIo : (PVOID)routine);
     if (queue && leaves_queue(queue, data))
-        queue->CompleteCanceledIo(queue, data);
+        KZ_CALL_DRIVER(queue->CompleteCanceledIo, queue, data);
     else if (!queue)
-        routine(data);
+        KZ_CALL_DRIVER(routine, data);
     kz_driver_returned(depth, "cancel returns");
     kz_keep_rest(NULL);
     kz_leave(before);

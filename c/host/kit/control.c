@@ -1,7 +1,14 @@
 /* What a driver asks by itself of a file, a directory or a volume, where the manager has no operation for it: those below it hear of it as of a client's. */
-#include "kit/io.h"
+#include "kit/control.h"
 
-#include "manager/carrier.h"
+#include "core/client.h"
+#include "core/operation.h"
+#include "core/told.h"
+#include "lib/letters.h"
+#include "filesystem/handle.h"
+#include "manager/below.h"
+#include "manager/instance.h"
+#include "kit/io.h"
 
 static KzFile *opened(PFLT_INSTANCE instance, PFILE_OBJECT object, const char *call)
 {

@@ -1,89 +1,26 @@
-/* Files that a driver opens by itself, and its handles of them and of other objects. */
-#include "manager/below.h"
+/* Files that a driver opens by itself. */
+#include "kit/create.h"
 
+#include "core/client.h"
+#include "core/operation.h"
+#include "core/told.h"
+#include "lib/letters.h"
+#include "filesystem/deletion.h"
+#include "filesystem/fileobject.h"
+#include "filesystem/handle.h"
+#include "filesystem/name.h"
 #include "filesystem/tree.h"
-
-#include <stdlib.h>
-
-typedef struct Handle {
-    struct Handle *next;
-    KzFile *file;
-    PVOID object;     /* of a handle of no file */
-    const char *what; /* it is */
-    HANDLE handle;
-    const char *call; /* that closes it; NULL: nobody needs to */
-    uint64_t process; /* the program's whose handle it is; 0: it is the kernel's */
-    KzPlace place;
-} Handle;
-
-static Handle *handles;
-static uintptr_t last_handle;
-
-static Handle **place_of(HANDLE handle)
-{
-    Handle **at = &handles;
-    while (*at && (*at)->handle != handle)
-        at = &(*at)->next;
-    return at;
-}
-
-KzFile *kz_own_file(HANDLE handle)
-{
-    Handle *one = *place_of(handle);
-    return one ? one->file : NULL;
-}
-
-/* Its number is as handles of the kernel are: none of a program's. */
-static Handle *new_handle(const char *call)
-{
-    Handle *made = kz_memory(sizeof *made);
-    *made = (Handle){.next = handles, .handle = (HANDLE)(0xffffffff80000000ULL + (last_handle += 4)), .call = call, .place = kz_me->place};
-    return handles = made;
-}
-
-/* What a filter opens for the program that called it is the program's, which closes it by itself, or by its end. */
-HANDLE kz_open_handle(PVOID object, const char *what, ULONG attributes)
-{
-    bool is_by_program = kz_me->place.callback == KZ_IN_PORT || kz_me->place.callback == KZ_IN_DISPATCH;
-    bool is_of_kernel = (attributes & OBJ_KERNEL_HANDLE) || !is_by_program;
-    Handle *made = new_handle(is_of_kernel ? "ZwClose" : NULL);
-    made->process = is_of_kernel ? 0 : kz_me->process;
-    made->object = object;
-    made->what = what;
-    return made->handle;
-}
-
-PVOID kz_object_of(HANDLE handle)
-{
-    Handle *one = *place_of(handle);
-    return !one ? NULL : one->file ? &one->file->object : one->object;
-}
+#include "filesystem/volumes.h"
+#include "manager/below.h"
+#include "manager/instance.h"
+#include "manager/reference.h"
+#include "manager/reparse.h"
 
 /* ---- Names: below a volume's device or its letter, from a directory's handle, or as the kit's own folders have them. */
 typedef struct {
     PFLT_VOLUME volume;
     char path[256];
 } Named;
-
-static const char *behind(const char *name, const char *prefix)
-{
-    size_t length = strlen(prefix);
-    return KzStrnicmp(name, prefix, length) == 0 ? name + length : NULL;
-}
-
-PFLT_VOLUME kz_volume_named(const char *name, const char **rest)
-{
-    for (size_t at = 0; at < kz.volumes_count; at++) {
-        char device[64], letter[] = {(char)('C' + at), ':', 0};
-        snprintf(device, sizeof device, "/Device/%s", kz.volumes[at]->name);
-        const char *folder = behind(name, "/?" "?/") ? behind(name, "/?" "?/") : behind(name, "/DosDevices/");
-        *rest = folder ? behind(folder, letter) : behind(name, device);
-        if (*rest && (**rest == '/' || !**rest))
-            return kz.volumes[at];
-    }
-    *rest = behind(name, "/SystemRoot/");
-    return *rest && kz.volumes_count ? kz.volumes[0] : NULL;
-}
 
 static NTSTATUS name_of(POBJECT_ATTRIBUTES attributes, Named *named)
 {
@@ -96,6 +33,8 @@ static NTSTATUS name_of(POBJECT_ATTRIBUTES attributes, Named *named)
     KzFile *root = attributes->RootDirectory ? kz_own_file(attributes->RootDirectory) : NULL;
     if (attributes->RootDirectory && !root)
         return STATUS_INVALID_HANDLE;
+    if (!root && name[0] != '/')
+        return STATUS_OBJECT_PATH_SYNTAX_BAD;
     if (root)
         *named = (Named){.volume = root->volume};
     else
@@ -193,7 +132,7 @@ static NTSTATUS name_by_id(const Wanted *wanted, Named *named)
     if (!said || said->Length != sizeof id || !wanted->instance)
         return STATUS_INVALID_PARAMETER;
     memcpy(&id, said->Buffer, sizeof id);
-    for (const KzName *one = kz_first_name(); one; one = one->next)
+    for (const KzName *one = kz_all_names(); one; one = one->next)
         if (!one->is_gone && one->volume == wanted->instance->volume && one->node->exists && one->node->id == id) {
             named->volume = one->volume;
             memcpy(named->path, one->text, sizeof named->path);
@@ -241,9 +180,7 @@ static NTSTATUS open_file(const Wanted *wanted, PHANDLE handle, PFILE_OBJECT *ob
     if (!NT_SUCCESS(status->Status))
         return status->Status;
     status->Information = information_of(wanted->disposition);
-    Handle *made = new_handle(wanted->closed_by);
-    made->file = file;
-    *handle = made->handle;
+    *handle = kz_file_handle(file, wanted->closed_by);
     if (object) {
         *object = &file->object;
         kz_take_object(&file->object, false, wanted->call);
@@ -328,25 +265,18 @@ static void close_file(KzFile *file)
 /* False: it is none of these. */
 bool kz_close_handle(HANDLE handle)
 {
-    Handle **at = place_of(handle), *gone = *at;
-    if (!gone)
+    KzFile *file;
+    if (!kz_drop_handle(handle, &file))
         return false;
-    *at = gone->next;
-    if (gone->file)
-        close_file(gone->file);
-    free(gone);
+    if (file)
+        close_file(file);
     return true;
 }
 
 void kz_close_handles_of(uint64_t process)
 {
-    for (Handle **at = &handles; *at;) {
-        Handle *one = *at;
-        if (one->process == process && process)
-            kz_close_handle(one->handle);
-        else
-            at = &one->next;
-    }
+    for (HANDLE handle = NULL; process && (handle = kz_handle_of_process(process));)
+        kz_close_handle(handle);
 }
 
 NTSTATUS FltClose(HANDLE FileHandle)
@@ -370,26 +300,4 @@ VOID FltCancelFileOpen(PFLT_INSTANCE Instance, PFILE_OBJECT FileObject)
     kz_close_below(Instance, op->file);
     op->file->is_opening = false;
     FileObject->Flags |= FO_FILE_OPEN_CANCELLED;
-}
-
-/* ---- The end of a filter, and of a run. */
-void kz_tell_handles(PFLT_FILTER filter)
-{
-    for (Handle *one = handles; one; one = one->next)
-        if (one->place.filter == filter && one->call) {
-            KzPlace before = kz_enter_again(&one->place);
-            kz_tell(KZM_HANDLE_LEAK, one->call, "never called for a handle of %s%s", one->file ? "the file " : one->what, one->file ? one->file->path : "");
-            kz_me->place = before;
-            one->call = NULL;
-        }
-}
-
-void kz_free_handles(void)
-{
-    while (handles) {
-        Handle *one = handles;
-        handles = one->next;
-        free(one);
-    }
-    last_handle = 0;
 }

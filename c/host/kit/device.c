@@ -1,6 +1,16 @@
 /* Devices of a driver's own: programs open them by a symbolic link or by their names, and each call of theirs is an IRP for one of the driver's dispatch routines. */
 #include "kit/device.h"
 
+#include "core/client.h"
+#include "core/memory.h"
+#include "core/module.h"
+#include "core/piece.h"
+#include "core/place.h"
+#include "core/state.h"
+#include "core/told.h"
+#include "lib/letters.h"
+#include "manager/context.h"
+
 #include <stdlib.h>
 #include <string.h>
 
@@ -57,7 +67,7 @@ NTSTATUS IoCreateDevice(PDRIVER_OBJECT DriverObject, ULONG DeviceExtensionSize, 
     return STATUS_SUCCESS;
 }
 
-void kz_offer_devices(PFLT_FILTER filter)
+static void offer_devices(PFLT_FILTER filter)
 {
     for (KzDevice *one = devices; one; one = one->next)
         if (one->filter == filter && !one->is_deleted)
@@ -193,7 +203,7 @@ static NTSTATUS dispatch(KzDevice *device, Request *one)
     one->next = requests;
     requests = one;
     unsigned depth = kz_let_driver("dispatch", (PVOID)routine);
-    NTSTATUS said = routine(device->object, one->irp);
+    NTSTATUS said = KZ_CALL_DRIVER(routine, device->object, one->irp);
     kz_driver_returned(depth, "dispatch returns");
     tell_end(one, said);
     kz_keep_rest(NULL);
@@ -363,7 +373,7 @@ void kz_close_device(KzDeviceFile *file)
     free_if_due(file->device);
 }
 
-void kz_free_devices(void)
+static void free_devices(void)
 {
     while (devices) {
         KzDevice *one = devices;
@@ -376,3 +386,5 @@ void kz_free_devices(void)
         free(one);
     }
 }
+
+const KzModule kz_device_module = {.free = free_devices, .filter_begins = offer_devices};

@@ -1,6 +1,6 @@
 /* Devices of a driver's own, as programs open them. */
-#ifndef KZ_DEVICE_H
-#define KZ_DEVICE_H
+#ifndef KZ_KIT_DEVICE_H
+#define KZ_KIT_DEVICE_H
 
 #include "host.h"
 
@@ -21,6 +21,7 @@ typedef struct {
     uint64_t offset;
 } KzDeviceAsk;
 
+extern const struct KzModule kz_device_module;
 /* By a name with `/`: of a symbolic link behind `//./`, or of the device behind `//?/GLOBALROOT`. */
 NTSTATUS kz_open_device(const char *name, KzDeviceFile *made);
 NTSTATUS kz_ask_device(KzDeviceFile *file, const KzDeviceAsk *asked, ULONG_PTR *information);

@@ -1,5 +1,12 @@
 /* Extra create parameters: a list of them goes along with a create that a driver makes, or that it puts one into on its way down. Those of clients have none. */
-#include "host.h"
+#include "kit/ecp.h"
+
+#include "core/client.h"
+#include "core/module.h"
+#include "core/operation.h"
+#include "core/place.h"
+#include "core/state.h"
+#include "manager/operation.h"
 
 #include <string.h>
 
@@ -57,7 +64,7 @@ static void free_parameter(Parameter *parameter)
     if (parameter->cleanup) {
         KzPlace before = kz_enter(KZ_IN_CLEANUP, kz_worker(), parameter->filter, NULL, NULL, NULL);
         unsigned depth = kz_let_driver("cleanup", (PVOID)parameter->cleanup);
-        parameter->cleanup(context_of(parameter), &parameter->type);
+        KZ_CALL_DRIVER(parameter->cleanup, context_of(parameter), &parameter->type);
         kz_driver_returned(depth, "cleanup returns");
         kz_leave(before);
     }
@@ -194,9 +201,11 @@ NTSTATUS FltSetEcpListIntoCallbackData(PFLT_FILTER Filter, PFLT_CALLBACK_DATA Ca
     return STATUS_SUCCESS;
 }
 
-void kz_free_ecps(KzOp *op)
+static void free_ecps(KzOp *op)
 {
     if (op->ecps)
         free_list(op->ecps);
     op->ecps = NULL;
 }
+
+const KzModule kz_ecp_module = {.operation_ends = free_ecps};

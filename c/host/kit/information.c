@@ -1,8 +1,15 @@
 /* What a driver asks of a file by itself, and sets: operations of which those below hear. The size, its change and a plain deletion are the manager's own; the others ride on one. */
-#include "kit/io.h"
+#include "kit/information.h"
 
-#include "filesystem/answers.h"
-#include "manager/carrier.h"
+#include "core/client.h"
+#include "core/operation.h"
+#include "core/told.h"
+#include "filesystem/deletion.h"
+#include "filesystem/handle.h"
+#include "filesystem/query.h"
+#include "manager/below.h"
+#include "manager/instance.h"
+#include "kit/io.h"
 
 static NTSTATUS ask_standard(PFLT_INSTANCE instance, KzFile *file, PFILE_STANDARD_INFORMATION said)
 {

@@ -1,6 +1,18 @@
 /* Reads, writes and flushes that a driver begins by itself. Those of more bytes than the manager takes at once are several operations. */
 #include "kit/io.h"
 
+#include "core/client.h"
+#include "core/memory.h"
+#include "core/operation.h"
+#include "core/place.h"
+#include "core/state.h"
+#include "core/told.h"
+#include "filesystem/fileobject.h"
+#include "filesystem/handle.h"
+#include "manager/below.h"
+#include "manager/context.h"
+#include "manager/instance.h"
+
 #include <stdlib.h>
 
 /* What goes on between a driver's buffer and a file. */
@@ -88,7 +100,7 @@ static void call_routine(Later *later, PFLT_CALLBACK_DATA data)
     KzPlace before = kz_enter(KZ_IN_COMPLETION, worker, later->filter, later->asked.instance, NULL, NULL);
     kz_call_at(DISPATCH_LEVEL); /* as the kit may have it */
     unsigned depth = kz_let_driver("completion", later->asked.routine);
-    later->asked.routine(data, later->asked.context);
+    KZ_CALL_DRIVER(later->asked.routine, data, later->asked.context);
     kz_driver_returned(depth, "completion returns");
     kz_keep_rest(NULL);
     kz_leave(before);

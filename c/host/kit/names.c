@@ -1,7 +1,20 @@
 /* Names of files and volumes. */
-#include "filesystem/tree.h"
+#include "kit/names.h"
 
-#include "manager/carrier.h"
+#include "core/client.h"
+#include "core/module.h"
+#include "core/operation.h"
+#include "core/piece.h"
+#include "core/place.h"
+#include "core/told.h"
+#include "lib/letters.h"
+#include "filesystem/fileobject.h"
+#include "filesystem/name.h"
+#include "filesystem/rename.h"
+#include "filesystem/tree.h"
+#include "manager/instance.h"
+#include "manager/mount.h"
+#include "manager/operation.h"
 
 #include <stdio.h>
 #include <stdlib.h>
@@ -16,40 +29,6 @@ typedef struct Named {
 } Named;
 
 static Named *all;
-
-ULONG kz_widen(WCHAR *room, const char *text)
-{
-    size_t at = 0;
-    for (; text[at]; at++)
-        room[at] = (WCHAR)(text[at] == '/' ? '\\' : text[at]);
-    return (ULONG)(at * sizeof(WCHAR));
-}
-
-static void put_wide(WCHAR *room, const char *text)
-{
-    for (; *text; text++)
-        *room++ = (WCHAR)(*text == '/' ? '\\' : *text);
-}
-
-bool kz_give_name(PUNICODE_STRING to, const char *text, bool is_ended)
-{
-    USHORT size = (USHORT)(strlen(text) * sizeof(WCHAR)), whole = (USHORT)(size + is_ended * sizeof(WCHAR));
-    WCHAR *room = kz_take_memory(KZK_NAME, whole, 0, 0);
-    *to = (UNICODE_STRING){size, whole, room};
-    if (room)
-        put_wide(room, text);
-    return room != NULL;
-}
-
-/* The other way round; how many letters there are. */
-size_t kz_narrow(char *room, size_t size, PCUNICODE_STRING text)
-{
-    size_t length = text ? text->Length / sizeof(WCHAR) : 0, fits = length < size ? length : size - 1;
-    for (size_t at = 0; at < fits; at++)
-        room[at] = (char)(text->Buffer[at] == '\\' ? '/' : text->Buffer[at] & 127);
-    room[fits] = 0;
-    return length;
-}
 
 static void device_name(char *room, size_t size, PFLT_VOLUME volume)
 {
@@ -137,6 +116,24 @@ static bool is_unsafe(const KzOp *op, FLT_FILE_NAME_OPTIONS options, bool is_che
     return true;
 }
 
+/* ---- The cache of names: what was asked for is in it until a rename, of a file that isn't open yet as long as its create is under way. */
+static uint8_t *cached_of(KzFile *file, bool is_open)
+{
+    return is_open && file->name ? &file->name->cached : &file->cached;
+}
+
+static bool is_cache_miss(const uint8_t *cached, FLT_FILE_NAME_OPTIONS options)
+{
+    return FltGetFileNameQueryMethod(options) == FLT_FILE_NAME_QUERY_CACHE_ONLY && !(*cached & 1 << FltGetFileNameFormat(options));
+}
+
+static NTSTATUS note_cached(NTSTATUS status, uint8_t *cached, FLT_FILE_NAME_OPTIONS options)
+{
+    if (NT_SUCCESS(status) && FltGetFileNameQueryMethod(options) != FLT_FILE_NAME_QUERY_FILESYSTEM_ONLY)
+        *cached |= (uint8_t)(1 << FltGetFileNameFormat(options));
+    return status;
+}
+
 NTSTATUS FltGetFileNameInformation(PFLT_CALLBACK_DATA CallbackData, FLT_FILE_NAME_OPTIONS NameOptions, PFLT_FILE_NAME_INFORMATION *FileNameInformation)
 {
     KZ_INSIDE();
@@ -152,9 +149,14 @@ NTSTATUS FltGetFileNameInformation(PFLT_CALLBACK_DATA CallbackData, FLT_FILE_NAM
         return STATUS_FLT_INVALID_NAME_REQUEST;
     if (op->carried && op->carried->has_no_file)
         return STATUS_INVALID_PARAMETER;
+    if (is_opening(op) && FltGetFileNameFormat(NameOptions) == FLT_FILE_NAME_SHORT)
+        return STATUS_FLT_INVALID_NAME_REQUEST;
+    uint8_t *cached = cached_of(op->file, !is_opening(op));
+    if (is_cache_miss(cached, NameOptions))
+        return STATUS_FLT_NAME_CACHE_MISS;
     char text[300];
     spell(op, FltGetFileNameFormat(NameOptions), text, sizeof text);
-    return name_of(op->volume, text, NameOptions, FileNameInformation);
+    return note_cached(name_of(op->volume, text, NameOptions, FileNameInformation), cached, NameOptions);
 }
 
 NTSTATUS FltGetFileNameInformationUnsafe(PFILE_OBJECT FileObject, PFLT_INSTANCE Instance, FLT_FILE_NAME_OPTIONS NameOptions,
@@ -168,7 +170,12 @@ NTSTATUS FltGetFileNameInformationUnsafe(PFILE_OBJECT FileObject, PFLT_INSTANCE 
     const KzOp *op = kz_me->place.op;
     if (file && op && op->file == file && is_unsafe(op, NameOptions, false, __func__))
         return STATUS_FLT_INVALID_NAME_REQUEST;
-    return file ? name_of(file->volume, kz_name_now(file), NameOptions, FileNameInformation) : STATUS_INVALID_PARAMETER;
+    if (!file)
+        return STATUS_INVALID_PARAMETER;
+    uint8_t *cached = cached_of(file, true);
+    if (is_cache_miss(cached, NameOptions))
+        return STATUS_FLT_NAME_CACHE_MISS;
+    return note_cached(name_of(file->volume, kz_name_now(file), NameOptions, FileNameInformation), cached, NameOptions);
 }
 
 /* Where a rename or a link leads to, by the buffer that the filter was given: so one below sees what one above put there. */
@@ -295,7 +302,7 @@ static NTSTATUS put_name(const char *text, PUNICODE_STRING to, PULONG needed)
     WCHAR room[128];
     USHORT size = (USHORT)(strlen(text) * sizeof(WCHAR));
     UNICODE_STRING name = {size, size, room};
-    put_wide(room, text);
+    kz_widen(room, text);
     if (needed)
         *needed = name.Length;
     if (!to || to->MaximumLength < name.Length)
@@ -356,7 +363,7 @@ void kz_tell_names(PFLT_FILTER filter)
     }
 }
 
-void kz_free_names(void)
+static void free_names(void)
 {
     while (all) {
         Named *one = all;
@@ -364,3 +371,5 @@ void kz_free_names(void)
         free_named(one);
     }
 }
+
+const KzModule kz_name_module = {.free = free_names};

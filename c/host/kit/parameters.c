@@ -1,5 +1,11 @@
 /* What a driver asks of its callback data: whether it is dirty, where its buffer is, and who asked for the operation. */
-#include "host.h"
+#include "core/client.h"
+#include "core/held.h"
+#include "core/operation.h"
+#include "core/told.h"
+#include "filesystem/fileobject.h"
+#include "manager/data.h"
+#include "manager/operation.h"
 
 VOID FltSetCallbackDataDirty(PFLT_CALLBACK_DATA Data)
 {
@@ -16,89 +22,6 @@ VOID FltClearCallbackDataDirty(PFLT_CALLBACK_DATA Data)
 BOOLEAN FltIsCallbackDataDirty(PFLT_CALLBACK_DATA Data)
 {
     return (Data->Flags & FLTFL_CALLBACK_DATA_DIRTY) != 0;
-}
-
-/* Information, and what a file and a volume have beside bytes. One of a security descriptor that is set has no length. */
-static bool decode_beside(FLT_PARAMETERS *now, UCHAR major, PMDL **mdl, PVOID **buffer, ULONG **length, LOCK_OPERATION *access)
-{
-    *access = major == IRP_MJ_SET_INFORMATION || major == IRP_MJ_SET_EA || major == IRP_MJ_SET_QUOTA || major == IRP_MJ_SET_VOLUME_INFORMATION ? IoReadAccess : IoWriteAccess;
-    switch (major) {
-    case IRP_MJ_QUERY_INFORMATION:
-        *buffer = &now->QueryFileInformation.InfoBuffer, *length = &now->QueryFileInformation.Length;
-        return true;
-    case IRP_MJ_SET_INFORMATION:
-        *buffer = &now->SetFileInformation.InfoBuffer, *length = &now->SetFileInformation.Length;
-        return true;
-    case IRP_MJ_QUERY_EA:
-        *mdl = &now->QueryEa.MdlAddress, *buffer = &now->QueryEa.EaBuffer, *length = &now->QueryEa.Length;
-        return true;
-    case IRP_MJ_SET_EA:
-        *mdl = &now->SetEa.MdlAddress, *buffer = &now->SetEa.EaBuffer, *length = &now->SetEa.Length;
-        return true;
-    case IRP_MJ_QUERY_VOLUME_INFORMATION:
-    case IRP_MJ_SET_VOLUME_INFORMATION:
-        *buffer = &now->QueryVolumeInformation.VolumeBuffer, *length = &now->QueryVolumeInformation.Length;
-        return true;
-    case IRP_MJ_QUERY_SECURITY:
-        *mdl = &now->QuerySecurity.MdlAddress, *buffer = &now->QuerySecurity.SecurityBuffer, *length = &now->QuerySecurity.Length;
-        return true;
-    case IRP_MJ_QUERY_QUOTA:
-        *mdl = &now->QueryQuota.MdlAddress, *buffer = &now->QueryQuota.QuotaBuffer, *length = &now->QueryQuota.Length;
-        return true;
-    case IRP_MJ_SET_QUOTA:
-        *mdl = &now->SetQuota.MdlAddress, *buffer = &now->SetQuota.QuotaBuffer, *length = &now->SetQuota.Length;
-        return true;
-    case IRP_MJ_FILE_SYSTEM_CONTROL:
-    case IRP_MJ_DEVICE_CONTROL:
-    case IRP_MJ_INTERNAL_DEVICE_CONTROL:
-        *buffer = &now->FileSystemControl.Buffered.SystemBuffer, *length = &now->FileSystemControl.Buffered.OutputBufferLength;
-        return true;
-    default:
-        return false;
-    }
-}
-
-/* The buffer of an operation, as the kit hands out pointers to its fields. */
-NTSTATUS FltDecodeParameters(PFLT_CALLBACK_DATA CallbackData, PMDL **MdlAddressPointer, PVOID **Buffer, PULONG *Length, LOCK_OPERATION *DesiredAccess)
-{
-    KZ_INSIDE();
-    FLT_PARAMETERS *now = &CallbackData->Iopb->Parameters;
-    PMDL *mdl = NULL;
-    PVOID *buffer;
-    ULONG *length;
-    LOCK_OPERATION access = IoWriteAccess;
-    bool is_notice;
-    switch (CallbackData->Iopb->MajorFunction) {
-    case IRP_MJ_READ:
-        mdl = &now->Read.MdlAddress;
-        buffer = &now->Read.ReadBuffer;
-        length = &now->Read.Length;
-        break;
-    case IRP_MJ_WRITE:
-        mdl = &now->Write.MdlAddress;
-        buffer = &now->Write.WriteBuffer;
-        length = &now->Write.Length;
-        access = IoReadAccess;
-        break;
-    case IRP_MJ_DIRECTORY_CONTROL:
-        is_notice = CallbackData->Iopb->MinorFunction != IRP_MN_QUERY_DIRECTORY;
-        mdl = is_notice ? &now->DirectoryControl.NotifyDirectory.MdlAddress : &now->DirectoryControl.QueryDirectory.MdlAddress;
-        buffer = is_notice ? &now->DirectoryControl.NotifyDirectory.DirectoryBuffer : &now->DirectoryControl.QueryDirectory.DirectoryBuffer;
-        length = is_notice ? &now->DirectoryControl.NotifyDirectory.Length : &now->DirectoryControl.QueryDirectory.Length;
-        break;
-    default:
-        if (!decode_beside(now, CallbackData->Iopb->MajorFunction, &mdl, &buffer, &length, &access))
-            return STATUS_INVALID_PARAMETER;
-    }
-    if (MdlAddressPointer)
-        *MdlAddressPointer = mdl;
-    if (Buffer)
-        *Buffer = buffer;
-    if (Length)
-        *Length = length;
-    if (DesiredAccess)
-        *DesiredAccess = access;
-    return STATUS_SUCCESS;
 }
 
 /* A description of the buffer, which the manager frees. It changes no parameter. */
@@ -164,7 +87,7 @@ static bool puts_off(const char *call, const void *from, PFLT_CALLBACK_DATA data
 BOOLEAN FltDoCompletionProcessingWhenSafe(PFLT_CALLBACK_DATA Data, PCFLT_RELATED_OBJECTS FltObjects, PVOID CompletionContext, FLT_POST_OPERATION_FLAGS Flags,
                                           PFLT_POST_OPERATION_CALLBACK SafePostCallback, PFLT_POSTOP_CALLBACK_STATUS RetPostOperationStatus)
 {
-    if (puts_off(__func__, __builtin_return_address(0), Data, (KzSafe){SafePostCallback, CompletionContext, Flags})) {
+    if (puts_off(__func__, KZ_CALLER(), Data, (KzSafe){SafePostCallback, CompletionContext, Flags})) {
         *RetPostOperationStatus = FLT_POSTOP_MORE_PROCESSING_REQUIRED;
         return TRUE;
     }
@@ -172,7 +95,7 @@ BOOLEAN FltDoCompletionProcessingWhenSafe(PFLT_CALLBACK_DATA Data, PCFLT_RELATED
         *RetPostOperationStatus = FLT_POSTOP_FINISHED_PROCESSING;
         return FALSE;
     }
-    *RetPostOperationStatus = SafePostCallback(Data, FltObjects, CompletionContext, Flags);
+    *RetPostOperationStatus = KZ_CALL_DRIVER(SafePostCallback, Data, FltObjects, CompletionContext, Flags);
     return TRUE;
 }
 
@@ -229,22 +152,4 @@ BOOLEAN FltIs32bitProcess(PFLT_CALLBACK_DATA CallbackData)
 {
     (void)CallbackData;
     return FALSE;
-}
-
-PCHAR FltGetIrpName(UCHAR IrpMajorCode)
-{
-    static const char *const names[] = {"IRP_MJ_CREATE", "IRP_MJ_CREATE_NAMED_PIPE", "IRP_MJ_CLOSE", "IRP_MJ_READ", "IRP_MJ_WRITE",
-                                        "IRP_MJ_QUERY_INFORMATION", "IRP_MJ_SET_INFORMATION", "IRP_MJ_QUERY_EA", "IRP_MJ_SET_EA", "IRP_MJ_FLUSH_BUFFERS",
-                                        "IRP_MJ_QUERY_VOLUME_INFORMATION", "IRP_MJ_SET_VOLUME_INFORMATION", "IRP_MJ_DIRECTORY_CONTROL",
-                                        "IRP_MJ_FILE_SYSTEM_CONTROL", "IRP_MJ_DEVICE_CONTROL", "IRP_MJ_INTERNAL_DEVICE_CONTROL", "IRP_MJ_SHUTDOWN",
-                                        "IRP_MJ_LOCK_CONTROL", "IRP_MJ_CLEANUP", "IRP_MJ_CREATE_MAILSLOT", "IRP_MJ_QUERY_SECURITY", "IRP_MJ_SET_SECURITY",
-                                        "IRP_MJ_POWER", "IRP_MJ_SYSTEM_CONTROL", "IRP_MJ_DEVICE_CHANGE", "IRP_MJ_QUERY_QUOTA", "IRP_MJ_SET_QUOTA", "IRP_MJ_PNP"};
-    static const char *const above[] = {"IRP_MJ_ACQUIRE_FOR_SECTION_SYNCHRONIZATION", "IRP_MJ_RELEASE_FOR_SECTION_SYNCHRONIZATION", "IRP_MJ_ACQUIRE_FOR_MOD_WRITE", "IRP_MJ_RELEASE_FOR_MOD_WRITE",
-                                        "IRP_MJ_ACQUIRE_FOR_CC_FLUSH", "IRP_MJ_RELEASE_FOR_CC_FLUSH", "IRP_MJ_QUERY_OPEN"};
-    UCHAR down = (UCHAR)(0xff - IrpMajorCode);
-    if (IrpMajorCode == IRP_MJ_NETWORK_QUERY_OPEN)
-        return (PCHAR) "IRP_MJ_NETWORK_QUERY_OPEN";
-    if (down < sizeof above / sizeof above[0])
-        return (PCHAR)above[down];
-    return (PCHAR)(IrpMajorCode < sizeof names / sizeof names[0] ? names[IrpMajorCode] : "IRP_MJ_OTHER");
 }

@@ -1,6 +1,16 @@
 /* Ports. A program's thread calls the filter's callbacks by itself, as in the kit; a message of the filter's waits until a program's thread has got it, or has answered it. */
 #include "kit/port.h"
-#include "user/program.h"
+
+#include "core/client.h"
+#include "core/memory.h"
+#include "core/module.h"
+#include "core/piece.h"
+#include "core/place.h"
+#include "core/state.h"
+#include "core/told.h"
+#include "lib/letters.h"
+#include "manager/context.h"
+#include "manager/filter.h"
 
 #include <stdlib.h>
 
@@ -18,6 +28,7 @@ struct _FLT_PORT {
     bool is_ending; /* its filter is unloaded: no message comes any more */
     bool is_refused, is_closed, is_disconnected; /* of a connection: by the connect callback, by the filter, by the program or the filter's end */
     KzPortMessage *messages;
+    void (*serve)(PFLT_PORT port); /* of a connection: its program is told that a message came, or that it is over */
     KzPlace place; /* where it was made */
 };
 
@@ -129,7 +140,7 @@ static void come_back(Inside one, const char *name)
     kz_clean_up();
 }
 
-NTSTATUS kz_connect_port(const char *name, const void *context, USHORT size, PFLT_PORT *port)
+NTSTATUS kz_connect_port(const char *name, const void *context, USHORT size, void (*serve)(PFLT_PORT port), PFLT_PORT *port)
 {
     KZ_CALL();
     PFLT_PORT server = server_of(name), made;
@@ -138,7 +149,7 @@ NTSTATUS kz_connect_port(const char *name, const void *context, USHORT size, PFL
     if (server->connections >= server->most)
         return STATUS_CONNECTION_COUNT_LIMIT;
     made = kz_memory(sizeof *made);
-    *made = (struct _FLT_PORT){.next = connections, .filter = server->filter, .server = server, .disconnect = server->disconnect, .message = server->message};
+    *made = (struct _FLT_PORT){.next = connections, .filter = server->filter, .server = server, .disconnect = server->disconnect, .message = server->message, .serve = serve};
     connections = made;
     server->connections++;
     void *captured = size ? kz_take_memory(KZK_BUFFER, size, 0, 0) : NULL;
@@ -150,7 +161,7 @@ NTSTATUS kz_connect_port(const char *name, const void *context, USHORT size, PFL
     server->running++;
     Inside inside = go_in(made->filter, "connect", (PVOID)connect);
     made->place = kz_me->place;
-    NTSTATUS status = connect(made, cookie, captured, size, &made->cookie);
+    NTSTATUS status = KZ_CALL_DRIVER(connect, made, cookie, captured, size, &made->cookie);
     come_back(inside, "connect returns");
     server->running--;
     kz.changes++;
@@ -174,13 +185,13 @@ void kz_disconnect_port(PFLT_PORT port)
         return;
     port->is_disconnected = true;
     kz.changes++;
-    kz_serve_messages(port);
+    port->serve(port);
     if (port->server)
         port->server->connections--;
     kz_scheduler->touch(port, 0, KZT_TAKES);
     port->running++;
     Inside inside = go_in(port->filter, "disconnect", (PVOID)port->disconnect);
-    port->disconnect(port->cookie);
+    KZ_CALL_DRIVER(port->disconnect, port->cookie);
     come_back(inside, "disconnect returns");
     port->running--;
     kz.changes++;
@@ -198,7 +209,7 @@ NTSTATUS kz_send_to_filter(PFLT_PORT port, void *in, ULONG in_length, void *out,
     kz_scheduler->touch(port, 0, KZT_TAKES);
     port->running++;
     Inside inside = go_in(port->filter, "message", (PVOID)port->message);
-    NTSTATUS status = port->message(port->cookie, in, in_length, out, out_length, returned);
+    NTSTATUS status = KZ_CALL_DRIVER(port->message, port->cookie, in, in_length, out, out_length, returned);
     come_back(inside, "message returns");
     port->running--;
     kz.changes++;
@@ -234,7 +245,7 @@ VOID FltCloseClientPort(PFLT_FILTER Filter, PFLT_PORT *ClientPort)
     port->is_closed = true;
     kz.changes++;
     kz_scheduler->touch(port, 0, KZT_GIVES);
-    kz_serve_messages(port);
+    port->serve(port);
 }
 
 /* ---- Messages to a program. */
@@ -251,7 +262,7 @@ static void add(KzPortMessage *message)
         at = &(*at)->next;
     *at = message;
     kz_scheduler->touch(message, 0, KZT_GIVES);
-    kz_serve_messages(message->port);
+    message->port->serve(message->port);
 }
 
 static void take_out(KzPortMessage *message)
@@ -340,7 +351,7 @@ bool kz_reply_message(PFLT_PORT port, uint64_t id, NTSTATUS status, const void *
 }
 
 /* ---- The end of a filter. Its connections end, once no callback of theirs runs any more: a program may be about to disconnect. */
-void kz_disconnect_ports(PFLT_FILTER filter)
+static void disconnect_ports(PFLT_FILTER filter)
 {
     for (PFLT_PORT one = connections; one; one = one->next)
         if (one->filter == filter && !one->is_refused) {
@@ -358,7 +369,7 @@ static void tell_leak(PFLT_PORT port, const char *call, const char *what)
     kz_me->place = before;
 }
 
-bool kz_has_ports_of(PFLT_FILTER filter)
+static bool has_ports_of(PFLT_FILTER filter)
 {
     for (PFLT_PORT one = servers; one; one = one->next)
         if (one->filter == filter)
@@ -369,7 +380,7 @@ bool kz_has_ports_of(PFLT_FILTER filter)
     return false;
 }
 
-void kz_tell_ports(PFLT_FILTER filter)
+static void tell_ports(PFLT_FILTER filter)
 {
     for (PFLT_PORT one = servers; one; one = one->next)
         if (one->filter == filter)
@@ -390,9 +401,11 @@ static void free_all(PFLT_PORT *list)
     }
 }
 
-void kz_free_ports(void)
+static void free_ports(void)
 {
     free_all(&servers);
     free_all(&connections);
     last_message = 0;
 }
+
+const KzModule kz_port_module = {.free = free_ports, .filter_unregisters = disconnect_ports, .filter_ends = tell_ports, .has_any_of = has_ports_of};

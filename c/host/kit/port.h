@@ -1,6 +1,6 @@
 /* Ports between a filter and its programs: the filter's calls are the kit's, the programs' are these. */
-#ifndef KZ_PORT_H
-#define KZ_PORT_H
+#ifndef KZ_KIT_PORT_H
+#define KZ_KIT_PORT_H
 
 #include "host.h"
 
@@ -17,8 +17,10 @@ typedef struct KzPortMessage {
     bool is_taken, is_over;
 } KzPortMessage;
 
+extern const struct KzModule kz_port_module;
 /* By its name, with a context for the filter's connect callback: what that answers, or why there is none. */
-NTSTATUS kz_connect_port(const char *name, const void *context, USHORT size, PFLT_PORT *port);
+/* It says to `serve` that a message came, or that it is over. */
+NTSTATUS kz_connect_port(const char *name, const void *context, USHORT size, void (*serve)(PFLT_PORT port), PFLT_PORT *port);
 /* The program closes its end: the filter's disconnect callback is called, once. */
 void kz_disconnect_port(PFLT_PORT port);
 NTSTATUS kz_send_to_filter(PFLT_PORT port, void *in, ULONG in_length, void *out, ULONG out_length, PULONG returned);

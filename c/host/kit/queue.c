@@ -1,5 +1,11 @@
 /* A filter's queue of operations that it pended: the filter's own callbacks keep it. One that is cancelled leaves it (cancel.c). */
-#include "host.h"
+#include "kit/queue.h"
+
+#include "core/client.h"
+#include "core/operation.h"
+#include "core/told.h"
+#include "manager/instance.h"
+#include "manager/operation.h"
 
 NTSTATUS FltCbdqInitialize(PFLT_INSTANCE Instance, PFLT_CALLBACK_DATA_QUEUE Cbdq, PFLT_CALLBACK_DATA_QUEUE_INSERT_IO CbdqInsertIo,
                            PFLT_CALLBACK_DATA_QUEUE_REMOVE_IO CbdqRemoveIo, PFLT_CALLBACK_DATA_QUEUE_PEEK_NEXT_IO CbdqPeekNextIo,
@@ -64,44 +70,44 @@ VOID FltCbdqDisable(PFLT_CALLBACK_DATA_QUEUE Cbdq)
 NTSTATUS FltCbdqInsertIo(PFLT_CALLBACK_DATA_QUEUE Cbdq, PFLT_CALLBACK_DATA Cbd, PFLT_CALLBACK_DATA_QUEUE_IO_CONTEXT Context, PVOID InsertContext)
 {
     KIRQL irql = 0;
-    if (!is_made(Cbdq, __func__, __builtin_return_address(0)))
+    if (!is_made(Cbdq, __func__, KZ_CALLER()))
         return STATUS_FLT_CBDQ_DISABLED;
-    Cbdq->Acquire(Cbdq, &irql);
+    KZ_CALL_DRIVER(Cbdq->Acquire, Cbdq, &irql);
     bool is_disabled = __atomic_load_n(&Cbdq->Flags, __ATOMIC_SEQ_CST) & FLTFL_CALLBACK_DATA_QUEUE_DISABLED;
-    NTSTATUS status = is_disabled ? STATUS_FLT_CBDQ_DISABLED : Cbdq->InsertIo(Cbdq, Cbd, InsertContext);
+    NTSTATUS status = is_disabled ? STATUS_FLT_CBDQ_DISABLED : KZ_CALL_DRIVER(Cbdq->InsertIo, Cbdq, Cbd, InsertContext);
     if (Context)
         Context->Cbd = NT_SUCCESS(status) ? Cbd : NULL;
     if (NT_SUCCESS(status))
         enter_queue(Cbdq, Cbd, Context);
-    Cbdq->Release(Cbdq, irql);
+    KZ_CALL_DRIVER(Cbdq->Release, Cbdq, irql);
     return status;
 }
 
 PFLT_CALLBACK_DATA FltCbdqRemoveNextIo(PFLT_CALLBACK_DATA_QUEUE Cbdq, PVOID PeekContext)
 {
     KIRQL irql = 0;
-    if (!is_made(Cbdq, __func__, __builtin_return_address(0)))
+    if (!is_made(Cbdq, __func__, KZ_CALLER()))
         return NULL;
-    Cbdq->Acquire(Cbdq, &irql);
-    PFLT_CALLBACK_DATA next = Cbdq->PeekNextIo(Cbdq, NULL, PeekContext);
+    KZ_CALL_DRIVER(Cbdq->Acquire, Cbdq, &irql);
+    PFLT_CALLBACK_DATA next = KZ_CALL_DRIVER(Cbdq->PeekNextIo, Cbdq, NULL, PeekContext);
     if (next) {
-        Cbdq->RemoveIo(Cbdq, next);
+        KZ_CALL_DRIVER(Cbdq->RemoveIo, Cbdq, next);
         kz_leave_queue(next);
     }
-    Cbdq->Release(Cbdq, irql);
+    KZ_CALL_DRIVER(Cbdq->Release, Cbdq, irql);
     return next;
 }
 
 PFLT_CALLBACK_DATA FltCbdqRemoveIo(PFLT_CALLBACK_DATA_QUEUE Cbdq, PFLT_CALLBACK_DATA_QUEUE_IO_CONTEXT Context)
 {
     KIRQL irql = 0;
-    Cbdq->Acquire(Cbdq, &irql);
+    KZ_CALL_DRIVER(Cbdq->Acquire, Cbdq, &irql);
     PFLT_CALLBACK_DATA found = Context->Cbd;
     if (found) {
-        Cbdq->RemoveIo(Cbdq, found);
+        KZ_CALL_DRIVER(Cbdq->RemoveIo, Cbdq, found);
         kz_leave_queue(found);
         Context->Cbd = NULL;
     }
-    Cbdq->Release(Cbdq, irql);
+    KZ_CALL_DRIVER(Cbdq->Release, Cbdq, irql);
     return found;
 }

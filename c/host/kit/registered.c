@@ -1,5 +1,5 @@
 /* What a driver registers with others than the filter manager: it is taken, and never called. Nobody looks at its events. */
-#include "host.h"
+#include "core/client.h"
 
 USHORT ObGetFilterVersion(VOID)
 {

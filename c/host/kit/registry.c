@@ -1,6 +1,14 @@
 /* The registry: the values of a file that the test names. `[ctx]` begins the key of the driver ctx below Services, `[ctx\Parameters]` one below it; a line is
  * NAME = 5, 0x10, "text", hex:0102 or multi:"a" "b". Without a file each driver's own key is there, and has no values. */
-#include "host.h"
+#include "kit/registry.h"
+
+#include "core/client.h"
+#include "core/irql.h"
+#include "core/memory.h"
+#include "core/module.h"
+#include "core/place.h"
+#include "core/told.h"
+#include "kit/create.h"
 
 #include <ctype.h>
 #include <stdlib.h>
@@ -364,7 +372,7 @@ static NTSTATUS query_row(const char *key, const RTL_QUERY_REGISTRY_TABLE *row, 
     if (found && row->Flags & RTL_QUERY_REGISTRY_DIRECT)
         return query_direct(found, row);
     if (found)
-        return row->QueryRoutine(row->Name, found->type, found->data, found->length, context, row->EntryContext);
+        return KZ_CALL_DRIVER(row->QueryRoutine, row->Name, found->type, found->data, found->length, context, row->EntryContext);
     if (row->Flags & RTL_QUERY_REGISTRY_REQUIRED)
         return STATUS_OBJECT_NAME_NOT_FOUND;
     if (row->DefaultType & 0xff && row->Flags & RTL_QUERY_REGISTRY_DIRECT) {
@@ -396,7 +404,7 @@ NTSTATUS RtlQueryRegistryValues(ULONG RelativeTo, PCWSTR Path, PRTL_QUERY_REGIST
 }
 
 /* ---- The end. */
-void kz_tell_keys(void)
+static void tell_keys(void)
 {
     for (Key *one = keys; one; one = one->next) {
         KzPlace before = kz_enter_again(&one->place);
@@ -405,7 +413,7 @@ void kz_tell_keys(void)
     }
 }
 
-void kz_free_registry(void)
+static void free_registry(void)
 {
     while (values)
         drop(&values);
@@ -415,3 +423,5 @@ void kz_free_registry(void)
         free(one);
     }
 }
+
+const KzModule kz_registry_module = {.free = free_registry, .left = tell_keys};

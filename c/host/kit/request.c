@@ -1,7 +1,13 @@
 /* Operations that a filter makes up by itself, in callback data of its own; and those of a callback that it sends down again. */
+#include "core/client.h"
+#include "core/piece.h"
+#include "core/told.h"
+#include "manager/below.h"
+#include "manager/instance.h"
+#include "manager/operation.h"
+#include "kit/control.h"
+#include "kit/information.h"
 #include "kit/io.h"
-
-#include <stdlib.h>
 
 enum { TAG = 'dcMF' };
 
@@ -136,7 +142,7 @@ NTSTATUS FltPerformAsynchronousIo(PFLT_CALLBACK_DATA CallbackData, PFLT_COMPLETE
     }
     FltPerformSynchronousIo(CallbackData);
     unsigned depth = kz_let_driver("completion", CallbackRoutine);
-    CallbackRoutine(CallbackData, CallbackContext);
+    KZ_CALL_DRIVER(CallbackRoutine, CallbackData, CallbackContext);
     kz_driver_returned(depth, "completion returns");
     return STATUS_PENDING;
 }
@@ -146,10 +152,12 @@ VOID FltReissueSynchronousIo(PFLT_INSTANCE InitiatingInstance, PFLT_CALLBACK_DAT
 {
     KZ_CALL();
     ULONG done;
-    if (!kz_op_with(CallbackData)) {
+    KzOp *op = kz_op_with(CallbackData);
+    if (!op) {
         kz_tell(KZM_NOT_OWN_DATA, __func__, "callback data of no operation");
         return;
     }
     CallbackData->IoStatus.Status = carry_out(InitiatingInstance, CallbackData->Iopb, &done, __func__);
     CallbackData->IoStatus.Information = done;
+    op->shown.parameters = *op->iopb; /* what it changed there has counted */
 }

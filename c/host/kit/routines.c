@@ -1,5 +1,6 @@
 /* Routines that aren't modelled, by the tables of c/include: each tells its LIMIT with its name, and answers what stands there. Arguments aren't looked at. */
-#include "host.h"
+#include "core/client.h"
+#include "core/told.h"
 
 #include <bcrypt.h>
 

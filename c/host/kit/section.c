@@ -1,4 +1,14 @@
 /* Sections of a file for a scan: what the file holds as the section is made, read below the filter. A later write isn't in it. */
+#include "kit/section.h"
+
+#include "core/client.h"
+#include "core/memory.h"
+#include "core/module.h"
+#include "core/told.h"
+#include "filesystem/handle.h"
+#include "manager/instance.h"
+#include "manager/reference.h"
+#include "kit/information.h"
 #include "kit/io.h"
 
 #include <stdlib.h>
@@ -155,7 +165,7 @@ NTSTATUS ObOpenObjectByPointer(PVOID Object, ULONG HandleAttributes, PVOID Passe
     return STATUS_NOT_SUPPORTED;
 }
 
-void kz_free_sections(void)
+static void free_sections(void)
 {
     while (sections) {
         Section *one = sections;
@@ -164,3 +174,5 @@ void kz_free_sections(void)
         free(one);
     }
 }
+
+const KzModule kz_section_module = {.free = free_sections};

@@ -1,7 +1,7 @@
 /* What a driver asks of the system itself: one processor, no debugger, and no verifier; and the names of what no create brings. */
-#include <initguid.h>
+#include "core/client.h"
 
-#include "host.h"
+#include <initguid.h>
 
 static LUID_AND_ATTRIBUTES none;
 static SE_EXPORTS exports = {.SeTcbPrivilege = {7, 0},
@@ -69,4 +69,65 @@ LOGICAL MmIsDriverVerifying(PDRIVER_OBJECT DriverObject)
 {
     (void)DriverObject;
     return FALSE;
+}
+
+/* ---- The system's version, and chance, which is the same in each run. */
+NTSTATUS RtlGetVersion(PRTL_OSVERSIONINFOW VersionInformation)
+{
+    KZ_INSIDE();
+    VersionInformation->dwMajorVersion = 10;
+    VersionInformation->dwMinorVersion = 0;
+    VersionInformation->dwBuildNumber = 19045;
+    VersionInformation->dwPlatformId = 2;
+    VersionInformation->szCSDVersion[0] = 0;
+    if (VersionInformation->dwOSVersionInfoSize >= sizeof(RTL_OSVERSIONINFOEXW)) {
+        PRTL_OSVERSIONINFOEXW more = (PRTL_OSVERSIONINFOEXW)VersionInformation;
+        more->wServicePackMajor = more->wServicePackMinor = more->wSuiteMask = 0;
+        more->wProductType = 1;
+    }
+    return STATUS_SUCCESS;
+}
+
+BOOLEAN PsGetVersion(PULONG MajorVersion, PULONG MinorVersion, PULONG BuildNumber, PUNICODE_STRING CSDVersion)
+{
+    if (MajorVersion)
+        *MajorVersion = 10;
+    if (MinorVersion)
+        *MinorVersion = 0;
+    if (BuildNumber)
+        *BuildNumber = 19045;
+    if (CSDVersion)
+        CSDVersion->Length = 0;
+    return FALSE;
+}
+
+BOOLEAN RtlIsNtDdiVersionAvailable(ULONG Version)
+{
+    return Version <= NTDDI_WIN10_RS1;
+}
+
+ULONG RtlRandomEx(PULONG Seed)
+{
+    *Seed = *Seed * 1103515245 + 12345;
+    return *Seed & MAXLONG;
+}
+
+NTSTATUS ExUuidCreate(GUID *Uuid)
+{
+    KZ_INSIDE();
+    static ULONG count;
+    *Uuid = (GUID){++count, 0x4b41, 0x4a44, {0x80, 0, 0, 0, 0, 0, 0, 0}};
+    return STATUS_SUCCESS;
+}
+
+BOOLEAN MmIsAddressValid(PVOID VirtualAddress)
+{
+    return VirtualAddress != NULL;
+}
+
+PVOID MmGetSystemRoutineAddress(PUNICODE_STRING SystemRoutineName)
+{
+    KZ_INSIDE();
+    (void)SystemRoutineName; /* as in an older kernel: a driver that asks copes with none */
+    return NULL;
 }

@@ -1,5 +1,17 @@
 /* Threads of a driver's own: each is a thread of the system's process beside the requests. */
-#include "run/beside.h"
+#include "kit/thread.h"
+
+#include "core/beside.h"
+#include "core/client.h"
+#include "core/memory.h"
+#include "core/module.h"
+#include "core/place.h"
+#include "core/process.h"
+#include "core/state.h"
+#include "core/told.h"
+#include "filesystem/handle.h"
+#include "manager/context.h"
+#include "manager/operation.h"
 
 #include <setjmp.h>
 #include <stdlib.h>
@@ -26,7 +38,7 @@ static void live(void *given)
     KzPlace before = kz_enter(KZ_IN_THREAD, kz_worker(), me->filter, NULL, NULL, NULL);
     unsigned depth = kz_let_driver("thread", me->routine);
     if (setjmp(me->end) == 0)
-        me->routine(me->context);
+        KZ_CALL_DRIVER(me->routine, me->context);
     kz_driver_returned(depth, "thread ends");
     kz_keep_rest(NULL);
     kz_leave(before);
@@ -83,7 +95,7 @@ NTSTATUS PsTerminateSystemThread(NTSTATUS ExitStatus)
     longjmp(me->end, 1);
 }
 
-bool kz_has_threads_of(PFLT_FILTER filter)
+static bool has_threads_of(PFLT_FILTER filter)
 {
     const Own *one = all;
     while (one && !(one->filter == filter && !one->has_ended))
@@ -92,7 +104,7 @@ bool kz_has_threads_of(PFLT_FILTER filter)
 }
 
 /* ---- A filter is unloaded, and a run ends. */
-void kz_tell_threads(PFLT_FILTER filter)
+static void tell_threads(PFLT_FILTER filter)
 {
     for (Own *one = all; one; one = one->next)
         if (one->filter == filter && !one->has_ended) {
@@ -100,11 +112,12 @@ void kz_tell_threads(PFLT_FILTER filter)
             kz_tell(KZM_THREAD_LEFT, "PsCreateSystemThread", "the thread that was made here runs still: it would run in a driver that is gone");
             kz_me->place = before;
             kz_freeze(one->thread);
+            kz_leave_ops(&one->thread->client); /* what it waits for goes on without it */
         }
 }
 
 /* Behind the end of all threads. */
-void kz_free_own_threads(void)
+static void free_own_threads(void)
 {
     while (all) {
         Own *one = all;
@@ -113,3 +126,5 @@ void kz_free_own_threads(void)
     }
     last_id = 0;
 }
+
+const KzModule kz_thread_module = {.free = free_own_threads, .filter_ends = tell_threads, .has_any_of = has_threads_of};

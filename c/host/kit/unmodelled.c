@@ -1,7 +1,6 @@
 /* What the manager leaves out by name is declared: it answers STATUS_NOT_SUPPORTED, or that there is none, and is told once as a LIMIT. */
-#include "host.h"
-
-#include <stdlib.h>
+#include "core/client.h"
+#include "core/told.h"
 
 /* ---- Answers. Arguments aren't looked at. */
 static NTSTATUS none(KzMessage message, const char *call)

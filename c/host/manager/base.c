@@ -1,81 +1,18 @@
-/* Calls of the base, and what lies below volume 0: a folder of the host machine in place of the file system in memory, if a test named one. */
+/* Calls of the base. */
 #include "manager/base.h"
 
-#include "filesystem/answers.h"
+#include "core/client.h"
+#include "core/operation.h"
+#include "core/state.h"
+#include "core/status.h"
+#include "filesystem/call.h"
+#include "filesystem/deletion.h"
+#include "filesystem/disk.h"
 #include "filesystem/ranges.h"
+#include "filesystem/tree.h"
+#include "manager/below.h"
 #include "manager/carrier.h"
-
-static KzFolder folder = {-1};
-
-int kz_use_folder(const char *path)
-{
-    return kz_open_folder(&folder, path);
-}
-
-/* ---- The folder's names. */
-static bool is_folder(uint8_t volume)
-{
-    return folder.descriptor != -1 && volume == 0;
-}
-
-bool kz_look_in_folder(uint8_t volume, const char *name, KzFound *found)
-{
-    if (!is_folder(volume))
-        return false;
-    kz_folder_look(&folder, name, found);
-    return true;
-}
-
-typedef struct {
-    PFLT_VOLUME volume;
-    const char *directory;
-} Entered;
-
-static void enter(void *given, const char *name)
-{
-    const Entered *entered = given;
-    char text[600];
-    if (snprintf(text, sizeof text, "%s%s%s", entered->directory, *entered->directory ? "/" : "", name) <= 255)
-        kz_let_go_name(kz_take_name(entered->volume, text));
-}
-
-void kz_enter_folder(PFLT_VOLUME volume, const char *name)
-{
-    Entered entered = {volume, name};
-    if (is_folder(volume->id))
-        kz_folder_entries(&folder, name, enter, &entered);
-}
-
-NTSTATUS kz_rename_in_folder(uint8_t volume, const char *from, const char *to, bool is_link)
-{
-    return is_folder(volume) ? kz_ntstatus(kz_folder_rename(&folder, from, to, is_link).status) : STATUS_SUCCESS;
-}
-
-NTSTATUS kz_make_in_folder(uint8_t volume, const char *name)
-{
-    return is_folder(volume) ? kz_ntstatus(kz_folder_make(&folder, name).status) : STATUS_SUCCESS;
-}
-
-void kz_unlink_in_folder(uint8_t volume, const char *name)
-{
-    if (is_folder(volume))
-        kz_folder_unlink(&folder, name);
-}
-
-/* ---- Calls. Below the folder a file is what its name leads to now. */
-static bool call_folder(uint8_t worker, const KzFile *file)
-{
-    static uint8_t path[KZ_BYTES + 1], bytes[KZ_BYTES];
-    KazdrinData call = {0};
-    if (folder.descriptor == -1 || kazdrin_lent(&kz.manager, &(KazdrinEvent){.flag = 1, .worker = worker}, &call, path, KZ_BYTES) != KZS_OK || call.lent != KZ_LENT_BASE || call.volume != 0)
-        return false;
-    path[call.length < KZ_BYTES ? call.length : 0] = '\0';
-    if (kazdrin_lent(&kz.manager, &(KazdrinEvent){.worker = worker}, &call, bytes, sizeof bytes) != KZS_OK)
-        return false;
-    KzFolderAnswer answer = kz_call_folder(&folder, &call, file->name ? file->name->text : (const char *)path, bytes);
-    KazdrinEvent returned = {.worker = worker, .status = answer.status, .offset = answer.information, .flag = answer.length > 0};
-    return kazdrin_based(&kz.manager, &returned, answer.length > 0 ? answer.bytes : (const uint8_t *)"", answer.length) == KZS_OK;
-}
+#include "manager/perform.h"
 
 static void answer(KzOp *op, NTSTATUS status, const uint8_t *bytes, size_t length)
 {
@@ -111,7 +48,7 @@ static bool answers(KzOp *op, const KazdrinData *call)
 {
     NTSTATUS status = STATUS_FILE_LOCK_CONFLICT;
     size_t length = 0;
-    bool is_listed = call->operation == KZE_LIST && !is_folder(op->volume->id) && kz_list_names_of(op->volume, kz_me->room, KZ_BYTES, &length);
+    bool is_listed = call->operation == KZE_LIST && !kz_is_in_folder(op->volume->id) && kz_list_names_of(op->volume, kz_me->room, KZ_BYTES, &length);
     if (is_listed)
         status = STATUS_SUCCESS;
     if (!is_listed && !is_locked(op, call) && !is_past_end(op, call, &status) && !kz_answers_call(op, call, &status))
@@ -127,7 +64,7 @@ static void call_bytes(KzOp *op, const KazdrinData *call, uint8_t worker)
 {
     const KzName *name = op->own.is_unheard ? NULL : op->file->name;
     bool was_there = name && name->node->exists;
-    if (!call_folder(worker, op->file))
+    if (!kz_call_in_folder(worker, op->file))
         kazdrin_base(&kz.manager, &(KazdrinEvent){.worker = worker});
     kz_note_call(op, call);
     bool is_opened = call->operation == KZE_CREATE && name && name->node->exists && (call->mode == 0 ? was_there : call->mode == 1 ? !was_there : true);

@@ -2,9 +2,24 @@
  *
  * The manager steps an operation through all instances. For those at the altitude of the one that began it, and above, the host answers FLT_PREOP_SUCCESS_NO_CALLBACK in their
  * place: so only those below hear of it. That it passes the right ones is the host's; their order, counts, contexts and drains are the manager's. */
-#include "manager/carrier.h"
+#include "manager/below.h"
 
-#include "filesystem/tree.h"
+#include "core/client.h"
+#include "core/memory.h"
+#include "core/operation.h"
+#include "core/state.h"
+#include "core/status.h"
+#include "core/told.h"
+#include "filesystem/deletion.h"
+#include "filesystem/fileobject.h"
+#include "filesystem/name.h"
+#include "filesystem/store.h"
+#include "manager/altitude.h"
+#include "manager/base.h"
+#include "manager/carrier.h"
+#include "manager/filter.h"
+#include "manager/operation.h"
+#include "manager/perform.h"
 
 #include <stdlib.h>
 
@@ -161,7 +176,7 @@ KzAnswer kz_below_file(const KzOwn *own, KzFile *file, KazdrinEvent asked, const
     return answer.is_refused && answer.reply.status == KZS_NO_HANDLE ? reopened(own, file, asked, bytes, length) : answer;
 }
 
-bool kz_delete_by_key(PFLT_VOLUME volume, const char *key)
+static bool drop(PFLT_VOLUME volume, const char *key)
 {
     const KzOwn unheard = {.is_unheard = true, .is_waited_for = true};
     KzFile *hidden = kz_new_file(volume, key, false);
@@ -187,7 +202,7 @@ NTSTATUS kz_write_unheard(KzFile *file, uint64_t offset, const uint8_t *bytes, s
     return status;
 }
 
-NTSTATUS kz_cut_unheard(KzFile *file, uint64_t size)
+static NTSTATUS cut(KzFile *file, uint64_t size)
 {
     const KzOwn unheard = {.is_unheard = true, .is_waited_for = true};
     return kz_status_of(kz_below_file(&unheard, file, (KazdrinEvent){.event = KZE_SET_SIZE, .offset = size}, "", 0));
@@ -242,3 +257,11 @@ void kz_close_if_due(KzFile *file)
     file->is_close_due = false;
     kz_below(&own, file, (KazdrinEvent){.event = KZE_CLOSE, .handle = file->handle}, "", 0);
 }
+
+static bool mark(KzFile *file)
+{
+    const KzOwn unheard = {.is_unheard = true, .is_waited_for = true};
+    return kz_below(&unheard, file, (KazdrinEvent){.event = KZE_SET_DELETE, .handle = file->handle}, "", 0).reply.status == KZS_OK;
+}
+
+const KzStore kz_manager_store = {mark, drop, cut, kz_go_on_from_base};

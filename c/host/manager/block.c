@@ -1,5 +1,9 @@
 /* Memory of an operation: blocks that live as long as it does, and its callback data. */
-#include "host.h"
+#include "manager/block.h"
+
+#include "core/memory.h"
+#include "core/operation.h"
+#include "core/piece.h"
 
 #include <stdlib.h>
 

@@ -2,7 +2,21 @@
  * postoperation it sees what it received. */
 #include "manager/carrier.h"
 
-#include "filesystem/answers.h"
+#include "core/client.h"
+#include "core/memory.h"
+#include "core/operation.h"
+#include "core/piece.h"
+#include "core/state.h"
+#include "core/status.h"
+#include "core/told.h"
+#include "filesystem/control.h"
+#include "filesystem/entries.h"
+#include "filesystem/set.h"
+#include "filesystem/volumes.h"
+#include "manager/below.h"
+#include "manager/block.h"
+#include "manager/data.h"
+#include "manager/fill.h"
 
 #include <stdlib.h>
 
@@ -84,6 +98,24 @@ static PVOID *buffer_in(PFLT_IO_PARAMETER_BLOCK block, ULONG **length)
     return NT_SUCCESS(FltDecodeParameters(&data, &mdl, &buffer, length, NULL)) ? buffer : NULL;
 }
 
+/* The description of the buffer, if there is one. */
+static PMDL description_in(PFLT_IO_PARAMETER_BLOCK block)
+{
+    FLT_CALLBACK_DATA data = {.Iopb = block};
+    PMDL *mdl = NULL;
+    PVOID *buffer;
+    ULONG *length;
+    return NT_SUCCESS(FltDecodeParameters(&data, &mdl, &buffer, &length, NULL)) && mdl ? *mdl : NULL;
+}
+
+/* The manager frees one that a filter put in place of what it received. */
+static void keep_description(KzOp *op)
+{
+    PMDL now = description_in(op->iopb);
+    if (now && now != description_in(&op->shown.parameters))
+        kz_keep_mdl(op, now);
+}
+
 static void check_swap(KzOp *op, bool has_post)
 {
     ULONG *length;
@@ -107,6 +139,7 @@ void kz_take_carried_pre(KzOp *op, bool has_post, bool is_completed)
         return;
     }
     check_swap(op, has_post);
+    keep_description(op);
     carried->now = op->iopb->Parameters;
     carried->operation_flags = op->iopb->OperationFlags;
     op->shown.parameters = *op->iopb;

@@ -1,7 +1,21 @@
 /* Callback data: what the manager lends is shown in the kit's structures, and what a callback left in them is put back. */
-#include "manager/carrier.h"
+#include "manager/data.h"
 
-#include "filesystem/answers.h"
+#include "core/client.h"
+#include "core/major.h"
+#include "core/memory.h"
+#include "core/operation.h"
+#include "core/piece.h"
+#include "core/state.h"
+#include "core/status.h"
+#include "core/told.h"
+#include "filesystem/fileobject.h"
+#include "filesystem/name.h"
+#include "filesystem/query.h"
+#include "manager/below.h"
+#include "manager/block.h"
+#include "manager/carrier.h"
+#include "manager/instance.h"
 
 #include <stdlib.h>
 
@@ -46,10 +60,28 @@ static bool has_buffer(const KzOp *op)
     return op->event == KZE_READ || op->event == KZE_LIST || op->event == KZE_QUERY_SIZE;
 }
 
+static bool is_paging(const KzOp *op)
+{
+    return op->own.irp_flags & IRP_PAGING_IO;
+}
+
+/* The memory manager asks by a description of its pages; what others ask has one where a filter makes it. */
+static PMDL description_of(KzOp *op, PVOID buffer, size_t length)
+{
+    PMDL made = is_paging(op) && buffer && length ? IoAllocateMdl(buffer, (ULONG)length, FALSE, FALSE, NULL) : NULL;
+    if (!made)
+        return NULL;
+    MmBuildMdlForNonPagedPool(made);
+    kz_keep_mdl(op, made);
+    return made;
+}
+
 static void visit(KzOp *op, PFLT_INSTANCE instance)
 {
     KzVisit *above = op->visits, *made = kz_memory(sizeof *made);
     *made = (KzVisit){.above = above, .instance = instance, .received = op->caller, .room = op->caller_room};
+    if (!above)
+        made->received_mdl = description_of(op, op->caller, op->caller_room);
     if (above) {
         made->received = above->swapped ? above->swapped : above->received;
         made->room = above->swapped ? above->swapped_room : above->room;
@@ -176,6 +208,7 @@ static void show_parameters(KzOp *op, FLT_PARAMETERS *shown)
         shown->Write.Length = (ULONG)op->shown.asked_length;
         shown->Write.ByteOffset.QuadPart = (LONGLONG)op->lent.offset;
         shown->Write.WriteBuffer = op->shown.asked;
+        shown->Write.MdlAddress = description_of(op, op->shown.asked, op->shown.asked_length);
         break;
     case KZE_QUERY_SIZE:
         shown->QueryFileInformation.Length = sizeof(FILE_STANDARD_INFORMATION);
@@ -232,7 +265,7 @@ static void show(KzOp *op, PFLT_INSTANCE instance)
     op->shown.pristine = op->shown.asked ? copied(op, op->shown.asked, op->shown.asked_length) : NULL;
     op->shown.parameters = *op->iopb;
     op->data->Flags = kz_data_flags(op);
-    op->data->RequestorMode = op->own.is_own && !op->own.is_user ? KernelMode : UserMode;
+    op->data->RequestorMode = is_paging(op) || (op->own.is_own && !op->own.is_user) ? KernelMode : UserMode;
     if (irp_flags_of(op->event) & IRP_BUFFERED_IO)
         op->data->Flags |= FLTFL_CALLBACK_DATA_SYSTEM_BUFFER;
 }

@@ -1,5 +1,9 @@
 /* The parameters of an operation that rides on another: what goes down, and the room for what comes up, are memory of the operation. */
-#include "manager/carrier.h"
+#include "manager/fill.h"
+
+#include "core/operation.h"
+#include "lib/letters.h"
+#include "manager/block.h"
 
 static void *input(KzOp *op, const KzAsked *asked)
 {

@@ -1,38 +1,24 @@
 /* Filters: loading, registration and unloading. */
-#include "manager/carrier.h"
+#include "manager/filter.h"
+
+#include "core/client.h"
+#include "core/major.h"
+#include "core/memory.h"
+#include "core/module.h"
+#include "core/operation.h"
+#include "core/piece.h"
+#include "core/place.h"
+#include "core/state.h"
+#include "core/status.h"
+#include "core/told.h"
+#include "lib/letters.h"
+#include "manager/busy.h"
+#include "manager/context.h"
+#include "manager/instance.h"
+#include "manager/perform.h"
+#include "manager/registration.h"
 
 #include <stdlib.h>
-
-/* ---- Operations by the kit's major functions. */
-static UCHAR major_of_event(uint8_t event)
-{
-    switch (event) {
-    case KZE_CREATE:
-        return IRP_MJ_CREATE;
-    case KZE_LIST:
-        return IRP_MJ_DIRECTORY_CONTROL;
-    case KZE_READ:
-        return IRP_MJ_READ;
-    case KZE_WRITE:
-        return IRP_MJ_WRITE;
-    case KZE_QUERY_SIZE:
-        return IRP_MJ_QUERY_INFORMATION;
-    case KZE_SET_SIZE:
-    case KZE_SET_DELETE:
-        return IRP_MJ_SET_INFORMATION;
-    case KZE_FLUSH:
-        return IRP_MJ_FLUSH_BUFFERS;
-    case KZE_CLEANUP:
-        return IRP_MJ_CLEANUP;
-    default:
-        return IRP_MJ_CLOSE;
-    }
-}
-
-UCHAR kz_major_of(const KzOp *op)
-{
-    return op->carried ? op->carried->major : major_of_event(op->event);
-}
 
 /* The manager's mask of a major function. What the manager hasn't rides on a flush, or on a listing where it has no handle. */
 static uint16_t mask_of(UCHAR major)
@@ -167,7 +153,7 @@ static KzTold register_with_manager(PFLT_FILTER filter, uint8_t contexts)
         if (one->PostOperation)
             event.post |= mask_of(one->MajorFunction);
     }
-    event.query = 1; /* the host asks it for work items too, and the filter's callback itself */
+    event.query = filter->registration.InstanceQueryTeardownCallback != NULL;
     event.unload = filter->registration.FilterUnloadCallback != NULL;
     name_of(filter, name);
     return kz_event_with(kz_worker(), event, name, strlen(name));
@@ -232,9 +218,10 @@ NTSTATUS FltStartFiltering(PFLT_FILTER Filter)
         kz_tell(KZM_NO_FILTER_OBJECT, __func__, "no filter");
         return STATUS_INVALID_PARAMETER;
     }
-    bool is_first = !Filter->is_started;
+    if (Filter->is_started)
+        return STATUS_INVALID_PARAMETER;
     Filter->is_started = true;
-    for (size_t at = 0; is_first && at < kz.volumes_count; at++)
+    for (size_t at = 0; at < kz.volumes_count; at++)
         kz_attach_by_itself(Filter, kz.volumes[at], FLTFL_INSTANCE_SETUP_AUTOMATIC_ATTACHMENT);
     return STATUS_SUCCESS;
 }
@@ -291,7 +278,7 @@ VOID FltUnregisterFilter(PFLT_FILTER Filter)
         force(Filter);
     else
         kz_event(kz_worker(), (KazdrinEvent){.event = KZE_UNLOAD_RETURNED, .flag = 1});
-    kz_disconnect_ports(Filter);
+    kz_filter_unregisters(Filter);
     Filter->end = end(Filter);
     kz_me->place = place;
     if (Filter->end == KZS_BUSY)
@@ -305,7 +292,7 @@ static void call_unload(PFLT_FILTER filter, FLT_FILTER_UNLOAD_FLAGS flags)
 {
     KzPlace before = kz_enter(KZ_IN_UNLOAD, kz_worker(), filter, NULL, NULL, NULL);
     unsigned depth = kz_let_driver("unload", filter->registration.FilterUnloadCallback);
-    NTSTATUS said = filter->registration.FilterUnloadCallback(flags);
+    NTSTATUS said = KZ_CALL_DRIVER(filter->registration.FilterUnloadCallback, flags);
     kz_driver_returned(depth, "unload returns");
     if (is_loaded(filter) && NT_SUCCESS(said)) {
         kz_tell(KZM_AGREED_REGISTERED, "FltUnregisterFilter", "never called by an unload callback that agreed");
@@ -316,19 +303,6 @@ static void call_unload(PFLT_FILTER filter, FLT_FILTER_UNLOAD_FLAGS flags)
     kz_leave(before);
 }
 
-/* What a driver that is unloaded mustn't leave behind. */
-static void tell_left(PFLT_FILTER filter)
-{
-    kz_tell_kept(filter);
-    kz_tell_work(filter);
-    kz_forget_timers(filter);
-    kz_tell_ports(filter);
-    kz_tell_handles(filter);
-    kz_tell_threads(filter);
-    kz_tell_routines(filter);
-    kz_tell_made(filter);
-}
-
 static uint32_t ask(PFLT_FILTER filter)
 {
     uint32_t status = kz_event(kz_worker(), (KazdrinEvent){.event = KZE_ASK_UNLOAD, .filter = filter->id}).status;
@@ -336,7 +310,7 @@ static uint32_t ask(PFLT_FILTER filter)
         return status;
     call_unload(filter, 0);
     if (is_gone(filter))
-        tell_left(filter);
+        kz_filter_ends(filter);
     if (!is_loaded(filter))
         return filter->end;
     return kz_event(kz_worker(), (KazdrinEvent){.event = KZE_UNLOAD_RETURNED, .flag = 0}).status;
@@ -349,7 +323,7 @@ uint32_t kz_unload(PFLT_FILTER filter)
         return ask(filter);
     filter->end = end(filter);
     if (is_gone(filter))
-        tell_left(filter);
+        kz_filter_ends(filter);
     return filter->end;
 }
 
@@ -369,7 +343,7 @@ void kz_unload_all(void)
             force(filter);
             filter->end = end(filter);
         }
-        tell_left(filter);
+        kz_filter_ends(filter);
     }
 }
 
@@ -393,9 +367,9 @@ static uint32_t enter(PFLT_FILTER filter, NTSTATUS *other)
     KzPlace before = kz_enter(KZ_IN_ENTRY, kz_worker(), filter, NULL, NULL, NULL);
     name_driver(filter);
     unsigned depth = kz_let_driver("DriverEntry", filter->driver->entry);
-    NTSTATUS said = filter->driver->entry(&filter->object, &filter->registry_path);
+    NTSTATUS said = KZ_CALL_DRIVER(filter->driver->entry, &filter->object, &filter->registry_path);
     kz_driver_returned(depth, "DriverEntry returns");
-    kz_offer_devices(filter);
+    kz_filter_begins(filter);
     kz_scheduler->touch(&filter->is_started, 0, KZT_GIVES);
     if (NT_SUCCESS(said) && !filter->is_registered)
         kz_tell(KZM_NEVER_REGISTERED, "FltRegisterFilter", "never called by a DriverEntry that succeeded");
@@ -407,7 +381,7 @@ static uint32_t enter(PFLT_FILTER filter, NTSTATUS *other)
     }
     kz_leave(before);
     if (!NT_SUCCESS(said))
-        tell_left(filter);
+        kz_filter_ends(filter);
     bool is_exact;
     uint32_t number = NT_SUCCESS(said) ? KZS_OK : kz_number(said, &is_exact);
     *other = NT_SUCCESS(said) || is_exact ? STATUS_SUCCESS : said;
@@ -437,6 +411,8 @@ uint32_t kz_load(const char *name, const char *altitude, uint64_t *number, NTSTA
         return KZS_ALREADY_LOADED;
     if (kz.filters_count == sizeof kz.filters / sizeof kz.filters[0])
         return KZS_TOO_MANY;
+    if (kz_binaries.open)
+        kz_binaries.open(driver);
     PFLT_FILTER filter = kz_memory(sizeof *filter);
     filter->driver = driver;
     snprintf(filter->altitude, sizeof filter->altitude, "%s", altitude);

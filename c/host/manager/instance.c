@@ -1,21 +1,21 @@
-/* Volumes and instances: how they come and go. */
-#include "filesystem/answers.h"
+/* Instances: how they come and go. */
+#include "manager/instance.h"
+
+#include "core/client.h"
+#include "core/memory.h"
+#include "core/place.h"
+#include "core/said.h"
+#include "core/state.h"
+#include "core/told.h"
+#include "manager/busy.h"
+#include "manager/context.h"
+#include "manager/filter.h"
+#include "manager/operation.h"
+#include "manager/perform.h"
+#include "manager/reference.h"
+#include "manager/work.h"
 
 #include <stdlib.h>
-
-uint32_t kz_mount(const char *name, uint64_t *number)
-{
-    KzTold answer = kz_event_with(kz_worker(), (KazdrinEvent){.event = KZE_MOUNT}, name, strlen(name));
-    if (answer.status != KZS_OK)
-        return answer.status;
-    PFLT_VOLUME volume = kz_memory(sizeof *volume);
-    volume->id = answer.told.volume;
-    snprintf(volume->name, sizeof volume->name, "%s", name);
-    kz_new_volume(volume);
-    kz.volumes[kz.volumes_count++] = volume;
-    *number = volume->id;
-    return KZS_OK;
-}
 
 /* How far it is in the manager. */
 uint64_t kz_phase(PFLT_INSTANCE instance)
@@ -32,15 +32,13 @@ static bool set_up(PFLT_INSTANCE instance, FLT_INSTANCE_SETUP_FLAGS flags)
     KzPlace before = kz_enter(KZ_IN_SETUP, kz_worker(), instance->filter, instance, NULL, NULL);
     FLT_RELATED_OBJECTS objects = kz_objects(instance, NULL);
     unsigned depth = kz_let_driver("setup", callback);
-    NTSTATUS said = callback ? callback(&objects, flags, instance->volume->device.DeviceType, instance->volume->type) : STATUS_SUCCESS;
+    NTSTATUS said = callback ? KZ_CALL_DRIVER(callback, &objects, flags, instance->volume->device.DeviceType, instance->volume->type) : STATUS_SUCCESS;
     kz_driver_returned(depth, "setup returns");
     kz_scheduler->touch(&instance->id, 0, KZT_GIVES);
     kz_keep_rest(NULL);
     kz_leave(before);
     return NT_SUCCESS(said);
 }
-
-static uint32_t finish(PFLT_INSTANCE instance);
 
 static PFLT_INSTANCE new_instance(uint16_t id, PFLT_FILTER filter, PFLT_VOLUME volume, const char *name, const char *altitude)
 {
@@ -88,7 +86,7 @@ uint32_t kz_attach(PFLT_FILTER filter, PFLT_VOLUME volume, const char *name, con
     status = kz_event(kz_worker(), (KazdrinEvent){.event = KZE_SETUP_DONE, .flag = is_accepted}).status;
     kz_settle();
     if (status != KZS_OK)
-        finish(instance);
+        kz_finish_teardown(instance);
     return status;
 }
 
@@ -106,45 +104,32 @@ void kz_attach_by_itself(PFLT_FILTER filter, PFLT_VOLUME volume, FLT_INSTANCE_SE
     kz_say(KZ_SAID_REPLY, "%s at %s on %s: status %u info %llu\n", filter->driver->name, filter->altitude, volume->name, status, (unsigned long long)(status ? 0 : number));
 }
 
-/* ---- The question whether an instance may be detached. A filter without the callback doesn't agree; a work item, and whoever completes what an instance holds, is in it as
- * in any callback of the instance, and it is refused behind that. */
-bool kz_enter_query(PFLT_INSTANCE instance, uint8_t worker)
+/* ---- What a filter does for an instance outside of callbacks: in a work item, and where it completes what the instance holds. The manager has the worker in a routine. */
+bool kz_enter_routine(PFLT_INSTANCE instance, const KzFile *file, uint8_t worker)
 {
-    if (instance->is_asked || kz_event(worker, (KazdrinEvent){.event = KZE_ASK_DETACH, .instance = instance->id}).status != KZS_OK)
-        return false;
-    return instance->is_asked = true;
+    KazdrinEvent event = {.event = KZE_ENTER_ROUTINE, .instance = instance->id, .flag = file != NULL, .handle = file ? file->handle : 0};
+    return kz_event(worker, event).status == KZS_OK;
 }
 
-void kz_leave_query(PFLT_INSTANCE instance, uint8_t worker)
+void kz_leave_routine(uint8_t worker)
 {
-    instance->is_asked = false;
-    kz_event(worker, (KazdrinEvent){.event = KZE_QUERY_RETURNED, .flag = 0});
+    kz_event(worker, (KazdrinEvent){.event = KZE_ROUTINE_RETURNED});
     kz_clean_up();
 }
 
-bool kz_is_not_asked(void *instance)
-{
-    return !((PFLT_INSTANCE)instance)->is_asked;
-}
-
-/* Beside others it waits for a work item of the instance. In the kit it goes on, and the end of the teardown waits. */
+/* ---- The question whether an instance may be detached. */
 static uint32_t ask(PFLT_INSTANCE instance)
 {
-    kz_wait_for_us(kz_is_not_asked, instance, "a work item of instance %u", instance->id);
-    if (!instance->filter->registration.InstanceQueryTeardownCallback)
-        return kz_phase(instance) == KZP_INSTANCE_ATTACHED ? KZS_DO_NOT_DETACH : KZS_NO_INSTANCE;
     uint32_t status = kz_event(kz_worker(), (KazdrinEvent){.event = KZE_ASK_DETACH, .instance = instance->id}).status;
     if (status != KZS_OK)
         return status;
-    instance->is_asked = true;
     KzPlace before = kz_enter(KZ_IN_QUERY, kz_worker(), instance->filter, instance, NULL, NULL);
     FLT_RELATED_OBJECTS objects = kz_objects(instance, NULL);
     unsigned depth = kz_let_driver("query", instance->filter->registration.InstanceQueryTeardownCallback);
-    NTSTATUS said = instance->filter->registration.InstanceQueryTeardownCallback(&objects, 0);
+    NTSTATUS said = KZ_CALL_DRIVER(instance->filter->registration.InstanceQueryTeardownCallback, &objects, 0);
     kz_driver_returned(depth, "query returns");
     kz_keep_rest(NULL);
     kz_leave(before);
-    instance->is_asked = false;
     status = kz_event(kz_worker(), (KazdrinEvent){.event = KZE_QUERY_RETURNED, .flag = NT_SUCCESS(said)}).status;
     kz.changes++;
     kz_settle();
@@ -158,33 +143,11 @@ static void tell_teardown(PFLT_INSTANCE instance, KzCallback place, PFLT_INSTANC
     FLT_RELATED_OBJECTS objects = kz_objects(instance, NULL);
     if (callback) {
         unsigned depth = kz_let_driver(place == KZ_IN_START ? "teardown start" : "teardown complete", callback);
-        callback(&objects, reason);
+        KZ_CALL_DRIVER(callback, &objects, reason);
         kz_driver_returned(depth, place == KZ_IN_START ? "teardown start returns" : "teardown complete returns");
     }
     kz_keep_rest(NULL);
     kz_leave(before);
-}
-
-/* Whether nobody is about to complete what the instance holds: no callback of it runs, and no work item of its filter is left. */
-static bool is_quiet(void *given)
-{
-    PFLT_INSTANCE instance = given;
-    return !instance->running && (!kz_holds_any(instance) || !kz_has_work_of(instance->filter));
-}
-
-/* The callback of the teardown's start returns in the manager only once it is quiet there: until then what the instance holds is completed as from that callback, by whoever
- * comes to it. */
-static void let_complete(PFLT_INSTANCE instance)
-{
-    instance->is_in_start = true;
-    instance->start_worker = kz_worker();
-    while (!is_quiet(instance) && kz_let_others())
-        ;
-    if (instance->in_flight) /* in the kit operations that are in flight are drained meanwhile */
-        kz_wait_for_us(is_quiet, instance, "callbacks and work items of instance %u", instance->id);
-    else
-        kz_wait(is_quiet, instance, "callbacks and work items of instance %u", instance->id);
-    instance->is_in_start = false;
 }
 
 static void start(PFLT_INSTANCE instance, FLT_INSTANCE_TEARDOWN_FLAGS reason)
@@ -192,7 +155,6 @@ static void start(PFLT_INSTANCE instance, FLT_INSTANCE_TEARDOWN_FLAGS reason)
     if (kz_phase(instance) != KZP_INSTANCE_STOPPING || kz_event(kz_worker(), (KazdrinEvent){.event = KZE_START_TEARDOWN, .instance = instance->id}).status != KZS_OK)
         return;
     tell_teardown(instance, KZ_IN_START, instance->filter->registration.InstanceTeardownStartCallback, reason);
-    let_complete(instance);
     kz_event(kz_worker(), (KazdrinEvent){.event = KZE_START_RETURNED});
     while (kz_drain_next(instance))
         ;
@@ -230,7 +192,7 @@ static uint32_t stop(PFLT_INSTANCE instance, FLT_INSTANCE_TEARDOWN_FLAGS reason)
     return KZS_OK;
 }
 
-static uint32_t finish(PFLT_INSTANCE instance)
+uint32_t kz_finish_teardown(PFLT_INSTANCE instance)
 {
     kz_clean_up();
     uint32_t status = kz_until_free("finish", (KazdrinEvent){.event = KZE_FINISH, .instance = instance->id}, NULL);
@@ -255,7 +217,7 @@ uint32_t kz_tear_down(PFLT_INSTANCE instance, FLT_INSTANCE_TEARDOWN_FLAGS reason
     instance->torn_down_by = kz_me;
     uint32_t status = kz_phase(instance) == KZP_INSTANCE_DETACHED ? KZS_OK : stop(instance, reason);
     if (status == KZS_OK && kz_phase(instance) != KZP_INSTANCE_DETACHED)
-        status = finish(instance);
+        status = kz_finish_teardown(instance);
     instance->torn_down_by = before;
     return status;
 }
@@ -268,40 +230,7 @@ uint32_t kz_detach(PFLT_INSTANCE instance)
     return status == KZS_OK ? kz_tear_down(instance, FLTFL_INSTANCE_TEARDOWN_MANUAL) : status;
 }
 
-/* ---- Dismount, in the order of fm_worker's dismount: the instances are stopped, the handles are dropped, and then the instances end. */
-static uint32_t start_dismount(PFLT_VOLUME volume)
-{
-    kz_end_notices(NULL, volume); /* a file system that goes answers who waits in it */
-    kz_settle();
-    uint32_t status = kz_event(kz_worker(), (KazdrinEvent){.event = KZE_START_DISMOUNT, .volume = volume->id}).status;
-    if (status != KZS_OK)
-        return status;
-    volume->is_dismounting = true;
-    return KZS_OK;
-}
-
-static void drop_handles(PFLT_VOLUME volume)
-{
-    for (;;) {
-        KzTold dropped = kz_event(kz_worker(), (KazdrinEvent){.event = KZE_DROP_HANDLE, .volume = volume->id});
-        if (dropped.status != KZS_OK || !dropped.told.has)
-            return;
-        kz_drop_file(dropped.told.handle);
-    }
-}
-
-/* Each instance on the volume goes a step: the status that stops one, or 0. */
-static uint32_t each(PFLT_VOLUME volume, uint32_t (*step)(PFLT_INSTANCE))
-{
-    for (size_t at = 0; at < kz.instances_count; at++) {
-        uint32_t status = kz.instances[at]->volume == volume && kz_phase(kz.instances[at]) != KZP_INSTANCE_DETACHED ? step(kz.instances[at]) : KZS_OK;
-        if (status != KZS_OK)
-            return status;
-    }
-    return KZS_OK;
-}
-
-static uint32_t stop_for_dismount(PFLT_INSTANCE instance)
+uint32_t kz_stop_for_dismount(PFLT_INSTANCE instance)
 {
     if (!kz_wait(is_alone, instance, "the teardown of instance %u by another", instance->id))
         return KZS_BUSY;
@@ -309,25 +238,5 @@ static uint32_t stop_for_dismount(PFLT_INSTANCE instance)
     instance->torn_down_by = kz_me;
     uint32_t status = kz_phase(instance) == KZP_INSTANCE_DETACHED ? KZS_OK : stop(instance, FLTFL_INSTANCE_TEARDOWN_VOLUME_DISMOUNT);
     instance->torn_down_by = before;
-    return status;
-}
-
-uint32_t kz_dismount(PFLT_VOLUME volume)
-{
-    uint32_t status = volume->is_dismounting ? KZS_OK : start_dismount(volume);
-    if (status == KZS_OK)
-        status = each(volume, stop_for_dismount);
-    if (status != KZS_OK)
-        return status;
-    drop_handles(volume);
-    status = each(volume, finish);
-    if (status != KZS_OK)
-        return status;
-    status = kz_until_free("empty the volume", (KazdrinEvent){.event = KZE_EMPTY_VOLUME, .volume = volume->id}, NULL);
-    if (status != KZS_OK)
-        return status;
-    kz_clean_up();
-    status = kz_until_free("finish the volume", (KazdrinEvent){.event = KZE_FINISH_VOLUME, .volume = volume->id}, NULL);
-    volume->is_gone = status == KZS_OK;
     return status;
 }

@@ -1,9 +1,29 @@
 /* Operations: each from its beginning to its reply, with all callbacks in between. */
-#include "manager/carrier.h"
+#include "manager/operation.h"
 
-#include "filesystem/tree.h"
+#include "core/client.h"
+#include "core/held.h"
+#include "core/kept.h"
+#include "core/major.h"
+#include "core/memory.h"
+#include "core/module.h"
+#include "core/operation.h"
+#include "core/piece.h"
+#include "core/place.h"
+#include "core/state.h"
+#include "core/status.h"
+#include "core/told.h"
+#include "filesystem/fileobject.h"
+#include "filesystem/name.h"
 #include "manager/base.h"
-#include "run/expect.h"
+#include "manager/below.h"
+#include "manager/block.h"
+#include "manager/carrier.h"
+#include "manager/context.h"
+#include "manager/data.h"
+#include "manager/filter.h"
+#include "manager/pend.h"
+#include "manager/perform.h"
 
 #include <stdlib.h>
 
@@ -80,7 +100,7 @@ void kz_forget_op(KzOp *op)
             *at = op->next;
             break;
         }
-    kz_free_ecps(op);
+    kz_operation_ends(op);
     kz_free_carried(op);
     kz_free_data(op);
     kz_let_go_file(op->file);
@@ -184,7 +204,7 @@ static FLT_PREOP_CALLBACK_STATUS ask_pre(KzOp *op, PFLT_INSTANCE instance, PVOID
     FLT_RELATED_OBJECTS objects = objects_of(instance, op);
     op->stage = KZ_IN_PREOPERATION;
     unsigned depth = kz_let_driver("preoperation", callback);
-    FLT_PREOP_CALLBACK_STATUS said = callback(op->data, &objects, completion);
+    FLT_PREOP_CALLBACK_STATUS said = KZ_CALL_DRIVER(callback, op->data, &objects, completion);
     kz_driver_returned(depth, "preoperation returns");
     bool is_completed = op->stage == KZ_COMPLETED_IN_PRE;
     op->stage = KZ_GOES_ON;
@@ -239,7 +259,6 @@ static void pre(KzOp *op, PFLT_INSTANCE instance)
     PVOID completion = NULL;
     enter_flight(op, instance);
     KzPlace before = kz_enter(KZ_IN_PRE, kz_worker(), instance->filter, instance, op, op->data);
-    instance->running++;
     kz_show_pre(op, instance);
     FLT_PREOP_CALLBACK_STATUS said = ask_pre(op, instance, &completion);
     kz_adopt_name(op->file);
@@ -249,7 +268,6 @@ static void pre(KzOp *op, PFLT_INSTANCE instance)
     kz_scheduler->touch(&op->users, 0, KZT_GIVES); /* what it sends along may be drained by another client */
     kz_keep_rest(&verdict);
     kz_leave(before);
-    instance->running--;
     kz.changes++;
     if (kazdrin_pre_returned(&kz.manager, &verdict) == KZS_OK && verdict.mode == KZV_PENDING) {
         op->stage = KZ_HELD_BY_PRE;
@@ -307,7 +325,7 @@ static FLT_POSTOP_CALLBACK_STATUS call_when_safe(KzOp *op, const FLT_RELATED_OBJ
     kz_me->process = 4;
     kz_me->thread = 8;
     unsigned depth = kz_let_driver("postoperation when safe", safe.callback);
-    said = safe.callback(op->data, objects, safe.completion, safe.flags);
+    said = KZ_CALL_DRIVER(safe.callback, op->data, objects, safe.completion, safe.flags);
     kz_driver_returned(depth, "postoperation when safe returns");
     kz_me->process = process;
     kz_me->thread = thread;
@@ -318,7 +336,6 @@ static void post(KzOp *op, PFLT_INSTANCE instance, PVOID completion)
 {
     KzPlace before = kz_enter(KZ_IN_POST, kz_worker(), instance->filter, instance, op, op->data);
     kz_call_at(irql_of(op, instance));
-    instance->running++;
     kz_show_post(op, instance);
     if (op->event == KZE_CREATE && op->lent.status == KZS_OK && !op->is_cancelled)
         kz_file_answered(op->file, op->lent.information);
@@ -326,7 +343,7 @@ static void post(KzOp *op, PFLT_INSTANCE instance, PVOID completion)
     PFLT_POST_OPERATION_CALLBACK callback = kz_registered(instance->filter, kz_major_of(op))->PostOperation;
     op->stage = KZ_IN_POSTOPERATION;
     unsigned depth = kz_let_driver("postoperation", callback);
-    FLT_POSTOP_CALLBACK_STATUS said = callback(op->data, &objects, completion, 0);
+    FLT_POSTOP_CALLBACK_STATUS said = KZ_CALL_DRIVER(callback, op->data, &objects, completion, 0);
     kz_driver_returned(depth, "postoperation returns");
     if (op->safe.callback)
         said = call_when_safe(op, &objects, said);
@@ -346,7 +363,6 @@ static void post(KzOp *op, PFLT_INSTANCE instance, PVOID completion)
     kz_leave(before);
     op->shown.status = op->data->IoStatus;
     KazdrinEvent verdict = {.mode = is_more ? KZV_MORE_PROCESSING : KZV_FINISHED, .worker = kz_worker()};
-    instance->running--;
     kz.changes++;
     if (kazdrin_post_returned(&kz.manager, &verdict) == KZS_OK && is_more) {
         op->stage = KZ_HELD_BY_POST;
@@ -377,7 +393,7 @@ static void drain(KzOp *op, PFLT_INSTANCE instance, PVOID completion)
     if (op->carried)
         kz_forget_carried_swap(op, instance); /* what goes down in its buffer is still to be read */
     unsigned depth = kz_let_driver("drain", callback);
-    FLT_POSTOP_CALLBACK_STATUS said = callback(&data, &objects, completion, FLTFL_POST_OPERATION_DRAINING);
+    FLT_POSTOP_CALLBACK_STATUS said = KZ_CALL_DRIVER(callback, &data, &objects, completion, FLTFL_POST_OPERATION_DRAINING);
     kz_driver_returned(depth, "drain returns");
     if (said != FLT_POSTOP_FINISHED_PROCESSING)
         kz_tell(KZM_HELD_DRAIN, "FLTFL_POST_OPERATION_DRAINING", "a drain can't be held: it counts as FLT_POSTOP_FINISHED_PROCESSING");
@@ -469,26 +485,6 @@ bool kz_is_held(const KzOp *op)
     return op->stage == KZ_HELD_BY_PRE || op->stage == KZ_HELD_BY_POST;
 }
 
-bool kz_holds_any(PFLT_INSTANCE instance)
-{
-    for (const KzOp *op = kz.ops; op; op = op->next)
-        if (kz_is_held(op) && op->holder == instance)
-            return true;
-    return false;
-}
-
-/* Whether anything but the callback that runs could come to an end: an operation, an open file, a timer. */
-bool kz_is_anybody_left(void)
-{
-    for (const KzOp *op = kz.ops; op; op = op->next)
-        if (op != kz_me->place.op)
-            return true;
-    for (const KzFile *file = kz.files; file; file = file->next)
-        if (file->has_handle)
-            return true;
-    return kz_has_timer();
-}
-
 static bool is_resumed(void *op)
 {
     return ((KzOp *)op)->stage == KZ_RESUMED;
@@ -564,7 +560,7 @@ void kz_leave_ops(const KzClient *client)
     }
 }
 
-void kz_free_ops(void)
+static void free_ops(void)
 {
     kz.resumed = NULL;
     while (kz.ops) {
@@ -580,3 +576,5 @@ void kz_free_ops(void)
         free(file);
     }
 }
+
+const KzModule kz_operation_module = {.free = free_ops};

@@ -1,32 +1,25 @@
 /* Requests, from their beginning to their reply; and what goes on behind them: operations that were let go, closes that are due, what waits for its turn. */
-#include "manager/carrier.h"
+#include "manager/perform.h"
 
-#include "filesystem/answers.h"
+#include "core/client.h"
+#include "core/module.h"
+#include "core/operation.h"
+#include "core/said.h"
+#include "core/state.h"
+#include "core/status.h"
+#include "filesystem/deletion.h"
+#include "filesystem/fileobject.h"
+#include "filesystem/name.h"
+#include "filesystem/notice.h"
 #include "filesystem/ranges.h"
-#include "run/expect.h"
-
-#include <stdlib.h>
-
-/* ---- Replies. The kit's own status stands behind a number that stands for another. */
-void kz_print_reply(KzReply reply, NTSTATUS other, const uint8_t *bytes, size_t length)
-{
-    kz_pass_reply(reply, bytes, length);
-    kz_note_reply(reply, other, bytes, length, kz_me->says);
-    if (reply.held) {
-        kz_say(KZ_SAID_REPLY, "held %llu\n", (unsigned long long)reply.operation);
-        return;
-    }
-    kz_say(KZ_SAID_REPLY, "status %u", reply.status);
-    if (other)
-        kz_say(KZ_SAID_REPLY, " (0x%08x)", (unsigned)other);
-    kz_say(reply.is_handle ? KZ_SAID_HANDLE : KZ_SAID_REPLY, " info %llu bytes ", (unsigned long long)reply.information);
-    for (size_t at = 0; at < length; at++)
-        kz_say(KZ_SAID_REPLY, "%02x", bytes[at]);
-    kz_say(KZ_SAID_REPLY, length ? "\n" : "-\n");
-    if (*kz_me->says)
-        kz_say(KZ_SAID_REPLY, "says %.1000s\n", kz_me->says);
-    kz_me->says[0] = 0;
-}
+#include "filesystem/tree.h"
+#include "manager/below.h"
+#include "manager/carrier.h"
+#include "manager/context.h"
+#include "manager/operation.h"
+#include "manager/reference.h"
+#include "manager/reparse.h"
+#include "manager/says.h"
 
 static KzAnswer refused(uint32_t status)
 {
@@ -121,7 +114,7 @@ static KzAnswer run(const KzBegin *asked);
 
 static void put_answer(KzAnswer answer)
 {
-    kz_print_reply(answer.reply, answer.other, kz_me->room, answer.length);
+    kz_replied(answer.reply, answer.other, kz_me->room, answer.length);
 }
 
 /* The close of a file whose handle was closed while operations on it went on; false if none is due. */
@@ -358,4 +351,3 @@ KzReply kz_close_file(uint64_t handle)
     kz_settle();
     return answer.reply;
 }
-

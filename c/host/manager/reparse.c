@@ -1,7 +1,14 @@
 /* A create that a filter answers with STATUS_REPARSE begins anew, from the top, under the name that the filter put into its file object. */
-#include "manager/below.h"
+#include "manager/reparse.h"
 
-#include <stdlib.h>
+#include "core/client.h"
+#include "core/operation.h"
+#include "core/piece.h"
+#include "core/status.h"
+#include "core/told.h"
+#include "lib/letters.h"
+#include "filesystem/fileobject.h"
+#include "filesystem/volumes.h"
 
 enum { MOST = 32 }; /* as often as the kit follows one */
 
@@ -38,35 +45,6 @@ KzAnswer kz_follow(KzAnswer answer, void *given, KzBeginCreate *begin)
         answer = begin(given, (KazdrinEvent){.event = KZE_CREATE, .volume = volume->id, .mode = kz_me->reparsed_mode}, path);
     }
     return answer;
-}
-
-/* A filter may put another name into a file object, in memory of its pool: that is the file object's from then on. */
-void kz_adopt_name(KzFile *file)
-{
-    KzPiece *piece = kz_piece_of(file->object.FileName.Buffer);
-    if (piece && piece->kind == KZK_POOL)
-        piece->filter = NULL;
-}
-
-void kz_free_file_name(KzFile *file)
-{
-    PVOID name = file->object.FileName.Buffer;
-    if (!name)
-        return;
-    if (kz_piece_of(name))
-        kz_give_back(name);
-    else
-        kz_tell(KZM_NO_POOL, "FILE_OBJECT", "FileName.Buffer of \\%s is memory that isn't a pool's: the file object frees it", file->path);
-    file->object.FileName = (UNICODE_STRING){0, 0, NULL};
-}
-
-/* Only what a file object's name lies in may be freed by a driver as well. */
-bool kz_is_file_name(const void *memory)
-{
-    for (const KzFile *file = kz.files; file; file = file->next)
-        if (file->object.FileName.Buffer == memory)
-            return true;
-    return false;
 }
 
 NTSTATUS IoReplaceFileObjectName(PFILE_OBJECT FileObject, PWSTR NewFileName, USHORT FileNameLength)

@@ -1,6 +1,13 @@
 /* Expectations: what the last request answered, which callbacks it called, and what was told. And what is to fail. */
 #include "run/expect.h"
 
+#include "core/client.h"
+#include "core/said.h"
+#include "core/source.h"
+#include "core/status.h"
+#include "run/report.h"
+#include "run/statusnames.h"
+
 #include <stdlib.h>
 
 static unsigned line, request_line, unmet;
@@ -279,7 +286,7 @@ void kz_forget_fails(void)
         fails[at].after = 0;
 }
 
-bool kz_fails_now(KzChoice what)
+bool kz_fails(KzChoice what)
 {
     for (size_t at = 0; at < sizeof fails / sizeof fails[0]; at++)
         if (fails[at].after && fails[at].what == what)

@@ -1,6 +1,6 @@
-/* What the last request brought about, for expectations and reports. All of it is of a run in order. */
-#ifndef KZ_EXPECT_H
-#define KZ_EXPECT_H
+/* Expectations: what the last request answered, which callbacks it called, and what was told. */
+#ifndef KZ_RUN_EXPECT_H
+#define KZ_RUN_EXPECT_H
 
 #include "host.h"
 
@@ -11,12 +11,11 @@ void kz_note_told(const KzSaid *said, bool is_counted);
 /* One that is no line of its own. */
 void kz_note_again(const KzSaid *said);
 void kz_note_reply(KzReply reply, NTSTATUS other, const uint8_t *bytes, size_t length, const char *says);
-bool kz_fails_now(KzChoice what);
+bool kz_fails(KzChoice what);
 /* A run begins with no call that is to fail. */
 void kz_forget_fails(void);
 void kz_forget_notes(void);
 void kz_next_line(void);
-
 /* The requests `expect ..` and `fail ..`; false if the words aren't understood. */
 bool kz_expect(const char *words);
 bool kz_fail(char **words);
@@ -26,22 +25,5 @@ unsigned kz_line(void);
 unsigned kz_request_line(void);
 const char *kz_command(void);
 const char *kz_callback_word(KzCallback callback);
-
-/* statusnames.c; -1: it is none. */
-int64_t kz_status_named(const char *name);
-
-/* says.c: the text of an answer, into the client's room for it. */
-void kz_say_answer(const KzCarried *carried, size_t length);
-
-/* report.c */
-bool kz_is_json(void);
-void kz_report_event(const char *event, const char *members);
-/* What is told: its line, and beside it what stands there, member by member. */
-void kz_report_told(const KzSaid *said);
-void kz_report_expectation(const char *words, const char *unmet);
-void kz_report_begin(const char *file);
-void kz_report_end(const char *file, int status);
-const char *kz_callback_name(KzCallback callback);
-void kz_json_text(char *room, size_t size, const char *text);
 
 #endif

@@ -1,5 +1,7 @@
 /* What is wrong with a line that is no request: there is none of its first word, or too few or too many words stand behind that. */
-#include "host.h"
+#include "run/line.h"
+
+#include "core/memory.h"
 #include "run/words.h"
 
 #include <stdlib.h>

@@ -1,11 +1,17 @@
 /* A load: threads that carry out the clients of a scenario again and again, for so many seconds, and one for work items. */
+#include "run/load.h"
+
+#include "core/beside.h"
+#include "core/client.h"
+#include "core/threads.h"
+#include "manager/perform.h"
+#include "manager/work.h"
+#include "kit/dpc.h"
+#include "kit/timer.h"
 #include "run/scenario.h"
 #include "run/words.h"
-#include "run/threads.h"
-#include "run/beside.h"
 
 #include <pthread.h>
-#include <stdlib.h>
 #include <time.h>
 #include <unistd.h>
 

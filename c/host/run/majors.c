@@ -1,7 +1,12 @@
 /* Requests for what the manager hasn't, in words: names, information, directories, volumes, what a file has beside its bytes, locks, control codes, sections, paging. */
-#include "run/words.h"
+#include "run/majors.h"
 
-#include "filesystem/tree.h"
+#include "core/client.h"
+#include "core/operation.h"
+#include "lib/letters.h"
+#include "filesystem/fileobject.h"
+#include "manager/perform.h"
+#include "run/words.h"
 
 #include <stdlib.h>
 

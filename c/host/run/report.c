@@ -1,4 +1,9 @@
 /* Reports for other programs: an object of JSON a line, and a file of JUnit with a test case for each expectation. */
+#include "run/report.h"
+
+#include "core/client.h"
+#include "core/memory.h"
+#include "core/source.h"
 #include "run/expect.h"
 
 #include <stdarg.h>

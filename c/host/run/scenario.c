@@ -1,7 +1,9 @@
 /* A scenario: set-up lines, `client NAME: request; request`, and `finally: request`, for when nobody else can go on. */
-#include "host.h"
 #include "run/scenario.h"
-#include "run/words.h"
+
+#include "core/client.h"
+#include "core/memory.h"
+#include "run/line.h"
 
 #include <stdlib.h>
 

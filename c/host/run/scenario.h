@@ -1,6 +1,6 @@
 /* A scenario: what is set up, and clients that run beside one another. */
-#ifndef KZ_SCENARIO_H
-#define KZ_SCENARIO_H
+#ifndef KZ_RUN_SCENARIO_H
+#define KZ_RUN_SCENARIO_H
 
 #include <stdbool.h>
 #include <stddef.h>

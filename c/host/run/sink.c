@@ -1,5 +1,5 @@
 /* Where each reply goes beside what is printed: to a program that has clients of its own, as c/serve. */
-#include "host.h"
+#include "run/sink.h"
 
 static KzSink *sink;
 

@@ -1,5 +1,5 @@
 /* The kit's statuses by their names: those of ntstatus.h, as the Makefile lists them. */
-#include "run/expect.h"
+#include "host.h"
 
 static const struct {
     const char *name;

@@ -1,9 +1,27 @@
 /* Requests in words, one a line, and runs of them. */
-#include "run/expect.h"
 #include "run/words.h"
 
-#include "filesystem/tree.h"
+#include "core/client.h"
+#include "core/clock.h"
+#include "core/kept.h"
+#include "core/said.h"
+#include "core/state.h"
+#include "filesystem/deletion.h"
+#include "filesystem/fileobject.h"
+#include "manager/busy.h"
+#include "manager/filter.h"
+#include "manager/instance.h"
+#include "manager/mount.h"
+#include "manager/perform.h"
+#include "kit/cancel.h"
+#include "kit/notify.h"
+#include "kit/registry.h"
 #include "user/program.h"
+#include "run/expect.h"
+#include "run/line.h"
+#include "run/majors.h"
+#include "run/reply.h"
+#include "run/report.h"
 
 #include <stdlib.h>
 

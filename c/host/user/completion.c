@@ -1,4 +1,11 @@
 /* Operations that complete later: their overlapped structures, events and completion ports. */
+#include "user/completion.h"
+
+#include "core/client.h"
+#include "core/memory.h"
+#include "user/error.h"
+#include "user/message.h"
+#include "user/object.h"
 #include "user/program.h"
 
 #include <stdlib.h>
@@ -14,13 +21,19 @@ static void post(KzObject *port, KzPacket packet)
     kz_scheduler->touch(port, 0, KZT_GIVES);
 }
 
-static void signal_event(KzProcess *process, const void *handle)
+static void set_event(KzProcess *process, const void *handle, bool is_set)
 {
     for (KzObject *one = process->objects; one; one = one->next)
         if (one == handle && one->kind == KZU_EVENT) {
-            one->count = 1;
+            one->count = is_set;
             kz_scheduler->touch(one, 0, KZT_GIVES);
         }
+}
+
+void kz_begin_overlapped(KzObject *object, KzOverlapped *overlapped)
+{
+    overlapped->status = STATUS_PENDING;
+    set_event(object->process, overlapped->event, false);
 }
 
 void kz_complete(KzObject *object, KzOverlapped *overlapped, uint32_t bytes, NTSTATUS status)
@@ -28,7 +41,7 @@ void kz_complete(KzObject *object, KzOverlapped *overlapped, uint32_t bytes, NTS
     overlapped->status = (uintptr_t)(uint32_t)status;
     overlapped->bytes = bytes;
     kz.changes++;
-    signal_event(object->process, overlapped->event);
+    set_event(object->process, overlapped->event, true);
     if (object->completion)
         post(object->completion, (KzPacket){.bytes = bytes, .error = kz_win32_of(status), .key = object->key, .overlapped = overlapped});
 }

@@ -1,4 +1,7 @@
 /* The console of programs: what they print is said as a driver's lines are, and what is typed comes by requests. The compiler's names are changed to these by c/build.sh. */
+#include "core/client.h"
+#include "core/said.h"
+#include "lib/format.h"
 #include "user/program.h"
 
 typedef struct {

@@ -1,5 +1,5 @@
 /* The kit's statuses as a program sees them: RtlNtStatusToDosError, as far as its calls answer them. */
-#include "user/program.h"
+#include "user/error.h"
 
 static const struct {
     NTSTATUS status;
@@ -38,6 +38,8 @@ static const struct {
     {STATUS_VIRUS_INFECTED, 225},
     {STATUS_VOLUME_DISMOUNTED, 21},
     {STATUS_SHARING_VIOLATION, 32},
+    {STATUS_DEVICE_BUSY, 170},
+    {STATUS_OBJECT_PATH_SYNTAX_BAD, 161},
 };
 
 uint32_t kz_win32_of(NTSTATUS status)

@@ -1,8 +1,18 @@
 /* Files of a program: requests of its process, through all filters. */
-#include "user/program.h"
-#include "manager/below.h"
+#include "user/file.h"
 
-#include <stdlib.h>
+#include "core/client.h"
+#include "core/operation.h"
+#include "lib/letters.h"
+#include "filesystem/fileobject.h"
+#include "filesystem/name.h"
+#include "manager/below.h"
+#include "manager/reparse.h"
+#include "kit/device.h"
+#include "user/completion.h"
+#include "user/error.h"
+#include "user/object.h"
+#include "user/program.h"
 
 static const KzOwn requests = {.is_waited_for = true, .is_user = true};
 
@@ -72,11 +82,15 @@ static KzFile *open_file(const char *name, uint32_t disposition, uint32_t flags)
         return NULL;
     }
     KazdrinEvent asked = {.event = KZE_CREATE, .volume = volume->id, .mode = mode_of(disposition)};
+    const KzName *found = kz_find_name(volume, path);
+    bool was_there = found && found->node->exists;
     uint32_t error = error_of(kz_follow(begin(&file, asked, path), &file, begin));
     if (error) {
         kz_failed(error == 183 ? 80 : error); /* ERROR_FILE_EXISTS */
         return NULL;
     }
+    if (disposition == CREATE_ALWAYS || disposition == OPEN_ALWAYS)
+        kz_failed(was_there ? 183 : 0); /* ERROR_ALREADY_EXISTS, though it opened the file */
     const KzOwn unheard = {.is_waited_for = true, .is_unheard = true};
     if (disposition == CREATE_ALWAYS || disposition == TRUNCATE_EXISTING)
         kz_below(&unheard, file, (KazdrinEvent){.event = KZE_SET_SIZE, .handle = file->handle}, "", 0);
@@ -205,6 +219,8 @@ int DeviceIoControl(void *handle, uint32_t code, void *in, uint32_t in_length, v
             kz_failed(1); /* ERROR_INVALID_FUNCTION */
         } else if (object) {
             ULONG_PTR information = 0;
+            if (overlapped)
+                kz_begin_overlapped(object, overlapped);
             NTSTATUS status = kz_ask_device(&object->device, &(KzDeviceAsk){IRP_MJ_DEVICE_CONTROL, code, in, out, in_length, out_length, 0}, &information);
             if (done)
                 *done = (uint32_t)information;
@@ -227,6 +243,8 @@ static int move(void *handle, void *buffer, uint32_t length, uint32_t *done, KzO
             kz_failed(KZ_ERROR_INVALID_HANDLE);
         } else if (object) {
             Transfer one = {object, overlapped ? overlapped->offset : object->offset, buffer, length, 0, is_write};
+            if (overlapped)
+                kz_begin_overlapped(object, overlapped);
             uint32_t error = object->kind == KZU_FILE ? transfer(&one) : transfer_of_device(&one);
             object->offset = one.offset + one.done;
             if (done)

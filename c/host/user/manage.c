@@ -1,4 +1,16 @@
 /* A program loads, unloads, attaches and detaches filters, and asks which are there. */
+#include "user/manage.h"
+
+#include "core/client.h"
+#include "core/memory.h"
+#include "core/status.h"
+#include "lib/letters.h"
+#include "filesystem/folder.h"
+#include "manager/altitude.h"
+#include "manager/filter.h"
+#include "manager/instance.h"
+#include "user/error.h"
+#include "user/object.h"
 #include "user/program.h"
 #include "../user/fltUserStructures.h"
 

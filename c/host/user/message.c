@@ -1,4 +1,13 @@
 /* Messages between a program and its filter. */
+#include "user/message.h"
+
+#include "core/client.h"
+#include "core/memory.h"
+#include "lib/letters.h"
+#include "kit/port.h"
+#include "user/completion.h"
+#include "user/error.h"
+#include "user/object.h"
 #include "user/program.h"
 
 #include <stdlib.h>
@@ -6,6 +15,8 @@
 enum { HEADER = 16 }; /* of a message, and of a reply: a number of 32 bits, and one of 64 behind it */
 #define HRESULT_OF(error) ((int32_t)(0x80070000 | (error)))
 #define NO_WAITER_FOR_REPLY ((int32_t)0x801f0020)
+
+static void serve_messages(PFLT_PORT port);
 
 int32_t FilterConnectCommunicationPort(const WCHAR *name, uint32_t options, const void *context, uint16_t size, const void *attributes, void **port);
 int32_t FilterConnectCommunicationPort(const WCHAR *name, uint32_t options, const void *context, uint16_t size, const void *attributes, void **port)
@@ -20,7 +31,7 @@ int32_t FilterConnectCommunicationPort(const WCHAR *name, uint32_t options, cons
         UNICODE_STRING wide;
         RtlInitUnicodeString(&wide, name);
         kz_narrow(text, sizeof text, &wide);
-        status = kz_connect_port(text, context, context ? size : 0, &made);
+        status = kz_connect_port(text, context, context ? size : 0, serve_messages, &made);
         if (NT_SUCCESS(status)) {
             KzObject *object = kz_new_object(KZU_PORT);
             object->port = made;
@@ -80,7 +91,7 @@ static void ask(KzObject *object, uint8_t *room, uint32_t size, KzOverlapped *ov
 {
     KzAskedFor *made = kz_memory(sizeof *made), **at = &object->asked;
     *made = (KzAskedFor){NULL, room, size, overlapped};
-    overlapped->status = STATUS_PENDING;
+    kz_begin_overlapped(object, overlapped);
     while (*at)
         at = &(*at)->next;
     *at = made;
@@ -107,7 +118,7 @@ static void serve(KzObject *object)
     }
 }
 
-void kz_serve_messages(PFLT_PORT port)
+static void serve_messages(PFLT_PORT port)
 {
     for (KzProcess *process = kz_processes(); process; process = process->next)
         for (KzObject *one = process->objects; one; one = one->next)

@@ -1,4 +1,14 @@
 /* Handles of a program: each is an object of its process. */
+#include "user/object.h"
+
+#include "core/client.h"
+#include "core/memory.h"
+#include "kit/create.h"
+#include "kit/device.h"
+#include "kit/port.h"
+#include "user/file.h"
+#include "user/manage.h"
+#include "user/message.h"
 #include "user/program.h"
 
 #include <stdlib.h>

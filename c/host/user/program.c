@@ -1,6 +1,17 @@
 /* The life of programs: a process begins by a request, and ends with its main or by ExitProcess. Its other threads end where they next come out of a call. */
 #include "user/program.h"
 
+#include "core/beside.h"
+#include "core/client.h"
+#include "core/memory.h"
+#include "core/module.h"
+#include "core/said.h"
+#include "core/told.h"
+#include "kit/cancel.h"
+#include "kit/create.h"
+#include "kit/notify.h"
+#include "user/object.h"
+
 #include <stdlib.h>
 
 /* A program without any has no list. */
@@ -184,7 +195,7 @@ void kz_end_programs(void)
             kz_say(KZ_SAID_ELSE, "the program %s doesn't end\n", one->program->name);
 }
 
-void kz_free_programs(void)
+static void free_programs(void)
 {
     while (processes) {
         KzProcess *one = processes;
@@ -194,3 +205,5 @@ void kz_free_programs(void)
     }
     last_process = 1000;
 }
+
+const KzModule kz_program_module = {.free = free_programs};

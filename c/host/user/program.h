@@ -1,10 +1,11 @@
 /* Programs beside a driver: the author's own, compiled with c/user's headers. Each that was started is a process; its threads run beside the requests. */
-#ifndef KZ_PROGRAM_H
-#define KZ_PROGRAM_H
+#ifndef KZ_USER_PROGRAM_H
+#define KZ_USER_PROGRAM_H
 
+#include "host.h"
+#include "core/client.h"
+#include "filesystem/folder.h"
 #include "kit/device.h"
-#include "kit/port.h"
-#include "run/beside.h"
 
 #include <setjmp.h>
 
@@ -93,12 +94,11 @@ struct KzObject {
     struct KzFound *found;
 };
 
-/* program.c */
+extern const struct KzModule kz_program_module;
 /* A process notify routine may refuse it, with a status of the kit's. */
 uint32_t kz_start_program(const char *name, char **words, uint64_t *process, NTSTATUS *other);
 uint32_t kz_type(const char *name, char **words);
 void kz_end_programs(void);
-void kz_free_programs(void);
 KzProcess *kz_processes(void);
 KzUser *kz_user(void); /* who calls */
 KzUser *kz_new_user(KzProcess *process, uint32_t (*start)(void *), void *parameter);
@@ -106,29 +106,5 @@ KzUser *kz_new_user(KzProcess *process, uint32_t (*start)(void *), void *paramet
 void kz_go_on_or_end(void);
 /* Waits by the program's clock, or until its process ends; for ever with INFINITE. */
 bool kz_user_waits(KzCan *can, void *what, uint32_t milliseconds, const char *text);
-
-/* object.c */
-KzObject *kz_new_object(KzObjectKind kind);
-KzObject *kz_object(const void *handle, KzObjectKind kind); /* NULL, and the error is set */
-KzObject *kz_any_object(const void *handle);
-void kz_close_object(KzObject *object);
-int kz_failed(uint32_t error); /* sets the error; 0 */
-
-/* completion.c */
-void kz_complete(KzObject *object, KzOverlapped *overlapped, uint32_t bytes, NTSTATUS status);
-
-/* message.c: a message came, or the port is over. */
-void kz_serve_messages(PFLT_PORT port);
-void kz_abort_messages(KzObject *object, NTSTATUS status);
-
-/* error.c */
-uint32_t kz_win32_of(NTSTATUS status);
-int32_t kz_hresult_of(NTSTATUS status);
-
-/* file.c */
-void kz_close_program_file(KzObject *object);
-
-/* find.c */
-void kz_free_found(KzObject *object);
 
 #endif

@@ -1,4 +1,10 @@
 /* Memory, time and texts of programs. */
+#include "core/client.h"
+#include "core/clock.h"
+#include "core/memory.h"
+#include "lib/format.h"
+#include "kit/section.h"
+#include "user/object.h"
 #include "user/program.h"
 
 #include <stdlib.h>

@@ -1,7 +1,9 @@
 /* What a program waits for: threads, events, semaphores, mutexes; and critical sections. */
+#include "core/beside.h"
+#include "core/client.h"
+#include "core/told.h"
+#include "user/object.h"
 #include "user/program.h"
-
-#include <stdlib.h>
 
 #define WAIT_FAILED UINT32_MAX
 

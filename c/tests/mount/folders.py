@@ -1,7 +1,7 @@
 """Folders, with the folder below: they are made, removed, listed and renamed there, and filters hear of what lies in them. And owners that are kept."""
 import os
 
-from ground import Ground, put, whole
+from ground import Ground, put, until, whole
 
 
 def made(tally, tools):
@@ -80,8 +80,13 @@ def moved(tally, tools):
         call("a file onto a folder", "EISDIR", os.rename, at("a/1"), at("empty"))
         call("into itself", "EINVAL", os.rename, at("a"), at("a/b/c"))
         with open(at("a/b/2"), "rb"):
-            call("while a file in it is open", "EXDEV", os.rename, at("a"), at("z"))
+            call("while a file in it is open", "EBUSY", os.rename, at("a"), at("z"))
         call("nothing was moved", ["1", "b", "moved"], lambda: sorted(os.listdir(at("a"))))
+        before = os.stat(at("a")).st_mtime_ns
+        put(at("a/later"), b"")
+        call("a folder's time moves with its names", True, until, lambda: os.stat(at("a")).st_mtime_ns > before)
+        os.unlink(at("a/later"))
+        call("a folder in it is a link to it", 3, lambda: os.stat(at("a")).st_nlink)
         call("onto an empty one", None, os.rename, at("a"), at("empty"))
         call("the old one is gone", "ENOENT", os.stat, at("a"))
         call("all is in the new one", ["1", "b", "moved"], lambda: sorted(os.listdir(at("empty"))))

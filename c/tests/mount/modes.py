@@ -36,6 +36,7 @@ def kept(tally, tools):
         call("changes no mode", 0o600, mode_of, at("k"))
         call("another mode", None, os.chmod, at("k"), 0o640)
         call("is kept", 0o640, mode_of, at("k"))
+        call("it can't be run", False, os.access, at("k"), os.X_OK)
         call("a mode with a user's identity", "EPERM", os.chmod, at("k"), 0o4755)
         call("renamed", None, os.rename, at("k"), at("r"))
         call("it has it still", 0o640, mode_of, at("r"))

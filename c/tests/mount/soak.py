@@ -131,7 +131,7 @@ def step(model, folder, chance):
         except PermissionError:  # what was copied stays
             model.files[to] = old
         except OSError as error:
-            if error.errno != errno.EXDEV:
+            if error.errno not in (errno.EXDEV, errno.EBUSY):
                 raise
     else:
         with open(path, "rb", buffering=0) as file:

@@ -1,5 +1,5 @@
 /* A run from a list of requests, the statuses both ways, and what DbgPrint writes. */
-#include "host.h"
+#include "core/status.h"
 
 extern const KzDriver kz_drivers[];
 extern const size_t kz_drivers_count;

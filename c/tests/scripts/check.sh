@@ -10,6 +10,7 @@
 #   names     names, and the majors that ride on the manager's operations: beside a model, under schedules and refusals, by threads
 #   programs  samples with programs, threads, processes: schedules, refusals, threads
 #   order     the lists that all managers are held to
+#   image     binaries of drivers, by the toolchains that are here: each sample beside what its source prints, exceptions, files that can't run, changed files
 #   headers   constants, structures and prototypes beside those of mingw-w64, where its headers are there: by its name alone, and in thorough.sh
 #   mount     the mount above fltd
 #   serve     the server of drivers: the same frames as fltd, and the mount above it
@@ -21,7 +22,8 @@ here=$(cd "$(dirname "$0")" && pwd)
 for tool in "${CC:-cc}" objcopy make; do
     command -v ${tool%% *} > /dev/null || {
         echo "C: not tried, since there is no $tool here"
-        exit 0
+        [ -z "${KAZDRIN_WHOLE:-}" ]
+        exit
     }
 done
 if [ -z "${KAZDRIN_LIB:-}" ]; then
@@ -29,7 +31,7 @@ if [ -z "${KAZDRIN_LIB:-}" ]; then
     [ -f "$KAZDRIN_LIB" ] || KAZDRIN_LIB=$("$here/../../archive.sh" --unproved) || exit 1
     export KAZDRIN_LIB
 fi
-[ $# -gt 0 ] || set -- host legal misuse explore spread threads names programs order mount serve
+[ $# -gt 0 ] || set -- host legal misuse explore spread threads names programs order image mount serve
 passed=0
 failed=0
 report=$(mktemp)

@@ -96,7 +96,7 @@ schedules_of() {
 schedules_of "$room/settwice.out" > "$room/counts"
 cp "$schedules/small.h" "$room"
 sed "s/settwice/says/" $scenarios/settwice.txt > "$room/says.txt"
-for words in 'stream: > %d' 'contexts born %d' 'TOLD KZ0999 %d' 'LIMIT KZ0211 %d' ' info %d bytes ' 'CRASH %d'; do
+for words in 'stream: > %d' 'contexts born %d' 'TOLD KZ0999 %d' 'LIMIT KZ0212 %d' ' info %d bytes ' 'CRASH %d'; do
     sed "s/a stream had %d creates/$words/" "$schedules/settwice.c" > "$room/says.c"
     build "a driver that prints '$words'" --explore "$room/says" "$room/says.c"
     "$room/says" --coarse --ends "$room/says.txt" > "$room/says.out" && [ "$(grep -c "^    END" "$room/says.out")" = 5 ] && schedules_of "$room/says.out" | diff "$room/counts" - &&
@@ -105,7 +105,7 @@ for words in 'stream: > %d' 'contexts born %d' 'TOLD KZ0999 %d' 'LIMIT KZ0211 %d
 done
 
 # A schedule as a reader sees it.
-"$room/stuckdetach" --trace --replay 'r*3 d*7 r*4 d*3 finally*4' $scenarios/stuckdetach.txt > "$room/trace.out"
+"$room/stuckdetach" --trace --replay 'r*3 d*9 r*4 finally*4' $scenarios/stuckdetach.txt > "$room/trace.out"
 [ $? = 6 ] && diff $tests/expected/explore-trace.out "$room/trace.out"
 tell $? "trace"
 

@@ -6,8 +6,8 @@ set -u
 . "$(dirname "$0")/tally.sh" mount
 "c/tests/scripts/needs.sh"
 why=$(may_mount) || {
-    echo "mount: not tried, since $why"
-    exit 0
+    untried "$why"
+    exit
 }
 server=$(server_of_mount)
 words=""

@@ -4,8 +4,8 @@
 set -u
 . "$(dirname "$0")/tally.sh" release
 [ "$(id -u)" = 0 ] && command -v dpkg-deb > /dev/null && command -v cmake > /dev/null || {
-    echo "release: not tried, since it needs root, dpkg-deb and cmake"
-    exit 0
+    untried 'it needs root, dpkg-deb and cmake'
+    exit
 }
 kit=$(dirname "$(dirname "$(readlink -f "$(command -v rt)")")")
 release=${RELEASE:-}

@@ -5,8 +5,8 @@
 set -u
 . "$(dirname "$0")/tally.sh" serve
 command -v python3 > /dev/null || {
-    echo "serve: not tried, since there is no python3 here"
-    exit 0
+    untried 'there is no python3 here'
+    exit
 }
 fltd=$(server_of_mount)
 cp $tests/serve/drivers/*.c "$room"
@@ -27,6 +27,6 @@ if why=$(may_mount); then
     [ $# -gt 0 ] || set -- calls model deletions held ends late
     $tests/mount/check.py --server "$room/server" --mount "$room/fltmount" --count 600 "$@" || status=1
 else
-    echo "serve: left out: the mount above it, since $why"
+    untried "$why, for the mount above it" || status=1
 fi
 exit "$status"

@@ -49,8 +49,35 @@ has_sanitizers() {
     echo 'int main(void) { return 0; }' | ${CC:-cc} "-fsanitize=$1" -x c -o "$room/sanitized" - 2> /dev/null
 }
 
-# The last line.
+# untried WHY: this part can't be tried here. By hand that is no failure. Where all has to be tried (KAZDRIN_WHOLE, which .ci/run sets) it is one, unless KAZDRIN_WITHOUT names the part.
+untried() {
+    echo "$PART: not tried, since $1"
+    [ -z "${KAZDRIN_WHOLE:-}" ] && return
+    case " ${KAZDRIN_WITHOUT:-} " in
+        *" $PART "*) ;;
+        *)
+            echo "$PART: 0 passed, 1 failed (--without $PART allows that)"
+            return 1
+            ;;
+    esac
+}
+
+# How many tests this part has at least where each tool is there. A list that came out empty makes fewer.
+least() {
+    case $PART in
+        host) echo 117 ;;
+        legal) echo 96 ;;
+        order) echo 14 ;;
+        *) echo 1 ;;
+    esac
+}
+
+# The last line. Where all has to be tried too few tests are a failure.
 finish() {
+    if [ -n "${KAZDRIN_WHOLE:-}" ] && [ $((passed + failed)) -lt "$(least)" ]; then
+        echo "$PART: $((passed + failed)) tests, and it has $(least) at least"
+        failed=$((failed + 1))
+    fi
     echo "$PART: $passed passed, $failed failed"
     [ "$failed" = 0 ]
 }

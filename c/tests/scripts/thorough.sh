@@ -7,6 +7,7 @@
 #   threads     each sample for ten seconds with eight threads
 #   names       3,000 random sessions of names beside a model of their own
 #   programs    samples with programs of their own, as both
+#   image       a minute of changed binaries under the sanitizers, with the part image
 #   libfuzzer   libFuzzer over a driver with a mistake, which it must find, and over one without
 #   real        some seventy real programs above the mount of each server: four filters of fltd, the filter of own_server, which denies deletions, and four drivers in C: ten minutes
 #   release     a release, installed in a room where neither this checkout nor the kit is: a driver is built, explored and tested there
@@ -54,6 +55,11 @@ names() {
 programs() {
     "$here/programs.sh" --whole
     tell $? programs
+}
+
+image() {
+    SECONDS_OF_FUZZ=60 "$here/image.sh"
+    tell $? image
 }
 
 libfuzzer() {
@@ -112,10 +118,10 @@ mount() {
     fi
 }
 
-[ $# -gt 0 ] || set -- explore slurm lines threads names programs libfuzzer real release mount
+[ $# -gt 0 ] || set -- explore slurm lines threads names programs image libfuzzer real release mount
 for part in "$@"; do
     case $part in
-    explore | slurm | lines | threads | names | programs | libfuzzer | real | release | mount) "$part" ;;
+    explore | slurm | lines | threads | names | programs | image | libfuzzer | real | release | mount) "$part" ;;
     *)
         echo "there is no part $part" >&2
         exit 2

@@ -5,8 +5,8 @@ set -u
 WHOLE=${1:-}
 . "$(dirname "$0")/tally.sh" threads
 if ! has_sanitizers thread; then
-    echo "threads: 0 passed, 0 failed (this compiler has no thread sanitizer)"
-    exit 0
+    untried 'this compiler has no thread sanitizer'
+    exit
 fi
 samples="ctx cancelsafe csqworkitem"
 seconds=1

@@ -253,6 +253,22 @@ def dismount():
     yield "look", ""
 
 
+def cases():
+    """Names that differ in case alone are two files."""
+    yield from asks("a", create(b"Makefile", 1), write(0, 0, b"one"), create(b"makefile", 1), write(1, 0, b"two"), read(0, 0, 9), read(1, 0, 9), create(b"MAKEFILE", 0), create(b"THERE", 0), LIST)
+    yield from asks("a", on(kazdrin.SET_DELETE, 1), on(kazdrin.CLOSE, 1), read(0, 0, 9), on(kazdrin.CLOSE, 0), create(b"Makefile", 0), create(b"makefile", 0))
+    yield "look", ""
+
+
+def stop():
+    """A connection ends behind the reply to its Stop, whatever else came with it."""
+    yield from asks("b", create(b"there", 0))
+    yield "send", "a", STOP + LIST + LIST
+    yield "take", "a"
+    yield "take", "a"
+    yield from asks("b", read(0, 0, 3), on(kazdrin.CLOSE, 0))
+
+
 def crowd():
     """32 connections are served, and no more."""
     for number in range(32):
@@ -293,13 +309,25 @@ def both(servers, name, script):
             print(f"serve: {name}: {step[0]} {step[1]} {sent.hex()[:120] if (sent := last.get(step[1])) else ''}: {got[0].hex()[:120]} and {got[1].hex()[:120]}")
         if step[0] == "send":
             last[step[1]] = step[2]
-    for server in pair:
+    for server in pair if name != "stop" else []:
         server.play(("send", "stop", STOP))
         server.play(("take", "stop"))
     ends = [server.end() for server in pair]
     if ends[0] != ends[1]:
         print(f"serve: {name}: the end: {ends[0]} and {ends[1]}")
     return is_same and ends[0] == ends[1]
+
+
+def descriptors(command):
+    """With too few descriptors for all connections a server says so, and doesn't begin."""
+    place = tempfile.mkdtemp(prefix="kazdrin-")
+    shell = f"ulimit -n 24; exec {command} {place} {place}/s"
+    ended = subprocess.run(["bash", "-c", shell], capture_output=True, timeout=PATIENCE)
+    shutil.rmtree(place, ignore_errors=True)
+    is_refused = ended.returncode == 3 and b"ready" not in ended.stdout and (ended.stdout + ended.stderr).startswith(b"fault")
+    if not is_refused:
+        print(f"serve: few descriptors: {command}: {ended}")
+    return is_refused
 
 
 last = {}
@@ -312,9 +340,10 @@ def main():
     parser.add_argument("--seed", type=int, default=random.randrange(1 << 32))
     parser.add_argument("servers", nargs=2)
     words = parser.parse_args()
-    scripts = [(each.__name__, each()) for each in (files, odd, filters, held, let_go, dismount, crowd)]
+    scripts = [(each.__name__, each()) for each in (files, odd, filters, held, let_go, dismount, cases, stop, crowd)]
     scripts += [(f"random frames, seed {words.seed + at}", chance(words.seed + at, words.count)) for at in range(3)]
     results = [both(words.servers, name, script) for name, script in scripts]
+    results += [descriptors(command) for command in words.servers]
     print(f"serve: {sum(results)} passed, {len(results) - sum(results)} failed")
     return 0 if all(results) else 1
 

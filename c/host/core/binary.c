@@ -1,0 +1,4 @@
+#include "core/binary.h"
+
+KzBinaries kz_binaries;
+_Thread_local const void *kz_stub_caller;

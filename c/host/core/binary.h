@@ -1,0 +1,60 @@
+/* Drivers that were loaded as binaries of Windows (c/image): how their functions are called, and where the calls that they make go on. Without c/image there are none, and all of this is
+ * empty. */
+#ifndef KZ_CORE_BINARY_H
+#define KZ_CORE_BINARY_H
+
+#include "kzflt.h"
+
+#include <stdbool.h>
+#include <stdint.h>
+
+#ifdef __x86_64__
+#define KZ_MS_ABI __attribute__((ms_abi))
+#else
+#define KZ_MS_ABI
+#endif
+
+/* Calls a function of a driver by the convention that it was compiled for. */
+#define KZ_CALL_DRIVER(function, ...) (kz_enters_binary((const void *)(uintptr_t)(function)) ? ((__typeof__(*(function)) KZ_MS_ABI *)(function))(__VA_ARGS__) : (function)(__VA_ARGS__))
+/* Where the driver goes on behind the call that it makes: behind its own call, where a stub stands in between. */
+#define KZ_CALLER() kz_caller(__builtin_return_address(0))
+
+/* Set once by c/image, before the first request. */
+typedef struct {
+    uintptr_t start, size;       /* where all images lie */
+    uintptr_t stubs, stubs_size; /* what they call; a driver may hand out the address of one */
+    void (*open)(const KzDriver *driver); /* it is to be loaded: its image is laid out anew */
+    void (*enter)(void);                  /* the thread is about to run code of one */
+    /* The processor refused an instruction: whether it was carried out in place of it, and whether the exception that it is goes on in a handler. */
+    bool (*carry_out)(int signal, void *information, void *context);
+    bool (*raise)(int signal, void *information, void *context);
+    bool (*find_line)(uintptr_t address, char *room, size_t size);
+    bool (*data)(unsigned at, char **start, char **end); /* where variables of theirs lie, one range after the other */
+} KzBinaries;
+extern KzBinaries kz_binaries;
+extern _Thread_local const void *kz_stub_caller;
+
+static inline bool kz_is_binary(const void *address)
+{
+    return (uintptr_t)address - kz_binaries.start < kz_binaries.size;
+}
+
+static inline bool kz_is_stub(const void *address)
+{
+    return (uintptr_t)address - kz_binaries.stubs < kz_binaries.stubs_size;
+}
+
+static inline bool kz_enters_binary(const void *function)
+{
+    bool is_one = kz_is_binary(function) || kz_is_stub(function);
+    if (is_one && kz_binaries.enter)
+        kz_binaries.enter();
+    return is_one;
+}
+
+static inline const void *kz_caller(const void *address)
+{
+    return kz_is_stub(address) ? kz_stub_caller : address;
+}
+
+#endif

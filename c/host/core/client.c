@@ -1,0 +1,206 @@
+/* Clients, and the calls by which they come inside the host and leave it. */
+#include "core/client.h"
+
+#include "core/beside.h"
+#include "core/clock.h"
+#include "core/irql.h"
+#include "core/module.h"
+#include "core/said.h"
+
+#include <stdarg.h>
+
+KzClient kz_first = {.name = "first", .process = 100, .thread = 104};
+_Thread_local KzClient *kz_me = &kz_first;
+const KzScheduler *kz_scheduler = &kz_in_order;
+
+void kz_new_client(KzClient *client, const char *name, unsigned number)
+{
+    client->name = name;
+    client->place = (KzPlace){.worker = (uint8_t)number};
+    client->process = 100;
+    client->thread = 104 + 4 * number;
+    client->top_level = NULL;
+    client->inside = 0;
+    client->number = number;
+    client->is_last = false;
+    client->timeout = 0;
+    client->places = 0;
+    client->busy = (KazdrinEvent){0};
+    client->busy_number = 0;
+    client->names_count = 0;
+    client->says[0] = 0;
+    client->waits[0] = 0;
+    client->beside = NULL;
+    client->request = NULL;
+    client->line_number = 0;
+    memset(client->taken, 0, sizeof client->taken);
+}
+
+unsigned kz_go_inside_unsaid(void)
+{
+    if (kz_me->inside > 0)
+        return kz_me->inside++;
+    kz_scheduler->lock();
+    kz_me->inside = 1;
+    return 0;
+}
+
+/* A driver's own call is looked at: whether it may be made at that IRQL. */
+unsigned kz_go_inside(const char *name, const void *from)
+{
+    unsigned depth = kz_go_inside_unsaid();
+    if (depth > 0)
+        return depth;
+    kz_me->place.call = name;
+    kz_me->place.from = from;
+    kz_scheduler->called(name);
+    kz_check_irql(name);
+    return 0;
+}
+
+unsigned kz_begin_call(const char *name, const void *from)
+{
+    if (kz_me->inside == 0)
+        kz_scheduler->point(name, from);
+    return kz_go_inside(name, from);
+}
+
+void kz_end_inside(unsigned *depth)
+{
+    kz_me->inside = *depth;
+    if (*depth == 0)
+        kz_scheduler->unlock();
+}
+
+void kz_end_call(unsigned *depth)
+{
+    if (*depth == 0)
+        kz_me->place.call = kz_me->place.from = NULL;
+    kz_end_inside(depth);
+}
+
+static unsigned step_out(const char *name)
+{
+    unsigned depth = kz_me->inside;
+    kz_me->inside = 0;
+    kz_scheduler->unlock();
+    kz_scheduler->point(name, NULL);
+    return depth;
+}
+
+unsigned kz_let_function(const char *name, const void *function)
+{
+    kz_me->place.function = function;
+    return step_out(name);
+}
+
+void kz_driver_returned(unsigned depth, const char *name)
+{
+    kz_scheduler->point(name, NULL);
+    kz_scheduler->lock();
+    kz_me->inside = depth;
+}
+
+void kz_pause(const char *name)
+{
+    kz_driver_returned(step_out(name), NULL);
+}
+
+bool kz_wait(KzCan *can, void *what, const char *format, ...)
+{
+    char text[160];
+    va_list arguments;
+    if (can(what) || !kz_has_others())
+        return can(what);
+    va_start(arguments, format);
+    vsnprintf(text, sizeof text, format, arguments);
+    va_end(arguments);
+    kz_me->until = kz_now() + kz_me->timeout;
+    return kz_scheduler->wait(can, what, text);
+}
+
+/* Whether a call that may be refused is: then it answers as it does where there is no memory. */
+bool kz_refuses(KzChoice what, const char *call)
+{
+    return kz_scheduler->choose(2, what, call) == 1;
+}
+
+/* Whether others run beside this client, which come to what it waits for. Beside the set-up, and at the end, none does but its threads, which have others. */
+bool kz_has_others(void)
+{
+    return kz_me->beside || (kz_scheduler->has_others && kz_me != &kz_first);
+}
+
+bool kz_let_others(void)
+{
+    return !kz_has_others() && kz_goes_on();
+}
+
+static bool wait_beside(KzCan *can, void *what, int64_t milliseconds, const char *text)
+{
+    kz_me->timeout = milliseconds < 0 ? 0 : (uint64_t)milliseconds + 1;
+    bool is_over = (kz_me->timeout && kz_scheduler->choose(2, KZ_CHOICE_TIME, "the time is over")) || !kz_wait(can, what, "%s", text);
+    kz_me->timeout = 0;
+    return !is_over;
+}
+
+enum { EVER = 3600 * 1000 }; /* no wait of a test is for longer */
+
+bool kz_wait_for(KzCan *can, void *what, int64_t milliseconds, const char *text)
+{
+    uint64_t until = kz_now() + (milliseconds < 0 ? EVER : (uint64_t)milliseconds);
+    if (can(what) || !milliseconds)
+        return can(what);
+    if (kz_has_others())
+        return wait_beside(can, what, milliseconds, text);
+    while (!can(what) && (kz_let_others() || kz_pass_to_next(until)))
+        ;
+    if (!can(what) && milliseconds > 0 && kz_now() < until)
+        kz_pass(until - kz_now());
+    return can(what);
+}
+
+/* ---- In order: one request after the other. */
+static void pass_point(const char *name, const void *from)
+{
+    (void)name, (void)from;
+}
+
+/* A thread gives its turn back. Where all run at once since, it waits as they do. */
+static bool wait_in_order(KzCan *can, void *what, const char *text)
+{
+    if (!kz_me->beside)
+        return can(what);
+    kz_rest(can, what);
+    if (kz_scheduler == &kz_in_order)
+        return can(what);
+    kz_scheduler->lock();
+    return kz_scheduler->wait(can, what, text);
+}
+
+static void touch_nothing(const void *object, size_t size, KzTouch how)
+{
+    (void)object, (void)size, (void)how;
+}
+
+static void call_nothing(const char *name)
+{
+    (void)name;
+}
+
+static void look_at_nothing(const void *from)
+{
+    (void)from;
+}
+
+static unsigned choose_as_asked(unsigned count, KzChoice what, const char *name)
+{
+    (void)count, (void)name;
+    return kz_fails_now(what);
+}
+
+static void nothing(void)
+{
+}
+
+const KzScheduler kz_in_order = {pass_point, wait_in_order, touch_nothing, call_nothing, look_at_nothing, choose_as_asked, kz_begin_thread, kz_let_thread, nothing, nothing, kz_print, false, true};

@@ -1,0 +1,111 @@
+/* Clients: who makes requests, and who carries other work on. What runs is a client's own; the rest of the host is everybody's, and belongs to who is inside. */
+#ifndef KZ_CORE_CLIENT_H
+#define KZ_CORE_CLIENT_H
+
+#include "host.h"
+
+/* The driver's function is called for it: its code runs until it has returned, or makes a call. */
+#define kz_let_driver(name, function) kz_let_function(name, (const void *)(uintptr_t)(function))
+#define KZ_LINE (2 * KZ_BYTES + 64)
+
+/* A reference to a context that a callback holds: by which call it took it, and where. No body if there is none. */
+typedef struct {
+    const void *body;
+    KzPlace place;
+} KzTaken;
+
+enum { KZ_TAKEN = 64 };
+
+struct KzClient {
+    const char *name;
+    KzPlace place;
+    KzTaken taken[KZ_TAKEN]; /* those that its callbacks hold, as far as there is room */
+    uint64_t places; /* how many callbacks it was in */
+    KazdrinEvent busy;     /* the event that was refused with 34; event 0 if none was */
+    uint64_t busy_number;  /* how many were in its way */
+    uint64_t process, thread; /* who asks */
+    PIRP top_level;
+    int region;      /* stands for its critical region */
+    unsigned inside; /* how many calls of the host it is in; 0 in a driver's code */
+    unsigned number;
+    bool is_last; /* it goes on where no other can: what it expects is looked at */
+    struct {
+        char name[24];
+        uint64_t handle;
+    } names[32]; /* that its creates gave, by `as` */
+    size_t names_count;
+    uint64_t timeout; /* of its wait, in milliseconds; 0 if it has none */
+    uint64_t until;   /* and when it is over, by the clock */
+    KzThread *beside; /* the thread that it is, beside the requests; NULL for those of requests and of work items */
+    char waits[160];  /* what it waits for */
+    char says[4096]; /* its last answer as text, up to its reply */
+    char reparsed[320]; /* the name that its last create was answered with, and how that is to be opened */
+    uint8_t reparsed_mode;
+    const char *request; /* what it asks for, in words, for what is told; NULL if that isn't known */
+    unsigned line_number; /* in its file; 0 if it isn't of one */
+    char line[KZ_LINE];
+    uint8_t bytes[KZ_BYTES];
+    uint8_t room[KZ_BYTES + 64]; /* for the bytes of an answer, or of what is lent: whoever asks for them names it */
+};
+
+/* Whether a client can go on. It changes nothing. */
+typedef bool KzCan(void *what);
+
+/* What is done with an object or with memory, for who looks whether two clients are in order. */
+typedef enum { KZT_TAKES, KZT_GIVES, KZT_HAS_TAKEN_BACK } KzTouch;
+
+typedef struct {
+    /* The client stands before what is named, in no call of the host: another may go on first. */
+    void (*point)(const char *name, const void *from);
+    /* It can't go on, and waits for what is named until it can. False: nobody brings that about, or its time is over. */
+    bool (*wait)(KzCan *can, void *what, const char *text);
+    void (*touch)(const void *object, size_t size, KzTouch how);
+    /* A call of the kit begins. */
+    void (*called)(const char *name);
+    /* It tried for something in vain, and doesn't wait: code that does so again and again lets others go first. */
+    void (*looked)(const void *from);
+    /* Which of so many answers the call gets; 0 is the usual one. The name is for people. */
+    unsigned (*choose)(unsigned count, KzChoice what, const char *name);
+    /* A thread beside the requests begins; one goes on until it waits, where it can, beside a client that waits for nobody: in order, and before and behind a run of the explorer. */
+    void (*begin)(KzThread *thread);
+    bool (*let)(KzThread *thread);
+    /* One client at a time is inside. */
+    void (*lock)(void);
+    void (*unlock)(void);
+    void (*said)(const KzSaid *said);
+    bool has_others; /* clients run beside one another, and work items beside them */
+    bool has_pages;  /* memory may have pages of its own, and an access to them may be a signal */
+} KzScheduler;
+
+#define KZ_CALL_OF(name) __attribute__((cleanup(kz_end_call), unused)) unsigned kz_depth = kz_begin_call((name), KZ_CALLER())
+#define KZ_CALL() KZ_CALL_OF(__func__)
+#define KZ_INSIDE_UNSAID() __attribute__((cleanup(kz_end_inside), unused)) unsigned kz_depth = kz_go_inside_unsaid()
+#define KZ_INSIDE_FROM(name, from) __attribute__((cleanup(kz_end_call), unused)) unsigned kz_depth = kz_go_inside((name), (from))
+#define KZ_INSIDE_OF(name) KZ_INSIDE_FROM((name), KZ_CALLER())
+#define KZ_INSIDE() KZ_INSIDE_OF(__func__)
+unsigned kz_let_function(const char *name, const void *function);
+/* What runs beside the requests goes on: a deferred procedure call, a work item. False if nothing could. */
+bool kz_let_others(void);
+/* The one that runs. */
+extern _Thread_local KzClient *kz_me;
+extern KzClient kz_first;
+void kz_new_client(KzClient *client, const char *name, unsigned number);
+extern const KzScheduler kz_in_order;
+extern const KzScheduler *kz_scheduler;
+unsigned kz_begin_call(const char *name, const void *from);
+unsigned kz_go_inside(const char *name, const void *from);
+/* Inside, for what isn't a driver's own call. */
+unsigned kz_go_inside_unsaid(void);
+void kz_end_call(unsigned *depth);
+void kz_end_inside(unsigned *depth);
+/* A driver's code begins (host.h has kz_let_driver), and has returned: nobody is inside meanwhile. */
+void kz_driver_returned(unsigned depth, const char *name);
+/* The client steps out of the host for a moment. */
+void kz_pause(const char *name);
+bool kz_wait(KzCan *can, void *what, const char *format, ...) __attribute__((format(printf, 3, 4)));
+/* The same in order as well: what runs beside goes on, and time passes as far as it is to; for ever with -1. */
+bool kz_wait_for(KzCan *can, void *what, int64_t milliseconds, const char *text);
+bool kz_refuses(KzChoice what, const char *call);
+bool kz_has_others(void);
+
+#endif

@@ -1,0 +1,158 @@
+/* A crash says where it was, and then ends the program as it would have. Only calls that are safe in a signal's handler are made. */
+#define _GNU_SOURCE
+#include "core/crash.h"
+
+#include "core/client.h"
+#include "core/piece.h"
+#include "core/place.h"
+#include "core/said.h"
+#include "core/source.h"
+
+#include <signal.h>
+#include <ucontext.h>
+#include <unistd.h>
+
+static const int signals[] = {SIGSEGV, SIGBUS, SIGABRT, SIGFPE, SIGILL};
+static struct sigaction before[sizeof signals / sizeof signals[0]];
+static uint8_t stack[65536];
+static volatile sig_atomic_t was_told;
+
+static void put(const char *text)
+{
+    ssize_t written = write(STDOUT_FILENO, text, strlen(text));
+    (void)written;
+}
+
+/* Where it was: in the driver's own code there, or in a call of it. */
+static bool find(const void *at, char *line, size_t size)
+{
+    const KzPlace *place = &kz_me->place;
+    return (at && kz_find_source(kz_in_file(at) + 1, line, size)) || (place->from && kz_find_source(kz_in_file(place->from), line, size));
+}
+
+static void tell(const char *what, const void *at)
+{
+    char marked[256], place[256], line[100];
+    if (was_told)
+        return;
+    was_told = 1;
+    put("CRASH ");
+    put(what);
+    put(": ");
+    kz_place_text(marked, sizeof marked);
+    kz_unmark(place, sizeof place, marked);
+    put(place);
+    if (find(at, line, sizeof line)) {
+        put(", at ");
+        put(line);
+    }
+    if (kz_me->place.path) {
+        put(", \\");
+        put(kz_me->place.path);
+    }
+    if (kz_me->place.request) {
+        put(", ");
+        put(kz_me->place.request);
+    }
+    put("\n");
+}
+
+const char *kz_signal_name(int signal)
+{
+    switch (signal) {
+    case SIGSEGV:
+        return "SIGSEGV";
+    case SIGBUS:
+        return "SIGBUS";
+    case SIGABRT:
+        return "SIGABRT";
+    case SIGFPE:
+        return "SIGFPE";
+    case SIGTRAP:
+        return "SIGTRAP";
+    default:
+        return "SIGILL";
+    }
+}
+
+/* Where the program stood. */
+static const void *code_at(const void *context)
+{
+#ifdef __x86_64__
+    return (const void *)(uintptr_t)((const ucontext_t *)context)->uc_mcontext.gregs[REG_RIP];
+#else
+    (void)context;
+    return NULL;
+#endif
+}
+
+static void watch(int signal);
+
+/* Memory that was given back was touched: that is told, and the program goes on. */
+static bool is_touch(int signal, const siginfo_t *information, const void *context)
+{
+#ifdef __x86_64__
+    bool is_written = ((const ucontext_t *)context)->uc_mcontext.gregs[REG_ERR] & 2;
+#else
+    bool is_written = false;
+#endif
+    return signal == SIGSEGV && kz_touched(information->si_addr, code_at(context), is_written);
+}
+
+/* Also what a binary may not do by itself in this process, or takes for an exception. */
+static bool is_carried_on(int signal, siginfo_t *information, void *context)
+{
+    if (!kz_is_binary(code_at(context)) && !kz_is_stub(code_at(context)))
+        return is_touch(signal, information, context);
+    return kz_binaries.carry_out(signal, information, context) || is_touch(signal, information, context) || kz_binaries.raise(signal, information, context);
+}
+
+/* What was there before goes on: a sanitizer's report, or the end. */
+static void handle(int signal, siginfo_t *information, void *context)
+{
+    if (is_carried_on(signal, information, context)) {
+        if (!kz_binaries.size)
+            watch(signal);
+        return;
+    }
+    tell(kz_signal_name(signal), kz_caller(code_at(context)));
+    for (size_t at = 0; at < sizeof signals / sizeof signals[0]; at++) {
+        if (signals[at] != signal)
+            continue;
+        if (before[at].sa_flags & SA_SIGINFO && before[at].sa_sigaction) {
+            before[at].sa_sigaction(signal, information, context);
+            return;
+        }
+        sigaction(signal, &(struct sigaction){.sa_handler = SIG_DFL}, NULL);
+    }
+    raise(signal);
+}
+
+/* The address sanitizer calls this before its report. */
+void __asan_on_error(void);
+void __asan_on_error(void)
+{
+    tell("address sanitizer", NULL);
+}
+
+/* With binaries it stays: their instructions are carried out in it, of several threads at once. */
+static void watch(int signal)
+{
+    int once = kz_binaries.size ? 0 : (int)SA_RESETHAND;
+    sigaction(signal, &(struct sigaction){.sa_sigaction = handle, .sa_flags = SA_SIGINFO | SA_ONSTACK | once}, NULL);
+}
+
+void kz_watch_crashes(void)
+{
+    static bool is_watched;
+    setvbuf(stdout, NULL, _IOLBF, 0);
+    was_told = 0;
+    if (is_watched)
+        return;
+    is_watched = true;
+    sigaltstack(&(stack_t){.ss_sp = stack, .ss_size = sizeof stack}, NULL);
+    for (size_t at = 0; at < sizeof signals / sizeof signals[0]; at++) {
+        sigaction(signals[at], NULL, &before[at]);
+        watch(signals[at]);
+    }
+}

@@ -1,0 +1,297 @@
+/* Locks that clients hold, and the IRQL at which they are. What a client holds stands in a list, by the lock's address, with the callback that took it. */
+#include "core/held.h"
+
+#include "core/client.h"
+#include "core/memory.h"
+#include "core/module.h"
+#include "core/told.h"
+
+#include <stdlib.h>
+
+typedef struct {
+    const void *lock;
+    KzClient *client;
+    unsigned count;
+    bool is_shared;
+    KIRQL irql, before; /* to which it raises, and at which it was taken */
+    const char *call;
+    const void *from; /* where */
+    uint64_t place; /* the callback's number: kz_me->place.number */
+} Held;
+
+/* Room for more is taken where these don't do. */
+enum { FEW = 64 };
+static Held few[FEW], *held = few;
+static size_t held_count, held_room = FEW;
+
+static Held *find_of(const void *lock, const KzClient *client)
+{
+    for (size_t at = 0; at < held_count; at++)
+        if (held[at].lock == lock && held[at].client == client)
+            return &held[at];
+    return NULL;
+}
+
+static Held *find(const void *lock)
+{
+    return find_of(lock, kz_me);
+}
+
+/* Whether another client is in the way. */
+static Held *other(const void *lock, KzClient *client, bool is_shared)
+{
+    for (size_t at = 0; at < held_count; at++)
+        if (held[at].lock == lock && held[at].client != client && !(is_shared && held[at].is_shared))
+            return &held[at];
+    return NULL;
+}
+
+/* Whether its owner may ask for it again. */
+static bool may_share(const Held *one, int how)
+{
+    if (how == KZ_SHARED)
+        return one->is_shared;
+    return how == KZ_AGAIN ? !one->is_shared : how != KZ_ALONE;
+}
+
+static bool is_shared(int how)
+{
+    return how != KZ_ALONE && how != KZ_AGAIN;
+}
+
+/* ---- Who waits for a lock, in the order in which they came. */
+typedef struct Wanted {
+    struct Wanted *next;
+    PVOID lock;
+    KzClient *client;
+    int how;
+} Wanted;
+
+static Wanted *wanted;
+
+/* Whoever waits for the lock alone, and came before: no new reader goes past. An owner of a resource does, and who starves the others on purpose. */
+static const Wanted *before(const Wanted *reader)
+{
+    const Held *own = find_of(reader->lock, reader->client);
+    bool goes_first = reader->how == KZ_SHARED_FIRST || (own && reader->how == KZ_SHARED_AGAIN) || (own && !own->is_shared);
+    if (!is_shared(reader->how) || goes_first)
+        return NULL;
+    for (const Wanted *one = wanted; one && one != reader; one = one->next)
+        if (one->lock == reader->lock && !is_shared(one->how) && one->client != reader->client)
+            return one;
+    return NULL;
+}
+
+static bool is_free(void *asked)
+{
+    const Wanted *one = asked;
+    return !other(one->lock, one->client, is_shared(one->how)) && !before(one);
+}
+
+static void leave_line(Wanted *one)
+{
+    Wanted **at = &wanted;
+    while (*at && *at != one)
+        at = &(*at)->next;
+    if (*at)
+        *at = one->next;
+}
+
+static void wait_in_line(Wanted *one, const char *call)
+{
+    Wanted **at = &wanted;
+    while (*at)
+        at = &(*at)->next;
+    *at = one;
+    const Held *owner = other(one->lock, one->client, is_shared(one->how));
+    const Wanted *writer = before(one);
+    if (owner)
+        kz_wait(is_free, one, "%s of a lock that %s holds", call, owner->client->name);
+    else
+        kz_wait(is_free, one, "%s of a lock that %s waits for exclusively", call, writer->client->name);
+    leave_line(one);
+}
+
+static void add(Held one)
+{
+    if (held_count == held_room) {
+        Held *larger = kz_memory(2 * held_room * sizeof *held);
+        memcpy(larger, held, held_room * sizeof *held);
+        if (held != few)
+            free(held);
+        held = larger;
+        held_room *= 2;
+    }
+    size_t place = held_count++; /* by clients: so that what is held is the same whoever took his first */
+    for (; place > 0 && held[place - 1].client->number > one.client->number; place--)
+        held[place] = held[place - 1];
+    held[place] = one;
+}
+
+static void note(PVOID lock, int how, KIRQL irql, const char *call)
+{
+    Held *one = find(lock);
+    if (one)
+        one->count++;
+    else
+        add((Held){lock, kz_me, 1, is_shared(how), irql, kz_irql(), call, kz_me->place.from, kz_me->place.number});
+    kz_scheduler->touch(lock, 0, KZT_TAKES);
+}
+
+BOOLEAN KzTryTake(PVOID Lock, int How, KIRQL Irql, PCSTR Call)
+{
+    KZ_CALL_OF(Call);
+    Held *one = find(Lock);
+    if ((one && !may_share(one, How)) || !is_free(&(Wanted){.lock = Lock, .client = kz_me, .how = How})) {
+        kz_scheduler->looked(KZ_CALLER());
+        return FALSE;
+    }
+    note(Lock, How, Irql, Call);
+    return TRUE;
+}
+
+VOID KzTake(PVOID Lock, int How, KIRQL Irql, PCSTR Call)
+{
+    KZ_CALL_OF(Call);
+    Held *one = find(Lock);
+    Wanted asked = {.lock = Lock, .client = kz_me, .how = How};
+    if (one && !may_share(one, How))
+        kz_tell(KZM_WAITS_FOR_EVER, Call, "the lock is held already, and by the same thread: it would wait for ever");
+    else if (!is_free(&asked))
+        wait_in_line(&asked, Call);
+    note(Lock, How, Irql, Call);
+}
+
+static void let_go(Held *one, PVOID lock, const char *call)
+{
+    if (!one) {
+        kz_tell(KZM_LOCK_NOT_HELD, call, "the lock isn't held");
+        return;
+    }
+    if (--one->count == 0) {
+        memmove(one, one + 1, (size_t)(held + held_count - one - 1) * sizeof *one);
+        held[--held_count] = (Held){0};
+    }
+    kz_scheduler->touch(lock, 0, KZT_GIVES);
+}
+
+VOID KzLetGo(PVOID Lock, PCSTR Call)
+{
+    KZ_CALL_OF(Call);
+    let_go(find(Lock), Lock, Call);
+}
+
+VOID KzForgetLock(PVOID Lock, PCSTR Call)
+{
+    KZ_CALL_OF(Call);
+    Held *one = find(Lock);
+    if (!one)
+        one = other(Lock, kz_me, false);
+    if (!one)
+        return;
+    kz_tell(KZM_LOCK_DELETED, Call, "the lock is still held");
+    one->count = 1;
+    let_go(one, Lock, Call);
+}
+
+/* By another client. */
+bool kz_is_taken(const void *lock)
+{
+    return other(lock, kz_me, false) != NULL;
+}
+
+BOOLEAN KzIsHeldAlone(const VOID *Lock)
+{
+    KZ_INSIDE();
+    Held *one = find(Lock);
+    return one && !one->is_shared;
+}
+
+ULONG KzIsHeld(const VOID *Lock)
+{
+    KZ_INSIDE();
+    Held *one = find(Lock);
+    return one ? one->count : 0;
+}
+
+/* What the callback that returns took and didn't let go. */
+void kz_tell_locks(void)
+{
+    for (size_t at = 0; at < held_count;) {
+        if (held[at].client != kz_me || held[at].place != kz_me->place.number) {
+            at++;
+            continue;
+        }
+        bool is_region = held[at].lock == &kz_me->region;
+        kz_me->place.call = held[at].call;
+        kz_me->place.from = held[at].from;
+        kz_tell(KZM_LOCK_AT_RETURN, held[at].call, is_region ? "the critical region isn't left as the callback returns" : "the lock is still held as the callback returns");
+        held[at].count = 1;
+        kz_me->place.from = NULL;
+        let_go(&held[at], (PVOID)(uintptr_t)held[at].lock, held[at].call);
+    }
+    if (kz_me->place.callback != KZ_IN_NOTHING && kz_me->place.raised > kz_me->place.irql) {
+        kz_tell(KZM_LOCK_AT_RETURN, "KeLowerIrql", "the IRQL is still raised as the callback returns");
+        kz_me->place.raised = kz_me->place.irql;
+    }
+}
+
+static void check_locks(const void *memory, size_t size)
+{
+    for (size_t at = held_count; at-- > 0;) {
+        Held one = held[at];
+        if ((uintptr_t)one.lock - (uintptr_t)memory >= size)
+            continue;
+        kz_tell_of(one.lock, KZM_LOCK_DELETED, one.call, "the lock is still held, and its memory is freed");
+        held[at].count = 1;
+        let_go(&held[at], (PVOID)(uintptr_t)one.lock, one.call);
+    }
+}
+
+static void free_locks(void)
+{
+    if (held != few)
+        free(held);
+    held = few;
+    wanted = NULL;
+    held_count = 0;
+    held_room = FEW;
+}
+
+/* ---- IRQL: that of the locks that are held, or to which it was raised. */
+KIRQL kz_irql(void)
+{
+    KIRQL highest = kz_me->place.raised;
+    for (size_t at = 0; at < held_count; at++)
+        if (held[at].client == kz_me && held[at].place >= kz_me->place.locks_from && held[at].irql > highest)
+            highest = held[at].irql;
+    return highest;
+}
+
+/* Lets go of a spin lock, and back to the IRQL that the driver says. */
+VOID KzLetGoTo(PVOID Lock, KIRQL Irql, PCSTR Call)
+{
+    KZ_CALL_OF(Call);
+    Held *one = find(Lock);
+    if (one && one->before != Irql)
+        kz_tell(KZM_IRQL, Call, "to IRQL %u, where the lock was taken at %u", Irql, one->before);
+    let_go(one, Lock, Call);
+}
+
+bool kz_are_apcs_disabled(void)
+{
+    for (size_t at = 0; at < held_count; at++)
+        if (held[at].client == kz_me && strncmp(held[at].call, "ExAcquire", 9) != 0)
+            return true;
+    return kz_irql() > PASSIVE_LEVEL;
+}
+
+bool kz_share_lock(const void *lock)
+{
+    Held *one = find(lock);
+    if (!one || one->is_shared)
+        return false;
+    return one->is_shared = true;
+}
+
+const KzModule kz_held_module = {.free = free_locks, .memory_goes = check_locks};

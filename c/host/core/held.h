@@ -1,0 +1,16 @@
+/* Locks that clients hold, and the IRQL at which they are. */
+#ifndef KZ_CORE_HELD_H
+#define KZ_CORE_HELD_H
+
+#include "host.h"
+
+KIRQL kz_irql(void);
+/* Whether the client's thread can't be suspended by an APC: at APC_LEVEL, in a critical region, or with a lock by a call that enters one. */
+bool kz_are_apcs_disabled(void);
+/* What it holds alone it shares from now on; false if it doesn't. */
+bool kz_share_lock(const void *lock);
+bool kz_is_taken(const void *lock);
+void kz_tell_locks(void);
+extern const struct KzModule kz_held_module;
+
+#endif

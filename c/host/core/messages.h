@@ -1,0 +1,143 @@
+/* What can be told, by numbers that stay: KZ0101 and on are mistakes on Windows too (TOLD), KZ0201 and on are where Kazdrin differs (LIMIT). docs/TOLD.md has a line for each,
+ * with what the kit does. A number that was given is never used for anything else. */
+#ifndef KZ_MESSAGES_H
+#define KZ_MESSAGES_H
+
+typedef enum {
+    /* References and contexts. */
+    KZM_LEAK = 101,
+    KZM_RELEASED_TWICE = 102,
+    KZM_CLEANED_UP = 103,
+    KZM_NO_CONTEXT_THERE = 104,
+    KZM_OTHER_KIND = 105,
+    KZM_OTHER_FILTER = 106,
+    KZM_PAST_CONTEXT = 107,
+    KZM_WRITTEN_CONTEXT = 108,
+    KZM_OWN_CLEANUP = 109,
+    KZM_NOT_REFERENCED = 110,
+    /* Held operations. */
+    KZM_NEVER_COMPLETED = 111,
+    KZM_COMPLETED_TWICE = 112,
+    KZM_COMPLETED_NOT_PENDED = 113,
+    KZM_NO_HELD_VERDICT = 114,
+    KZM_WRITTEN_DATA = 115,
+    KZM_HELD_DRAIN = 116,
+    /* Parameters and answers. */
+    KZM_NOT_DIRTY = 121,
+    KZM_LOST_SWAP = 122,
+    KZM_NO_VERDICT = 123,
+    KZM_NO_POST = 124,
+    KZM_STATUS_NOT_COMPLETED = 125,
+    KZM_PAST_LENGTH = 126,
+    KZM_COMPLETED_PENDING = 127,
+    KZM_NO_TARGET = 128,
+    KZM_FAILED_CLOSE = 129,
+    KZM_WRITE_IN_PLACE = 130,
+    KZM_NOT_OWN_DATA = 131,
+    KZM_PAST_BUFFER = 132,
+    KZM_NO_SWAP_BUFFER = 133,
+    /* Memory. */
+    KZM_POOL_LEAK = 141,
+    KZM_NO_POOL = 142,
+    KZM_WRONG_TAG = 143,
+    KZM_PAST_POOL = 144,
+    KZM_WRITTEN_FREED = 145,
+    KZM_NO_LOOKASIDE = 146,
+    KZM_NOT_TERMINATED = 147,
+    KZM_BROKEN_LIST = 148,
+    KZM_STILL_MADE = 149,
+    KZM_READ_FREED = 150,
+    /* Names, objects, handles. */
+    KZM_NAME_LEAK = 151,
+    KZM_NO_NAME = 152,
+    KZM_OBJECT_LEAK = 153,
+    KZM_OBJECT_RELEASED = 154,
+    KZM_HANDLE_LEAK = 155,
+    KZM_NO_HANDLE = 156,
+    KZM_PORT_LEAK = 157,
+    KZM_WORK_LEFT = 158,
+    KZM_TIMER_LEFT = 159,
+    KZM_NEVER_MADE = 160,
+    /* Locks. */
+    KZM_WAITS_FOR_EVER = 161,
+    KZM_LOCK_NOT_HELD = 162,
+    KZM_LOCK_AT_RETURN = 163,
+    KZM_LOCK_DELETED = 164,
+    KZM_IRQL = 165,
+    KZM_APCS_ENABLED = 166,
+    /* Loading and unloading. */
+    KZM_REGISTERED_OUTSIDE = 171,
+    KZM_NEVER_REGISTERED = 172,
+    KZM_NEVER_STARTED = 173,
+    KZM_FAILED_REGISTERED = 174,
+    KZM_AGREED_REGISTERED = 175,
+    KZM_REFUSED_UNREGISTERED = 176,
+    KZM_UNREGISTERED_OUTSIDE = 177,
+    KZM_BAD_REGISTRATION = 178,
+    KZM_TWO_CONTEXTS = 179,
+    KZM_TWO_OPERATIONS = 180,
+    KZM_NO_END = 181,
+    KZM_NO_FILTER_OBJECT = 182,
+    /* A driver's own input and output, its programs and threads. */
+    KZM_NOT_OPENED = 183,
+    KZM_THREAD_LEFT = 184,
+    KZM_CANCEL_LEFT = 185,
+    KZM_ROUTINE_LEFT = 186,
+    KZM_IRP = 187,
+    KZM_NAME_QUERY = 188,
+    /* The driver's own. */
+    KZM_ASSERT = 191,
+    KZM_BUG_CHECK = 192,
+
+    /* Contexts. */
+    KZM_HAND_IS_FULL = 201,
+    KZM_TOO_MANY_CONTEXTS = 202,
+    KZM_NOT_OWN_OBJECT = 203,
+    KZM_NO_SUCH_CONTEXTS = 204,
+    KZM_KEPT_SET = 205,
+    /* Held operations. */
+    KZM_CHANGED_WHILE_HELD = 212,
+    KZM_UNREGISTER_WAITS = 213,
+    /* Parameters and answers. */
+    KZM_CREATE_COMPLETED = 221,
+    KZM_CLOSE_COMPLETED = 222,
+    KZM_CREATE_ANSWER = 223,
+    KZM_OTHER_PARAMETERS = 224,
+    KZM_LONG_ANSWER = 225,
+    KZM_DIRTY_POST = 226,
+    KZM_REDIRECTED = 227,
+    KZM_STATUS_LOST = 228,
+    /* What is left out by name. */
+    /* 231 was a port that nobody connects to. */
+    KZM_OWN_IO = 232,
+    /* 233 was cancellation. */
+    KZM_TRANSACTION = 234,
+    KZM_OPLOCK = 235,
+    KZM_SECTION = 236,
+    KZM_THREAD = 237,
+    KZM_REPARSE = 238,
+    KZM_CALLBACKS = 239,
+    KZM_SECURITY = 240,
+    KZM_NOBODY_SETS = 241,
+    KZM_EXCEPTION = 242,
+    KZM_NOTIFY = 243,
+    KZM_ATTACH = 244,
+    KZM_DEVICE = 245,
+    KZM_LEFT_OUT = 246,
+    KZM_UNKNOWN_WAIT = 247,
+    /* A driver's own input and output, its programs and threads. */
+    KZM_MARKED_CLEANUP = 250,
+    /* What isn't modelled. */
+    KZM_NOT_MODELLED = 251,
+    KZM_FILE_LOCK = 252,
+    KZM_CACHE = 253,
+    KZM_ECP = 254,
+    KZM_CRYPTO = 255,
+    /* Names. */
+    KZM_MARK_STAYS = 256,
+    KZM_MESSAGES = 300
+} KzMessage;
+
+#define KZ_IS_LIMIT(message) ((message) >= 200)
+
+#endif

@@ -1,0 +1,105 @@
+/* The modules above the core, one after the other, and who looks on. */
+#include "core/module.h"
+
+#include "core/operation.h"
+
+#define EACH(one) (const KzModule *const *one = kz.modules; one && *one; one++)
+
+void kz_free_modules(void)
+{
+    for EACH (one)
+        if ((*one)->free)
+            (*one)->free();
+}
+
+void kz_filter_begins(PFLT_FILTER filter)
+{
+    for EACH (one)
+        if ((*one)->filter_begins)
+            (*one)->filter_begins(filter);
+}
+
+void kz_filter_unregisters(PFLT_FILTER filter)
+{
+    for EACH (one)
+        if ((*one)->filter_unregisters)
+            (*one)->filter_unregisters(filter);
+}
+
+void kz_filter_ends(PFLT_FILTER filter)
+{
+    for EACH (one)
+        if ((*one)->filter_ends)
+            (*one)->filter_ends(filter);
+}
+
+bool kz_has_any_of(PFLT_FILTER filter)
+{
+    for EACH (one)
+        if ((*one)->has_any_of && (*one)->has_any_of(filter))
+            return true;
+    return false;
+}
+
+void kz_memory_goes(const void *memory, size_t size)
+{
+    size_t count = 0;
+    for EACH (one)
+        count++;
+    while (count-- > 0)
+        if (kz.modules[count]->memory_goes)
+            kz.modules[count]->memory_goes(memory, size);
+}
+
+void kz_operation_ends(KzOp *op)
+{
+    for EACH (one)
+        if ((*one)->operation_ends)
+            (*one)->operation_ends(op);
+}
+
+bool kz_goes_on(void)
+{
+    for EACH (one)
+        if ((*one)->goes_on && (*one)->goes_on())
+            return true;
+    return false;
+}
+
+bool kz_passes(LONGLONG until)
+{
+    for EACH (one)
+        if ((*one)->passes && (*one)->passes(until))
+            return true;
+    return false;
+}
+
+void kz_tell_left(void)
+{
+    for EACH (one)
+        if ((*one)->left)
+            (*one)->left();
+}
+
+/* ---- Who looks on. */
+void kz_entered(KzCallback callback, PFLT_FILTER filter)
+{
+    if (kz.observer)
+        kz.observer->entered(callback, filter);
+}
+
+bool kz_observe(const KzSaid *said, bool is_counted)
+{
+    return !kz.observer || kz.observer->told(said, is_counted);
+}
+
+void kz_replied(KzReply reply, NTSTATUS other, const uint8_t *bytes, size_t length)
+{
+    if (kz.observer)
+        kz.observer->replied(reply, other, bytes, length);
+}
+
+bool kz_fails_now(KzChoice what)
+{
+    return kz.observer && kz.observer->fails(what);
+}

@@ -1,0 +1,46 @@
+/* What the core asks of those above it, without knowing them: their tables are handed down as a run begins. */
+#ifndef KZ_CORE_MODULE_H
+#define KZ_CORE_MODULE_H
+
+#include "host.h"
+
+/* One module: what it has none of is NULL. */
+typedef struct KzModule {
+    void (*free)(void);                             /* a run is over */
+    void (*filter_begins)(PFLT_FILTER filter);      /* its DriverEntry has returned */
+    void (*filter_unregisters)(PFLT_FILTER filter);
+    void (*filter_ends)(PFLT_FILTER filter);        /* what it left behind is told */
+    bool (*has_any_of)(PFLT_FILTER filter);         /* that could run code of its driver */
+    void (*memory_goes)(const void *memory, size_t size); /* it is given back: nothing that is in use may lie in it */
+    void (*operation_ends)(KzOp *op);
+    bool (*goes_on)(void);                          /* what runs beside the requests; false if nothing could */
+    bool (*passes)(LONGLONG until);                 /* the next that is due up to then comes; false if nothing is */
+    void (*left)(void);                             /* what is left at the end of a run is told */
+} KzModule;
+
+/* Who looks on at a run: expectations, reports, and clients of a program that has its own. */
+typedef struct KzObserver {
+    void (*entered)(KzCallback callback, PFLT_FILTER filter);
+    /* Whether its text is to be said. Without a text it was told of the same place before. */
+    bool (*told)(const KzSaid *said, bool is_counted);
+    void (*replied)(KzReply reply, NTSTATUS other, const uint8_t *bytes, size_t length);
+    bool (*fails)(KzChoice what);
+} KzObserver;
+
+void kz_free_modules(void);
+void kz_filter_begins(PFLT_FILTER filter);
+void kz_filter_unregisters(PFLT_FILTER filter);
+void kz_filter_ends(PFLT_FILTER filter);
+bool kz_has_any_of(PFLT_FILTER filter);
+/* The last module first: what stands on another one looks before it. */
+void kz_memory_goes(const void *memory, size_t size);
+void kz_operation_ends(KzOp *op);
+bool kz_goes_on(void);
+bool kz_passes(LONGLONG until);
+void kz_tell_left(void);
+void kz_entered(KzCallback callback, PFLT_FILTER filter);
+bool kz_observe(const KzSaid *said, bool is_counted);
+void kz_replied(KzReply reply, NTSTATUS other, const uint8_t *bytes, size_t length);
+bool kz_fails_now(KzChoice what);
+
+#endif

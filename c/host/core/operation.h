@@ -1,0 +1,186 @@
+/* Operations, as the layers share them: what one has, and how it is asked for. */
+#ifndef KZ_CORE_OPERATION_H
+#define KZ_CORE_OPERATION_H
+
+#include "host.h"
+
+/* An instance on the way down, and the parameters that it received. */
+typedef struct KzStep {
+    struct KzStep *above;
+    PFLT_INSTANCE instance;
+    FLT_PARAMETERS received;
+} KzStep;
+
+struct KzCarried {
+    UCHAR major, minor, operation_flags;
+    ULONG irp_flags, data_flags;
+    bool has_no_file;
+    FLT_PARAMETERS now; /* those in force: buffers are pointers, and none is copied */
+    KzStep *steps;
+    uint8_t *output; /* the requestor's own buffer for the answer, and its size; and how many bytes it sent */
+    size_t output_size, input_size;
+    uint64_t information;
+};
+
+/* What is asked for. */
+struct KzAsked {
+    UCHAR major, minor, flags;
+    ULONG irp_flags, data_flags; /* beside the usual ones; or in place of FLTFL_CALLBACK_DATA_IRP_OPERATION */
+    ULONG code;                  /* the class, the control code, the filter of a notice, the protection of a section */
+    const void *input;
+    size_t input_size, room;
+    uint64_t from, length; /* of a lock */
+    const char *pattern;
+    bool has_no_file, waits; /* it may wait in the file system */
+};
+
+/* Memory that lives as long as its operation. */
+typedef struct KzBlock {
+    struct KzBlock *next;
+    void *bytes;
+} KzBlock;
+
+/* An instance that an operation with an answer's buffer passed on its way down: the buffer that it received, and the one that it put in its place, if it did. */
+typedef struct KzVisit {
+    struct KzVisit *above;
+    PFLT_INSTANCE instance;
+    PVOID received, swapped;
+    PMDL received_mdl;
+    ULONG room, swapped_room;
+} KzVisit;
+
+/* The description of a swapped buffer: as in the kit, the manager frees it. */
+typedef struct KzMdl {
+    struct KzMdl *next;
+    PMDL mdl;
+} KzMdl;
+
+/* A reference that goes along to a postoperation beside a completion that isn't its context: who sent it. */
+typedef struct KzSent {
+    struct KzSent *next;
+    PVOID body;
+    KzPlace place;
+} KzSent;
+
+/* Where an operation is, as its filters see it. */
+typedef enum {
+    KZ_GOES_ON,
+    KZ_IN_PREOPERATION,
+    KZ_COMPLETED_IN_PRE, /* by the preoperation that is to pend it, or meanwhile: that waits for its return */
+    KZ_IN_POSTOPERATION,
+    KZ_COMPLETED_IN_POST,
+    KZ_HELD_BY_PRE,
+    KZ_HELD_BY_POST,
+    KZ_RESUMED, /* its runner, or whoever comes to it, is to carry it on */
+    KZ_OVER
+} KzStage;
+
+/* What the callback that runs was shown, and what the bytes were before it. */
+typedef struct {
+    FLT_IO_PARAMETER_BLOCK parameters;
+    IO_STATUS_BLOCK status;
+    uint8_t *asked, *pristine, *answered;
+    size_t asked_length, answered_length;
+} KzShown;
+
+/* What a completion left that the manager hasn't yet: a number, bytes where there are some, and a status where that was changed behind the manager's back. */
+typedef struct {
+    bool is_there, has_status;
+    uint8_t status;
+    uint64_t number;
+    const uint8_t *bytes;
+    size_t length;
+} KzServed;
+
+/* An instance whose teardown waits for an operation, and whether its preoperation has the postoperation in its own thread. */
+typedef struct {
+    PFLT_INSTANCE instance;
+    bool is_synchronized;
+} KzOwed;
+
+/* What a postoperation put off to where the IRQL is low enough; no callback if it didn't. */
+typedef struct {
+    PFLT_POST_OPERATION_CALLBACK callback;
+    PVOID completion;
+    FLT_POST_OPERATION_FLAGS flags;
+} KzSafe;
+
+/* Of an operation that a driver began itself: who hears of it, and what comes of one that nobody waits for. */
+typedef struct {
+    bool is_own, is_unheard, is_waited_for;
+    bool is_user;     /* a program began it */
+    bool is_reissued; /* a filter sent it down again */
+    PFLT_INSTANCE initiator; /* those at its altitude and above don't hear; NULL: all hear */
+    ULONG irp_flags;
+    PECP_LIST ecps; /* of a create; the filter's own */
+    const KzAsked *carried; /* what the kit has in place of the manager's operation, as it begins */
+    bool is_directory;      /* a create opens one */
+    uint8_t worker;
+    bool has_worker; /* a client's, which has one of its own all the same */
+    PFLT_CALLBACK_DATA data; /* that the filter has of it, if it made one */
+    void (*done)(void *given, NTSTATUS status, uint64_t information, const uint8_t *bytes, size_t length);
+    void *given;
+} KzOwn;
+
+/* Whether it is to be cancelled, and who is told: the queue that it is in, or a routine. */
+typedef struct {
+    bool is_asked;
+    PFLT_CALLBACK_DATA_QUEUE queue;
+    PFLT_CALLBACK_DATA_QUEUE_IO_CONTEXT context; /* that its filter keeps */
+    VOID (*routine)(PFLT_CALLBACK_DATA data);
+} KzCancel;
+
+struct KzOp {
+    KzOp *next;
+    uint64_t id;
+    uint8_t event;
+    KzFile *file;
+    PFLT_VOLUME volume;
+    PETHREAD thread;
+    IO_SECURITY_CONTEXT security;
+    ACCESS_STATE access;
+    PFLT_IO_PARAMETER_BLOCK iopb;
+    FLT_CALLBACK_DATA *data;
+    KazdrinData lent;
+    KzShown shown;
+    NTSTATUS other; /* the kit's status that the manager counts as another */
+    KzServed served;
+    KzBlock *blocks;
+    KzVisit *visits;
+    KzMdl *mdls;
+    KzSent *sent;
+    PVOID caller; /* the buffer of the caller */
+    ULONG caller_room;
+    KzStage stage;
+    PFLT_INSTANCE holder;
+    const void *holder_function; /* whose return holds it */
+    KzOwed owed[KZ_OWED]; /* as far as there is room */
+    unsigned owed_count;
+    bool comes_from_device; /* its answer does, and nothing that waits was in between: it may come up at DISPATCH_LEVEL */
+    KzSafe safe;
+    unsigned maker;
+    KzClient *runner; /* who carries it on, also while it is held */
+    KzOwn own;
+    KzCarried *carried; /* NULL: it is one of the manager's own */
+    bool is_waiting;    /* the file system keeps it; it has a worker of its own */
+    PECP_LIST ecps; /* that a filter put into a create */
+    KzCancel cancel;
+    bool is_cancelled; /* a create that a filter cancelled in its postoperation */
+    unsigned users;   /* callbacks that look at it beside its runner */
+    const char *request, *path; /* as in KzPlace */
+    unsigned line;
+    /* With what it was completed in its preoperation. */
+    FLT_PREOP_CALLBACK_STATUS early;
+    PVOID early_context;
+    KzOp *next_resumed;
+};
+
+/* What an operation was answered: a number that stands for the kit's own status, which is `other`, and bytes, which lie in the client's room. */
+typedef struct {
+    KzReply reply;
+    NTSTATUS other;
+    size_t length;
+    bool is_refused; /* it never began */
+} KzAnswer;
+
+#endif

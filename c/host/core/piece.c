@@ -1,0 +1,485 @@
+/* Memory that drivers see: each piece lies between two red zones, and is filled before its first use and after its last one. What is written where it mustn't be is told.
+ * What a driver allocates has pages of its own, as far as there are some: those are shut once it is given back, so that an access is told as it happens.
+ * Under the address sanitizer the zones are its own, and it tells. */
+#define _GNU_SOURCE
+#include "core/piece.h"
+
+#include "core/client.h"
+#include "core/module.h"
+#include "core/operation.h"
+#include "core/place.h"
+#include "core/source.h"
+#include "core/state.h"
+#include "core/told.h"
+
+#include <stdlib.h>
+#include <sys/mman.h>
+
+/* There under the address sanitizer alone. */
+extern void __asan_poison_memory_region(const volatile void *start, size_t size) __attribute__((weak));
+extern void __asan_unpoison_memory_region(const volatile void *start, size_t size) __attribute__((weak));
+
+/* What may hold a structure that the processor's caches are counted by lies at their boundary, as in the kit. */
+enum { LINE = 64 };
+enum { ZONE = 32, ZONE_BYTE = 0xfd, GONE_BYTE = 0xdd };
+/* How much of what was given back is kept, to see whether it is written. */
+enum { KEPT = 64, KEPT_BYTES = 32768 };
+
+/* Pieces of up to so many bytes have pages of their own, and up to so many pieces at once: the system has no more than 65,530 ranges of pages. */
+enum { PAGE = 4096, GUARDED_BYTES = 64 * 1024, GUARDED = 8192 };
+static size_t guarded_count;
+
+/* Up to so many pieces each one is looked at as a callback returns. Where there are more, the last few that the client took are, and all of them now and then. */
+enum { FEW = 256, LAST = 64, NOW_AND_THEN = 256 };
+
+/* All pieces by their address. */
+enum { PLACES = 1 << 14 };
+static KzPiece *places[PLACES];
+static size_t pieces_count;
+static unsigned returns; /* since all were looked at */
+
+/* Of each client the pieces that it took, the newest first, and those that it gave back: so their order is its own alone. Whoever has the manager has these too. */
+enum { LISTS = KZ_FIRST_THREAD + KZ_THREADS };
+static KzPiece *pieces[LISTS];
+static struct {
+    KzPiece *pieces[KEPT];
+    size_t next;
+} gone[LISTS];
+
+static unsigned my_list(void)
+{
+    return kz_me->number % LISTS;
+}
+
+static KzPiece *first_from(unsigned list)
+{
+    while (list < LISTS && !pieces[list])
+        list++;
+    return list < LISTS ? pieces[list] : NULL;
+}
+
+static KzPiece *piece_behind(const KzPiece *piece)
+{
+    return piece->next ? piece->next : first_from(piece->list + 1);
+}
+
+static uint8_t *body_of(const KzPiece *piece)
+{
+    return piece->body;
+}
+
+static KzPiece **place_of(const void *body)
+{
+    return &places[((uintptr_t)body * 0x9e3779b97f4a7c15ULL) >> 50];
+}
+
+static void enter_table(KzPiece *piece)
+{
+    KzPiece **place = place_of(body_of(piece));
+    piece->same = *place;
+    *place = piece;
+    pieces_count++;
+}
+
+static void leave_table(KzPiece *piece)
+{
+    KzPiece **at = place_of(body_of(piece));
+    while (*at != piece)
+        at = &(*at)->same;
+    *at = piece->same;
+    pieces_count--;
+}
+
+static void shut(const KzPiece *piece)
+{
+    if (__asan_poison_memory_region) {
+        __asan_poison_memory_region(body_of(piece) - ZONE, ZONE);
+        __asan_poison_memory_region(body_of(piece) + piece->size, ZONE);
+    }
+}
+
+static void open_all(const KzPiece *piece)
+{
+    if (__asan_unpoison_memory_region)
+        __asan_unpoison_memory_region(body_of(piece) - ZONE, ZONE + piece->size + ZONE);
+}
+
+static bool is_guarded(KzMemory kind, size_t size)
+{
+    return kz_scheduler->has_pages && !__asan_poison_memory_region && (kind == KZK_POOL || kind == KZK_CONTEXT || kind == KZK_NAME) && size <= GUARDED_BYTES &&
+           guarded_count < GUARDED;
+}
+
+static uint8_t *at_boundary(uint8_t *start, size_t size)
+{
+    uintptr_t boundary = size < LINE ? 16 : LINE;
+    return (uint8_t *)(((uintptr_t)start + ZONE + boundary - 1) & ~(boundary - 1));
+}
+
+/* A piece with its zones; NULL if there is no memory. */
+static KzPiece *allocate(KzMemory kind, size_t size)
+{
+    size_t whole = ZONE + LINE + size + ZONE + sizeof(WCHAR);
+    if (!is_guarded(kind, size)) {
+        KzPiece *piece = malloc(sizeof *piece + whole);
+        if (piece)
+            *piece = (KzPiece){.start = piece, .body = at_boundary((uint8_t *)(piece + 1), size)};
+        return piece;
+    }
+    KzPiece *piece = malloc(sizeof *piece);
+    size_t pages = (whole + PAGE - 1) & ~(size_t)(PAGE - 1);
+    void *start = piece ? mmap(NULL, pages, PROT_READ | PROT_WRITE, MAP_PRIVATE | MAP_ANONYMOUS, -1, 0) : MAP_FAILED;
+    if (start == MAP_FAILED) {
+        free(piece);
+        return NULL;
+    }
+    *piece = (KzPiece){.pages = start, .pages_size = pages, .body = at_boundary(start, size)};
+    guarded_count++;
+    return piece;
+}
+
+static void let_go(KzPiece *piece)
+{
+    if (!piece)
+        return;
+    if (piece->pages) {
+        munmap(piece->pages, piece->pages_size);
+        guarded_count--;
+    }
+    free(piece);
+}
+
+void *kz_take_memory(KzMemory kind, size_t size, int fill, ULONG tag)
+{
+    KzPiece *piece = size <= KZ_LARGEST ? allocate(kind, size) : NULL;
+    if (!piece)
+        return NULL;
+    KzPiece **first = &pieces[my_list()];
+    piece->next = *first;
+    piece->size = size;
+    piece->kind = kind;
+    piece->place = kz_me->place;
+    piece->filter = kz_me->place.filter;
+    piece->tag = tag;
+    piece->list = my_list();
+    if (*first)
+        (*first)->before = piece;
+    *first = piece;
+    enter_table(piece);
+    memset(body_of(piece) - ZONE, ZONE_BYTE, ZONE);
+    memset(body_of(piece), fill, size);
+    memset(body_of(piece) + size, ZONE_BYTE, ZONE);
+    memset(body_of(piece) + size + ZONE, 0, sizeof(WCHAR)); /* who reads a text past its end comes to one here */
+    shut(piece);
+    return body_of(piece);
+}
+
+KzPiece *kz_piece_of(const void *memory)
+{
+    KzPiece *piece = *place_of(memory);
+    while (piece && body_of(piece) != memory)
+        piece = piece->same;
+    return piece;
+}
+
+static bool is_filled(const uint8_t *bytes, size_t size, uint8_t byte)
+{
+    uint64_t wide = byte * 0x0101010101010101ULL, part;
+    for (; size >= sizeof part; bytes += sizeof part, size -= sizeof part) {
+        memcpy(&part, bytes, sizeof part);
+        if (part != wide)
+            return false;
+    }
+    return size == 0 || (bytes[0] == byte && memcmp(bytes, bytes + 1, size - 1) == 0);
+}
+
+static bool is_zone(const uint8_t *bytes)
+{
+    static const uint8_t zone[ZONE] = {[0 ... ZONE - 1] = ZONE_BYTE};
+    return memcmp(bytes, zone, ZONE) == 0;
+}
+
+const char *kz_tag(ULONG tag, char *room)
+{
+    for (int at = 0; at < 4; at++) {
+        char letter = (char)(tag >> 8 * at & 127);
+        room[at] = letter < ' ' || letter == 127 ? '.' : letter;
+    }
+    room[4] = 0;
+    return room;
+}
+
+void kz_check_piece(KzPiece *piece)
+{
+    if (__asan_poison_memory_region || piece->is_told)
+        return;
+    bool is_before = !is_zone(body_of(piece) - ZONE), is_behind = !is_zone(body_of(piece) + piece->size);
+    if (!is_before && !is_behind)
+        return;
+    piece->is_told = true;
+    const char *where = is_behind ? "past" : "before";
+    char tag[8], taken[40] = "";
+    unsigned long long size = piece->size;
+    if (piece->place.from)
+        snprintf(taken, sizeof taken, ", taken at @%lx,", (unsigned long)kz_in_file(piece->place.from));
+    if (piece->kind == KZK_POOL)
+        kz_tell(KZM_PAST_POOL, "ExAllocatePoolWithTag", "memory %s the %llu bytes of a pool with the tag '%s'%s was written", where, size, kz_tag(piece->tag, tag), taken);
+    else if (piece->kind == KZK_CONTEXT)
+        kz_tell(KZM_PAST_CONTEXT, "FltAllocateContext", "memory %s the %llu bytes of a context%s was written", where, size, taken);
+    else if (piece->kind == KZK_NAME)
+        kz_tell(KZM_PAST_BUFFER, "UNICODE_STRING", "memory %s the %llu bytes of a name was written", where, size);
+    else
+        kz_tell(KZM_PAST_BUFFER, "FLT_CALLBACK_DATA", "memory %s a buffer of %llu bytes was written", where, size);
+}
+
+static void look_at_last(PFLT_FILTER filter);
+
+/* Looks at all memory of a filter. */
+void kz_check_all_memory(PFLT_FILTER filter)
+{
+    for (KzPiece *piece = first_from(0); piece; piece = piece_behind(piece))
+        if (piece->filter == filter)
+            kz_check_piece(piece);
+}
+
+/* And as its callback returns. */
+void kz_check_memory(PFLT_FILTER filter)
+{
+    if (pieces_count <= FEW || ++returns % NOW_AND_THEN == 0) {
+        kz_check_all_memory(filter);
+    } else {
+        KzPiece *piece = pieces[my_list()];
+        for (unsigned at = 0; piece && at < LAST; at++, piece = piece->next)
+            if (piece->filter == filter)
+                kz_check_piece(piece);
+    }
+    look_at_last(filter);
+}
+
+static bool was_freed(const void *memory)
+{
+    for (size_t at = 0; at < (size_t)LISTS * KEPT; at++) {
+        const KzPiece *piece = gone[at / KEPT].pieces[at % KEPT];
+        if (piece && body_of(piece) == memory)
+            return true;
+    }
+    return false;
+}
+
+size_t kz_there(const void *memory, size_t size, const char *what)
+{
+    const KzPiece *piece = kz_piece_of(memory);
+    if (!piece && was_freed(memory)) {
+        kz_tell(KZM_NO_SWAP_BUFFER, what, "the %llu bytes that the driver put there were freed before they were used", (unsigned long long)size);
+        return 0;
+    }
+    if (!piece || size <= piece->size)
+        return size;
+    kz_tell(KZM_NO_SWAP_BUFFER, what, "the driver put %llu bytes there, and says that there are %llu", (unsigned long long)piece->size, (unsigned long long)size);
+    return piece->size;
+}
+
+void kz_check_text_from(const void *text, const char *call, const void *from)
+{
+    KZ_INSIDE_FROM(call, from);
+    KzPiece *piece = kz_piece_of(text);
+    const WCHAR *letters = text;
+    size_t count = piece ? piece->size / sizeof(WCHAR) : 1;
+    for (size_t at = 0; piece && at < count; at++)
+        if (!letters[at])
+            return;
+    if (!piece || piece->kind != KZK_NAME || piece->is_read_told)
+        return;
+    piece->is_read_told = true;
+    kz_tell(KZM_NOT_TERMINATED, call, "a name of %llu bytes, which no null ends: it is read past its end", (unsigned long long)piece->size);
+}
+
+/* And at the buffers of its operation, and the name of its file. */
+void kz_check_blocks(const KzOp *op)
+{
+    KzPiece *name = kz_piece_of(op->file->object.FileName.Buffer);
+    if (name)
+        kz_check_piece(name);
+    for (const KzBlock *block = op->blocks; block; block = block->next)
+        kz_check_piece(kz_piece_of(block->bytes));
+}
+
+/* Whether memory that was given back was written since: then that is told, once. */
+static void look_at(KzPiece *piece)
+{
+    char tag[8], where[32] = "";
+    if (piece->is_shut || piece->is_touched || is_filled(body_of(piece), piece->size, GONE_BYTE))
+        return;
+    if (piece->place.from)
+        snprintf(where, sizeof where, " at @%lx", (unsigned long)kz_in_file(piece->place.from));
+    if (piece->kind == KZK_POOL)
+        kz_tell(KZM_WRITTEN_FREED, "ExFreePoolWithTag", "%llu bytes of a pool were written after they were freed%s, tag '%s'", (unsigned long long)piece->size, where,
+                kz_tag(piece->tag, tag));
+    else if (piece->kind == KZK_DATA)
+        kz_tell(KZM_WRITTEN_DATA, "FltCompletePendedPreOperation", "callback data was written after the operation was completed");
+    else
+        kz_tell(KZM_WRITTEN_CONTEXT, "FltReleaseContext", "%llu bytes were written after they were cleaned up%s", (unsigned long long)piece->size, where);
+    memset(body_of(piece), GONE_BYTE, piece->size);
+}
+
+/* The last few that a filter gave back in this client, as its callback returns. */
+static void look_at_last(PFLT_FILTER filter)
+{
+    for (size_t at = 1; at <= 8; at++) {
+        KzPiece *piece = gone[my_list()].pieces[(gone[my_list()].next + KEPT - at) % KEPT];
+        if (piece && piece->filter == filter && piece->size <= 256)
+            look_at(piece);
+    }
+}
+
+static void forget(KzPiece **place)
+{
+    KzPiece *piece = *place;
+    *place = NULL;
+    if (!piece)
+        return;
+    KzPlace before = kz_enter(KZ_IN_NOTHING, kz_worker(), piece->filter, NULL, NULL, NULL);
+    look_at(piece);
+    kz_me->place = before;
+    let_go(piece);
+}
+
+void kz_give_back(void *memory)
+{
+    KzPiece *piece = memory ? kz_piece_of(memory) : NULL;
+    if (!piece)
+        return;
+    kz_check_piece(piece);
+    kz_memory_goes(memory, piece->size);
+    kz_scheduler->touch(body_of(piece), piece->size, KZT_HAS_TAKEN_BACK);
+    *(piece->before ? &piece->before->next : &pieces[piece->list]) = piece->next;
+    if (piece->next)
+        piece->next->before = piece->before;
+    leave_table(piece);
+    open_all(piece);
+    if (__asan_poison_memory_region || (!piece->pages && piece->size > KEPT_BYTES)) {
+        let_go(piece);
+        return;
+    }
+    memset(body_of(piece), GONE_BYTE, piece->size);
+    piece->place = kz_me->place; /* where it was given back */
+    piece->is_shut = piece->pages && mprotect(piece->pages, piece->pages_size, PROT_NONE) == 0;
+    size_t *next = &gone[my_list()].next;
+    forget(&gone[my_list()].pieces[*next]);
+    gone[my_list()].pieces[*next] = piece;
+    *next = (*next + 1) % KEPT;
+}
+
+/* ---- What is touched behind that. */
+static KzPiece *shut_piece_at(const void *address)
+{
+    for (size_t at = 0; at < (size_t)LISTS * KEPT; at++) {
+        KzPiece *piece = gone[at / KEPT].pieces[at % KEPT];
+        if (piece && piece->is_shut && (uintptr_t)address - (uintptr_t)piece->pages < piece->pages_size)
+            return piece;
+    }
+    return NULL;
+}
+
+static const char *giving_back(const KzPiece *piece)
+{
+    return piece->kind == KZK_POOL ? "ExFreePoolWithTag" : piece->kind == KZK_CONTEXT ? "FltReleaseContext" : "FltReleaseFileNameInformation";
+}
+
+static void tell_touch(const KzPiece *piece, bool is_written)
+{
+    static const char *const kinds[] = {[KZK_POOL] = "a pool", [KZK_CONTEXT] = "a context", [KZK_NAME] = "a name"};
+    char where[32] = "";
+    if (piece->place.from)
+        snprintf(where, sizeof where, " at @%lx", (unsigned long)kz_in_file(piece->place.from));
+    KzMessage written = piece->kind == KZK_CONTEXT ? KZM_WRITTEN_CONTEXT : KZM_WRITTEN_FREED;
+    kz_tell(is_written ? written : KZM_READ_FREED, giving_back(piece), "%llu bytes of %s are %s after they were given back%s", (unsigned long long)piece->size, kinds[piece->kind],
+            is_written ? "written" : "read", where);
+}
+
+/* The driver's own code stands there, or code that it called. Reads see the bytes with which it was filled. */
+bool kz_touched(const void *address, const void *code, bool is_written)
+{
+    char line[100];
+    KZ_INSIDE_UNSAID();
+    KzPiece *piece = shut_piece_at(address);
+    if (!piece)
+        return false;
+    mprotect(piece->pages, piece->pages_size, PROT_READ | PROT_WRITE);
+    piece->is_shut = false;
+    piece->is_touched = true;
+    KzPlace before = kz_me->place;
+    if (kz_find_source(kz_in_file(code) + 1, line, sizeof line)) {
+        kz_me->place.call = giving_back(piece);
+        kz_me->place.from = (const uint8_t *)code + 1;
+    }
+    tell_touch(piece, is_written);
+    kz_me->place = before;
+    return true;
+}
+
+static void forget_list(unsigned list)
+{
+    for (size_t at = 0; at < KEPT; at++)
+        forget(&gone[list].pieces[(gone[list].next + at) % KEPT]);
+}
+
+/* At the end: what was written after its last use is told. */
+void kz_tell_gone(void)
+{
+    for (unsigned list = 0; list < LISTS; list++)
+        if (gone[list].pieces[0])
+            forget_list(list);
+}
+
+/* What of the kit lies in a pool, by the tag that the host gives it: the call that frees it; NULL for a driver's own memory. */
+static const char *freeing_of(ULONG tag)
+{
+    switch (tag) {
+    case 'ldM ':
+        return "IoFreeMdl";
+    case 'wgMF':
+        return "FltFreeGenericWorkItem";
+    case 'wdMF':
+        return "FltFreeDeferredIoWorkItem";
+    case 'dcMF':
+        return "FltFreeCallbackData";
+    case 'wiO ':
+        return "IoFreeWorkItem";
+    default:
+        return NULL;
+    }
+}
+
+/* Memory of a pool that a filter took and never freed, each with the callback that took it. */
+void kz_tell_pools(PFLT_FILTER filter)
+{
+    char tag[8];
+    for (KzPiece *piece = first_from(0); piece; piece = piece_behind(piece)) {
+        if (piece->kind != KZK_POOL || piece->filter != filter)
+            continue;
+        KzPlace before = kz_enter_again(&piece->place);
+        if (freeing_of(piece->tag))
+            kz_tell_of(body_of(piece), KZM_POOL_LEAK, freeing_of(piece->tag), "never called for what was allocated here");
+        else
+            kz_tell_of(body_of(piece), KZM_POOL_LEAK, "ExFreePoolWithTag", "never called for %llu bytes of a pool, tag '%s'", (unsigned long long)piece->size, kz_tag(piece->tag, tag));
+        kz_me->place = before;
+    }
+}
+
+static void free_memory(void)
+{
+    for (KzPiece *piece = first_from(0), *behind; piece; piece = behind) {
+        behind = piece_behind(piece);
+        open_all(piece);
+        let_go(piece);
+    }
+    memset(pieces, 0, sizeof pieces);
+    memset(places, 0, sizeof places);
+    pieces_count = 0;
+    returns = 0;
+    for (size_t at = 0; at < (size_t)LISTS * KEPT; at++)
+        let_go(gone[at / KEPT].pieces[at % KEPT]);
+    memset(gone, 0, sizeof gone);
+}
+const KzModule kz_piece_module = {.free = free_memory};

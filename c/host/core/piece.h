@@ -1,0 +1,47 @@
+/* Memory that drivers see: each piece lies between two red zones, and is filled before its first use and after its last one. */
+#ifndef KZ_CORE_PIECE_H
+#define KZ_CORE_PIECE_H
+
+#include "host.h"
+
+typedef enum { KZK_POOL, KZK_CONTEXT, KZK_NAME, KZK_BUFFER, KZK_DATA } KzMemory;
+
+typedef struct KzPiece {
+    struct KzPiece *next, *before;
+    struct KzPiece *same; /* the next one at the same place of the table by address */
+    uint8_t *body;        /* as its user sees it */
+    void *start;          /* what was allocated, if it has no pages of its own */
+    uint8_t *pages;       /* else these */
+    size_t size, pages_size;
+    bool is_shut; /* its pages can't be touched: it was given back */
+    PFLT_FILTER filter;
+    KzPlace place; /* where it was taken */
+    ULONG tag;
+    bool is_paged;
+    const void *lookaside; /* the list that it is of; NULL if it is of none */
+    KzMemory kind;
+    unsigned list;
+    bool is_told, is_read_told;
+    bool is_touched; /* behind its end, and that was told */
+} __attribute__((aligned(16))) KzPiece;
+
+#define kz_check_text(text, call) kz_check_text_from(text, call, KZ_CALLER())
+void *kz_take_memory(KzMemory kind, size_t size, int fill, ULONG tag);
+void kz_give_back(void *memory);
+KzPiece *kz_piece_of(const void *memory);
+/* How many of so many bytes of a driver's memory there are, and 0 where it was freed: that is told. What isn't known is taken as it is. */
+size_t kz_there(const void *memory, size_t size, const char *what);
+/* A text that begins there is read up to its null: that there is none is told. */
+void kz_check_text_from(const void *text, const char *call, const void *from);
+const char *kz_tag(ULONG tag, char *room);
+void kz_check_piece(KzPiece *piece);
+void kz_check_memory(PFLT_FILTER filter);
+void kz_check_all_memory(PFLT_FILTER filter);
+void kz_check_blocks(const KzOp *op);
+void kz_tell_pools(PFLT_FILTER filter);
+void kz_tell_gone(void);
+/* Somebody touched what can't be: whether it is memory that was given back. That is told, and may be touched from then on. */
+bool kz_touched(const void *address, const void *code, bool is_written);
+extern const struct KzModule kz_piece_module;
+
+#endif

@@ -1,0 +1,166 @@
+/* Processes and threads, by the numbers that a test gives. */
+#include "core/process.h"
+
+#include "core/client.h"
+#include "core/memory.h"
+#include "core/module.h"
+
+#include <stdlib.h>
+
+struct _ETHREAD {
+    DISPATCHER_HEADER header; /* it can be waited for: until its end */
+    PETHREAD next;
+    PEPROCESS process;
+    uint64_t id;
+};
+
+static PEPROCESS processes;
+static PETHREAD threads;
+static POBJECT_TYPE types[5];
+POBJECT_TYPE *IoFileObjectType = &types[0], *PsProcessType = &types[1], *PsThreadType = &types[2], *ExEventObjectType = &types[3],
+             *SeTokenObjectType = &types[4];
+static struct _EPROCESS system_process = {.id = 4};
+PEPROCESS PsInitialSystemProcess = &system_process;
+
+PEPROCESS kz_process(uint64_t id)
+{
+    if (id == system_process.id)
+        return &system_process;
+    for (PEPROCESS one = processes; one; one = one->next)
+        if (one->id == id)
+            return one;
+    PEPROCESS made = kz_memory(sizeof *made);
+    *made = (struct _EPROCESS){.next = processes, .id = id};
+    return processes = made;
+}
+
+PETHREAD kz_thread_object(uint64_t process, uint64_t id)
+{
+    PEPROCESS owner = kz_process(process);
+    for (PETHREAD one = threads; one; one = one->next)
+        if (one->id == id && one->process == owner)
+            return one;
+    PETHREAD made = kz_memory(sizeof *made), *place = &threads;
+    while (*place && (*place)->id < id)
+        place = &(*place)->next;
+    *made = (struct _ETHREAD){.header.Type = KZ_THREAD_OBJECT, .next = *place, .process = owner, .id = id};
+    return *place = made;
+}
+
+void kz_end_thread_object(PETHREAD thread)
+{
+    thread->header.SignalState = 1;
+    kz_scheduler->touch(&thread->header, 0, KZT_GIVES);
+}
+
+PETHREAD KzCurrentThread(VOID)
+{
+    KZ_INSIDE();
+    return kz_thread_object(kz_me->process, kz_me->thread);
+}
+
+PEPROCESS PsGetCurrentProcess(VOID)
+{
+    KZ_INSIDE();
+    return kz_process(kz_me->process);
+}
+
+HANDLE PsGetCurrentProcessId(VOID)
+{
+    KZ_INSIDE();
+    return ULongToHandle(kz_me->process);
+}
+
+HANDLE PsGetCurrentThreadId(VOID)
+{
+    KZ_INSIDE();
+    return ULongToHandle(kz_me->thread);
+}
+
+HANDLE PsGetProcessId(PEPROCESS Process)
+{
+    KZ_INSIDE();
+    return ULongToHandle(Process->id);
+}
+
+HANDLE PsGetThreadId(PETHREAD Thread)
+{
+    KZ_INSIDE();
+    return ULongToHandle(Thread->id);
+}
+
+HANDLE PsGetThreadProcessId(PETHREAD Thread)
+{
+    KZ_INSIDE();
+    return ULongToHandle(Thread->process->id);
+}
+
+PEPROCESS IoThreadToProcess(PETHREAD Thread)
+{
+    KZ_INSIDE();
+    return Thread->process;
+}
+
+PEPROCESS PsGetThreadProcess(PETHREAD Thread)
+{
+    KZ_INSIDE();
+    return Thread->process;
+}
+
+BOOLEAN PsIsSystemThread(PETHREAD Thread)
+{
+    KZ_INSIDE();
+    return Thread->process == PsInitialSystemProcess;
+}
+
+BOOLEAN IoIsSystemThread(PETHREAD Thread)
+{
+    KZ_INSIDE();
+    return PsIsSystemThread(Thread);
+}
+
+PIRP IoGetTopLevelIrp(VOID)
+{
+    return kz_me->top_level;
+}
+
+VOID IoSetTopLevelIrp(PIRP Irp)
+{
+    kz_me->top_level = Irp;
+}
+
+ULONG IoGetRequestorProcessId(PIRP Irp)
+{
+    KZ_INSIDE();
+    (void)Irp;
+    return (ULONG)kz_me->process;
+}
+
+PVOID IoGetFileObjectFilterContext(PFILE_OBJECT FileObject)
+{
+    KZ_INSIDE();
+    (void)FileObject;
+    return NULL;
+}
+
+KPROCESSOR_MODE ExGetPreviousMode(VOID)
+{
+    KZ_INSIDE();
+    return kz_me->process == system_process.id ? KernelMode : UserMode;
+}
+
+static void free_processes(void)
+{
+    while (threads) {
+        PETHREAD one = threads;
+        threads = one->next;
+        free(one);
+    }
+    while (processes) {
+        PEPROCESS one = processes;
+        processes = one->next;
+        free(one);
+    }
+}
+
+const KzModule kz_process_module = {.free = free_processes};

@@ -1,0 +1,150 @@
+/* Lines of sources, by the debug information of the program: addr2line of the binutils is asked, once for each address, and only when a line is told. A crash asks too, in its
+ * signal's handler: so nothing is called here that isn't safe there. */
+#include "core/source.h"
+
+#include <elf.h>
+#include <fcntl.h>
+#include <sys/wait.h>
+#include <unistd.h>
+
+extern const Elf64_Ehdr __ehdr_start __attribute__((visibility("hidden")));
+
+enum { KNOWN = 256, LONGEST = 80 };
+
+static struct {
+    uintptr_t address;
+    char line[LONGEST]; /* empty if there is none */
+} known[KNOWN];
+
+uintptr_t kz_in_file(const void *address)
+{
+    if (kz_is_binary(address))
+        return (uintptr_t)address;
+    return (uintptr_t)address - (__ehdr_start.e_type == ET_DYN ? (uintptr_t)&__ehdr_start : 0);
+}
+
+/* ---- The program that knows. */
+static void put_number(char *room, uintptr_t number)
+{
+    int digits = 1;
+    while (digits < 16 && number >> 4 * digits)
+        digits++;
+    room[digits] = 0;
+    for (; digits > 0; number >>= 4)
+        room[--digits] = "0123456789abcdef"[number & 15];
+}
+
+/* In a child: it becomes addr2line, or one like it, which writes to the pipe. */
+static void become(const char *reader, const char *program, const char *address, int to)
+{
+    int silence = open("/dev/null", O_RDWR);
+    dup2(silence, STDIN_FILENO);
+    dup2(to, STDOUT_FILENO);
+    dup2(silence, STDERR_FILENO);
+    execl("/usr/bin/env", "env", reader, "-i", "-e", program, address, (char *)NULL);
+    _exit(1);
+}
+
+static size_t read_all(int from, char *room, size_t size)
+{
+    size_t used = 0;
+    ssize_t got = 1;
+    while (got > 0 && used + 1 < size) {
+        got = read(from, room + used, size - 1 - used);
+        used += got > 0 ? (size_t)got : 0;
+    }
+    room[used] = 0;
+    return used;
+}
+
+static size_t ask(const char *reader, const char *program, uintptr_t address, char *room, size_t size)
+{
+    char number[20]; /* on the stack: the explorer guards all other memory */
+    int ends[2];
+    room[0] = 0;
+    if (pipe(ends) != 0)
+        return 0;
+    put_number(number, address);
+    pid_t child = fork();
+    if (child == 0)
+        become(reader, program, number, ends[1]);
+    close(ends[1]);
+    size_t used = child > 0 ? read_all(ends[0], room, size) : 0;
+    close(ends[0]);
+    if (child > 0)
+        waitpid(child, NULL, 0);
+    return used;
+}
+
+/* ---- Lines. */
+/* In the kit's headers, whose functions are put in place of their calls, or in the host. */
+static bool is_left_out(const char *path)
+{
+    static const char *const folders[] = {"/c/include/", "/c/host/", "Windows Kits\\", "/x86_64-w64-mingw32/", "/lib/clang/"};
+    for (size_t at = 0; at < sizeof folders / sizeof folders[0]; at++)
+        if (strstr(path, folders[at]))
+            return true;
+    return path[0] == '?';
+}
+
+/* The innermost one that isn't left out. */
+bool kz_ask_line(const char *reader, const char *program, uintptr_t address, char *line, size_t size)
+{
+    char all[4096];
+    ask(reader, program, address, all, sizeof all);
+    line[0] = 0;
+    for (char *at = all, *end; *at && !*line; at = end) {
+        end = at + strcspn(at, "\n");
+        end += *end == '\n';
+        end[-1] = 0;
+        const char *name = at + strlen(at);
+        while (name > at && name[-1] != '/' && name[-1] != '\\')
+            name--;
+        size_t length = strcspn(name, " ");
+        if (!is_left_out(at) && length && length < size && name[length - 1] != '?')
+            ((char *)memcpy(line, name, length))[length] = 0;
+    }
+    return line[0];
+}
+
+static void find(uintptr_t address, char *line)
+{
+    char program[512];
+    ssize_t length = readlink("/proc/self/exe", program, sizeof program - 1);
+    program[length > 0 ? length : 0] = 0;
+    kz_ask_line("addr2line", program, address, line, LONGEST);
+}
+
+bool kz_find_source(uintptr_t address, char *room, size_t size)
+{
+    size_t at = (address >> 1) % KNOWN;
+    if (known[at].address != address) {
+        if (!kz_is_binary((const void *)address) || !kz_binaries.find_line(address - 1, known[at].line, LONGEST))
+            find(address - 1, known[at].line);
+        known[at].address = address;
+    }
+    snprintf(room, size, "%s", known[at].line);
+    return known[at].line[0];
+}
+
+/* An address stands behind an @, with a space in front. */
+void kz_readable(char *room, size_t size, const char *text)
+{
+    size_t used = 0;
+    char line[LONGEST];
+    while (*text && used + 1 < size) {
+        unsigned long address;
+        int length = 0;
+        if (text[0] == ' ' && text[1] == '@' && sscanf(text + 2, "%lx%n", &address, &length) == 1 && address > 4096) {
+            bool is_found = kz_find_source(address, line, sizeof line);
+            int put = is_found ? snprintf(room + used, size - used, " %s", line) : snprintf(room + used, size - used, " 0x%lx", address);
+            used += (size_t)put < size - used ? (size_t)put : size - used - 1;
+            text += 2 + length;
+        } else if (*text == KZ_MARK[0]) {
+            text++;
+        } else {
+            room[used++] = *text++;
+        }
+    }
+    room[used] = 0;
+}

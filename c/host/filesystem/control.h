@@ -1,0 +1,9 @@
+/* What the file system makes of the other operations: extended attributes, security, quotas, locks of bytes, control codes, sections, and what has no file. */
+#ifndef KZ_FILESYSTEM_CONTROL_H
+#define KZ_FILESYSTEM_CONTROL_H
+
+#include "host.h"
+
+NTSTATUS kz_answer_other(KzOp *op, const FLT_PARAMETERS *now);
+
+#endif

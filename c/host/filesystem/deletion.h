@@ -1,0 +1,24 @@
+/* Deletions, and the counts of handles by which a file goes with its last one. */
+#ifndef KZ_FILESYSTEM_DELETION_H
+#define KZ_FILESYSTEM_DELETION_H
+
+#include "host.h"
+#include "filesystem/tree.h"
+
+NTSTATUS kz_dispose(KzFile *file, ULONG flags);
+/* Nobody finds the file by that name any more; with its last one it goes itself. */
+void kz_take_away(KzName *name);
+/* The same with what comes of it: the notice, the tunnel, a folder of the host machine. */
+void kz_delete_name(KzName *name);
+/* A create gives the file a handle; the cleanup of one begins, and has come to the file system; a file was marked in the manager. */
+void kz_count_open(KzFile *file);
+void kz_count_no_open(KzFile *file); /* it failed after all, or its handle was dropped */
+void kz_begin_cleanup(KzFile *file);
+void kz_end_cleanup(KzFile *file);
+void kz_note_mark(KzFile *file);
+/* Whether a deletion of the file is the manager's alone: the file system here has no word in it. */
+bool kz_marks_by_itself(const KzFile *file);
+/* Whether it is marked to go. */
+bool kz_is_pending(const KzNode *node);
+
+#endif

@@ -1,0 +1,20 @@
+/* What lies below volume 0: a folder of the host machine in place of the file system in memory, if a test named one. */
+#ifndef KZ_FILESYSTEM_DISK_H
+#define KZ_FILESYSTEM_DISK_H
+
+#include "host.h"
+#include "filesystem/folder.h"
+
+/* Of a folder of the host machine; false if the volume is in memory, and nothing was asked. */
+bool kz_look_in_folder(uint8_t volume, const char *name, KzFound *found);
+/* Its names are those of the tree from now on. */
+void kz_enter_folder(PFLT_VOLUME volume, const char *name);
+/* In memory these succeed. */
+NTSTATUS kz_rename_in_folder(uint8_t volume, const char *from, const char *to, bool is_link);
+NTSTATUS kz_make_in_folder(uint8_t volume, const char *name);
+bool kz_is_in_folder(uint8_t volume);
+/* A call of the base of that worker; false if it is none of the folder's. */
+bool kz_call_in_folder(uint8_t worker, const KzFile *file);
+void kz_unlink_in_folder(uint8_t volume, const char *name);
+
+#endif

@@ -1,0 +1,138 @@
+/* Open files, as filters see them. */
+#include "filesystem/fileobject.h"
+
+#include "core/client.h"
+#include "core/memory.h"
+#include "core/piece.h"
+#include "core/told.h"
+#include "lib/letters.h"
+#include "filesystem/deletion.h"
+#include "filesystem/name.h"
+
+#include <stdlib.h>
+
+KzFile *kz_file_of(uint64_t handle)
+{
+    for (KzFile *file = kz.files; file; file = file->next)
+        if (file->has_handle && file->handle == handle)
+            return file;
+    return NULL;
+}
+
+KzFile *kz_file_with(PFILE_OBJECT object)
+{
+    for (KzFile *file = kz.files; file; file = file->next)
+        if (&file->object == object)
+            return file;
+    return NULL;
+}
+
+KzFile *kz_new_file(PFLT_VOLUME volume, const char *path, bool is_directory)
+{
+    KzFile *file = kz_memory(sizeof *file);
+    char text[260] = "/";
+    file->volume = volume;
+    file->is_directory = is_directory;
+    strncpy(file->path, path, sizeof file->path - 1);
+    memcpy(text + 1, file->path, sizeof file->path);
+    if (!kz_give_name(&file->object.FileName, text, false)) {
+        fprintf(stderr, "no memory\n");
+        exit(1);
+    }
+    file->object.Type = 5;
+    file->object.Size = sizeof(FILE_OBJECT);
+    file->object.DeviceObject = &volume->disk;
+    file->object.SectionObjectPointer = &file->sections;
+    file->object.Flags = FO_SYNCHRONOUS_IO;
+    InitializeListHead(&file->object.IrpList);
+    file->maker = kz_me->number;
+    KzFile **place = &kz.files;
+    while (*place && (*place)->maker < file->maker)
+        place = &(*place)->next;
+    file->next = *place;
+    *place = file;
+    return file;
+}
+
+/* The file system opened it: what it keeps with a file object is there. */
+void kz_file_opened(KzFile *file)
+{
+    PFILE_OBJECT object = &file->object;
+    object->FsContext = file;
+    object->FsContext2 = &file->sections;
+    object->Flags |= FO_HANDLE_CREATED | FO_CACHE_SUPPORTED;
+    object->ReadAccess = object->WriteAccess = object->DeleteAccess = TRUE;
+    object->SharedRead = object->SharedWrite = object->SharedDelete = TRUE;
+}
+
+void kz_file_answered(KzFile *file, uint64_t handle)
+{
+    kz_file_opened(file);
+    file->handle = handle;
+    file->is_opening = true;
+}
+
+/* A file object whose handle a client has, or whose create the file system has answered: those that saw the answer may use it. */
+bool kz_handle_of(KzFile *file, uint64_t *handle)
+{
+    *handle = file->handle;
+    return file->has_handle || file->is_opening;
+}
+
+void kz_let_go_file(KzFile *file)
+{
+    if (--file->users > 0)
+        return;
+    for (KzFile **at = &kz.files; *at; at = &(*at)->next)
+        if (*at == file) {
+            *at = file->next;
+            break;
+        }
+    kz_free_file_name(file);
+    kz_let_go_name(file->name);
+    free(file);
+}
+
+/* Numbers that are no handle of a driver's own. */
+enum { ROOTS = 0x40000000 };
+
+HANDLE kz_root_handle(uint64_t handle)
+{
+    return (HANDLE)(uintptr_t)(ROOTS + 4 * handle);
+}
+
+KzFile *kz_file_of_client(HANDLE root)
+{
+    uint64_t number = (uint64_t)(uintptr_t)root;
+    return number >= ROOTS && number % 4 == 0 ? kz_file_of((number - ROOTS) / 4) : NULL;
+}
+
+void kz_drop_file(uint64_t handle)
+{
+    KzFile *file = kz_file_of(handle);
+    if (!file)
+        return;
+    file->has_handle = false;
+    kz_count_no_open(file);
+    kz_let_go_file(file);
+}
+
+/* A filter may put another name into a file object, in memory of its pool: that is the file object's from then on. */
+void kz_adopt_name(KzFile *file)
+{
+    KzPiece *piece = kz_piece_of(file->object.FileName.Buffer);
+    if (piece && piece->kind == KZK_POOL)
+        piece->filter = NULL;
+}
+
+void kz_free_file_name(KzFile *file)
+{
+    PVOID name = file->object.FileName.Buffer;
+    if (!name)
+        return;
+    if (kz_piece_of(name))
+        kz_give_back(name);
+    else
+        kz_tell(KZM_NO_POOL, "FILE_OBJECT", "FileName.Buffer of \\%s is memory that isn't a pool's: the file object frees it", file->path);
+    file->object.FileName = (UNICODE_STRING){0, 0, NULL};
+}

@@ -1,0 +1,21 @@
+/* Open files, as filters see them. */
+#ifndef KZ_FILESYSTEM_FILEOBJECT_H
+#define KZ_FILESYSTEM_FILEOBJECT_H
+
+#include "host.h"
+
+KzFile *kz_file_of(uint64_t handle);
+KzFile *kz_file_with(PFILE_OBJECT object);
+KzFile *kz_new_file(PFLT_VOLUME volume, const char *path, bool is_directory);
+void kz_file_opened(KzFile *file);
+void kz_file_answered(KzFile *file, uint64_t handle);
+bool kz_handle_of(KzFile *file, uint64_t *handle);
+/* A client's handle as drivers are given it, in a rename's RootDirectory. */
+HANDLE kz_root_handle(uint64_t handle);
+KzFile *kz_file_of_client(HANDLE root);
+void kz_let_go_file(KzFile *file);
+void kz_drop_file(uint64_t handle);
+void kz_adopt_name(KzFile *file);
+void kz_free_file_name(KzFile *file);
+
+#endif

@@ -1,0 +1,35 @@
+/* Names, and the files that they stand for. */
+#ifndef KZ_FILESYSTEM_NAME_H
+#define KZ_FILESYSTEM_NAME_H
+
+#include "host.h"
+#include "filesystem/tree.h"
+
+extern const struct KzModule kz_tree_module;
+/* The name, which has one user more; its file may be none yet. NULL if it is no path. */
+KzName *kz_take_name(PFLT_VOLUME volume, const char *text);
+void kz_keep_name(KzName *name);
+void kz_let_go_name(KzName *name);
+/* NULL if no file, no directory and no create under way has it. */
+KzName *kz_find_name(PFLT_VOLUME volume, const char *text);
+/* In the order of their bytes. */
+KzName *kz_first_name(void);
+/* In no order. */
+KzName *kz_all_names(void);
+/* Whether there is a name of a stream. */
+bool kz_has_streams(void);
+KzName *kz_add_name(PFLT_VOLUME volume, const char *text, KzNode *node);
+/* It is called otherwise from now on. */
+void kz_move_name(KzName *name, const char *text);
+/* Whether two names of the volume are the same one. */
+bool kz_is_same_name(PFLT_VOLUME volume, const char *a, const char *b, size_t length);
+/* Whether it lies below that directory, however deep, or is a stream of what does. */
+bool kz_is_below(const KzName *name, PFLT_VOLUME volume, const char *directory);
+bool kz_is_stream_of(const KzName *name, const KzName *file);
+/* Whether its file is there now; a folder of the host machine is asked. */
+bool kz_is_there(KzName *name);
+/* The name that the file has now, and its path in the manager. */
+const char *kz_name_now(const KzFile *file);
+const char *kz_key_of(const KzFile *file);
+
+#endif

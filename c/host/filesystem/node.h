@@ -1,0 +1,16 @@
+/* Files by their keys. */
+#ifndef KZ_FILESYSTEM_NODE_H
+#define KZ_FILESYSTEM_NODE_H
+
+#include "host.h"
+#include "filesystem/tree.h"
+
+KzNode *kz_new_node(PFLT_VOLUME volume, const char *text);
+void kz_free_node(KzNode *node);
+/* A new file is there from now on. */
+void kz_begin_node(KzNode *node, bool is_directory);
+/* So much of the volume as a file of that size takes. */
+uint64_t kz_allocated(PFLT_VOLUME volume, uint64_t size);
+void kz_keep_bytes(KzBytes *kept, const void *bytes, size_t length);
+
+#endif

@@ -1,0 +1,16 @@
+/* Renames and hard links: where they lead to, what stands in their way, and what of the names moves. */
+#ifndef KZ_FILESYSTEM_RENAME_H
+#define KZ_FILESYSTEM_RENAME_H
+
+#include "host.h"
+
+/* Where a rename or a link leads to, as the kit's three fields say it; false if that is no name. */
+bool kz_destination(const KzFile *file, HANDLE root, const WCHAR *name, ULONG length, char *text, size_t size);
+NTSTATUS kz_rename(KzFile *file, const char *text, bool is_link, ULONG flags);
+/* What lies below a name, and its streams, go along; or the streams alone. */
+void kz_move_with(PFLT_VOLUME volume, const char *from, const char *to, bool is_streams);
+bool kz_has_file_above(PFLT_VOLUME volume, const char *text);
+/* The folders above a name are there. */
+void kz_make_above(PFLT_VOLUME volume, const char *text);
+
+#endif

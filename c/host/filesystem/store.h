@@ -1,0 +1,18 @@
+/* Where the bytes of files are: the manager keeps them, above this layer, and hands down what is asked of it. */
+#ifndef KZ_FILESYSTEM_STORE_H
+#define KZ_FILESYSTEM_STORE_H
+
+#include "host.h"
+
+typedef struct KzStore {
+    /* The file is marked to go with its handle, and no instance hears of it. */
+    bool (*mark)(KzFile *file);
+    /* The same at once, of a file that no handle leads to. */
+    bool (*drop)(PFLT_VOLUME volume, const char *key);
+    /* The file has that size, by an operation that no instance hears. */
+    NTSTATUS (*cut)(KzFile *file, uint64_t size);
+    /* An operation that waited in the file system is answered, and goes on. */
+    void (*go_on)(KzOp *op, NTSTATUS status);
+} KzStore;
+
+#endif

@@ -1,0 +1,194 @@
+/* Routines of the run-time library that need nothing of the system. */
+#include "host.h"
+
+/* ---- Time: 1970 began so many units of 100 nanoseconds after 1601. */
+#define SECOND 10000000LL
+#define BEGIN_OF_1970 116444736000000000LL
+
+BOOLEAN RtlTimeToSecondsSince1970(PLARGE_INTEGER Time, PULONG ElapsedSeconds)
+{
+    LONGLONG seconds = (Time->QuadPart - BEGIN_OF_1970) / SECOND;
+    if (Time->QuadPart < BEGIN_OF_1970 || seconds > 0xffffffffLL)
+        return FALSE;
+    *ElapsedSeconds = (ULONG)seconds;
+    return TRUE;
+}
+
+VOID RtlSecondsSince1970ToTime(ULONG ElapsedSeconds, PLARGE_INTEGER Time)
+{
+    Time->QuadPart = BEGIN_OF_1970 + ElapsedSeconds * SECOND;
+}
+
+/* ---- Once. The lowest bits say how far it is; the rest is the context. */
+enum { ONCE_BEGUN = 1, ONCE_DONE = 2, ONCE_BITS = 3 };
+enum { CHECK_ONLY = 1, INIT_FAILED = 4 };
+
+NTSTATUS RtlRunOnceBeginInitialize(PRTL_RUN_ONCE RunOnce, ULONG Flags, PVOID *Context)
+{
+    ULONG_PTR state = (ULONG_PTR)RunOnce->Ptr;
+    if ((state & ONCE_BITS) == ONCE_DONE) {
+        if (Context)
+            *Context = (PVOID)(state & ~(ULONG_PTR)ONCE_BITS);
+        return STATUS_SUCCESS;
+    }
+    if (Flags & CHECK_ONLY)
+        return STATUS_UNSUCCESSFUL;
+    RunOnce->Ptr = (PVOID)(ULONG_PTR)ONCE_BEGUN;
+    return STATUS_PENDING;
+}
+
+NTSTATUS RtlRunOnceComplete(PRTL_RUN_ONCE RunOnce, ULONG Flags, PVOID Context)
+{
+    if (((ULONG_PTR)RunOnce->Ptr & ONCE_BITS) != ONCE_BEGUN)
+        return STATUS_UNSUCCESSFUL;
+    if ((ULONG_PTR)Context & ONCE_BITS)
+        return STATUS_INVALID_PARAMETER;
+    RunOnce->Ptr = Flags & INIT_FAILED ? NULL : (PVOID)((ULONG_PTR)Context | ONCE_DONE);
+    return STATUS_SUCCESS;
+}
+
+NTSTATUS RtlRunOnceExecuteOnce(PRTL_RUN_ONCE RunOnce, PRTL_RUN_ONCE_INIT_FN InitFn, PVOID Parameter, PVOID *Context)
+{
+    PVOID made = NULL;
+    NTSTATUS status = RtlRunOnceBeginInitialize(RunOnce, 0, Context);
+    if (status != STATUS_PENDING)
+        return status;
+    if (!KZ_CALL_DRIVER(InitFn, RunOnce, Parameter, &made)) {
+        RtlRunOnceComplete(RunOnce, INIT_FAILED, NULL);
+        return STATUS_UNSUCCESSFUL;
+    }
+    if (Context)
+        *Context = made;
+    return RtlRunOnceComplete(RunOnce, 0, made);
+}
+
+/* ---- Texts. */
+ULONG RtlCrc32(const VOID *Buffer, SIZE_T Size, ULONG InitialCrc)
+{
+    const UCHAR *bytes = Buffer;
+    ULONG crc = ~InitialCrc;
+    for (SIZE_T bit = 0; bit < Size * 8; bit++) {
+        crc ^= bit % 8 == 0 ? bytes[bit / 8] : 0;
+        crc = crc >> 1 ^ (crc & 1 ? 0xedb88320u : 0);
+    }
+    return ~crc;
+}
+
+VOID RtlUpperString(PSTRING DestinationString, const STRING *SourceString)
+{
+    USHORT length = SourceString->Length < DestinationString->MaximumLength ? SourceString->Length : DestinationString->MaximumLength;
+    for (USHORT at = 0; at < length; at++)
+        DestinationString->Buffer[at] = RtlUpperChar(SourceString->Buffer[at]);
+    DestinationString->Length = length;
+}
+
+static int digit_of(char letter)
+{
+    if (letter >= '0' && letter <= '9')
+        return letter - '0';
+    letter = RtlUpperChar(letter);
+    return letter >= 'A' && letter <= 'F' ? letter - 'A' + 10 : 99;
+}
+
+NTSTATUS RtlCharToInteger(PCSZ String, ULONG Base, PULONG Value)
+{
+    const char *at = String + strspn(String, " \t");
+    bool is_negative = *at == '-';
+    at += *at == '-' || *at == '+';
+    if (!Base) {
+        Base = at[0] == '0' && at[1] == 'x' ? 16 : at[0] == '0' && at[1] == 'o' ? 8 : at[0] == '0' && at[1] == 'b' ? 2 : 10;
+        at += Base == 10 ? 0 : 2;
+    } else if (Base != 2 && Base != 8 && Base != 10 && Base != 16) {
+        return STATUS_INVALID_PARAMETER;
+    }
+    ULONG value = 0;
+    for (; *at && digit_of(*at) < (int)Base; at++)
+        value = value * Base + (ULONG)digit_of(*at);
+    *Value = is_negative ? 0u - value : value;
+    return STATUS_SUCCESS;
+}
+
+/* One letter as bytes of UTF-8, from one or two of the text's. */
+static ULONG to_utf8(const WCHAR *from, ULONG left, UCHAR *bytes, ULONG *used)
+{
+    ULONG letter = from[0];
+    *used = 1;
+    if (letter >= 0xd800 && letter < 0xdc00 && left > 1 && from[1] >= 0xdc00 && from[1] < 0xe000) {
+        letter = 0x10000 + ((letter - 0xd800) << 10) + (from[1] - 0xdc00u);
+        *used = 2;
+    } else if (letter >= 0xd800 && letter < 0xe000) {
+        letter = 0xfffd;
+    }
+    ULONG count = letter < 0x80 ? 1 : letter < 0x800 ? 2 : letter < 0x10000 ? 3 : 4;
+    for (ULONG at = count; at-- > 1; letter >>= 6)
+        bytes[at] = (UCHAR)(0x80 | (letter & 0x3f));
+    bytes[0] = (UCHAR)(count == 1 ? letter : (0xf0u << (4 - count) & 0xff) | letter);
+    return count;
+}
+
+/* With no destination only the count is told. */
+NTSTATUS RtlUnicodeToUTF8N(PCHAR UTF8StringDestination, ULONG UTF8StringMaxByteCount, PULONG UTF8StringActualByteCount, PCWCH UnicodeStringSource, ULONG UnicodeStringByteCount)
+{
+    UCHAR bytes[4];
+    ULONG written = 0, used = 0, length = UnicodeStringByteCount / (ULONG)sizeof(WCHAR);
+    for (ULONG at = 0; at < length; at += used) {
+        ULONG count = to_utf8(UnicodeStringSource + at, length - at, bytes, &used);
+        if (UTF8StringDestination && written + count > UTF8StringMaxByteCount) {
+            *UTF8StringActualByteCount = written;
+            return STATUS_BUFFER_TOO_SMALL;
+        }
+        if (UTF8StringDestination)
+            memcpy(UTF8StringDestination + written, bytes, count);
+        written += count;
+    }
+    *UTF8StringActualByteCount = written;
+    return STATUS_SUCCESS;
+}
+
+BOOLEAN RtlIsNameInExpression(PCUNICODE_STRING Expression, PCUNICODE_STRING Name, BOOLEAN IgnoreCase, PWCH UpcaseTable)
+{
+    return FsRtlIsNameInExpression((PUNICODE_STRING)Expression, (PUNICODE_STRING)Name, IgnoreCase, UpcaseTable);
+}
+
+/* The first part of a path, up to its `\`, and the rest behind that. */
+VOID FsRtlDissectName(UNICODE_STRING Name, PUNICODE_STRING FirstPart, PUNICODE_STRING RemainingPart)
+{
+    USHORT length = Name.Length / (USHORT)sizeof(WCHAR), begin = length && Name.Buffer[0] == '\\', end = begin;
+    while (end < length && Name.Buffer[end] != '\\')
+        end++;
+    USHORT first = (USHORT)((end - begin) * (int)sizeof(WCHAR)), rest = end < length ? (USHORT)((length - end - 1) * (int)sizeof(WCHAR)) : 0;
+    *FirstPart = (UNICODE_STRING){first, first, first ? Name.Buffer + begin : NULL};
+    *RemainingPart = (UNICODE_STRING){rest, rest, end < length ? Name.Buffer + end + 1 : NULL};
+}
+
+NTSTATUS FsRtlNormalizeNtstatus(NTSTATUS Exception, NTSTATUS GenericException)
+{
+    return FsRtlIsNtstatusExpected(Exception) ? Exception : GenericException;
+}
+
+/* Those that drivers pass to programs most often; ERROR_MR_MID_NOT_FOUND is what the kit answers where it has none. */
+ULONG RtlNtStatusToDosError(NTSTATUS Status)
+{
+    static const struct {
+        NTSTATUS status;
+        ULONG error;
+    } errors[] = {
+        {STATUS_SUCCESS, 0},           {STATUS_OBJECT_NAME_NOT_FOUND, 2}, {STATUS_NO_SUCH_FILE, 2},           {STATUS_OBJECT_PATH_NOT_FOUND, 3}, {STATUS_ACCESS_DENIED, 5},
+        {STATUS_INVALID_HANDLE, 6},    {STATUS_NO_MEMORY, 8},             {STATUS_SHARING_VIOLATION, 32},     {STATUS_END_OF_FILE, 38},          {STATUS_NOT_SUPPORTED, 50},
+        {STATUS_INVALID_PARAMETER, 87}, {STATUS_DISK_FULL, 112},          {STATUS_BUFFER_TOO_SMALL, 122},     {STATUS_OBJECT_NAME_INVALID, 123}, {STATUS_OBJECT_NAME_COLLISION, 183},
+        {STATUS_BUFFER_OVERFLOW, 234}, {STATUS_NO_MORE_FILES, 18},        {STATUS_PENDING, 997},              {STATUS_INSUFFICIENT_RESOURCES, 1450}, {STATUS_CANCELLED, 995},
+        {STATUS_TIMEOUT, 258},         {STATUS_NOT_FOUND, 1168},          {STATUS_INVALID_DEVICE_REQUEST, 1},  {STATUS_DELETE_PENDING, 5},        {STATUS_VIRUS_INFECTED, 225},
+    };
+    for (size_t at = 0; at < sizeof errors / sizeof errors[0]; at++)
+        if (errors[at].status == Status)
+            return errors[at].error;
+    return 317;
+}
+
+SIZE_T RtlCompareMemory(const VOID *Source1, const VOID *Source2, SIZE_T Length)
+{
+    SIZE_T same = 0;
+    while (same < Length && ((const UCHAR *)Source1)[same] == ((const UCHAR *)Source2)[same])
+        same++;
+    return same;
+}

@@ -1,0 +1,11 @@
+/* Memory of an operation: blocks that live as long as it does, and its callback data. */
+#ifndef KZ_MANAGER_BLOCK_H
+#define KZ_MANAGER_BLOCK_H
+
+#include "host.h"
+
+void *kz_block(KzOp *op, size_t size);
+FLT_CALLBACK_DATA *kz_new_data(PETHREAD thread, PFLT_IO_PARAMETER_BLOCK iopb);
+void kz_renew_data(KzOp *op);
+
+#endif

@@ -1,0 +1,10 @@
+/* The parameters of an operation that rides on another: what goes down, and the room for what comes up, are memory of the operation. */
+#ifndef KZ_MANAGER_FILL_H
+#define KZ_MANAGER_FILL_H
+
+#include "host.h"
+
+/* Its parameters, in memory of the operation. */
+void kz_fill_carried(KzOp *op, const KzAsked *asked);
+
+#endif

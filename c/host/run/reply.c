@@ -1,0 +1,28 @@
+/* Replies: to where each goes, and how it is printed. */
+#include "run/reply.h"
+
+#include "core/client.h"
+#include "core/said.h"
+#include "run/expect.h"
+#include "run/sink.h"
+
+/* The kit's own status stands behind a number that stands for another. */
+void kz_print_reply(KzReply reply, NTSTATUS other, const uint8_t *bytes, size_t length)
+{
+    kz_pass_reply(reply, bytes, length);
+    kz_note_reply(reply, other, bytes, length, kz_me->says);
+    if (reply.held) {
+        kz_say(KZ_SAID_REPLY, "held %llu\n", (unsigned long long)reply.operation);
+        return;
+    }
+    kz_say(KZ_SAID_REPLY, "status %u", reply.status);
+    if (other)
+        kz_say(KZ_SAID_REPLY, " (0x%08x)", (unsigned)other);
+    kz_say(reply.is_handle ? KZ_SAID_HANDLE : KZ_SAID_REPLY, " info %llu bytes ", (unsigned long long)reply.information);
+    for (size_t at = 0; at < length; at++)
+        kz_say(KZ_SAID_REPLY, "%02x", bytes[at]);
+    kz_say(KZ_SAID_REPLY, length ? "\n" : "-\n");
+    if (*kz_me->says)
+        kz_say(KZ_SAID_REPLY, "says %.1000s\n", kz_me->says);
+    kz_me->says[0] = 0;
+}

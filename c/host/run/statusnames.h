@@ -1,0 +1,10 @@
+/* The kit's statuses by their names: those of ntstatus.h, as the Makefile lists them. */
+#ifndef KZ_RUN_STATUSNAMES_H
+#define KZ_RUN_STATUSNAMES_H
+
+#include "host.h"
+
+/* statusnames.c; -1: it is none. */
+int64_t kz_status_named(const char *name);
+
+#endif

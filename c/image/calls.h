@@ -1,0 +1,25 @@
+/* What a binary calls: a stub for each call of the kit. stubs.awk makes those that it can of the headers; the others stand in calls.c, texts.c, lists.c and raise.S. */
+#ifndef KZ_IMAGE_CALLS_H
+#define KZ_IMAGE_CALLS_H
+
+#include "image/kit.h"
+
+/* All stubs lie in one section: so it is known that a call came through one. */
+#define KZ_STUB_AS(type, symbol, ...)                                                             \
+    type KZ_MS_ABI __attribute__((noinline, used, section("kz_stubs"))) symbol(__VA_ARGS__); \
+    type KZ_MS_ABI symbol(__VA_ARGS__)
+#define KZ_STUB(type, name, ...) KZ_STUB_AS(type, kz_stub_##name, __VA_ARGS__)
+/* Where its caller goes on, for what is told. */
+#define KZ_FROM() (kz_stub_caller = __builtin_return_address(0))
+extern const uint8_t __start_kz_stubs[], __stop_kz_stubs[];
+
+typedef struct {
+    const char *name;
+    const void *at;
+} KzExport;
+/* kernel.c: where a call or a variable of the kit lies; NULL if it isn't here. */
+const void *kz_find_export(const char *name);
+/* missing.c: a stub for what isn't here, that tells its name when it is called; NULL if there is no memory. */
+const void *kz_missing_call(const char *name);
+
+#endif

@@ -1,0 +1,232 @@
+/* What the processor refuses a binary, since this is no kernel. Instructions of the kernel's are carried out in place of it; all else is an exception of the binary's. The signal's handler
+ * keeps the registers on the thread's own stack and has the thread go on here: so calls of the host and handlers of the binary are called as from anywhere else. */
+#define _GNU_SOURCE
+#include "image/calls.h"
+#include "image/machine.h"
+#include "core/told.h"
+#include "core/client.h"
+
+#include <signal.h>
+#include <stdlib.h>
+#include <ucontext.h>
+
+#define ACCESS_VIOLATION 0xc0000005u
+#define ILLEGAL_INSTRUCTION 0xc000001du
+#define DIVIDED_BY_ZERO 0xc0000094u
+#define PRIVILEGED_INSTRUCTION 0xc0000096u
+enum { BELOW = 256, PAGE_WRITE = 2, PAGE_RUN = 16, BACKWARDS_AND_TRAP = 0x500, FAST_FAIL = 0x139 };
+
+/* What an instruction of the kernel's is. */
+typedef enum { NONE, READS_CR8, WRITES_CR8, INTERRUPTS, FAILS_FAST, ASSERTS, BREAKS, TOUCHES_TIMES } Kind;
+
+typedef struct {
+    KzContext context;
+    Kind kind;
+    bool is_copy;
+    int signal;
+    uint64_t address, error;
+} Fault;
+
+static const int numbers[16] = {REG_RAX, REG_RCX, REG_RDX, REG_RBX, REG_RSP, REG_RBP, REG_RSI, REG_RDI, REG_R8, REG_R9, REG_R10, REG_R11, REG_R12, REG_R13, REG_R14, REG_R15};
+static _Thread_local uint64_t given_up; /* nobody took an exception here: it is a crash */
+
+/* ---- Instructions. */
+typedef struct {
+    const uint8_t *opcode;
+    unsigned rex;
+} Instruction;
+
+static Instruction instruction_at(uint64_t rip)
+{
+    Instruction one = {(const uint8_t *)(uintptr_t)rip, 0};
+    while (*one.opcode == 0xf0 || *one.opcode == 0x66)
+        one.opcode++;
+    if ((*one.opcode & 0xf0) == 0x40)
+        one.rex = *one.opcode++;
+    return one;
+}
+
+static Kind kind_of(int signal, uint64_t rip, uint64_t address)
+{
+    if (signal == SIGTRAP)
+        return BREAKS;
+    if (signal != SIGSEGV)
+        return NONE;
+    if (address >= kz_times && address - kz_times < KZ_PAGE)
+        return TOUCHES_TIMES;
+    Instruction one = instruction_at(rip);
+    const uint8_t *code = one.opcode;
+    bool is_cr8 = code[0] == 0x0f && ((code[2] >> 3 & 7) | (one.rex & 4) << 1) == 8;
+    if (is_cr8 && (code[1] == 0x20 || code[1] == 0x22))
+        return code[1] == 0x20 ? READS_CR8 : WRITES_CR8;
+    if (code[0] == 0xfa || code[0] == 0xfb)
+        return INTERRUPTS;
+    return code[0] != 0xcd ? NONE : code[1] == 0x29 ? FAILS_FAST : code[1] == 0x2c ? ASSERTS : NONE;
+}
+
+/* The IRQL is in cr8. */
+static void move_irql(KzContext *context, bool is_read)
+{
+    Instruction one = instruction_at(context->rip);
+    uint64_t *integer = &context->integers[(one.opcode[2] & 7) | (one.rex & 1) << 3];
+    context->rip = (uintptr_t)one.opcode + 3;
+    kz_stub_caller = (const void *)(uintptr_t)context->rip;
+    if (is_read)
+        *integer = KeGetCurrentIrql();
+    else if ((KIRQL)*integer > KeGetCurrentIrql())
+        KfRaiseIrql((KIRQL)*integer);
+    else
+        KeLowerIrql((KIRQL)*integer);
+}
+
+/* NT_ASSERT: its expression isn't in the binary. */
+static void tell_assertion(void)
+{
+    KZ_INSIDE_FROM("NT_ASSERT", kz_stub_caller);
+    kz_tell(KZM_ASSERT, "NT_ASSERT", "an assertion doesn't hold");
+}
+
+/* Its calls of the host come from the stubs' section, as those of a binary do. */
+__attribute__((section("kz_stubs"), noinline)) static bool carry_out(Fault *fault)
+{
+    KzContext *context = &fault->context;
+    kz_stub_caller = (const void *)(uintptr_t)(context->rip + (fault->kind != BREAKS));
+    switch (fault->kind) {
+    case READS_CR8:
+    case WRITES_CR8:
+        move_irql(context, fault->kind == READS_CR8);
+        return true;
+    case INTERRUPTS:
+        context->rip++;
+        return true;
+    case TOUCHES_TIMES:
+        return kz_touch_times(context, fault->address);
+    case BREAKS: /* it stands behind it already */
+        KzBreak();
+        return true;
+    case ASSERTS:
+        tell_assertion();
+        context->rip += 2;
+        return true;
+    case FAILS_FAST:
+        KzBugCheck(FAST_FAIL);
+        return true;
+    default:
+        return false;
+    }
+}
+
+/* ---- Exceptions. */
+static KzException exception_of(const Fault *fault, const KzContext *context)
+{
+    KzException one = {.address = context->rip};
+    bool is_page = fault->address || fault->error & (PAGE_WRITE | PAGE_RUN);
+    if (fault->signal == SIGFPE)
+        one.code = DIVIDED_BY_ZERO;
+    else if (fault->signal == SIGILL)
+        one.code = ILLEGAL_INSTRUCTION;
+    else if (is_page || fault->error == 0 || fault->error == 4) {
+        one.code = ACCESS_VIOLATION;
+        one.count = 2;
+        one.information[0] = fault->error & PAGE_RUN ? 8 : fault->error & PAGE_WRITE ? 1 : 0;
+        one.information[1] = fault->address;
+    } else
+        one.code = PRIVILEGED_INSTRUCTION;
+    return one;
+}
+
+/* A copy faulted on behalf of its caller: it counts as at that call. */
+static void leave_copy(KzContext *context)
+{
+    context->integers[KZ_RSI] = context->integers[KZ_R10];
+    context->integers[KZ_RDI] = context->integers[KZ_R11];
+    memcpy(&context->rip, (const void *)(uintptr_t)context->integers[KZ_RSP], sizeof context->rip);
+    context->rip--;
+    context->integers[KZ_RSP] += 8;
+}
+
+_Noreturn void kz_fault(Fault *fault);
+_Noreturn void kz_fault(Fault *fault)
+{
+    if (fault->kind != NONE && carry_out(fault))
+        kz_restore(&fault->context);
+    KzContext context = fault->context;
+    if (fault->is_copy)
+        leave_copy(&context);
+    KzException exception = exception_of(fault, &context);
+    kz_stub_caller = (const void *)(uintptr_t)context.rip;
+    kz_raise(&exception, &context);
+    given_up = fault->context.rip;
+    kz_stub_caller = (const void *)(uintptr_t)context.rip;
+    kz_restore(&fault->context); /* it is refused again, and that is the crash */
+}
+
+/* ---- Signals. */
+static void leave_signal(ucontext_t *there, Fault with)
+{
+    greg_t *registers = there->uc_mcontext.gregs;
+    Fault *fault = (Fault *)(((uintptr_t)registers[REG_RSP] - BELOW - sizeof *fault) & ~(uintptr_t)63);
+    *fault = with;
+    for (unsigned one = 0; one < 16; one++)
+        fault->context.integers[one] = (uint64_t)registers[numbers[one]];
+    fault->context.rip = (uint64_t)registers[REG_RIP];
+    fault->context.eflags = (uint32_t)registers[REG_EFL];
+    fault->context.mxcsr = there->uc_mcontext.fpregs->mxcsr;
+    memcpy(fault->context.xmm, there->uc_mcontext.fpregs->_xmm, sizeof fault->context.xmm);
+    registers[REG_RDI] = registers[REG_RSP] = (greg_t)(uintptr_t)fault;
+    registers[REG_RIP] = (greg_t)(uintptr_t)kz_fault_entry;
+    registers[REG_EFL] &= ~(greg_t)BACKWARDS_AND_TRAP;
+}
+
+static Fault fault_of(int signal, const siginfo_t *information, const ucontext_t *there)
+{
+    return (Fault){.signal = signal, .address = (uintptr_t)information->si_addr, .error = (uint64_t)there->uc_mcontext.gregs[REG_ERR]};
+}
+
+static bool carry_out_in_place(int signal, void *information, void *context)
+{
+    Fault fault = fault_of(signal, information, context);
+    uint64_t rip = (uint64_t)((ucontext_t *)context)->uc_mcontext.gregs[REG_RIP];
+    if (signal == SIGTRAP && kz_end_touch(context))
+        return true;
+    if (!kz_image_at(rip - (signal == SIGTRAP)))
+        return false;
+    /* An address outside of code can't be read for its instruction. */
+    const KzImage *image = kz_image_at(rip);
+    const KzSection *section = image ? kz_section_at(&image->headers, (uint32_t)(rip - (uintptr_t)image->bytes.start)) : NULL;
+    fault.kind = section && section->is_run ? kind_of(signal, rip, fault.address) : NONE;
+    if (fault.kind == NONE)
+        return false;
+    leave_signal(context, fault);
+    return true;
+}
+
+static bool raise_in_place(int signal, void *information, void *context)
+{
+    Fault fault = fault_of(signal, information, context);
+    uint64_t rip = (uint64_t)((ucontext_t *)context)->uc_mcontext.gregs[REG_RIP];
+    fault.is_copy = rip - (uintptr_t)kz_copies < (uintptr_t)(kz_copies_end - kz_copies);
+    bool is_known = given_up == rip;
+    given_up = 0;
+    if (is_known || signal == SIGABRT || !(fault.is_copy || kz_image_at(rip)))
+        return false;
+    leave_signal(context, fault);
+    return true;
+}
+
+static void on_trap(int signal, siginfo_t *information, void *context)
+{
+    if (carry_out_in_place(signal, information, context))
+        return;
+    sigaction(signal, &(struct sigaction){.sa_handler = SIG_DFL}, NULL);
+    raise(signal);
+}
+
+void kz_watch_faults(void)
+{
+    kz_binaries.enter = kz_enter_processor;
+    kz_binaries.carry_out = carry_out_in_place;
+    kz_binaries.raise = raise_in_place;
+    kz_binaries.find_line = kz_find_image_line;
+    sigaction(SIGTRAP, &(struct sigaction){.sa_sigaction = on_trap, .sa_flags = SA_SIGINFO | SA_ONSTACK}, NULL);
+}

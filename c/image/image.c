@@ -1,0 +1,184 @@
+/* Binaries of drivers: their files are read, laid out beside one another, bound to the kit's calls, and made known to the host. */
+#define _GNU_SOURCE
+#include "image/image.h"
+
+#include "image/calls.h"
+#include "core/memory.h"
+
+#include <elf.h>
+#include <errno.h>
+#include <stdlib.h>
+#include <sys/mman.h>
+
+extern const Elf64_Ehdr __ehdr_start __attribute__((visibility("hidden")));
+
+/* Where images lie: the same addresses in each run. The explorer, whose program is one of fixed addresses, keeps those of code in 32 bits. */
+#define HIGH 0x180000000UL
+#define LOW 0x40000000UL
+enum { ARENA = 0x18000000, STEP = 1 << 16 };
+
+static KzImage *images;
+static uint8_t *next;
+
+const KzImage *kz_image_at(uint64_t address)
+{
+    const KzImage *one = images;
+    while (one && address - (uintptr_t)one->bytes.start >= one->bytes.size)
+        one = one->next;
+    return one;
+}
+
+/* ---- Memory. */
+static bool reserve(KzRefusal *why)
+{
+    if (next)
+        return true;
+    void *wanted = (void *)(__ehdr_start.e_type == ET_DYN ? HIGH : LOW);
+    int flags = MAP_PRIVATE | MAP_ANONYMOUS | MAP_NORESERVE;
+    void *arena = mmap(wanted, ARENA, PROT_NONE, flags | MAP_FIXED_NOREPLACE, -1, 0);
+    if (arena == MAP_FAILED) /* a sanitizer is there */
+        arena = mmap(NULL, ARENA, PROT_NONE, flags, -1, 0);
+    if (arena == MAP_FAILED)
+        return kz_refuse(why, "there is no room for it");
+    next = arena;
+    kz_binaries.start = (uintptr_t)arena;
+    kz_binaries.size = ARENA;
+    kz_binaries.stubs = (uintptr_t)__start_kz_stubs;
+    kz_binaries.stubs_size = (uintptr_t)(__stop_kz_stubs - __start_kz_stubs);
+    return true;
+}
+
+static bool take_room(KzImage *image, KzRefusal *why)
+{
+    if (!reserve(why))
+        return false;
+    size_t size = image->headers.size;
+    if ((uintptr_t)next + size > kz_binaries.start + ARENA || mprotect(next, size, PROT_READ | PROT_WRITE) != 0)
+        return kz_refuse(why, "there is no room for its %zu bytes", size);
+    image->bytes = (KzBytes){next, size};
+    next += (size + STEP - 1) & ~(size_t)(STEP - 1);
+    return true;
+}
+
+/* Pages get the rights that their sections ask for. */
+static void protect(const KzImage *image)
+{
+    mprotect(image->bytes.start, image->bytes.size, PROT_NONE);
+    mprotect(image->bytes.start, KZ_PAGE, PROT_READ);
+    for (unsigned at = 0; at < image->headers.sections_count; at++) {
+        const KzSection *one = &image->headers.sections[at];
+        int rights = (one->is_read || one->is_run ? PROT_READ : 0) | (one->is_written ? PROT_WRITE : 0) | (one->is_run ? PROT_EXEC : 0);
+        mprotect(image->bytes.start + one->at, one->size, rights);
+    }
+}
+
+/* A driver is loaded: its variables are as they were laid out. */
+static void open_again(const KzDriver *driver)
+{
+    const KzImage *image = kz_image_at((uintptr_t)driver->entry);
+    for (unsigned at = 0; image && at < image->headers.sections_count; at++) {
+        const KzSection *one = &image->headers.sections[at];
+        if (one->is_written)
+            memcpy(image->bytes.start + one->at, image->pristine + one->at, one->size);
+    }
+}
+
+/* The variables of all images, a section each. */
+static bool find_data(unsigned at, char **start, char **end)
+{
+    for (const KzImage *image = images; image; image = image->next)
+        for (unsigned one = 0; one < image->headers.sections_count; one++) {
+            const KzSection *section = &image->headers.sections[one];
+            if (!section->is_written || at--)
+                continue;
+            *start = (char *)image->bytes.start + section->at;
+            *end = *start + section->size;
+            return true;
+        }
+    return false;
+}
+
+/* ---- What the loader of Windows does beside laying out and binding: the cookie of /GS, which a driver's own start refuses if nobody has set it. */
+static void set_cookie(const KzImage *image)
+{
+    enum { COOKIE = 0x58 };
+    const uint64_t usual = 0x00002b992ddfa232, value = 0x00005bd1e995a3c7;
+    uint64_t address = 0, there = 0;
+    KzBytes configuration = kz_directory(&image->headers, image->bytes, KZ_LOAD_CONFIGURATION);
+    kz_copy(configuration, COOKIE, &address, sizeof address);
+    uint64_t at = address - (uintptr_t)image->bytes.start;
+    if (address && kz_copy(image->bytes, at, &there, sizeof there) && there == usual)
+        memcpy(kz_bytes_at(image->bytes, at, sizeof value), &value, sizeof value);
+}
+
+static uint64_t find_import(void *given, const char *module, const char *name)
+{
+    const KzImage *image = given;
+    const void *found = kz_find_export(name);
+    if (!found) {
+        fprintf(stderr, "%s: %s of %s isn't in this kit: a call of it is told, and answers STATUS_NOT_SUPPORTED\n", image->path, name, module);
+        found = kz_missing_call(name);
+    }
+    return (uintptr_t)found;
+}
+
+/* ---- Files. */
+static bool read_file(const char *path, KzBytes *to, KzRefusal *why)
+{
+    enum { LARGEST = 256 << 20 };
+    errno = 0;
+    FILE *file = fopen(path, "rb");
+    long size = file && fseek(file, 0, SEEK_END) == 0 ? ftell(file) : -1;
+    *to = (KzBytes){size >= 0 && size <= LARGEST ? malloc((size_t)size + 1) : NULL, 0};
+    if (to->start) {
+        rewind(file);
+        to->size = fread(to->start, 1, (size_t)size, file);
+    }
+    bool is_read = to->start && !ferror(file);
+    if (!is_read)
+        kz_refuse(why, "%s", errno ? strerror(errno) : "it is no file of at most 256 MB");
+    if (file)
+        fclose(file);
+    return is_read;
+}
+
+static void name_driver(KzImage *image)
+{
+    const char *slash = strrchr(image->path, '/');
+    char *name = kz_copy_of(slash ? slash + 1 : image->path), *end = strrchr(name, '.');
+    if (end)
+        *end = 0;
+    image->driver = (KzDriver){name, (DRIVER_INITIALIZE *)(uintptr_t)(image->bytes.start + image->headers.entry)};
+}
+
+static bool make(KzImage *image, KzBytes file, KzRefusal *why)
+{
+    if (!kz_read_headers(file, &image->headers, why) || !take_room(image, why) || !kz_lay_out(&image->headers, file, image->bytes, (uintptr_t)image->bytes.start, why) ||
+        !kz_bind(&image->headers, image->bytes, find_import, image, why))
+        return false;
+    set_cookie(image);
+    image->pristine = kz_memory(image->bytes.size);
+    memcpy(image->pristine, image->bytes.start, image->bytes.size);
+    name_driver(image);
+    protect(image);
+    return true;
+}
+
+const KzImage *kz_load_image(const char *path, KzRefusal *why)
+{
+    KzBytes file;
+    KzImage *image = kz_memory(sizeof *image);
+    image->path = path;
+    bool is_made = read_file(path, &file, why) && make(image, file, why);
+    free(file.start);
+    if (!is_made) {
+        free(image);
+        return NULL;
+    }
+    image->next = images;
+    images = image;
+    kz_binaries.open = open_again;
+    kz_binaries.data = find_data;
+    kz_watch_faults();
+    return image;
+}

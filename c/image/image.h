@@ -1,0 +1,25 @@
+/* Drivers that are binaries of Windows, above the host: where they lie, and what their code needs of the machine. */
+#ifndef KZ_IMAGE_H
+#define KZ_IMAGE_H
+
+#include "host.h"
+#include "image/pe.h"
+
+typedef struct KzImage {
+    struct KzImage *next;
+    const char *path;
+    KzHeaders headers;
+    KzBytes bytes;    /* as it lies in memory */
+    uint8_t *pristine; /* as it was laid out */
+    KzDriver driver;
+} KzImage;
+
+/* image.c: NULL if the file can't be used, and why. What it imports and isn't here is written to the standard error output. */
+const KzImage *kz_load_image(const char *path, KzRefusal *why);
+const KzImage *kz_image_at(uint64_t address); /* NULL: it is in none */
+/* line.c: the line of its source before that address; else its function or its name, with how far that is behind it. */
+bool kz_find_image_line(uintptr_t address, char *room, size_t size);
+/* fault.c: what the processor refuses is carried out, or raised. */
+void kz_watch_faults(void);
+
+#endif

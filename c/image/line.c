@@ -1,0 +1,36 @@
+/* Where a binary's code stands, in words: a line of its source by its .pdb or its DWARF, which llvm's program reads where it is there; else the function's name, if it is exported, or the
+ * driver's, with how far that is behind it, as a debugger says it. It is called in a signal's handler too. */
+#include "image/image.h"
+#include "core/source.h"
+
+typedef struct {
+    uint32_t begin, end, unwind;
+} Function;
+
+/* The function's begin by .pdata. */
+static uint32_t begin_of(const KzImage *image, uint32_t at)
+{
+    KzBytes table = kz_directory(&image->headers, image->bytes, KZ_EXCEPTIONS);
+    Function one;
+    for (size_t row = 0; kz_copy(table, row * sizeof one, &one, sizeof one); row++)
+        if (at >= one.begin && at < one.end)
+            return one.begin;
+    return 0;
+}
+
+bool kz_find_image_line(uintptr_t address, char *room, size_t size)
+{
+    const KzImage *image = kz_image_at(address);
+    if (!image)
+        return false;
+    uint32_t at = (uint32_t)(address - (uintptr_t)image->bytes.start), begin = begin_of(image, at);
+    uintptr_t linked = image->headers.linked + at;
+    if (kz_ask_line("llvm-addr2line", image->path, linked, room, size) || kz_ask_line("addr2line", image->path, linked, room, size))
+        return true;
+    const char *name = begin ? kz_exported_name(&image->headers, image->bytes, begin) : NULL;
+    if (name)
+        snprintf(room, size, "%s!%s+0x%x", image->driver.name, name, at - begin);
+    else
+        snprintf(room, size, "%s+0x%x", image->driver.name, at);
+    return true;
+}

@@ -1,0 +1,184 @@
+/* Registers as a whole, and the calls that need them: those that raise exceptions, those that may touch what isn't there. The offsets are those of KzContext. */
+    .macro STUB name
+    .globl kz_stub_\name
+kz_stub_\name:
+    .endm
+    .macro XMM how, from, base
+    .irp n, 6, 7, 8, 9, 10, 11, 12, 13, 14, 15
+    \how \n, \from, \base
+    .endr
+    .endm
+    .macro SAVE_XMM n, at, base
+    movaps %xmm\n, \at+16*\n(\base)
+    .endm
+    .macro LOAD_XMM n, at, base
+    movaps \at+16*\n(\base), %xmm\n
+    .endm
+
+    .text
+/* void kz_restore(const KzContext *): its last steps take three words below the stack's pointer, where code of Windows keeps nothing. */
+    .globl kz_restore
+kz_restore:
+    ldmxcsr 0x34(%rdi)
+    .irp n, 0, 1, 2, 3, 4, 5, 6, 7, 8, 9, 10, 11, 12, 13, 14, 15
+    movaps 0x1a0+16*\n(%rdi), %xmm\n
+    .endr
+    mov 0x98(%rdi), %rax
+    sub $24, %rax
+    mov 0xb0(%rdi), %rcx
+    mov %rcx, (%rax)
+    mov 0x44(%rdi), %ecx
+    mov %rcx, 8(%rax)
+    mov 0xf8(%rdi), %rcx
+    mov %rcx, 16(%rax)
+    mov %rax, %rsp
+    mov 0x78(%rdi), %rax
+    mov 0x80(%rdi), %rcx
+    mov 0x88(%rdi), %rdx
+    mov 0x90(%rdi), %rbx
+    mov 0xa0(%rdi), %rbp
+    mov 0xa8(%rdi), %rsi
+    mov 0xb8(%rdi), %r8
+    mov 0xc0(%rdi), %r9
+    mov 0xc8(%rdi), %r10
+    mov 0xd0(%rdi), %r11
+    mov 0xd8(%rdi), %r12
+    mov 0xe0(%rdi), %r13
+    mov 0xe8(%rdi), %r14
+    mov 0xf0(%rdi), %r15
+    pop %rdi
+    popfq
+    ret
+
+    .globl kz_fault_entry
+kz_fault_entry:
+    cld
+    call kz_fault
+    ud2
+
+/* A context on the stack, with the caller's registers as they are behind its call. 8 bytes more keep the stack's alignment. */
+    .macro CAPTURE
+    sub $0x4d8, %rsp
+    mov %rax, 0x78(%rsp)
+    mov %rcx, 0x80(%rsp)
+    mov %rdx, 0x88(%rsp)
+    mov %rbx, 0x90(%rsp)
+    lea 0x4e0(%rsp), %rax
+    mov %rax, 0x98(%rsp)
+    mov %rbp, 0xa0(%rsp)
+    mov %rsi, 0xa8(%rsp)
+    mov %rdi, 0xb0(%rsp)
+    mov %r8, 0xb8(%rsp)
+    mov %r9, 0xc0(%rsp)
+    mov %r10, 0xc8(%rsp)
+    mov %r11, 0xd0(%rsp)
+    mov %r12, 0xd8(%rsp)
+    mov %r13, 0xe0(%rsp)
+    mov %r14, 0xe8(%rsp)
+    mov %r15, 0xf0(%rsp)
+    mov 0x4d8(%rsp), %rax
+    mov %rax, 0xf8(%rsp)
+    XMM SAVE_XMM, 0x1a0, %rsp
+    stmxcsr 0x34(%rsp)
+    movl $0x202, 0x44(%rsp)
+    cld
+    .endm
+/* Where nothing was raised the caller goes on. */
+    .macro GO_ON
+    mov 0xa8(%rsp), %rsi
+    mov 0xb0(%rsp), %rdi
+    XMM LOAD_XMM, 0x1a0, %rsp
+    add $0x4d8, %rsp
+    ret
+    .endm
+    .macro RAISES name, to, kind
+STUB \name
+    CAPTURE
+    mov %rsp, %rdi
+    mov $\kind, %esi
+    call \to
+    GO_ON
+    .endm
+
+    .section kz_stubs, "ax", @progbits
+/* These lines are read by the Makefile too: a stub each.
+STUB ExRaiseStatus
+STUB RtlRaiseStatus
+STUB ExRaiseAccessViolation
+STUB ExRaiseDatatypeMisalignment
+STUB ProbeForRead
+STUB ProbeForWrite
+STUB _local_unwind
+STUB RtlCaptureContext
+*/
+    RAISES ExRaiseStatus, kz_raise_status, 0
+    RAISES RtlRaiseStatus, kz_raise_status, 0
+    RAISES ExRaiseAccessViolation, kz_raise_status, 1
+    RAISES ExRaiseDatatypeMisalignment, kz_raise_status, 2
+    RAISES ProbeForRead, kz_probe, 0
+    RAISES ProbeForWrite, kz_probe, 1
+    RAISES _local_unwind, kz_unwind_locally, 0
+    RAISES RtlCaptureContext, kz_capture, 0
+
+STUB __C_specific_handler
+    jmp kz_c_specific_handler
+
+/* A function with large locals touches the stack's pages first: they are there. */
+STUB __chkstk
+STUB ___chkstk_ms
+    ret
+
+/* ---- Copies. They may touch what isn't there on behalf of the binary: then the return address is on top of the stack, and rsi and rdi are in r10 and r11. */
+    .globl kz_copies
+kz_copies:
+STUB memcpy
+    mov %rsi, %r10
+    mov %rdi, %r11
+    mov %rcx, %rax
+    mov %rcx, %rdi
+    mov %rdx, %rsi
+    mov %r8, %rcx
+    rep movsb
+    mov %r10, %rsi
+    mov %r11, %rdi
+    ret
+STUB memmove
+STUB RtlMoveMemory
+STUB RtlCopyMemory
+    mov %rcx, %rax
+    sub %rdx, %rax
+    cmp %r8, %rax
+    jae kz_stub_memcpy
+    mov %rsi, %r10
+    mov %rdi, %r11
+    mov %rcx, %rax
+    lea -1(%rcx,%r8), %rdi
+    lea -1(%rdx,%r8), %rsi
+    mov %r8, %rcx
+    std
+    rep movsb
+    cld
+    mov %r10, %rsi
+    mov %r11, %rdi
+    ret
+STUB RtlZeroMemory
+    mov %rdx, %r8
+    xor %edx, %edx
+    jmp kz_stub_memset
+STUB RtlFillMemory
+    xchg %rdx, %r8
+STUB memset
+    mov %rsi, %r10
+    mov %rdi, %r11
+    mov %rcx, %r9
+    mov %rcx, %rdi
+    mov %edx, %eax
+    mov %r8, %rcx
+    rep stosb
+    mov %r9, %rax
+    mov %r10, %rsi
+    mov %r11, %rdi
+    ret
+    .globl kz_copies_end
+kz_copies_end:
+    .section .note.GNU-stack, "", @progbits

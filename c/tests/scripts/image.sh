@@ -1,0 +1,105 @@
+#!/usr/bin/env bash
+# Binaries of drivers: each sample made a .sys by both toolchains that are here, run, and compared with what is stored of its source; exceptions, what compiled kernel code does by itself,
+# a driver in C++; files that can't run; changed files under sanitizers. SECONDS_OF_FUZZ is how long these are tried.
+set -u
+. "$(dirname "$0")/tally.sh" image
+
+[ "$(uname -m)" = x86_64 ] || {
+    echo "image: not tried, since binaries of drivers run on x86-64 alone"
+    finish
+    exit
+}
+users=()
+for user in c/samples/user/*.c; do
+    users+=(--user "$user")
+done
+build run --image "$room/run" c/samples/nullfilter.c "${users[@]}"
+export RUN=$room/run
+
+# Each place where the host calls a driver's function does so by the convention of who it is.
+$tests/image/indirect.sh "$PWD/out/c/$(make -s --no-print-directory -C c where LIBRARIES=host)"
+tell $? "calls through pointers"
+
+# The reader: changed files, in all of the ways that a seed gives, and what it refuses.
+if has_sanitizers address,undefined; then
+    ${CC:-cc} -std=gnu11 -fshort-wchar -O1 -g -Wall -Wextra -Werror -fsanitize=address,undefined -fno-sanitize-recover=undefined -Ic -Ic/include -o "$room/reader" \
+        $tests/image/reader.c c/image/{bytes,headers,layout,imports,exports}.c
+    tell $? "the reader, as it was built under sanitizers,"
+    "$room/reader" "${SECONDS_OF_FUZZ:-5}" > "$room/reader.out" 2>&1 || { cat "$room/reader.out"; false; }
+    tell $? "changed files"
+fi
+if command -v python3 > /dev/null; then
+    python3 $tests/image/bars.py "$RUN" "$room/bars"
+    tell $? "files that can't run"
+fi
+
+# which KIND: whether the toolchain is here, and python3, which makes its headers.
+has() {
+    local tool
+    for tool in "$@"; do
+        command -v "$tool" > /dev/null || { echo "image: drivers by $kind aren't tried, since there is no $tool here"; return 1; }
+    done
+    [ -f /usr/x86_64-w64-mingw32/include/ddk/ntifs.h ] || { echo "image: drivers by $kind aren't tried, since there are no headers of mingw-w64 here"; return 1; }
+}
+
+# play NAME DRIVER..: its requests, beside what is stored of the driver's source.
+play() {
+    local name=$1
+    shift
+    "$RUN" "$@" "$tests/requests/$name.txt" > "$room/$name.out" 2> "$room/$name.err"
+    [ $? = "$(cat "$tests/expected/$name.status" 2> /dev/null || echo 0)" ] && diff "$tests/expected/$name.out" "$room/$name.out"
+    tell $? "$name by $kind"
+}
+
+# explored NAME STATUS PATTERN: a driver of c/tests/misuse/schedules as a binary, under its scenario.
+explored() {
+    local scenario=$tests/scenarios/$1.txt
+    $tests/image/sys.sh $kind "$room/kit-$kind" "$room/$1.sys" $tests/misuse/schedules/$1.c > "$room/$1.log" 2>&1
+    ./flt run --explore "$room/$1.sys" $(sed -n 's/^# words: //p' "$scenario") "$scenario" > "$room/$1.out" 2>&1
+    [ $? = "$2" ] && grep '^bound' "$room/$1.out" | tail -n 1 | grep -q "$3" || { cat "$room/$1.log" "$room/$1.out"; false; }
+    tell $? "$1 under the explorer by $kind"
+}
+
+# Of the samples that leave a block gcc makes none: it has no blocks for exceptions in C.
+for kind in msvc mingw; do
+    case $kind in
+    msvc) has python3 clang lld-link llvm-dlltool llvm-addr2line || continue ;;
+    mingw) has python3 x86_64-w64-mingw32-gcc x86_64-w64-mingw32-dlltool || continue ;;
+    esac
+    mkdir -p "$room/$kind"
+    for source in c/samples/*.c $tests/drivers/majors.c $tests/image/*.c $tests/image/*.cpp; do
+        name=$(basename "$source")
+        name=${name%.*}
+        case $kind-$name in
+        *-reader | mingw-minispy | mingw-wordscanner | mingw-raises) continue ;;
+        mingw-classes) command -v x86_64-w64-mingw32-g++ > /dev/null || { echo "image: no driver in C++ is tried by mingw, since there is no x86_64-w64-mingw32-g++ here"; continue; } ;;
+        esac
+        $tests/image/sys.sh $kind "$room/kit-$kind" "$room/$kind/$name.sys" "$source" > "$room/$name.log" 2>&1 || { head -n 5 "$room/$name.log"; tell 1 "$name, as it was built by $kind,"; }
+    done
+    for source in c/samples/*.c; do
+        name=$(basename "$source" .c)
+        [ ! -f "$room/$kind/$name.sys" ] || play "$name" "$room/$kind"/*.sys
+    done
+    for requests in $tests/image/*.txt; do
+        name=$(basename "$requests" .txt)
+        [ -f "$room/$kind/$name.sys" ] || continue
+        { "$RUN" "$room/$kind/$name.sys" "$requests"; echo "status $?"; } > "$room/$name.out" 2> "$room/$name.err"
+        diff "$tests/image/$name.out" "$room/$name.out"
+        tell $? "$name by $kind"
+    done
+    # The other words: a load by threads, schedules, a server. What the explorer comes to is what it comes to with the driver's source, but for races, which it doesn't see.
+    sed 's/DRIVER/ctx/' $tests/scenarios/load.txt > "$room/load.txt"
+    "$RUN" "$room/$kind/ctx.sys" --load "$room/load.txt" --threads 4 --seconds 2 > "$room/load.out" 2>&1 && tail -n 1 "$room/load.out" | grep -q 'leaked references 0, told 0, limits 0$'
+    tell $? "a load by $kind"
+    explored lastrelease 5 '125 schedules, .*told 8, races 0, stuck 0, crashed 0'
+    explored lockorder 6 '202 schedules, .*told 0, races 0, stuck 10, crashed 0'
+    explored lostrelease 5 '356 schedules, .*told 29, races 0, stuck 0, crashed 0'
+    explored refusal 139 '10 schedules, .*told 0, races 0, stuck 0, crashed 4'
+    ./flt run "$room/$kind/contentscan.sys" --user c/samples/user/scanservice.c $tests/requests/contentscan.txt 2> "$room/flt.err" | diff $tests/expected/contentscan.out -
+    tell $? "flt run by $kind"
+    # A driver of source beside one that is a binary.
+    printf 'load nullfilter\nload ctx\nattach ctx v0 first 300\ncreate v0 new a as a\nclose a\n' > "$room/both.txt"
+    "$RUN" "$room/$kind/ctx.sys" "$room/both.txt" | grep -q '^contexts born 3, cleaned 3, leaked references 0, told 0, limits 0$'
+    tell $? "source and binary at once by $kind"
+done
+finish

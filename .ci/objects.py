@@ -5,7 +5,8 @@
     .ci/objects.py --objects FILE [--objects FILE ..]     the objects that drivers' programs in C wrote to these files
 
 With --random it checks so many random scripts too (.ci/scripts.py), from that seed on or from 1.
-With --trial it checks a trial too, of the program test_trial: its stored scenario, and one of what that one lacks. The lines that the trial prints say the same.
+With --trial it checks trials too, of the program test_trial: its stored scenarios, and two of what those lack. The lines that a trial prints say the same, and
+what its end counts is what its objects say.
 It ends with status 1 if an object isn't as the tables say, if an event of a table never came, or if the page has other objects.
 """
 import json
@@ -47,6 +48,12 @@ unload 0
 read what
 """.encode()
 
+# A scenario at whose end two operations are held.
+OWN_HELD = b"load mistakes\nattach 0 0 m 100\ncreate 0 new x\nwrite 0 0 61\nread 0 6 1\nexpect held\nread 0 8 1\nread 0 4 1\nexpect told KZ0113\n\n"
+
+# What is told of one that gives back, or lets go, what it hasn't got; and of one that is held to the end.
+MISUSES, HELD = ("KZ0102", "KZ0113"), "KZ0111"
+
 # What a trial can't do without: where it is refused and no line expects that, it counts as unmet.
 SET_UPS = ("load", "attach")
 
@@ -55,7 +62,7 @@ STEPS = {"Pre": "pre", "Base": "base", "Post": "post", "PostHeld": "post", "Drai
 
 TOP = pathlib.Path(__file__).resolve().parent.parent
 DATA = TOP / "crates" / "examples" / "data"
-TRIAL = TOP / "crates" / "test_trial" / "data" / "mistakes.txt"
+TRIALS = sorted((TOP / "crates" / "test_trial" / "data").glob("*.txt"))
 MOST = 2**64 - 1
 
 
@@ -172,8 +179,8 @@ def trial_faults(program, all_told, scenario):
     steps = [tuple(line.split()[:2]) for line in lines if re.match(r"  o[0-9]+ ", line)]
     if steps != [(told["operation"], STEPS[told["event"]]) for told in all_told if told["event"] in STEPS]:
         faults.append("its lines have other steps")
-    told_lines = [line for line in lines if line.startswith(("TOLD ", "LIMIT ")) and " KZ0111 " not in line]
-    if told_lines != [told["words"] for told in all_told if told["event"] == "Told" and told["id"] != "KZ0111"]:
+    told_lines = [line for line in lines if line.startswith(("TOLD ", "LIMIT ")) and f" {HELD} " not in line]
+    if told_lines != [told["words"] for told in all_told if told["event"] == "Told" and told["id"] != HELD]:
         faults.append("its lines tell something else")
     unmet = [int(line.split()[1]) for line in lines if re.match(r"line [0-9]+ failed", line)]
     texts = scenario.read_text().split("\n")
@@ -184,7 +191,34 @@ def trial_faults(program, all_told, scenario):
         faults.append("what is told has another number or kind in its words")
     if all_told[-1].get("status") != done.returncode:
         faults.append("another exit status")
-    return faults + line_faults(all_told, scenario)
+    return faults + line_faults(all_told, scenario) + (end_faults(all_told, texts) if done.returncode != 2 else [])
+
+
+def end_faults(all_told, texts):
+    """What the end of a trial counts otherwise than its objects do. That operations are held is one mistake, of however many it is told."""
+    told = [it for it in all_told if it["event"] == "Told"]
+    held = [it["operation"] for it in told if it["id"] == HELD]
+    expected = sum(it["event"] == "Met" and it["expected"].startswith("told ") for it in all_told)
+    # A limit is none that counts, so a line that expects one takes none away.
+    limits = sum(it["event"] == "Met" and it["expected"].split()[1:] in [[other["id"]] for other in told if other["telling"] == "limit"] for it in all_told)
+    wanted = {
+        "held": len(held),
+        "misuses": sum(it["id"] in MISUSES for it in told),
+        "unmet": sum(it["event"] == "Unmet" for it in all_told),
+        "line": max([number for number, text in enumerate(texts, 1) if text.strip("\r")], default=0),
+        "told": sum(it["telling"] == "mistake" and it["id"] != HELD for it in told) + (1 if held else 0) - (expected - limits),
+        "leaks": sum(it["id"] == "KZ0101" for it in told),
+        "dropped": 0,
+    }
+    faults = [f"its end has {name} {all_told[-1].get(name)}, and its objects {count}" for name, count in wanted.items() if all_told[-1].get(name) != count]
+    last = {it["operation"]: it for it in all_told if it["event"] in STEPS and "operation" in it}
+    held_last = [operation for operation, it in last.items() if it["event"] == "PostHeld" or it.get("verdict") == "pend"]
+    if sorted(held) != sorted(held_last):
+        faults.append(f"{sorted(held)} are told as held, and {sorted(held_last)} were held last")
+    places = {it["operation"]: it["callback"] for it in told if it["id"] == HELD}
+    if any(("postoperation" if last[operation]["event"] == "PostHeld" else "preoperation") != place for operation, place in places.items() if operation in last):
+        faults.append("one that is held is told of another callback")
+    return faults
 
 
 def line_faults(all_told, scenario):
@@ -195,7 +229,9 @@ def line_faults(all_told, scenario):
     for number, line in enumerate(texts, 1):
         words = line.split()
         kind = "" if not words else "#" if words[0].startswith("#") else words[0]
-        here = {told["event"] for told in all_told if line_of(told, texts) == number} - {"Told", "End"}
+        # That nothing was asked is told of all lines, on the last one.
+        is_last = not any(later.strip() for later in texts[number:])
+        here = {told["event"] for told in all_told if line_of(told, texts) == number and not (is_last and told.get("expected") == "a request")} - {"Told", "End"}
         right = wanted.get(kind)
         if (not words and here) or (right and (len(here) != 1 or not here <= right)) or (words and not right and not here):
             faults.append(f"line {number} has the objects {sorted(here)}")
@@ -286,15 +322,16 @@ def main():
     if program is None:
         sys.exit(__doc__)
     room = tempfile.TemporaryDirectory()
-    own, own_trial = pathlib.Path(room.name) / "own.flt", pathlib.Path(room.name) / "own.trial"
+    own, own_trial, own_held = (pathlib.Path(room.name) / name for name in ("own.flt", "own.trial", "held.trial"))
     own.write_bytes(OWN)
     own_trial.write_bytes(OWN_TRIAL)
+    own_held.write_bytes(OWN_HELD)
     scripts = [pathlib.Path(word) for word in words] or [*sorted(DATA.rglob("*.flt")), own]
     scripts += random_scripts(program, room.name, count, seed)
     kinds, events, trial_events, _ = schema()
     runs = [check(script, program, kinds, events, lambda told, script=script: script_faults(told, events, script)) for script in scripts]
     if trial:
-        runs += [check(it, trial, kinds, events, lambda told, it=it: trial_faults(trial, told, it)) for it in (TRIAL, own_trial)]
+        runs += [check(it, trial, kinds, events, lambda told, it=it: trial_faults(trial, told, it)) for it in (*TRIALS, own_trial, own_held)]
     seen = {told["event"] for all_told, _ in runs for told in all_told}
     bad = sum(not is_right for _, is_right in runs)
     absent = sorted(set(events) - seen - (set() if trial else trial_events)) if not words else []

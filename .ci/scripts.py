@@ -12,7 +12,7 @@ import subprocess
 import sys
 
 WORKERS = ["w0", "w1", "w2", "w3"]
-ENDS = ["SetUp", "Pre", "Post", "PostHeld", "Drained", "Queried", "Started", "EarlyDrained", "Completed", "Unloaded", "Cleaned"]
+ENDS = ["SetUp", "Pre", "Post", "PostHeld", "Drained", "Queried", "Started", "EarlyDrained", "Completed", "RoutineReturned", "Unloaded", "Cleaned"]
 KINDS = ["volume", "instance", "stream", "handle"]
 ALTITUDES = ["5", "12.50", "100", "235", "320000"]
 PATHS = ["a", "b", "deny/x", "sub/long-name"]
@@ -142,7 +142,7 @@ class Maker:
         answers = {
             "InSetup": "setdone W yes", "InPre": f"pre W {self.pre()}", "InBase": "base W", "InDrain": "post W done", "InCleanup": "cleaned W",
             "InPost": self.random.choice(["post W done", "post W done", "post W more"]), "InQuery": "queried W yes", "InStart": "started W",
-            "InEarlyDrain": "drained W", "InComplete": "completed W", "InUnload": "unloaded W yes",
+            "InEarlyDrain": "drained W", "InComplete": "completed W", "InRoutine": "left W", "InUnload": "unloaded W yes",
         }
         return self.say(answers[event].replace("W", worker))
 
@@ -153,6 +153,10 @@ class Maker:
     def teardown(self):
         worker, instance = self.idle(), self.any("i")
         self.say(self.random.choice([f"query {worker} {instance}"] * 2 + [f"start {worker} {instance}"] * 2 + [f"drain {worker} {instance}", f"complete {worker} {instance}", f"finish {instance}"]))
+
+    def routine(self):
+        worker, instance = self.idle(), self.any("i")
+        self.say(self.random.choice([f"enter {worker} {instance}", f"enter {worker} {instance} {self.any('h')}"]))
 
     def end(self):
         self.say(self.random.choice([f"unload {self.idle()} {self.any('f')}", f"dismount {self.any('v')}", f"drop {self.any('v')}", f"emptyv {self.any('v')}", f"emptyf {self.any('f')}"]))
@@ -174,7 +178,7 @@ class Maker:
 
 
 MOVES = [
-    (Maker.load, 1), (Maker.mount, 1), (Maker.attach, 4), (Maker.begin, 10), (Maker.step, 10), (Maker.goes_on, 30), (Maker.resume, 2), (Maker.teardown, 3),
+    (Maker.load, 1), (Maker.mount, 1), (Maker.attach, 4), (Maker.begin, 10), (Maker.step, 10), (Maker.goes_on, 30), (Maker.resume, 2), (Maker.routine, 2), (Maker.teardown, 3),
     (Maker.end, 0.3), (Maker.clean, 2), (Maker.plan, 2), (Maker.ask, 1), (Maker.expect, 1), (Maker.odd, 1),
 ]
 

@@ -124,6 +124,9 @@ typedef struct KzFile {
     bool is_counted;     /* among its file's open handles */
     bool is_leaving;     /* and its cleanup has begun */
     bool is_posix;       /* a deletion takes its name away with the handle's cleanup */
+    bool is_sharing;     /* it counts in its file's share access */
+    ACCESS_MASK access;  /* that its create was granted */
+    ULONG_PTR created;   /* what the file system made of its create: FILE_OPENED and its kin */
     struct {             /* of a directory */
         char pattern[256], last[256];
         unsigned dots;

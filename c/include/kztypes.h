@@ -318,6 +318,10 @@ typedef struct _FS_FILTER_CALLBACKS *PFS_FILTER_CALLBACKS;
 typedef struct _SHARE_ACCESS {
     ULONG OpenCount, Readers, Writers, Deleters, SharedRead, SharedWrite, SharedDelete;
 } SHARE_ACCESS, *PSHARE_ACCESS;
+NTSTATUS IoCheckShareAccess(ACCESS_MASK DesiredAccess, ULONG DesiredShareAccess, PFILE_OBJECT FileObject, PSHARE_ACCESS ShareAccess, BOOLEAN Update);
+VOID IoSetShareAccess(ACCESS_MASK DesiredAccess, ULONG DesiredShareAccess, PFILE_OBJECT FileObject, PSHARE_ACCESS ShareAccess);
+VOID IoUpdateShareAccess(PFILE_OBJECT FileObject, PSHARE_ACCESS ShareAccess);
+VOID IoRemoveShareAccess(PFILE_OBJECT FileObject, PSHARE_ACCESS ShareAccess);
 typedef struct _CC_FILE_SIZES {
     LARGE_INTEGER AllocationSize, FileSize, ValidDataLength;
 } CC_FILE_SIZES, *PCC_FILE_SIZES;

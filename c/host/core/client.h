@@ -3,6 +3,7 @@
 #define KZ_CORE_CLIENT_H
 
 #include "host.h"
+#include "core/create.h"
 
 /* The driver's function is called for it: its code runs until it has returned, or makes a call. */
 #define kz_let_driver(name, function) kz_let_function(name, (const void *)(uintptr_t)(function))
@@ -39,8 +40,8 @@ struct KzClient {
     KzThread *beside; /* the thread that it is, beside the requests; NULL for those of requests and of work items */
     char waits[160];  /* what it waits for */
     char says[4096]; /* its last answer as text, up to its reply */
-    char reparsed[320]; /* the name that its last create was answered with, and how that is to be opened */
-    uint8_t reparsed_mode;
+    char reparsed[320]; /* the name that its last create was answered with, and what that asked for at its beginning */
+    KzCreate reparsed_create;
     const char *request; /* what it asks for, in words, for what is told; NULL if that isn't known */
     unsigned line_number; /* in its file; 0 if it isn't of one */
     char line[KZ_LINE];

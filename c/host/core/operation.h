@@ -3,6 +3,7 @@
 #define KZ_CORE_OPERATION_H
 
 #include "host.h"
+#include "core/create.h"
 
 /* An instance on the way down, and the parameters that it received. */
 typedef struct KzStep {
@@ -47,6 +48,7 @@ typedef struct KzVisit {
     PVOID received, swapped;
     PMDL received_mdl;
     ULONG room, swapped_room;
+    KzCreate create; /* what it received of a create */
 } KzVisit;
 
 /* The description of a swapped buffer: as in the kit, the manager frees it. */
@@ -114,7 +116,7 @@ typedef struct {
     ULONG irp_flags;
     PECP_LIST ecps; /* of a create; the filter's own */
     const KzAsked *carried; /* what the kit has in place of the manager's operation, as it begins */
-    bool is_directory;      /* a create opens one */
+    const KzCreate *create; /* of a create, as it begins; NULL: the usual one */
     uint8_t worker;
     bool has_worker; /* a client's, which has one of its own all the same */
     PFLT_CALLBACK_DATA data; /* that the filter has of it, if it made one */
@@ -166,6 +168,7 @@ struct KzOp {
     PECP_LIST ecps; /* that a filter put into a create */
     KzCancel cancel;
     bool is_cancelled; /* a create that a filter cancelled in its postoperation */
+    KzCreate asked, create; /* what a create asked for as it began, and what it asks for by now */
     unsigned users;   /* callbacks that look at it beside its runner */
     const char *request, *path; /* as in KzPlace */
     unsigned line;

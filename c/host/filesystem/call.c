@@ -9,6 +9,7 @@
 #include "filesystem/name.h"
 #include "filesystem/node.h"
 #include "filesystem/notice.h"
+#include "filesystem/sharing.h"
 #include "filesystem/rename.h"
 #include "filesystem/tree.h"
 #include "filesystem/tunnel.h"
@@ -84,11 +85,16 @@ static bool answers_create(KzOp *op, const KazdrinData *call, NTSTATUS *status)
     if (kz_has_file_above(name->volume, name->text))
         return true;
     if (op->file->is_directory) {
+        bool was_there = kz_is_there(name);
         *status = open_directory(name, call->mode);
+        if (NT_SUCCESS(*status) && was_there)
+            *status = kz_may_open(op);
         return true;
     }
-    *status = call->mode == 1 ? STATUS_OBJECT_NAME_COLLISION : STATUS_FILE_IS_A_DIRECTORY;
-    return kz_is_there(name) && name->node->is_directory;
+    if (!kz_is_there(name))
+        return false;
+    *status = call->mode == 1 ? STATUS_OBJECT_NAME_COLLISION : name->node->is_directory ? STATUS_FILE_IS_A_DIRECTORY : kz_may_open(op);
+    return name->node->is_directory || (call->mode != 1 && !NT_SUCCESS(*status));
 }
 
 /* ---- Closes that would take the bytes away. They stay where the mark was taken back, or where the file has another name; below a folder they went with the name. */

@@ -8,6 +8,7 @@
 #include "lib/letters.h"
 #include "filesystem/deletion.h"
 #include "filesystem/name.h"
+#include "filesystem/sharing.h"
 
 #include <stdlib.h>
 
@@ -60,9 +61,7 @@ void kz_file_opened(KzFile *file)
     PFILE_OBJECT object = &file->object;
     object->FsContext = file;
     object->FsContext2 = &file->sections;
-    object->Flags |= FO_HANDLE_CREATED | FO_CACHE_SUPPORTED;
-    object->ReadAccess = object->WriteAccess = object->DeleteAccess = TRUE;
-    object->SharedRead = object->SharedWrite = object->SharedDelete = TRUE;
+    object->Flags |= FO_HANDLE_CREATED | (object->Flags & FO_NO_INTERMEDIATE_BUFFERING ? 0 : FO_CACHE_SUPPORTED);
 }
 
 void kz_file_answered(KzFile *file, uint64_t handle)
@@ -113,6 +112,7 @@ void kz_drop_file(uint64_t handle)
     if (!file)
         return;
     file->has_handle = false;
+    kz_stop_sharing(file);
     kz_count_no_open(file);
     kz_let_go_file(file);
 }

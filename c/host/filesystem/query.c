@@ -8,6 +8,21 @@
 #include "filesystem/tree.h"
 
 /* The fields that several classes have. What lies between two fields is zeros. */
+/* What is left of its create's options, as its file object has it. */
+static ULONG mode_of(const KzFile *file)
+{
+    static const ULONG all[][2] = {{FO_WRITE_THROUGH, FILE_WRITE_THROUGH},
+                                   {FO_SEQUENTIAL_ONLY, FILE_SEQUENTIAL_ONLY},
+                                   {FO_NO_INTERMEDIATE_BUFFERING, FILE_NO_INTERMEDIATE_BUFFERING},
+                                   {FO_DELETE_ON_CLOSE, FILE_DELETE_ON_CLOSE}};
+    ULONG flags = file->object.Flags, wait = flags & FO_ALERTABLE_IO ? FILE_SYNCHRONOUS_IO_ALERT : FILE_SYNCHRONOUS_IO_NONALERT;
+    ULONG mode = flags & FO_SYNCHRONOUS_IO ? wait : 0;
+    for (size_t at = 0; at < sizeof all / sizeof all[0]; at++)
+        if (flags & all[at][0])
+            mode |= all[at][1];
+    return mode;
+}
+
 static void show_basic(const KzNode *node, FILE_BASIC_INFORMATION *to)
 {
     memset(to, 0, sizeof *to);
@@ -102,9 +117,9 @@ static NTSTATUS query_all(const KzFile *file, const KzRoom *room)
     kz_show_standard(file, &said.all.StandardInformation);
     said.all.InternalInformation.IndexNumber.QuadPart = (LONGLONG)node->id;
     said.all.EaInformation.EaSize = (ULONG)node->ea.length;
-    said.all.AccessInformation.AccessFlags = FILE_GENERIC_READ | FILE_GENERIC_WRITE | DELETE;
+    said.all.AccessInformation.AccessFlags = file->access;
     said.all.PositionInformation.CurrentByteOffset = file->object.CurrentByteOffset;
-    said.all.ModeInformation.Mode = FILE_SYNCHRONOUS_IO_NONALERT;
+    said.all.ModeInformation.Mode = mode_of(file);
     said.all.NameInformation.FileNameLength = wide_name(file, name);
     memcpy(said.bytes + offsetof(FILE_ALL_INFORMATION, NameInformation.FileName), name, said.all.NameInformation.FileNameLength);
     return kz_put_answer(room, &said, offsetof(FILE_ALL_INFORMATION, NameInformation.FileName) + said.all.NameInformation.FileNameLength, sizeof said.all);
@@ -191,13 +206,13 @@ static size_t show_fixed(const KzFile *file, int class, Fixed *said)
         said->ea.EaSize = (ULONG)node->ea.length;
         return sizeof said->ea;
     case FileAccessInformation:
-        said->access.AccessFlags = FILE_GENERIC_READ | FILE_GENERIC_WRITE | DELETE;
+        said->access.AccessFlags = file->access;
         return sizeof said->access;
     case FilePositionInformation:
         said->position.CurrentByteOffset = file->object.CurrentByteOffset;
         return sizeof said->position;
     case FileModeInformation:
-        said->mode.Mode = FILE_SYNCHRONOUS_IO_NONALERT;
+        said->mode.Mode = mode_of(file);
         return sizeof said->mode;
     case FileAlignmentInformation:
         return sizeof said->alignment;

@@ -9,7 +9,7 @@ typedef struct KzStore {
     bool (*mark)(KzFile *file);
     /* The same at once, of a file that no handle leads to. */
     bool (*drop)(PFLT_VOLUME volume, const char *key);
-    /* The file has that size, by an operation that no instance hears. */
+    /* The file, which may be about to be opened, has that size, by an operation that no instance hears. */
     NTSTATUS (*cut)(KzFile *file, uint64_t size);
     /* An operation that waited in the file system is answered, and goes on. */
     void (*go_on)(KzOp *op, NTSTATUS status);

@@ -42,6 +42,7 @@ typedef struct KzNode {
     LONGLONG created, accessed, written, changed;
     ULONG attributes;
     KzBytes ea, security;
+    SHARE_ACCESS share;
 } KzNode;
 
 /* A name as a client says it. A handle points to the one by which it was opened: so a rename is seen by all its handles, and by those of no other link. */

@@ -5,13 +5,14 @@
 #include "core/operation.h"
 #include "core/told.h"
 #include "lib/letters.h"
-#include "filesystem/deletion.h"
 #include "filesystem/fileobject.h"
 #include "filesystem/handle.h"
 #include "filesystem/name.h"
+#include "filesystem/sharing.h"
 #include "filesystem/tree.h"
 #include "filesystem/volumes.h"
 #include "manager/below.h"
+#include "manager/disposition.h"
 #include "manager/instance.h"
 #include "manager/reference.h"
 #include "manager/reparse.h"
@@ -51,42 +52,10 @@ static NTSTATUS name_of(POBJECT_ATTRIBUTES attributes, Named *named)
 typedef struct {
     PFLT_INSTANCE instance;
     POBJECT_ATTRIBUTES attributes;
-    ULONG disposition, options;
+    KzCreate create;
     const char *call, *closed_by;
     PECP_LIST ecps;
-    bool is_directory;
 } Wanted;
-
-static bool is_emptied(ULONG disposition)
-{
-    return disposition == FILE_SUPERSEDE || disposition == FILE_OVERWRITE || disposition == FILE_OVERWRITE_IF;
-}
-
-static uint8_t mode_of(ULONG disposition)
-{
-    if (disposition == FILE_CREATE)
-        return 1;
-    return disposition == FILE_OPEN || disposition == FILE_OVERWRITE ? 0 : 2;
-}
-
-static ULONG_PTR information_of(ULONG disposition)
-{
-    if (disposition == FILE_CREATE)
-        return FILE_CREATED;
-    return disposition == FILE_SUPERSEDE ? FILE_SUPERSEDED : is_emptied(disposition) ? FILE_OVERWRITTEN : FILE_OPENED;
-}
-
-/* What a file system does with the create itself: no filter hears of it. */
-static void finish_create(KzFile *file, const Wanted *wanted)
-{
-    const KzOwn unheard = {.is_unheard = true, .is_waited_for = true};
-    if (is_emptied(wanted->disposition))
-        kz_below(&unheard, file, (KazdrinEvent){.event = KZE_SET_SIZE, .handle = file->handle}, "", 0);
-    if (wanted->options & FILE_DELETE_ON_CLOSE && kz_marks_by_itself(file))
-        kz_below(&unheard, file, (KazdrinEvent){.event = KZE_SET_DELETE, .handle = file->handle}, "", 0);
-    else if (wanted->options & FILE_DELETE_ON_CLOSE)
-        kz_dispose(file, FILE_DISPOSITION_DELETE);
-}
 
 /* A create that is begun for the driver, and the file that it opened, which has one user more. */
 typedef struct {
@@ -98,11 +67,11 @@ static KzAnswer begin(void *given, KazdrinEvent asked, const char *path)
 {
     Opening *opening = given;
     PFLT_INSTANCE instance = opening->wanted->instance;
-    const KzOwn own = {.initiator = instance, .is_waited_for = true, .ecps = opening->wanted->ecps};
-    bool is_directory = opening->wanted->is_directory;
+    const KzCreate *create = &opening->wanted->create;
+    const KzOwn own = {.initiator = instance, .is_waited_for = true, .ecps = opening->wanted->ecps, .create = create};
     if (instance && instance->volume->id != asked.volume)
         return (KzAnswer){.reply.status = KZS_BAD_PATH, .other = STATUS_MOUNT_POINT_NOT_RESOLVED};
-    KzFile *file = kz_new_file(kz.volumes[asked.volume], path, is_directory);
+    KzFile *file = kz_new_file(kz.volumes[asked.volume], path, kz_opens_directory(create, kz.volumes[asked.volume], path));
     file->users++;
     file->is_own = true;
     file->opener = instance;
@@ -111,17 +80,6 @@ static KzAnswer begin(void *given, KazdrinEvent asked, const char *path)
     if (!opening->file)
         kz_let_go_file(file);
     return answer;
-}
-
-/* A create that doesn't say what it opens opens a directory where there is one. */
-static bool opens_directory(const Wanted *wanted, const Named *named)
-{
-    if (wanted->options & (FILE_DIRECTORY_FILE | FILE_NON_DIRECTORY_FILE))
-        return wanted->options & FILE_DIRECTORY_FILE;
-    KzName *name = kz_take_name(named->volume, named->path);
-    bool is_directory = name && kz_is_there(name) && name->node->is_directory;
-    kz_let_go_name(name);
-    return is_directory;
 }
 
 /* By its number, which is what stands in the place of its name. */
@@ -141,31 +99,44 @@ static NTSTATUS name_by_id(const Wanted *wanted, Named *named)
     return STATUS_INVALID_PARAMETER;
 }
 
-static NTSTATUS create(const Wanted *asked, KzFile **made)
+static NTSTATUS create(const Wanted *wanted, KzFile **made)
 {
     Named named;
-    Wanted one = *asked;
-    const Wanted *wanted = &one;
-    NTSTATUS status = wanted->options & FILE_OPEN_BY_FILE_ID ? name_by_id(wanted, &named) : name_of(wanted->attributes, &named);
+    ULONG disposition = wanted->create.options >> 24;
+    NTSTATUS status = wanted->create.options & FILE_OPEN_BY_FILE_ID ? name_by_id(wanted, &named) : name_of(wanted->attributes, &named);
     if (!NT_SUCCESS(status))
         return status;
-    one.is_directory = opens_directory(wanted, &named);
     if (wanted->instance && wanted->instance->volume != named.volume)
         return STATUS_INVALID_DEVICE_OBJECT_PARAMETER;
-    if (wanted->disposition > FILE_OVERWRITE_IF)
+    if (disposition > FILE_MAXIMUM_DISPOSITION)
         return STATUS_INVALID_PARAMETER;
-    if (!*named.path && !one.is_directory) {
+    if (!*named.path && !kz_opens_directory(&wanted->create, named.volume, named.path)) {
         kz_tell(KZM_OWN_IO, wanted->call, "a volume: it answers STATUS_NOT_SUPPORTED");
         return STATUS_NOT_SUPPORTED;
     }
     Opening opening = {wanted, NULL};
-    KazdrinEvent event = {.event = KZE_CREATE, .volume = named.volume->id, .mode = mode_of(wanted->disposition)};
+    KazdrinEvent event = {.event = KZE_CREATE, .volume = named.volume->id, .mode = kz_mode_of(disposition)};
     status = kz_status_of(kz_follow(begin(&opening, event, named.path), &opening, begin));
-    if (NT_SUCCESS(status)) {
-        finish_create(opening.file, wanted);
+    if (NT_SUCCESS(status))
         *made = opening.file;
-    }
     return status;
+}
+
+/* What a call asks for, which the system checks only where it is told to. */
+static KzCreate asked_by(ACCESS_MASK access, PLARGE_INTEGER allocation, ULONG attributes, ULONG share, ULONG disposition, ULONG options)
+{
+    return (KzCreate){.access = kz_map_access(access),
+                      .options = disposition << 24 | (options & FILE_VALID_OPTION_FLAGS),
+                      .attributes = attributes,
+                      .share = share,
+                      .allocation = allocation ? allocation->QuadPart : 0};
+}
+
+static void add_extended(KzCreate *create, PVOID ea, ULONG length, ULONG flags)
+{
+    create->ea = ea;
+    create->ea_length = ea ? length : 0;
+    create->ignores_sharing = flags & IO_IGNORE_SHARE_ACCESS_CHECK;
 }
 
 static NTSTATUS open_file(const Wanted *wanted, PHANDLE handle, PFILE_OBJECT *object, PIO_STATUS_BLOCK status)
@@ -179,7 +150,7 @@ static NTSTATUS open_file(const Wanted *wanted, PHANDLE handle, PFILE_OBJECT *ob
     *status = (IO_STATUS_BLOCK){.Status = create(wanted, &file)};
     if (!NT_SUCCESS(status->Status))
         return status->Status;
-    status->Information = information_of(wanted->disposition);
+    status->Information = file->created;
     *handle = kz_file_handle(file, wanted->closed_by);
     if (object) {
         *object = &file->object;
@@ -194,9 +165,10 @@ NTSTATUS FltCreateFileEx2(PFLT_FILTER Filter, PFLT_INSTANCE Instance, PHANDLE Fi
                           PIO_DRIVER_CREATE_CONTEXT DriverContext)
 {
     KZ_CALL();
-    (void)Filter, (void)DesiredAccess, (void)AllocationSize, (void)FileAttributes, (void)ShareAccess, (void)EaBuffer, (void)EaLength, (void)Flags;
+    (void)Filter;
     PECP_LIST ecps = DriverContext ? DriverContext->ExtraCreateParameter : NULL;
-    const Wanted wanted = {Instance, ObjectAttributes, CreateDisposition, CreateOptions, __func__, "FltClose", ecps, false};
+    Wanted wanted = {Instance, ObjectAttributes, asked_by(DesiredAccess, AllocationSize, FileAttributes, ShareAccess, CreateDisposition, CreateOptions), __func__, "FltClose", ecps};
+    add_extended(&wanted.create, EaBuffer, EaLength, Flags);
     return open_file(&wanted, FileHandle, FileObject, IoStatusBlock);
 }
 
@@ -205,8 +177,9 @@ NTSTATUS FltCreateFileEx(PFLT_FILTER Filter, PFLT_INSTANCE Instance, PHANDLE Fil
                          ULONG ShareAccess, ULONG CreateDisposition, ULONG CreateOptions, PVOID EaBuffer, ULONG EaLength, ULONG Flags)
 {
     KZ_CALL();
-    (void)Filter, (void)DesiredAccess, (void)AllocationSize, (void)FileAttributes, (void)ShareAccess, (void)EaBuffer, (void)EaLength, (void)Flags;
-    const Wanted wanted = {Instance, ObjectAttributes, CreateDisposition, CreateOptions, __func__, "FltClose", NULL, false};
+    (void)Filter;
+    Wanted wanted = {Instance, ObjectAttributes, asked_by(DesiredAccess, AllocationSize, FileAttributes, ShareAccess, CreateDisposition, CreateOptions), __func__, "FltClose", NULL};
+    add_extended(&wanted.create, EaBuffer, EaLength, Flags);
     return open_file(&wanted, FileHandle, FileObject, IoStatusBlock);
 }
 
@@ -215,8 +188,9 @@ NTSTATUS FltCreateFile(PFLT_FILTER Filter, PFLT_INSTANCE Instance, PHANDLE FileH
                        ULONG CreateOptions, PVOID EaBuffer, ULONG EaLength, ULONG Flags)
 {
     KZ_CALL();
-    (void)Filter, (void)DesiredAccess, (void)AllocationSize, (void)FileAttributes, (void)ShareAccess, (void)EaBuffer, (void)EaLength, (void)Flags;
-    const Wanted wanted = {Instance, ObjectAttributes, CreateDisposition, CreateOptions, __func__, "FltClose", NULL, false};
+    (void)Filter;
+    Wanted wanted = {Instance, ObjectAttributes, asked_by(DesiredAccess, AllocationSize, FileAttributes, ShareAccess, CreateDisposition, CreateOptions), __func__, "FltClose", NULL};
+    add_extended(&wanted.create, EaBuffer, EaLength, Flags);
     return open_file(&wanted, FileHandle, NULL, IoStatusBlock);
 }
 
@@ -225,8 +199,8 @@ NTSTATUS ZwCreateFile(PHANDLE FileHandle, ACCESS_MASK DesiredAccess, POBJECT_ATT
                       ULONG EaLength)
 {
     KZ_CALL();
-    (void)DesiredAccess, (void)AllocationSize, (void)FileAttributes, (void)ShareAccess, (void)EaBuffer, (void)EaLength;
-    const Wanted wanted = {NULL, ObjectAttributes, CreateDisposition, CreateOptions, __func__, "ZwClose", NULL, false};
+    Wanted wanted = {NULL, ObjectAttributes, asked_by(DesiredAccess, AllocationSize, FileAttributes, ShareAccess, CreateDisposition, CreateOptions), __func__, "ZwClose", NULL};
+    add_extended(&wanted.create, EaBuffer, EaLength, 0);
     return open_file(&wanted, FileHandle, NULL, IoStatusBlock);
 }
 
@@ -234,15 +208,15 @@ NTSTATUS ZwOpenFile(PHANDLE FileHandle, ACCESS_MASK DesiredAccess, POBJECT_ATTRI
                     ULONG OpenOptions)
 {
     KZ_CALL();
-    (void)DesiredAccess, (void)ShareAccess;
-    const Wanted wanted = {NULL, ObjectAttributes, FILE_OPEN, OpenOptions, __func__, "ZwClose", NULL, false};
+    const Wanted wanted = {NULL, ObjectAttributes, asked_by(DesiredAccess, NULL, 0, ShareAccess, FILE_OPEN, OpenOptions), __func__, "ZwClose", NULL};
     return open_file(&wanted, FileHandle, NULL, IoStatusBlock);
 }
 
 NTSTATUS ZwDeleteFile(POBJECT_ATTRIBUTES ObjectAttributes)
 {
     KZ_CALL();
-    const Wanted wanted = {NULL, ObjectAttributes, FILE_OPEN, FILE_DELETE_ON_CLOSE, __func__, "ZwClose", NULL, false};
+    const KzCreate deletes = asked_by(DELETE, NULL, 0, FILE_SHARE_VALID_FLAGS, FILE_OPEN, FILE_DELETE_ON_CLOSE);
+    const Wanted wanted = {NULL, ObjectAttributes, deletes, __func__, "ZwClose", NULL};
     KzFile *file;
     NTSTATUS status = create(&wanted, &file);
     if (!NT_SUCCESS(status))

@@ -8,6 +8,8 @@
 #include "filesystem/call.h"
 #include "filesystem/deletion.h"
 #include "filesystem/disk.h"
+#include "filesystem/name.h"
+#include "filesystem/sharing.h"
 #include "filesystem/ranges.h"
 #include "filesystem/tree.h"
 #include "manager/below.h"
@@ -44,7 +46,7 @@ static bool is_locked(const KzOp *op, const KazdrinData *call)
 }
 
 /* What the host answers of the manager's own operations. */
-static bool answers(KzOp *op, const KazdrinData *call)
+static bool answers(KzOp *op, const KazdrinData *call, NTSTATUS *answered)
 {
     NTSTATUS status = STATUS_FILE_LOCK_CONFLICT;
     size_t length = 0;
@@ -54,22 +56,39 @@ static bool answers(KzOp *op, const KazdrinData *call)
     if (!is_listed && !is_locked(op, call) && !is_past_end(op, call, &status) && !kz_answers_call(op, call, &status))
         return false;
     answer(op, status, kz_me->room, length);
-    if (call->operation == KZE_CREATE && NT_SUCCESS(status))
-        kz_count_open(op->file);
+    *answered = status;
     return true;
 }
 
 /* Of a file in memory, or below the folder. */
 static void call_bytes(KzOp *op, const KazdrinData *call, uint8_t worker)
 {
-    const KzName *name = op->own.is_unheard ? NULL : op->file->name;
-    bool was_there = name && name->node->exists;
     if (!kz_call_in_folder(worker, op->file))
         kazdrin_base(&kz.manager, &(KazdrinEvent){.worker = worker});
     kz_note_call(op, call);
-    bool is_opened = call->operation == KZE_CREATE && name && name->node->exists && (call->mode == 0 ? was_there : call->mode == 1 ? !was_there : true);
-    if (is_opened)
-        kz_count_open(op->file);
+}
+
+/* Whether it gives the file a handle, as far as the names say. */
+static bool opens_bytes(const KzOp *op, uint8_t mode, bool was_there)
+{
+    return op->file->name->node->exists && (mode == 0 ? was_there : mode == 1 ? !was_there : true);
+}
+
+/* A create that some instance may hear of. */
+static void call_create(KzOp *op, const KazdrinData *call, uint8_t worker)
+{
+    NTSTATUS status;
+    bool was_there = kz_is_there(op->file->name), is_opened;
+    if (answers(op, call, &status)) {
+        is_opened = NT_SUCCESS(status);
+    } else {
+        call_bytes(op, call, worker);
+        is_opened = opens_bytes(op, call->mode, was_there);
+    }
+    if (!is_opened)
+        return;
+    kz_count_open(op->file);
+    kz_note_opened(op, was_there);
 }
 
 static bool call_carried(KzOp *op)
@@ -88,6 +107,7 @@ static bool call_carried(KzOp *op)
 bool kz_call_base(KzOp *op)
 {
     uint8_t none, worker = kz_worker();
+    NTSTATUS status;
     KazdrinData call = {0};
     KazdrinEvent failed = {.worker = worker, .status = KZS_DEVICE_FAULT};
     bool is_failed = op->event != KZE_CLEANUP && op->event != KZE_CLOSE && kz_refuses(KZ_CHOICE_DEVICE, "the device");
@@ -97,7 +117,9 @@ bool kz_call_base(KzOp *op)
     if (op->carried)
         return call_carried(op);
     kazdrin_lent(&kz.manager, &(KazdrinEvent){.worker = worker}, &call, &none, 0);
-    if (!answers(op, &call))
+    if (call.operation == KZE_CREATE && op->file->name && !op->own.is_unheard)
+        call_create(op, &call, worker);
+    else if (!answers(op, &call, &status))
         call_bytes(op, &call, worker);
     return true;
 }

@@ -17,6 +17,7 @@
 #include "manager/altitude.h"
 #include "manager/base.h"
 #include "manager/carrier.h"
+#include "manager/disposition.h"
 #include "manager/filter.h"
 #include "manager/operation.h"
 #include "manager/perform.h"
@@ -87,6 +88,11 @@ static KzAnswer begin(const KzOwn *own, KzFile *file, KazdrinEvent asked, const 
     op->own.is_own = true;
     op->own.worker = kz_worker();
     op->own.carried = NULL;
+    op->own.create = NULL;
+    if (asked.event == KZE_CREATE) {
+        const KzCreate usual = kz_usual_create(kz_disposition_of((uint8_t)asked.mode), file->is_directory);
+        kz_begin_create(op, own->create ? own->create : &usual);
+    }
     if (own->carried)
         kz_begin_carried(op, own->carried);
     if (kz_carry_to_end(op))
@@ -205,7 +211,10 @@ NTSTATUS kz_write_unheard(KzFile *file, uint64_t offset, const uint8_t *bytes, s
 static NTSTATUS cut(KzFile *file, uint64_t size)
 {
     const KzOwn unheard = {.is_unheard = true, .is_waited_for = true};
-    return kz_status_of(kz_below_file(&unheard, file, (KazdrinEvent){.event = KZE_SET_SIZE, .offset = size}, "", 0));
+    const KazdrinEvent asked = {.event = KZE_SET_SIZE, .offset = size};
+    uint64_t handle;
+    bool has_handle = kz_handle_of(file, &handle);
+    return kz_status_of(has_handle ? kz_below_file(&unheard, file, asked, "", 0) : reopened(&unheard, file, asked, "", 0));
 }
 
 NTSTATUS kz_ask_below(PFLT_INSTANCE initiator, KzFile *file, const KzAsked *asked, void *to, uint64_t *information)

@@ -15,6 +15,7 @@
 #include "manager/below.h"
 #include "manager/block.h"
 #include "manager/carrier.h"
+#include "manager/disposition.h"
 #include "manager/instance.h"
 
 #include <stdlib.h>
@@ -60,6 +61,12 @@ static bool has_buffer(const KzOp *op)
     return op->event == KZE_READ || op->event == KZE_LIST || op->event == KZE_QUERY_SIZE;
 }
 
+/* What each instance on the way down received is kept, for its postoperation. */
+static bool has_visits(const KzOp *op)
+{
+    return has_buffer(op) || op->event == KZE_CREATE;
+}
+
 static bool is_paging(const KzOp *op)
 {
     return op->own.irp_flags & IRP_PAGING_IO;
@@ -79,7 +86,7 @@ static PMDL description_of(KzOp *op, PVOID buffer, size_t length)
 static void visit(KzOp *op, PFLT_INSTANCE instance)
 {
     KzVisit *above = op->visits, *made = kz_memory(sizeof *made);
-    *made = (KzVisit){.above = above, .instance = instance, .received = op->caller, .room = op->caller_room};
+    *made = (KzVisit){.above = above, .instance = instance, .received = op->caller, .room = op->caller_room, .create = op->create};
     if (!above)
         made->received_mdl = description_of(op, op->caller, op->caller_room);
     if (above) {
@@ -148,23 +155,6 @@ void kz_free_data(KzOp *op)
 }
 
 /* ---- What is asked for. */
-static ULONG options_of(uint8_t mode, bool is_directory)
-{
-    return (ULONG)(mode == 0 ? FILE_OPEN : mode == 1 ? FILE_CREATE : FILE_OPEN_IF) << 24 | (is_directory ? FILE_DIRECTORY_FILE : FILE_NON_DIRECTORY_FILE) | FILE_SYNCHRONOUS_IO_NONALERT;
-}
-
-#define ACCESS (FILE_GENERIC_READ | FILE_GENERIC_WRITE | DELETE)
-
-static void show_create(KzOp *op, FLT_PARAMETERS *shown)
-{
-    op->access = (ACCESS_STATE){.RemainingDesiredAccess = ACCESS, .OriginalDesiredAccess = ACCESS};
-    op->security = (IO_SECURITY_CONTEXT){.AccessState = &op->access, .DesiredAccess = ACCESS};
-    shown->Create.SecurityContext = &op->security;
-    shown->Create.Options = options_of(op->lent.mode, op->file->is_directory);
-    shown->Create.FileAttributes = FILE_ATTRIBUTE_NORMAL;
-    shown->Create.ShareAccess = FILE_SHARE_VALID_FLAGS;
-}
-
 static void show_information(KzOp *op, FLT_PARAMETERS *shown)
 {
     if (op->event == KZE_SET_SIZE) {
@@ -195,7 +185,7 @@ static void show_parameters(KzOp *op, FLT_PARAMETERS *shown)
 {
     switch (op->event) {
     case KZE_CREATE:
-        show_create(op, shown);
+        kz_show_create(op, shown);
         break;
     case KZE_READ:
         shown->Read.Length = op->lent.len;
@@ -289,7 +279,7 @@ void kz_show_pre(KzOp *op, PFLT_INSTANCE instance)
         kz_show_carried(op, instance, false);
         return;
     }
-    if (has_buffer(op))
+    if (has_visits(op))
         visit(op, instance);
     show(op, instance);
     op->data->IoStatus = op->shown.status = (IO_STATUS_BLOCK){.Status = STATUS_SUCCESS};
@@ -339,13 +329,11 @@ static bool changed(KzOp *op, KazdrinEvent *event, const uint8_t **bytes, size_t
     const FLT_PARAMETERS *now = &op->iopb->Parameters;
     *event = (KazdrinEvent){.event = op->event, .worker = kz_worker()};
     switch (op->event) {
-    case KZE_CREATE: {
-        ULONG disposition = now->Create.Options >> 24;
+    case KZE_CREATE:
         *bytes = (const uint8_t *)kz_key_of(op->file);
         *length = strlen(kz_key_of(op->file));
-        event->mode = (uint8_t)(disposition == FILE_CREATE ? 1 : disposition == FILE_OPEN ? 0 : 2);
-        return disposition >= FILE_OPEN && disposition <= FILE_OPEN_IF;
-    }
+        event->mode = kz_mode_of(now->Create.Options >> 24);
+        return kz_take_create(op);
     case KZE_READ:
         event->offset = (uint64_t)now->Read.ByteOffset.QuadPart;
         event->len = now->Read.Length;
@@ -487,7 +475,7 @@ static void show_answer(KzOp *op)
     op->data->IoStatus.Information = op->lent.information;
     switch (op->event) {
     case KZE_CREATE:
-        op->data->IoStatus.Information = op->lent.status ? 0 : op->lent.mode == 1 ? FILE_CREATED : FILE_OPENED;
+        op->data->IoStatus.Information = op->lent.status ? 0 : op->file->created;
         break;
     case KZE_READ:
         memcpy(below, op->shown.answered, least(op->shown.answered_length, room));
@@ -518,9 +506,9 @@ void kz_show_post(KzOp *op, PFLT_INSTANCE instance)
         kz_show_carried(op, instance, true);
         return;
     }
-    while (has_buffer(op) && op->visits && op->visits->instance != instance)
+    while (has_visits(op) && op->visits && op->visits->instance != instance)
         leave_visit(op);
-    if (has_buffer(op) && !op->visits)
+    if (has_visits(op) && !op->visits)
         visit(op, instance);
     show(op, instance);
     kazdrin_lent(&kz.manager, &(KazdrinEvent){.flag = 1, .worker = kz_worker()}, &op->lent, kz_me->room, sizeof kz_me->room);

@@ -11,11 +11,13 @@
 #include "filesystem/fileobject.h"
 #include "filesystem/name.h"
 #include "filesystem/notice.h"
+#include "filesystem/sharing.h"
 #include "filesystem/ranges.h"
 #include "filesystem/tree.h"
 #include "manager/below.h"
 #include "manager/carrier.h"
 #include "manager/context.h"
+#include "manager/disposition.h"
 #include "manager/operation.h"
 #include "manager/reference.h"
 #include "manager/reparse.h"
@@ -63,6 +65,14 @@ static void open_handle(KzOp *op, KzReply *reply)
     if (!op->own.is_unheard)
         kz_count_open(op->file);
     kz_scheduler->touch(&op->file->handle, 0, KZT_GIVES);
+    if (op->create.options & FILE_DELETE_ON_CLOSE)
+        kz_delete_on_close(op->file);
+}
+
+static void leave_unopened(KzFile *file)
+{
+    kz_stop_sharing(file);
+    kz_count_no_open(file);
 }
 
 void kz_cleanup_over(KzFile *file)
@@ -70,6 +80,7 @@ void kz_cleanup_over(KzFile *file)
     file->object.Flags |= FO_CLEANUP_COMPLETE;
     kz_end_notices(file, NULL);
     kz_unlock_ranges(file, NULL);
+    kz_stop_sharing(file);
     kz_end_cleanup(file);
 }
 
@@ -79,7 +90,7 @@ static void note_end(KzOp *op, KzReply *reply)
     if (op->event == KZE_CREATE && is_right)
         open_handle(op, reply);
     else if (op->event == KZE_CREATE)
-        kz_count_no_open(op->file);
+        leave_unopened(op->file);
     else if (op->event == KZE_SET_DELETE && is_right)
         kz_note_mark(op->file);
     else if (op->event == KZE_CLEANUP && is_right)
@@ -134,10 +145,12 @@ static bool close_due(void)
     return true;
 }
 
+/* Once more, under another name. */
 static KzAnswer begin_create(void *unused, KazdrinEvent asked, const char *path)
 {
     (void)unused;
-    return run(&(KzBegin){.event = asked, .bytes = path, .length = strlen(path), .path = path});
+    const KzCreate create = kz_me->reparsed_create;
+    return run(&(KzBegin){.event = asked, .bytes = path, .length = strlen(path), .path = path, .create = &create});
 }
 
 /* Of an operation that nobody waits for any more. */
@@ -194,6 +207,13 @@ static bool may_ask(const KazdrinEvent *asked)
     return true;
 }
 
+/* The system refuses what the handle isn't good for, before any filter hears of it. */
+static bool may_use(const KazdrinEvent *asked)
+{
+    const KzFile *file = asked->event == KZE_CREATE || asked->event == KZE_LIST ? NULL : kz_file_of(asked->handle);
+    return !file || kz_is_granted(file, asked);
+}
+
 /* The name of a create's file, and in the path's place the file's key. */
 static KzName *name_of(KzBegin *asked)
 {
@@ -211,8 +231,9 @@ static KzFile *file_of(const KzBegin *asked, KzName *name)
     bool is_list = asked->event.event == KZE_LIST;
     if (asked->event.event != KZE_CREATE && !is_list)
         return kz_file_of(asked->event.handle);
-    bool is_directory = asked->is_directory || (is_list && !asked->path);
-    KzFile *made = kz_new_file(kz.volumes[asked->event.volume], asked->path ? asked->path : "", is_directory);
+    PFLT_VOLUME volume = kz.volumes[asked->event.volume];
+    bool is_directory = is_list ? !asked->path : kz_opens_directory(asked->create, volume, asked->path);
+    KzFile *made = kz_new_file(volume, asked->path ? asked->path : "", is_directory);
     if (is_list && asked->path)
         name = kz_take_name(made->volume, asked->path); /* of what rides on it */
     made->name = name;
@@ -232,8 +253,13 @@ static KzAnswer carry_on(KzOp *op)
 static KzAnswer begin(const KzBegin *begun)
 {
     KzBegin asked = *begun;
+    const KzCreate usual = kz_usual_create(kz_disposition_of((uint8_t)asked.event.mode), false);
     if (!may_ask(&asked.event))
         return refused(KZS_NO_HANDLE);
+    if (!may_use(&asked.event))
+        return refused(KZS_ACCESS_DENIED);
+    if (!asked.create)
+        asked.create = &usual;
     KzName *name = name_of(&asked);
     KzFile *closing = asked.event.event == KZE_CLEANUP ? kz_file_of(asked.event.handle) : NULL;
     if (closing)
@@ -248,6 +274,8 @@ static KzAnswer begin(const KzBegin *begun)
     op->own.irp_flags = asked.irp_flags;
     op->own.worker = kz_worker();
     op->own.has_worker = asked.carried && asked.carried->waits;
+    if (asked.event.event == KZE_CREATE)
+        kz_begin_create(op, asked.create);
     if (asked.carried)
         kz_begin_carried(op, asked.carried);
     return carry_on(op);
@@ -280,6 +308,21 @@ KzReply kz_perform_as(const KzBegin *asked)
 KzReply kz_perform(KazdrinEvent asked, const void *bytes, size_t length, const char *path)
 {
     return kz_perform_as(&(KzBegin){.event = asked, .bytes = bytes, .length = length, .path = path});
+}
+
+/* The system asks for what its generic bits stand for. */
+KzReply kz_perform_create(uint8_t volume, const char *path, const KzCreate *create)
+{
+    KzCreate mapped = *create;
+    NTSTATUS wrong = kz_check_create(create);
+    if (!NT_SUCCESS(wrong)) {
+        KzAnswer answer = {.reply.status = KZS_BAD_REQUEST, .other = wrong};
+        put_answer(answer);
+        return answer.reply;
+    }
+    mapped.access = kz_map_access(create->access);
+    KazdrinEvent event = {.event = KZE_CREATE, .volume = volume, .mode = kz_mode_of(create->options >> 24)};
+    return kz_perform_as(&(KzBegin){.event = event, .bytes = path, .length = strlen(path), .path = path, .create = &mapped});
 }
 
 KzReply kz_ask_file(uint64_t handle, const KzAsked *asked)

@@ -11,12 +11,14 @@ typedef struct {
     const void *bytes;
     size_t length;
     const char *path;       /* of a create */
-    bool is_directory;      /* which opens one */
+    const KzCreate *create; /* what it asks for; NULL: the usual */
     ULONG irp_flags;        /* beside its usual ones */
     const KzAsked *carried; /* what rides on it */
 } KzBegin;
 
 KzReply kz_perform(KazdrinEvent asked, const void *bytes, size_t length, const char *path);
+/* A create of a client's, with the access as it was said. */
+KzReply kz_perform_create(uint8_t volume, const char *path, const KzCreate *create);
 KzReply kz_close_file(uint64_t handle);
 void kz_settle(void);
 /* A client's, whose reply is passed on. */

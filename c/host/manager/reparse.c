@@ -9,6 +9,7 @@
 #include "lib/letters.h"
 #include "filesystem/fileobject.h"
 #include "filesystem/volumes.h"
+#include "manager/disposition.h"
 
 enum { MOST = 32 }; /* as often as the kit follows one */
 
@@ -20,7 +21,7 @@ static bool is_reparsed(KzAnswer answer)
 /* What is to be opened in its place; the client's own until its next create. */
 void kz_note_reparse(const KzOp *op)
 {
-    kz_me->reparsed_mode = op->lent.mode;
+    kz_me->reparsed_create = op->asked;
     kz_narrow(kz_me->reparsed, sizeof kz_me->reparsed, &op->file->object.FileName);
 }
 
@@ -42,7 +43,7 @@ KzAnswer kz_follow(KzAnswer answer, void *given, KzBeginCreate *begin)
         if (!volume || round == MOST)
             return refused(volume ? STATUS_OBJECT_NAME_NOT_FOUND : STATUS_OBJECT_PATH_NOT_FOUND);
         path += *path == '/';
-        answer = begin(given, (KazdrinEvent){.event = KZE_CREATE, .volume = volume->id, .mode = kz_me->reparsed_mode}, path);
+        answer = begin(given, (KazdrinEvent){.event = KZE_CREATE, .volume = volume->id, .mode = kz_mode_of(kz_me->reparsed_create.options >> 24)}, path);
     }
     return answer;
 }

@@ -5,7 +5,9 @@
 #include "core/operation.h"
 #include "lib/letters.h"
 #include "filesystem/fileobject.h"
+#include "manager/disposition.h"
 #include "manager/perform.h"
+#include "run/masks.h"
 #include "run/words.h"
 
 #include <stdlib.h>
@@ -19,27 +21,24 @@ static KzReply on_handle(const char *word, const KzAsked *asked)
 }
 
 /* ---- Directories are opened as files are. */
-static KzReply open_directory(char **words, uint8_t mode)
+static KzReply open_directory(char **words, ULONG disposition)
 {
     uint64_t volume;
-    const char *path = strcmp(words[2], "/") == 0 ? "" : words[2];
-    if (!kz_read_volume(words[1], &volume) || (words[3] && (strcmp(words[3], "as") != 0 || !words[4] || !kz_is_name(words[4]))))
+    const char *name, *path = strcmp(words[2], "/") == 0 ? "" : words[2];
+    KzCreate create = kz_usual_create(disposition, true);
+    if (!kz_read_volume(words[1], &volume) || !kz_read_create(words + 3, &create, &name))
         return kz_wrong();
-    const KzBegin asked = {.event = {.event = KZE_CREATE, .volume = (uint8_t)volume, .mode = mode}, .bytes = path, .length = strlen(path), .path = path, .is_directory = true};
-    KzReply reply = kz_perform_as(&asked);
-    if (words[3] && !reply.status && !reply.held)
-        kz_name_handle(words[4], reply.information);
-    return reply;
+    return kz_ask_create((uint8_t)volume, path, &create, name);
 }
 
 static KzReply ask_mkdir(char **words)
 {
-    return open_directory(words, 1);
+    return open_directory(words, FILE_CREATE);
 }
 
 static KzReply ask_opendir(char **words)
 {
-    return open_directory(words, 0);
+    return open_directory(words, FILE_OPEN);
 }
 
 /* ---- Information of files, by the words for its classes. */
@@ -415,8 +414,8 @@ static KzReply ask_page_out(char **words)
 }
 
 const KzRequest kz_major_requests[] = {
-    {"mkdir", 3, 5, ask_mkdir, false},
-    {"opendir", 3, 5, ask_opendir, false},
+    {"mkdir", 3, 13, ask_mkdir, false},
+    {"opendir", 3, 13, ask_opendir, false},
     {"query", 3, 4, ask_query, true},
     {"set", 4, 4, ask_set, true},
     {"dispose", 3, 6, ask_dispose, true},

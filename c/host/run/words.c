@@ -9,6 +9,7 @@
 #include "filesystem/deletion.h"
 #include "filesystem/fileobject.h"
 #include "manager/busy.h"
+#include "manager/disposition.h"
 #include "manager/filter.h"
 #include "manager/instance.h"
 #include "manager/mount.h"
@@ -20,6 +21,7 @@
 #include "run/expect.h"
 #include "run/line.h"
 #include "run/majors.h"
+#include "run/masks.h"
 #include "run/reply.h"
 #include "run/report.h"
 
@@ -348,19 +350,26 @@ static KzReply ask_dismount(char **words)
     return ended(at < kz.volumes_count ? kz_dismount(kz.volumes[at]) : KZS_NO_VOLUME);
 }
 
+KzReply kz_ask_create(uint8_t volume, const char *path, const KzCreate *create, const char *name)
+{
+    KzReply reply = kz_perform_create(volume, path, create);
+    if (name && !reply.status && !reply.held)
+        kz_name_handle(name, reply.information);
+    return reply;
+}
+
+/* `create V MODE PATH [as NAME] [access A] [share N] [options O] [attributes N]` */
 static KzReply ask_create(char **words)
 {
-    static const char *const modes[] = {"existing", "new", "always"};
     uint64_t volume;
-    uint8_t mode = 0;
-    while (mode < 3 && strcmp(modes[mode], words[2]) != 0)
-        mode++;
-    if (mode == 3 || !kz_read_volume(words[1], &volume) || (words[4] && (strcmp(words[4], "as") != 0 || !words[5] || !kz_is_name(words[5]))))
+    ULONG disposition;
+    const char *name;
+    if (!kz_read_volume(words[1], &volume) || !kz_read_mode(words[2], &disposition))
         return kz_wrong();
-    KzReply reply = kz_perform((KazdrinEvent){.event = KZE_CREATE, .volume = (uint8_t)volume, .mode = mode}, words[3], strlen(words[3]), words[3]);
-    if (words[4] && !reply.status && !reply.held)
-        kz_name_handle(words[5], reply.information);
-    return reply;
+    KzCreate create = kz_usual_create(disposition, false);
+    if (!kz_read_create(words + 4, &create, &name))
+        return kz_wrong();
+    return kz_ask_create((uint8_t)volume, words[3], &create, name);
 }
 
 static KzReply ask_list(char **words)
@@ -437,7 +446,7 @@ static KzReply ask_close(char **words)
 static const KzRequest requests[] = {
     {"load", 2, 3, ask_load, false},           {"mount", 2, 7, ask_mount, false},         {"volume", 3, 8, ask_volume, false},
     {"attach", 5, 6, ask_attach, false},       {"detach", 2, 2, ask_detach, false},       {"unload", 2, 2, ask_unload, false},
-    {"dismount", 2, 2, ask_dismount, false},   {"create", 4, 6, ask_create, false},       {"list", 2, 2, ask_list, false},
+    {"dismount", 2, 2, ask_dismount, false},   {"create", 4, 14, ask_create, false},       {"list", 2, 2, ask_list, false},
     {"read", 4, 4, ask_read, true},            {"write", 4, 4, ask_write, true},          {"setsize", 3, 3, ask_set_size, true},
     {"querysize", 2, 2, ask_query_size, true}, {"flush", 2, 2, ask_flush, true},          {"setdelete", 2, 2, ask_set_delete, true},
     {"close", 2, 2, ask_close, true},          {"as", 3, 5, ask_as, false},               {"time", 2, 2, ask_time, false},

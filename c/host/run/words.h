@@ -3,6 +3,7 @@
 #define KZ_RUN_WORDS_H
 
 #include "host.h"
+#include "core/create.h"
 
 /* How many words one has, with its name: at least, and at most; and whether the first behind its name is a handle. `words` has the name first, and NULL behind the last one. */
 typedef struct {
@@ -12,7 +13,7 @@ typedef struct {
     bool takes_handle;
 } KzRequest;
 
-enum { KZ_WORDS = 9 };
+enum { KZ_WORDS = 15 };
 
 /* A request, and how it is said where something is told; NULL is as it stands. What is said must stay until the end of the run. */
 KzReply kz_request_as(const char *line, const char *asked);
@@ -27,6 +28,8 @@ bool kz_read_volume(const char *word, uint64_t *number);
 bool kz_read_handle(const char *word, uint64_t *number);
 bool kz_is_name(const char *word);
 void kz_name_handle(const char *word, uint64_t handle);
+/* A create, whose handle gets the name, if there is one. */
+KzReply kz_ask_create(uint8_t volume, const char *path, const KzCreate *create, const char *name);
 /* The line isn't understood. */
 KzReply kz_wrong(void);
 /* The requests of a set-up, in order: 0, or a sentence says which one isn't understood (2), or which load, attach or mount is refused with no `expect` behind it (1). */

@@ -5,8 +5,9 @@
 #include "core/operation.h"
 #include "lib/letters.h"
 #include "filesystem/fileobject.h"
-#include "filesystem/name.h"
+#include "filesystem/sharing.h"
 #include "manager/below.h"
+#include "manager/disposition.h"
 #include "manager/reparse.h"
 #include "kit/device.h"
 #include "user/completion.h"
@@ -19,6 +20,8 @@ static const KzOwn requests = {.is_waited_for = true, .is_user = true};
 static KzAnswer ask(KzFile *file, KazdrinEvent asked, const void *bytes, size_t length)
 {
     asked.handle = file->handle;
+    if (!kz_is_granted(file, &asked))
+        return (KzAnswer){.reply.status = KZS_ACCESS_DENIED, .is_refused = true};
     return kz_below(&requests, file, asked, bytes, length);
 }
 
@@ -38,11 +41,48 @@ void kz_close_program_file(KzObject *object)
     kz_close_if_due(file);
 }
 
+/* ---- What CreateFile asks the system for. */
 enum { CREATE_NEW = 1, CREATE_ALWAYS, OPEN_EXISTING, OPEN_ALWAYS, TRUNCATE_EXISTING };
 
-static uint8_t mode_of(uint32_t disposition)
+typedef struct {
+    uint32_t access, share, disposition, flags;
+} Asked;
+
+static ULONG disposition_of(uint32_t disposition)
 {
-    return disposition == CREATE_NEW ? 1 : disposition == OPEN_EXISTING || disposition == TRUNCATE_EXISTING ? 0 : 2;
+    static const ULONG all[] = {FILE_CREATE, FILE_OVERWRITE_IF, FILE_OPEN, FILE_OPEN_IF, FILE_OVERWRITE};
+    return all[disposition - CREATE_NEW];
+}
+
+static ULONG options_of(uint32_t flags)
+{
+    static const struct {
+        uint32_t flag;
+        ULONG option;
+    } all[] = {{0x80000000, FILE_WRITE_THROUGH},
+               {0x20000000, FILE_NO_INTERMEDIATE_BUFFERING},
+               {0x10000000, FILE_RANDOM_ACCESS},
+               {0x08000000, FILE_SEQUENTIAL_ONLY},
+               {0x04000000, FILE_DELETE_ON_CLOSE},
+               {0x02000000, FILE_OPEN_FOR_BACKUP_INTENT},
+               {0x00200000, FILE_OPEN_REPARSE_POINT},
+               {0x00100000, FILE_OPEN_NO_RECALL}};
+    ULONG options = flags & 0x40000000 ? 0 : FILE_SYNCHRONOUS_IO_NONALERT; /* FILE_FLAG_OVERLAPPED */
+    for (size_t at = 0; at < sizeof all / sizeof all[0]; at++)
+        if (flags & all[at].flag)
+            options |= all[at].option;
+    return options & FILE_OPEN_FOR_BACKUP_INTENT ? options : options | FILE_NON_DIRECTORY_FILE;
+}
+
+/* Every handle may be waited for, and its attributes be read. */
+static KzCreate create_of(const Asked *asked)
+{
+    ULONG options = options_of(asked->flags);
+    ACCESS_MASK access = asked->access | SYNCHRONIZE | FILE_READ_ATTRIBUTES | (options & FILE_DELETE_ON_CLOSE ? DELETE : 0);
+    return (KzCreate){.access = access,
+                      .options = disposition_of(asked->disposition) << 24 | options,
+                      .attributes = asked->flags & FILE_ATTRIBUTE_VALID_FLAGS & ~(uint32_t)FILE_ATTRIBUTE_DIRECTORY,
+                      .share = asked->share};
 }
 
 /* A path below a volume's letter, or below its device. */
@@ -60,42 +100,59 @@ static PFLT_VOLUME split(const char *name, const char **path)
     return NULL;
 }
 
+typedef struct {
+    const KzCreate *create;
+    KzFile *file;
+} Opening;
+
 static KzAnswer begin(void *given, KazdrinEvent asked, const char *path)
 {
-    KzFile **made = given, *file = kz_new_file(kz.volumes[asked.volume], path, false);
+    Opening *opening = given;
+    PFLT_VOLUME volume = kz.volumes[asked.volume];
+    KzFile *file = kz_new_file(volume, path, kz_opens_directory(opening->create, volume, path));
+    const KzOwn own = {.is_waited_for = true, .is_user = true, .create = opening->create};
     file->users++;
     file->is_own = true;
-    KzAnswer answer = kz_below(&requests, file, asked, path, strlen(path));
-    *made = answer.reply.status == KZS_OK && !answer.reply.held ? file : NULL;
-    if (!*made)
+    KzAnswer answer = kz_below(&own, file, asked, path, strlen(path));
+    opening->file = answer.reply.status == KZS_OK && !answer.reply.held ? file : NULL;
+    if (!opening->file)
         kz_let_go_file(file);
     return answer;
 }
 
-static KzFile *open_file(const char *name, uint32_t disposition, uint32_t flags)
+/* The file, or the error. */
+static uint32_t open_at(PFLT_VOLUME volume, const char *path, const KzCreate *asked, KzFile **file)
+{
+    KzCreate create = *asked;
+    NTSTATUS wrong = kz_check_create(asked);
+    if (!NT_SUCCESS(wrong))
+        return kz_win32_of(wrong);
+    create.access = kz_map_access(asked->access);
+    Opening opening = {&create, NULL};
+    KazdrinEvent event = {.event = KZE_CREATE, .volume = volume->id, .mode = kz_mode_of(create.options >> 24)};
+    uint32_t error = error_of(kz_follow(begin(&opening, event, path), &opening, begin));
+    *file = opening.file;
+    return error == 183 ? 80 : error; /* ERROR_FILE_EXISTS */
+}
+
+static KzFile *open_file(const char *name, const Asked *asked)
 {
     const char *path;
     KzFile *file = NULL;
     PFLT_VOLUME volume = split(name, &path);
-    if (!volume || strlen(path) > 255) {
-        kz_failed(volume ? 123 : 3);
+    if (!volume || strlen(path) > 255 || asked->disposition < CREATE_NEW || asked->disposition > TRUNCATE_EXISTING) {
+        kz_failed(!volume ? 3 : strlen(path) > 255 ? 123 : 87);
         return NULL;
     }
-    KazdrinEvent asked = {.event = KZE_CREATE, .volume = volume->id, .mode = mode_of(disposition)};
-    const KzName *found = kz_find_name(volume, path);
-    bool was_there = found && found->node->exists;
-    uint32_t error = error_of(kz_follow(begin(&file, asked, path), &file, begin));
+    const KzCreate create = create_of(asked);
+    uint32_t error = open_at(volume, path, &create, &file);
     if (error) {
-        kz_failed(error == 183 ? 80 : error); /* ERROR_FILE_EXISTS */
+        kz_failed(error);
         return NULL;
     }
-    if (disposition == CREATE_ALWAYS || disposition == OPEN_ALWAYS)
+    bool was_there = file->created == FILE_OPENED || file->created == FILE_OVERWRITTEN;
+    if (asked->disposition == CREATE_ALWAYS || asked->disposition == OPEN_ALWAYS)
         kz_failed(was_there ? 183 : 0); /* ERROR_ALREADY_EXISTS, though it opened the file */
-    const KzOwn unheard = {.is_waited_for = true, .is_unheard = true};
-    if (disposition == CREATE_ALWAYS || disposition == TRUNCATE_EXISTING)
-        kz_below(&unheard, file, (KazdrinEvent){.event = KZE_SET_SIZE, .handle = file->handle}, "", 0);
-    if (flags & 0x04000000) /* FILE_FLAG_DELETE_ON_CLOSE */
-        kz_below(&unheard, file, (KazdrinEvent){.event = KZE_SET_DELETE, .handle = file->handle}, "", 0);
     return file;
 }
 
@@ -112,12 +169,12 @@ static KzObject *open_device(const char *name)
     return object;
 }
 
-static KzObject *open_any(const char *name, uint32_t disposition, uint32_t flags)
+static KzObject *open_any(const char *name, const Asked *asked)
 {
     const char *path;
     if (strncmp(name, "//", 2) == 0 && !split(name, &path))
         return open_device(name);
-    KzFile *file = open_file(name, disposition, flags);
+    KzFile *file = open_file(name, asked);
     if (!file)
         return NULL;
     KzObject *object = kz_new_object(KZU_FILE);
@@ -125,7 +182,7 @@ static KzObject *open_any(const char *name, uint32_t disposition, uint32_t flags
     return object;
 }
 
-static void *create(const char *name, uint32_t disposition, uint32_t flags)
+static void *create(const char *name, const Asked *asked)
 {
     void *handle = (void *)(intptr_t)-1;
     {
@@ -134,7 +191,7 @@ static void *create(const char *name, uint32_t disposition, uint32_t flags)
         snprintf(text, sizeof text, "%s", name);
         for (char *letter = text; *letter; letter++)
             *letter = *letter == '\\' ? '/' : *letter;
-        KzObject *object = open_any(text, disposition, flags);
+        KzObject *object = open_any(text, asked);
         handle = object ? object : handle;
     }
     kz_go_on_or_end();
@@ -144,19 +201,19 @@ static void *create(const char *name, uint32_t disposition, uint32_t flags)
 void *CreateFileA(const char *name, uint32_t access, uint32_t share, const void *attributes, uint32_t disposition, uint32_t flags, void *template);
 void *CreateFileA(const char *name, uint32_t access, uint32_t share, const void *attributes, uint32_t disposition, uint32_t flags, void *template)
 {
-    (void)access, (void)share, (void)attributes, (void)template;
-    return create(name, disposition, flags);
+    (void)attributes, (void)template;
+    return create(name, &(Asked){access, share, disposition, flags});
 }
 
 void *CreateFileW(const WCHAR *name, uint32_t access, uint32_t share, const void *attributes, uint32_t disposition, uint32_t flags, void *template);
 void *CreateFileW(const WCHAR *name, uint32_t access, uint32_t share, const void *attributes, uint32_t disposition, uint32_t flags, void *template)
 {
-    (void)access, (void)share, (void)attributes, (void)template;
+    (void)attributes, (void)template;
     char text[320];
     UNICODE_STRING wide;
     RtlInitUnicodeString(&wide, name);
     kz_narrow(text, sizeof text, &wide);
-    return create(text, disposition, flags);
+    return create(text, &(Asked){access, share, disposition, flags});
 }
 
 /* ---- Reading and writing. */
@@ -356,7 +413,7 @@ int SetEndOfFile(void *handle)
 
 static int delete_file(const char *name)
 {
-    void *handle = create(name, OPEN_EXISTING, 0);
+    void *handle = create(name, &(Asked){DELETE, FILE_SHARE_VALID_FLAGS, OPEN_EXISTING, 0x00200000}); /* FILE_FLAG_OPEN_REPARSE_POINT */
     if (handle == (void *)(intptr_t)-1)
         return 0;
     int is_right = simple(handle, (KazdrinEvent){.event = KZE_SET_DELETE}, NULL, "DeleteFile");

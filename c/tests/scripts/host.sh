@@ -15,7 +15,7 @@ look calls "$room/calls"
 # One program of all drivers plays all requests.
 drivers=(c/samples/*.c $tests/misuse/*.c $tests/drivers/*.c $tests/drivers/two-files)
 command -v "${CXX:-c++}" > /dev/null && drivers+=($tests/drivers/*.cpp)
-for user in c/samples/user/*.c; do
+for user in c/samples/user/*.c $tests/user/*.c; do
     drivers+=(--user "$user")
 done
 build drivers "$room/drivers" "${drivers[@]}"
@@ -55,6 +55,16 @@ tell $? "strict"
 "$room/drivers" --allow KZ0130 $tests/requests/answers.txt > "$room/allow.out"
 [ $? = 5 ] && ! grep -q KZ0130 "$room/allow.out" && tail -n 1 "$room/allow.out" | grep -q "told 7, limits 3"
 tell $? "allow"
+
+# Words of a create that say nothing are refused where they stand.
+wrong=0
+for words in 'newer y' 'new y share' 'new y share 1 share 2' 'new y access GENERIC_READ|' 'new y options 0x1000000' 'new y attributes FILE_SHARE_READ' 'new y as'; do
+    printf 'load opens\ncreate 0 %s\n' "$words" > "$room/wrong.txt"
+    "$room/drivers" --quiet "$room/wrong.txt" > /dev/null 2> "$room/wrong.out"
+    [ $? = 2 ] && grep -q 'wrong.txt:2: not understood$' "$room/wrong.out" || wrong=$((wrong + 1))
+done
+[ "$wrong" = 0 ]
+tell $? "words of creates"
 
 # One line a place: what comes up again is counted.
 {

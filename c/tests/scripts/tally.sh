@@ -65,7 +65,7 @@ untried() {
 # How many tests this part has at least where each tool is there. A list that came out empty makes fewer.
 least() {
     case $PART in
-        host) echo 117 ;;
+        host) echo 119 ;;
         legal) echo 96 ;;
         order) echo 14 ;;
         *) echo 1 ;;

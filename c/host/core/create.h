@@ -1,0 +1,17 @@
+/* What a create asks for. */
+#ifndef KZ_CORE_CREATE_H
+#define KZ_CORE_CREATE_H
+
+#include "host.h"
+
+/* As its caller said it; the generic bits of its access are mapped. The upper byte of the options is the disposition, as in FLT_PARAMETERS. */
+typedef struct {
+    ACCESS_MASK access;
+    ULONG options, attributes, share;
+    LONGLONG allocation;
+    PVOID ea; /* a chain of extended attributes, which the file system checks */
+    ULONG ea_length;
+    bool ignores_sharing; /* and is ignored by others' */
+} KzCreate;
+
+#endif

@@ -1,0 +1,114 @@
+/* Creates: what they ask for, as callbacks see and change it. */
+#include "manager/disposition.h"
+
+#include "manager/block.h"
+
+KzCreate kz_usual_create(ULONG disposition, bool is_directory)
+{
+    ULONG kind = is_directory ? FILE_DIRECTORY_FILE : FILE_NON_DIRECTORY_FILE;
+    return (KzCreate){.access = FILE_GENERIC_READ | FILE_GENERIC_WRITE | DELETE,
+                      .options = disposition << 24 | kind | FILE_SYNCHRONOUS_IO_NONALERT,
+                      .attributes = FILE_ATTRIBUTE_NORMAL,
+                      .share = FILE_SHARE_VALID_FLAGS};
+}
+
+uint8_t kz_mode_of(ULONG disposition)
+{
+    if (disposition == FILE_CREATE)
+        return 1;
+    return disposition == FILE_OPEN || disposition == FILE_OVERWRITE ? 0 : 2;
+}
+
+ULONG kz_disposition_of(uint8_t mode)
+{
+    return mode == 0 ? FILE_OPEN : mode == 1 ? FILE_CREATE : FILE_OPEN_IF;
+}
+
+ACCESS_MASK kz_map_access(ACCESS_MASK access)
+{
+    static const ACCESS_MASK all[][2] = {
+        {GENERIC_READ, FILE_GENERIC_READ}, {GENERIC_WRITE, FILE_GENERIC_WRITE}, {GENERIC_EXECUTE, FILE_GENERIC_EXECUTE}, {GENERIC_ALL, FILE_ALL_ACCESS}};
+    for (size_t at = 0; at < sizeof all / sizeof all[0]; at++)
+        if (access & all[at][0])
+            access = (access & ~all[at][0]) | all[at][1];
+    return access;
+}
+
+/* ---- What is refused at once. */
+#define SYNCHRONOUS (FILE_SYNCHRONOUS_IO_ALERT | FILE_SYNCHRONOUS_IO_NONALERT)
+#define OF_DIRECTORIES                                                                                                                                           \
+    (FILE_DIRECTORY_FILE | SYNCHRONOUS | FILE_WRITE_THROUGH | FILE_COMPLETE_IF_OPLOCKED | FILE_OPEN_FOR_BACKUP_INTENT | FILE_DELETE_ON_CLOSE |                     \
+     FILE_OPEN_FOR_FREE_SPACE_QUERY | FILE_OPEN_BY_FILE_ID | FILE_OPEN_REPARSE_POINT)
+
+static bool is_right_directory(ULONG options, ULONG disposition)
+{
+    bool is_opened = disposition == FILE_CREATE || disposition == FILE_OPEN || disposition == FILE_OPEN_IF;
+    return !(options & FILE_DIRECTORY_FILE) || (is_opened && !(options & ~(ULONG)OF_DIRECTORIES));
+}
+
+NTSTATUS kz_check_create(const KzCreate *create)
+{
+    ULONG disposition = create->options >> 24, options = create->options & FILE_VALID_OPTION_FLAGS;
+    bool is_wrong = disposition > FILE_MAXIMUM_DISPOSITION || create->share & ~(ULONG)FILE_SHARE_VALID_FLAGS || create->attributes & ~(ULONG)FILE_ATTRIBUTE_VALID_FLAGS;
+    is_wrong |= (options & SYNCHRONOUS) == SYNCHRONOUS || (options & SYNCHRONOUS && !(create->access & SYNCHRONIZE));
+    is_wrong |= options & FILE_DELETE_ON_CLOSE && !(create->access & DELETE);
+    is_wrong |= options & FILE_NO_INTERMEDIATE_BUFFERING && create->access & FILE_APPEND_DATA;
+    is_wrong |= !is_right_directory(options, disposition);
+    return is_wrong ? STATUS_INVALID_PARAMETER : STATUS_SUCCESS;
+}
+
+/* ---- As callbacks have it. */
+void kz_begin_create(KzOp *op, const KzCreate *asked)
+{
+    op->asked = op->create = *asked;
+    if (!asked->ea_length)
+        return;
+    op->create.ea = kz_block(op, asked->ea_length);
+    memcpy(op->create.ea, asked->ea, asked->ea_length);
+}
+
+void kz_show_create(KzOp *op, FLT_PARAMETERS *shown)
+{
+    const KzCreate *create = &op->visits->create;
+    op->access = (ACCESS_STATE){.RemainingDesiredAccess = create->access, .OriginalDesiredAccess = create->access};
+    op->security = (IO_SECURITY_CONTEXT){.AccessState = &op->access, .DesiredAccess = create->access, .FullCreateOptions = create->options & FILE_VALID_OPTION_FLAGS};
+    shown->Create.SecurityContext = &op->security;
+    shown->Create.Options = create->options;
+    shown->Create.FileAttributes = (USHORT)create->attributes;
+    shown->Create.ShareAccess = (USHORT)create->share;
+    shown->Create.EaLength = create->ea_length;
+    shown->Create.EaBuffer = create->ea;
+    shown->Create.AllocationSize.QuadPart = create->allocation;
+}
+
+bool kz_take_create(KzOp *op)
+{
+    const FLT_PARAMETERS *now = &op->iopb->Parameters;
+    if (now->Create.Options >> 24 > FILE_MAXIMUM_DISPOSITION)
+        return false;
+    op->create.access = now->Create.SecurityContext == &op->security ? op->security.DesiredAccess : op->create.access;
+    op->create.options = now->Create.Options;
+    op->create.attributes = now->Create.FileAttributes;
+    op->create.share = now->Create.ShareAccess;
+    op->create.ea = now->Create.EaBuffer;
+    op->create.ea_length = now->Create.EaBuffer ? now->Create.EaLength : 0;
+    op->create.allocation = now->Create.AllocationSize.QuadPart;
+    return true;
+}
+
+/* ---- What a handle is good for. */
+bool kz_is_granted(const KzFile *file, const KazdrinEvent *asked)
+{
+    switch (asked->event) {
+    case KZE_READ:
+        return file->access & (FILE_READ_DATA | FILE_EXECUTE);
+    case KZE_WRITE:
+        return file->access & (FILE_WRITE_DATA | FILE_APPEND_DATA);
+    case KZE_SET_SIZE:
+        return file->access & FILE_WRITE_DATA;
+    case KZE_SET_DELETE:
+        return file->access & DELETE;
+    default:
+        return true;
+    }
+}

@@ -18,6 +18,10 @@ import tempfile
 
 import scripts as maker
 
+if sys.argv[1:2] in (["-h"], ["--help"]):
+    print(__doc__.strip())
+    sys.exit(0)
+
 # A script that isn't as it expects, with bytes that are no text: none is stored, since stored scripts are tests that pass.
 OWN = b"load f\n#! expect status x\n#! expect ok f0\nload f\n#! expect ok f1\n# \\ and \xff\n\xff\\\n"
 

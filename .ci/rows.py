@@ -13,6 +13,10 @@ import tempfile
 
 from crates import above
 
+if sys.argv[1:2] in (["-h"], ["--help"]):
+    print(__doc__.strip())
+    sys.exit(0)
+
 TOP = pathlib.Path(__file__).resolve().parent.parent
 
 # Which crates are asked first, of those whose tests stand above the crate: what is nearest shows most.

@@ -11,6 +11,10 @@ import random
 import subprocess
 import sys
 
+if sys.argv[1:2] in (["-h"], ["--help"]):
+    print(__doc__.strip())
+    sys.exit(0)
+
 WORKERS = ["w0", "w1", "w2", "w3"]
 ENDS = ["SetUp", "Pre", "Post", "PostHeld", "Drained", "Queried", "Started", "EarlyDrained", "Completed", "RoutineReturned", "Unloaded", "Cleaned"]
 KINDS = ["volume", "instance", "stream", "handle"]

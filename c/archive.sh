@@ -4,6 +4,7 @@
 # more, and built, in some five minutes of a processor. Without them `rt lib` proves every crate below first. With --support it prints where the kit keeps what the archive is
 # linked with.
 set -eu
+case ${1:-} in -h | --help) sed -n '2,/^[^#]/s/^#\( \|$\)//p' "$0"; exit ;; esac
 here=$(CDPATH='' cd -- "$(dirname -- "$0")" && pwd)
 if [ "${1:-}" = --unproved ]; then
     exec "$here/../tools/unproved" --archive

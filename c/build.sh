@@ -13,6 +13,7 @@
 # CC is the compiler (cc), CXX that of C++ (c++), CFLAGS are more words for the drivers and the host, KZAPI what the drivers see (KZAPI="-DNTDDI_VERSION=0x06000000 -DDBG=0"),
 # KAZDRIN_LIB the archive of crates/kazdrin_c (else that of c/archive.sh, or one without proofs). The host is compiled once for each CC and CFLAGS, and kept.
 set -eu
+case ${1:-} in -h | --help) sed -n '2,/^[^#]/s/^#\( \|$\)//p' "$0"; exit ;; esac
 here=$(cd "$(dirname "$(readlink -f "$0")")" && pwd)
 say() {
     echo "c/build.sh: $1" >&2
@@ -95,26 +96,26 @@ host=$out/$key
 
 # ---- Words for the compiler. A driver's warnings are its author's; pointers are taken as the kit's compiler takes them. What the kit's projects set is set.
 includes=(-I"$here/include")
-common="-fshort-wchar -fno-strict-aliasing -O1 -g $host_cflags"
-driver="-fwrapv -fms-extensions $common \
--D_WIN64=1 -D_M_AMD64=100 -D_M_X64=100 -D_AMD64_=1 -D_WIN32_WINNT=0x0A00 -DWINVER=0x0A00 -DNTDDI_VERSION=0x0A000002 -DDBG=1 -D_KERNEL_MODE=1 -DKZ_DRIVER=1 -include ntdef.h ${KZAPI:-}"
-link="$common"
-renames=""
-volatiles() {
-    if is_clang "$cc"; then echo "-mllvm -tsan-distinguish-volatile=1"; else echo "--param=tsan-distinguish-volatile=1"; fi
-}
+read -r -d '' -a host_words <<< "$host_cflags" || true
+read -r -d '' -a api <<< "${KZAPI:-}" || true
+common=(-fshort-wchar -fno-strict-aliasing -O1 -g "${host_words[@]}")
+machine=(-D_WIN64=1 -D_M_AMD64=100 -D_M_X64=100 -D_AMD64_=1 -D_WIN32_WINNT=0x0A00 -DWINVER=0x0A00 -DNTDDI_VERSION=0x0A000002)
+driver=(-fwrapv -fms-extensions "${common[@]}" "${machine[@]}" -DDBG=1 -D_KERNEL_MODE=1 -DKZ_DRIVER=1 -include ntdef.h "${api[@]}")
+link=("${common[@]}")
+renames=()
+if is_clang "$cc"; then volatiles=(-mllvm -tsan-distinguish-volatile=1); else volatiles=(--param=tsan-distinguish-volatile=1); fi
 libraries=("$host/libkazdrin_host.a")
 # The explorer is behind the compiler's calls before each access of a driver's code; its addresses are those of the program's file.
 case "$kind" in
 explore)
-    driver="$driver -fsanitize=thread -fno-pie $(volatiles)"
-    link="$link -no-pie -Wl,-z,now"
+    driver+=(-fsanitize=thread -fno-pie "${volatiles[@]}")
+    link+=(-no-pie "-Wl,-z,now")
     libraries=("$host/libkazdrin_explore.a" "${libraries[@]}")
-    renames="memcpy:KzHookCopy memmove:KzHookMove memset:KzHookFill memcmp:KzHookCompare"
+    renames=(memcpy:KzHookCopy memmove:KzHookMove memset:KzHookFill memcmp:KzHookCompare)
     ;;
 libfuzzer)
-    driver="$driver -fsanitize=fuzzer-no-link"
-    link="$link -fsanitize=fuzzer -no-pie"
+    driver+=(-fsanitize=fuzzer-no-link)
+    link+=(-fsanitize=fuzzer -no-pie)
     libraries=("$host/libkazdrin_libfuzzer.a" "${libraries[@]}")
     ;;
 serve | fuzz) libraries=("$host/libkazdrin_$kind.a" "${libraries[@]}") ;;
@@ -122,36 +123,37 @@ esac
 # The loader reads the words first: the program's main comes behind its own.
 if [ -n "$image" ]; then
     libraries=("$host/libkazdrin_image.a" "${libraries[@]}")
-    link="$link -Wl,--wrap=main"
+    link+=("-Wl,--wrap=main")
 fi
 if [ "$sanitizers" = thread ]; then
-    driver="$driver -fsanitize=thread $(volatiles)"
-    link="$link -fsanitize=thread"
+    driver+=(-fsanitize=thread "${volatiles[@]}")
+    link+=(-fsanitize=thread)
 fi
 # The C library's calls of wide text are the host's.
 changes=()
-for pair in $renames wcslen:KzWcslen wcsnlen:KzWcsnlen wcscmp:KzWcscmp wcsncmp:KzWcsncmp wcscpy:KzWcscpy wcsncpy:KzWcsncpy wcscat:KzWcscat wcsncat:KzWcsncat \
+for pair in "${renames[@]}" wcslen:KzWcslen wcsnlen:KzWcsnlen wcscmp:KzWcscmp wcsncmp:KzWcsncmp wcscpy:KzWcscpy wcsncpy:KzWcsncpy wcscat:KzWcscat wcsncat:KzWcsncat \
     wcschr:KzWcschr wcsrchr:KzWcsrchr wcsstr:KzWcsstr wcspbrk:KzWcspbrk wcsspn:KzWcsspn wcscspn:KzWcscspn wcscasecmp:KzWcsicmp wcsncasecmp:KzWcsnicmp \
     wmemset:KzWmemset wcstol:KzWcstol wcstoul:KzWcstoul swprintf:KzSwprintfRoom vswprintf:KzVsnwprintf towupper:KzTowupper towlower:KzTowlower; do
     changes+=(--redefine-sym "${pair%:*}=${pair#*:}")
 done
 # libFuzzer plays all sessions in one process: the drivers' variables are in sections by which they are put back before each.
-[ "$kind" != libfuzzer ] || changes+=(--rename-section .data=kz_data,alloc,load,data,contents --rename-section .bss=kz_bss,alloc)
+[ "$kind" != libfuzzer ] || changes+=(--rename-section ".data=kz_data,alloc,load,data,contents" --rename-section ".bss=kz_bss,alloc")
 
 # What is told names the line of a driver that makes a call: calls of two lines aren't made one, and a call at a function's end leaves its frame there.
 calls_of() {
     if is_clang "$1"; then
-        echo "-fno-optimize-sibling-calls -mllvm -simplifycfg-sink-common=false -mllvm -enable-tail-merge=false"
+        calls=(-fno-optimize-sibling-calls -mllvm -simplifycfg-sink-common=false -mllvm -enable-tail-merge=false)
     else
-        echo "-fno-optimize-sibling-calls -fno-crossjumping -fno-tree-tail-merge"
+        calls=(-fno-optimize-sibling-calls -fno-crossjumping -fno-tree-tail-merge)
     fi
 }
-calls=$(calls_of "$cc")
-calls_cxx=$(calls_of "${CXX:-c++}")
+calls_of "${CXX:-c++}"
+calls_cxx=("${calls[@]}")
+calls_of "$cc"
 
 # Bit fields lie as Microsoft's compiler has them, where the machine's compiler can do so.
 if echo 'int a;' | $cc -mms-bitfields -x c -c -o /dev/null - 2> /dev/null; then
-    driver="$driver -mms-bitfields"
+    driver+=(-mms-bitfields)
 fi
 
 # ---- Drivers: each a name and its files. All but its entry is its own, so that two drivers may use one name.
@@ -164,27 +166,30 @@ count=0
 # WPP's preprocessor makes a .tmh file of each source, with the trace functions that its project names: here they do nothing.
 tracing() {
     local name
-    for name in $(grep -hoE '^[[:space:]]*#[[:space:]]*include[[:space:]]*"[^"]+\.tmh"' "$1" | sed 's/.*"\(.*\)"/\1/'); do
+    while read -r name; do
         mkdir -p "$room/tmh/$(dirname "$name")"
         {
             echo '#include <kzwpp.h>'
             cat "$(dirname "$1")"/*.[chCH] "$(dirname "$1")"/*.cpp 2> /dev/null | sed -nE 's|^[[:space:]]*//[[:space:]]*FUNC[[:space:]]+([A-Za-z_][A-Za-z_0-9]*).*|\1|p' |
                 sort -u | sed 's/.*/#undef &\n#define &(...) ((void)0)/'
         } > "$room/tmh/$name"
-    done
+    done < <(grep -hoE '^[[:space:]]*#[[:space:]]*include[[:space:]]*"[^"]+\.tmh"' "$1" | sed 's/.*"\(.*\)"/\1/')
 }
 # In C++ the words __try and __finally are those of its own library's headers, where a source has some.
 blocks() {
-    grep -qE '^[[:space:]]*#[[:space:]]*include[[:space:]]*<[a-z_]+>' "$1" || echo -DKZ_SEH
+    grep -qE '^[[:space:]]*#[[:space:]]*include[[:space:]]*<[a-z_]+>' "$1" || words+=(-DKZ_SEH)
 }
 compile() {
-    local file
+    local file words=("${driver[@]}")
     tracing "$2"
     mkdir "$1.adapted"
     file=$("$host/adapt" "$1.adapted" "$2") || exit 1
     case "$2" in
-    *.cpp | *.cc | *.cxx) ${CXX:-c++} -std=gnu++17 -fno-exceptions -fno-rtti -w $driver $calls_cxx $(blocks "$2") "${includes[@]}" -iquote "$(dirname "$2")" -DDriverEntry="$3" -c -o "$1" "$file" ;;
-    *) $cc -std=gnu11 -Wall -Wno-incompatible-pointer-types -Wno-int-conversion -Wno-multichar -Wno-unknown-pragmas -Wno-missing-braces $driver $calls "${includes[@]}" -iquote "$(dirname "$2")" \
+    *.cpp | *.cc | *.cxx)
+        blocks "$2"
+        ${CXX:-c++} -std=gnu++17 -fno-exceptions -fno-rtti -w "${words[@]}" "${calls_cxx[@]}" "${includes[@]}" -iquote "$(dirname "$2")" -DDriverEntry="$3" -c -o "$1" "$file"
+        ;;
+    *) $cc -std=gnu11 -Wall -Wno-incompatible-pointer-types -Wno-int-conversion -Wno-multichar -Wno-unknown-pragmas -Wno-missing-braces "${words[@]}" "${calls[@]}" "${includes[@]}" -iquote "$(dirname "$2")" \
         -DDriverEntry="$3" -c -o "$1" "$file" ;;
     esac
 }
@@ -215,11 +220,10 @@ name_of() {
 # A program beside the drivers: its console, its end and its streams are the host's.
 programs=0
 : > "$room/programs"
-user="-fwrapv -fms-extensions $common -I$here/user -I$here/include -D_WIN64=1 -D_M_AMD64=100 -D_M_X64=100 -D_AMD64_=1 -D_WIN32=1 -D_WIN32_WINNT=0x0A00 -DWINVER=0x0A00 \
--DNTDDI_VERSION=0x0A000002 -fno-builtin -include windows.h"
+user=(-fwrapv -fms-extensions "${common[@]}" "-I$here/user" "-I$here/include" "${machine[@]}" -D_WIN32=1 -fno-builtin -include windows.h)
 streams=()
 for name in printf vprintf fprintf puts fputs putchar fputc fflush fopen fgets fgetc getchar exit; do
-    streams+=(--redefine-sym "$name=KzUser$(printf %s "${name:0:1}" | tr a-z A-Z)${name:1}")
+    streams+=(--redefine-sym "$name=KzUser$(printf %s "${name:0:1}" | tr '[:lower:]' '[:upper:]')${name:1}")
 done
 add_user() {
     local name=$1 file object objects=() entry=kz_program_$programs main=main
@@ -227,8 +231,8 @@ add_user() {
     for file in "$@"; do
         object="$room/user_${programs}_$(basename "$file").o"
         case "$file" in
-        *.cpp | *.cc | *.cxx) ${CXX:-c++} -std=gnu++17 -fno-exceptions -fno-rtti -w $user -c -o "$object" "$file" ;;
-        *) $cc -std=gnu11 -Wall -Wno-incompatible-pointer-types -Wno-int-conversion -Wno-unknown-pragmas -Wno-missing-braces $user -c -o "$object" "$file" ;;
+        *.cpp | *.cc | *.cxx) ${CXX:-c++} -std=gnu++17 -fno-exceptions -fno-rtti -w "${user[@]}" -c -o "$object" "$file" ;;
+        *) $cc -std=gnu11 -Wall -Wno-incompatible-pointer-types -Wno-int-conversion -Wno-unknown-pragmas -Wno-missing-braces "${user[@]}" -c -o "$object" "$file" ;;
         esac
         objects+=("$object")
     done
@@ -279,7 +283,7 @@ done
     cat "$room/declarations"
     table=kz_drivers
     [ -z "$image" ] || table=kz_linked_drivers
-    echo "const struct { const char *name; int (*entry)(void *, void *); } $table[] = {"
+    echo "const struct { const char *name; int (*entry)(void *, void *); } ${table}[] = {"
     cat "$room/entries"
     echo "{0, 0}};"
     echo "const unsigned long ${table}_count = $count;"
@@ -289,7 +293,7 @@ done
     echo "const unsigned long kz_programs_count = $programs;"
 } > "$room/drivers.c"
 if [ -n "$main" ]; then
-    $cc -std=gnu11 -Wall -Wextra $common "${includes[@]}" -I"$here/host" -I"$here" -c -o "$room/main.o" "$main"
+    $cc -std=gnu11 -Wall -Wextra "${common[@]}" "${includes[@]}" -I"$here/host" -I"$here" -c -o "$room/main.o" "$main"
     libraries=("$room/main.o" "${libraries[@]}")
 fi
 kit=("$support/liblibc_c.a")
@@ -298,7 +302,7 @@ others=()
 [ "$count" = 0 ] || others=("$room"/driver_*.o)
 [ "$programs" = 0 ] || others+=("$room"/program_*.o)
 status=0
-$cc $link -o "$program" "$room/drivers.c" "${others[@]}" "${libraries[@]}" "$library" "${kit[@]}" -pthread 2> "$room/said" || status=$?
+$cc "${link[@]}" -o "$program" "$room/drivers.c" "${others[@]}" "${libraries[@]}" "$library" "${kit[@]}" -pthread 2> "$room/said" || status=$?
 cat "$room/said" >&2
 missing=$(sed -n "s/.*undefined reference to [\`']\([A-Za-z_0-9]*\)'.*/\1/p" "$room/said" | sort -u | tr '\n' ' ')
 [ -z "$missing" ] || say "neither in your sources nor in this kit: $missing(docs/PROFILE.md has what is)"

@@ -5,6 +5,7 @@
 # c/fuzz.sh --libfuzzer DRIVER.c.. [-- WORD..] : the same by clang's libFuzzer (Debian: libclang-rt-14-dev), which looks for requests that reach more of the driver's code; the words
 # are its own (-runs=100000, -max_total_time=60, a folder for what it learns). What fails is written to failure.txt, and not shrunk.
 set -eu
+case ${1:-} in -h | --help) sed -n '2,/^[^#]/s/^#\( \|$\)//p' "$0"; exit ;; esac
 here=$(cd "$(dirname "$(readlink -f "$0")")" && pwd)
 way=own
 if [ "${1:-}" = --libfuzzer ]; then
@@ -26,7 +27,7 @@ trap 'rm -rf "$room"' EXIT
 own() {
     local sanitizers=()
     if [ -z "${CFLAGS:-}" ] && echo 'int main(void) { return 0; }' | ${CC:-cc} -fsanitize=address,undefined -x c -o "$room/sanitized" - 2> /dev/null; then
-        sanitizers=(--sanitize=address,undefined)
+        sanitizers=("--sanitize=address,undefined")
     fi
     "$here/build.sh" --fuzz "${sanitizers[@]}" "$room/fuzz" "${drivers[@]}"
     "$room/fuzz" "$@"

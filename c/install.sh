@@ -3,6 +3,7 @@
 # that build programs of drivers, a package for CMake (find_package(Kazdrin)) and one for pkg-config. Nothing there names this checkout or the kit. KAZDRIN_LIB is the archive,
 # else the proved one, else one without proofs.
 set -eu
+case ${1:-} in -h | --help) sed -n '2,/^[^#]/s/^#\( \|$\)//p' "$0"; exit ;; esac
 here=$(cd "$(dirname "$0")" && pwd)
 prefix=${1:?usage: c/install.sh PREFIX}
 library=${KAZDRIN_LIB:-$here/../crates/kazdrin_c/out/libkazdrin_c.a}

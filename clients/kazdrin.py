@@ -294,9 +294,10 @@ def show(path: str) -> None:
 
 def main(words: Sequence[str]) -> int:
     """The program: its exit status."""
-    if len(words) != 1 or words[0] in ("-h", "--help"):
-        print("usage: python3 clients/kazdrin.py SOCKET", file=sys.stderr)
-        return 2
+    is_asked = list(words) in (["-h"], ["--help"])
+    if len(words) != 1 or is_asked:
+        print("usage: python3 clients/kazdrin.py SOCKET", file=sys.stdout if is_asked else sys.stderr)
+        return 0 if is_asked else 2
     try:
         show(words[0])
     except Error as error:

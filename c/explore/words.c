@@ -4,9 +4,9 @@
 #include <stdlib.h>
 #include <unistd.h>
 
-static bool usage(const char *name)
+static bool usage(const char *name, FILE *to)
 {
-    fprintf(stderr,
+    fprintf(to,
             "usage: %s [WORD..] SCENARIO, or %s --merge FILE..\n"
             "  what is searched   --bound N (2), --reduce, --states, --independent, --coarse, --inline, --fails N, --fail-each, --workers N, --dispatch none|data|all\n"
             "  orders of steps    --commute N\n"
@@ -163,18 +163,22 @@ static bool are_right(const Asked *asked)
 
 bool ex_read_words(int count, char **words, Asked *asked)
 {
+    if (count == 2 && strcmp(words[1], "--help") == 0) {
+        usage(words[0], stdout);
+        exit(0);
+    }
     for (int at = 1; at < count; at++) {
         if (strcmp(words[at], "--merge") == 0) {
             asked->merges = words + at + 1;
             asked->merges_count = count - at - 1;
-            return asked->merges_count || usage(words[0]);
+            return asked->merges_count || usage(words[0], stderr);
         }
         if (read_one(words[at], asked)) {
             note_word(asked, words[at], NULL);
         } else if (words[at][0] != '-' && !asked->scenario) {
             asked->scenario = words[at];
         } else if (at + 1 == count || !read_pair(words[at], words[at + 1], asked)) {
-            return usage(words[0]);
+            return usage(words[0], stderr);
         } else {
             note_word(asked, words[at], words[at + 1]);
             at++;
@@ -184,7 +188,7 @@ bool ex_read_words(int count, char **words, Asked *asked)
     ex->is_reduced |= ex->has_no_bound;
     ex->wants_ends |= asked->learns || asked->expects;
     ex->is_traced |= asked->replay && asked->page;
-    return asked->scenario ? are_right(asked) : usage(words[0]);
+    return asked->scenario ? are_right(asked) : usage(words[0], stderr);
 }
 
 /* ---- The same program and schedule under gdb, which stops at the schedule's last step. */

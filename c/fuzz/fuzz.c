@@ -71,6 +71,10 @@ static void shrink(int failure, int output)
 
 int main(int words_count, char **words)
 {
+    if (words_count == 2 && strcmp(words[1], "--help") == 0) {
+        printf("usage: %s [SESSIONS [SEED [FILE]]]\n  plays random requests; the first session that fails is shrunk, and stands in FILE (failure.txt)\n", words[0]);
+        return 0;
+    }
     unsigned long sessions = words_count > 1 ? strtoul(words[1], NULL, 10) : 1000, seed = words_count > 2 ? strtoul(words[2], NULL, 10) : 1;
     const char *path = words_count > 3 ? words[3] : "failure.txt";
     FILE *nothing = fopen("/dev/null", "w");

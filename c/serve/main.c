@@ -181,8 +181,9 @@ static void serve(int listener)
 int main(int count, char **words)
 {
     if (count != 3) {
-        fprintf(stderr, "usage: %s FOLDER SOCKET\n", words[0]);
-        return 2;
+        bool is_asked = count == 2 && strcmp(words[1], "--help") == 0;
+        fprintf(is_asked ? stdout : stderr, "usage: %s FOLDER SOCKET\n  serves FOLDER through its drivers to those who connect to SOCKET, until one asks it to stop\n", words[0]);
+        return is_asked ? 0 : 2;
     }
     for (size_t at = 0; at < LINKS; at++)
         links[at].socket = -1;

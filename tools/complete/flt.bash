@@ -1,3 +1,4 @@
+# shellcheck shell=bash
 # Completions of flt for bash.
 _flt() {
     local word=${COMP_WORDS[COMP_CWORD]} command=${COMP_WORDS[1]} flt=${COMP_WORDS[0]}

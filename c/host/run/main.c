@@ -17,10 +17,15 @@ typedef struct {
     int files_count;
 } Asked;
 
-static int usage(const char *name)
+static int usage(const char *name, FILE *to)
 {
-    fprintf(stderr, "usage: %s [--allow KZ0000].. [--strict] [--quiet] [--json] [--junit FILE] [--folder FOLDER] [--dispatch none|data|all] [REQUESTS.. | --load SCENARIO [--threads N] [--seconds S] [--seed N]]\n       %s --explain KZ0000\n", name, name);
-    return 2;
+    fprintf(to,
+            "usage: %s [WORD..] [REQUESTS..], or %s --load SCENARIO, or %s --explain KZ0000\n"
+            "  what is played     REQUESTS.. or else the standard input, --folder FOLDER, --dispatch none|data|all\n"
+            "  what is shown      --explain KZ0000, --quiet, --json, --junit FILE, --allow KZ0000, --strict\n"
+            "  threads            --load SCENARIO [--threads N] [--seconds S] [--seed N]\n",
+            name, name, name);
+    return to == stdout ? 0 : 2;
 }
 
 /* A word that has another behind it. */
@@ -90,9 +95,11 @@ int main(int count, char **words)
     const char *name = words[0];
     if (count == 3 && strcmp(words[1], "--explain") == 0)
         return explain(words[2]);
+    if (count == 2 && strcmp(words[1], "--help") == 0)
+        return usage(name, stdout);
     Asked asked = {.threads = 4, .seconds = 10, .seed = 1, .files = words}; /* those that are read make room for those that are files */
     if (!read_words(count, words, &asked))
-        return usage(name);
+        return usage(name, stderr);
     kz_use_junit(asked.junit);
     int error = asked.folder ? kz_use_folder(asked.folder) : 0;
     if (error) {

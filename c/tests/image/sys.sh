@@ -3,6 +3,7 @@
 # and its linker, with DWARF. ROOM is a folder where headers and import libraries are made once, for the program RUN, whose calls are what the libraries export. WORDS are more words for the
 # compiler; without LEVEL it is -O0, as a Debug build is.
 set -eu
+case ${1:-} in -h | --help) sed -n '2,/^[^#]/s/^#\( \|$\)//p' "$0"; exit ;; esac
 kind=$1
 room=$2
 out=$3
@@ -17,8 +18,8 @@ headers() {
 }
 
 # Import libraries: what the program has, and what mingw-w64 knows of the kernel's beside that.
-DATA="IoFileObjectType PsProcessType PsThreadType ExEventObjectType SeTokenObjectType IoDriverObjectType MmHighestUserAddress MmUserProbeAddress SeExports PsInitialSystemProcess NtBuildNumber \
-KdDebuggerEnabled KdDebuggerNotPresent"
+DATA=(IoFileObjectType PsProcessType PsThreadType ExEventObjectType SeTokenObjectType IoDriverObjectType MmHighestUserAddress MmUserProbeAddress SeExports PsInitialSystemProcess NtBuildNumber
+    KdDebuggerEnabled KdDebuggerNotPresent)
 libraries() {
     local name
     nm "$RUN" | sed -n 's/.* [tT] kz_stub_//p' | sort -u > "$room/exports"
@@ -26,8 +27,8 @@ libraries() {
     {
         printf 'LIBRARY ntoskrnl.exe\nEXPORTS\n'
         { grep -v '^Flt' "$room/exports"; x86_64-w64-mingw32-nm $mingw/lib/libntoskrnl.a 2> /dev/null | awk '$2 == "T" { print $3 }'; echo KzNoSuchCall; } |
-            grep -vE "^($(echo $DATA | tr ' ' '|')|_head.*|.*_iname)$" | sort -u
-        printf '%s DATA\n' $DATA
+            grep -vE "^($(IFS='|'; echo "${DATA[*]}")|_head.*|.*_iname)$" | sort -u
+        printf '%s DATA\n' "${DATA[@]}"
     } > "$room/ntoskrnl.def"
     for name in fltmgr ntoskrnl; do
         case $kind in
@@ -41,24 +42,25 @@ mkdir -p "$room"
 [ -d "$room/include" ] || headers
 [ -f "$room/$kind.made" ] || libraries
 
-words="${LEVEL:--O0} -g -fno-builtin -Werror=implicit-function-declaration -D_AMD64_ -D_WIN32_WINNT=0x0A00 -DNTDDI_VERSION=0x0A000002 -D_KERNEL_MODE=1 -DPOOL_NX_OPTIN=1 -DDBG=1 -DKERNEL ${WORDS:-}"
+read -r -a words <<< "${LEVEL:--O0} ${WORDS:-}"
+words+=(-g -fno-builtin -Werror=implicit-function-declaration -D_AMD64_ -D_WIN32_WINNT=0x0A00 -DNTDDI_VERSION=0x0A000002 -D_KERNEL_MODE=1 -DPOOL_NX_OPTIN=1 -DDBG=1 -DKERNEL)
 # Headers of mingw-w64 want to see gcc; the code is that of Microsoft's conventions all the same.
-msvc="--target=x86_64-pc-windows-msvc -fms-extensions -fms-compatibility-version=0 -fgnuc-version=4.8.0 -U_MSC_VER -D__MINGW32__=1 -D__MINGW64__=1 -D__MSVCRT__=1 -D__CRT__NO_INLINE
--D_MSC_EXTENSIONS_SEH -gcodeview -mno-stack-arg-probe -Wno-everything -Werror=implicit-function-declaration -nostdinc -isystem $(clang -print-resource-dir 2> /dev/null)/include"
+msvc=(--target=x86_64-pc-windows-msvc -fms-extensions -fms-compatibility-version=0 -fgnuc-version=4.8.0 -U_MSC_VER -D__MINGW32__=1 -D__MINGW64__=1 -D__MSVCRT__=1 -D__CRT__NO_INLINE
+    -D_MSC_EXTENSIONS_SEH -gcodeview -mno-stack-arg-probe -Wno-everything -Werror=implicit-function-declaration -nostdinc -isystem "$(clang -print-resource-dir 2> /dev/null)/include")
 objects=()
 for source in "$@"; do
     object=$out.$(basename "$source").o
     objects+=("$object")
     case $source in
-    *.cpp) language='-x c++ -std=c++17 -fno-exceptions -fno-rtti' ;;
-    *) language='-std=gnu11' ;;
+    *.cpp) language=(-x c++ -std=c++17 -fno-exceptions -fno-rtti) ;;
+    *) language=(-std=gnu11) ;;
     esac
     case $kind in
-    msvc) clang $language $words $msvc -isystem "$room/include" -isystem $mingw/include/ddk -isystem $mingw/include -c -o "$object" "$source" ;;
+    msvc) clang "${language[@]}" "${words[@]}" "${msvc[@]}" -isystem "$room/include" -isystem $mingw/include/ddk -isystem $mingw/include -c -o "$object" "$source" ;;
     mingw)
         gcc=x86_64-w64-mingw32-gcc
         case $source in *.cpp) gcc=x86_64-w64-mingw32-g++ ;; esac
-        $gcc $language $words -gdwarf-4 -mno-stack-arg-probe -w -Werror=implicit-function-declaration -isystem "$room/include" -isystem $mingw/include/ddk -c -o "$object" "$source"
+        $gcc "${language[@]}" "${words[@]}" -gdwarf-4 -mno-stack-arg-probe -w -Werror=implicit-function-declaration -isystem "$room/include" -isystem $mingw/include/ddk -c -o "$object" "$source"
         ;;
     esac
 done

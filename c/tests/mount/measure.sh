@@ -2,6 +2,7 @@
 # c/tests/mount/measure.sh SECONDS SERVER .. : fio over a raw folder, a bare FUSE pass-through (pass.c), and the mount of each server without a filter, with `shift`, and with pages that the kernel keeps.
 # A table goes to standard output, in operations a second. All lies in memory. A server is fltd, or one of c/build.sh --serve with a driver `shift`. BEHIND are words in front of all, as `chrt -r 1`.
 set -eu
+case ${1:-} in -h | --help) sed -n '2,/^[^#]/s/^#\( \|$\)//p' "$0"; exit ;; esac
 here=$(CDPATH='' cd -- "$(dirname -- "$0")" && pwd)
 top=$here/../../..
 [ $# -ge 2 ] || {
@@ -11,17 +12,18 @@ top=$here/../../..
 seconds=$1
 shift
 room=$(mktemp -d -p /dev/shm)
-processes=''
+processes=()
 end() {
     fusermount3 -u -z "$room/mount" 2> /dev/null || true
-    [ -z "$processes" ] || kill $processes 2> /dev/null || true
-    processes=''
+    [ ${#processes[@]} = 0 ] || kill "${processes[@]}" 2> /dev/null || true
+    processes=()
     wait
 }
 trap 'end; rm -rf "$room"' EXIT
 mkdir "$room/mount" "$room/raw"
 make -s -C "$top/c" fltmount PROGRAM="$room/fltmount"
-${CC:-cc} -std=gnu11 -O2 -o "$room/pass" "$here/pass.c" -pthread $(pkg-config fuse3 --cflags --libs)
+read -r -a fuse < <(pkg-config fuse3 --cflags --libs)
+${CC:-cc} -std=gnu11 -O2 -o "$room/pass" "$here/pass.c" -pthread "${fuse[@]}"
 
 until_so() {
     for _ in $(seq 100); do
@@ -45,10 +47,10 @@ begin() {
     rm -rf "$room/host" "$room/socket"
     mkdir "$room/host"
     ${BEHIND:-} "$server" "$room/host" "$room/socket" > /dev/null &
-    processes=$!
+    processes=($!)
     until_so test -S "$room/socket"
     ${BEHIND:-} "$room/fltmount" "$room/socket" "$room/mount" -f "$@" &
-    processes="$processes $!"
+    processes+=($!)
     until_so mountpoint -q "$room/mount"
 }
 
@@ -61,7 +63,8 @@ rate() {
 row() {
     line="| $1 "
     for what in 'write 32k 1' 'read 32k 1' 'randread 4k 1' 'randwrite 4k 1' 'randread 4k 8' 'randwrite 4k 8'; do
-        line="$line| $(rate "$2" $what) "
+        read -r way size jobs <<< "$what"
+        line="$line| $(rate "$2" "$way" "$size" "$jobs") "
     done
     echo "$line|"
 }
@@ -71,7 +74,7 @@ echo '|---|---|---|---|---|---|---|'
 row 'raw folder' "$room/raw"
 mkdir "$room/host"
 ${BEHIND:-} "$room/pass" "$room/host" "$room/mount" -f &
-processes=$!
+processes=($!)
 until_so mountpoint -q "$room/mount"
 row 'bare pass-through' "$room/mount"
 end

@@ -18,9 +18,10 @@
 # Each part says 'PART: N passed, M failed', and 'C: ..' the sum. The exit status says whether any failed. Without a C compiler it says so and tries nothing.
 # KAZDRIN_LIB is the manager's archive, as for c/build.sh; FLTD the server for mount and serve (else that of crates/fltd/out, or one without proofs).
 set -u
+case ${1:-} in -h | --help) sed -n '2,/^[^#]/s/^#\( \|$\)//p' "$0"; exit ;; esac
 here=$(cd "$(dirname "$0")" && pwd)
 for tool in "${CC:-cc}" objcopy make; do
-    command -v ${tool%% *} > /dev/null || {
+    command -v "${tool%% *}" > /dev/null || {
         echo "C: not tried, since there is no $tool here"
         [ -z "${KAZDRIN_WHOLE:-}" ]
         exit

@@ -20,11 +20,20 @@ other_words_of() {
     words_of "$1" | sed -E 's/--bound [0-9]+//; s/--fail-each//; s/--ends//'
 }
 
+# search PROGRAM SCENARIO WORDS..: one of the programs searches it; some of the words are several in one.
+search() {
+    local program=$1 scenario=$2 all
+    shift 2
+    read -r -a all <<< "$*"
+    "$room/$program" "${all[@]}" "$scenario"
+}
+
 # Plays each schedule that is named in a report again: it ends as the search did, and shows the same.
 play() {
-    local schedule count=0
+    local schedule all count=0
     while read -r schedule; do
-        "$room/$1" $(other_words_of "$scenarios/$1.txt") --trace --replay "$schedule" "$scenarios/$1.txt" > "$room/played" 2>&1
+        read -r -a all <<< "$(other_words_of "$scenarios/$1.txt")"
+        "$room/$1" "${all[@]}" --trace --replay "$schedule" "$scenarios/$1.txt" > "$room/played" 2>&1
         [ $? = "$2" ] || { echo "$1: '$schedule' ends otherwise"; return 1; }
         count=$((count + 1))
     done < <(awk -v q="'" '/ schedules:$/ { getline; limit = /^    LIMIT/ } /^  --replay/ && !limit { split($0, parts, q); print parts[2] }' "$room/$1.out")
@@ -42,17 +51,17 @@ reduce() {
     shift 3
     [ -s "$room/kinds" ] || return 1
     for way in "$@"; do
-        "$room/$program" --ends $words $way "$scenario" > "$room/reduced"
+        search "$program" "$scenario" --ends "$words" "$way" > "$room/reduced"
         kinds "$room/reduced" | diff "$room/kinds" - || return 1
         grep -q "^[a-z 0-9]*: .* [1-9][0-9]* given up, [1-9][0-9]* states" "$room/reduced" || return 1
     done
 }
-for scenario in $scenarios/*.txt; do
+for scenario in "$scenarios"/*.txt; do
     name=$(basename "$scenario" .txt)
     [ -f "$schedules/$name.c" ] || continue
     status=$(cat "$tests/expected/explore-$name.status" 2> /dev/null || sed -n 's/^# status: //p' "$scenario" | grep . || echo 0)
     build "$name" --explore "$room/$name" "$schedules/$name.c"
-    "$room/$name" $(words_of "$scenario") "$scenario" 2>&1 > "$room/$name.whole"
+    search "$name" "$scenario" "$(words_of "$scenario")" > "$room/$name.whole"
     ended=$?
     timeless < "$room/$name.whole" > "$room/$name.out"
     # Where nothing is stored, the scenario says what is found.
@@ -68,13 +77,13 @@ for scenario in $scenarios/*.txt; do
     fi
     tell $? "$name"
     [ "$status" != 4 ] || continue
-    case "$name" in polls | settwice) ways="--reduce" ;; *) ways="--reduce --states" ;; esac
+    case "$name" in polls | settwice) ways=(--reduce) ;; *) ways=(--reduce --states) ;; esac
     # Where one order of independent steps is searched the same is found. Refusals aren't known to be independent.
-    case "$ways $(words_of "$scenario")" in *--fail* | *--inline* | "--reduce "*"--coarse"*) ;; *--states*) ways="$ways --independent" ;; esac
+    case "${ways[*]} $(words_of "$scenario")" in *--fail* | *--inline* | "--reduce "*"--coarse"*) ;; *--states*) ways+=(--independent) ;; esac
     words="--bound 3 $(other_words_of "$scenario") $(words_of "$scenario" | grep -q -e --fail-each && echo --fails 1)"
-    "$room/$name" --ends $words "$scenario" > "$room/plain"
+    search "$name" "$scenario" --ends "$words" > "$room/plain"
     kinds "$room/plain" > "$room/kinds"
-    reduce "$name" "$words" "$scenario" $ways
+    reduce "$name" "$words" "$scenario" "${ways[@]}"
     tell $? "$name with known states left out"
     grep -q -e --replay "$room/$name.out" || continue
     play "$name" "$status"
@@ -82,7 +91,7 @@ for scenario in $scenarios/*.txt; do
     # The points at memory find more, and nothing less.
     grep -q -e --coarse "$scenario" || continue
     words=$(words_of "$scenario" | sed 's/--coarse//')
-    "$room/$name" $words "$scenario" > "$room/fine"
+    search "$name" "$scenario" "$words" > "$room/fine"
     kinds "$room/fine" > "$room/fine.kinds"
     kinds "$room/$name.out" | comm -23 - "$room/fine.kinds" | grep . && false
     [ $? = 1 ]
@@ -128,7 +137,7 @@ tell $? "shrunk"
 
 # What can't be searched says why.
 refuses() {
-    printf "$3" > "$room/refused.txt"
+    printf %b "$3" > "$room/refused.txt"
     "$room/counter" "$room/refused.txt" > "$room/out" 2>&1
     [ $? = "$1" ] && grep -q "$2" "$room/out"
 }
@@ -193,7 +202,7 @@ draw() {
     "$room/$program" "$@" "$scenario" | timeless | cmp - "$room/seed.1" || return 1
     seed=$(sed -n 's/^  \(--seed .*\)/\1/p' "$room/seed.1" | head -n 1)
     [ -n "$seed" ] || return 1
-    "$room/$program" $seed "$scenario" > "$room/seed.2"
+    search "$program" "$scenario" "$seed" > "$room/seed.2"
     grep -q "^1 schedules" "$room/seed.2" && [ "$(sed -n 's/^  --replay//p' "$room/seed.1" | head -n 1)" = "$(sed -n 's/^  --replay//p' "$room/seed.2" | head -n 1)" ]
 }
 draw lostrelease $scenarios/lostrelease.txt --seed 7 --runs 200 && grep -q "TOLD KZ0101" "$room/seed.1"

@@ -13,13 +13,13 @@ try calls "$room/calls"
 look calls "$room/calls"
 
 # One program of all drivers plays all requests.
-drivers=(c/samples/*.c $tests/misuse/*.c $tests/drivers/*.c $tests/drivers/two-files)
-command -v "${CXX:-c++}" > /dev/null && drivers+=($tests/drivers/*.cpp)
-for user in c/samples/user/*.c $tests/user/*.c; do
+drivers=(c/samples/*.c "$tests"/misuse/*.c "$tests"/drivers/*.c "$tests"/drivers/two-files)
+command -v "${CXX:-c++}" > /dev/null && drivers+=("$tests"/drivers/*.cpp)
+for user in c/samples/user/*.c "$tests"/user/*.c; do
     drivers+=(--user "$user")
 done
 build drivers "$room/drivers" "${drivers[@]}"
-for requests in $tests/requests/*.txt; do
+for requests in "$tests"/requests/*.txt; do
     name=$(basename "$requests" .txt)
     case $name in plus | blocks) command -v "${CXX:-c++}" > /dev/null || continue ;; esac
     # Where nothing is stored, its own expectations are all.

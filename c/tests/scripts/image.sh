@@ -53,9 +53,10 @@ play() {
 
 # explored NAME STATUS PATTERN: a driver of c/tests/misuse/schedules as a binary, under its scenario.
 explored() {
-    local scenario=$tests/scenarios/$1.txt
-    $tests/image/sys.sh $kind "$room/kit-$kind" "$room/$1.sys" $tests/misuse/schedules/$1.c > "$room/$1.log" 2>&1
-    ./flt run --explore "$room/$1.sys" $(sed -n 's/^# words: //p' "$scenario") "$scenario" > "$room/$1.out" 2>&1
+    local scenario=$tests/scenarios/$1.txt words
+    "$tests/image/sys.sh" "$kind" "$room/kit-$kind" "$room/$1.sys" "$tests/misuse/schedules/$1.c" > "$room/$1.log" 2>&1
+    read -r -a words <<< "$(sed -n 's/^# words: //p' "$scenario")"
+    ./flt run --explore "$room/$1.sys" "${words[@]}" "$scenario" > "$room/$1.out" 2>&1
     [ $? = "$2" ] && grep '^bound' "$room/$1.out" | tail -n 1 | grep -q "$3" || { cat "$room/$1.log" "$room/$1.out"; false; }
     tell $? "$1 under the explorer by $kind"
 }
@@ -67,7 +68,7 @@ for kind in msvc mingw; do
     mingw) has python3 x86_64-w64-mingw32-gcc x86_64-w64-mingw32-dlltool || continue ;;
     esac
     mkdir -p "$room/$kind"
-    for source in c/samples/*.c $tests/drivers/majors.c $tests/image/*.c $tests/image/*.cpp; do
+    for source in c/samples/*.c "$tests"/drivers/majors.c "$tests"/image/*.c "$tests"/image/*.cpp; do
         name=$(basename "$source")
         name=${name%.*}
         case $kind-$name in
@@ -80,7 +81,7 @@ for kind in msvc mingw; do
         name=$(basename "$source" .c)
         [ ! -f "$room/$kind/$name.sys" ] || play "$name" "$room/$kind"/*.sys
     done
-    for requests in $tests/image/*.txt; do
+    for requests in "$tests"/image/*.txt; do
         name=$(basename "$requests" .txt)
         [ -f "$room/$kind/$name.sys" ] || continue
         { "$RUN" "$room/$kind/$name.sys" "$requests"; echo "status $?"; } > "$room/$name.out" 2> "$room/$name.err"

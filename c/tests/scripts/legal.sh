@@ -4,7 +4,7 @@
 # gets those of all samples.
 set -u
 . "$(dirname "$0")/tally.sh" legal
-for driver in $tests/legal/*.c; do
+for driver in "$tests"/legal/*.c; do
     name=$(basename "$driver" .c)
     requests=$tests/legal/$name.txt
     scenario=$tests/legal/$name.scenario
@@ -30,7 +30,8 @@ for driver in $tests/legal/*.c; do
         seconds=300
         [ "$way" != --states ] || seconds=10
         status=0
-        timeout $seconds "$room/$name.explore" $way "$room/scenario" > "$room/out" || status=$?
+        read -r -a words <<< "$way"
+        timeout $seconds "$room/$name.explore" "${words[@]}" "$room/scenario" > "$room/out" || status=$?
         [ $status = 0 ] || { [ "$way" = --states ] && [ $status = 124 ]; } || { cat "$room/out"; false; }
         tell $? "$name under $way"
     done

@@ -9,7 +9,7 @@ found() {
 wanted() {
     sed -n "s/^# $1: //p" "$2"
 }
-for scenario in $tests/misuse/*.scenario; do
+for scenario in "$tests"/misuse/*.scenario; do
     name=$(basename "$scenario" .scenario)
     build "$name" "$room/$name" "$tests/misuse/$name.c"
     "$room/$name" --load "$scenario" --threads 1 --seconds 0.2 > "$room/out" 2>&1

@@ -9,10 +9,10 @@ awk -v room="$room" '
     on && /^# / { file = sprintf("%s/%02d.list", room, ++count) }
     on && NF { print > file }' crates/test_recorder/src/order.rt
 drivers=()
-for name in $(sed -n 's/^load //p' "$room"/*.list | sort -u); do
+while read -r name; do
     cp $tests/drivers/recorder.c "$room/$name.c"
     drivers+=("$room/$name.c")
-done
+done < <(sed -n 's/^load //p' "$room"/*.list | sort -u)
 build recorder "$room/recorders" "${drivers[@]}"
 for list in "$room"/*.list; do
     grep -v '^saw ' "$list" > "$list.txt"

@@ -17,7 +17,7 @@ for user in c/samples/user/*.c; do
     users+=("$user" --user)
 done
 unset 'users[-1]'
-for scenario in $scenarios/*-load.txt; do
+for scenario in "$scenarios"/*-load.txt; do
     name=$(basename "$scenario" -load.txt)
     build "$name" --explore "$room/$name" "c/samples/$name.c" "${users[@]}"
     "$room/$name" --bound "$bound" "$scenarios/$name.txt" > "$room/$name.out" || { cat "$room/$name.out"; false; }

@@ -15,7 +15,7 @@ cp c/samples/passthrough.c "$room/meter.c"
 cp c/samples/nullfilter.c "$room/carry.c"
 words=()
 if has_sanitizers address,undefined; then
-    words=(--sanitize=address,undefined)
+    words=("--sanitize=address,undefined")
 else
     echo "serve: left out: the sanitizers, which cc hasn't here"
 fi

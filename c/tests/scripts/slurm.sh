@@ -60,7 +60,8 @@ seen() {
 line=$(sed -n 's/^`\(sbatch .*\)`.*/\1/p' docs/EXPLORE.md | head -n 1)
 (cd "$room/work" && eval "${line/--array=0-63/--array=0-63 --output=$room/work/slurm-%a.out}" > sbatch.out 2>&1) || { cat "$room/work/sbatch.out"; false; }
 tell $? "$line"
-[ "$(ls "$room"/work/part.* | wc -l)" = 64 ]
+parts=("$room"/work/part.*)
+[ ${#parts[@]} = 64 ]
 tell $? "sixty-four parts"
 "$room/work/lo" --merge "$room"/work/part.* > "$room/merged" && "$room/work/lo" "$room/work/s.txt" > "$room/whole" && seen "$room/whole" > "$room/wanted" && seen "$room/merged" | diff "$room/wanted" -
 tell $? "the sum of the parts"

@@ -1,6 +1,7 @@
+# shellcheck shell=bash
 # For the scripts beside it, which begin in the checkout's folder: what passed, what failed, and a room that is gone at the end. PART is the name in front of what they say.
 PART=$1
-cd "$(dirname "${BASH_SOURCE[0]}")/../../.."
+cd "$(dirname "${BASH_SOURCE[0]}")/../../.." || exit
 tests=c/tests
 room=$(mktemp -d)
 trap 'rm -rf "$room"' EXIT

@@ -15,6 +15,7 @@
 #
 # KAZDRIN_LIB is the manager's archive, as for c/build.sh, FLTD the server below the mount. The exit status says whether anything failed.
 set -u
+case ${1:-} in -h | --help) sed -n '2,/^[^#]/s/^#\( \|$\)//p' "$0"; exit ;; esac
 here=$(cd "$(dirname "$0")" && pwd)
 . "$here/tally.sh" thorough
 export KAZDRIN_LIB=${KAZDRIN_LIB:-$(c/archive.sh --unproved)}
@@ -64,7 +65,7 @@ image() {
 
 libfuzzer() {
     local top=$PWD
-    cd "$room"
+    cd "$room" || exit
     "$top/c/fuzz.sh" --libfuzzer "$top/$tests/misuse/schedules/refusal.c" -- -runs=20000 -seed=1 > found.out 2>&1
     [ $? != 0 ]
     tell $? "libFuzzer finds a call that may be refused:"
@@ -78,7 +79,7 @@ libfuzzer() {
         "$top/c/fuzz.sh" --libfuzzer "$top/c/samples/ctx.c" -- -runs=2000 -seed=1 > silent.out 2>&1 || { cat silent.out; false; }
         tell $? "libFuzzer above ctx"
     fi
-    cd "$top"
+    cd "$top" || exit
 }
 
 real() {

@@ -8,14 +8,15 @@ if ! has_sanitizers thread; then
     untried 'this compiler has no thread sanitizer'
     exit
 fi
-samples="ctx cancelsafe csqworkitem"
+samples=(c/samples/ctx.c c/samples/cancelsafe.c c/samples/csqworkitem.c)
 seconds=1
 if [ "$WHOLE" = --whole ]; then
-    samples=$(ls c/samples | sed -n 's/\.c$//p')
+    samples=(c/samples/*.c)
     seconds=10
 fi
-for name in $samples; do
-    build "$name" --sanitize=thread "$room/$name" "c/samples/$name.c"
+for sample in "${samples[@]}"; do
+    name=$(basename "$sample" .c)
+    build "$name" --sanitize=thread "$room/$name" "$sample"
     sed "s/DRIVER/$name/" $tests/scenarios/load.txt > "$room/$name.txt"
     "$room/$name" --load "$room/$name.txt" --threads 8 --seconds "$seconds" > "$room/$name.out" 2>&1 || { cat "$room/$name.out"; false; }
     tell $? "$name"

@@ -234,8 +234,6 @@ static void note(const void *address, size_t size, bool is_write, bool is_atomic
     uintptr_t start = (uintptr_t)address, end = start + size;
     if (ex->is_traced)
         ex_trace_access(address, is_write, is_atomic, from);
-    for (uintptr_t tag = start >> 3; ex->is_independent && tag << 3 < end; tag++)
-        ex_use((const void *)(tag << 3), is_write);
     look_at_freed(start, from, is_write);
     for (uintptr_t tag = start >> 3; tag << 3 < end; tag++) {
         uintptr_t first = tag << 3 < start ? start - (tag << 3) : 0, last = (tag << 3) + 8 > end ? end - (tag << 3) : 8;
@@ -260,10 +258,6 @@ void ex_access(const void *address, size_t size, bool is_write, bool is_atomic, 
         learn(address);
     if (!is_watched() || ex_is_stack(address))
         return;
-    if (ex->is_independent && !is_atomic) { /* whether this is a point depends on who met it before */
-        ex_use((const void *)start, false);
-        ex_use((const void *)(end - 1), false);
-    }
     if (is_point(start, end, is_atomic))
         ex_memory_point(address, size, from);
     note(address, size, is_write, is_atomic, from);
@@ -343,8 +337,6 @@ void ex_touch(const void *object, size_t size, KzTouch how)
 {
     if (!is_watched())
         return;
-    if (ex->is_independent)
-        ex_use(object, !(how == KZT_TAKES && kz_me->place.call && strncmp(kz_me->place.call, "FltGet", 6) == 0));
     if (how == KZT_HAS_TAKEN_BACK) {
         take_back(object, size);
         return;

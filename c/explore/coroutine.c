@@ -142,8 +142,6 @@ static int begin_step(int client, bool is_preemption)
     ex->preemptions += is_preemption;
     ex->switches += client != ex->current && ex->current;
     note_step(client);
-    if (ex->is_independent)
-        ex_begin_footprint(&ex_runners[client]);
     if (ex->stops_at && ex->steps == ex->stops_at)
         raise(SIGTRAP); /* a debugger stops here: the client goes on next */
     if (ex->is_traced)
@@ -154,17 +152,9 @@ static int begin_step(int client, bool is_preemption)
 /* The number of the client that goes on; 0 if none can. */
 static int choose(Runner *me)
 {
-    if (ex->is_independent && ex->current)
-        ex_end_footprint(ex->current);
     Options options = options_of(me);
-    if (ex->pair)
-        return begin_step(ex_choose_for_pair(options.count, options.clients), false);
     if (!options.count)
         return 0;
-    if (ex->is_independent && options.count == 1 && ex_all_sleep(options.clients, 1)) {
-        ex->is_given_up = true;
-        siglongjmp(ex->out, 1);
-    }
     ex->able = 0;
     for (unsigned at = 0; at < options.count; at++)
         ex->able |= 1U << options.clients[at];
@@ -178,7 +168,7 @@ static int choose(Runner *me)
 /* Where states are told apart another stack chooses, so that all clients stand alike. */
 static void go_on(Runner *me)
 {
-    if (ex->is_reduced || ex->is_independent || ex->is_alone) {
+    if (ex->is_reduced || ex->is_alone) {
         ex_switch(&me->stands, ex->back);
         return;
     }
@@ -217,8 +207,6 @@ static bool can_others(const Runner *me)
 static bool wait(KzCan *can, void *what, const char *text)
 {
     Runner *me = mine();
-    if (ex->is_independent)
-        ex_use_all();
     me->can = can;
     me->what = what;
     me->timed_out = false;
@@ -226,8 +214,6 @@ static bool wait(KzCan *can, void *what, const char *text)
     me->state = WAITING;
     go_on(me);
     me->state = RUNNING;
-    if (ex->is_independent)
-        ex_use_all();
     return !me->timed_out;
 }
 
@@ -259,8 +245,6 @@ static bool is_in_vain(const void *from, uintptr_t at, uint64_t value)
     mine_own->looks[place].at = at;
     mine_own->looks[place].value = value;
     mine_own->looks[place].count = is_same ? mine_own->looks[place].count + 1 : 1;
-    if (ex->is_independent && is_same)
-        ex_use((const void *)at, false);
     if (mine_own->looks[place].count < LOOKS_ENOUGH)
         return false;
     mine_own->looks[place].count = 0;
@@ -351,10 +335,6 @@ static unsigned choose_answer(unsigned count, KzChoice what, const char *name)
         return 0;
     bool is_time = what == KZ_CHOICE_TIME, is_inside = what == KZ_CHOICE_INSIDE;
     bool is_asked = is_inside ? ex->has_inside || ex->replay || ex->is_guided : is_time ? !ex->timeouts : ex->fails_used < ex->fails || ex->replay || ex->is_guided;
-    if (ex->is_independent && what == KZ_CHOICE_DEVICE)
-        ex_use_folder();
-    if (ex->is_independent && is_asked)
-        ex_use_all();
     unsigned taken = is_asked ? ex_decide(count, is_inside ? ANSWER_INSIDE : ANSWER_FAIL, NULL, false) : 0;
     if (!taken)
         return 0;
@@ -498,7 +478,7 @@ static bool let(KzThread *thread)
     return true;
 }
 
-const KzScheduler ex_scheduler = {point, wait, ex_touch, ex_called, looked, choose_answer, begin, let, nothing, nothing, ex_say, true, false};
+const KzScheduler ex_scheduler = {point, wait, ex_touch, looked, choose_answer, begin, let, nothing, nothing, ex_say, true, false};
 
 /* What a client left on its stack below where it stands: two states aren't to differ by that. */
 static void tidy(Runner *one)
@@ -534,7 +514,7 @@ void ex_run(void)
     ex_forget_lib_calls();
     ex->is_running = true;
     Runner *before = NULL;
-    for (int client = choose(NULL); client; client = ex->is_reduced || ex->is_independent ? choose(before) : 0) {
+    for (int client = choose(NULL); client; client = ex->is_reduced ? choose(before) : 0) {
         before = &ex_runners[client];
         ex->current = client;
         kz_me = before->client;

@@ -110,24 +110,6 @@ typedef struct {
     bool is_preemption;
 } Event;
 
-/* What a step uses: eight bytes of memory each, or an object. */
-enum { USES = 48 };
-typedef struct {
-    bool is_all; /* or everything */
-    unsigned count;
-    struct {
-        uintptr_t tag;
-        bool is_written;
-    } uses[USES];
-} Footprint;
-
-/* Of a choice of the path: who slept as it came up, and what the steps use that were tried. */
-typedef struct {
-    uint32_t asleep;
-    uint8_t clients[RUNNERS];
-    Footprint tried[RUNNERS + 1];
-} Choice;
-
 /* All that a run's beginning doesn't put back. */
 typedef struct {
     /* The scenario, and how it is searched. */
@@ -138,7 +120,6 @@ typedef struct {
     bool wants_ends, is_traced, is_quiet, is_strict; /* is_strict: a limit counts */
     unsigned asked_bound, workers, stops_at; /* the last bound; how many work items run at once; the step before which a debugger stops, or 0 */
     uint64_t asked_seed, asked_runs;
-    bool is_independent; /* of orders that differ by steps which are independent one is searched */
     bool is_coarse; /* no points at memory */
     bool has_inside; /* the rest of an operation may run inside its completion */
     bool is_reduced; /* a run that comes to a known state is given up */
@@ -167,12 +148,6 @@ typedef struct {
     size_t found_count;
     char output[OUTPUT];
     size_t output_length;
-    /* Independent steps. */
-    Footprint footprint, sleeping[RUNNERS + 1]; /* of the step that runs; of those that sleep */
-    uint32_t asleep;
-    Choice *choices; /* by depth */
-    size_t last_choice; /* its depth and one, until the step is through; 0 if there was none */
-    void *pair; /* of steps that are tried in both orders; NULL if none is */
     uint32_t run;
     uint64_t random;
     uint32_t priorities[RUNNERS + 1];
@@ -213,7 +188,7 @@ extern Explorer *ex;
 
 /* What the words ask for, beside what the search itself looks at. */
 typedef struct {
-    unsigned jobs, commutes;
+    unsigned jobs;
     bool shrinks, is_debugged;
     const char *replay, *scenario, *learns, *expects, *saves, *resume, *page;
     char **merges;
@@ -345,22 +320,6 @@ int ex_put_page(const char *path);
 /* shrink.c: shorter schedules that find the same, and scenarios with fewer requests. */
 void ex_shrink(void);
 unsigned ex_guided(unsigned count, Asks asks, const int *clients);
-
-/* independent.c */
-void ex_use(const void *what, bool is_written);
-void ex_use_all(void);
-void ex_use_folder(void);
-void ex_called(const char *name);
-void ex_begin_footprint(const Runner *one);
-void ex_end_footprint(int client);
-bool ex_depend(const Footprint *a, const Footprint *b);
-unsigned ex_first_awake(size_t depth, unsigned from, unsigned count, const int *clients);
-unsigned ex_next_awake(size_t depth, unsigned taken, unsigned count);
-bool ex_all_sleep(const int *clients, unsigned count);
-
-/* commute.c: whether pairs of steps that are called independent are. */
-int ex_try_pairs(unsigned runs);
-int ex_choose_for_pair(unsigned count, const int *clients);
 
 /* fault.c */
 void ex_watch_faults(void);

@@ -24,8 +24,6 @@ static void start_run(void)
     ex->preemptions = ex->switches = ex->fails_used = ex->timeouts = ex->steps = ex->deviations = 0;
     ex->hash = 0;
     ex->unmet[0] = 0;
-    ex->asleep = 0;
-    ex->last_choice = 0;
     ex->is_limited = ex->is_given_up = ex->is_alone = false;
     ex->runners_count = ex->usual_count;
     memset(ex->patience, 0, sizeof ex->patience[0] * ((size_t)ex->most_runners + 1));
@@ -227,9 +225,9 @@ void ex_search(void)
 /* Before the search, and before a schedule that is played again: runs without a preemption say how long one is, and which memory is shared by more than locks. Nothing of them is told. */
 static void warm_up(void)
 {
-    bool is_reduced = ex->is_reduced, is_independent = ex->is_independent, has_no_bound = ex->has_no_bound, is_coarse = ex->is_coarse, is_traced = ex->is_traced, wants_ends = ex->wants_ends;
+    bool is_reduced = ex->is_reduced, has_no_bound = ex->has_no_bound, is_coarse = ex->is_coarse, is_traced = ex->is_traced, wants_ends = ex->wants_ends;
     unsigned fails = ex->fails, shards = ex->shards, runs = 0;
-    ex->is_reduced = ex->is_independent = ex->has_no_bound = ex->is_traced = ex->wants_ends = false;
+    ex->is_reduced = ex->has_no_bound = ex->is_traced = ex->wants_ends = false;
     ex->is_coarse = true;
     ex->bound = ex->fails = ex->shards = 0;
     ex_learn_cells(true);
@@ -241,7 +239,7 @@ static void warm_up(void)
     ex_learn_cells(false);
     ex_clear_stacks();
     ex_clear_arenas();
-    ex->is_reduced = is_reduced, ex->is_independent = is_independent, ex->has_no_bound = has_no_bound, ex->is_coarse = is_coarse, ex->is_traced = is_traced, ex->wants_ends = wants_ends;
+    ex->is_reduced = is_reduced, ex->has_no_bound = has_no_bound, ex->is_coarse = is_coarse, ex->is_traced = is_traced, ex->wants_ends = wants_ends;
     ex->fails = fails, ex->shards = shards;
     ex->kinds_count = 0;
     ex->schedules = ex->length = 0;
@@ -321,7 +319,7 @@ static int put_page_of_first(const char *path)
     ex->seed = 0;
     ex->counted_count = 0;
     ex->is_traced = true;
-    ex->is_reduced = ex->is_independent = ex->has_no_bound = false;
+    ex->is_reduced = ex->has_no_bound = false;
     ex->kinds_count = 0;
     memset(ex->counts, 0, sizeof ex->counts);
     return play(&again) == 3 ? 3 : ended;
@@ -416,16 +414,14 @@ int main(int count, char **words)
     ex_open_shadow();
     ex_watch_faults();
     if (asked.replay || ex->asked_seed)
-        ex->is_reduced = ex->is_independent = ex->has_no_bound = false;
+        ex->is_reduced = ex->has_no_bound = false;
     if (ex->is_reduced)
         ex_open_states();
-    if (ex->is_independent)
-        ex->choices = ex_map(PATH * sizeof *ex->choices);
     kz_is_deaf = !ex->wants_ends && !ex->is_traced && !asked.page;
     ex_keep_stacks();
     ex_take_image();
     warm_up();
     if (asked.resume)
         signal(SIGINT, interrupt), signal(SIGTERM, interrupt);
-    return asked.replay ? play(&asked) : asked.commutes ? ex_try_pairs(asked.commutes) : search_and_end(&asked);
+    return asked.replay ? play(&asked) : search_and_end(&asked);
 }

@@ -21,20 +21,8 @@ static void note_deviation(unsigned taken)
     }
 }
 
-/* Of steps that are independent one order is searched: a client sleeps while what would follow its step was searched already (independent.c). Where all who could go on sleep, the run is
- * given up, and the choice stays at its last option, so that ex_advance leaves it. */
-static void take_awake(Node *node, unsigned count, const int *clients)
-{
-    node->taken = (uint8_t)ex_first_awake(ex->depth, node->taken, count, clients);
-    if (node->taken < count)
-        return;
-    node->taken = (uint8_t)(count - 1);
-    ex->is_given_up = true;
-    siglongjmp(ex->out, 1);
-}
-
 /* The option that the path has for this choice; a choice that it doesn't have yet is appended with its first. `stays` is the client that may go on without a preemption; 0 if none may. */
-static unsigned follow(unsigned count, bool is_switch, int stays, const int *clients)
+static unsigned follow(unsigned count, bool is_switch, int stays)
 {
     if (ex->depth == PATH) {
         ex_found(STUCK, "ENDLESS: the run has too many choices");
@@ -52,8 +40,6 @@ static unsigned follow(unsigned count, bool is_switch, int stays, const int *cli
         ex_found(CRASH, "NOT REPEATABLE: the same schedule came to another choice");
         siglongjmp(ex->out, 1);
     }
-    if (ex->is_independent && is_switch)
-        take_awake(node, count, clients);
     ex->depth++;
     note_deviation(node->taken);
     return node->taken;
@@ -64,7 +50,7 @@ bool ex_advance(void)
 {
     while (ex->length > 0) {
         Node *node = &ex->path[ex->length - 1];
-        node->taken = (uint8_t)(ex->is_independent && node->is_switch ? ex_next_awake(ex->length - 1, node->taken, node->count) : node->taken + 1U);
+        node->taken++;
         if (node->taken < node->count)
             return true;
         ex->length--;
@@ -170,7 +156,7 @@ unsigned ex_decide(unsigned count, Asks asks, const int *clients, bool may_stay)
         return by_priority(count, clients);
     if (ex->seed)
         return is_switch ? ex_draw(count) : ex_draw(8) == 0;
-    return follow(count, is_switch, may_stay ? clients[0] : 0, clients);
+    return follow(count, is_switch, may_stay ? clients[0] : 0);
 }
 
 /* How often the client goes on in a row; a refusal stands alone. */

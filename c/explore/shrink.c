@@ -211,7 +211,7 @@ void ex_shrink(void)
     uint64_t seed = ex->seed, counts[LIMITED + 1], schedules = ex->schedules;
     unsigned longest = ex->longest, shards = ex->shards, fails = ex->fails;
     memcpy(counts, ex->counts, sizeof counts);
-    ex->is_reduced = ex->is_independent = false;
+    ex->is_reduced = false;
     ex->seed = ex->shards = 0;
     guide = ex_map(sizeof(struct Guide));
     ex->is_guided = true;

@@ -7,7 +7,6 @@
 typedef struct {
     uint64_t key;
     uint32_t left; /* preemptions, and one more; 0 where there is no state */
-    uint32_t asleep; /* whose steps weren't searched from there, since another order of them was */
 } Known;
 
 static struct {
@@ -123,13 +122,13 @@ bool ex_is_known(int stays)
     uint32_t left = ex->has_no_bound ? 1 : ex->bound - ex->preemptions + 1;
     Known *one = find(wanted);
     ex->path[ex->depth].key = wanted;
-    if (one->left >= left && !(one->asleep & ~ex->asleep)) {
+    if (one->left >= left) {
         if (is_loop(wanted))
             ex_found(STUCK, "ENDLESS: the run comes back to where it was");
         return true;
     }
     if (one->left == 0 && ++states->count > states->size / 8 * 7)
         ex_end_search("states");
-    *one = (Known){wanted, left, one->left ? one->asleep & ex->asleep : ex->asleep};
+    *one = (Known){wanted, left};
     return false;
 }

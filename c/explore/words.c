@@ -8,8 +8,7 @@ static bool usage(const char *name, FILE *to)
 {
     fprintf(to,
             "usage: %s [WORD..] SCENARIO, or %s --merge FILE..\n"
-            "  what is searched   --bound N (2), --reduce, --states, --independent, --coarse, --inline, --fails N, --fail-each, --workers N, --dispatch none|data|all\n"
-            "  orders of steps    --commute N\n"
+            "  what is searched   --bound N (2), --reduce, --states, --coarse, --inline, --fails N, --fail-each, --workers N, --dispatch none|data|all\n"
             "  drawn schedules    --seed N [--runs N] [--pct N]\n"
             "  spread             --jobs N, --shard K/N, --save FILE, --merge FILE.., --resume FILE, --memory MB\n"
             "  what is shown      --ends, --learn FILE, --expect-ends FILE, --shrink, --page FILE, --allow KZ0000, --strict\n"
@@ -71,8 +70,6 @@ static bool read_pair(const char *word, const char *value, Asked *asked)
         return read_number(value, 1, 256, &asked->jobs);
     if (strcmp(word, "--stop") == 0)
         return read_number(value, 1, STEPS, &ex->stops_at);
-    if (strcmp(word, "--commute") == 0)
-        return read_number(value, 1, 10000000, &asked->commutes);
     if (strcmp(word, "--seed") == 0)
         return read_long(value, &ex->asked_seed);
     if (strcmp(word, "--runs") == 0)
@@ -108,7 +105,7 @@ static bool read_one(const char *word, Asked *asked)
         bool *to;
     } ones[] = {{"--ends", &ex->wants_ends},  {"--trace", &ex->is_traced},         {"--quiet", &ex->is_quiet},   {"--reduce", &ex->is_reduced},
                 {"--coarse", &ex->is_coarse}, {"--inline", &ex->has_inside},       {"--shrink", &asked->shrinks}, {"--gdb", &asked->is_debugged},
-                {"--states", &ex->has_no_bound}, {"--independent", &ex->is_independent}};
+                {"--states", &ex->has_no_bound}};
     for (size_t at = 0; at < sizeof ones / sizeof ones[0]; at++)
         if (strcmp(ones[at].name, word) == 0)
             return *ones[at].to = true;
@@ -145,11 +142,9 @@ static bool are_right(const Asked *asked)
 {
     bool knows_states = ex->is_reduced, is_spread = ex->shards > 1 || asked->jobs > 1;
     if (knows_states && is_spread)
-        return refuse("--reduce, --states and --independent don't go with --shard and --jobs: a part would leave out what another has met");
+        return refuse("--reduce and --states don't go with --shard and --jobs: a part would leave out what another has met");
     if (knows_states && asked->resume)
-        return refuse("--reduce, --states and --independent don't go with --resume: what was met isn't stored");
-    if (ex->is_independent && (ex->fails || ex->has_inside))
-        return refuse("--independent goes neither with --fails nor with --inline: what is refused, or runs inside a call, isn't known to be independent of other steps");
+        return refuse("--reduce and --states don't go with --resume: what was met isn't stored");
     if (asked->jobs > 1 && ex->shards > 1)
         return refuse("--jobs and --shard both spread the search: take one of them");
     if (asked->jobs > 1 && (asked->replay || asked->is_debugged))
@@ -184,7 +179,6 @@ bool ex_read_words(int count, char **words, Asked *asked)
             at++;
         }
     }
-    ex->has_no_bound |= ex->is_independent;
     ex->is_reduced |= ex->has_no_bound;
     ex->wants_ends |= asked->learns || asked->expects;
     ex->is_traced |= asked->replay && asked->page;

@@ -53,7 +53,6 @@ unsigned kz_go_inside(const char *name, const void *from)
         return depth;
     kz_me->place.call = name;
     kz_me->place.from = from;
-    kz_scheduler->called(name);
     kz_check_irql(name);
     return 0;
 }
@@ -183,11 +182,6 @@ static void touch_nothing(const void *object, size_t size, KzTouch how)
     (void)object, (void)size, (void)how;
 }
 
-static void call_nothing(const char *name)
-{
-    (void)name;
-}
-
 static void look_at_nothing(const void *from)
 {
     (void)from;
@@ -203,4 +197,4 @@ static void nothing(void)
 {
 }
 
-const KzScheduler kz_in_order = {pass_point, wait_in_order, touch_nothing, call_nothing, look_at_nothing, choose_as_asked, kz_begin_thread, kz_let_thread, nothing, nothing, kz_print, false, true};
+const KzScheduler kz_in_order = {pass_point, wait_in_order, touch_nothing, look_at_nothing, choose_as_asked, kz_begin_thread, kz_let_thread, nothing, nothing, kz_print, false, true};

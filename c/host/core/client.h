@@ -61,8 +61,6 @@ typedef struct {
     /* It can't go on, and waits for what is named until it can. False: nobody brings that about, or its time is over. */
     bool (*wait)(KzCan *can, void *what, const char *text);
     void (*touch)(const void *object, size_t size, KzTouch how);
-    /* A call of the kit begins. */
-    void (*called)(const char *name);
     /* It tried for something in vain, and doesn't wait: code that does so again and again lets others go first. */
     void (*looked)(const void *from);
     /* Which of so many answers the call gets; 0 is the usual one. The name is for people. */

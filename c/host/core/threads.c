@@ -134,11 +134,6 @@ static unsigned choose(unsigned count, KzChoice what, const char *name)
     return 0;
 }
 
-static void called(const char *name)
-{
-    (void)name;
-}
-
 static void looked(const void *from)
 {
     (void)from;
@@ -151,7 +146,7 @@ static bool let(KzThread *thread)
     return false;
 }
 
-const KzScheduler kz_threads = {point, wait, touch, called, looked, choose, kz_begin_thread, let, lock, unlock, kz_print, true, true};
+const KzScheduler kz_threads = {point, wait, touch, looked, choose, kz_begin_thread, let, lock, unlock, kz_print, true, true};
 
 void kz_use_threads(uint64_t number)
 {

@@ -78,8 +78,6 @@ for scenario in "$scenarios"/*.txt; do
     tell $? "$name"
     [ "$status" != 4 ] || continue
     case "$name" in polls | settwice) ways=(--reduce) ;; *) ways=(--reduce --states) ;; esac
-    # Where one order of independent steps is searched the same is found. Refusals aren't known to be independent.
-    case "${ways[*]} $(words_of "$scenario")" in *--fail* | *--inline* | "--reduce "*"--coarse"*) ;; *--states*) ways+=(--independent) ;; esac
     words="--bound 3 $(other_words_of "$scenario") $(words_of "$scenario" | grep -q -e --fail-each && echo --fails 1)"
     search "$name" "$scenario" --ends "$words" > "$room/plain"
     kinds "$room/plain" > "$room/kinds"
@@ -173,7 +171,7 @@ tell $? "an expectation at the end"
 # A debugger stops at the last step of a schedule.
 if command -v gdb > /dev/null; then
     KAZDRIN_GDB=$(printf 'bt\nkill\nquit') "$room/lockorder" --replay 'r*4 f*5 r' --gdb $scenarios/lockorder.txt < /dev/null > "$room/out" 2>&1
-    grep -q 'SIGTRAP' "$room/out" && grep -q 'in choose' "$room/out"
+    grep -q 'SIGTRAP' "$room/out" && grep -q ' choose (' "$room/out"
     tell $? "gdb"
 fi
 
@@ -221,9 +219,6 @@ for driver in c/samples/*.c; do
     kinds "$room/plain" > "$room/kinds"
     reduce "$name" "--bound $bound" "$room/$name.txt" --reduce
     tell $? "$name with known states left out"
-    # Steps that are called independent are: in both orders all memory is the same after them.
-    "$room/$name" --commute 500 "$room/$name.txt" > "$room/pairs" && grep -q " called independent, 0 of them wrongly" "$room/pairs" || { cat "$room/pairs"; false; }
-    tell $? "$name with pairs of steps in both orders"
     sed "s/DRIVER/$name/" $scenarios/refusals.txt > "$room/$name.txt"
     "$room/$name" --fail-each "$room/$name.txt" > "$room/$name.out"
     tell $? "$name with each refusal"

@@ -93,8 +93,6 @@ refuse() {
 }
 refuse "don't go with --shard and --jobs" --states --jobs 2
 refuse "don't go with --shard and --jobs" --reduce --shard 0/2
-refuse "don't go with --shard and --jobs" --independent --jobs 2
 refuse "don't go with --resume" --states --resume "$room/x"
-refuse "goes neither with --fails" --independent --fails 1
 refuse "both spread the search" --jobs 2 --shard 0/2
 finish

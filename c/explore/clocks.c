@@ -10,7 +10,7 @@ enum { CELLS = 1 << 16, OBJECTS = 1 << 12, FREED = 4096, LEARNED = 1 << 14 };
 typedef struct {
     uint32_t when, from;
     uint8_t bytes;
-    bool is_atomic;
+    bool is_atomic, is_update;
 } Access;
 
 typedef struct {
@@ -65,7 +65,7 @@ static uint64_t access_hash(const Cell *cell, unsigned client, bool is_write)
     const Access *one = is_write ? &cell->by[client].write : &cell->by[client].read;
     if (!ex->is_reduced || !one->when)
         return 0;
-    return ex_mixed(ex_mixed(cell->tag << 6 | client << 1 | is_write) + ex_mixed((uint64_t)one->when << 32 | one->from) * 3 + one->bytes * 2u + one->is_atomic);
+    return ex_mixed(ex_mixed(cell->tag << 6 | client << 1 | is_write) + ex_mixed((uint64_t)one->when << 32 | one->from) * 3 + one->bytes * 2u + one->is_atomic + (uint64_t)one->is_update * 1024);
 }
 
 static uint64_t vector_hash(const uint32_t *clock, uint64_t of)
@@ -128,7 +128,13 @@ static Object *object_of(const void *object)
     return NULL;
 }
 
-static const char *const words[2][2] = {{"a read", "a write"}, {"an interlocked read", "an interlocked write"}};
+/* How memory is met. */
+enum { IS_WRITE = 1, IS_ATOMIC = 2, IS_UPDATE = 4 };
+static const char *word_of(bool is_atomic, bool is_write, bool is_update)
+{
+    static const char *const words[2][2] = {{"a read", "a write"}, {"an interlocked read", "an interlocked write"}};
+    return is_update ? "an update without lock" : words[is_atomic][is_write];
+}
 
 static void tell(const Access *before, bool was_write, int client, const void *from, const char *now)
 {
@@ -137,30 +143,31 @@ static void tell(const Access *before, bool was_write, int client, const void *f
     if (from)
         snprintf(place, sizeof place, "@%lx", (unsigned long)(uintptr_t)from);
     snprintf(text, sizeof text, "RACE: %s at %s (" KZ_MARK "%s" KZ_MARK "), and %s at @%lx (" KZ_MARK "%s" KZ_MARK "), and nothing orders them", now, place, kz_me->name,
-             words[before->is_atomic][was_write], (unsigned long)before->from, other->name);
+             word_of(before->is_atomic, was_write, before->is_update), (unsigned long)before->from, other->name);
     ex_found_race(text, (uintptr_t)from, before->from);
 }
 
 /* A plain read beside an interlocked write is what drivers do on purpose. */
-static bool is_race(const Access *before, uint8_t bytes, uint32_t known, bool was_write, bool is_write, bool is_atomic)
+static bool is_race(const Access *before, uint8_t bytes, uint32_t known, bool was_write, unsigned how)
 {
+    bool is_write = how & IS_WRITE, is_atomic = how & IS_ATOMIC;
     if (before->when <= known || !(before->bytes & bytes) || (!was_write && !is_write))
         return false;
     if (before->is_atomic && is_atomic)
-        return false;
+        return before->is_update && how & IS_UPDATE;
     return !(before->is_atomic && was_write && !is_write) && !(is_atomic && is_write && !was_write && !before->is_atomic);
 }
 
-static void look(Cell *cell, uint8_t bytes, bool is_write, bool is_atomic, const void *from, const char *now)
+static void look(Cell *cell, uint8_t bytes, unsigned how, const void *from, const char *now)
 {
     unsigned me = kz_me->number;
     for (int client = 1; client <= ex->runners_count; client++) {
         if (client == (int)me)
             continue;
         uint32_t known = shadow->clock[me][client];
-        if (is_race(&cell->by[client].write, bytes, known, true, is_write, is_atomic))
+        if (is_race(&cell->by[client].write, bytes, known, true, how))
             tell(&cell->by[client].write, true, client, from, now);
-        else if (is_race(&cell->by[client].read, bytes, known, false, is_write, is_atomic))
+        else if (is_race(&cell->by[client].read, bytes, known, false, how))
             tell(&cell->by[client].read, false, client, from, now);
     }
 }
@@ -176,7 +183,7 @@ static void look_at_freed(uintptr_t address, const void *from, bool is_write)
         char place[32] = "the end of its operation";
         if (shadow->freed[at].from)
             snprintf(place, sizeof place, "@%x", shadow->freed[at].from);
-        snprintf(text, sizeof text, "USE AFTER FREE: %s at @%lx (" KZ_MARK "%s" KZ_MARK ") of memory that %s gave back at %s", words[0][is_write], (unsigned long)(uintptr_t)from, kz_me->name,
+        snprintf(text, sizeof text, "USE AFTER FREE: %s at @%lx (" KZ_MARK "%s" KZ_MARK ") of memory that %s gave back at %s", word_of(false, is_write, false), (unsigned long)(uintptr_t)from, kz_me->name,
                  ex_runners[shadow->freed[at].client].name, place);
         ex_found_race(text, (uintptr_t)from, shadow->freed[at].from);
         return;
@@ -223,15 +230,26 @@ static bool is_shared(uintptr_t tag)
     return *place_of(tag) == tag || is_met_by_others(cell_of(tag, false));
 }
 
+/* Others meet it in this run, and one of them or this one writes. */
+static bool is_contended(uintptr_t tag, bool is_write)
+{
+    const Cell *cell = cell_of(tag, false);
+    for (int client = 1; cell && client <= ex->runners_count; client++)
+        if (client != (int)kz_me->number && (cell->by[client].write.when || (is_write && cell->by[client].read.when)))
+            return true;
+    return false;
+}
+
 static bool is_point(uintptr_t start, uintptr_t end, bool is_atomic)
 {
     return is_atomic || (!ex->is_coarse && (is_shared(start >> 3) || ((end - 1) >> 3 != start >> 3 && is_shared((end - 1) >> 3))));
 }
 
 /* The access is compared with those of others, and kept. */
-static void note(const void *address, size_t size, bool is_write, bool is_atomic, const void *from)
+static void note(const void *address, size_t size, unsigned how, const void *from)
 {
     uintptr_t start = (uintptr_t)address, end = start + size;
+    bool is_write = how & IS_WRITE, is_atomic = how & IS_ATOMIC, is_update = how & IS_UPDATE;
     if (ex->is_traced)
         ex_trace_access(address, is_write, is_atomic, from);
     look_at_freed(start, from, is_write);
@@ -241,12 +259,12 @@ static void note(const void *address, size_t size, bool is_write, bool is_atomic
         Cell *cell = cell_of(tag, true);
         if (!cell)
             continue;
-        look(cell, bytes, is_write, is_atomic, from, words[is_atomic][is_write]);
+        look(cell, bytes, how, from, word_of(is_atomic, is_write, is_update));
         unsigned me = kz_me->number;
         Access *mine = is_write ? &cell->by[me].write : &cell->by[me].read;
-        bool is_same = mine->when == shadow->clock[me][me] && mine->is_atomic == is_atomic;
+        bool is_same = mine->when == shadow->clock[me][me] && mine->is_atomic == is_atomic && mine->is_update == is_update;
         shadow->hash -= access_hash(cell, me, is_write);
-        *mine = (Access){shadow->clock[me][me], (uint32_t)(uintptr_t)from, is_same ? mine->bytes | bytes : bytes, is_atomic};
+        *mine = (Access){shadow->clock[me][me], (uint32_t)(uintptr_t)from, is_same ? mine->bytes | bytes : bytes, is_atomic, is_update};
         shadow->hash += access_hash(cell, me, is_write);
     }
 }
@@ -260,7 +278,26 @@ void ex_access(const void *address, size_t size, bool is_write, bool is_atomic, 
         return;
     if (is_point(start, end, is_atomic))
         ex_memory_point(address, size, from);
-    note(address, size, is_write, is_atomic, from);
+    note(address, size, (is_write ? IS_WRITE : 0) | (is_atomic ? IS_ATOMIC : 0), from);
+}
+
+void ex_move(const void *address, size_t size, bool is_write, bool is_update, const void *from)
+{
+    uintptr_t tag = (uintptr_t)address >> 3; /* it is aligned: there is one */
+    if (!is_watched() || ex_is_stack(address))
+        return;
+    bool is_shared = is_contended(tag, is_write);
+    if (is_shared && shadow->is_learning)
+        learn(address);
+    is_shared |= *place_of(tag) == tag;
+    if (is_shared && !ex->is_coarse)
+        ex_memory_point(address, size, from);
+    note(address, size, IS_ATOMIC | (is_write ? IS_WRITE : 0) | (is_update ? IS_UPDATE : 0), from);
+    if (!is_shared)
+        return;
+    ex_touch(address, 0, is_write ? KZT_GIVES : KZT_TAKES);
+    if (is_write)
+        ex_note_change();
 }
 
 /* ---- The kit's calls over a driver's memory (c/host/lib). Each client has the line of the driver that made the call it is in, and how deep it is; no line where the host itself made it. */
@@ -290,7 +327,7 @@ void ex_leave_lib(void)
 void ex_lib_access(const void *address, size_t size, bool is_write)
 {
     if (is_watched() && calls[kz_me->number].depth > 0 && calls[kz_me->number].from && size && !ex_is_stack(address))
-        note(address, size, is_write, false, calls[kz_me->number].from);
+        note(address, size, is_write ? IS_WRITE : 0, calls[kz_me->number].from);
 }
 
 static void take(Object *one)
@@ -321,7 +358,9 @@ static void take_back(const void *memory, size_t size)
     for (uintptr_t tag = start >> 3; tag << 3 < end; tag++) {
         Cell *cell = cell_of(tag, false);
         if (cell)
-            look(cell, 0xff, true, false, from, "memory is freed");
+            look(cell, 0xff, IS_WRITE, from, "memory is freed");
+        if (cell && kz_binaries.size && shadow->is_learning && is_contended(tag, true))
+            learn((const void *)(tag << 3));
     }
     if (shadow->freed_count == FREED)
         return;

@@ -237,6 +237,8 @@ void ex_open_shadow(void);
 void ex_start_clocks(void);
 void ex_touch(const void *object, size_t size, KzTouch how);
 void ex_access(const void *address, size_t size, bool is_write, bool is_atomic, const void *from);
+/* One move of a binary, which may be one of a volatile: it is a point where others meet the place, and one of them writes it. is_update: it writes what it read before, changed. */
+void ex_move(const void *address, size_t size, bool is_write, bool is_update, const void *from);
 /* A call of the kit over a driver's memory begins, at that line of the driver; it is over; it reads or writes, at the same line. */
 void ex_enter_lib(const void *from);
 void ex_leave_lib(void);
@@ -323,5 +325,8 @@ unsigned ex_guided(unsigned count, Asks asks, const int *clients);
 
 /* fault.c */
 void ex_watch_faults(void);
+
+/* binary.c */
+void ex_watch_binaries(void);
 
 #endif

@@ -405,6 +405,7 @@ int main(int count, char **words)
     if (asked.is_debugged)
         return ex_debug(count, words);
     ex_open_stacks();
+    ex_watch_binaries();
     if (ex_read(asked.scenario) != 0)
         return 2;
     int refused = set_up();

@@ -1,5 +1,6 @@
 /* Calls of the kit that are macros in its headers here. */
 #include "image/calls.h"
+#include "image/point.h"
 #include "core/told.h"
 #include "core/client.h"
 
@@ -114,7 +115,7 @@ SAME(char *, strncat, P(char *to, const char *from, size_t most), strncat(to, fr
 SAME(char *, strchr, P(const char *text, int letter), strchr(text, letter))
 SAME(char *, strrchr, P(const char *text, int letter), strrchr(text, letter))
 SAME(char *, strstr, P(const char *text, const char *part), strstr(text, part))
-SAME(int, memcmp, P(const void *a, const void *b, size_t size), memcmp(a, b, size))
+SAME(int, memcmp, P(const void *a, const void *b, size_t size), (kz_watch_compare(a, b, size), memcmp(a, b, size)))
 SAME(void *, memchr, P(const void *from, int byte, size_t size), memchr(from, byte, size))
 SAME(int, toupper, int letter, letter >= 'a' && letter <= 'z' ? letter - 32 : letter)
 SAME(int, tolower, int letter, letter >= 'A' && letter <= 'Z' ? letter + 32 : letter)

@@ -3,6 +3,8 @@
 #define _GNU_SOURCE
 #include "image/calls.h"
 #include "image/machine.h"
+#include "image/point.h"
+#include "image/slot.h"
 #include "core/told.h"
 #include "core/client.h"
 
@@ -17,14 +19,14 @@
 enum { BELOW = 256, PAGE_WRITE = 2, PAGE_RUN = 16, BACKWARDS_AND_TRAP = 0x500, FAST_FAIL = 0x139 };
 
 /* What an instruction of the kernel's is. */
-typedef enum { NONE, READS_CR8, WRITES_CR8, INTERRUPTS, FAILS_FAST, ASSERTS, BREAKS, TOUCHES_TIMES } Kind;
+typedef enum { NONE, READS_CR8, WRITES_CR8, INTERRUPTS, FAILS_FAST, ASSERTS, BREAKS, TOUCHES_TIMES, IS_POINT } Kind;
 
 typedef struct {
     KzContext context;
     Kind kind;
     bool is_copy;
     int signal;
-    uint64_t address, error;
+    uint64_t address, error, stood; /* stood: where the instruction was, if it was moved */
 } Fault;
 
 static const int numbers[16] = {REG_RAX, REG_RCX, REG_RDX, REG_RBX, REG_RSP, REG_RBP, REG_RSI, REG_RDI, REG_R8, REG_R9, REG_R10, REG_R11, REG_R12, REG_R13, REG_R14, REG_R15};
@@ -49,7 +51,7 @@ static Instruction instruction_at(uint64_t rip)
 static Kind kind_of(int signal, uint64_t rip, uint64_t address)
 {
     if (signal == SIGTRAP)
-        return BREAKS;
+        return kz_is_point(rip - 1) ? IS_POINT : BREAKS;
     if (signal != SIGSEGV)
         return NONE;
     if (address >= kz_times && address - kz_times < KZ_PAGE)
@@ -90,7 +92,7 @@ static void tell_assertion(void)
 __attribute__((section("kz_stubs"), noinline)) static bool carry_out(Fault *fault)
 {
     KzContext *context = &fault->context;
-    kz_stub_caller = (const void *)(uintptr_t)(context->rip + (fault->kind != BREAKS));
+    kz_stub_caller = (const void *)(uintptr_t)(context->rip + (fault->kind != BREAKS && fault->kind != IS_POINT));
     switch (fault->kind) {
     case READS_CR8:
     case WRITES_CR8:
@@ -100,9 +102,13 @@ __attribute__((section("kz_stubs"), noinline)) static bool carry_out(Fault *faul
         context->rip++;
         return true;
     case TOUCHES_TIMES:
+        context->rip = fault->stood;
         return kz_touch_times(context, fault->address);
     case BREAKS: /* it stands behind it already */
         KzBreak();
+        return true;
+    case IS_POINT:
+        kz_pass_point(context);
         return true;
     case ASSERTS:
         tell_assertion();
@@ -180,15 +186,24 @@ static void leave_signal(ucontext_t *there, Fault with)
 
 static Fault fault_of(int signal, const siginfo_t *information, const ucontext_t *there)
 {
-    return (Fault){.signal = signal, .address = (uintptr_t)information->si_addr, .error = (uint64_t)there->uc_mcontext.gregs[REG_ERR]};
+    const greg_t *registers = there->uc_mcontext.gregs;
+    return (Fault){.signal = signal, .address = (uintptr_t)information->si_addr, .error = (uint64_t)registers[REG_ERR], .stood = (uint64_t)registers[REG_RIP]};
+}
+
+/* Where the thread stands: an instruction that was moved stands where it was linked for. */
+static uint64_t place_of(ucontext_t *there)
+{
+    greg_t *rip = &there->uc_mcontext.gregs[REG_RIP];
+    *rip = (greg_t)kz_moved_from((uint64_t)*rip);
+    return (uint64_t)*rip;
 }
 
 static bool carry_out_in_place(int signal, void *information, void *context)
 {
-    Fault fault = fault_of(signal, information, context);
-    uint64_t rip = (uint64_t)((ucontext_t *)context)->uc_mcontext.gregs[REG_RIP];
     if (signal == SIGTRAP && kz_end_touch(context))
         return true;
+    Fault fault = fault_of(signal, information, context);
+    uint64_t rip = place_of(context);
     if (!kz_image_at(rip - (signal == SIGTRAP)))
         return false;
     /* An address outside of code can't be read for its instruction. */
@@ -204,7 +219,7 @@ static bool carry_out_in_place(int signal, void *information, void *context)
 static bool raise_in_place(int signal, void *information, void *context)
 {
     Fault fault = fault_of(signal, information, context);
-    uint64_t rip = (uint64_t)((ucontext_t *)context)->uc_mcontext.gregs[REG_RIP];
+    uint64_t rip = place_of(context);
     fault.is_copy = rip - (uintptr_t)kz_copies < (uintptr_t)(kz_copies_end - kz_copies);
     bool is_known = given_up == rip;
     given_up = 0;

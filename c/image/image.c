@@ -28,6 +28,12 @@ const KzImage *kz_image_at(uint64_t address)
     return one;
 }
 
+void kz_each_image(void (*use)(const KzImage *image))
+{
+    for (const KzImage *one = images; one; one = one->next)
+        use(one);
+}
+
 /* ---- Memory. */
 static bool reserve(KzRefusal *why)
 {
@@ -48,20 +54,32 @@ static bool reserve(KzRefusal *why)
     return true;
 }
 
+uint8_t *kz_take_arena(size_t size)
+{
+    uint8_t *taken = next;
+    if ((uintptr_t)next + size > kz_binaries.start + ARENA || mprotect(next, size, PROT_READ | PROT_WRITE) != 0)
+        return NULL;
+    next += (size + STEP - 1) & ~(size_t)(STEP - 1);
+    return taken;
+}
+
 static bool take_room(KzImage *image, KzRefusal *why)
 {
     if (!reserve(why))
         return false;
     size_t size = image->headers.size;
-    if ((uintptr_t)next + size > kz_binaries.start + ARENA || mprotect(next, size, PROT_READ | PROT_WRITE) != 0)
-        return kz_refuse(why, "there is no room for its %zu bytes", size);
-    image->bytes = (KzBytes){next, size};
-    next += (size + STEP - 1) & ~(size_t)(STEP - 1);
-    return true;
+    image->bytes = (KzBytes){kz_take_arena(size), size};
+    return image->bytes.start || kz_refuse(why, "there is no room for its %zu bytes", size);
 }
 
-/* Pages get the rights that their sections ask for. */
-static void protect(const KzImage *image)
+void kz_open_text(const KzImage *image)
+{
+    for (unsigned at = 0; at < image->headers.sections_count; at++)
+        if (image->headers.sections[at].is_run)
+            mprotect(image->bytes.start + image->headers.sections[at].at, image->headers.sections[at].size, PROT_READ | PROT_WRITE);
+}
+
+void kz_protect_image(const KzImage *image)
 {
     mprotect(image->bytes.start, image->bytes.size, PROT_NONE);
     mprotect(image->bytes.start, KZ_PAGE, PROT_READ);
@@ -160,7 +178,7 @@ static bool make(KzImage *image, KzBytes file, KzRefusal *why)
     image->pristine = kz_memory(image->bytes.size);
     memcpy(image->pristine, image->bytes.start, image->bytes.size);
     name_driver(image);
-    protect(image);
+    kz_protect_image(image);
     return true;
 }
 
@@ -179,6 +197,7 @@ const KzImage *kz_load_image(const char *path, KzRefusal *why)
     images = image;
     kz_binaries.open = open_again;
     kz_binaries.data = find_data;
+    kz_binaries.watch = kz_watch_binaries;
     kz_watch_faults();
     return image;
 }

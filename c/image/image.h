@@ -17,6 +17,14 @@ typedef struct KzImage {
 /* image.c: NULL if the file can't be used, and why. What it imports and isn't here is written to the standard error output. */
 const KzImage *kz_load_image(const char *path, KzRefusal *why);
 const KzImage *kz_image_at(uint64_t address); /* NULL: it is in none */
+void kz_each_image(void (*use)(const KzImage *image));
+/* So many bytes behind the images, to be written; NULL if there are none. */
+uint8_t *kz_take_arena(size_t size);
+/* Its code can be written, and isn't run; its pages have the rights of their sections. */
+void kz_open_text(const KzImage *image);
+void kz_protect_image(const KzImage *image);
+/* point.c: each access of theirs to memory that others may reach is told from now on. */
+void kz_watch_binaries(KzTellAccess *to);
 /* line.c: the line of its source before that address; else its function or its name, with how far that is behind it. */
 bool kz_find_image_line(uintptr_t address, char *room, size_t size);
 /* fault.c: what the processor refuses is carried out, or raised. */

@@ -128,10 +128,28 @@ STUB __chkstk
 STUB ___chkstk_ms
     ret
 
-/* ---- Copies. They may touch what isn't there on behalf of the binary: then the return address is on top of the stack, and rsi and rdi are in r10 and r11. */
+/* ---- Copies. They may touch what isn't there on behalf of the binary: then the return address is on top of the stack, and rsi and rdi are in r10 and r11. Where accesses are watched, they are
+   told first; the registers stay in the room that a caller leaves for them. */
+    .macro WATCH
+    cmpb $0, kz_watches_copies(%rip)
+    je 9f
+    mov %rcx, 8(%rsp)
+    mov %rdx, 16(%rsp)
+    mov %r8, 24(%rsp)
+    mov (%rsp), %r9
+    sub $40, %rsp
+    call kz_watch_copy
+    add $40, %rsp
+    mov 8(%rsp), %rcx
+    mov 16(%rsp), %rdx
+    mov 24(%rsp), %r8
+9:
+    .endm
     .globl kz_copies
 kz_copies:
 STUB memcpy
+    WATCH
+copy:
     mov %rsi, %r10
     mov %rdi, %r11
     mov %rcx, %rax
@@ -145,10 +163,11 @@ STUB memcpy
 STUB memmove
 STUB RtlMoveMemory
 STUB RtlCopyMemory
+    WATCH
     mov %rcx, %rax
     sub %rdx, %rax
     cmp %r8, %rax
-    jae kz_stub_memcpy
+    jae copy
     mov %rsi, %r10
     mov %rdi, %r11
     mov %rcx, %rax
@@ -168,6 +187,11 @@ STUB RtlZeroMemory
 STUB RtlFillMemory
     xchg %rdx, %r8
 STUB memset
+    mov %rdx, %rax
+    xor %edx, %edx
+    mov %rax, 32(%rsp)
+    WATCH
+    mov 32(%rsp), %rdx
     mov %rsi, %r10
     mov %rdi, %r11
     mov %rcx, %r9

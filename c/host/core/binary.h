@@ -19,6 +19,24 @@
 /* Where the driver goes on behind the call that it makes: behind its own call, where a stub stands in between. */
 #define KZ_CALLER() kz_caller(__builtin_return_address(0))
 
+/* An access of a binary's code to memory, before it is carried out. */
+enum {
+    KZ_ACCESS_WRITES = 1,
+    KZ_ACCESS_LOCKED = 2,
+    KZ_ACCESS_IS_SINGLE = 4,            /* one move of an aligned place, as that of a volatile is */
+    KZ_ACCESS_BEGINS = 8,               /* what it reads is changed, and written back */
+    KZ_ACCESS_ENDS = 16,                /* by one of these, if the place is the same */
+    KZ_ACCESS_CHANGES = 32              /* no access: the one before, which is locked, is about to change what it finds */
+};
+typedef struct {
+    const void *address;
+    size_t size;
+    const void *from; /* in the instruction, or behind the call */
+    unsigned how;
+} KzAccess;
+/* Whether the memory is one that others may have written meanwhile. */
+typedef bool KzTellAccess(const KzAccess *access);
+
 /* Set once by c/image, before the first request. */
 typedef struct {
     uintptr_t start, size;       /* where all images lie */
@@ -30,6 +48,7 @@ typedef struct {
     bool (*raise)(int signal, void *information, void *context);
     bool (*find_line)(uintptr_t address, char *room, size_t size);
     bool (*data)(unsigned at, char **start, char **end); /* where variables of theirs lie, one range after the other */
+    void (*watch)(KzTellAccess *to);                     /* each access of theirs is told from now on, but for those to their own frames */
 } KzBinaries;
 extern KzBinaries kz_binaries;
 extern _Thread_local const void *kz_stub_caller;

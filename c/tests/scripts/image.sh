@@ -1,6 +1,6 @@
 #!/usr/bin/env bash
 # Binaries of drivers: each sample made a .sys by both toolchains that are here, run, and compared with what is stored of its source; exceptions, what compiled kernel code does by itself,
-# a driver in C++; files that can't run; changed files under sanitizers. SECONDS_OF_FUZZ is how long these are tried.
+# a driver in C++; the drivers of the explorer's tests, and the decoder by which it sees what a binary reads and writes; files that can't run; changed files under sanitizers. SECONDS_OF_FUZZ is how long these are tried.
 set -u
 . "$(dirname "$0")/tally.sh" image
 
@@ -15,6 +15,8 @@ for user in c/samples/user/*.c; do
 done
 build run --image "$room/run" c/samples/nullfilter.c "${users[@]}"
 export RUN=$room/run
+build explore --explore --image "$room/explore"
+EXPLORE=$room/explore
 
 # Each place where the host calls a driver's function does so by the convention of who it is.
 $tests/image/indirect.sh "$PWD/out/c/$(make -s --no-print-directory -C c where LIBRARIES=host)"
@@ -28,6 +30,8 @@ if has_sanitizers address,undefined; then
     "$room/reader" "${SECONDS_OF_FUZZ:-5}" > "$room/reader.out" 2>&1 || { cat "$room/reader.out"; false; }
     tell $? "changed files"
 fi
+${CC:-cc} -std=gnu11 -fshort-wchar -O1 -g -Wall -Wextra -Werror -Ic -Ic/include -o "$room/decode" $tests/image/decode.c c/image/{bytes,headers,layout,instruction,access}.c && "$room/decode"
+tell $? "what instructions do with memory"
 if command -v python3 > /dev/null; then
     python3 $tests/image/bars.py "$RUN" "$room/bars"
     tell $? "files that can't run"
@@ -51,14 +55,27 @@ play() {
     tell $? "$name by $kind"
 }
 
-# explored NAME STATUS PATTERN: a driver of c/tests/misuse/schedules as a binary, under its scenario.
+# explored NAME: a driver of c/tests/misuse/schedules as a binary, under its scenario. It ends as its source does, and the same is found; where no access of its code is a point, to the letter. What
+# is called a race may be told in other words: a binary doesn't say what is volatile.
 explored() {
-    local scenario=$tests/scenarios/$1.txt words
-    "$tests/image/sys.sh" "$kind" "$room/kit-$kind" "$room/$1.sys" "$tests/misuse/schedules/$1.c" > "$room/$1.log" 2>&1
+    local name=$1 scenario=$tests/scenarios/$1.txt status finds words
+    status=$(cat "$tests/expected/explore-$name.status" 2> /dev/null || sed -n 's/^# status: //p' "$scenario" | grep . || echo 0)
+    finds=$(sed -n 's/^# finds: //p' "$scenario")
+    [ "$name" != counter ] || finds=RACE
     read -r -a words <<< "$(sed -n 's/^# words: //p' "$scenario")"
-    ./flt run --explore "$room/$1.sys" "${words[@]}" "$scenario" > "$room/$1.out" 2>&1
-    [ $? = "$2" ] && grep '^bound' "$room/$1.out" | tail -n 1 | grep -q "$3" || { cat "$room/$1.log" "$room/$1.out"; false; }
-    tell $? "$1 under the explorer by $kind"
+    "$tests/image/sys.sh" "$kind" "$room/kit-$kind" "$room/$name.sys" "$tests/misuse/schedules/$name.c" > "$room/$name.log" 2>&1
+    "$EXPLORE" "$room/$name.sys" "${words[@]}" "$scenario" > "$room/$name.out" 2>&1
+    [ $? = "$status" ] && case ${finds:-stored} in
+    nothing) ! grep -q 'schedules:$' "$room/$name.out" ;;
+    stored)
+        case $name-$kind in
+        lostrelease-* | refusal-* | settwice-* | lastrelease-msvc) sed 's/, [0-9.]* s, /, /' "$room/$name.out" | diff "$tests/expected/explore-$name.out" - ;;
+        *) true ;;
+        esac
+        ;;
+    *) grep -q "^    $finds" "$room/$name.out" ;;
+    esac || { cat "$room/$name.log" "$room/$name.out"; false; }
+    tell $? "$name under the explorer by $kind"
 }
 
 # Of the samples that leave a block gcc makes none: it has no blocks for exceptions in C.
@@ -72,7 +89,7 @@ for kind in msvc mingw; do
         name=$(basename "$source")
         name=${name%.*}
         case $kind-$name in
-        *-reader | mingw-minispy | mingw-wordscanner | mingw-raises) continue ;;
+        *-reader | *-decode | mingw-minispy | mingw-wordscanner | mingw-raises) continue ;;
         mingw-classes) command -v x86_64-w64-mingw32-g++ > /dev/null || { echo "image: no driver in C++ is tried by mingw, since there is no x86_64-w64-mingw32-g++ here"; continue; } ;;
         esac
         $tests/image/sys.sh $kind "$room/kit-$kind" "$room/$kind/$name.sys" "$source" > "$room/$name.log" 2>&1 || { head -n 5 "$room/$name.log"; tell 1 "$name, as it was built by $kind,"; }
@@ -88,14 +105,26 @@ for kind in msvc mingw; do
         diff "$tests/image/$name.out" "$room/$name.out"
         tell $? "$name by $kind"
     done
-    # The other words: a load by threads, schedules, a server. What the explorer comes to is what it comes to with the driver's source, but for races, which it doesn't see.
+    # The decoder, over code of each kind.
+    if command -v llvm-objdump > /dev/null; then
+        for source in c/samples/swapbuffers.c c/samples/passthrough.c c/samples/ctx.c; do
+            LEVEL=-O2 $tests/image/sys.sh $kind "$room/kit-$kind" "$room/$kind/$(basename "$source" .c).fast" "$source" > "$room/fast.log" 2>&1
+        done
+        $tests/image/decode.sh "$room/decode" "$room/$kind"/*.sys "$room/$kind"/*.fast
+        tell $? "instructions by $kind"
+    fi
+    # The other words: a load by threads, schedules, a server.
     sed 's/DRIVER/ctx/' $tests/scenarios/load.txt > "$room/load.txt"
     "$RUN" "$room/$kind/ctx.sys" --load "$room/load.txt" --threads 4 --seconds 2 > "$room/load.out" 2>&1 && tail -n 1 "$room/load.out" | grep -q 'leaked references 0, told 0, limits 0$'
     tell $? "a load by $kind"
-    explored lastrelease 5 '125 schedules, .*told 8, races 0, stuck 0, crashed 0'
-    explored lockorder 6 '202 schedules, .*told 0, races 0, stuck 10, crashed 0'
-    explored lostrelease 5 '356 schedules, .*told 29, races 0, stuck 0, crashed 0'
-    explored refusal 139 '10 schedules, .*told 0, races 0, stuck 0, crashed 4'
+    for source in "$tests"/misuse/schedules/*.c; do
+        explored "$(basename "$source" .c)"
+    done
+    # An update that is one instruction is a read and a write; and what was found is found again.
+    LEVEL=-O2 explored lostupdate
+    LEVEL=-O2 explored counter
+    [ $? = 0 ] && "$EXPLORE" --replay "$(sed -n "s/^  --replay '\\(.*\\)'$/\\1/p" "$room/counter.out" | head -n 1)" "$room/counter.sys" $tests/scenarios/counter.txt | grep -q 'RACE: an update without lock'
+    tell $? "a schedule that is played again by $kind"
     ./flt run "$room/$kind/contentscan.sys" --user c/samples/user/scanservice.c $tests/requests/contentscan.txt 2> "$room/flt.err" | diff $tests/expected/contentscan.out -
     tell $? "flt run by $kind"
     # A driver of source beside one that is a binary.

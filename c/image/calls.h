@@ -19,6 +19,8 @@ typedef struct {
 } KzExport;
 /* kernel.c: where a call or a variable of the kit lies; NULL if it isn't here. */
 const void *kz_find_export(const char *name);
+/* fault.c: what an instruction reads of the IRQL, or what it sets it to. */
+uint64_t kz_move_irql(uint64_t level, bool is_read, const void *caller);
 /* missing.c: a stub for what isn't here, that tells its name when it is called; NULL if there is no memory. */
 const void *kz_missing_call(const char *name);
 

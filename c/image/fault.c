@@ -66,19 +66,25 @@ static Kind kind_of(int signal, uint64_t rip, uint64_t address)
     return code[0] != 0xcd ? NONE : code[1] == 0x29 ? FAILS_FAST : code[1] == 0x2c ? ASSERTS : NONE;
 }
 
+__attribute__((section("kz_stubs"), noinline)) uint64_t kz_move_irql(uint64_t level, bool is_read, const void *caller)
+{
+    kz_stub_caller = caller;
+    if (is_read)
+        return KeGetCurrentIrql();
+    if ((KIRQL)level > KeGetCurrentIrql())
+        KfRaiseIrql((KIRQL)level);
+    else
+        KeLowerIrql((KIRQL)level);
+    return level;
+}
+
 /* The IRQL is in cr8. */
 static void move_irql(KzContext *context, bool is_read)
 {
     Instruction one = instruction_at(context->rip);
     uint64_t *integer = &context->integers[(one.opcode[2] & 7) | (one.rex & 1) << 3];
     context->rip = (uintptr_t)one.opcode + 3;
-    kz_stub_caller = (const void *)(uintptr_t)context->rip;
-    if (is_read)
-        *integer = KeGetCurrentIrql();
-    else if ((KIRQL)*integer > KeGetCurrentIrql())
-        KfRaiseIrql((KIRQL)*integer);
-    else
-        KeLowerIrql((KIRQL)*integer);
+    *integer = kz_move_irql(*integer, is_read, (const void *)(uintptr_t)context->rip);
 }
 
 /* NT_ASSERT: its expression isn't in the binary. */

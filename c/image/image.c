@@ -178,7 +178,7 @@ static bool make(KzImage *image, KzBytes file, KzRefusal *why)
     image->pristine = kz_memory(image->bytes.size);
     memcpy(image->pristine, image->bytes.start, image->bytes.size);
     name_driver(image);
-    kz_protect_image(image);
+    kz_rewrite_levels(image);
     return true;
 }
 

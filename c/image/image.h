@@ -23,6 +23,8 @@ uint8_t *kz_take_arena(size_t size);
 /* Its code can be written, and isn't run; its pages have the rights of their sections. */
 void kz_open_text(const KzImage *image);
 void kz_protect_image(const KzImage *image);
+/* level.c: its reads and writes of the IRQL come to the host without a trap, where there is room for it. */
+void kz_rewrite_levels(const KzImage *image);
 /* point.c: each access of theirs to memory that others may reach is told from now on. */
 void kz_watch_binaries(KzTellAccess *to);
 /* line.c: the line of its source before that address; else its function or its name, with how far that is behind it. */

@@ -50,6 +50,37 @@ kz_restore:
     popfq
     ret
 
+/* From a rewritten instruction (level.c), which leaves every register but one as it is: what is on top of the stack behind the return address says which. */
+    .globl kz_level_entry
+kz_level_entry:
+    pushfq
+    .irp r, r15, r14, r13, r12, r11, r10, r9, r8, rdi, rsi, rbp, rsp, rbx, rdx, rcx, rax
+    push %\r
+    .endr
+    mov %rsp, %rdi
+    mov 0x90(%rsp), %esi
+    mov %rsp, %rbp
+    and $-16, %rsp
+    sub $0x100, %rsp
+    .irp n, 0, 1, 2, 3, 4, 5, 6, 7, 8, 9, 10, 11, 12, 13, 14, 15
+    movaps %xmm\n, 16*\n(%rsp)
+    .endr
+    cld
+    call kz_pass_level
+    .irp n, 0, 1, 2, 3, 4, 5, 6, 7, 8, 9, 10, 11, 12, 13, 14, 15
+    movaps 16*\n(%rsp), %xmm\n
+    .endr
+    mov %rbp, %rsp
+    .irp r, rax, rcx, rdx, rbx
+    pop %\r
+    .endr
+    add $8, %rsp
+    .irp r, rbp, rsi, rdi, r8, r9, r10, r11, r12, r13, r14, r15
+    pop %\r
+    .endr
+    popfq
+    ret $8
+
     .globl kz_fault_entry
 kz_fault_entry:
     cld

@@ -30,6 +30,15 @@ static VOID Levels(VOID)
     DbgPrint("inlines: back at %u\n", KeGetCurrentIrql());
 }
 
+/* Somebody jumps to it and behind it: there is no room for anything else than the instruction itself. */
+static VOID LevelInTheWay(VOID)
+{
+    ULONG64 level;
+
+    __asm__ volatile("jmp 1f\n1: movq %%cr8, %%rax\n2: testb $16, %%al\njnz 2b\nmovq %%rax, %0" : "=m"(level) : : "rax", "cc");
+    DbgPrint("inlines: still at %u\n", (ULONG)level);
+}
+
 static VOID Lists(VOID)
 {
     PULONG first = ExAllocateFromNPagedLookasideList(&gList), second = ExAllocateFromNPagedLookasideList(&gList);
@@ -47,6 +56,7 @@ static FLT_PREOP_CALLBACK_STATUS PreRead(PFLT_CALLBACK_DATA Data, PCFLT_RELATED_
     UNREFERENCED_PARAMETER(FltObjects);
     UNREFERENCED_PARAMETER(CompletionContext);
     Levels();
+    LevelInTheWay();
     Times();
     Lists();
     DbgPrint("inlines: %d %u %c %s %S %I64d\n", -1, 2u, '3', "four", L"five", (LONG64)-6);

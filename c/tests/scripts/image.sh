@@ -17,6 +17,7 @@ build run --image "$room/run" c/samples/nullfilter.c "${users[@]}"
 export RUN=$room/run
 build explore --explore --image "$room/explore"
 EXPLORE=$room/explore
+build levels --image --main $tests/image/levels.c "$room/levels"
 
 # Each place where the host calls a driver's function does so by the convention of who it is.
 $tests/image/indirect.sh "$PWD/out/c/$(make -s --no-print-directory -C c where LIBRARIES=host)"
@@ -89,7 +90,7 @@ for kind in msvc mingw; do
         name=$(basename "$source")
         name=${name%.*}
         case $kind-$name in
-        *-reader | *-decode | mingw-minispy | mingw-wordscanner | mingw-raises) continue ;;
+        *-reader | *-decode | *-levels | mingw-minispy | mingw-wordscanner | mingw-raises) continue ;;
         mingw-classes) command -v x86_64-w64-mingw32-g++ > /dev/null || { echo "image: no driver in C++ is tried by mingw, since there is no x86_64-w64-mingw32-g++ here"; continue; } ;;
         esac
         $tests/image/sys.sh $kind "$room/kit-$kind" "$room/$kind/$name.sys" "$source" > "$room/$name.log" 2>&1 || { head -n 5 "$room/$name.log"; tell 1 "$name, as it was built by $kind,"; }
@@ -127,6 +128,10 @@ for kind in msvc mingw; do
     tell $? "a schedule that is played again by $kind"
     ./flt run "$room/$kind/contentscan.sys" --user c/samples/user/scanservice.c $tests/requests/contentscan.txt 2> "$room/flt.err" | diff $tests/expected/contentscan.out -
     tell $? "flt run by $kind"
+    # The IRQL is read and set without a trap, where there is room for a jump: at all places but one.
+    said=$("$room/levels" "$room/$kind/inlines.sys" 2> /dev/null)
+    [ "${said% of *}" -ge 5 ] && [ "$said" = "$((${said#* of } - 1)) of ${said#* of }" ] || { echo "$said"; false; }
+    tell $? "the IRQL by $kind"
     # A driver of source beside one that is a binary.
     printf 'load nullfilter\nload ctx\nattach ctx v0 first 300\ncreate v0 new a as a\nclose a\n' > "$room/both.txt"
     "$RUN" "$room/$kind/ctx.sys" "$room/both.txt" | grep -q '^contexts born 3, cleaned 3, leaked references 0, told 0, limits 0$'

@@ -91,6 +91,7 @@ struct _FLT_VOLUME {
     FLT_FILESYSTEM_TYPE type;
     USHORT sector;
     bool is_read_only, is_snapshot;
+    bool has_moved; /* a name isn't its file's key any more */
     bool is_case_sensitive; /* names that differ by it alone are two */
 };
 
@@ -149,6 +150,34 @@ typedef struct {
     KzCounts counts;
     uint64_t changes; /* how often something ended that somebody may wait for */
     LONGLONG passed;  /* since the run began, in units of 100 nanoseconds */
+    ULONG uuids;      /* that were made */
+    /* What each module keeps of a run: a structure that its own file knows, made as the run begins and zero. */
+    struct KzContextState *context;
+    struct KzDeviceState *device;
+    struct KzDpcState *dpc;
+    struct KzHandleState *handle;
+    struct KzHeldState *held;
+    struct KzKeptState *kept;
+    struct KzLabelState *label;
+    struct KzMadeState *made;
+    struct KzNameState *name;
+    struct KzNodeState *node;
+    struct KzNoticeState *notice;
+    struct KzPieceState *piece;
+    struct KzPortState *port;
+    struct KzProcessState *process;
+    struct KzProgramState *program;
+    struct KzRangeState *range;
+    struct KzReferenceState *reference;
+    struct KzRegistryState *registry;
+    struct KzRoutineState *routine;
+    struct KzSectionState *section;
+    struct KzThreadState *thread;
+    struct KzTimerState *timer;
+    struct KzToldState *told;
+    struct KzTreeState *tree;
+    struct KzTunnelState *tunnel;
+    struct KzWorkState *work;
     /* What is above the core, as run/open.c hands it down. */
     const struct KzModule *const *modules; /* up to NULL */
     const struct KzObserver *observer;

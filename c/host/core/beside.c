@@ -11,20 +11,21 @@
 #include <stdlib.h>
 #include <time.h>
 
-static KzThread *threads;
-static unsigned count;
-
-/* Who has the turn; NULL is the client of the requests. All under the mutex. */
-static pthread_mutex_t mutex = PTHREAD_MUTEX_INITIALIZER;
-static pthread_cond_t changed = PTHREAD_COND_INITIALIZER;
-static KzThread *running;
-static bool is_free;          /* all run at once */
-static unsigned resting;      /* how many wait for the turn */
+static struct {
+    KzThread *first;
+    unsigned count;
+    /* Who has the turn; NULL is the client of the requests. All under the mutex. */
+    pthread_mutex_t mutex;
+    pthread_cond_t changed;
+    KzThread *running;
+    bool is_free;     /* all run at once */
+    unsigned resting; /* how many wait for the turn */
+} turns = {.mutex = PTHREAD_MUTEX_INITIALIZER, .changed = PTHREAD_COND_INITIALIZER};
 
 static void say_name(KzThread *made, const char *name)
 {
     unsigned same = 1;
-    for (const KzThread *one = threads; one; one = one->next) {
+    for (const KzThread *one = turns.first; one; one = one->next) {
         size_t length = strcspn(one->name, ".");
         same += length == strlen(name) && strncmp(one->name, name, length) == 0;
     }
@@ -33,7 +34,7 @@ static void say_name(KzThread *made, const char *name)
 
 static bool is_taken(unsigned number)
 {
-    const KzThread *one = threads;
+    const KzThread *one = turns.first;
     while (one && !(one->client.number == number && !one->has_ended))
         one = one->next;
     return one != NULL;
@@ -44,11 +45,11 @@ static bool free_number(unsigned *number)
 {
     bool is_for_good = kz_scheduler != &kz_in_order && kz_scheduler != &kz_threads;
     *number = KZ_FIRST_THREAD;
-    while (*number < KZ_FIRST_THREAD + KZ_THREADS && (is_for_good ? *number < KZ_FIRST_THREAD + count : is_taken(*number)))
+    while (*number < KZ_FIRST_THREAD + KZ_THREADS && (is_for_good ? *number < KZ_FIRST_THREAD + turns.count : is_taken(*number)))
         ++*number;
     if (*number == KZ_FIRST_THREAD + KZ_THREADS)
         return false;
-    count++;
+    turns.count++;
     return true;
 }
 
@@ -57,7 +58,7 @@ KzThread *kz_new_thread(const char *name, uint64_t process, uint64_t thread, voi
     unsigned number;
     if (!free_number(&number))
         return NULL;
-    KzThread *made = kz_memory(sizeof *made), **place = &threads;
+    KzThread *made = kz_memory(sizeof *made), **place = &turns.first;
     say_name(made, name);
     made->life = life;
     made->given = given;
@@ -108,7 +109,7 @@ void kz_freeze(KzThread *thread)
 bool kz_run_threads(void)
 {
     bool has_moved = false;
-    for (KzThread *one = threads; one; one = one->next)
+    for (KzThread *one = turns.first; one; one = one->next)
         has_moved |= kz_scheduler->let(one);
     return has_moved;
 }
@@ -116,7 +117,7 @@ bool kz_run_threads(void)
 bool kz_next_deadline(uint64_t *milliseconds)
 {
     bool is_there = false;
-    for (const KzThread *one = threads; one; one = one->next)
+    for (const KzThread *one = turns.first; one; one = one->next)
         if (!one->has_ended && !one->is_frozen && one->client.timeout && (!is_there || one->client.until < *milliseconds)) {
             *milliseconds = one->client.until;
             is_there = true;
@@ -127,16 +128,16 @@ bool kz_next_deadline(uint64_t *milliseconds)
 /* ---- Turns. */
 static void wait_for_turn(KzThread *me)
 {
-    resting++;
+    turns.resting++;
     me->is_resting = true;
-    pthread_cond_broadcast(&changed);
-    while (running != me && !is_free && !me->is_gone)
-        pthread_cond_wait(&changed, &mutex);
+    pthread_cond_broadcast(&turns.changed);
+    while (turns.running != me && !turns.is_free && !me->is_gone)
+        pthread_cond_wait(&turns.changed, &turns.mutex);
     me->is_resting = false;
-    resting--;
+    turns.resting--;
     if (!me->is_gone)
         return;
-    pthread_mutex_unlock(&mutex);
+    pthread_mutex_unlock(&turns.mutex);
     pthread_exit(NULL);
 }
 
@@ -144,15 +145,15 @@ static void *live(void *given)
 {
     KzThread *me = given;
     kz_me = &me->client;
-    pthread_mutex_lock(&mutex);
+    pthread_mutex_lock(&turns.mutex);
     wait_for_turn(me);
-    pthread_mutex_unlock(&mutex);
+    pthread_mutex_unlock(&turns.mutex);
     kz_live(me);
-    pthread_mutex_lock(&mutex);
-    if (running == me)
-        running = NULL;
-    pthread_cond_broadcast(&changed);
-    pthread_mutex_unlock(&mutex);
+    pthread_mutex_lock(&turns.mutex);
+    if (turns.running == me)
+        turns.running = NULL;
+    pthread_cond_broadcast(&turns.changed);
+    pthread_mutex_unlock(&turns.mutex);
     return NULL;
 }
 
@@ -168,12 +169,12 @@ bool kz_let_thread(KzThread *thread)
 {
     if (!kz_can_thread_go(thread))
         return false;
-    pthread_mutex_lock(&mutex);
-    running = thread;
-    pthread_cond_broadcast(&changed);
-    while (running)
-        pthread_cond_wait(&changed, &mutex);
-    pthread_mutex_unlock(&mutex);
+    pthread_mutex_lock(&turns.mutex);
+    turns.running = thread;
+    pthread_cond_broadcast(&turns.changed);
+    while (turns.running)
+        pthread_cond_wait(&turns.changed, &turns.mutex);
+    pthread_mutex_unlock(&turns.mutex);
     return true;
 }
 
@@ -181,34 +182,34 @@ bool kz_let_thread(KzThread *thread)
 bool kz_rest(KzCan *can, void *what)
 {
     KzThread *me = kz_me->beside;
-    pthread_mutex_lock(&mutex);
+    pthread_mutex_lock(&turns.mutex);
     me->can = can;
     me->what = what;
-    if (running == me)
-        running = NULL;
+    if (turns.running == me)
+        turns.running = NULL;
     wait_for_turn(me);
     me->can = NULL;
-    pthread_mutex_unlock(&mutex);
+    pthread_mutex_unlock(&turns.mutex);
     return can(what);
 }
 
 void kz_free_turns(bool is)
 {
-    pthread_mutex_lock(&mutex);
-    __atomic_store_n(&is_free, is, __ATOMIC_RELEASE);
-    pthread_cond_broadcast(&changed);
-    pthread_mutex_unlock(&mutex);
+    pthread_mutex_lock(&turns.mutex);
+    __atomic_store_n(&turns.is_free, is, __ATOMIC_RELEASE);
+    pthread_cond_broadcast(&turns.changed);
+    pthread_mutex_unlock(&turns.mutex);
 }
 
 bool kz_is_to_rest(void)
 {
-    return kz_me->beside && !__atomic_load_n(&is_free, __ATOMIC_ACQUIRE);
+    return kz_me->beside && !__atomic_load_n(&turns.is_free, __ATOMIC_ACQUIRE);
 }
 
 static unsigned alive(void)
 {
     unsigned number = 0;
-    for (const KzThread *one = threads; one; one = one->next)
+    for (const KzThread *one = turns.first; one; one = one->next)
         number += !__atomic_load_n(&one->has_ended, __ATOMIC_ACQUIRE);
     return number;
 }
@@ -219,20 +220,20 @@ void kz_take_turns(void)
     struct timespec until;
     clock_gettime(CLOCK_REALTIME, &until);
     until.tv_sec += 5;
-    pthread_mutex_lock(&mutex);
-    while (resting < alive() && pthread_cond_timedwait(&changed, &mutex, &until) == 0)
+    pthread_mutex_lock(&turns.mutex);
+    while (turns.resting < alive() && pthread_cond_timedwait(&turns.changed, &turns.mutex, &until) == 0)
         ;
-    pthread_mutex_unlock(&mutex);
+    pthread_mutex_unlock(&turns.mutex);
 }
 
 /* False: it runs on, and its stack stands on its memory. */
 static bool end_thread(KzThread *one)
 {
-    pthread_mutex_lock(&mutex);
+    pthread_mutex_lock(&turns.mutex);
     bool is_over = one->has_ended || one->is_resting;
     one->is_gone = true;
-    pthread_cond_broadcast(&changed);
-    pthread_mutex_unlock(&mutex);
+    pthread_cond_broadcast(&turns.changed);
+    pthread_mutex_unlock(&turns.mutex);
     if (is_over && one->thread)
         pthread_join(one->thread, NULL);
     return is_over;
@@ -240,13 +241,13 @@ static bool end_thread(KzThread *one)
 
 static void forget_threads(void)
 {
-    while (threads) {
-        KzThread *one = threads;
-        threads = one->next;
+    while (turns.first) {
+        KzThread *one = turns.first;
+        turns.first = one->next;
         if (end_thread(one))
             free(one);
     }
-    count = 0;
+    turns.count = 0;
 }
 
 const KzModule kz_beside_module = {.free = forget_threads, .goes_on = kz_run_threads};

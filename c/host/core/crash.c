@@ -13,9 +13,12 @@
 #include <unistd.h>
 
 static const int signals[] = {SIGSEGV, SIGBUS, SIGABRT, SIGFPE, SIGILL};
-static struct sigaction before[sizeof signals / sizeof signals[0]];
-static uint8_t stack[65536];
-static volatile sig_atomic_t was_told;
+static struct {
+    struct sigaction before[sizeof signals / sizeof signals[0]];
+    uint8_t stack[65536];
+    volatile sig_atomic_t was_told;
+    bool is_watched;
+} crash;
 
 static void put(const char *text)
 {
@@ -33,9 +36,9 @@ static bool find(const void *at, char *line, size_t size)
 static void tell(const char *what, const void *at)
 {
     char marked[256], place[256], line[100];
-    if (was_told)
+    if (crash.was_told)
         return;
-    was_told = 1;
+    crash.was_told = 1;
     put("CRASH ");
     put(what);
     put(": ");
@@ -119,8 +122,8 @@ static void handle(int signal, siginfo_t *information, void *context)
     for (size_t at = 0; at < sizeof signals / sizeof signals[0]; at++) {
         if (signals[at] != signal)
             continue;
-        if (before[at].sa_flags & SA_SIGINFO && before[at].sa_sigaction) {
-            before[at].sa_sigaction(signal, information, context);
+        if (crash.before[at].sa_flags & SA_SIGINFO && crash.before[at].sa_sigaction) {
+            crash.before[at].sa_sigaction(signal, information, context);
             return;
         }
         sigaction(signal, &(struct sigaction){.sa_handler = SIG_DFL}, NULL);
@@ -144,15 +147,14 @@ static void watch(int signal)
 
 void kz_watch_crashes(void)
 {
-    static bool is_watched;
     setvbuf(stdout, NULL, _IOLBF, 0);
-    was_told = 0;
-    if (is_watched)
+    crash.was_told = 0;
+    if (crash.is_watched)
         return;
-    is_watched = true;
-    sigaltstack(&(stack_t){.ss_sp = stack, .ss_size = sizeof stack}, NULL);
+    crash.is_watched = true;
+    sigaltstack(&(stack_t){.ss_sp = crash.stack, .ss_size = sizeof crash.stack}, NULL);
     for (size_t at = 0; at < sizeof signals / sizeof signals[0]; at++) {
-        sigaction(signals[at], NULL, &before[at]);
+        sigaction(signals[at], NULL, &crash.before[at]);
         watch(signals[at]);
     }
 }

@@ -19,16 +19,20 @@ typedef struct {
     uint64_t place; /* the callback's number: kz_me->place.number */
 } Held;
 
-/* Room for more is taken where these don't do. */
+/* Room for so many at first. */
 enum { FEW = 64 };
-static Held few[FEW], *held = few;
-static size_t held_count, held_room = FEW;
+
+struct KzHeldState {
+    Held *all;
+    size_t count, room;
+    struct Wanted *wanted;
+};
 
 static Held *find_of(const void *lock, const KzClient *client)
 {
-    for (size_t at = 0; at < held_count; at++)
-        if (held[at].lock == lock && held[at].client == client)
-            return &held[at];
+    for (size_t at = 0; at < kz.held->count; at++)
+        if (kz.held->all[at].lock == lock && kz.held->all[at].client == client)
+            return &kz.held->all[at];
     return NULL;
 }
 
@@ -40,9 +44,9 @@ static Held *find(const void *lock)
 /* Whether another client is in the way. */
 static Held *other(const void *lock, KzClient *client, bool is_shared)
 {
-    for (size_t at = 0; at < held_count; at++)
-        if (held[at].lock == lock && held[at].client != client && !(is_shared && held[at].is_shared))
-            return &held[at];
+    for (size_t at = 0; at < kz.held->count; at++)
+        if (kz.held->all[at].lock == lock && kz.held->all[at].client != client && !(is_shared && kz.held->all[at].is_shared))
+            return &kz.held->all[at];
     return NULL;
 }
 
@@ -67,8 +71,6 @@ typedef struct Wanted {
     int how;
 } Wanted;
 
-static Wanted *wanted;
-
 /* Whoever waits for the lock alone, and came before: no new reader goes past. An owner of a resource does, and who starves the others on purpose. */
 static const Wanted *before(const Wanted *reader)
 {
@@ -76,7 +78,7 @@ static const Wanted *before(const Wanted *reader)
     bool goes_first = reader->how == KZ_SHARED_FIRST || (own && reader->how == KZ_SHARED_AGAIN) || (own && !own->is_shared);
     if (!is_shared(reader->how) || goes_first)
         return NULL;
-    for (const Wanted *one = wanted; one && one != reader; one = one->next)
+    for (const Wanted *one = kz.held->wanted; one && one != reader; one = one->next)
         if (one->lock == reader->lock && !is_shared(one->how) && one->client != reader->client)
             return one;
     return NULL;
@@ -90,7 +92,7 @@ static bool is_free(void *asked)
 
 static void leave_line(Wanted *one)
 {
-    Wanted **at = &wanted;
+    Wanted **at = &kz.held->wanted;
     while (*at && *at != one)
         at = &(*at)->next;
     if (*at)
@@ -99,7 +101,7 @@ static void leave_line(Wanted *one)
 
 static void wait_in_line(Wanted *one, const char *call)
 {
-    Wanted **at = &wanted;
+    Wanted **at = &kz.held->wanted;
     while (*at)
         at = &(*at)->next;
     *at = one;
@@ -114,18 +116,19 @@ static void wait_in_line(Wanted *one, const char *call)
 
 static void add(Held one)
 {
-    if (held_count == held_room) {
-        Held *larger = kz_memory(2 * held_room * sizeof *held);
-        memcpy(larger, held, held_room * sizeof *held);
-        if (held != few)
-            free(held);
-        held = larger;
-        held_room *= 2;
+    if (kz.held->count == kz.held->room) {
+        size_t room = kz.held->room ? 2 * kz.held->room : FEW;
+        Held *larger = kz_memory(room * sizeof *larger);
+        if (kz.held->count)
+            memcpy(larger, kz.held->all, kz.held->count * sizeof *larger);
+        free(kz.held->all);
+        kz.held->all = larger;
+        kz.held->room = room;
     }
-    size_t place = held_count++; /* by clients: so that what is held is the same whoever took his first */
-    for (; place > 0 && held[place - 1].client->number > one.client->number; place--)
-        held[place] = held[place - 1];
-    held[place] = one;
+    size_t place = kz.held->count++; /* by clients: so that what is held is the same whoever took his first */
+    for (; place > 0 && kz.held->all[place - 1].client->number > one.client->number; place--)
+        kz.held->all[place] = kz.held->all[place - 1];
+    kz.held->all[place] = one;
 }
 
 static void note(PVOID lock, int how, KIRQL irql, const char *call)
@@ -169,8 +172,8 @@ static void let_go(Held *one, PVOID lock, const char *call)
         return;
     }
     if (--one->count == 0) {
-        memmove(one, one + 1, (size_t)(held + held_count - one - 1) * sizeof *one);
-        held[--held_count] = (Held){0};
+        memmove(one, one + 1, (size_t)(kz.held->all + kz.held->count - one - 1) * sizeof *one);
+        kz.held->all[--kz.held->count] = (Held){0};
     }
     kz_scheduler->touch(lock, 0, KZT_GIVES);
 }
@@ -217,18 +220,18 @@ ULONG KzIsHeld(const VOID *Lock)
 /* What the callback that returns took and didn't let go. */
 void kz_tell_locks(void)
 {
-    for (size_t at = 0; at < held_count;) {
-        if (held[at].client != kz_me || held[at].place != kz_me->place.number) {
+    for (size_t at = 0; at < kz.held->count;) {
+        if (kz.held->all[at].client != kz_me || kz.held->all[at].place != kz_me->place.number) {
             at++;
             continue;
         }
-        bool is_region = held[at].lock == &kz_me->region;
-        kz_me->place.call = held[at].call;
-        kz_me->place.from = held[at].from;
-        kz_tell(KZM_LOCK_AT_RETURN, held[at].call, is_region ? "the critical region isn't left as the callback returns" : "the lock is still held as the callback returns");
-        held[at].count = 1;
+        bool is_region = kz.held->all[at].lock == &kz_me->region;
+        kz_me->place.call = kz.held->all[at].call;
+        kz_me->place.from = kz.held->all[at].from;
+        kz_tell(KZM_LOCK_AT_RETURN, kz.held->all[at].call, is_region ? "the critical region isn't left as the callback returns" : "the lock is still held as the callback returns");
+        kz.held->all[at].count = 1;
         kz_me->place.from = NULL;
-        let_go(&held[at], (PVOID)(uintptr_t)held[at].lock, held[at].call);
+        let_go(&kz.held->all[at], (PVOID)(uintptr_t)kz.held->all[at].lock, kz.held->all[at].call);
     }
     if (kz_me->place.callback != KZ_IN_NOTHING && kz_me->place.raised > kz_me->place.irql) {
         kz_tell(KZM_LOCK_AT_RETURN, "KeLowerIrql", "the IRQL is still raised as the callback returns");
@@ -238,33 +241,28 @@ void kz_tell_locks(void)
 
 static void check_locks(const void *memory, size_t size)
 {
-    for (size_t at = held_count; at-- > 0;) {
-        Held one = held[at];
+    for (size_t at = kz.held->count; at-- > 0;) {
+        Held one = kz.held->all[at];
         if ((uintptr_t)one.lock - (uintptr_t)memory >= size)
             continue;
         kz_tell_of(one.lock, KZM_LOCK_DELETED, one.call, "the lock is still held, and its memory is freed");
-        held[at].count = 1;
-        let_go(&held[at], (PVOID)(uintptr_t)one.lock, one.call);
+        kz.held->all[at].count = 1;
+        let_go(&kz.held->all[at], (PVOID)(uintptr_t)one.lock, one.call);
     }
 }
 
 static void free_locks(void)
 {
-    if (held != few)
-        free(held);
-    held = few;
-    wanted = NULL;
-    held_count = 0;
-    held_room = FEW;
+    free(kz.held->all);
 }
 
 /* ---- IRQL: that of the locks that are held, or to which it was raised. */
 KIRQL kz_irql(void)
 {
     KIRQL highest = kz_me->place.raised;
-    for (size_t at = 0; at < held_count; at++)
-        if (held[at].client == kz_me && held[at].place >= kz_me->place.locks_from && held[at].irql > highest)
-            highest = held[at].irql;
+    for (size_t at = 0; at < kz.held->count; at++)
+        if (kz.held->all[at].client == kz_me && kz.held->all[at].place >= kz_me->place.locks_from && kz.held->all[at].irql > highest)
+            highest = kz.held->all[at].irql;
     return highest;
 }
 
@@ -280,8 +278,8 @@ VOID KzLetGoTo(PVOID Lock, KIRQL Irql, PCSTR Call)
 
 bool kz_are_apcs_disabled(void)
 {
-    for (size_t at = 0; at < held_count; at++)
-        if (held[at].client == kz_me && strncmp(held[at].call, "ExAcquire", 9) != 0)
+    for (size_t at = 0; at < kz.held->count; at++)
+        if (kz.held->all[at].client == kz_me && strncmp(kz.held->all[at].call, "ExAcquire", 9) != 0)
             return true;
     return kz_irql() > PASSIVE_LEVEL;
 }
@@ -294,4 +292,4 @@ bool kz_share_lock(const void *lock)
     return one->is_shared = true;
 }
 
-const KzModule kz_held_module = {.free = free_locks, .memory_goes = check_locks};
+const KzModule kz_held_module = {KZ_STATE(held), .free = free_locks, .memory_goes = check_locks};

@@ -15,10 +15,12 @@ typedef struct Text {
     char text[];
 } Text;
 
-static struct {
-    Text *places[PLACES];
-    unsigned count;
-} lists[LISTS];
+struct KzKeptState {
+    struct {
+        Text *places[PLACES];
+        unsigned count;
+    } lists[LISTS];
+};
 
 static unsigned hash_of(const char *text, size_t length)
 {
@@ -35,31 +37,30 @@ const char *kz_kept_text(const char *text)
     bool is_long = length > LONGEST;
     length = is_long ? LONGEST : length;
     unsigned list = kz_me->number % LISTS, hash = hash_of(text, length);
-    for (Text *one = lists[list].places[hash]; one; one = one->next)
+    for (Text *one = kz.kept->lists[list].places[hash]; one; one = one->next)
         if (strncmp(one->text, text, length) == 0 && strcmp(one->text + length, is_long ? ".." : "") == 0)
             return one->text;
-    if (lists[list].count == MOST)
+    if (kz.kept->lists[list].count == MOST)
         return NULL;
     Text *made = kz_memory(sizeof *made + length + 3);
-    made->next = lists[list].places[hash];
+    made->next = kz.kept->lists[list].places[hash];
     memcpy(made->text, text, length);
     strcpy(made->text + length, is_long ? ".." : "");
-    lists[list].places[hash] = made;
-    lists[list].count++;
+    kz.kept->lists[list].places[hash] = made;
+    kz.kept->lists[list].count++;
     return made->text;
 }
 
 static void free_kept_texts(void)
 {
     for (unsigned at = 0; at < LISTS * PLACES; at++) {
-        Text **first = &lists[at / PLACES].places[at % PLACES];
+        Text **first = &kz.kept->lists[at / PLACES].places[at % PLACES];
         while (*first) {
             Text *one = *first;
             *first = one->next;
             free(one);
         }
     }
-    memset(lists, 0, sizeof lists);
 }
 
-const KzModule kz_kept_module = {.free = free_kept_texts};
+const KzModule kz_kept_module = {KZ_STATE(kept), .free = free_kept_texts};

@@ -16,11 +16,13 @@ typedef struct Made {
     KzPlace place;
 } Made;
 
-static Made *made;
+struct KzMadeState {
+    Made *first;
+};
 
 static Made **find(const void *at)
 {
-    Made **one = &made;
+    Made **one = &kz.made->first;
     while (*one && (*one)->at != at)
         one = &(*one)->next;
     return one;
@@ -35,8 +37,8 @@ void kz_made(const void *at, const char *kind, const char *call, const char *del
         return;
     }
     Made *one = kz_memory(sizeof *one);
-    *one = (Made){made, at, kind, deletes, kz_me->place};
-    made = one;
+    *one = (Made){kz.made->first, at, kind, deletes, kz_me->place};
+    kz.made->first = one;
 }
 
 bool kz_unmade(const void *at)
@@ -66,7 +68,7 @@ bool kz_is_made(const void *at, const char *kind, const char *call)
 /* Memory is given back: what lies in it must have been deleted. */
 static void check_made(const void *memory, size_t size)
 {
-    for (Made **at = &made; *at;) {
+    for (Made **at = &kz.made->first; *at;) {
         Made *one = *at;
         if ((uintptr_t)one->at < (uintptr_t)memory || (uintptr_t)one->at >= (uintptr_t)memory + size) {
             at = &one->next;
@@ -81,7 +83,7 @@ static void check_made(const void *memory, size_t size)
 /* The filter ends, and with it its variables. */
 static void tell_made(PFLT_FILTER filter)
 {
-    for (Made **at = &made; *at;) {
+    for (Made **at = &kz.made->first; *at;) {
         Made *one = *at;
         if (one->place.filter != filter) {
             at = &one->next;
@@ -97,8 +99,8 @@ static void tell_made(PFLT_FILTER filter)
 
 static void free_made(void)
 {
-    while (made)
-        kz_unmade(made->at);
+    while (kz.made->first)
+        kz_unmade(kz.made->first->at);
 }
 
 /* ---- Lists: the kit's own functions look at the neighbours, and stop the system where they aren't neighbours. */
@@ -108,4 +110,4 @@ VOID KzBrokenList(PLIST_ENTRY Entry, PCSTR Call)
     kz_tell_of(Entry, KZM_BROKEN_LIST, Call, "the list isn't whole there (an entry removed twice, or put in two lists?): it is left as it is");
 }
 
-const KzModule kz_made_module = {.free = free_made, .filter_ends = tell_made, .memory_goes = check_made};
+const KzModule kz_made_module = {KZ_STATE(made), .free = free_made, .filter_ends = tell_made, .memory_goes = check_made};

@@ -1,15 +1,41 @@
 /* The modules above the core, one after the other, and who looks on. */
 #include "core/module.h"
 
+#include "core/memory.h"
 #include "core/operation.h"
+
+#include <stdlib.h>
 
 #define EACH(one) (const KzModule *const *one = kz.modules; one && *one; one++)
 
+static void **state_of(const KzModule *one)
+{
+    return (void **)((char *)&kz + one->place);
+}
+
+void kz_begin_modules(void)
+{
+    for EACH (one)
+        if ((*one)->size)
+            *state_of(*one) = kz_memory((*one)->size);
+}
+
+void kz_end_modules(void)
+{
+    for EACH (one)
+        if ((*one)->size)
+            free(*state_of(*one));
+}
+
+/* Their states are as new once none is asked any more. */
 void kz_free_modules(void)
 {
     for EACH (one)
         if ((*one)->free)
             (*one)->free();
+    for EACH (one)
+        if ((*one)->size)
+            memset(*state_of(*one), 0, (*one)->size);
 }
 
 void kz_filter_begins(PFLT_FILTER filter)

@@ -4,8 +4,14 @@
 
 #include "host.h"
 
+#include <stddef.h>
+
+/* What a module keeps of a run: the field of kz that leads to it, and how large it is. */
+#define KZ_STATE(field) .place = offsetof(KzHost, field), .size = sizeof *kz.field
+
 /* One module: what it has none of is NULL. */
 typedef struct KzModule {
+    size_t place, size;
     void (*free)(void);                             /* a run is over */
     void (*filter_begins)(PFLT_FILTER filter);      /* its DriverEntry has returned */
     void (*filter_unregisters)(PFLT_FILTER filter);
@@ -27,6 +33,9 @@ typedef struct KzObserver {
     bool (*fails)(KzChoice what);
 } KzObserver;
 
+/* Their states, all zeros. */
+void kz_begin_modules(void);
+void kz_end_modules(void);
 void kz_free_modules(void);
 void kz_filter_begins(PFLT_FILTER filter);
 void kz_filter_unregisters(PFLT_FILTER filter);

@@ -152,6 +152,7 @@ struct KzOp {
     KzMdl *mdls;
     KzSent *sent;
     PVOID caller; /* the buffer of the caller */
+    PMDL no_mdl;  /* that of a query, which has none */
     ULONG caller_room;
     KzStage stage;
     PFLT_INSTANCE holder;

@@ -27,24 +27,26 @@ enum { KEPT = 64, KEPT_BYTES = 32768 };
 
 /* Pieces of up to so many bytes have pages of their own, and up to so many pieces at once: the system has no more than 65,530 ranges of pages. */
 enum { PAGE = 4096, GUARDED_BYTES = 64 * 1024, GUARDED = 8192 };
-static size_t guarded_count;
 
 /* Up to so many pieces each one is looked at as a callback returns. Where there are more, the last few that the client took are, and all of them now and then. */
 enum { FEW = 256, LAST = 64, NOW_AND_THEN = 256 };
 
 /* All pieces by their address. */
 enum { PLACES = 1 << 14 };
-static KzPiece *places[PLACES];
-static size_t pieces_count;
-static unsigned returns; /* since all were looked at */
 
 /* Of each client the pieces that it took, the newest first, and those that it gave back: so their order is its own alone. Whoever has the manager has these too. */
 enum { LISTS = KZ_FIRST_THREAD + KZ_THREADS };
-static KzPiece *pieces[LISTS];
-static struct {
-    KzPiece *pieces[KEPT];
-    size_t next;
-} gone[LISTS];
+struct KzPieceState {
+    KzPiece *places[PLACES]; /* by their address */
+    size_t count, guarded;
+    unsigned returns; /* since all were looked at */
+    /* Of each client the pieces that it took, the newest first, and those that it gave back: so their order is its own alone. Whoever has the manager has these too. */
+    KzPiece *taken[LISTS];
+    struct {
+        KzPiece *pieces[KEPT];
+        size_t next;
+    } gone[LISTS];
+};
 
 static unsigned my_list(void)
 {
@@ -53,9 +55,9 @@ static unsigned my_list(void)
 
 static KzPiece *first_from(unsigned list)
 {
-    while (list < LISTS && !pieces[list])
+    while (list < LISTS && !kz.piece->taken[list])
         list++;
-    return list < LISTS ? pieces[list] : NULL;
+    return list < LISTS ? kz.piece->taken[list] : NULL;
 }
 
 static KzPiece *piece_behind(const KzPiece *piece)
@@ -70,7 +72,7 @@ static uint8_t *body_of(const KzPiece *piece)
 
 static KzPiece **place_of(const void *body)
 {
-    return &places[((uintptr_t)body * 0x9e3779b97f4a7c15ULL) >> 50];
+    return &kz.piece->places[((uintptr_t)body * 0x9e3779b97f4a7c15ULL) >> 50];
 }
 
 static void enter_table(KzPiece *piece)
@@ -78,7 +80,7 @@ static void enter_table(KzPiece *piece)
     KzPiece **place = place_of(body_of(piece));
     piece->same = *place;
     *place = piece;
-    pieces_count++;
+    kz.piece->count++;
 }
 
 static void leave_table(KzPiece *piece)
@@ -87,7 +89,7 @@ static void leave_table(KzPiece *piece)
     while (*at != piece)
         at = &(*at)->same;
     *at = piece->same;
-    pieces_count--;
+    kz.piece->count--;
 }
 
 static void shut(const KzPiece *piece)
@@ -107,7 +109,7 @@ static void open_all(const KzPiece *piece)
 static bool is_guarded(KzMemory kind, size_t size)
 {
     return kz_scheduler->has_pages && !__asan_poison_memory_region && (kind == KZK_POOL || kind == KZK_CONTEXT || kind == KZK_NAME) && size <= GUARDED_BYTES &&
-           guarded_count < GUARDED;
+           kz.piece->guarded < GUARDED;
 }
 
 static uint8_t *at_boundary(uint8_t *start, size_t size)
@@ -134,7 +136,7 @@ static KzPiece *allocate(KzMemory kind, size_t size)
         return NULL;
     }
     *piece = (KzPiece){.pages = start, .pages_size = pages, .body = at_boundary(start, size)};
-    guarded_count++;
+    kz.piece->guarded++;
     return piece;
 }
 
@@ -144,7 +146,7 @@ static void let_go(KzPiece *piece)
         return;
     if (piece->pages) {
         munmap(piece->pages, piece->pages_size);
-        guarded_count--;
+        kz.piece->guarded--;
     }
     free(piece);
 }
@@ -154,7 +156,7 @@ void *kz_take_memory(KzMemory kind, size_t size, int fill, ULONG tag)
     KzPiece *piece = size <= KZ_LARGEST ? allocate(kind, size) : NULL;
     if (!piece)
         return NULL;
-    KzPiece **first = &pieces[my_list()];
+    KzPiece **first = &kz.piece->taken[my_list()];
     piece->next = *first;
     piece->size = size;
     piece->kind = kind;
@@ -245,10 +247,10 @@ void kz_check_all_memory(PFLT_FILTER filter)
 /* And as its callback returns. */
 void kz_check_memory(PFLT_FILTER filter)
 {
-    if (pieces_count <= FEW || ++returns % NOW_AND_THEN == 0) {
+    if (kz.piece->count <= FEW || ++kz.piece->returns % NOW_AND_THEN == 0) {
         kz_check_all_memory(filter);
     } else {
-        KzPiece *piece = pieces[my_list()];
+        KzPiece *piece = kz.piece->taken[my_list()];
         for (unsigned at = 0; piece && at < LAST; at++, piece = piece->next)
             if (piece->filter == filter)
                 kz_check_piece(piece);
@@ -259,7 +261,7 @@ void kz_check_memory(PFLT_FILTER filter)
 static bool was_freed(const void *memory)
 {
     for (size_t at = 0; at < (size_t)LISTS * KEPT; at++) {
-        const KzPiece *piece = gone[at / KEPT].pieces[at % KEPT];
+        const KzPiece *piece = kz.piece->gone[at / KEPT].pieces[at % KEPT];
         if (piece && body_of(piece) == memory)
             return true;
     }
@@ -326,7 +328,7 @@ static void look_at(KzPiece *piece)
 static void look_at_last(PFLT_FILTER filter)
 {
     for (size_t at = 1; at <= 8; at++) {
-        KzPiece *piece = gone[my_list()].pieces[(gone[my_list()].next + KEPT - at) % KEPT];
+        KzPiece *piece = kz.piece->gone[my_list()].pieces[(kz.piece->gone[my_list()].next + KEPT - at) % KEPT];
         if (piece && piece->filter == filter && piece->size <= 256)
             look_at(piece);
     }
@@ -352,7 +354,7 @@ void kz_give_back(void *memory)
     kz_check_piece(piece);
     kz_memory_goes(memory, piece->size);
     kz_scheduler->touch(body_of(piece), piece->size, KZT_HAS_TAKEN_BACK);
-    *(piece->before ? &piece->before->next : &pieces[piece->list]) = piece->next;
+    *(piece->before ? &piece->before->next : &kz.piece->taken[piece->list]) = piece->next;
     if (piece->next)
         piece->next->before = piece->before;
     leave_table(piece);
@@ -364,9 +366,9 @@ void kz_give_back(void *memory)
     memset(body_of(piece), GONE_BYTE, piece->size);
     piece->place = kz_me->place; /* where it was given back */
     piece->is_shut = piece->pages && mprotect(piece->pages, piece->pages_size, PROT_NONE) == 0;
-    size_t *next = &gone[my_list()].next;
-    forget(&gone[my_list()].pieces[*next]);
-    gone[my_list()].pieces[*next] = piece;
+    size_t *next = &kz.piece->gone[my_list()].next;
+    forget(&kz.piece->gone[my_list()].pieces[*next]);
+    kz.piece->gone[my_list()].pieces[*next] = piece;
     *next = (*next + 1) % KEPT;
 }
 
@@ -374,7 +376,7 @@ void kz_give_back(void *memory)
 static KzPiece *shut_piece_at(const void *address)
 {
     for (size_t at = 0; at < (size_t)LISTS * KEPT; at++) {
-        KzPiece *piece = gone[at / KEPT].pieces[at % KEPT];
+        KzPiece *piece = kz.piece->gone[at / KEPT].pieces[at % KEPT];
         if (piece && piece->is_shut && (uintptr_t)address - (uintptr_t)piece->pages < piece->pages_size)
             return piece;
     }
@@ -421,14 +423,14 @@ bool kz_touched(const void *address, const void *code, bool is_written)
 static void forget_list(unsigned list)
 {
     for (size_t at = 0; at < KEPT; at++)
-        forget(&gone[list].pieces[(gone[list].next + at) % KEPT]);
+        forget(&kz.piece->gone[list].pieces[(kz.piece->gone[list].next + at) % KEPT]);
 }
 
 /* At the end: what was written after its last use is told. */
 void kz_tell_gone(void)
 {
     for (unsigned list = 0; list < LISTS; list++)
-        if (gone[list].pieces[0])
+        if (kz.piece->gone[list].pieces[0])
             forget_list(list);
 }
 
@@ -474,12 +476,7 @@ static void free_memory(void)
         open_all(piece);
         let_go(piece);
     }
-    memset(pieces, 0, sizeof pieces);
-    memset(places, 0, sizeof places);
-    pieces_count = 0;
-    returns = 0;
     for (size_t at = 0; at < (size_t)LISTS * KEPT; at++)
-        let_go(gone[at / KEPT].pieces[at % KEPT]);
-    memset(gone, 0, sizeof gone);
+        let_go(kz.piece->gone[at / KEPT].pieces[at % KEPT]);
 }
-const KzModule kz_piece_module = {.free = free_memory};
+const KzModule kz_piece_module = {KZ_STATE(piece), .free = free_memory};

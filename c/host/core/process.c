@@ -14,11 +14,13 @@ struct _ETHREAD {
     uint64_t id;
 };
 
-static PEPROCESS processes;
-static PETHREAD threads;
-static POBJECT_TYPE types[5];
-POBJECT_TYPE *IoFileObjectType = &types[0], *PsProcessType = &types[1], *PsThreadType = &types[2], *ExEventObjectType = &types[3],
-             *SeTokenObjectType = &types[4];
+struct KzProcessState {
+    PEPROCESS processes;
+    PETHREAD threads;
+};
+static const POBJECT_TYPE types[5];
+POBJECT_TYPE *IoFileObjectType = (POBJECT_TYPE *)&types[0], *PsProcessType = (POBJECT_TYPE *)&types[1], *PsThreadType = (POBJECT_TYPE *)&types[2],
+             *ExEventObjectType = (POBJECT_TYPE *)&types[3], *SeTokenObjectType = (POBJECT_TYPE *)&types[4];
 static struct _EPROCESS system_process = {.id = 4};
 PEPROCESS PsInitialSystemProcess = &system_process;
 
@@ -26,21 +28,21 @@ PEPROCESS kz_process(uint64_t id)
 {
     if (id == system_process.id)
         return &system_process;
-    for (PEPROCESS one = processes; one; one = one->next)
+    for (PEPROCESS one = kz.process->processes; one; one = one->next)
         if (one->id == id)
             return one;
     PEPROCESS made = kz_memory(sizeof *made);
-    *made = (struct _EPROCESS){.next = processes, .id = id};
-    return processes = made;
+    *made = (struct _EPROCESS){.next = kz.process->processes, .id = id};
+    return kz.process->processes = made;
 }
 
 PETHREAD kz_thread_object(uint64_t process, uint64_t id)
 {
     PEPROCESS owner = kz_process(process);
-    for (PETHREAD one = threads; one; one = one->next)
+    for (PETHREAD one = kz.process->threads; one; one = one->next)
         if (one->id == id && one->process == owner)
             return one;
-    PETHREAD made = kz_memory(sizeof *made), *place = &threads;
+    PETHREAD made = kz_memory(sizeof *made), *place = &kz.process->threads;
     while (*place && (*place)->id < id)
         place = &(*place)->next;
     *made = (struct _ETHREAD){.header.Type = KZ_THREAD_OBJECT, .next = *place, .process = owner, .id = id};
@@ -151,16 +153,16 @@ KPROCESSOR_MODE ExGetPreviousMode(VOID)
 
 static void free_processes(void)
 {
-    while (threads) {
-        PETHREAD one = threads;
-        threads = one->next;
+    while (kz.process->threads) {
+        PETHREAD one = kz.process->threads;
+        kz.process->threads = one->next;
         free(one);
     }
-    while (processes) {
-        PEPROCESS one = processes;
-        processes = one->next;
+    while (kz.process->processes) {
+        PEPROCESS one = kz.process->processes;
+        kz.process->processes = one->next;
         free(one);
     }
 }
 
-const KzModule kz_process_module = {.free = free_processes};
+const KzModule kz_process_module = {KZ_STATE(process), .free = free_processes};

@@ -20,12 +20,14 @@ extern void __tsan_acquire(void *object) __attribute__((weak));
 extern void __tsan_release(void *object) __attribute__((weak));
 extern void __tsan_write_range(void *memory, long size) __attribute__((weak));
 
-static pthread_mutex_t mutex = PTHREAD_MUTEX_INITIALIZER;
-static pthread_cond_t changed = PTHREAD_COND_INITIALIZER;
-static unsigned waiting; /* under the mutex */
-static uint64_t seed;
-static uint64_t moves; /* of all clients: read by the one that looks whether anybody goes on */
-static bool is_over;
+static struct {
+    pthread_mutex_t mutex;
+    pthread_cond_t changed;
+    unsigned waiting; /* under the mutex */
+    uint64_t seed;
+    uint64_t moves; /* of all clients: read by the one that looks whether anybody goes on */
+    bool is_over;
+} run = {.mutex = PTHREAD_MUTEX_INITIALIZER, .changed = PTHREAD_COND_INITIALIZER};
 static _Thread_local uint64_t chance;
 
 static void ignore(bool is)
@@ -46,14 +48,14 @@ static void ignore(bool is)
 static void lock(void)
 {
     ignore(true);
-    pthread_mutex_lock(&mutex);
+    pthread_mutex_lock(&run.mutex);
 }
 
 static void unlock(void)
 {
-    if (waiting)
-        pthread_cond_broadcast(&changed);
-    pthread_mutex_unlock(&mutex);
+    if (run.waiting)
+        pthread_cond_broadcast(&run.changed);
+    pthread_mutex_unlock(&run.mutex);
     ignore(false);
 }
 
@@ -72,11 +74,11 @@ static void point(const char *name, const void *from)
     if (kz_is_to_rest())
         kz_rest(always, NULL);
     if (!chance)
-        chance = (seed + kz_me->number) * 0x9e3779b97f4a7c15ULL | 1;
+        chance = (run.seed + kz_me->number) * 0x9e3779b97f4a7c15ULL | 1;
     chance ^= chance << 13;
     chance ^= chance >> 7;
     chance ^= chance << 17;
-    __atomic_add_fetch(&moves, 1, __ATOMIC_RELAXED);
+    __atomic_add_fetch(&run.moves, 1, __ATOMIC_RELAXED);
     if ((chance >> 20) % 64 == 0)
         nanosleep(&(struct timespec){.tv_nsec = (long)((chance >> 30) % 20000)}, NULL);
 }
@@ -97,15 +99,15 @@ static bool wait(KzCan *can, void *what, const char *text)
     until.tv_nsec %= 1000000000;
     kz_unmark(kz_me->waits, sizeof kz_me->waits, text);
     bool is_timed = kz_me->timeout > 0, can_go = false;
-    waiting++;
-    while (!(can_go = can(what)) && !is_over && !(is_timed && is_late(&until)))
+    run.waiting++;
+    while (!(can_go = can(what)) && !run.is_over && !(is_timed && is_late(&until)))
         if (is_timed)
-            pthread_cond_timedwait(&changed, &mutex, &until);
+            pthread_cond_timedwait(&run.changed, &run.mutex, &until);
         else
-            pthread_cond_wait(&changed, &mutex);
-    waiting--;
+            pthread_cond_wait(&run.changed, &run.mutex);
+    run.waiting--;
     kz_me->waits[0] = 0;
-    if (can_go || !is_over || !kz_me->beside)
+    if (can_go || !run.is_over || !kz_me->beside)
         return can_go;
     unlock();
     return kz_rest(can, what);
@@ -150,8 +152,8 @@ const KzScheduler kz_threads = {point, wait, touch, looked, choose, kz_begin_thr
 
 void kz_use_threads(uint64_t number)
 {
-    seed = number;
-    is_over = false;
+    run.seed = number;
+    run.is_over = false;
     kz_scheduler = &kz_threads;
     kz_free_turns(true);
 }
@@ -160,13 +162,13 @@ void kz_use_threads(uint64_t number)
 void kz_end_waits(void)
 {
     lock();
-    is_over = true;
+    run.is_over = true;
     unlock();
 }
 
 uint64_t kz_moves(void)
 {
-    return __atomic_load_n(&moves, __ATOMIC_RELAXED);
+    return __atomic_load_n(&run.moves, __ATOMIC_RELAXED);
 }
 
 /* ---- Volatile accesses are in order with one another, as Microsoft's compiler has them. The sanitizer's library lacks these. */

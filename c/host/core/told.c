@@ -10,8 +10,10 @@
 #include <stdarg.h>
 #include <stdlib.h>
 
-static bool is_allowed[KZM_MESSAGES];
-static bool is_strict;
+static struct {
+    bool is_allowed[KZM_MESSAGES];
+    bool is_strict;
+} asked;
 
 /* What was told, and where: it is told again as a count alone. Of a limit the filter and the call are all. */
 typedef struct Place {
@@ -23,7 +25,9 @@ typedef struct Place {
     uint64_t again;
 } Place;
 
-static Place *places, **places_end = &places;
+struct KzToldState {
+    Place *first, **end;
+};
 
 bool kz_allow(const char *id)
 {
@@ -31,13 +35,13 @@ bool kz_allow(const char *id)
     unsigned long number = strncmp(id, "KZ", 2) == 0 ? strtoul(id + 2, &end, 10) : 0;
     if (!number || *end || number >= KZM_MESSAGES)
         return false;
-    is_allowed[number] = true;
+    asked.is_allowed[number] = true;
     return true;
 }
 
 void kz_be_strict(bool is)
 {
-    is_strict = is;
+    asked.is_strict = is;
 }
 
 /* ---- Telling. */
@@ -52,7 +56,7 @@ static bool is_same(const Place *one, KzMessage message, bool is_limit, const ch
 /* Whether it was told of this place; it is from now on. */
 static bool was_told(KzMessage message, bool is_limit, const char *call)
 {
-    for (Place *one = places; one; one = one->next)
+    for (Place *one = kz.told->first; one; one = one->next)
         if (is_same(one, message, is_limit, call)) {
             one->again++;
             return true;
@@ -60,8 +64,8 @@ static bool was_told(KzMessage message, bool is_limit, const char *call)
     Place *made = kz_memory(sizeof *made);
     *made = (Place){.message = message, .is_limit = is_limit, .at = kz_me->place};
     snprintf(made->call, sizeof made->call, "%s", call);
-    *places_end = made;
-    places_end = &made->next;
+    *(kz.told->end ? kz.told->end : &kz.told->first) = made;
+    kz.told->end = &made->next;
     return false;
 }
 
@@ -72,7 +76,7 @@ static void put_line(KzSaid said, const char *call, const char *text)
     kz_source_text(source, sizeof source, call);
     snprintf(line, sizeof line, "%s KZ%04d %s: %.900s: %s%s\n", said.kind == KZ_SAID_LIMIT ? "LIMIT" : "TOLD", said.message, call, text, place, source);
     said.text = line;
-    if (kz_observe(&said, said.kind == KZ_SAID_TOLD || is_strict))
+    if (kz_observe(&said, said.kind == KZ_SAID_TOLD || asked.is_strict))
         kz_scheduler->said(&said);
 }
 
@@ -104,7 +108,7 @@ static void tell(const void *object, KzMessage message, const char *call, const 
     char text[1000];
     PFLT_FILTER filter = kz_me->place.filter;
     bool is_limit = KZ_IS_LIMIT(message) || (filter && (filter->gave_up || (filter->leaves_out && is_left(message))));
-    if (is_allowed[message])
+    if (asked.is_allowed[message])
         return;
     bool is_again = was_told(message, is_limit, call);
     if (is_limit && is_again)
@@ -113,12 +117,12 @@ static void tell(const void *object, KzMessage message, const char *call, const 
         filter->gave_up = true;
     if (is_limit)
         kz.counts.limits++;
-    if (!is_limit || is_strict)
+    if (!is_limit || asked.is_strict)
         kz.counts.told++;
     KzSaid said = {is_limit ? KZ_SAID_LIMIT : KZ_SAID_TOLD, message, &kz_me->place, object, NULL};
     if (is_again) {
         kz_observe(&said, true);
-    } else if (!is_limit || !kz_is_quiet || is_strict) {
+    } else if (!is_limit || !kz_is_quiet || asked.is_strict) {
         vsnprintf(text, sizeof text, format, arguments);
         put_line(said, call, text);
     }
@@ -127,7 +131,7 @@ static void tell(const void *object, KzMessage message, const char *call, const 
 /* How often what was told once came up again. */
 void kz_tell_again(void)
 {
-    for (Place *one = places; one; one = one->next) {
+    for (Place *one = kz.told->first; one; one = one->next) {
         if (!one->again || one->is_limit)
             continue;
         char text[64];
@@ -167,12 +171,11 @@ void kz_tell_refused(const char *call, uint32_t status)
 
 static void free_told(void)
 {
-    while (places) {
-        Place *one = places;
-        places = one->next;
+    while (kz.told->first) {
+        Place *one = kz.told->first;
+        kz.told->first = one->next;
         free(one);
     }
-    places_end = &places;
 }
 
-const KzModule kz_told_module = {.free = free_told};
+const KzModule kz_told_module = {KZ_STATE(told), .free = free_told};

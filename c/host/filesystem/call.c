@@ -14,21 +14,9 @@
 #include "filesystem/tree.h"
 #include "filesystem/tunnel.h"
 
-static uint32_t moved; /* a bit for each volume where a name isn't its file's key any more */
-
 void kz_names_moved(PFLT_VOLUME volume)
 {
-    moved |= (uint32_t)1 << volume->id;
-}
-
-static bool has_moved(PFLT_VOLUME volume)
-{
-    return moved >> volume->id & 1;
-}
-
-void kz_free_calls(void)
-{
-    moved = 0;
+    volume->has_moved = true;
 }
 
 /* ---- Creates. One whose name was taken away while it was on its way down has the old file's key with the manager, which can't be changed any more: it is refused, though the kit would have
@@ -190,7 +178,7 @@ void kz_note_call(KzOp *op, const KazdrinData *call)
 bool kz_list_names_of(PFLT_VOLUME volume, uint8_t *room, size_t size, size_t *length)
 {
     *length = 0;
-    if (!has_moved(volume))
+    if (!volume->has_moved)
         return false;
     for (const KzName *one = kz_first_name(); one; one = one->next) {
         size_t letters = strlen(one->text);

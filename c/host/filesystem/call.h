@@ -11,6 +11,5 @@ void kz_note_call(KzOp *op, const KazdrinData *call);
 /* The names of the files at the root, where the manager's paths aren't names any more. */
 bool kz_list_names_of(PFLT_VOLUME volume, uint8_t *room, size_t size, size_t *length);
 void kz_names_moved(PFLT_VOLUME volume);
-void kz_free_calls(void);
 
 #endif

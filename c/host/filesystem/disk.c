@@ -5,24 +5,27 @@
 #include "filesystem/folder.h"
 #include "filesystem/name.h"
 
-static KzFolder folder = {-1};
+static struct {
+    KzFolder folder;
+    uint8_t path[KZ_BYTES + 1], bytes[KZ_BYTES]; /* of the call that is answered */
+} disk = {.folder = {-1}};
 
 int kz_use_folder(const char *path)
 {
-    return kz_open_folder(&folder, path);
+    return kz_open_folder(&disk.folder, path);
 }
 
 /* ---- The folder's names. */
 bool kz_is_in_folder(uint8_t volume)
 {
-    return folder.descriptor != -1 && volume == 0;
+    return disk.folder.descriptor != -1 && volume == 0;
 }
 
 bool kz_look_in_folder(uint8_t volume, const char *name, KzFound *found)
 {
     if (!kz_is_in_folder(volume))
         return false;
-    kz_folder_look(&folder, name, found);
+    kz_folder_look(&disk.folder, name, found);
     return true;
 }
 
@@ -43,36 +46,35 @@ void kz_enter_folder(PFLT_VOLUME volume, const char *name)
 {
     Entered entered = {volume, name};
     if (kz_is_in_folder(volume->id))
-        kz_folder_entries(&folder, name, enter, &entered);
+        kz_folder_entries(&disk.folder, name, enter, &entered);
 }
 
 NTSTATUS kz_rename_in_folder(uint8_t volume, const char *from, const char *to, bool is_link)
 {
-    return kz_is_in_folder(volume) ? kz_ntstatus(kz_folder_rename(&folder, from, to, is_link).status) : STATUS_SUCCESS;
+    return kz_is_in_folder(volume) ? kz_ntstatus(kz_folder_rename(&disk.folder, from, to, is_link).status) : STATUS_SUCCESS;
 }
 
 NTSTATUS kz_make_in_folder(uint8_t volume, const char *name)
 {
-    return kz_is_in_folder(volume) ? kz_ntstatus(kz_folder_make(&folder, name).status) : STATUS_SUCCESS;
+    return kz_is_in_folder(volume) ? kz_ntstatus(kz_folder_make(&disk.folder, name).status) : STATUS_SUCCESS;
 }
 
 void kz_unlink_in_folder(uint8_t volume, const char *name)
 {
     if (kz_is_in_folder(volume))
-        kz_folder_unlink(&folder, name);
+        kz_folder_unlink(&disk.folder, name);
 }
 
 /* ---- Calls. Below the folder a file is what its name leads to now. */
 bool kz_call_in_folder(uint8_t worker, const KzFile *file)
 {
-    static uint8_t path[KZ_BYTES + 1], bytes[KZ_BYTES];
     KazdrinData call = {0};
-    if (folder.descriptor == -1 || kazdrin_lent(&kz.manager, &(KazdrinEvent){.flag = 1, .worker = worker}, &call, path, KZ_BYTES) != KZS_OK || call.lent != KZ_LENT_BASE || call.volume != 0)
+    if (disk.folder.descriptor == -1 || kazdrin_lent(&kz.manager, &(KazdrinEvent){.flag = 1, .worker = worker}, &call, disk.path, KZ_BYTES) != KZS_OK || call.lent != KZ_LENT_BASE || call.volume != 0)
         return false;
-    path[call.length < KZ_BYTES ? call.length : 0] = '\0';
-    if (kazdrin_lent(&kz.manager, &(KazdrinEvent){.worker = worker}, &call, bytes, sizeof bytes) != KZS_OK)
+    disk.path[call.length < KZ_BYTES ? call.length : 0] = '\0';
+    if (kazdrin_lent(&kz.manager, &(KazdrinEvent){.worker = worker}, &call, disk.bytes, sizeof disk.bytes) != KZS_OK)
         return false;
-    KzFolderAnswer answer = kz_call_folder(&folder, &call, file->name ? file->name->text : (const char *)path, bytes);
+    KzFolderAnswer answer = kz_call_folder(&disk.folder, &call, file->name ? file->name->text : (const char *)disk.path, disk.bytes);
     KazdrinEvent returned = {.worker = worker, .status = answer.status, .offset = answer.information, .flag = answer.length > 0};
     return kazdrin_based(&kz.manager, &returned, answer.length > 0 ? answer.bytes : (const uint8_t *)"", answer.length) == KZS_OK;
 }

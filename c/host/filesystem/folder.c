@@ -133,9 +133,10 @@ static ssize_t fill(int file, uint8_t *room, size_t length, uint64_t offset)
     return (ssize_t)count;
 }
 
+static uint8_t room[KZ_BYTES]; /* of the last answer */
+
 static KzFolderAnswer read_part(const KzFolder *folder, const char *path, uint64_t offset, size_t length)
 {
-    static uint8_t room[KZ_BYTES];
     struct stat found;
     int file = open_regular(folder, path, O_RDONLY, &found);
     ssize_t count = file == -1 ? -1 : fill(file, room, length, offset);
@@ -270,7 +271,6 @@ KzFolderAnswer kz_folder_unlink(const KzFolder *folder, const char *path)
 
 static KzFolderAnswer list(const KzFolder *folder)
 {
-    static uint8_t room[KZ_BYTES];
     size_t length = 0;
     int error = kz_list_names(folder->descriptor, room, sizeof room, &length);
     if (error == EOVERFLOW)

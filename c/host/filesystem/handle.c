@@ -20,12 +20,14 @@ typedef struct Handle {
     KzPlace place;
 } Handle;
 
-static Handle *handles;
-static uintptr_t last_handle;
+struct KzHandleState {
+    Handle *first;
+    uintptr_t last; /* number */
+};
 
 static Handle **place_of(HANDLE handle)
 {
-    Handle **at = &handles;
+    Handle **at = &kz.handle->first;
     while (*at && (*at)->handle != handle)
         at = &(*at)->next;
     return at;
@@ -41,8 +43,8 @@ KzFile *kz_own_file(HANDLE handle)
 static Handle *new_handle(const char *call)
 {
     Handle *made = kz_memory(sizeof *made);
-    *made = (Handle){.next = handles, .handle = (HANDLE)(0xffffffff80000000ULL + (last_handle += 4)), .call = call, .place = kz_me->place};
-    return handles = made;
+    *made = (Handle){.next = kz.handle->first, .handle = (HANDLE)(0xffffffff80000000ULL + (kz.handle->last += 4)), .call = call, .place = kz_me->place};
+    return kz.handle->first = made;
 }
 
 /* What a filter opens for the program that called it is the program's, which closes it by itself, or by its end. */
@@ -83,7 +85,7 @@ bool kz_drop_handle(HANDLE handle, KzFile **file)
 
 HANDLE kz_handle_of_process(uint64_t process)
 {
-    const Handle *one = handles;
+    const Handle *one = kz.handle->first;
     while (one && one->process != process)
         one = one->next;
     return one ? one->handle : NULL;
@@ -92,7 +94,7 @@ HANDLE kz_handle_of_process(uint64_t process)
 /* ---- The end of a filter, and of a run. */
 static void tell_handles(PFLT_FILTER filter)
 {
-    for (Handle *one = handles; one; one = one->next)
+    for (Handle *one = kz.handle->first; one; one = one->next)
         if (one->place.filter == filter && one->call) {
             KzPlace before = kz_enter_again(&one->place);
             kz_tell(KZM_HANDLE_LEAK, one->call, "never called for a handle of %s%s", one->file ? "the file " : one->what, one->file ? one->file->path : "");
@@ -103,12 +105,11 @@ static void tell_handles(PFLT_FILTER filter)
 
 static void free_handles(void)
 {
-    while (handles) {
-        Handle *one = handles;
-        handles = one->next;
+    while (kz.handle->first) {
+        Handle *one = kz.handle->first;
+        kz.handle->first = one->next;
         free(one);
     }
-    last_handle = 0;
 }
 
-const KzModule kz_handle_module = {.free = free_handles, .filter_ends = tell_handles};
+const KzModule kz_handle_module = {KZ_STATE(handle), .free = free_handles, .filter_ends = tell_handles};

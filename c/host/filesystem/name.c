@@ -3,19 +3,19 @@
 
 #include "core/memory.h"
 #include "core/module.h"
-#include "filesystem/call.h"
 #include "filesystem/disk.h"
 #include "filesystem/folder.h"
 #include "filesystem/node.h"
 #include "filesystem/tree.h"
-#include "filesystem/tunnel.h"
 #include "wire/frame.h"
 
 #include <stdlib.h>
 
-static KzName *names, *places[KZ_NAME_PLACES];
-static bool is_sorted;
-static unsigned streams; /* names with a colon */
+struct KzTreeState {
+    KzName *first, *places[KZ_NAME_PLACES];
+    bool is_sorted;
+    unsigned streams; /* names with a colon */
+};
 
 /* The first so many of a list in the order of their bytes, those that are alike as they stood; `rest` is what stands behind them. */
 static KzName *sorted(KzName *list, size_t count, KzName **rest)
@@ -39,30 +39,30 @@ static KzName *sorted(KzName *list, size_t count, KzName **rest)
 static void sort(void)
 {
     size_t count = 0;
-    for (const KzName *one = names; one; one = one->next)
+    for (const KzName *one = kz.tree->first; one; one = one->next)
         count++;
     KzName *rest;
-    names = count ? sorted(names, count, &rest) : NULL;
-    for (KzName *one = names, *before = NULL; one; before = one, one = one->next)
+    kz.tree->first = count ? sorted(kz.tree->first, count, &rest) : NULL;
+    for (KzName *one = kz.tree->first, *before = NULL; one; before = one, one = one->next)
         one->before = before;
-    is_sorted = true;
+    kz.tree->is_sorted = true;
 }
 
 bool kz_has_streams(void)
 {
-    return streams > 0;
+    return kz.tree->streams > 0;
 }
 
 KzName *kz_all_names(void)
 {
-    return names;
+    return kz.tree->first;
 }
 
 KzName *kz_first_name(void)
 {
-    if (!is_sorted)
+    if (!kz.tree->is_sorted)
         sort();
-    return names;
+    return kz.tree->first;
 }
 
 static char folded(PFLT_VOLUME volume, char letter)
@@ -80,7 +80,7 @@ bool kz_is_same_name(PFLT_VOLUME volume, const char *a, const char *b, size_t le
 
 KzName *kz_find_name(PFLT_VOLUME volume, const char *text)
 {
-    for (KzName *one = places[kz_name_place(volume, text)]; one; one = one->same)
+    for (KzName *one = kz.tree->places[kz_name_place(volume, text)]; one; one = one->same)
         if (!one->is_gone && one->volume == volume && kz_is_same_name(volume, one->text, text, sizeof one->text))
             return one;
     return NULL;
@@ -88,31 +88,31 @@ KzName *kz_find_name(PFLT_VOLUME volume, const char *text)
 
 static void put_in(KzName *name)
 {
-    KzName **place = &places[kz_name_place(name->volume, name->text)];
+    KzName **place = &kz.tree->places[kz_name_place(name->volume, name->text)];
     name->same = *place;
     *place = name;
     name->before = NULL;
-    name->next = names;
-    if (names)
-        names->before = name;
-    names = name;
-    is_sorted = false;
-    streams += strchr(name->text, ':') != NULL;
+    name->next = kz.tree->first;
+    if (kz.tree->first)
+        kz.tree->first->before = name;
+    kz.tree->first = name;
+    kz.tree->is_sorted = false;
+    kz.tree->streams += strchr(name->text, ':') != NULL;
 }
 
 static void take_out(KzName *name)
 {
-    KzName **at = &places[kz_name_place(name->volume, name->text)];
+    KzName **at = &kz.tree->places[kz_name_place(name->volume, name->text)];
     while (*at != name)
         at = &(*at)->same;
     *at = name->same;
     if (name->before)
         name->before->next = name->next;
     else
-        names = name->next;
+        kz.tree->first = name->next;
     if (name->next)
         name->next->before = name->before;
-    streams -= strchr(name->text, ':') != NULL;
+    kz.tree->streams -= strchr(name->text, ':') != NULL;
 }
 
 KzName *kz_add_name(PFLT_VOLUME volume, const char *text, KzNode *node)
@@ -217,19 +217,13 @@ const char *kz_key_of(const KzFile *file)
     return file->name ? file->name->node->key : file->path;
 }
 
-void kz_free_nodes(void);
 static void free_tree(void)
 {
-    while (names) {
-        KzName *gone = names;
-        names = gone->next;
+    while (kz.tree->first) {
+        KzName *gone = kz.tree->first;
+        kz.tree->first = gone->next;
         free(gone);
     }
-    memset(places, 0, sizeof places);
-    streams = 0;
-    kz_free_nodes();
-    kz_free_tunnel();
-    kz_free_calls();
 }
 
-const KzModule kz_tree_module = {.free = free_tree};
+const KzModule kz_tree_module = {KZ_STATE(tree), .free = free_tree};

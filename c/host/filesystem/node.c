@@ -3,13 +3,17 @@
 
 #include "core/clock.h"
 #include "core/memory.h"
+#include "core/module.h"
 #include "filesystem/tree.h"
 
 #include <stdlib.h>
 
-static KzNode *nodes, *places[KZ_NAME_PLACES];
 enum { RECORDS = 1024 };
-static uint16_t sequences[RECORDS]; /* how many files there were of each record, as far as their IDs say */
+
+struct KzNodeState {
+    KzNode *first, *places[KZ_NAME_PLACES];
+    uint16_t sequences[RECORDS]; /* how many files there were of each record, as far as their IDs say */
+};
 
 uint64_t kz_allocated(PFLT_VOLUME volume, uint64_t size)
 {
@@ -26,7 +30,7 @@ void kz_keep_bytes(KzBytes *kept, const void *bytes, size_t length)
 
 static bool is_key(PFLT_VOLUME volume, const char *key)
 {
-    for (const KzNode *one = places[kz_name_place(volume, key)]; one; one = one->same)
+    for (const KzNode *one = kz.node->places[kz_name_place(volume, key)]; one; one = one->same)
         if (one->volume == volume && strcmp(one->key, key) == 0)
             return true;
     return false;
@@ -48,25 +52,25 @@ KzNode *kz_new_node(PFLT_VOLUME volume, const char *text)
     choose_key(made, text);
     made->links = 1;
     made->attributes = FILE_ATTRIBUTE_NORMAL;
-    KzNode **place = &places[kz_name_place(volume, made->key)];
+    KzNode **place = &kz.node->places[kz_name_place(volume, made->key)];
     made->same = *place;
     *place = made;
-    made->next = nodes;
-    if (nodes)
-        nodes->before = made;
-    return nodes = made;
+    made->next = kz.node->first;
+    if (kz.node->first)
+        kz.node->first->before = made;
+    return kz.node->first = made;
 }
 
 void kz_free_node(KzNode *node)
 {
-    KzNode **at = &places[kz_name_place(node->volume, node->key)];
+    KzNode **at = &kz.node->places[kz_name_place(node->volume, node->key)];
     while (*at != node)
         at = &(*at)->same;
     *at = node->same;
     if (node->before)
         node->before->next = node->next;
     else
-        nodes = node->next;
+        kz.node->first = node->next;
     if (node->next)
         node->next->before = node->before;
     free(node->ea.bytes);
@@ -80,7 +84,7 @@ static uint64_t new_id(const KzNode *node)
     uint64_t number = 0xcbf29ce484222325ULL + node->volume->id;
     for (const char *at = node->key; *at; at++)
         number = (number ^ (uint8_t)*at) * 0x100000001b3ULL;
-    uint64_t used = sequences[number % RECORDS]++;
+    uint64_t used = kz.node->sequences[number % RECORDS]++;
     return (number ^ used << 48) & INT64_MAX;
 }
 
@@ -97,10 +101,10 @@ void kz_begin_node(KzNode *node, bool is_directory)
     kz_keep_bytes(&node->security, NULL, 0);
 }
 
-void kz_free_nodes(void);
-void kz_free_nodes(void)
+static void free_nodes(void)
 {
-    while (nodes)
-        kz_free_node(nodes);
-    memset(sequences, 0, sizeof sequences);
+    while (kz.node->first)
+        kz_free_node(kz.node->first);
 }
+
+const KzModule kz_node_module = {KZ_STATE(node), .free = free_nodes};

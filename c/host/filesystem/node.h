@@ -5,6 +5,7 @@
 #include "host.h"
 #include "filesystem/tree.h"
 
+extern const struct KzModule kz_node_module;
 KzNode *kz_new_node(PFLT_VOLUME volume, const char *text);
 void kz_free_node(KzNode *node);
 /* A new file is there from now on. */

@@ -20,11 +20,13 @@ typedef struct Notice {
     NTSTATUS status;
 } Notice;
 
-static Notice *notices;
+struct KzNoticeState {
+    Notice *first;
+};
 
 NTSTATUS kz_wait_for_change(KzOp *op)
 {
-    Notice *made = kz_memory(sizeof *made), **end = &notices;
+    Notice *made = kz_memory(sizeof *made), **end = &kz.notice->first;
     made->op = op;
     while (*end)
         end = &(*end)->next;
@@ -58,7 +60,7 @@ static void tell(Notice *notice, const char *rest, ULONG action)
 
 void kz_notify(const KzName *name, ULONG filter, ULONG action)
 {
-    for (Notice *one = notices; one; one = one->next) {
+    for (Notice *one = kz.notice->first; one; one = one->next) {
         const KzFile *file = one->op->file;
         const char *directory = kz_name_now(file);
         if (one->is_due || !kz_is_below(name, file->volume, directory) || !(one->op->carried->now.DirectoryControl.NotifyDirectory.CompletionFilter & filter))
@@ -71,14 +73,14 @@ void kz_notify(const KzName *name, ULONG filter, ULONG action)
 
 void kz_end_notices(const KzFile *file, PFLT_VOLUME volume)
 {
-    for (Notice *one = notices; one; one = one->next)
+    for (Notice *one = kz.notice->first; one; one = one->next)
         if (!one->is_due && (file ? one->op->file == file : one->op->volume == volume))
             make_due(one, file ? STATUS_NOTIFY_CLEANUP : STATUS_VOLUME_DISMOUNTED);
 }
 
 bool kz_cancel_notice(const KzOp *op)
 {
-    for (Notice *one = notices; one; one = one->next)
+    for (Notice *one = kz.notice->first; one; one = one->next)
         if (one->op == op && !one->is_due) {
             make_due(one, STATUS_CANCELLED);
             return true;
@@ -88,7 +90,7 @@ bool kz_cancel_notice(const KzOp *op)
 
 bool kz_run_notice(void)
 {
-    Notice **at = &notices;
+    Notice **at = &kz.notice->first;
     while (*at && !(*at)->is_due)
         at = &(*at)->next;
     if (!*at)
@@ -102,11 +104,11 @@ bool kz_run_notice(void)
 
 static void free_notices(void)
 {
-    while (notices) {
-        Notice *gone = notices;
-        notices = gone->next;
+    while (kz.notice->first) {
+        Notice *gone = kz.notice->first;
+        kz.notice->first = gone->next;
         free(gone);
     }
 }
 
-const KzModule kz_notice_module = {.free = free_notices};
+const KzModule kz_notice_module = {KZ_STATE(notice), .free = free_notices};

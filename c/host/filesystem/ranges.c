@@ -13,7 +13,9 @@ typedef struct Lock {
     KzRange range;
 } Lock;
 
-static Lock *locks;
+struct KzRangeState {
+    Lock *first;
+};
 
 static bool meets(const Lock *one, const KzFile *file, uint64_t from, uint64_t length)
 {
@@ -26,12 +28,12 @@ NTSTATUS kz_lock_range(KzFile *file, const KzRange *range)
 {
     if (range->length && range->from > UINT64_MAX - range->length)
         return STATUS_INVALID_LOCK_RANGE;
-    for (const Lock *one = locks; one; one = one->next)
+    for (const Lock *one = kz.range->first; one; one = one->next)
         if (meets(one, file, range->from, range->length) && (range->is_exclusive || one->range.is_exclusive))
             return STATUS_LOCK_NOT_GRANTED;
     Lock *made = kz_memory(sizeof *made);
-    *made = (Lock){locks, file, *range};
-    locks = made;
+    *made = (Lock){kz.range->first, file, *range};
+    kz.range->first = made;
     return STATUS_SUCCESS;
 }
 
@@ -42,7 +44,7 @@ static bool is_the_one(const Lock *one, const KzFile *file, const KzRange *range
 
 NTSTATUS kz_unlock_range(KzFile *file, const KzRange *range)
 {
-    for (Lock **at = &locks; *at; at = &(*at)->next) {
+    for (Lock **at = &kz.range->first; *at; at = &(*at)->next) {
         Lock *one = *at;
         if (!is_the_one(one, file, range))
             continue;
@@ -55,7 +57,7 @@ NTSTATUS kz_unlock_range(KzFile *file, const KzRange *range)
 
 NTSTATUS kz_unlock_ranges(KzFile *file, const ULONG *key)
 {
-    for (Lock **at = &locks; *at;) {
+    for (Lock **at = &kz.range->first; *at;) {
         Lock *one = *at;
         if (one->file == file && (!key || one->range.key == *key)) {
             *at = one->next;
@@ -70,7 +72,7 @@ NTSTATUS kz_unlock_ranges(KzFile *file, const ULONG *key)
 /* Reads meet the exclusive locks of others; writes meet shared ones too, also the file object's own. */
 bool kz_is_locked(const KzFile *file, uint64_t from, uint64_t length, bool is_write)
 {
-    for (const Lock *one = locks; file->name && one; one = one->next) {
+    for (const Lock *one = kz.range->first; file->name && one; one = one->next) {
         bool is_against = one->range.is_exclusive ? one->file != file : is_write;
         if (is_against && meets(one, file, from, length))
             return true;
@@ -80,11 +82,11 @@ bool kz_is_locked(const KzFile *file, uint64_t from, uint64_t length, bool is_wr
 
 static void free_ranges(void)
 {
-    while (locks) {
-        Lock *gone = locks;
-        locks = gone->next;
+    while (kz.range->first) {
+        Lock *gone = kz.range->first;
+        kz.range->first = gone->next;
         free(gone);
     }
 }
 
-const KzModule kz_range_module = {.free = free_ranges};
+const KzModule kz_range_module = {KZ_STATE(range), .free = free_ranges};

@@ -2,6 +2,7 @@
 #include "filesystem/tunnel.h"
 
 #include "core/clock.h"
+#include "core/module.h"
 #include "filesystem/name.h"
 #include "filesystem/tree.h"
 
@@ -15,12 +16,14 @@ typedef struct {
     LONGLONG created, when;
 } Tunneled;
 
-static Tunneled tunnel[KEPT];
-static unsigned next;
+struct KzTunnelState {
+    Tunneled kept[KEPT];
+    unsigned next;
+};
 
 void kz_put_in_tunnel(const KzName *name)
 {
-    Tunneled *one = &tunnel[next++ % KEPT];
+    Tunneled *one = &kz.tunnel->kept[kz.tunnel->next++ % KEPT];
     one->volume = name->volume;
     memcpy(one->text, name->text, sizeof one->text);
     one->created = name->node->created;
@@ -29,7 +32,7 @@ void kz_put_in_tunnel(const KzName *name)
 
 void kz_take_from_tunnel(KzName *name)
 {
-    for (Tunneled *one = tunnel; one < tunnel + KEPT; one++)
+    for (Tunneled *one = kz.tunnel->kept; one < kz.tunnel->kept + KEPT; one++)
         if (one->volume == name->volume && kz_is_same_name(name->volume, one->text, name->text, sizeof one->text)) {
             if (kz_time() - one->when <= 15 * SECONDS)
                 name->node->created = one->created;
@@ -37,8 +40,4 @@ void kz_take_from_tunnel(KzName *name)
         }
 }
 
-void kz_free_tunnel(void)
-{
-    memset(tunnel, 0, sizeof tunnel);
-    next = 0;
-}
+const KzModule kz_tunnel_module = {KZ_STATE(tunnel)};

@@ -5,9 +5,9 @@
 #include "host.h"
 #include "filesystem/tree.h"
 
+extern const struct KzModule kz_tunnel_module;
 /* A name that is used anew within 15 seconds has the time of the old file's creation. */
 void kz_put_in_tunnel(const KzName *name);
 void kz_take_from_tunnel(KzName *name);
-void kz_free_tunnel(void);
 
 #endif

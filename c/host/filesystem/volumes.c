@@ -11,12 +11,9 @@
 
 enum { UNITS = 65536, LETTERS = 32 };
 
-static char labels[8][LETTERS + 1];
-
-static void free_labels(void)
-{
-    memset(labels, 0, sizeof labels);
-}
+struct KzLabelState {
+    char of[8][LETTERS + 1];
+};
 
 static LONGLONG free_units(PFLT_VOLUME volume)
 {
@@ -33,7 +30,7 @@ static NTSTATUS query_label(PFLT_VOLUME volume, const KzRoom *room)
         FILE_FS_VOLUME_INFORMATION info;
         WCHAR rest[LETTERS];
     } said = {.info = {.VolumeCreationTime.QuadPart = kz_first_time(), .VolumeSerialNumber = volume->id + 1u, .SupportsObjects = volume->type == FLT_FSTYPE_NTFS}};
-    said.info.VolumeLabelLength = kz_widen(said.info.VolumeLabel, labels[volume->id]);
+    said.info.VolumeLabelLength = kz_widen(said.info.VolumeLabel, kz.label->of[volume->id]);
     return kz_put_answer(room, &said, offsetof(FILE_FS_VOLUME_INFORMATION, VolumeLabel) + said.info.VolumeLabelLength, sizeof said.info);
 }
 
@@ -88,7 +85,7 @@ static NTSTATUS set_label(PFLT_VOLUME volume, const FLT_PARAMETERS *now)
     if (said->VolumeLabelLength > LETTERS * sizeof(WCHAR))
         return STATUS_INVALID_VOLUME_LABEL;
     UNICODE_STRING label = {(USHORT)said->VolumeLabelLength, (USHORT)said->VolumeLabelLength, (PWSTR)said->VolumeLabel};
-    kz_narrow(labels[volume->id], sizeof labels[0], &label);
+    kz_narrow(kz.label->of[volume->id], sizeof kz.label->of[0], &label);
     return STATUS_SUCCESS;
 }
 
@@ -120,4 +117,4 @@ PFLT_VOLUME kz_volume_named(const char *name, const char **rest)
     return *rest && kz.volumes_count ? kz.volumes[0] : NULL;
 }
 
-const KzModule kz_label_module = {.free = free_labels};
+const KzModule kz_label_module = {KZ_STATE(label)};

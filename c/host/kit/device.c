@@ -35,9 +35,11 @@ typedef struct Request {
     bool is_completed;
 } Request;
 
-static KzDevice *devices;
-static Link *links;
-static Request *requests;
+struct KzDeviceState {
+    KzDevice *devices;
+    Link *links;
+    Request *requests;
+};
 
 /* ---- Devices and links. */
 NTSTATUS IoCreateDevice(PDRIVER_OBJECT DriverObject, ULONG DeviceExtensionSize, PUNICODE_STRING DeviceName, DEVICE_TYPE DeviceType, ULONG DeviceCharacteristics,
@@ -49,10 +51,10 @@ NTSTATUS IoCreateDevice(PDRIVER_OBJECT DriverObject, ULONG DeviceExtensionSize, 
     if (!made)
         return STATUS_INSUFFICIENT_RESOURCES;
     KzDevice *device = kz_memory(sizeof *device);
-    *device = (KzDevice){.next = devices, .object = made, .filter = kz_me->place.filter, .is_exclusive = Exclusive};
+    *device = (KzDevice){.next = kz.device->devices, .object = made, .filter = kz_me->place.filter, .is_exclusive = Exclusive};
     if (DeviceName)
         kz_narrow(device->name, sizeof device->name, DeviceName);
-    devices = device;
+    kz.device->devices = device;
     made->Type = 3;
     made->Size = (USHORT)(sizeof *made + DeviceExtensionSize);
     made->DriverObject = DriverObject;
@@ -69,14 +71,14 @@ NTSTATUS IoCreateDevice(PDRIVER_OBJECT DriverObject, ULONG DeviceExtensionSize, 
 
 static void offer_devices(PFLT_FILTER filter)
 {
-    for (KzDevice *one = devices; one; one = one->next)
+    for (KzDevice *one = kz.device->devices; one; one = one->next)
         if (one->filter == filter && !one->is_deleted)
             one->object->Flags &= ~(ULONG)DO_DEVICE_INITIALIZING;
 }
 
 static KzDevice *device_of(PDEVICE_OBJECT object)
 {
-    KzDevice *one = devices;
+    KzDevice *one = kz.device->devices;
     while (one && one->object != object)
         one = one->next;
     return one;
@@ -87,7 +89,7 @@ static void free_if_due(KzDevice *device)
 {
     if (!device->is_deleted || device->handles)
         return;
-    KzDevice **at = &devices;
+    KzDevice **at = &kz.device->devices;
     while (*at != device)
         at = &(*at)->next;
     *at = device->next;
@@ -124,7 +126,7 @@ static const char *name_of_link(const char *name)
 
 static Link **place_of(const char *name)
 {
-    Link **at = &links;
+    Link **at = &kz.device->links;
     while (*at && KzStrnicmp((*at)->name, name, sizeof (*at)->name) != 0)
         at = &(*at)->next;
     return at;
@@ -165,7 +167,7 @@ VOID IofCompleteRequest(PIRP Irp, CCHAR PriorityBoost)
 {
     KZ_INSIDE();
     (void)PriorityBoost;
-    Request *one = requests;
+    Request *one = kz.device->requests;
     while (one && one->irp != Irp)
         one = one->next;
     if (!one || one->is_completed) {
@@ -200,8 +202,8 @@ static NTSTATUS dispatch(KzDevice *device, Request *one)
     KzPlace before = kz_enter(KZ_IN_DISPATCH, worker, device->filter, NULL, NULL, NULL);
     kz_call_at(PASSIVE_LEVEL);
     kz_scheduler->touch(device, 0, KZT_TAKES);
-    one->next = requests;
-    requests = one;
+    one->next = kz.device->requests;
+    kz.device->requests = one;
     unsigned depth = kz_let_driver("dispatch", (PVOID)routine);
     NTSTATUS said = KZ_CALL_DRIVER(routine, device->object, one->irp);
     kz_driver_returned(depth, "dispatch returns");
@@ -213,7 +215,7 @@ static NTSTATUS dispatch(KzDevice *device, Request *one)
     if (said == STATUS_PENDING && !one->is_completed)
         kz_wait_for(is_completed, one, -1, "an IRP to be completed");
     kz_scheduler->touch(one, 0, KZT_TAKES);
-    Request **at = &requests;
+    Request **at = &kz.device->requests;
     while (*at != one)
         at = &(*at)->next;
     *at = one->next;
@@ -306,7 +308,7 @@ static KzDevice *find(const char *name, const char **rest)
 {
     size_t longest = 0;
     KzDevice *found = NULL;
-    for (KzDevice *one = devices; one; one = one->next) {
+    for (KzDevice *one = kz.device->devices; one; one = one->next) {
         size_t length = strlen(one->name);
         if (!one->is_deleted && length > longest && KzStrnicmp(name, one->name, length) == 0 && (name[length] == '/' || !name[length])) {
             found = one;
@@ -375,16 +377,16 @@ void kz_close_device(KzDeviceFile *file)
 
 static void free_devices(void)
 {
-    while (devices) {
-        KzDevice *one = devices;
-        devices = one->next;
+    while (kz.device->devices) {
+        KzDevice *one = kz.device->devices;
+        kz.device->devices = one->next;
         free(one);
     }
-    while (links) {
-        Link *one = links;
-        links = one->next;
+    while (kz.device->links) {
+        Link *one = kz.device->links;
+        kz.device->links = one->next;
         free(one);
     }
 }
 
-const KzModule kz_device_module = {.free = free_devices, .filter_begins = offer_devices};
+const KzModule kz_device_module = {KZ_STATE(device), .free = free_devices, .filter_begins = offer_devices};

@@ -7,17 +7,19 @@
 #include "core/state.h"
 #include "core/told.h"
 
-static PRKDPC dpcs[64];
-static size_t dpcs_count;
-static unsigned dpcs_running;
+struct KzDpcState {
+    PRKDPC queue[64];
+    size_t count;
+    unsigned running;
+};
 static const int dpcs_ended; /* stands for what ended of them: whoever waits for it comes after */
 
 static bool is_queued(const KDPC *dpc)
 {
     size_t at = 0;
-    while (at < dpcs_count && dpcs[at] != dpc)
+    while (at < kz.dpc->count && kz.dpc->queue[at] != dpc)
         at++;
-    return at < dpcs_count;
+    return at < kz.dpc->count;
 }
 
 VOID KeInitializeDpc(PRKDPC Dpc, PKDEFERRED_ROUTINE DeferredRoutine, PVOID DeferredContext)
@@ -37,23 +39,23 @@ BOOLEAN KeInsertQueueDpc(PRKDPC Dpc, PVOID SystemArgument1, PVOID SystemArgument
         return FALSE;
     }
     kz_scheduler->touch(Dpc, 0, KZT_GIVES); /* also for one that is queued already: it runs after this call */
-    if (Dpc->DpcData || dpcs_count == sizeof dpcs / sizeof dpcs[0])
+    if (Dpc->DpcData || kz.dpc->count == sizeof kz.dpc->queue / sizeof kz.dpc->queue[0])
         return FALSE;
     Dpc->SystemArgument1 = SystemArgument1;
     Dpc->SystemArgument2 = SystemArgument2;
     Dpc->DpcData = kz_me->place.filter;
     if (!Dpc->DpcData)
         Dpc->DpcData = Dpc;
-    dpcs[dpcs_count++] = Dpc;
+    kz.dpc->queue[kz.dpc->count++] = Dpc;
     return TRUE;
 }
 
 BOOLEAN KeRemoveQueueDpc(PRKDPC Dpc)
 {
     KZ_CALL();
-    for (size_t at = 0; at < dpcs_count; at++)
-        if (dpcs[at] == Dpc) {
-            memmove(dpcs + at, dpcs + at + 1, (--dpcs_count - at) * sizeof dpcs[0]);
+    for (size_t at = 0; at < kz.dpc->count; at++)
+        if (kz.dpc->queue[at] == Dpc) {
+            memmove(kz.dpc->queue + at, kz.dpc->queue + at + 1, (--kz.dpc->count - at) * sizeof kz.dpc->queue[0]);
             Dpc->DpcData = NULL;
             kz_scheduler->touch(Dpc, 0, KZT_TAKES);
             return TRUE;
@@ -63,25 +65,25 @@ BOOLEAN KeRemoveQueueDpc(PRKDPC Dpc)
 
 bool kz_has_dpc(void)
 {
-    return dpcs_count > 0;
+    return kz.dpc->count > 0;
 }
 
 /* The call that has waited longest, in the name of the filter that queued it: KeInsertQueueDpc leaves that in DpcData, or the DPC itself where it was no filter. */
 bool kz_run_dpc(void)
 {
-    if (!dpcs_count)
+    if (!kz.dpc->count)
         return false;
-    PRKDPC dpc = dpcs[0];
+    PRKDPC dpc = kz.dpc->queue[0];
     PFLT_FILTER filter = dpc->DpcData == dpc ? NULL : dpc->DpcData;
     KeRemoveQueueDpc(dpc);
-    dpcs_running++;
+    kz.dpc->running++;
     KzPlace before = kz_enter(KZ_IN_TIMER, kz_worker(), filter, NULL, NULL, NULL);
     kz_call_at(DISPATCH_LEVEL);
     unsigned depth = kz_let_driver("timer", dpc->DeferredRoutine);
     KZ_CALL_DRIVER(dpc->DeferredRoutine, dpc, dpc->DeferredContext, dpc->SystemArgument1, dpc->SystemArgument2);
     kz_driver_returned(depth, "timer returns");
     kz_leave(before);
-    dpcs_running--;
+    kz.dpc->running--;
     kz.changes++;
     kz_scheduler->touch(&dpcs_ended, 0, KZT_GIVES);
     return true;
@@ -96,7 +98,7 @@ void kz_run_dpcs(void)
 static bool are_dpcs_over(void *unused)
 {
     (void)unused;
-    return !dpcs_count && !dpcs_running;
+    return !kz.dpc->count && !kz.dpc->running;
 }
 
 /* Beside others it waits for those that are queued, and for those that run. */
@@ -112,17 +114,11 @@ VOID KeFlushQueuedDpcs(VOID)
 
 void kz_check_dpcs(const void *memory, size_t size)
 {
-    for (size_t at = dpcs_count; at-- > 0;)
-        if ((uintptr_t)dpcs[at] - (uintptr_t)memory < size) {
-            kz_tell_of(dpcs[at], KZM_TIMER_LEFT, "KeRemoveQueueDpc", "never called for a DPC that is queued, whose memory is freed");
-            KeRemoveQueueDpc(dpcs[at]);
+    for (size_t at = kz.dpc->count; at-- > 0;)
+        if ((uintptr_t)kz.dpc->queue[at] - (uintptr_t)memory < size) {
+            kz_tell_of(kz.dpc->queue[at], KZM_TIMER_LEFT, "KeRemoveQueueDpc", "never called for a DPC that is queued, whose memory is freed");
+            KeRemoveQueueDpc(kz.dpc->queue[at]);
         }
 }
 
-static void free_dpcs(void)
-{
-    dpcs_count = 0;
-    dpcs_running = 0;
-}
-
-const KzModule kz_dpc_module = {.free = free_dpcs, .goes_on = kz_run_dpc};
+const KzModule kz_dpc_module = {KZ_STATE(dpc), .goes_on = kz_run_dpc};

@@ -28,7 +28,9 @@ typedef struct Named {
     PVOID texts[2]; /* the driver may change what it is shown */
 } Named;
 
-static Named *all;
+struct KzNameState {
+    Named *first;
+};
 
 static void device_name(char *room, size_t size, PFLT_VOLUME volume)
 {
@@ -62,8 +64,8 @@ static NTSTATUS name_of(PFLT_VOLUME volume, const char *path, FLT_FILE_NAME_OPTI
     made->shown.Format = options & FLT_VALID_FILE_NAME_FORMATS;
     made->references = 1;
     made->place = kz_me->place;
-    made->next = all;
-    all = made;
+    made->next = kz.name->first;
+    kz.name->first = made;
     *shown = &made->shown;
     return STATUS_SUCCESS;
 }
@@ -207,7 +209,7 @@ NTSTATUS FltGetTunneledName(PFLT_CALLBACK_DATA CallbackData, PFLT_FILE_NAME_INFO
 
 static Named **find(PFLT_FILE_NAME_INFORMATION shown, const char *call)
 {
-    for (Named **at = &all; *at; at = &(*at)->next)
+    for (Named **at = &kz.name->first; *at; at = &(*at)->next)
         if (&(*at)->shown == shown)
             return at;
     kz_tell(KZM_NO_NAME, call, "no name information (released twice?)");
@@ -354,7 +356,7 @@ NTSTATUS IoVolumeDeviceToDosName(PVOID VolumeDeviceObject, PUNICODE_STRING DosNa
 /* ---- The end. */
 void kz_tell_names(PFLT_FILTER filter)
 {
-    for (Named *one = all; one; one = one->next) {
+    for (Named *one = kz.name->first; one; one = one->next) {
         if (one->place.filter != filter)
             continue;
         KzPlace before = kz_enter_again(&one->place);
@@ -365,11 +367,11 @@ void kz_tell_names(PFLT_FILTER filter)
 
 static void free_names(void)
 {
-    while (all) {
-        Named *one = all;
-        all = one->next;
+    while (kz.name->first) {
+        Named *one = kz.name->first;
+        kz.name->first = one->next;
         free_named(one);
     }
 }
 
-const KzModule kz_name_module = {.free = free_names};
+const KzModule kz_name_module = {KZ_STATE(name), .free = free_names};

@@ -30,13 +30,16 @@ typedef struct Routine {
     bool is_gone; /* it isn't called any more: whoever takes it off waits until it has returned */
 } Routine;
 
-static Routine *routines;
-static uint64_t last_routine;
+struct KzRoutineState {
+    Routine *first;
+    uint64_t last; /* number */
+    UCHAR image[16]; /* the last that was asked for */
+};
 
 /* ---- Registering. */
 static Routine **place_of(Kind kind, PVOID routine)
 {
-    Routine **at = &routines;
+    Routine **at = &kz.routine->first;
     while (*at && !((*at)->kind == kind && (*at)->routine == routine && !(*at)->is_gone))
         at = &(*at)->next;
     return at;
@@ -50,7 +53,7 @@ static NTSTATUS add(Kind kind, PVOID routine, const char *call)
     if (kz_refuses(KZ_CHOICE_POOL, call))
         return STATUS_INSUFFICIENT_RESOURCES;
     *at = kz_memory(sizeof **at);
-    **at = (Routine){.kind = kind, .routine = routine, .filter = kz_me->place.filter, .place = kz_me->place, .number = ++last_routine};
+    **at = (Routine){.kind = kind, .routine = routine, .filter = kz_me->place.filter, .place = kz_me->place, .number = ++kz.routine->last};
     kz_scheduler->touch(routine, 0, KZT_GIVES);
     return STATUS_SUCCESS;
 }
@@ -62,7 +65,7 @@ static bool has_returned(void *routine)
 
 static NTSTATUS take_off(Kind kind, PVOID routine)
 {
-    Routine *gone = *place_of(kind, routine), **at = &routines;
+    Routine *gone = *place_of(kind, routine), **at = &kz.routine->first;
     if (!gone)
         return STATUS_PROCEDURE_NOT_FOUND;
     gone->is_gone = true;
@@ -152,7 +155,7 @@ static void call(Routine *one, const Event *event)
 /* Others may be taken off while one runs. */
 static Routine *routine_behind(uint64_t last, bool is_image)
 {
-    Routine *one = routines;
+    Routine *one = kz.routine->first;
     while (one && !(one->number > last && !one->is_gone && (one->kind == IMAGE) == is_image))
         one = one->next;
     return one;
@@ -245,10 +248,9 @@ NTSTATUS SeLocateProcessImageName(PEPROCESS Process, PUNICODE_STRING *ImageFileN
 PUCHAR PsGetProcessImageFileName(PEPROCESS Process)
 {
     KZ_INSIDE();
-    static UCHAR name[16];
     const char *image = image_of(Process), *slash = strrchr(image, '/');
-    snprintf((char *)name, 15, "%.14s", Process == PsInitialSystemProcess ? "System" : slash ? slash + 1 : image);
-    return name;
+    snprintf((char *)kz.routine->image, 15, "%.14s", Process == PsInitialSystemProcess ? "System" : slash ? slash + 1 : image);
+    return kz.routine->image;
 }
 
 HANDLE PsGetProcessInheritedFromUniqueProcessId(PEPROCESS Process)
@@ -416,7 +418,7 @@ VOID ObUnRegisterCallbacks(PVOID RegistrationHandle)
 
 static bool has_routines_of(PFLT_FILTER filter)
 {
-    const Routine *one = routines;
+    const Routine *one = kz.routine->first;
     while (one && one->filter != filter)
         one = one->next;
     return one != NULL;
@@ -426,7 +428,7 @@ static bool has_routines_of(PFLT_FILTER filter)
 static void tell_routines(PFLT_FILTER filter)
 {
     static const char *const calls[] = {"PsSetCreateProcessNotifyRoutine", "PsSetCreateProcessNotifyRoutineEx", "PsRemoveLoadImageNotifyRoutine"};
-    for (Routine **at = &routines; *at;) {
+    for (Routine **at = &kz.routine->first; *at;) {
         Routine *one = *at;
         if (one->filter != filter) {
             at = &one->next;
@@ -442,12 +444,11 @@ static void tell_routines(PFLT_FILTER filter)
 
 static void free_routines(void)
 {
-    while (routines) {
-        Routine *one = routines;
-        routines = one->next;
+    while (kz.routine->first) {
+        Routine *one = kz.routine->first;
+        kz.routine->first = one->next;
         free(one);
     }
-    last_routine = 0;
 }
 
-const KzModule kz_routine_module = {.free = free_routines, .filter_ends = tell_routines, .has_any_of = has_routines_of};
+const KzModule kz_routine_module = {KZ_STATE(routine), .free = free_routines, .filter_ends = tell_routines, .has_any_of = has_routines_of};

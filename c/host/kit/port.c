@@ -32,28 +32,30 @@ struct _FLT_PORT {
     KzPlace place; /* where it was made */
 };
 
-static PFLT_PORT servers, connections;
-static uint64_t last_message;
-static UCHAR descriptor;
+struct KzPortState {
+    PFLT_PORT servers, connections;
+    uint64_t last; /* message */
+    UCHAR descriptor;
+};
 
 /* Descriptors aren't looked into: whoever connects may. */
 NTSTATUS FltBuildDefaultSecurityDescriptor(PSECURITY_DESCRIPTOR *SecurityDescriptor, ACCESS_MASK DesiredAccess)
 {
     KZ_INSIDE();
     (void)DesiredAccess;
-    *SecurityDescriptor = &descriptor;
+    *SecurityDescriptor = &kz.port->descriptor;
     return STATUS_SUCCESS;
 }
 
 VOID FltFreeSecurityDescriptor(PSECURITY_DESCRIPTOR SecurityDescriptor)
 {
-    if (SecurityDescriptor != &descriptor)
+    if (SecurityDescriptor != &kz.port->descriptor)
         kz_tell(KZM_NO_FILTER_OBJECT, __func__, "no security descriptor of FltBuildDefaultSecurityDescriptor");
 }
 
 static PFLT_PORT server_of(const char *name)
 {
-    PFLT_PORT one = servers;
+    PFLT_PORT one = kz.port->servers;
     while (one && KzStricmp(one->name, name) != 0)
         one = one->next;
     return one;
@@ -78,7 +80,7 @@ NTSTATUS FltCreateCommunicationPort(PFLT_FILTER Filter, PFLT_PORT *ServerPort, P
     if (kz_refuses(KZ_CHOICE_POOL, __func__))
         return STATUS_INSUFFICIENT_RESOURCES;
     PFLT_PORT made = kz_memory(sizeof *made);
-    *made = (struct _FLT_PORT){.next = servers,
+    *made = (struct _FLT_PORT){.next = kz.port->servers,
                                .filter = Filter,
                                .cookie = ServerPortCookie,
                                .connect = ConnectNotifyCallback,
@@ -87,7 +89,7 @@ NTSTATUS FltCreateCommunicationPort(PFLT_FILTER Filter, PFLT_PORT *ServerPort, P
                                .most = MaxConnections,
                                .place = kz_me->place};
     memcpy(made->name, name, sizeof name);
-    servers = made;
+    kz.port->servers = made;
     *ServerPort = made;
     kz_scheduler->touch(made, 0, KZT_GIVES);
     return STATUS_SUCCESS;
@@ -102,12 +104,12 @@ static bool is_quiet(void *port)
 VOID FltCloseCommunicationPort(PFLT_PORT ServerPort)
 {
     KZ_CALL();
-    for (PFLT_PORT *at = &servers; *at; at = &(*at)->next)
+    for (PFLT_PORT *at = &kz.port->servers; *at; at = &(*at)->next)
         if (*at == ServerPort) {
             *at = ServerPort->next;
             kz_wait_for(is_quiet, ServerPort, -1, "a connect callback to return");
             kz_scheduler->touch(ServerPort, 0, KZT_TAKES);
-            for (PFLT_PORT one = connections; one; one = one->next)
+            for (PFLT_PORT one = kz.port->connections; one; one = one->next)
                 one->server = one->server == ServerPort ? NULL : one->server;
             free(ServerPort);
             return;
@@ -149,8 +151,8 @@ NTSTATUS kz_connect_port(const char *name, const void *context, USHORT size, voi
     if (server->connections >= server->most)
         return STATUS_CONNECTION_COUNT_LIMIT;
     made = kz_memory(sizeof *made);
-    *made = (struct _FLT_PORT){.next = connections, .filter = server->filter, .server = server, .disconnect = server->disconnect, .message = server->message, .serve = serve};
-    connections = made;
+    *made = (struct _FLT_PORT){.next = kz.port->connections, .filter = server->filter, .server = server, .disconnect = server->disconnect, .message = server->message, .serve = serve};
+    kz.port->connections = made;
     server->connections++;
     void *captured = size ? kz_take_memory(KZK_BUFFER, size, 0, 0) : NULL;
     if (captured)
@@ -224,7 +226,7 @@ bool kz_is_port_over(PFLT_PORT port)
 
 static bool is_connection(PFLT_PORT port)
 {
-    PFLT_PORT one = connections;
+    PFLT_PORT one = kz.port->connections;
     while (one && one != port)
         one = one->next;
     return one != NULL;
@@ -301,7 +303,7 @@ NTSTATUS FltSendMessage(PFLT_FILTER Filter, PFLT_PORT *ClientPort, PVOID SenderB
     if (kz_refuses(KZ_CHOICE_POOL, __func__))
         return STATUS_INSUFFICIENT_RESOURCES;
     kz_scheduler->touch(port, 0, KZT_TAKES);
-    KzPortMessage message = {.port = port, .id = ++last_message, .bytes = SenderBuffer, .length = SenderBufferLength, .reply = ReplyBuffer, .room = ReplyBuffer && ReplyLength ? *ReplyLength : 0};
+    KzPortMessage message = {.port = port, .id = ++kz.port->last, .bytes = SenderBuffer, .length = SenderBufferLength, .reply = ReplyBuffer, .room = ReplyBuffer && ReplyLength ? *ReplyLength : 0};
     int64_t milliseconds = milliseconds_of(Timeout);
     add(&message);
     kz_wait_for(is_over, &message, milliseconds, ReplyBuffer ? "FltSendMessage, which is to be answered" : "FltSendMessage");
@@ -353,7 +355,7 @@ bool kz_reply_message(PFLT_PORT port, uint64_t id, NTSTATUS status, const void *
 /* ---- The end of a filter. Its connections end, once no callback of theirs runs any more: a program may be about to disconnect. */
 static void disconnect_ports(PFLT_FILTER filter)
 {
-    for (PFLT_PORT one = connections; one; one = one->next)
+    for (PFLT_PORT one = kz.port->connections; one; one = one->next)
         if (one->filter == filter && !one->is_refused) {
             one->is_ending = true;
             kz_wait_for(is_quiet, one, -1, "a callback of a port to return");
@@ -371,10 +373,10 @@ static void tell_leak(PFLT_PORT port, const char *call, const char *what)
 
 static bool has_ports_of(PFLT_FILTER filter)
 {
-    for (PFLT_PORT one = servers; one; one = one->next)
+    for (PFLT_PORT one = kz.port->servers; one; one = one->next)
         if (one->filter == filter)
             return true;
-    for (PFLT_PORT one = connections; one; one = one->next)
+    for (PFLT_PORT one = kz.port->connections; one; one = one->next)
         if (one->filter == filter && !one->is_closed)
             return true;
     return false;
@@ -382,10 +384,10 @@ static bool has_ports_of(PFLT_FILTER filter)
 
 static void tell_ports(PFLT_FILTER filter)
 {
-    for (PFLT_PORT one = servers; one; one = one->next)
+    for (PFLT_PORT one = kz.port->servers; one; one = one->next)
         if (one->filter == filter)
             tell_leak(one, "FltCloseCommunicationPort", "port");
-    for (PFLT_PORT one = connections; one; one = one->next)
+    for (PFLT_PORT one = kz.port->connections; one; one = one->next)
         if (one->filter == filter && !one->is_refused && !one->is_closed) {
             one->is_closed = true;
             tell_leak(one, "FltCloseClientPort", "connection");
@@ -403,9 +405,8 @@ static void free_all(PFLT_PORT *list)
 
 static void free_ports(void)
 {
-    free_all(&servers);
-    free_all(&connections);
-    last_message = 0;
+    free_all(&kz.port->servers);
+    free_all(&kz.port->connections);
 }
 
-const KzModule kz_port_module = {.free = free_ports, .filter_unregisters = disconnect_ports, .filter_ends = tell_ports, .has_any_of = has_ports_of};
+const KzModule kz_port_module = {KZ_STATE(port), .free = free_ports, .filter_unregisters = disconnect_ports, .filter_ends = tell_ports, .has_any_of = has_ports_of};

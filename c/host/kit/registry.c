@@ -26,8 +26,10 @@ typedef struct Key {
     char name[256];
 } Key;
 
-static Value *values;
-static Key *keys;
+struct KzRegistryState {
+    Value *values;
+    Key *keys;
+};
 
 static char *copied(const char *text, size_t length)
 {
@@ -39,7 +41,7 @@ static char *copied(const char *text, size_t length)
 
 static void add(const char *key, const char *name, size_t name_length, ULONG type, const void *data, size_t length)
 {
-    Value **at = &values;
+    Value **at = &kz.registry->values;
     while (*at)
         at = &(*at)->next;
     Value *made = kz_memory(sizeof *made);
@@ -146,7 +148,7 @@ static void narrow(char *room, size_t size, PCUNICODE_STRING text)
 
 static Key *key_of(HANDLE handle, const char *call)
 {
-    for (Key *one = keys; one; one = one->next)
+    for (Key *one = kz.registry->keys; one; one = one->next)
         if (one == handle)
             return one;
     kz_tell(KZM_NO_HANDLE, call, "a handle that isn't open (closed twice?)");
@@ -160,7 +162,7 @@ static bool is_there(const char *name)
     for (size_t at = 0; at < kz.drivers_count; at++)
         if (KzStricmp(kz.drivers[at].name, name) == 0)
             return true;
-    for (Value *one = values; one; one = one->next)
+    for (Value *one = kz.registry->values; one; one = one->next)
         if (strncmp(one->key, name, length) == 0 && (!one->key[length] || one->key[length] == '\\'))
             return true;
     return false;
@@ -182,9 +184,9 @@ static NTSTATUS open_key(PHANDLE handle, POBJECT_ATTRIBUTES attributes, bool is_
     if (!is_made && !is_there(name))
         return STATUS_OBJECT_NAME_NOT_FOUND;
     Key *made = kz_memory(sizeof *made);
-    *made = (Key){.next = keys, .place = kz_me->place};
+    *made = (Key){.next = kz.registry->keys, .place = kz_me->place};
     memcpy(made->name, name, sizeof name);
-    keys = made;
+    kz.registry->keys = made;
     *handle = made;
     return STATUS_SUCCESS;
 }
@@ -222,7 +224,7 @@ NTSTATUS ZwClose(HANDLE Handle)
     Key *gone = key_of(Handle, __func__);
     if (!gone)
         return STATUS_INVALID_HANDLE;
-    for (Key **at = &keys; *at; at = &(*at)->next)
+    for (Key **at = &kz.registry->keys; *at; at = &(*at)->next)
         if (*at == gone) {
             *at = gone->next;
             break;
@@ -240,7 +242,7 @@ NTSTATUS ZwFlushKey(HANDLE KeyHandle)
 /* ---- Values. */
 static Value **find(const char *key, const char *name)
 {
-    Value **at = &values;
+    Value **at = &kz.registry->values;
     while (*at && (KzStricmp((*at)->key, key) != 0 || strcmp((*at)->name, name) != 0 || (*at)->type == REG_NONE))
         at = &(*at)->next;
     return at;
@@ -295,7 +297,7 @@ NTSTATUS ZwEnumerateValueKey(HANDLE KeyHandle, ULONG Index, KEY_VALUE_INFORMATIO
     Key *key = key_of(KeyHandle, __func__);
     if (!key)
         return STATUS_INVALID_HANDLE;
-    for (Value *one = values; one; one = one->next)
+    for (Value *one = kz.registry->values; one; one = one->next)
         if (one->type != REG_NONE && strcmp(one->key, key->name) == 0 && Index-- == 0)
             return show(one, KeyValueInformationClass, KeyValueInformation, Length, ResultLength);
     return STATUS_NO_MORE_ENTRIES;
@@ -406,7 +408,7 @@ NTSTATUS RtlQueryRegistryValues(ULONG RelativeTo, PCWSTR Path, PRTL_QUERY_REGIST
 /* ---- The end. */
 static void tell_keys(void)
 {
-    for (Key *one = keys; one; one = one->next) {
+    for (Key *one = kz.registry->keys; one; one = one->next) {
         KzPlace before = kz_enter_again(&one->place);
         kz_tell(KZM_HANDLE_LEAK, "ZwClose", "never called for the key %s", one->name);
         kz_me->place = before;
@@ -415,13 +417,13 @@ static void tell_keys(void)
 
 static void free_registry(void)
 {
-    while (values)
-        drop(&values);
-    while (keys) {
-        Key *one = keys;
-        keys = one->next;
+    while (kz.registry->values)
+        drop(&kz.registry->values);
+    while (kz.registry->keys) {
+        Key *one = kz.registry->keys;
+        kz.registry->keys = one->next;
         free(one);
     }
 }
 
-const KzModule kz_registry_module = {.free = free_registry, .left = tell_keys};
+const KzModule kz_registry_module = {KZ_STATE(registry), .free = free_registry, .left = tell_keys};

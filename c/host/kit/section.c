@@ -22,7 +22,9 @@ typedef struct Section {
     uint64_t size;
 } Section;
 
-static Section *sections;
+struct KzSectionState {
+    Section *first;
+};
 
 NTSTATUS FltRegisterForDataScan(PFLT_INSTANCE Instance)
 {
@@ -64,8 +66,8 @@ NTSTATUS FltCreateSectionForDataScan(PFLT_INSTANCE Instance, PFILE_OBJECT FileOb
         return status;
     }
     kz_tell(KZM_SECTION, __func__, "the section is a copy: what is written later isn't in it, and no conflict is notified");
-    made->next = sections;
-    sections = made;
+    made->next = kz.section->first;
+    kz.section->first = made;
     FltReferenceContext(SectionContext); /* the section has it, until it is closed */
     *SectionHandle = kz_open_handle(made, "a section", ObjectAttributes ? ObjectAttributes->Attributes : 0);
     *SectionObject = made;
@@ -77,7 +79,7 @@ NTSTATUS FltCreateSectionForDataScan(PFLT_INSTANCE Instance, PFILE_OBJECT FileOb
 
 static Section *with_context(PFLT_CONTEXT context)
 {
-    Section *one = sections;
+    Section *one = kz.section->first;
     while (one && one->context != context)
         one = one->next;
     return one;
@@ -98,7 +100,7 @@ NTSTATUS FltGetSectionContext(PFLT_INSTANCE Instance, PFILE_OBJECT FileObject, P
 {
     KZ_CALL();
     (void)Instance;
-    Section *one = sections;
+    Section *one = kz.section->first;
     while (one && !(one->context && one->file == FileObject && one->filter == kz_me->place.filter))
         one = one->next;
     *Context = one ? one->context : NULL;
@@ -111,7 +113,7 @@ NTSTATUS FltGetSectionContext(PFLT_INSTANCE Instance, PFILE_OBJECT FileObject, P
 /* ---- Views. A section's memory stays to the end of a run. */
 static Section *section_of(PVOID object)
 {
-    Section *one = sections;
+    Section *one = kz.section->first;
     while (one && one != object)
         one = one->next;
     return one;
@@ -144,7 +146,7 @@ NTSTATUS ZwUnmapViewOfSection(HANDLE ProcessHandle, PVOID BaseAddress)
 {
     KZ_CALL();
     (void)ProcessHandle;
-    for (const Section *one = sections; one; one = one->next)
+    for (const Section *one = kz.section->first; one; one = one->next)
         if ((uint8_t *)BaseAddress >= one->bytes && (uint8_t *)BaseAddress < one->bytes + one->size)
             return STATUS_SUCCESS;
     return STATUS_NOT_MAPPED_VIEW;
@@ -167,12 +169,12 @@ NTSTATUS ObOpenObjectByPointer(PVOID Object, ULONG HandleAttributes, PVOID Passe
 
 static void free_sections(void)
 {
-    while (sections) {
-        Section *one = sections;
-        sections = one->next;
+    while (kz.section->first) {
+        Section *one = kz.section->first;
+        kz.section->first = one->next;
         free(one->bytes);
         free(one);
     }
 }
 
-const KzModule kz_section_module = {.free = free_sections};
+const KzModule kz_section_module = {KZ_STATE(section), .free = free_sections};

@@ -3,8 +3,8 @@
 
 #include <initguid.h>
 
-static LUID_AND_ATTRIBUTES none;
-static SE_EXPORTS exports = {.SeTcbPrivilege = {7, 0},
+static const LUID_AND_ATTRIBUTES none;
+static const SE_EXPORTS exports = {.SeTcbPrivilege = {7, 0},
                              .SeSecurityPrivilege = {8, 0},
                              .SeTakeOwnershipPrivilege = {9, 0},
                              .SeLoadDriverPrivilege = {10, 0},
@@ -12,12 +12,12 @@ static SE_EXPORTS exports = {.SeTcbPrivilege = {7, 0},
                              .SeRestorePrivilege = {18, 0},
                              .SeShutdownPrivilege = {19, 0},
                              .SeDebugPrivilege = {20, 0}};
-static BOOLEAN is_enabled = FALSE, is_absent = TRUE;
-static POBJECT_TYPE driver_type = (POBJECT_TYPE)&none;
+static const BOOLEAN is_enabled = FALSE, is_absent = TRUE;
+static const POBJECT_TYPE driver_type = (POBJECT_TYPE)&none;
 
-PSE_EXPORTS SeExports = &exports;
-POBJECT_TYPE *IoDriverObjectType = &driver_type;
-PBOOLEAN KdDebuggerEnabled = &is_enabled, KdDebuggerNotPresent = &is_absent;
+PSE_EXPORTS SeExports = (PSE_EXPORTS)&exports;
+POBJECT_TYPE *IoDriverObjectType = (POBJECT_TYPE *)&driver_type;
+PBOOLEAN KdDebuggerEnabled = (PBOOLEAN)&is_enabled, KdDebuggerNotPresent = (PBOOLEAN)&is_absent;
 PVOID MmHighestUserAddress = (PVOID)0x00007FFFFFFEFFFFULL;
 ULONG_PTR MmUserProbeAddress = MM_USER_PROBE_ADDRESS;
 
@@ -115,8 +115,7 @@ ULONG RtlRandomEx(PULONG Seed)
 NTSTATUS ExUuidCreate(GUID *Uuid)
 {
     KZ_INSIDE();
-    static ULONG count;
-    *Uuid = (GUID){++count, 0x4b41, 0x4a44, {0x80, 0, 0, 0, 0, 0, 0, 0}};
+    *Uuid = (GUID){++kz.uuids, 0x4b41, 0x4a44, {0x80, 0, 0, 0, 0, 0, 0, 0}};
     return STATUS_SUCCESS;
 }
 

@@ -28,8 +28,10 @@ typedef struct Own {
     bool has_ended;
 } Own;
 
-static Own *all;
-static uint64_t last_id;
+struct KzThreadState {
+    Own *first;
+    uint64_t last; /* identifier, of four apart */
+};
 
 static void live(void *given)
 {
@@ -48,7 +50,7 @@ static void live(void *given)
 
 static Own *mine(void)
 {
-    Own *one = all;
+    Own *one = kz.thread->first;
     while (one && !(kz_me->beside && one->thread == kz_me->beside))
         one = one->next;
     return one;
@@ -62,9 +64,9 @@ NTSTATUS PsCreateSystemThread(PHANDLE ThreadHandle, ULONG DesiredAccess, POBJECT
     *ThreadHandle = NULL;
     if (kz_refuses(KZ_CHOICE_POOL, __func__))
         return STATUS_INSUFFICIENT_RESOURCES;
-    uint64_t id = 12 + last_id;
+    uint64_t id = 12 + kz.thread->last;
     Own *made = kz_memory(sizeof *made);
-    *made = (Own){.next = all, .filter = kz_me->place.filter, .routine = StartRoutine, .context = StartContext, .place = kz_me->place};
+    *made = (Own){.next = kz.thread->first, .filter = kz_me->place.filter, .routine = StartRoutine, .context = StartContext, .place = kz_me->place};
     made->object = kz_thread_object(4, id);
     made->thread = kz_new_thread("thread", 4, id, live, made);
     if (!made->thread) {
@@ -72,8 +74,8 @@ NTSTATUS PsCreateSystemThread(PHANDLE ThreadHandle, ULONG DesiredAccess, POBJECT
         kz_tell(KZM_THREAD, __func__, "more than %u threads run beside the requests: it answers STATUS_INSUFFICIENT_RESOURCES", KZ_THREADS);
         return STATUS_INSUFFICIENT_RESOURCES;
     }
-    last_id += 4;
-    all = made;
+    kz.thread->last += 4;
+    kz.thread->first = made;
     if (ClientId)
         *ClientId = (CLIENT_ID){ULongToHandle(4), ULongToHandle(id)};
     *ThreadHandle = kz_open_handle(made->object, "a thread", OBJ_KERNEL_HANDLE);
@@ -97,7 +99,7 @@ NTSTATUS PsTerminateSystemThread(NTSTATUS ExitStatus)
 
 static bool has_threads_of(PFLT_FILTER filter)
 {
-    const Own *one = all;
+    const Own *one = kz.thread->first;
     while (one && !(one->filter == filter && !one->has_ended))
         one = one->next;
     return one != NULL;
@@ -106,7 +108,7 @@ static bool has_threads_of(PFLT_FILTER filter)
 /* ---- A filter is unloaded, and a run ends. */
 static void tell_threads(PFLT_FILTER filter)
 {
-    for (Own *one = all; one; one = one->next)
+    for (Own *one = kz.thread->first; one; one = one->next)
         if (one->filter == filter && !one->has_ended) {
             KzPlace before = kz_enter_again(&one->place);
             kz_tell(KZM_THREAD_LEFT, "PsCreateSystemThread", "the thread that was made here runs still: it would run in a driver that is gone");
@@ -119,12 +121,11 @@ static void tell_threads(PFLT_FILTER filter)
 /* Behind the end of all threads. */
 static void free_own_threads(void)
 {
-    while (all) {
-        Own *one = all;
-        all = one->next;
+    while (kz.thread->first) {
+        Own *one = kz.thread->first;
+        kz.thread->first = one->next;
         free(one);
     }
-    last_id = 0;
 }
 
-const KzModule kz_thread_module = {.free = free_own_threads, .filter_ends = tell_threads, .has_any_of = has_threads_of};
+const KzModule kz_thread_module = {KZ_STATE(thread), .free = free_own_threads, .filter_ends = tell_threads, .has_any_of = has_threads_of};

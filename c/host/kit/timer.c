@@ -11,24 +11,26 @@
 #include "kit/dispatcher.h"
 #include "kit/dpc.h"
 
-static struct {
-    PKTIMER timer;
-    KzPlace place; /* where it was set */
-} timers[64];
-static size_t timers_count;
-static unsigned waiters, fires_left;
+struct KzTimerState {
+    struct {
+        PKTIMER timer;
+        KzPlace place; /* where it was set */
+    } set[64];
+    size_t count;
+    unsigned waiters, fires_left;
+};
 
 bool kz_has_timer(void)
 {
-    return timers_count > 0;
+    return kz.timer->count > 0;
 }
 
 static bool is_set(const KTIMER *timer)
 {
     size_t at = 0;
-    while (at < timers_count && timers[at].timer != timer)
+    while (at < kz.timer->count && kz.timer->set[at].timer != timer)
         at++;
-    return at < timers_count;
+    return at < kz.timer->count;
 }
 
 VOID KeInitializeTimerEx(PKTIMER Timer, TIMER_TYPE Type)
@@ -53,9 +55,9 @@ BOOLEAN KeCancelTimer(PKTIMER Timer)
     KZ_CALL();
     kz_check_dispatcher(&Timer->Header, "a timer", "KeCancelTimer");
     kz_scheduler->touch(Timer, 0, KZT_TAKES);
-    for (size_t at = 0; at < timers_count; at++)
-        if (timers[at].timer == Timer) {
-            memmove(timers + at, timers + at + 1, (--timers_count - at) * sizeof timers[0]);
+    for (size_t at = 0; at < kz.timer->count; at++)
+        if (kz.timer->set[at].timer == Timer) {
+            memmove(kz.timer->set + at, kz.timer->set + at + 1, (--kz.timer->count - at) * sizeof kz.timer->set[0]);
             return TRUE;
         }
     return FALSE;
@@ -63,10 +65,10 @@ BOOLEAN KeCancelTimer(PKTIMER Timer)
 
 static void set_timer(PKTIMER timer, const KzPlace *place)
 {
-    if (timers_count == sizeof timers / sizeof timers[0])
+    if (kz.timer->count == sizeof kz.timer->set / sizeof kz.timer->set[0])
         return;
-    timers[timers_count].timer = timer;
-    timers[timers_count++].place = *place;
+    kz.timer->set[kz.timer->count].timer = timer;
+    kz.timer->set[kz.timer->count++].place = *place;
 }
 
 BOOLEAN KeSetTimerEx(PKTIMER Timer, LARGE_INTEGER DueTime, LONG Period, PKDPC Dpc)
@@ -102,17 +104,17 @@ BOOLEAN KeReadStateTimer(PKTIMER Timer)
 static PKTIMER next_due(LONGLONG until)
 {
     PKTIMER next = NULL;
-    for (size_t at = 0; at < timers_count; at++)
-        if ((LONGLONG)timers[at].timer->DueTime.QuadPart <= until && (!next || timers[at].timer->DueTime.QuadPart < next->DueTime.QuadPart))
-            next = timers[at].timer;
+    for (size_t at = 0; at < kz.timer->count; at++)
+        if ((LONGLONG)kz.timer->set[at].timer->DueTime.QuadPart <= until && (!next || kz.timer->set[at].timer->DueTime.QuadPart < next->DueTime.QuadPart))
+            next = kz.timer->set[at].timer;
     return next;
 }
 
 static KzPlace place_of(PKTIMER timer)
 {
-    for (size_t at = 0; at < timers_count; at++)
-        if (timers[at].timer == timer)
-            return timers[at].place;
+    for (size_t at = 0; at < kz.timer->count; at++)
+        if (kz.timer->set[at].timer == timer)
+            return kz.timer->set[at].place;
     return kz_me->place;
 }
 
@@ -157,21 +159,21 @@ static bool pass_to_next(LONGLONG until)
 
 static void forget_timers(PFLT_FILTER filter)
 {
-    for (size_t at = timers_count; at-- > 0;)
-        if ((PFLT_FILTER)timers[at].timer->TimerListEntry.Flink == filter) {
-            KzPlace before = kz_enter_again(&timers[at].place);
+    for (size_t at = kz.timer->count; at-- > 0;)
+        if ((PFLT_FILTER)kz.timer->set[at].timer->TimerListEntry.Flink == filter) {
+            KzPlace before = kz_enter_again(&kz.timer->set[at].place);
             kz_tell(KZM_TIMER_LEFT, "KeCancelTimer", "never called for a timer that is set: it would fire in a driver that is gone");
             kz_me->place = before;
-            KeCancelTimer(timers[at].timer);
+            KeCancelTimer(kz.timer->set[at].timer);
         }
 }
 
 static void check_memory(const void *memory, size_t size)
 {
-    for (size_t at = timers_count; at-- > 0;)
-        if ((uintptr_t)timers[at].timer - (uintptr_t)memory < size) {
-            kz_tell_of(timers[at].timer, KZM_TIMER_LEFT, "KeCancelTimer", "never called for a timer that is set, whose memory is freed");
-            KeCancelTimer(timers[at].timer);
+    for (size_t at = kz.timer->count; at-- > 0;)
+        if ((uintptr_t)kz.timer->set[at].timer - (uintptr_t)memory < size) {
+            kz_tell_of(kz.timer->set[at].timer, KZM_TIMER_LEFT, "KeCancelTimer", "never called for a timer that is set, whose memory is freed");
+            KeCancelTimer(kz.timer->set[at].timer);
         }
     kz_check_dpcs(memory, size);
 }
@@ -179,8 +181,6 @@ static void check_memory(const void *memory, size_t size)
 static void free_timers(void)
 {
     kz.passed = 0;
-    timers_count = 0;
-    waiters = fires_left = 0;
 }
 
 /* Timers fire while somebody waits: so many of them, since one that fires again and again need not end the wait. */
@@ -188,7 +188,7 @@ enum { FIRES = 16 };
 
 bool kz_may_fire(void)
 {
-    return waiters > 0 && fires_left > 0 && timers_count > 0;
+    return kz.timer->waiters > 0 && kz.timer->fires_left > 0 && kz.timer->count > 0;
 }
 
 void kz_fire(void)
@@ -196,7 +196,7 @@ void kz_fire(void)
     PKTIMER next = next_due(INT64_MAX);
     if (!next)
         return;
-    fires_left--;
+    kz.timer->fires_left--;
     fire(next);
 }
 
@@ -208,13 +208,13 @@ bool kz_can_run(void *unused)
 
 void kz_begin_to_fire(void)
 {
-    waiters++;
-    fires_left = FIRES;
+    kz.timer->waiters++;
+    kz.timer->fires_left = FIRES;
 }
 
 void kz_end_to_fire(void)
 {
-    waiters--;
+    kz.timer->waiters--;
 }
 
-const KzModule kz_timer_module = {.free = free_timers, .filter_ends = forget_timers, .memory_goes = check_memory, .passes = pass_to_next};
+const KzModule kz_timer_module = {KZ_STATE(timer), .free = free_timers, .filter_ends = forget_timers, .memory_goes = check_memory, .passes = pass_to_next};

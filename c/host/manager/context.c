@@ -44,14 +44,16 @@ typedef struct Header {
     Kept *kept;
 } Header;
 
-static Header *live;
-/* All that are live by their bodies' addresses, and those that the manager knows by their slots. */
 enum { PLACES = 1 << 12 };
-static Header *places[PLACES];
-static Header **slots;
-static size_t slots_room;
-static Header dead[REMEMBERED];
-static size_t dead_next;
+
+struct KzContextState {
+    Header *live;
+    /* All that are live by their bodies' addresses, and those that the manager knows by their slots. */
+    Header *places[PLACES], **slots;
+    size_t slots_room;
+    Header dead[REMEMBERED];
+    size_t dead_next;
+};
 
 static const char *const kind_names[] = {"a volume", "an instance", "a stream", "a stream handle", "a section"};
 
@@ -103,7 +105,7 @@ static KzPlace place_of_taken(const void *body)
 /* ---- Finding. */
 static Header **place_of(PVOID body)
 {
-    return &places[((uintptr_t)body * 0x9e3779b97f4a7c15ULL) >> 52];
+    return &kz.context->places[((uintptr_t)body * 0x9e3779b97f4a7c15ULL) >> 52];
 }
 
 static Header *find(PVOID body)
@@ -119,10 +121,10 @@ static void enter_tables(Header *one)
     Header **place = place_of(one->body);
     one->same = *place;
     *place = one;
-    one->next = live;
-    if (live)
-        live->before = one;
-    live = one;
+    one->next = kz.context->live;
+    if (kz.context->live)
+        kz.context->live->before = one;
+    kz.context->live = one;
 }
 
 static void leave_tables(Header *one)
@@ -131,25 +133,25 @@ static void leave_tables(Header *one)
     while (*at != one)
         at = &(*at)->same;
     *at = one->same;
-    *(one->before ? &one->before->next : &live) = one->next;
+    *(one->before ? &one->before->next : &kz.context->live) = one->next;
     if (one->next)
         one->next->before = one->before;
 }
 
 static void enter_slot(Header *one)
 {
-    if (one->slot >= slots_room) {
-        size_t room = slots_room ? slots_room : 64;
+    if (one->slot >= kz.context->slots_room) {
+        size_t room = kz.context->slots_room ? kz.context->slots_room : 64;
         while (room <= one->slot)
             room *= 2;
         Header **larger = kz_memory(room * sizeof *larger);
-        if (slots)
-            memcpy(larger, slots, slots_room * sizeof *larger);
-        free(slots);
-        slots = larger;
-        slots_room = room;
+        if (kz.context->slots)
+            memcpy(larger, kz.context->slots, kz.context->slots_room * sizeof *larger);
+        free(kz.context->slots);
+        kz.context->slots = larger;
+        kz.context->slots_room = room;
     }
-    slots[one->slot] = one;
+    kz.context->slots[one->slot] = one;
 }
 
 /* The context with that body. A body that was freed, or that is none, is told. */
@@ -159,8 +161,8 @@ static Header *context_of(PVOID body, const char *call)
     if (found)
         return found;
     for (size_t at = 0; at < REMEMBERED; at++)
-        if (body && dead[at].body == body) {
-            kz_tell(KZM_CLEANED_UP, call, "%s context that was cleaned up", kind_names[dead[at].kind]);
+        if (body && kz.context->dead[at].body == body) {
+            kz_tell(KZM_CLEANED_UP, call, "%s context that was cleaned up", kind_names[kz.context->dead[at].kind]);
             return NULL;
         }
     kz_tell(KZM_NO_CONTEXT_THERE, call, "no context");
@@ -169,7 +171,7 @@ static Header *context_of(PVOID body, const char *call)
 
 static Header *known(uint32_t slot, uint32_t generation)
 {
-    Header *one = slot < slots_room ? slots[slot] : NULL;
+    Header *one = slot < kz.context->slots_room ? kz.context->slots[slot] : NULL;
     return one && one->is_known && one->generation == generation ? one : NULL;
 }
 
@@ -223,8 +225,8 @@ static void finish(Header *context, uint8_t worker)
         KZ_CALL_DRIVER(context->how->ContextFreeCallback, context->body, context->type);
     else
         kz_give_back(context->body);
-    dead[dead_next] = *context;
-    dead_next = (dead_next + 1) % REMEMBERED;
+    kz.context->dead[kz.context->dead_next] = *context;
+    kz.context->dead_next = (kz.context->dead_next + 1) % REMEMBERED;
     while (context->kept)
         drop(context);
     free(context);
@@ -245,7 +247,7 @@ void kz_clean_up(void)
     Header *context = take_due(worker);
     while (context) {
         context->is_known = false;
-        slots[context->slot] = NULL;
+        kz.context->slots[context->slot] = NULL;
         if (!context->kept)
             finish(context, worker);
         KzTold cleaned = kz_event(worker, (KazdrinEvent){.event = KZE_CLEANED});
@@ -724,7 +726,7 @@ static void tell_leaks(Header *context)
 
 static Header *told_and_kept(PFLT_FILTER filter)
 {
-    for (Header *one = live; one; one = one->next)
+    for (Header *one = kz.context->live; one; one = one->next)
         if (one->filter == filter && one->is_told && one->kept && !one->is_known)
             return one;
     return NULL;
@@ -734,7 +736,7 @@ static Header *told_and_kept(PFLT_FILTER filter)
  * and leave is told, and no more. */
 void kz_tell_kept(PFLT_FILTER filter)
 {
-    for (Header *one = live; one; one = one->next)
+    for (Header *one = kz.context->live; one; one = one->next)
         if (one->filter == filter && one->kept && !one->is_told) {
             one->is_told = true;
             tell_leaks(one);
@@ -744,7 +746,7 @@ void kz_tell_kept(PFLT_FILTER filter)
             drop(one);
         finish(one, kz_worker());
     }
-    for (Header *one = live; one; one = one->next)
+    for (Header *one = kz.context->live; one; one = one->next)
         if (one->filter == filter && one->kept && !one->is_told) {
             one->is_told = true;
             tell_leaks(one);
@@ -755,21 +757,16 @@ void kz_tell_kept(PFLT_FILTER filter)
 
 static void free_contexts(void)
 {
-    while (live) {
-        Header *one = live;
-        live = one->next;
+    while (kz.context->live) {
+        Header *one = kz.context->live;
+        kz.context->live = one->next;
         while (one->kept)
             drop(one);
         if (one->how->ContextFreeCallback)
             KZ_CALL_DRIVER(one->how->ContextFreeCallback, one->body, one->type);
         free(one);
     }
-    memset(places, 0, sizeof places);
-    free(slots);
-    slots = NULL;
-    slots_room = 0;
-    memset(dead, 0, sizeof dead);
-    dead_next = 0;
+    free(kz.context->slots);
 }
 
-const KzModule kz_context_module = {.free = free_contexts, .filter_ends = kz_tell_kept};
+const KzModule kz_context_module = {KZ_STATE(context), .free = free_contexts, .filter_ends = kz_tell_kept};

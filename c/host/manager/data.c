@@ -36,7 +36,6 @@ static size_t least(size_t a, size_t b)
  * its place. */
 static PVOID *buffer_in(KzOp *op, FLT_PARAMETERS *parameters, PMDL **mdl, ULONG **length)
 {
-    static PMDL none;
     switch (op->event) {
     case KZE_READ:
         *mdl = &parameters->Read.MdlAddress;
@@ -47,8 +46,8 @@ static PVOID *buffer_in(KzOp *op, FLT_PARAMETERS *parameters, PMDL **mdl, ULONG 
         *length = &parameters->DirectoryControl.QueryDirectory.Length;
         return &parameters->DirectoryControl.QueryDirectory.DirectoryBuffer;
     case KZE_QUERY_SIZE:
-        *mdl = &none;
-        none = NULL;
+        *mdl = &op->no_mdl;
+        op->no_mdl = NULL;
         *length = &parameters->QueryFileInformation.Length;
         return &parameters->QueryFileInformation.InfoBuffer;
     default:

@@ -20,11 +20,13 @@ typedef struct Taken {
     KzPlace place;
 } Taken;
 
-static Taken *taken;
+struct KzReferenceState {
+    Taken *first;
+};
 
 static Taken **find(PVOID object)
 {
-    Taken **at = &taken;
+    Taken **at = &kz.reference->first;
     while (*at && (*at)->object != object)
         at = &(*at)->next;
     return at;
@@ -82,7 +84,7 @@ LONG_PTR kz_let_go_object(PVOID object, const char *call)
 
 bool kz_is_referenced(const void *object)
 {
-    const Taken *one = taken;
+    const Taken *one = kz.reference->first;
     while (one && one->object != object)
         one = one->next;
     return one != NULL;
@@ -90,7 +92,7 @@ bool kz_is_referenced(const void *object)
 
 static void tell_objects(void)
 {
-    for (Taken *one = taken; one; one = one->next) {
+    for (Taken *one = kz.reference->first; one; one = one->next) {
         KzPlace before = kz_enter_again(&one->place);
         kz_tell(KZM_OBJECT_LEAK, one->is_flt ? "FltObjectDereference" : "ObDereferenceObject", "never called for an object that %s gave", one->call);
         kz_me->place = before;
@@ -99,11 +101,11 @@ static void tell_objects(void)
 
 static void free_objects(void)
 {
-    while (taken) {
-        Taken *one = taken;
-        taken = one->next;
+    while (kz.reference->first) {
+        Taken *one = kz.reference->first;
+        kz.reference->first = one->next;
         free(one);
     }
 }
 
-const KzModule kz_reference_module = {.free = free_objects, .left = tell_objects};
+const KzModule kz_reference_module = {KZ_STATE(reference), .free = free_objects, .left = tell_objects};

@@ -32,8 +32,10 @@ struct _FLT_GENERIC_WORKITEM {
     KzPlace place; /* where it was queued */
 };
 
-static PFLT_GENERIC_WORKITEM first, *last = &first;
-static unsigned items_running;
+struct KzWorkState {
+    PFLT_GENERIC_WORKITEM first, *end; /* NULL while none is queued */
+    unsigned running;
+};
 
 static PVOID allocate(ULONG tag)
 {
@@ -63,8 +65,8 @@ static void enqueue(PFLT_GENERIC_WORKITEM item)
         instance_of(item)->items++;
     item->next = NULL;
     item->is_queued = true;
-    *last = item;
-    last = &item->next;
+    *(kz.work->end ? kz.work->end : &kz.work->first) = item;
+    kz.work->end = &item->next;
     kz_scheduler->touch(item, 0, KZT_GIVES);
 }
 
@@ -170,7 +172,7 @@ VOID ExQueueWorkItem(PWORK_QUEUE_ITEM WorkItem, WORK_QUEUE_TYPE QueueType)
 {
     KZ_CALL();
     (void)QueueType;
-    for (PFLT_GENERIC_WORKITEM one = first; one; one = one->next)
+    for (PFLT_GENERIC_WORKITEM one = kz.work->first; one; one = one->next)
         if (one->kind == SYSTEM && one->item == WorkItem) {
             kz_tell_of(WorkItem, KZM_WORK_LEFT, __func__, "a work item that is queued already");
             return;
@@ -207,11 +209,11 @@ static void run(PFLT_GENERIC_WORKITEM item)
     kz_me->process = 4;
     kz_me->thread = 8;
     item->is_queued = false;
-    items_running++;
+    kz.work->running++;
     unsigned depth = kz_let_driver("work item", item->routine);
     call(item);
     kz_driver_returned(depth, "work item returns");
-    items_running--;
+    kz.work->running--;
     if (instance) {
         instance->items--;
         kz_scheduler->touch(&instance->items, 0, KZT_GIVES);
@@ -229,33 +231,33 @@ static void run(PFLT_GENERIC_WORKITEM item)
 /* Whether one is queued, or runs. */
 static bool has_work_of(PFLT_FILTER filter)
 {
-    for (PFLT_GENERIC_WORKITEM one = first; one; one = one->next)
+    for (PFLT_GENERIC_WORKITEM one = kz.work->first; one; one = one->next)
         if (one->filter == filter)
             return true;
-    return items_running > 0;
+    return kz.work->running > 0;
 }
 
 bool kz_has_work(void)
 {
-    return first != NULL;
+    return kz.work->first != NULL;
 }
 
 /* Runs the next work item; false if there is none. */
 bool kz_work(void)
 {
-    PFLT_GENERIC_WORKITEM item = first;
+    PFLT_GENERIC_WORKITEM item = kz.work->first;
     if (!item)
         return false;
-    first = item->next;
-    if (!first)
-        last = &first;
+    kz.work->first = item->next;
+    if (!kz.work->first)
+        kz.work->end = NULL;
     run(item);
     return true;
 }
 
 static void tell_work(PFLT_FILTER filter)
 {
-    for (PFLT_GENERIC_WORKITEM one = first; one; one = one->next)
+    for (PFLT_GENERIC_WORKITEM one = kz.work->first; one; one = one->next)
         if (one->filter == filter) {
             KzPlace before = kz_enter_again(&one->place);
             kz_tell(KZM_WORK_LEFT, "FltQueueGenericWorkItem", "a work item is queued still: it would run in a driver that is gone");
@@ -265,21 +267,19 @@ static void tell_work(PFLT_FILTER filter)
 
 static void check_work(const void *memory, size_t size)
 {
-    for (PFLT_GENERIC_WORKITEM one = first; one; one = one->next)
+    for (PFLT_GENERIC_WORKITEM one = kz.work->first; one; one = one->next)
         if (one->kind == SYSTEM && (uintptr_t)one->item - (uintptr_t)memory < size)
             kz_tell_of(one->item, KZM_WORK_LEFT, "ExQueueWorkItem", "a work item that is queued, whose memory is freed");
 }
 
 static void free_work(void)
 {
-    while (first) {
-        PFLT_GENERIC_WORKITEM one = first;
-        first = one->next;
+    while (kz.work->first) {
+        PFLT_GENERIC_WORKITEM one = kz.work->first;
+        kz.work->first = one->next;
         if (one->kind == SYSTEM)
             free(one);
     }
-    last = &first;
-    items_running = 0;
 }
 
-const KzModule kz_work_module = {.free = free_work, .filter_ends = tell_work, .has_any_of = has_work_of, .memory_goes = check_work, .goes_on = kz_work};
+const KzModule kz_work_module = {KZ_STATE(work), .free = free_work, .filter_ends = tell_work, .has_any_of = has_work_of, .memory_goes = check_work, .goes_on = kz_work};

@@ -26,10 +26,12 @@ typedef struct {
     bool has_ended; /* under the host's mutex */
 } Thread;
 
-static Thread threads[THREADS + 1]; /* by the client's number, from 1 on: those of the load, one for work items, and one for the scenario's last requests */
-static bool is_finally_there, is_finally_over;
-static KzScenario scenario;
-static bool is_time; /* that no round begins any more */
+static struct {
+    Thread threads[THREADS + 1]; /* by the client's number, from 1 on: those of the load, one for work items, and one for the scenario's last requests */
+    bool is_finally_there, is_finally_over;
+    KzScenario scenario;
+    bool is_time; /* that no round begins any more */
+} load;
 
 /* A request with $ for the handle of the client's last create. */
 KzReply kz_scripted_request(const char *line, uint64_t *handle)
@@ -61,7 +63,7 @@ static void *live(void *given)
 {
     Thread *me = given;
     kz_me = &me->client;
-    while (!__atomic_load_n(&is_time, __ATOMIC_ACQUIRE))
+    while (!__atomic_load_n(&load.is_time, __ATOMIC_ACQUIRE))
         play(me);
     say_ended(me);
     return NULL;
@@ -88,7 +90,7 @@ static void *work_on(void *given)
 
 static void start(unsigned number, const char *name, const KzScript *script, void *(*life)(void *))
 {
-    Thread *one = &threads[number];
+    Thread *one = &load.threads[number];
     *one = (Thread){.script = script};
     snprintf(one->name, sizeof one->name, script ? "%s-%u" : "%s", script ? script->name : name, number);
     kz_new_client(&one->client, one->name, number);
@@ -107,7 +109,7 @@ static bool have_ended(unsigned count)
 {
     KZ_INSIDE();
     for (unsigned at = 1; at <= count; at++)
-        if (!threads[at].has_ended)
+        if (!load.threads[at].has_ended)
             return false;
     return true;
 }
@@ -116,22 +118,22 @@ static void *live_finally(void *given)
 {
     Thread *me = given;
     kz_me = &me->client;
-    for (size_t at = 0; at < scenario.clients_count; at++)
-        for (size_t line = 0; scenario.clients[at].is_finally && line < scenario.clients[at].count; line++)
-            kz_scripted_request(scenario.clients[at].requests[line], &me->handle);
-    __atomic_store_n(&is_finally_over, true, __ATOMIC_RELEASE);
+    for (size_t at = 0; at < load.scenario.clients_count; at++)
+        for (size_t line = 0; load.scenario.clients[at].is_finally && line < load.scenario.clients[at].count; line++)
+            kz_scripted_request(load.scenario.clients[at].requests[line], &me->handle);
+    __atomic_store_n(&load.is_finally_over, true, __ATOMIC_RELEASE);
     return NULL;
 }
 
 /* By a client of its own, which waits as others do. Once it is through it may be needed again. */
 static void play_finally(unsigned number)
 {
-    if (is_finally_there && !__atomic_load_n(&is_finally_over, __ATOMIC_ACQUIRE))
+    if (load.is_finally_there && !__atomic_load_n(&load.is_finally_over, __ATOMIC_ACQUIRE))
         return;
-    if (is_finally_there)
-        pthread_join(threads[number].thread, NULL);
-    is_finally_there = true;
-    is_finally_over = false;
+    if (load.is_finally_there)
+        pthread_join(load.threads[number].thread, NULL);
+    load.is_finally_there = true;
+    load.is_finally_over = false;
     start(number, "finally", NULL, live_finally);
 }
 
@@ -140,8 +142,8 @@ static void tell_stuck(unsigned count)
     KZ_INSIDE();
     printf("STUCK\n");
     for (unsigned at = 1; at <= count; at++)
-        if (!threads[at].has_ended && threads[at].client.waits[0])
-            printf("  %s waits for %s\n", threads[at].name, threads[at].client.waits);
+        if (!load.threads[at].has_ended && load.threads[at].client.waits[0])
+            printf("  %s waits for %s\n", load.threads[at].name, load.threads[at].client.waits);
 }
 
 /* Watches until the time is over and all have ended; false if nobody goes on any more. */
@@ -152,11 +154,11 @@ static bool watch(unsigned count, double seconds)
     while (now() - since < seconds || !have_ended(count)) {
         usleep(20000);
         if (now() - since >= seconds)
-            __atomic_store_n(&is_time, true, __ATOMIC_RELEASE);
+            __atomic_store_n(&load.is_time, true, __ATOMIC_RELEASE);
         uint64_t moves = kz_moves();
         moved = moves == last ? moved : now();
         last = moves;
-        if (now() - moved > 0.5 && is_time)
+        if (now() - moved > 0.5 && load.is_time)
             play_finally(count + 2);
         if (now() - moved > STILL)
             return false;
@@ -167,12 +169,12 @@ static bool watch(unsigned count, double seconds)
 static const KzScript *script_of(unsigned number)
 {
     size_t count = 0;
-    for (size_t at = 0; at < scenario.clients_count; at++)
-        count += !scenario.clients[at].is_finally;
+    for (size_t at = 0; at < load.scenario.clients_count; at++)
+        count += !load.scenario.clients[at].is_finally;
     size_t place = (number - 1) % count;
-    for (size_t at = 0; at < scenario.clients_count; at++)
-        if (!scenario.clients[at].is_finally && place-- == 0)
-            return &scenario.clients[at];
+    for (size_t at = 0; at < load.scenario.clients_count; at++)
+        if (!load.scenario.clients[at].is_finally && place-- == 0)
+            return &load.scenario.clients[at];
     return NULL;
 }
 
@@ -180,20 +182,20 @@ static void report(unsigned count, double seconds)
 {
     uint64_t rounds = 0;
     for (unsigned at = 1; at <= count; at++)
-        rounds += threads[at].rounds;
+        rounds += load.threads[at].rounds;
     fprintf(stderr, "%u threads, %.0f s: %llu rounds\n", count, seconds, (unsigned long long)rounds);
 }
 
 int kz_run_load(const KzDriver *drivers, size_t drivers_count, const char *path, unsigned count, double seconds, uint64_t seed)
 {
-    int status = kz_read_scenario(path, &scenario);
+    int status = kz_read_scenario(path, &load.scenario);
     if (status || !script_of(1))
         return status ? status : 2;
     count = count < 1 ? 1 : count > THREADS - 2 ? THREADS - 2 : count;
     kz_is_quiet = 1;
     if (kz_open(drivers, drivers_count) != 0)
         return 1;
-    status = kz_set_up(scenario.setup, scenario.setup_count);
+    status = kz_set_up(load.scenario.setup, load.scenario.setup_count);
     if (status) {
         kz_close();
         return status;
@@ -209,14 +211,14 @@ int kz_run_load(const KzDriver *drivers, size_t drivers_count, const char *path,
     }
     kz_free_turns(false);
     kz_end_waits();
-    for (unsigned number = 1; number <= count + 1 + is_finally_there; number++)
-        pthread_join(threads[number].thread, NULL);
-    is_finally_there = false;
+    for (unsigned number = 1; number <= count + 1 + load.is_finally_there; number++)
+        pthread_join(load.threads[number].thread, NULL);
+    load.is_finally_there = false;
     report(count, seconds);
     kz_take_turns();
     kz_scheduler = &kz_in_order;
     kz_is_quiet = 0;
     status = kz_close();
-    kz_free_scenario(&scenario);
+    kz_free_scenario(&load.scenario);
     return status;
 }

@@ -2,9 +2,10 @@
 #include "run/observer.h"
 
 #include "core/module.h"
-#include "run/expect.h"
+#include "run/fails.h"
 #include "run/reply.h"
 #include "run/report.h"
+#include "run/seen.h"
 
 static void entered(KzCallback callback, PFLT_FILTER filter)
 {

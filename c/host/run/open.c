@@ -13,9 +13,10 @@
 #include "manager/operation.h"
 #include "kit/names.h"
 #include "user/program.h"
-#include "run/expect.h"
+#include "run/fails.h"
 #include "run/modules.h"
 #include "run/observer.h"
+#include "run/seen.h"
 
 #include <stdlib.h>
 
@@ -29,10 +30,19 @@ KzCounts kz_counts(void)
     return kz.counts;
 }
 
+/* Outside of a run, too, a program may call the kit. */
+static void __attribute__((constructor)) begin(void)
+{
+    kz.modules = kz_modules;
+    kz_begin_modules();
+}
+
 int kz_open(const KzDriver *drivers, size_t count)
 {
+    kz_end_modules();
     kz = (KzHost){.drivers = drivers, .drivers_count = count, .modules = kz_modules, .observer = &kz_observer, .store = &kz_manager_store};
     kz.resumed_end = &kz.resumed;
+    kz_begin_modules();
     kz_forget_notes();
     kz_forget_fails();
     kz_new_client(kz_me, "first", 0);

@@ -3,7 +3,7 @@
 
 #include "core/client.h"
 #include "core/said.h"
-#include "run/expect.h"
+#include "run/seen.h"
 #include "run/sink.h"
 
 /* The kit's own status stands behind a number that stands for another. */

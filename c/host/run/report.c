@@ -4,34 +4,37 @@
 #include "core/client.h"
 #include "core/memory.h"
 #include "core/source.h"
-#include "run/expect.h"
+#include "run/seen.h"
 
 #include <stdarg.h>
 #include <stdlib.h>
 
-static bool is_json;
-static const char *junit;
 typedef struct Case {
     struct Case *next;
     char *name, *unmet;
 } Case;
-static Case *cases, **last = &cases;
-static unsigned cases_count;
+
+static struct {
+    bool is_json;
+    const char *junit;
+    Case *cases, **last;
+    unsigned count;
+} report = {.last = &report.cases};
 
 void kz_use_json(bool is)
 {
-    is_json = is;
+    report.is_json = is;
     kz_is_quiet |= is;
 }
 
 bool kz_is_json(void)
 {
-    return is_json;
+    return report.is_json;
 }
 
 void kz_use_junit(const char *path)
 {
-    junit = path;
+    report.junit = path;
 }
 
 /* A text of JSON, with its quotes: what isn't from the space to `~` stands as `\x` and two digits. */
@@ -55,7 +58,7 @@ void kz_json_text(char *room, size_t size, const char *text)
 void kz_report_event(const char *event, const char *members)
 {
     char words[600];
-    if (!is_json)
+    if (!report.is_json)
         return;
     kz_json_text(words, sizeof words, kz_command());
     printf("{\"line\": %u, \"command\": %s, \"event\": \"%s\"%s%s}\n", kz_line(), words, event, *members ? ", " : "", members);
@@ -64,7 +67,7 @@ void kz_report_event(const char *event, const char *members)
 void kz_report_begin(const char *file)
 {
     char name[600];
-    if (!is_json)
+    if (!report.is_json)
         return;
     kz_json_text(name, sizeof name, file);
     printf("{\"line\": 0, \"event\": \"Run\", \"format\": 1, \"origin\": \"driver\", \"file\": %s}\n", name);
@@ -142,7 +145,7 @@ void kz_report_told(const KzSaid *said)
 {
     Members members = {.used = 0};
     char text[1800];
-    if (!is_json || kz_scheduler != &kz_in_order)
+    if (!report.is_json || kz_scheduler != &kz_in_order)
         return;
     kz_readable(text, sizeof text, said->text);
     text[strcspn(text, "\n")] = 0;
@@ -157,9 +160,9 @@ static void add_case(const char *name, const char *why)
     Case *made = kz_memory(sizeof *made);
     made->name = kz_copy_of(name);
     made->unmet = why ? kz_copy_of(why) : NULL;
-    *last = made;
-    last = &made->next;
-    cases_count++;
+    *report.last = made;
+    report.last = &made->next;
+    report.count++;
 }
 
 void kz_report_expectation(const char *words, const char *why)
@@ -202,15 +205,15 @@ static void put_case(FILE *file, const Case *one)
 
 static void put_junit(const char *name)
 {
-    FILE *file = fopen(junit, "w");
+    FILE *file = fopen(report.junit, "w");
     if (!file) {
-        fprintf(stderr, "%s: can't be written\n", junit);
+        fprintf(stderr, "%s: can't be written\n", report.junit);
         return;
     }
     fputs("<?xml version=\"1.0\" encoding=\"UTF-8\"?>\n<testsuite name=\"", file);
     put_xml(file, name);
-    fprintf(file, "\" tests=\"%u\" failures=\"%u\">\n", cases_count, kz_unmet() + (kz.counts.told > 0));
-    for (const Case *one = cases; one; one = one->next)
+    fprintf(file, "\" tests=\"%u\" failures=\"%u\">\n", report.count, kz_unmet() + (kz.counts.told > 0));
+    for (const Case *one = report.cases; one; one = one->next)
         put_case(file, one);
     fputs("</testsuite>\n", file);
     fclose(file);
@@ -218,15 +221,15 @@ static void put_junit(const char *name)
 
 static void free_cases(void)
 {
-    while (cases) {
-        Case *one = cases;
-        cases = one->next;
+    while (report.cases) {
+        Case *one = report.cases;
+        report.cases = one->next;
         free(one->name);
         free(one->unmet);
         free(one);
     }
-    last = &cases;
-    cases_count = 0;
+    report.last = &report.cases;
+    report.count = 0;
 }
 
 /* How a run went, in the words of docs/JSON.md. */
@@ -255,7 +258,7 @@ void kz_report_end(const char *name, int status)
              verdict_of(status), (unsigned long long)kz.counts.born, (unsigned long long)kz.counts.cleaned, (unsigned long long)kz.counts.leaked,
              (unsigned long long)kz.counts.told, (unsigned long long)kz.counts.limits, kz_unmet(), status);
     kz_report_event("End", members);
-    if (junit)
+    if (report.junit)
         put_junit(name);
     free_cases();
 }

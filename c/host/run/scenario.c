@@ -16,8 +16,10 @@ static char *trimmed(char *text)
     return text;
 }
 
-/* Why the last line isn't understood, behind a colon. */
-static char why[200];
+static struct {
+    char line[KZ_LINE];
+    char why[200]; /* the last line isn't understood, behind a colon */
+} read;
 
 static bool add_requests(KzScript *one, char *text)
 {
@@ -26,7 +28,7 @@ static bool add_requests(KzScript *one, char *text)
         request = trimmed(request);
         if (!*request)
             continue;
-        if (one->count == KZ_REQUESTS || !kz_is_request(request, why, sizeof why))
+        if (one->count == KZ_REQUESTS || !kz_is_request(request, read.why, sizeof read.why))
             return false;
         one->requests[one->count++] = kz_copy_of(request);
     }
@@ -76,7 +78,7 @@ static bool read_line(KzScenario *scenario, char *line)
         return true;
     if (strncmp(line, "client ", 7) == 0 || strncmp(line, "finally:", 8) == 0)
         return read_client(scenario, line);
-    if (scenario->clients_count > 0 || !kz_is_request(line, why, sizeof why))
+    if (scenario->clients_count > 0 || !kz_is_request(line, read.why, sizeof read.why))
         return false;
     scenario->setup = realloc(scenario->setup, (scenario->setup_count + 1) * sizeof *scenario->setup);
     scenario->setup[scenario->setup_count++] = kz_copy_of(line);
@@ -118,7 +120,6 @@ static bool knows_all(const KzScenario *scenario, const char *path)
 
 int kz_read_scenario(const char *path, KzScenario *scenario)
 {
-    static char line[KZ_LINE];
     FILE *file = fopen(path, "r");
     int number = 0;
     bool is_right = true;
@@ -126,14 +127,14 @@ int kz_read_scenario(const char *path, KzScenario *scenario)
         fprintf(stderr, "%s: can't be read\n", path);
         return 3;
     }
-    while (is_right && fgets(line, sizeof line, file)) {
+    while (is_right && fgets(read.line, sizeof read.line, file)) {
         number++;
-        *why = 0;
-        is_right = read_line(scenario, line);
+        *read.why = 0;
+        is_right = read_line(scenario, read.line);
     }
     fclose(file);
     if (!is_right)
-        fprintf(stderr, "%s:%d: not understood%s\n", path, number, why);
+        fprintf(stderr, "%s:%d: not understood%s\n", path, number, read.why);
     else if (!scenario->clients_count)
         fprintf(stderr, "%s: has no client\n", path);
     return is_right && scenario->clients_count && knows_all(scenario, path) ? 0 : 2;

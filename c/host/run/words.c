@@ -19,11 +19,13 @@
 #include "kit/registry.h"
 #include "user/program.h"
 #include "run/expect.h"
+#include "run/fails.h"
 #include "run/line.h"
 #include "run/majors.h"
 #include "run/masks.h"
 #include "run/reply.h"
 #include "run/report.h"
+#include "run/seen.h"
 
 #include <stdlib.h>
 
@@ -121,7 +123,6 @@ void kz_name_handle(const char *word, uint64_t handle)
 
 /* ---- Requests. Each answers; `words` has the word that names it first. */
 static const KzReply bad = {.status = KZS_BAD_REQUEST};
-static bool is_wrong; /* the last line isn't understood */
 
 /* Of a file's run: what would have all that comes behind it pass for nothing. */
 static struct {
@@ -129,6 +130,8 @@ static struct {
     bool is_refused;    /* the last one was a load, an attach or a mount, which was refused */
     unsigned line;      /* where one was that no expectation stands behind; 0 if there is none */
     char words[200];
+    bool is_wrong; /* the last line isn't understood */
+    char text[KZ_LINE];
 } seen;
 
 static bool is_of_file(void)
@@ -159,7 +162,7 @@ static KzReply said(KzReply reply)
 
 KzReply kz_wrong(void)
 {
-    __atomic_store_n(&is_wrong, true, __ATOMIC_RELAXED);
+    __atomic_store_n(&seen.is_wrong, true, __ATOMIC_RELAXED);
     return said(bad);
 }
 
@@ -581,21 +584,19 @@ static void tell_wrong(const char *name, const char *line)
 
 static int run_file(const KzDriver *drivers, size_t count, FILE *file, const char *name)
 {
-    static char line[KZ_LINE];
     if (kz_open(drivers, count) != 0)
         return 1;
-    is_wrong = false;
     memset(&seen, 0, sizeof seen);
     kz_report_begin(name);
-    while (!is_wrong && fgets(line, sizeof line, file)) {
+    while (!seen.is_wrong && fgets(seen.text, sizeof seen.text, file)) {
         kz_next_line();
-        request_or_bad(line, file);
+        request_or_bad(seen.text, file);
     }
-    if (is_wrong)
-        tell_wrong(name, line);
+    if (seen.is_wrong)
+        tell_wrong(name, seen.text);
     note_unexpected();
     int status = kz_close();
-    status = ferror(file) ? 3 : is_wrong ? 2 : judged(status, name);
+    status = ferror(file) ? 3 : seen.is_wrong ? 2 : judged(status, name);
     kz_report_end(name, status);
     return status;
 }

@@ -18,12 +18,16 @@
 extern const KzProgram kz_programs[] __attribute__((weak));
 extern const size_t kz_programs_count __attribute__((weak));
 
-static KzProcess *processes;
-static uint64_t last_process = 1000;
+enum { FIRST_PROCESS = 1100, STEP = 100 };
+
+struct KzProgramState {
+    KzProcess *first;
+    uint64_t count; /* of all that began */
+};
 
 KzProcess *kz_processes(void)
 {
-    return processes;
+    return kz.program->first;
 }
 
 KzUser *kz_user(void)
@@ -146,11 +150,11 @@ uint32_t kz_start_program(const char *name, char **words, uint64_t *process, NTS
         return KZS_FILE_NOT_FOUND;
     char image[128];
     snprintf(image, sizeof image, "programs/%.60s.exe", name);
-    uint32_t status = kz_begin_process(last_process + 100, kz_me->process, image, other);
+    uint32_t status = kz_begin_process(FIRST_PROCESS + STEP * kz.program->count, kz_me->process, image, other);
     if (status != KZS_OK)
         return status;
     KzProcess *made = kz_memory(sizeof *made);
-    *made = (KzProcess){.next = processes, .program = &kz_programs[at], .id = last_process += 100};
+    *made = (KzProcess){.next = kz.program->first, .program = &kz_programs[at], .id = FIRST_PROCESS + STEP * kz.program->count++};
     add_word(made, name);
     for (; *words; words++)
         add_word(made, *words);
@@ -160,7 +164,7 @@ uint32_t kz_start_program(const char *name, char **words, uint64_t *process, NTS
         free_process(made);
         return KZS_TOO_MANY;
     }
-    processes = made;
+    kz.program->first = made;
     *process = made->id;
     return KZS_OK;
 }
@@ -168,7 +172,7 @@ uint32_t kz_start_program(const char *name, char **words, uint64_t *process, NTS
 /* The words are a line of its console. */
 uint32_t kz_type(const char *name, char **words)
 {
-    KzProcess *one = processes;
+    KzProcess *one = kz.program->first;
     while (one && (one->is_over || strcmp(one->program->name, name) != 0))
         one = one->next;
     if (!one)
@@ -186,24 +190,23 @@ void kz_end_programs(void)
 {
     while (kz_run_threads())
         ;
-    for (KzProcess *one = processes; one; one = one->next)
+    for (KzProcess *one = kz.program->first; one; one = one->next)
         end_process(one);
     for (unsigned round = 0; round < 1000 && kz_run_threads(); round++)
         ;
-    for (KzProcess *one = processes; one; one = one->next)
+    for (KzProcess *one = kz.program->first; one; one = one->next)
         if (one->threads)
             kz_say(KZ_SAID_ELSE, "the program %s doesn't end\n", one->program->name);
 }
 
 static void free_programs(void)
 {
-    while (processes) {
-        KzProcess *one = processes;
-        processes = one->next;
+    while (kz.program->first) {
+        KzProcess *one = kz.program->first;
+        kz.program->first = one->next;
         if (!one->threads)
             free_process(one);
     }
-    last_process = 1000;
 }
 
-const KzModule kz_program_module = {.free = free_programs};
+const KzModule kz_program_module = {KZ_STATE(program), .free = free_programs};

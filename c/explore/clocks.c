@@ -63,7 +63,7 @@ void ex_start_clocks(void)
 static uint64_t access_hash(const Cell *cell, unsigned client, bool is_write)
 {
     const Access *one = is_write ? &cell->by[client].write : &cell->by[client].read;
-    if (!ex->is_reduced || !one->when)
+    if (!ex->search.is_reduced || !one->when)
         return 0;
     return ex_mixed(ex_mixed(cell->tag << 6 | client << 1 | is_write) + ex_mixed((uint64_t)one->when << 32 | one->from) * 3 + one->bytes * 2u + one->is_atomic + (uint64_t)one->is_update * 1024);
 }
@@ -71,7 +71,7 @@ static uint64_t access_hash(const Cell *cell, unsigned client, bool is_write)
 static uint64_t vector_hash(const uint32_t *clock, uint64_t of)
 {
     uint64_t hash = 0;
-    for (int client = 1; ex->is_reduced && client <= ex->runners_count; client++)
+    for (int client = 1; ex->search.is_reduced && client <= ex->run.runners_count; client++)
         hash += clock[client] ? ex_mixed(of * 32 + (unsigned)client + ((uint64_t)clock[client] << 48)) : 0;
     return hash;
 }
@@ -79,7 +79,7 @@ static uint64_t vector_hash(const uint32_t *clock, uint64_t of)
 uint64_t ex_clocks_hash(void)
 {
     uint64_t hash = shadow->hash;
-    for (int client = 1; client <= ex->runners_count; client++)
+    for (int client = 1; client <= ex->run.runners_count; client++)
         hash += vector_hash(shadow->clock[client], (unsigned)client);
     for (size_t at = 0; at < shadow->freed_count; at++)
         hash += ex_mixed(shadow->freed[at].start * 3 + shadow->freed[at].end * 5 + ((uint64_t)shadow->freed[at].from << 32) + (unsigned)shadow->freed[at].client);
@@ -97,14 +97,14 @@ static Cell *cell_of(uintptr_t tag, bool is_made)
     size_t at = hashed(tag, CELLS);
     for (int tries = 0; tries < 64; tries++, at = (at + 1) & (CELLS - 1)) {
         Cell *cell = &shadow->cells[at];
-        if (cell->run == ex->run && cell->tag == tag)
+        if (cell->run == ex->run.number && cell->tag == tag)
             return cell;
-        if (cell->run == ex->run)
+        if (cell->run == ex->run.number)
             continue;
         if (!is_made)
             return NULL;
-        memset(cell->by, 0, sizeof cell->by[0] * ((size_t)ex->most_runners + 1));
-        cell->run = ex->run;
+        memset(cell->by, 0, sizeof cell->by[0] * ((size_t)ex->run.most_runners + 1));
+        cell->run = ex->run.number;
         cell->tag = tag;
         return cell;
     }
@@ -116,12 +116,12 @@ static Object *object_of(const void *object)
     size_t at = hashed((uintptr_t)object, OBJECTS);
     for (int tries = 0; tries < 256; tries++, at = (at + 1) & (OBJECTS - 1)) {
         Object *one = &shadow->objects[at];
-        if (one->run == ex->run && one->object == object)
+        if (one->run == ex->run.number && one->object == object)
             return one;
-        if (one->run == ex->run)
+        if (one->run == ex->run.number)
             continue;
         memset(one, 0, sizeof *one);
-        one->run = ex->run;
+        one->run = ex->run.number;
         one->object = object;
         return one;
     }
@@ -161,7 +161,7 @@ static bool is_race(const Access *before, uint8_t bytes, uint32_t known, bool wa
 static void look(Cell *cell, uint8_t bytes, unsigned how, const void *from, const char *now)
 {
     unsigned me = kz_me->number;
-    for (int client = 1; client <= ex->runners_count; client++) {
+    for (int client = 1; client <= ex->run.runners_count; client++) {
         if (client == (int)me)
             continue;
         uint32_t known = shadow->clock[me][client];
@@ -192,7 +192,7 @@ static void look_at_freed(uintptr_t address, const void *from, bool is_write)
 
 static bool is_watched(void)
 {
-    return ex && ex->is_running && !ex->is_alone && kz_me != &kz_first;
+    return ex && ex->run.is_running && !ex->run.is_alone && kz_me != &kz_first;
 }
 
 /* ---- Cells that are met by interlocked or volatile accesses. */
@@ -218,7 +218,7 @@ static void learn(const void *address)
 
 static bool is_met_by_others(const Cell *cell)
 {
-    for (int client = 1; cell && client <= ex->runners_count; client++)
+    for (int client = 1; cell && client <= ex->run.runners_count; client++)
         if (client != (int)kz_me->number && (cell->by[client].write.is_atomic || cell->by[client].read.is_atomic))
             return true;
     return false;
@@ -234,7 +234,7 @@ static bool is_shared(uintptr_t tag)
 static bool is_contended(uintptr_t tag, bool is_write)
 {
     const Cell *cell = cell_of(tag, false);
-    for (int client = 1; cell && client <= ex->runners_count; client++)
+    for (int client = 1; cell && client <= ex->run.runners_count; client++)
         if (client != (int)kz_me->number && (cell->by[client].write.when || (is_write && cell->by[client].read.when)))
             return true;
     return false;
@@ -242,7 +242,7 @@ static bool is_contended(uintptr_t tag, bool is_write)
 
 static bool is_point(uintptr_t start, uintptr_t end, bool is_atomic)
 {
-    return is_atomic || (!ex->is_coarse && (is_shared(start >> 3) || ((end - 1) >> 3 != start >> 3 && is_shared((end - 1) >> 3))));
+    return is_atomic || (!ex->search.is_coarse && (is_shared(start >> 3) || ((end - 1) >> 3 != start >> 3 && is_shared((end - 1) >> 3))));
 }
 
 /* The access is compared with those of others, and kept. */
@@ -250,7 +250,7 @@ static void note(const void *address, size_t size, unsigned how, const void *fro
 {
     uintptr_t start = (uintptr_t)address, end = start + size;
     bool is_write = how & IS_WRITE, is_atomic = how & IS_ATOMIC, is_update = how & IS_UPDATE;
-    if (ex->is_traced)
+    if (ex->search.is_traced)
         ex_trace_access(address, is_write, is_atomic, from);
     look_at_freed(start, from, is_write);
     for (uintptr_t tag = start >> 3; tag << 3 < end; tag++) {
@@ -272,7 +272,7 @@ static void note(const void *address, size_t size, unsigned how, const void *fro
 void ex_access(const void *address, size_t size, bool is_write, bool is_atomic, const void *from)
 {
     uintptr_t start = (uintptr_t)address, end = start + size;
-    if (is_atomic && shadow && (shadow->is_learning || !ex->is_running) && !ex_is_stack(address))
+    if (is_atomic && shadow && (shadow->is_learning || !ex->run.is_running) && !ex_is_stack(address))
         learn(address);
     if (!is_watched() || ex_is_stack(address))
         return;
@@ -290,7 +290,7 @@ void ex_move(const void *address, size_t size, bool is_write, bool is_update, co
     if (is_shared && shadow->is_learning)
         learn(address);
     is_shared |= *place_of(tag) == tag;
-    if (is_shared && !ex->is_coarse)
+    if (is_shared && !ex->search.is_coarse)
         ex_memory_point(address, size, from);
     note(address, size, IS_ATOMIC | (is_write ? IS_WRITE : 0) | (is_update ? IS_UPDATE : 0), from);
     if (!is_shared)
@@ -333,7 +333,7 @@ void ex_lib_access(const void *address, size_t size, bool is_write)
 static void take(Object *one)
 {
     uint32_t *mine = shadow->clock[kz_me->number];
-    for (int client = 1; client <= ex->runners_count; client++)
+    for (int client = 1; client <= ex->run.runners_count; client++)
         if (one->clock[client] > mine[client])
             mine[client] = one->clock[client];
 }
@@ -343,7 +343,7 @@ static void give(Object *one)
     unsigned me = kz_me->number;
     uint32_t *mine = shadow->clock[me];
     shadow->hash -= vector_hash(one->clock, (uintptr_t)one->object);
-    for (int client = 1; client <= ex->runners_count; client++)
+    for (int client = 1; client <= ex->run.runners_count; client++)
         if (mine[client] > one->clock[client])
             one->clock[client] = mine[client];
     shadow->hash += vector_hash(one->clock, (uintptr_t)one->object);
@@ -381,7 +381,7 @@ void ex_touch(const void *object, size_t size, KzTouch how)
         return;
     }
     Object *one = object_of(object);
-    if (ex->is_traced && kz_me->place.call)
+    if (ex->search.is_traced && kz_me->place.call)
         ex_trace_object(object, how == KZT_TAKES, kz_me->place.call);
     if (!one)
         return;

@@ -90,23 +90,23 @@ static Options options_of(Runner *me)
         options.may_stay = true;
         add(&options, me);
     }
-    for (int at = 1; at <= ex->runners_count; at++) {
+    for (int at = 1; at <= ex->run.runners_count; at++) {
         Runner *one = &ex_runners[at];
         if (one != me && !is_finally(one) && can_go_on(one) && !is_behind_like(one))
             add(&options, one);
     }
-    for (int at = 1; at <= ex->runners_count && !options.count; at++)
+    for (int at = 1; at <= ex->run.runners_count && !options.count; at++)
         if (is_finally(&ex_runners[at]) && can_go_on(&ex_runners[at]))
             add(&options, &ex_runners[at]);
     bool is_over = !ex_is_stuck(); /* whoever is beside the clients alone waits on */
-    for (int at = 1; at <= ex->runners_count && !options.count; at++)
+    for (int at = 1; at <= ex->run.runners_count && !options.count; at++)
         if (ex_runners[at].state == WAITING && ex_runners[at].client->timeout && !(is_over && ex_runners[at].thread)) {
             ex_runners[at].timed_out = true;
             add(&options, &ex_runners[at]);
         }
-    for (int at = 1; at <= ex->runners_count && !options.count; at++)
-        if (ex_runners[at].state == WAITING && ex_runners[at].yields && ex->patience[at].alone < ALONE) {
-            ex->patience[at].alone++;
+    for (int at = 1; at <= ex->run.runners_count && !options.count; at++)
+        if (ex_runners[at].state == WAITING && ex_runners[at].yields && ex->run.patience[at].alone < ALONE) {
+            ex->run.patience[at].alone++;
             add(&options, &ex_runners[at]);
         }
     return options;
@@ -114,37 +114,37 @@ static Options options_of(Runner *me)
 
 static void forget_looks(int at)
 {
-    if (ex->patience[at].has_looked)
-        memset(ex->patience[at].looks, 0, sizeof ex->patience[at].looks);
-    ex->patience[at].has_looked = false;
+    if (ex->run.patience[at].has_looked)
+        memset(ex->run.patience[at].looks, 0, sizeof ex->run.patience[at].looks);
+    ex->run.patience[at].has_looked = false;
 }
 
 static void note_step(int client)
 {
-    if (ex->steps++ == STEPS) {
+    if (ex->run.steps++ == STEPS) {
         ex_found(STUCK, "ENDLESS: the run doesn't come to an end");
-        siglongjmp(ex->out, 1);
+        siglongjmp(ex->run.out, 1);
     }
-    ex->schedule[ex->schedule_length++] = (uint8_t)client;
-    ex->patience[client].in_a_row++;
-    for (int at = 1; at <= ex->runners_count; at++) {
+    ex->schedule.steps[ex->schedule.length++] = (uint8_t)client;
+    ex->run.patience[client].in_a_row++;
+    for (int at = 1; at <= ex->run.runners_count; at++) {
         if (at == client)
             continue;
         ex_runners[at].owes &= ~(1U << client);
         ex_runners[at].has_moved |= ex_runners[at].yields;
-        ex->patience[at].in_a_row = ex->patience[at].alone = 0;
+        ex->run.patience[at].in_a_row = ex->run.patience[at].alone = 0;
         forget_looks(at);
     }
 }
 
 static int begin_step(int client, bool is_preemption)
 {
-    ex->preemptions += is_preemption;
-    ex->switches += client != ex->current && ex->current;
+    ex->run.preemptions += is_preemption;
+    ex->run.switches += client != ex->run.current && ex->run.current;
     note_step(client);
-    if (ex->stops_at && ex->steps == ex->stops_at)
+    if (ex->search.stops_at && ex->run.steps == ex->search.stops_at)
         raise(SIGTRAP); /* a debugger stops here: the client goes on next */
-    if (ex->is_traced)
+    if (ex->search.is_traced)
         ex_trace_step(&ex_runners[client], is_preemption);
     return client;
 }
@@ -155,12 +155,12 @@ static int choose(Runner *me)
     Options options = options_of(me);
     if (!options.count)
         return 0;
-    ex->able = 0;
+    ex->run.able = 0;
     for (unsigned at = 0; at < options.count; at++)
-        ex->able |= 1U << options.clients[at];
-    bool is_bound = options.may_stay && ex->preemptions >= ex->bound && !ex->replay;
+        ex->run.able |= 1U << options.clients[at];
+    bool is_bound = options.may_stay && ex->run.preemptions >= ex->search.bound && !ex->search.replay;
     unsigned taken = options.count > 1 && !is_bound ? ex_decide(options.count, SWITCH, options.clients, options.may_stay) : 0;
-    if ((ex->replay || ex->is_guided) && options.count == 1)
+    if ((ex->search.replay || ex->run.is_guided) && options.count == 1)
         taken = ex_decide(1, SWITCH, options.clients, options.may_stay);
     return begin_step(options.clients[taken], options.may_stay && taken > 0);
 }
@@ -168,16 +168,16 @@ static int choose(Runner *me)
 /* Where states are told apart another stack chooses, so that all clients stand alike. */
 static void go_on(Runner *me)
 {
-    if (ex->is_reduced || ex->is_alone) {
-        ex_switch(&me->stands, ex->back);
+    if (ex->search.is_reduced || ex->run.is_alone) {
+        ex_switch(&me->stands, ex->run.back);
         return;
     }
     int client = choose(me);
     if (client == (int)me->client->number)
         return;
-    ex->current = client;
+    ex->run.current = client;
     kz_me = client ? ex_runners[client].client : &kz_first;
-    ex_switch(&me->stands, client ? ex_runners[client].stands : ex->back);
+    ex_switch(&me->stands, client ? ex_runners[client].stands : ex->run.back);
 }
 
 /* ---- Who looks for something again and again lets each of the others go first that can, or that could since: so nobody looks for ever while the one that would change it stands. */
@@ -190,7 +190,7 @@ static bool may_go_first(const Runner *me, int at)
 static bool has_let_others(void *what)
 {
     const Runner *me = what;
-    for (int at = 1; at <= ex->runners_count; at++)
+    for (int at = 1; at <= ex->run.runners_count; at++)
         if (me->owes >> at & 1 && may_go_first(me, at))
             return false;
     return me->has_moved;
@@ -198,7 +198,7 @@ static bool has_let_others(void *what)
 
 static bool can_others(const Runner *me)
 {
-    for (int at = 1; at <= ex->runners_count; at++)
+    for (int at = 1; at <= ex->run.runners_count; at++)
         if (may_go_first(me, at))
             return true;
     return false;
@@ -220,7 +220,7 @@ static bool wait(KzCan *can, void *what, const char *text)
 static void owe_all(Runner *me)
 {
     me->owes = 0;
-    for (int at = 1; at <= ex->runners_count; at++)
+    for (int at = 1; at <= ex->run.runners_count; at++)
         if (&ex_runners[at] != me && ex_runners[at].state != ENDED && !is_finally(&ex_runners[at]))
             me->owes |= 1U << at;
 }
@@ -237,7 +237,7 @@ static void yield(Runner *me, const void *from)
 /* Whether the place has looked often enough, and found the same each time. */
 static bool is_in_vain(const void *from, uintptr_t at, uint64_t value)
 {
-    Patience *mine_own = &ex->patience[kz_me->number];
+    Patience *mine_own = &ex->run.patience[kz_me->number];
     unsigned place = (unsigned)(((uintptr_t)from >> 2 ^ (uintptr_t)from >> 6) % LOOKS);
     bool is_same = mine_own->looks[place].from == from && mine_own->looks[place].at == at && mine_own->looks[place].value == value;
     mine_own->has_looked = true;
@@ -253,7 +253,7 @@ static bool is_in_vain(const void *from, uintptr_t at, uint64_t value)
 
 void ex_note_change(void)
 {
-    if (is_set_up() || !ex || !ex->is_running)
+    if (is_set_up() || !ex || !ex->run.is_running)
         return;
     forget_looks((int)kz_me->number);
     mine()->owes = 0;
@@ -263,10 +263,10 @@ void ex_note_change(void)
 uint64_t ex_patience_hash(void)
 {
     uint64_t hash = 0;
-    for (int at = 1; at <= ex->runners_count; at++)
-        for (unsigned place = 0; ex->patience[at].has_looked && place < LOOKS; place++)
-            if (ex->patience[at].looks[place].count > 1)
-                hash += ex_mixed((uintptr_t)ex->patience[at].looks[place].from * 64 + (unsigned)at + ex->patience[at].looks[place].value * 3 + ex->patience[at].looks[place].at * 5);
+    for (int at = 1; at <= ex->run.runners_count; at++)
+        for (unsigned place = 0; ex->run.patience[at].has_looked && place < LOOKS; place++)
+            if (ex->run.patience[at].looks[place].count > 1)
+                hash += ex_mixed((uintptr_t)ex->run.patience[at].looks[place].from * 64 + (unsigned)at + ex->run.patience[at].looks[place].value * 3 + ex->run.patience[at].looks[place].at * 5);
     return hash;
 }
 
@@ -276,7 +276,7 @@ static void stand(Runner *me, const char *name, const void *from)
     me->is_fresh = false;
     me->at = name;
     me->from = from;
-    if (++ex->patience[me->client->number].in_a_row % IN_A_ROW == 0)
+    if (++ex->run.patience[me->client->number].in_a_row % IN_A_ROW == 0)
         owe_all(me);
     if (me->owes && (!has_let_others(me) || !can_others(me))) {
         yield(me, from);
@@ -289,21 +289,21 @@ static void stand(Runner *me, const char *name, const void *from)
 
 static void point(const char *name, const void *from)
 {
-    if (is_set_up() || !ex->is_running || ex->is_alone || !name)
+    if (is_set_up() || !ex->run.is_running || ex->run.is_alone || !name)
         return;
     Runner *me = mine();
     if (me->is_fresh) {
         me->is_fresh = false;
         return;
     }
-    ex->patience[me->client->number].accesses = 0;
+    ex->run.patience[me->client->number].accesses = 0;
     stand(me, name, from);
 }
 
 /* It tried for a lock in vain, or looked whether something is there: where it does so again and again the next points let others go. */
 static void looked(const void *from)
 {
-    if (!is_set_up() && ex->is_running && !ex->is_alone && is_in_vain(from, 0, 0))
+    if (!is_set_up() && ex->run.is_running && !ex->run.is_alone && is_in_vain(from, 0, 0))
         owe_all(mine());
 }
 
@@ -312,7 +312,7 @@ static void look_at(Runner *me, const void *address, size_t size, const void *fr
     uint64_t value = 0;
     if (ex_is_heap(address) || ex_is_program(address))
         memcpy(&value, address, size < sizeof value ? size : sizeof value);
-    if (is_in_vain(from, (uintptr_t)address, value) || ++ex->patience[kz_me->number].accesses % ACCESSES == 0)
+    if (is_in_vain(from, (uintptr_t)address, value) || ++ex->run.patience[kz_me->number].accesses % ACCESSES == 0)
         owe_all(me);
 }
 
@@ -320,28 +320,28 @@ static void look_at(Runner *me, const void *address, size_t size, const void *fr
 void ex_memory_point(const void *address, size_t size, const void *from)
 {
     Runner *me = mine();
-    if (ex->is_alone || me->state != RUNNING || me->client->inside || !ex->is_running)
+    if (ex->run.is_alone || me->state != RUNNING || me->client->inside || !ex->run.is_running)
         return;
-    if (!ex->is_coarse)
+    if (!ex->search.is_coarse)
         stand(me, "memory", from);
     look_at(me, address, size, from);
-    if (ex->is_coarse && me->owes && (!has_let_others(me) || !can_others(me)))
+    if (ex->search.is_coarse && me->owes && (!has_let_others(me) || !can_others(me)))
         yield(me, from);
 }
 
 static unsigned choose_answer(unsigned count, KzChoice what, const char *name)
 {
-    if (is_set_up() || !ex->is_running || ex->is_alone)
+    if (is_set_up() || !ex->run.is_running || ex->run.is_alone)
         return 0;
     bool is_time = what == KZ_CHOICE_TIME, is_inside = what == KZ_CHOICE_INSIDE;
-    bool is_asked = is_inside ? ex->has_inside || ex->replay || ex->is_guided : is_time ? !ex->timeouts : ex->fails_used < ex->fails || ex->replay || ex->is_guided;
+    bool is_asked = is_inside ? ex->search.has_inside || ex->search.replay || ex->run.is_guided : is_time ? !ex->run.timeouts : ex->run.fails_used < ex->search.fails || ex->search.replay || ex->run.is_guided;
     unsigned taken = is_asked ? ex_decide(count, is_inside ? ANSWER_INSIDE : ANSWER_FAIL, NULL, false) : 0;
     if (!taken)
         return 0;
-    ex->fails_used += !is_time && !is_inside;
-    ex->timeouts += is_time;
-    ex->schedule[ex->schedule_length++] = is_inside ? INSIDE : FAIL;
-    if (ex->is_traced) {
+    ex->run.fails_used += !is_time && !is_inside;
+    ex->run.timeouts += is_time;
+    ex->schedule.steps[ex->schedule.length++] = is_inside ? INSIDE : FAIL;
+    if (ex->search.is_traced) {
         char text[TEXT];
         snprintf(text, sizeof text, "  %s   %s: %s\n", mine()->name, name, is_time ? "yes" : is_inside ? "goes on inside" : "refused");
         ex_trace_text(text);
@@ -380,7 +380,7 @@ static void live(void)
     if (me->is_worker)
         work();
     for (size_t at = 0; at < me->script->count; at++)
-        if (!(ex->left_out[me->client->number] >> at & 1))
+        if (!(ex->run.left_out[me->client->number] >> at & 1))
             kz_scripted_request(me->script->requests[at], &me->handle);
     me->state = ENDED;
     go_on(me);
@@ -434,8 +434,8 @@ static char *kept[RUNNERS + 1];
 
 void ex_keep_stacks(void)
 {
-    ex->usual_count = ex->most_runners = ex->runners_count;
-    for (int at = KZ_FIRST_THREAD; at <= ex->runners_count; at++) {
+    ex->run.usual_count = ex->run.most_runners = ex->run.runners_count;
+    for (int at = KZ_FIRST_THREAD; at <= ex->run.runners_count; at++) {
         Runner *one = &ex_runners[at];
         one->kept_size = one->state == ENDED ? 0 : (size_t)(top_of(at) - (char *)one->stands);
         kept[at] = ex_map(one->kept_size + 1);
@@ -454,12 +454,12 @@ static void begin(KzThread *thread)
 {
     int number = (int)thread->client.number;
     Runner *one = &ex_runners[number];
-    for (int at = ex->runners_count + 1; at < number; at++)
+    for (int at = ex->run.runners_count + 1; at < number; at++)
         ex_runners[at] = (Runner){.state = ENDED, .is_worker = true};
     *one = (Runner){.client = &thread->client, .thread = thread, .name = thread->name, .is_worker = true, .like = number};
     make(one, number, live_beside);
-    ex->runners_count = number > ex->runners_count ? number : ex->runners_count;
-    ex->most_runners = number > ex->most_runners ? number : ex->most_runners;
+    ex->run.runners_count = number > ex->run.runners_count ? number : ex->run.runners_count;
+    ex->run.most_runners = number > ex->run.most_runners ? number : ex->run.most_runners;
 }
 
 /* Before a run and behind it. */
@@ -470,11 +470,11 @@ static bool let(KzThread *thread)
     if (!is_set_up() || !(can_go_on(one) || is_late))
         return false;
     one->timed_out = !can_go_on(one);
-    ex->is_alone = true;
+    ex->run.is_alone = true;
     kz_me = one->client;
-    ex_switch(&ex->back, one->stands);
+    ex_switch(&ex->run.back, one->stands);
     kz_me = &kz_first;
-    ex->is_alone = false;
+    ex->run.is_alone = false;
     return true;
 }
 
@@ -483,7 +483,7 @@ const KzScheduler ex_scheduler = {point, wait, ex_touch, looked, choose_answer, 
 /* What a client left on its stack below where it stands: two states aren't to differ by that. */
 static void tidy(Runner *one)
 {
-    if (!ex->is_reduced)
+    if (!ex->search.is_reduced)
         return;
     if (one->state == ENDED)
         one->stands = top_of((int)one->client->number);
@@ -495,7 +495,7 @@ static void tidy(Runner *one)
 uint64_t ex_stacks_hash(void)
 {
     uint64_t hash = 0;
-    for (int at = 1; at <= ex->runners_count; at++) {
+    for (int at = 1; at <= ex->run.runners_count; at++) {
         char *stands = ex_runners[at].state == ENDED ? top_of(at) : ex_runners[at].stands;
         hash += ex_bytes_hash(stands, (size_t)(top_of(at) - stands), (uint64_t)at);
     }
@@ -505,20 +505,20 @@ uint64_t ex_stacks_hash(void)
 /* One run, from the set-up's end to where nobody can go on. */
 void ex_run(void)
 {
-    for (int at = 1; at <= ex->runners_count; at++)
+    for (int at = 1; at <= ex->run.runners_count; at++)
         if (at >= KZ_FIRST_THREAD)
             put_stack_back(at);
         else if (ex_runners[at].client)
             make(&ex_runners[at], at, live);
-    ex->current = 0;
+    ex->run.current = 0;
     ex_forget_lib_calls();
-    ex->is_running = true;
+    ex->run.is_running = true;
     Runner *before = NULL;
-    for (int client = choose(NULL); client; client = ex->is_reduced ? choose(before) : 0) {
+    for (int client = choose(NULL); client; client = ex->search.is_reduced ? choose(before) : 0) {
         before = &ex_runners[client];
-        ex->current = client;
+        ex->run.current = client;
         kz_me = before->client;
-        ex_switch(&ex->back, before->stands);
+        ex_switch(&ex->run.back, before->stands);
         tidy(before);
     }
     kz_me = &kz_first;
@@ -526,7 +526,7 @@ void ex_run(void)
 
 bool ex_is_stuck(void)
 {
-    for (int at = 1; at <= ex->runners_count; at++)
+    for (int at = 1; at <= ex->run.runners_count; at++)
         if (!ex_runners[at].is_worker && ex_runners[at].state != ENDED)
             return true;
     return false;

@@ -42,9 +42,9 @@ static void sort_in(Ends *ends, char *text, const Kind *kind)
 static Ends *found_ends(void)
 {
     Ends *ends = ex_map(sizeof *ends);
-    for (int at = 0; at < ex->kinds_count; at++)
-        if (ex->kinds[at].of != LIMITED)
-            sort_in(ends, text_of(&ex->kinds[at]), &ex->kinds[at]);
+    for (int at = 0; at < ex->kinds.count; at++)
+        if (ex->kinds.all[at].of != LIMITED)
+            sort_in(ends, text_of(&ex->kinds.all[at]), &ex->kinds.all[at]);
     return ends;
 }
 

@@ -110,12 +110,8 @@ typedef struct {
     bool is_preemption;
 } Event;
 
-/* All that a run's beginning doesn't put back. */
+/* How the scenario is searched (words.c). */
 typedef struct {
-    /* The scenario, and how it is searched. */
-    KzScenario scenario;
-    int runners_count, usual_count, most_runners; /* up to the last one; as a run begins; and in any run so far */
-    bool is_alone; /* a thread goes on until it waits, and nobody else */
     unsigned bound, fails, shard, shards;
     bool wants_ends, is_traced, is_quiet, is_strict; /* is_strict: a limit counts */
     unsigned asked_bound, workers, stops_at; /* the last bound; how many work items run at once; the step before which a debugger stops, or 0 */
@@ -128,12 +124,25 @@ typedef struct {
     uint64_t seed, runs;
     unsigned pct; /* how many changes of priority a drawn run may need, and one; 0 for a coin at each choice */
     const char *replay;
-    /* The path, and where the run is on it. */
-    Node path[PATH];
+    char name[512]; /* what is searched, and by which words */
+} Search;
+
+/* The path, and where the run is on it (path.c). */
+typedef struct {
+    Node nodes[PATH];
     size_t length, depth;
     unsigned deviations;
     uint64_t hash;
-    /* The run. */
+    uint64_t random;
+    uint32_t priorities[RUNNERS + 1];
+    unsigned changes[DEPTH], changed, usual_steps;
+} Path;
+
+/* The run (coroutine.c). */
+typedef struct {
+    uint32_t number;
+    int runners_count, usual_count, most_runners; /* up to the last one; as a run begins; and in any run so far */
+    bool is_alone; /* a thread goes on until it waits, and nobody else */
     bool is_running;
     unsigned preemptions, switches, fails_used, timeouts, steps;
     bool is_limited;
@@ -141,47 +150,66 @@ typedef struct {
     bool is_guided; /* it follows a list of steps as far as it can */
     struct Guide *guide;
     uint64_t left_out[RUNNERS + 1]; /* requests of each client that aren't made: a bit for each */
-    uint8_t schedule[STEPS * 2];
-    size_t schedule_length;
-    char schedule_text[STEPS * 4];
-    Found found[16];
-    size_t found_count;
-    char output[OUTPUT];
-    size_t output_length;
-    uint32_t run;
-    uint64_t random;
-    uint32_t priorities[RUNNERS + 1];
-    unsigned changes[DEPTH], changed, usual_steps;
     sigjmp_buf out; /* to where a run ends, from wherever it is */
     void *back;
     int current;
     bool is_given_up;
-    const char *full; /* what the explorer's memory is full of: then the search ends */
-    const char *unknown; /* a wait that isn't modelled: then the search ends */
     Patience patience[RUNNERS + 1]; /* of each client */
     uint32_t able;
-    /* What was found. */
-    Kind kinds[KINDS];
-    int kinds_count;
+} Run;
+
+/* What the schedules came to (main.c). */
+typedef struct {
     uint64_t schedules, given_up, counts[LIMITED + 1];
     unsigned longest;
     double shown, saved; /* when progress was shown last, and the search saved */
     double since; /* when this bound began */
     Counted counted[BOUNDS]; /* of the bounds that are done */
     int counted_count;
-    char search[512]; /* what is searched, and by which words */
     bool is_whole, is_silent;
     volatile bool is_interrupted;
+    const char *full; /* what the explorer's memory is full of: then the search ends */
+    const char *unknown; /* a wait that isn't modelled: then the search ends */
     char resume_path[4200]; /* where an interrupted search is saved; empty if it isn't */
     bool is_resumed;
     Counted resumed; /* where it goes on */
-    uint64_t ticked[3]; /* of the clock of endless code: the run and the step at its last tick, and for how many it stands there */
-    char trace[1 << 20];
-    size_t trace_length;
-    Event *events; /* of a run that is traced */
-    size_t events_count, touches_from;
-    char *room; /* for what is kept of kinds: never freed */
-    size_t room_used;
+} Total;
+
+/* All that a run's beginning doesn't put back. */
+typedef struct {
+    KzScenario scenario;
+    Search search;
+    Path path;
+    Run run;
+    struct {
+        uint8_t steps[STEPS * 2];
+        size_t length;
+        char text[STEPS * 4];
+    } schedule;
+    struct {
+        char text[OUTPUT];
+        size_t length;
+    } output;
+    struct { /* in this run */
+        Found all[16];
+        size_t count;
+    } found;
+    struct {
+        Kind all[KINDS];
+        int count;
+    } kinds;
+    Total total;
+    struct {
+        char text[1 << 20];
+        size_t length;
+        Event *events; /* of a run that is traced */
+        size_t count, touches_from;
+    } trace;
+    struct { /* for what is kept of kinds: never freed */
+        char *bytes;
+        size_t used;
+    } room;
+    uint64_t ticked[3]; /* of the clock of endless code: the run and the step at its last tick, and for how many it stands there (fault.c) */
 } Explorer;
 
 extern Explorer *ex;

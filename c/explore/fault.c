@@ -15,7 +15,7 @@ static void leave_run(KindOf of, const char *what, const void *at)
     kz_place_text(place, sizeof place);
     snprintf(text, sizeof text, "%s at @%lx: %s", what, (unsigned long)(uintptr_t)at, place);
     ex_found(of, text);
-    siglongjmp(ex->out, 1);
+    siglongjmp(ex->run.out, 1);
 }
 
 /* What a binary may not do by itself in this process, or takes for an exception. */
@@ -32,7 +32,7 @@ static void handle(int signal, siginfo_t *information, void *context)
         return;
     if (is_carried_on(signal, information, context))
         return;
-    if (!ex->is_running) {
+    if (!ex->run.is_running) {
         sigaction(signal, &(struct sigaction){.sa_handler = SIG_DFL}, NULL);
         return;
     }
@@ -46,10 +46,10 @@ static void tick(int signal, siginfo_t *information, void *context)
     const ucontext_t *machine = context;
     uint64_t *last = ex->ticked;
     (void)signal, (void)information;
-    bool is_same = ex->is_running && last[0] == ex->runs && last[1] == ex->steps;
+    bool is_same = ex->run.is_running && last[0] == ex->search.runs && last[1] == ex->run.steps;
     last[2] = is_same ? last[2] + 1 : 0;
-    last[0] = ex->runs;
-    last[1] = ex->steps;
+    last[0] = ex->search.runs;
+    last[1] = ex->run.steps;
     if (last[2] >= 3 && kz_me->inside == 0)
         leave_run(STUCK, "ENDLESS: the driver's code comes to no call", (const char *)machine->uc_mcontext.gregs[REG_RIP] + 1);
 }

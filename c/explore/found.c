@@ -5,13 +5,13 @@
 /* ---- Of the run that goes on. */
 static Found *add(KindOf of, const char *text)
 {
-    for (size_t at = 0; at < ex->found_count; at++)
-        if (ex->found[at].of == of && strcmp(ex->found[at].text, text) == 0)
+    for (size_t at = 0; at < ex->found.count; at++)
+        if (ex->found.all[at].of == of && strcmp(ex->found.all[at].text, text) == 0)
             return NULL;
-    if (ex->found_count == sizeof ex->found / sizeof ex->found[0])
+    if (ex->found.count == sizeof ex->found.all / sizeof ex->found.all[0])
         return NULL;
-    Found *one = &ex->found[ex->found_count++];
-    *one = (Found){.of = of, .preemptions = ex->preemptions, .switches = ex->switches, .steps = ex->steps, .schedule_length = ex->schedule_length};
+    Found *one = &ex->found.all[ex->found.count++];
+    *one = (Found){.of = of, .preemptions = ex->run.preemptions, .switches = ex->run.switches, .steps = ex->run.steps, .schedule_length = ex->schedule.length};
     snprintf(one->text, sizeof one->text, "%s", text);
     return one;
 }
@@ -37,7 +37,7 @@ void ex_found_race(const char *text, uintptr_t now, uintptr_t before)
     one->sides[0] = now;
     one->sides[1] = before;
     snprintf(line, sizeof line, "  %s\n", text);
-    if (ex->is_traced)
+    if (ex->search.is_traced)
         ex_trace_found(line);
 }
 
@@ -45,13 +45,13 @@ void ex_found_race(const char *text, uintptr_t now, uintptr_t before)
 static void append(const char *text)
 {
     size_t length = strlen(text);
-    if (ex->output_length + length + 40 > sizeof ex->output)
+    if (ex->output.length + length + 40 > sizeof ex->output.text)
         return;
-    bool is_first = !ex->output_length || ex->output[ex->output_length - 1] == '\n';
+    bool is_first = !ex->output.length || ex->output.text[ex->output.length - 1] == '\n';
     if (is_first)
-        ex->output_length += (size_t)snprintf(ex->output + ex->output_length, 34, "%s: ", kz_me->name);
-    memcpy(ex->output + ex->output_length, text, length + 1);
-    ex->output_length += length;
+        ex->output.length += (size_t)snprintf(ex->output.text + ex->output.length, 34, "%s: ", kz_me->name);
+    memcpy(ex->output.text + ex->output.length, text, length + 1);
+    ex->output.length += length;
 }
 
 /* Requests are the same in each order, and the counts come of what was said; a create's handle is another in each order of creates. */
@@ -65,23 +65,23 @@ static void note_end(const KzSaid *said)
 
 void ex_say(const KzSaid *said)
 {
-    if (!ex->is_running) {
-        if (!ex->is_quiet)
+    if (!ex->run.is_running) {
+        if (!ex->search.is_quiet)
             kz_print(said);
         return;
     }
-    if (said->kind == KZ_SAID_UNMET && !ex->unmet[0])
-        snprintf(ex->unmet, sizeof ex->unmet, "%s", said->text);
-    if (ex->wants_ends)
+    if (said->kind == KZ_SAID_UNMET && !ex->run.unmet[0])
+        snprintf(ex->run.unmet, sizeof ex->run.unmet, "%s", said->text);
+    if (ex->search.wants_ends)
         note_end(said);
-    if (ex->is_traced)
+    if (ex->search.is_traced)
         ex_trace_text(said->text);
     if (said->kind == KZ_SAID_TOLD)
         ex_found(TOLD, said->text);
     else if (said->kind == KZ_SAID_LIMIT && said->message == KZM_UNKNOWN_WAIT && kz_me != &kz_first) {
         ex_stop_at(said->text);
     } else if (said->kind == KZ_SAID_LIMIT) {
-        ex->is_limited |= said->message == KZM_LEFT_OUT;
+        ex->run.is_limited |= said->message == KZM_LEFT_OUT;
         ex_found(LIMITED, said->text);
     }
 }
@@ -90,27 +90,27 @@ void ex_say(const KzSaid *said)
 /* The search can't be whole any more: it ends, and says so. */
 void ex_end_search(const char *full)
 {
-    ex->full = full;
+    ex->total.full = full;
 }
 
 /* A wait that isn't modelled: what comes after it isn't so on Windows. So neither this run nor another tells anything of it. */
 void ex_stop_at(const char *unknown)
 {
-    ex->found_count = 0;
+    ex->found.count = 0;
     ex_found(LIMITED, unknown);
-    ex->unknown = ex_kept(unknown);
-    siglongjmp(ex->out, 1);
+    ex->total.unknown = ex_kept(unknown);
+    siglongjmp(ex->run.out, 1);
 }
 
 char *ex_kept(const char *text)
 {
     size_t length = strlen(text) + 1;
-    if (ex->room_used + length > ROOM) {
+    if (ex->room.used + length > ROOM) {
         ex_end_search("schedules");
         return "";
     }
-    char *made = ex->room + ex->room_used;
-    ex->room_used += length;
+    char *made = ex->room.bytes + ex->room.used;
+    ex->room.used += length;
     return memcpy(made, text, length);
 }
 
@@ -139,14 +139,14 @@ static bool is_better(const Found *one, const Kind *kind)
 
 static Kind *kind_of(const Found *one, const char *key)
 {
-    for (int at = 0; at < ex->kinds_count; at++)
-        if (ex->kinds[at].of == one->of && strcmp(ex->kinds[at].key, key) == 0)
-            return &ex->kinds[at];
-    if (ex->kinds_count == KINDS) {
+    for (int at = 0; at < ex->kinds.count; at++)
+        if (ex->kinds.all[at].of == one->of && strcmp(ex->kinds.all[at].key, key) == 0)
+            return &ex->kinds.all[at];
+    if (ex->kinds.count == KINDS) {
         ex_end_search("kinds of ends");
         return NULL;
     }
-    Kind *made = &ex->kinds[ex->kinds_count++];
+    Kind *made = &ex->kinds.all[ex->kinds.count++];
     *made = (Kind){.of = one->of, .key = ex_kept(key), .preemptions = UINT32_MAX};
     return made;
 }
@@ -166,7 +166,7 @@ static void keep(const Found *one)
     kind->preemptions = one->preemptions;
     kind->switches = one->switches;
     kind->steps = one->steps;
-    kind->seed = ex->seed;
+    kind->seed = ex->search.seed;
 }
 
 static bool is_better_kind(const Kind *one, const Kind *than)
@@ -194,15 +194,15 @@ void ex_keep_found(void)
     bool is_seen[LIMITED + 1] = {false};
     if (!ex_is_own())
         return;
-    ex->schedules++;
-    ex->given_up += ex->is_given_up;
-    if (ex->steps > ex->longest)
-        ex->longest = ex->steps;
-    for (size_t at = 0; at < ex->found_count; at++) {
-        keep(&ex->found[at]);
-        if (!is_seen[ex->found[at].of])
-            ex->counts[ex->found[at].of]++;
-        is_seen[ex->found[at].of] = true;
+    ex->total.schedules++;
+    ex->total.given_up += ex->run.is_given_up;
+    if (ex->run.steps > ex->total.longest)
+        ex->total.longest = ex->run.steps;
+    for (size_t at = 0; at < ex->found.count; at++) {
+        keep(&ex->found.all[at]);
+        if (!is_seen[ex->found.all[at].of])
+            ex->total.counts[ex->found.all[at].of]++;
+        is_seen[ex->found.all[at].of] = true;
     }
 }
 
@@ -232,15 +232,15 @@ void ex_report_kind(const Kind *kind)
     printf("\n%llu schedules:\n", (unsigned long long)kind->count);
     put_indented(kind->text);
     printf("  the shortest: %u preemptions, %u switches, %u steps\n", kind->preemptions, kind->switches, kind->steps);
-    printf("  --replay '%s'%s\n", kind->schedule, ex->is_coarse ? " --coarse" : "");
-    if (kind->seed && ex->pct)
-        printf("  --seed %llu --runs 1 --pct %u\n", (unsigned long long)kind->seed, ex->pct);
+    printf("  --replay '%s'%s\n", kind->schedule, ex->search.is_coarse ? " --coarse" : "");
+    if (kind->seed && ex->search.pct)
+        printf("  --seed %llu --runs 1 --pct %u\n", (unsigned long long)kind->seed, ex->search.pct);
     else if (kind->seed)
         printf("  --seed %llu --runs 1\n", (unsigned long long)kind->seed);
 }
 
 void ex_report(void)
 {
-    for (int at = 0; at < ex->kinds_count; at++)
-        ex_report_kind(&ex->kinds[at]);
+    for (int at = 0; at < ex->kinds.count; at++)
+        ex_report_kind(&ex->kinds.all[at]);
 }

@@ -83,7 +83,7 @@ void *malloc(size_t size)
         return NULL;
     }
     next[client] += room;
-    if (ex && ex->is_reduced)
+    if (ex && ex->search.is_reduced)
         memset(head, 0, room);
     head->size = size;
     return head + 1;
@@ -92,7 +92,7 @@ void *malloc(size_t size)
 /* It isn't used again. Two states aren't to differ by what lay there. */
 void free(void *memory)
 {
-    if (memory && ex && ex->is_reduced && ex->is_running)
+    if (memory && ex && ex->search.is_reduced && ex->run.is_running)
         memset(memory, 0, ((Head *)memory - 1)->size);
 }
 
@@ -211,7 +211,7 @@ uint64_t ex_memory_hash(void)
     uint64_t hash = 0;
     for (size_t at = 0; at < image->pages_count; at++)
         hash += ex_bytes_hash(image->pages[at], PAGE, (uintptr_t)image->pages[at]) - image->hashes[at];
-    for (size_t client = 1; client <= (size_t)ex->runners_count; client++)
+    for (size_t client = 1; client <= (size_t)ex->run.runners_count; client++)
         hash += ex_bytes_hash(arena(client), (size_t)(next[client] - arena(client)), client);
     return hash;
 }

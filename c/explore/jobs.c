@@ -15,16 +15,16 @@ static void name_part(char *room, size_t size, const char *path, unsigned part)
 static void search_part(unsigned part, unsigned jobs, const char *folder, const char *resume, void (*search)(void))
 {
     char path[4200];
-    ex->shard = part;
-    ex->shards = jobs;
-    ex->is_silent = true;
+    ex->search.shard = part;
+    ex->search.shards = jobs;
+    ex->total.is_silent = true;
     ex_watch_faults();
     if (resume) {
-        name_part(ex->resume_path, sizeof ex->resume_path, resume, part);
-        if (ex_resume(ex->resume_path) != 0)
+        name_part(ex->total.resume_path, sizeof ex->total.resume_path, resume, part);
+        if (ex_resume(ex->total.resume_path) != 0)
             _exit(3);
     }
-    if (!ex->is_whole)
+    if (!ex->total.is_whole)
         search();
     name_part(path, sizeof path, folder, part);
     _exit(ex_save(path));

@@ -20,29 +20,29 @@ Explorer *ex;
 static void start_run(void)
 {
     ex_put_back();
-    ex->depth = ex->found_count = ex->schedule_length = ex->output_length = 0;
-    ex->preemptions = ex->switches = ex->fails_used = ex->timeouts = ex->steps = ex->deviations = 0;
-    ex->hash = 0;
-    ex->unmet[0] = 0;
-    ex->is_limited = ex->is_given_up = ex->is_alone = false;
-    ex->runners_count = ex->usual_count;
-    memset(ex->patience, 0, sizeof ex->patience[0] * ((size_t)ex->most_runners + 1));
-    ex->run++;
-    ex->runs++;
+    ex->path.depth = ex->found.count = ex->schedule.length = ex->output.length = 0;
+    ex->run.preemptions = ex->run.switches = ex->run.fails_used = ex->run.timeouts = ex->run.steps = ex->path.deviations = 0;
+    ex->path.hash = 0;
+    ex->run.unmet[0] = 0;
+    ex->run.is_limited = ex->run.is_given_up = ex->run.is_alone = false;
+    ex->run.runners_count = ex->run.usual_count;
+    memset(ex->run.patience, 0, sizeof ex->run.patience[0] * ((size_t)ex->run.most_runners + 1));
+    ex->run.number++;
+    ex->search.runs++;
     ex_start_clocks();
 }
 
 static void tell_stuck(void)
 {
     char text[TEXT];
-    size_t used = (size_t)snprintf(text, sizeof text, ex->is_limited ? "LIMIT: nobody goes on here, which needn't be so on Windows" : "STUCK");
-    for (int at = 1; at <= ex->runners_count; at++) {
+    size_t used = (size_t)snprintf(text, sizeof text, ex->run.is_limited ? "LIMIT: nobody goes on here, which needn't be so on Windows" : "STUCK");
+    for (int at = 1; at <= ex->run.runners_count; at++) {
         const Runner *one = &ex_runners[at];
         bool is_idle = one->is_worker && !ex_is_busy(one);
         if (!is_idle && one->state != ENDED && used + 1 < sizeof text)
             used += (size_t)snprintf(text + used, sizeof text - used, "\n  %s waits for %s", one->name, one->client->waits);
     }
-    ex_found_lines(ex->is_limited ? LIMITED : STUCK, text);
+    ex_found_lines(ex->run.is_limited ? LIMITED : STUCK, text);
 }
 
 static int compare_lines(const void *a, const void *b)
@@ -56,7 +56,7 @@ static void tell_end(void)
     static char *lines[512];
     char text[TEXT] = "END", *rest = NULL;
     size_t count = 0, used = strlen(text);
-    for (char *line = strtok_r(ex->output, "\n", &rest); line && count < 512; line = strtok_r(NULL, "\n", &rest))
+    for (char *line = strtok_r(ex->output.text, "\n", &rest); line && count < 512; line = strtok_r(NULL, "\n", &rest))
         lines[count++] = line;
     qsort(lines, count, sizeof lines[0], compare_lines);
     for (size_t at = 0; at < count && used + 1 < sizeof text; at++)
@@ -72,20 +72,20 @@ static void finish_run(void)
         return;
     }
     kz_end();
-    if (ex->unmet[0])
-        ex_found(TOLD, ex->unmet);
-    if (ex->wants_ends)
+    if (ex->run.unmet[0])
+        ex_found(TOLD, ex->run.unmet);
+    if (ex->search.wants_ends)
         tell_end();
 }
 
 void ex_run_once(void)
 {
     start_run();
-    if (sigsetjmp(ex->out, 0) == 0) {
+    if (sigsetjmp(ex->run.out, 0) == 0) {
         ex_run();
         finish_run();
     }
-    ex->is_running = false;
+    ex->run.is_running = false;
     kz_me = &kz_first;
     ex_keep_found();
 }
@@ -100,8 +100,8 @@ static double seconds(void)
 
 Counted ex_count_now(void)
 {
-    Counted now = {.bound = ex->has_no_bound ? NO_BOUND : ex->bound, .longest = ex->longest, .schedules = ex->schedules, .given_up = ex->given_up, .states = ex_states_count(), .seconds = seconds() - ex->since};
-    memcpy(now.counts, ex->counts, sizeof now.counts);
+    Counted now = {.bound = ex->search.has_no_bound ? NO_BOUND : ex->search.bound, .longest = ex->total.longest, .schedules = ex->total.schedules, .given_up = ex->total.given_up, .states = ex_states_count(), .seconds = seconds() - ex->total.since};
+    memcpy(now.counts, ex->total.counts, sizeof now.counts);
     return now;
 }
 
@@ -112,24 +112,24 @@ static void put_counts(const Counted *one)
     else
         printf("bound %u: ", one->bound);
     printf("%llu schedules, ", (unsigned long long)one->schedules);
-    if (ex->is_reduced)
+    if (ex->search.is_reduced)
         printf("%llu given up, ", (unsigned long long)one->given_up);
-    if (ex->is_reduced)
+    if (ex->search.is_reduced)
         printf("%llu states, ", (unsigned long long)one->states);
     printf("%.2f s, longest %u; told %llu, races %llu, stuck %llu, crashed %llu\n", one->seconds, one->longest, (unsigned long long)one->counts[TOLD], (unsigned long long)one->counts[RACE],
            (unsigned long long)one->counts[STUCK], (unsigned long long)one->counts[CRASH]);
-    if (ex->unknown)
+    if (ex->total.unknown)
         printf("the search ends here, since a wait isn't modelled: what is after it can't be told\n");
-    if (ex->full)
-        printf("the memory for %s is full: the search ends here, and isn't whole (--memory)\n", ex->full);
+    if (ex->total.full)
+        printf("the memory for %s is full: the search ends here, and isn't whole (--memory)\n", ex->total.full);
 }
 
 static void note_counts(void)
 {
     Counted now = ex_count_now();
-    if (ex->counted_count < BOUNDS)
-        ex->counted[ex->counted_count++] = now;
-    if (!ex->is_silent)
+    if (ex->total.counted_count < BOUNDS)
+        ex->total.counted[ex->total.counted_count++] = now;
+    if (!ex->total.is_silent)
         put_counts(&now);
 }
 
@@ -137,9 +137,9 @@ static void note_counts(void)
 static double done_part(void)
 {
     double part = 0, each = 1;
-    for (size_t at = 0; at < ex->length && each > 1e-12; at++) {
-        each /= ex->path[at].count;
-        part += each * ex->path[at].taken;
+    for (size_t at = 0; at < ex->path.length && each > 1e-12; at++) {
+        each /= ex->path.nodes[at].count;
+        part += each * ex->path.nodes[at].taken;
     }
     return part;
 }
@@ -147,46 +147,46 @@ static double done_part(void)
 static void show_progress(void)
 {
     double now = seconds(), part;
-    if (now - ex->shown < 5)
+    if (now - ex->total.shown < 5)
         return;
-    ex->shown = now;
+    ex->total.shown = now;
     part = done_part();
-    if (isatty(STDERR_FILENO) && (!ex->is_silent || !ex->shard))
-        fprintf(stderr, "bound %u: %llu schedules, %.0f s; about %.1f %% of it are done%s\n", ex->bound, (unsigned long long)ex->schedules, now - ex->since, 100 * part,
-                ex->is_silent ? ", as this part of it shows" : "");
+    if (isatty(STDERR_FILENO) && (!ex->total.is_silent || !ex->search.shard))
+        fprintf(stderr, "bound %u: %llu schedules, %.0f s; about %.1f %% of it are done%s\n", ex->search.bound, (unsigned long long)ex->total.schedules, now - ex->total.since, 100 * part,
+                ex->total.is_silent ? ", as this part of it shows" : "");
 }
 
 /* An interrupted search is saved where it stands, and each minute. */
 static bool is_to_end(void)
 {
-    if (ex->full || ex->unknown)
+    if (ex->total.full || ex->total.unknown)
         return true;
-    if (ex->runs % 1024 && !ex->is_interrupted)
+    if (ex->search.runs % 1024 && !ex->total.is_interrupted)
         return false;
     show_progress();
-    if (ex->resume_path[0] && (ex->is_interrupted || seconds() - ex->saved > 60)) {
-        ex->saved = seconds();
-        ex_save(ex->resume_path);
+    if (ex->total.resume_path[0] && (ex->total.is_interrupted || seconds() - ex->total.saved > 60)) {
+        ex->total.saved = seconds();
+        ex_save(ex->total.resume_path);
     }
-    return ex->is_interrupted;
+    return ex->total.is_interrupted;
 }
 
 static void begin_bound(void)
 {
-    ex->since = seconds();
-    if (ex->is_resumed) {
-        ex->schedules = ex->resumed.schedules, ex->given_up = ex->resumed.given_up, ex->longest = ex->resumed.longest;
-        memcpy(ex->counts, ex->resumed.counts, sizeof ex->counts);
-        ex->since -= ex->resumed.seconds;
-        ex->is_resumed = false;
+    ex->total.since = seconds();
+    if (ex->total.is_resumed) {
+        ex->total.schedules = ex->total.resumed.schedules, ex->total.given_up = ex->total.resumed.given_up, ex->total.longest = ex->total.resumed.longest;
+        memcpy(ex->total.counts, ex->total.resumed.counts, sizeof ex->total.counts);
+        ex->total.since -= ex->total.resumed.seconds;
+        ex->total.is_resumed = false;
         return;
     }
-    ex->length = 0;
-    ex->schedules = ex->given_up = 0;
+    ex->path.length = 0;
+    ex->total.schedules = ex->total.given_up = 0;
     ex_forget_states();
-    memset(ex->counts, 0, sizeof ex->counts);
-    for (int at = 0; at < ex->kinds_count; at++)
-        ex->kinds[at].count = 0;
+    memset(ex->total.counts, 0, sizeof ex->total.counts);
+    for (int at = 0; at < ex->kinds.count; at++)
+        ex->kinds.all[at].count = 0;
 }
 
 /* False if it was interrupted. */
@@ -198,7 +198,7 @@ static bool search_bound(void)
         ex_run_once();
         is_more = ex_advance();
     }
-    if (is_more && ex->is_interrupted)
+    if (is_more && ex->total.is_interrupted)
         return false;
     note_counts();
     return true;
@@ -206,67 +206,67 @@ static bool search_bound(void)
 
 void ex_search(void)
 {
-    unsigned last = ex->has_no_bound ? 0 : ex->asked_bound, first = ex->is_resumed ? ex->resumed.bound : (unsigned)ex->counted_count;
+    unsigned last = ex->search.has_no_bound ? 0 : ex->search.asked_bound, first = ex->total.is_resumed ? ex->total.resumed.bound : (unsigned)ex->total.counted_count;
     bool is_whole = true;
-    if (ex->has_no_bound) {
-        ex->bound = UINT32_MAX;
+    if (ex->search.has_no_bound) {
+        ex->search.bound = UINT32_MAX;
         is_whole = search_bound();
     }
-    for (ex->bound = first; !ex->has_no_bound && ex->bound <= last && is_whole && !ex->full && !ex->unknown; ex->bound++)
+    for (ex->search.bound = first; !ex->search.has_no_bound && ex->search.bound <= last && is_whole && !ex->total.full && !ex->total.unknown; ex->search.bound++)
         is_whole = search_bound();
-    ex->is_whole = is_whole;
+    ex->total.is_whole = is_whole;
     if (is_whole)
         return;
-    ex->bound -= !ex->has_no_bound;
-    if (ex->resume_path[0])
-        ex_save(ex->resume_path);
+    ex->search.bound -= !ex->search.has_no_bound;
+    if (ex->total.resume_path[0])
+        ex_save(ex->total.resume_path);
 }
 
 /* Before the search, and before a schedule that is played again: runs without a preemption say how long one is, and which memory is shared by more than locks. Nothing of them is told. */
 static void warm_up(void)
 {
-    bool is_reduced = ex->is_reduced, has_no_bound = ex->has_no_bound, is_coarse = ex->is_coarse, is_traced = ex->is_traced, wants_ends = ex->wants_ends;
-    unsigned fails = ex->fails, shards = ex->shards, runs = 0;
-    ex->is_reduced = ex->has_no_bound = ex->is_traced = ex->wants_ends = false;
-    ex->is_coarse = true;
-    ex->bound = ex->fails = ex->shards = 0;
+    bool is_reduced = ex->search.is_reduced, has_no_bound = ex->search.has_no_bound, is_coarse = ex->search.is_coarse, is_traced = ex->search.is_traced, wants_ends = ex->search.wants_ends;
+    unsigned fails = ex->search.fails, shards = ex->search.shards, runs = 0;
+    ex->search.is_reduced = ex->search.has_no_bound = ex->search.is_traced = ex->search.wants_ends = false;
+    ex->search.is_coarse = true;
+    ex->search.bound = ex->search.fails = ex->search.shards = 0;
     ex_learn_cells(true);
     do {
         ex_run_once();
         if (!runs)
-            ex->usual_steps = ex->steps ? ex->steps : 1;
-    } while (++runs < WARM_UP && !ex->unknown && ex_advance());
+            ex->path.usual_steps = ex->run.steps ? ex->run.steps : 1;
+    } while (++runs < WARM_UP && !ex->total.unknown && ex_advance());
     ex_learn_cells(false);
     ex_clear_stacks();
     ex_clear_arenas();
-    ex->is_reduced = is_reduced, ex->has_no_bound = has_no_bound, ex->is_coarse = is_coarse, ex->is_traced = is_traced, ex->wants_ends = wants_ends;
-    ex->fails = fails, ex->shards = shards;
-    ex->kinds_count = 0;
-    ex->schedules = ex->length = 0;
-    ex->longest = 0;
-    ex->unknown = ex->full = NULL;
-    memset(ex->counts, 0, sizeof ex->counts);
+    ex->search.is_reduced = is_reduced, ex->search.has_no_bound = has_no_bound, ex->search.is_coarse = is_coarse, ex->search.is_traced = is_traced, ex->search.wants_ends = wants_ends;
+    ex->search.fails = fails, ex->search.shards = shards;
+    ex->kinds.count = 0;
+    ex->total.schedules = ex->path.length = 0;
+    ex->total.longest = 0;
+    ex->total.unknown = ex->total.full = NULL;
+    memset(ex->total.counts, 0, sizeof ex->total.counts);
 }
 
 /* Those of a part are each Nth one. */
 static void draw_runs(void)
 {
-    unsigned shards = ex->shards ? ex->shards : 1, shard = ex->shard;
-    ex->since = seconds();
-    ex->shards = 0;
-    for (uint64_t at = shard; at < ex->asked_runs && !ex->unknown; at += shards) {
-        ex->bound = UINT32_MAX;
-        ex->seed = ex->asked_seed + at;
-        ex->random = ex->seed * 0x9e3779b97f4a7c15ULL | 1;
-        if (ex->pct)
+    unsigned shards = ex->search.shards ? ex->search.shards : 1, shard = ex->search.shard;
+    ex->total.since = seconds();
+    ex->search.shards = 0;
+    for (uint64_t at = shard; at < ex->search.asked_runs && !ex->total.unknown; at += shards) {
+        ex->search.bound = UINT32_MAX;
+        ex->search.seed = ex->search.asked_seed + at;
+        ex->path.random = ex->search.seed * 0x9e3779b97f4a7c15ULL | 1;
+        if (ex->search.pct)
             ex_draw_priorities();
         ex_run_once();
     }
-    ex->shards = shards, ex->bound = 0;
-    if (!ex->is_silent)
-        printf("seeds %llu to %llu: ", (unsigned long long)ex->asked_seed, (unsigned long long)(ex->asked_seed + ex->asked_runs - 1));
+    ex->search.shards = shards, ex->search.bound = 0;
+    if (!ex->total.is_silent)
+        printf("seeds %llu to %llu: ", (unsigned long long)ex->search.asked_seed, (unsigned long long)(ex->search.asked_seed + ex->search.asked_runs - 1));
     note_counts();
-    ex->is_whole = true;
+    ex->total.is_whole = true;
 }
 
 /* ---- The set-up, in order: 0, or the exit status. */
@@ -278,27 +278,27 @@ static int set_up(void)
 
 static int status(void)
 {
-    const Counted *last = ex->counted_count ? &ex->counted[ex->counted_count - 1] : NULL;
-    const uint64_t *counts = last && ex->is_whole ? last->counts : ex->counts;
+    const Counted *last = ex->total.counted_count ? &ex->total.counted[ex->total.counted_count - 1] : NULL;
+    const uint64_t *counts = last && ex->total.is_whole ? last->counts : ex->total.counts;
     if (counts[CRASH])
         return 139;
     if (counts[STUCK])
         return 6;
-    if (counts[TOLD] || counts[RACE] || (ex->is_strict && counts[LIMITED]))
+    if (counts[TOLD] || counts[RACE] || (ex->search.is_strict && counts[LIMITED]))
         return 5;
-    return ex->full || ex->unknown || !ex->is_whole ? 4 : 0;
+    return ex->total.full || ex->total.unknown || !ex->total.is_whole ? 4 : 0;
 }
 
 static int play(const Asked *asked)
 {
-    ex->replay = asked->replay;
-    ex->bound = UINT32_MAX;
-    ex->fails = 0;
+    ex->search.replay = asked->replay;
+    ex->search.bound = UINT32_MAX;
+    ex->search.fails = 0;
     ex_run_once();
-    ex->is_whole = true;
+    ex->total.is_whole = true;
     if (asked->page)
         return ex_put_page(asked->page) ? 3 : status();
-    if (ex->is_traced)
+    if (ex->search.is_traced)
         ex_trace_end();
     else
         ex_report();
@@ -309,19 +309,19 @@ static int play(const Asked *asked)
 static int put_page_of_first(const char *path)
 {
     int ended = status(), at = 0;
-    while (at < ex->kinds_count && (ex->kinds[at].of == END || ex->kinds[at].of == LIMITED))
+    while (at < ex->kinds.count && (ex->kinds.all[at].of == END || ex->kinds.all[at].of == LIMITED))
         at++;
-    if (at == ex->kinds_count) {
+    if (at == ex->kinds.count) {
         fprintf(stderr, "nothing was found: there is no page\n");
         return ended;
     }
-    Asked again = {.replay = ex->kinds[at].schedule, .page = path};
-    ex->seed = 0;
-    ex->counted_count = 0;
-    ex->is_traced = true;
-    ex->is_reduced = ex->has_no_bound = false;
-    ex->kinds_count = 0;
-    memset(ex->counts, 0, sizeof ex->counts);
+    Asked again = {.replay = ex->kinds.all[at].schedule, .page = path};
+    ex->search.seed = 0;
+    ex->total.counted_count = 0;
+    ex->search.is_traced = true;
+    ex->search.is_reduced = ex->search.has_no_bound = false;
+    ex->kinds.count = 0;
+    memset(ex->total.counts, 0, sizeof ex->total.counts);
     return play(&again) == 3 ? 3 : ended;
 }
 
@@ -329,11 +329,11 @@ static int end_search(const Asked *asked)
 {
     if (asked->saves && ex_save(asked->saves) != 0)
         return 3;
-    if (!ex->is_whole && ex->resume_path[0])
-        printf("interrupted: the same words go on, with --resume %s\n", ex->resume_path);
-    if (asked->learns && !ex->full)
+    if (!ex->total.is_whole && ex->total.resume_path[0])
+        printf("interrupted: the same words go on, with --resume %s\n", ex->total.resume_path);
+    if (asked->learns && !ex->total.full)
         return ex_learn_ends(asked->learns);
-    if (asked->expects && !ex->full)
+    if (asked->expects && !ex->total.full)
         return ex_compare_ends(asked->expects);
     if (asked->shrinks)
         ex_shrink();
@@ -344,18 +344,18 @@ static int end_search(const Asked *asked)
 /* What was merged is shown as if it were searched here. */
 static void put_merged(void)
 {
-    if (ex->asked_seed && ex->counted_count)
-        printf("seeds %llu to %llu: ", (unsigned long long)ex->asked_seed, (unsigned long long)(ex->asked_seed + ex->asked_runs - 1));
-    for (int at = 0; at < ex->counted_count; at++)
-        put_counts(&ex->counted[at]);
+    if (ex->search.asked_seed && ex->total.counted_count)
+        printf("seeds %llu to %llu: ", (unsigned long long)ex->search.asked_seed, (unsigned long long)(ex->search.asked_seed + ex->search.asked_runs - 1));
+    for (int at = 0; at < ex->total.counted_count; at++)
+        put_counts(&ex->total.counted[at]);
 }
 
 static int search_and_end(const Asked *asked)
 {
-    void (*search)(void) = ex->asked_seed ? draw_runs : ex_search;
+    void (*search)(void) = ex->search.asked_seed ? draw_runs : ex_search;
     int ended = 0;
     if (asked->resume)
-        snprintf(ex->resume_path, sizeof ex->resume_path, "%s", asked->resume);
+        snprintf(ex->total.resume_path, sizeof ex->total.resume_path, "%s", asked->resume);
     if (asked->jobs > 1)
         ended = ex_search_jobs(asked->jobs, asked->resume, search);
     else if (asked->resume)
@@ -363,9 +363,9 @@ static int search_and_end(const Asked *asked)
     if (ended == 3)
         return 3;
     if (asked->jobs > 1)
-        ex->is_whole = !ended;
+        ex->total.is_whole = !ended;
     put_merged();
-    if (asked->jobs <= 1 && !ex->is_whole)
+    if (asked->jobs <= 1 && !ex->total.is_whole)
         search();
     return end_search(asked);
 }
@@ -373,7 +373,7 @@ static int search_and_end(const Asked *asked)
 static int merge(const Asked *asked)
 {
     int ended = ex_merge(asked->merges, asked->merges_count);
-    ex->is_whole = !ended;
+    ex->total.is_whole = !ended;
     if (ended == 3)
         return 3;
     put_merged();
@@ -384,7 +384,7 @@ static int merge(const Asked *asked)
 static void interrupt(int signal)
 {
     (void)signal;
-    ex->is_interrupted = true;
+    ex->total.is_interrupted = true;
 }
 
 int main(int count, char **words)
@@ -392,12 +392,12 @@ int main(int count, char **words)
     Asked asked = {.jobs = 1};
     ex_open_memory();
     ex = ex_map(sizeof *ex);
-    ex->room = ex_map(ROOM);
+    ex->room.bytes = ex_map(ROOM);
     setvbuf(stdout, ex_map(1 << 16), _IOLBF, 1 << 16);
-    ex->is_quiet = true;
-    ex->memory = 1UL << 30;
-    ex->asked_bound = 2;
-    ex->asked_runs = 1000;
+    ex->search.is_quiet = true;
+    ex->search.memory = 1UL << 30;
+    ex->search.asked_bound = 2;
+    ex->search.asked_runs = 1000;
     if (!ex_read_words(count, words, &asked))
         return 2;
     if (asked.merges_count)
@@ -414,11 +414,11 @@ int main(int count, char **words)
     ex_name_search(asked.search, asked.scenario);
     ex_open_shadow();
     ex_watch_faults();
-    if (asked.replay || ex->asked_seed)
-        ex->is_reduced = ex->has_no_bound = false;
-    if (ex->is_reduced)
+    if (asked.replay || ex->search.asked_seed)
+        ex->search.is_reduced = ex->search.has_no_bound = false;
+    if (ex->search.is_reduced)
         ex_open_states();
-    kz_is_deaf = !ex->wants_ends && !ex->is_traced && !asked.page;
+    kz_is_deaf = !ex->search.wants_ends && !ex->search.is_traced && !asked.page;
     ex_keep_stacks();
     ex_take_image();
     warm_up();

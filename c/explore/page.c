@@ -86,8 +86,8 @@ static void note_hold(Holds *holds, const Event *one)
 /* Whether what was found names this place of the code. */
 static bool is_side(const void *from)
 {
-    for (size_t at = 0; from && at < ex->found_count; at++)
-        if (ex->found[at].sides[0] == (uintptr_t)from || ex->found[at].sides[1] == (uintptr_t)from)
+    for (size_t at = 0; from && at < ex->found.count; at++)
+        if (ex->found.all[at].sides[0] == (uintptr_t)from || ex->found.all[at].sides[1] == (uintptr_t)from)
             return true;
     return false;
 }
@@ -97,14 +97,14 @@ static size_t end_of(size_t at)
 {
     do
         at++;
-    while (at < ex->events_count && ex->events[at].kind != EVENT_STEP);
+    while (at < ex->trace.count && ex->trace.events[at].kind != EVENT_STEP);
     return at;
 }
 
 static bool has_side(size_t at)
 {
     for (size_t next = at; next < end_of(at); next++)
-        if (is_side(ex->events[next].from))
+        if (is_side(ex->trace.events[next].from))
             return true;
     return false;
 }
@@ -112,7 +112,7 @@ static bool has_side(size_t at)
 /* A line may be said in several pieces. */
 static bool goes_on(size_t at, size_t from)
 {
-    const char *before = at > from && ex->events[at].kind == EVENT_SAID && ex->events[at - 1].kind == EVENT_SAID ? ex->events[at - 1].text : "";
+    const char *before = at > from && ex->trace.events[at].kind == EVENT_SAID && ex->trace.events[at - 1].kind == EVENT_SAID ? ex->trace.events[at - 1].text : "";
     return *before && before[strlen(before) - 1] != '\n';
 }
 
@@ -121,7 +121,7 @@ static void put_events(FILE *to, size_t from, size_t end)
     static const char *const classes[] = {"at", "said", "touch", "lock", "lock", "bad"};
     bool is_open = false;
     for (size_t at = from; at < end; at++) {
-        const Event *one = &ex->events[at];
+        const Event *one = &ex->trace.events[at];
         if ((one->kind == EVENT_TAKES || one->kind == EVENT_GIVES) && !one->is_lock)
             continue;
         if (!goes_on(at, from)) {
@@ -136,7 +136,7 @@ static void put_events(FILE *to, size_t from, size_t end)
 
 static void put_step(FILE *to, size_t at)
 {
-    const Event *one = &ex->events[at];
+    const Event *one = &ex->trace.events[at];
     char place[128];
     if (one->is_preemption)
         fputs("<span class=\"preempts\">preempts</span> ", to);
@@ -156,19 +156,19 @@ static void put_step(FILE *to, size_t at)
 
 static bool has_lane(int client)
 {
-    for (size_t at = 0; at < ex->events_count; at++)
-        if ((int)ex->events[at].client == client && ex->events[at].kind == EVENT_STEP)
+    for (size_t at = 0; at < ex->trace.count; at++)
+        if ((int)ex->trace.events[at].client == client && ex->trace.events[at].kind == EVENT_STEP)
             return true;
     return false;
 }
 
 static void put_row(FILE *to, size_t at, Holds *holds)
 {
-    const Event *one = &ex->events[at];
+    const Event *one = &ex->trace.events[at];
     fprintf(to, "<tr%s><td class=\"number\">%u</td>", has_side(at) ? " class=\"side\"" : "", one->step);
     for (size_t next = at; next < end_of(at); next++)
-        note_hold(holds, &ex->events[next]);
-    for (int client = 1; client <= ex->runners_count; client++) {
+        note_hold(holds, &ex->trace.events[next]);
+    for (int client = 1; client <= ex->run.runners_count; client++) {
         if (!has_lane(client))
             continue;
         bool is_on = (int)one->client == client;
@@ -188,18 +188,18 @@ static void put_row(FILE *to, size_t at, Holds *holds)
 static void put_head(FILE *to)
 {
     bool is_bad = false;
-    for (size_t at = 0; at < ex->found_count; at++)
-        is_bad |= ex->found[at].of != END && ex->found[at].of != LIMITED;
+    for (size_t at = 0; at < ex->found.count; at++)
+        is_bad |= ex->found.all[at].of != END && ex->found.all[at].of != LIMITED;
     fprintf(to, "<!DOCTYPE html>\n<html lang=\"en\">\n<head>\n<meta charset=\"utf-8\">\n<meta name=\"viewport\" content=\"width=device-width, initial-scale=1\">\n"
                 "<meta http-equiv=\"Content-Security-Policy\" content=\"default-src 'none'; style-src 'unsafe-inline'\">\n<title>Kazdrin: a schedule</title>\n<style>\n%s</style>\n</head>\n<body>\n",
             style);
     fprintf(to, "<header><h1>Kazdrin: a schedule</h1><span id=\"verdict\"%s>%s</span><span id=\"schedule\">--replay '", is_bad ? " class=\"bad\"" : "", is_bad ? "something was found" : "nothing was found");
-    put_plain(to, ex_schedule_text(ex->schedule_length));
+    put_plain(to, ex_schedule_text(ex->schedule.length));
     fputs("'</span></header>\n", to);
-    for (size_t at = 0; at < ex->found_count; at++) {
+    for (size_t at = 0; at < ex->found.count; at++) {
         char text[TEXT];
-        kz_unmark(text, sizeof text, ex->found[at].text);
-        fprintf(to, "<pre%s>", ex->found[at].of == END || ex->found[at].of == LIMITED ? "" : " class=\"found\"");
+        kz_unmark(text, sizeof text, ex->found.all[at].text);
+        fprintf(to, "<pre%s>", ex->found.all[at].of == END || ex->found.all[at].of == LIMITED ? "" : " class=\"found\"");
         put_text(to, text);
         fputs("</pre>\n", to);
     }
@@ -212,12 +212,12 @@ int ex_put_page(const char *path)
     if (to) {
         put_head(to);
         fputs("<table>\n<thead><tr><th></th>", to);
-        for (int client = 1; client <= ex->runners_count; client++)
+        for (int client = 1; client <= ex->run.runners_count; client++)
             if (has_lane(client))
                 fprintf(to, "<th>%s</th>", ex_runners[client].name);
         fputs("</tr></thead>\n<tbody>\n", to);
-        for (size_t at = 0; at < ex->events_count; at++)
-            if (ex->events[at].kind == EVENT_STEP)
+        for (size_t at = 0; at < ex->trace.count; at++)
+            if (ex->trace.events[at].kind == EVENT_STEP)
                 put_row(to, at, holds);
         fputs("</tbody>\n</table>\n</body>\n</html>\n", to);
     }

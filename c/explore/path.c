@@ -6,41 +6,41 @@
 /* ---- The search: it follows the path, takes the first option beyond it, and appends that. */
 bool ex_is_own(void)
 {
-    return ex->shards < 2 || ex_mixed(ex->hash) % ex->shards == ex->shard;
+    return ex->search.shards < 2 || ex_mixed(ex->path.hash) % ex->search.shards == ex->search.shard;
 }
 
 /* The first two deviations from the usual order say whose part a run is. Once they are known, another's part isn't run. */
 static void note_deviation(unsigned taken)
 {
-    if (!taken || ex->deviations++ >= 2)
+    if (!taken || ex->path.deviations++ >= 2)
         return;
-    ex->hash = ex_mixed(ex->hash * 1000003 + ex->depth * 16 + taken);
-    if (ex->deviations == 2 && !ex_is_own()) {
-        ex->length = ex->depth;
-        siglongjmp(ex->out, 1);
+    ex->path.hash = ex_mixed(ex->path.hash * 1000003 + ex->path.depth * 16 + taken);
+    if (ex->path.deviations == 2 && !ex_is_own()) {
+        ex->path.length = ex->path.depth;
+        siglongjmp(ex->run.out, 1);
     }
 }
 
 /* The option that the path has for this choice; a choice that it doesn't have yet is appended with its first. `stays` is the client that may go on without a preemption; 0 if none may. */
 static unsigned follow(unsigned count, bool is_switch, int stays)
 {
-    if (ex->depth == PATH) {
+    if (ex->path.depth == PATH) {
         ex_found(STUCK, "ENDLESS: the run has too many choices");
-        siglongjmp(ex->out, 1);
+        siglongjmp(ex->run.out, 1);
     }
-    Node *node = &ex->path[ex->depth];
-    if (ex->depth == ex->length && is_switch && ex->is_reduced && ex_is_known(stays)) {
-        ex->is_given_up = true;
-        siglongjmp(ex->out, 1);
+    Node *node = &ex->path.nodes[ex->path.depth];
+    if (ex->path.depth == ex->path.length && is_switch && ex->search.is_reduced && ex_is_known(stays)) {
+        ex->run.is_given_up = true;
+        siglongjmp(ex->run.out, 1);
     }
-    if (ex->depth == ex->length) {
-        *node = (Node){.count = (uint8_t)count, .is_switch = is_switch, .key = is_switch && ex->is_reduced ? node->key : 0, .able = ex->able, .place = (uint32_t)ex->schedule_length};
-        ex->length++;
+    if (ex->path.depth == ex->path.length) {
+        *node = (Node){.count = (uint8_t)count, .is_switch = is_switch, .key = is_switch && ex->search.is_reduced ? node->key : 0, .able = ex->run.able, .place = (uint32_t)ex->schedule.length};
+        ex->path.length++;
     } else if (node->count != count) {
         ex_found(CRASH, "NOT REPEATABLE: the same schedule came to another choice");
-        siglongjmp(ex->out, 1);
+        siglongjmp(ex->run.out, 1);
     }
-    ex->depth++;
+    ex->path.depth++;
     note_deviation(node->taken);
     return node->taken;
 }
@@ -48,12 +48,12 @@ static unsigned follow(unsigned count, bool is_switch, int stays)
 /* To the next path; false if there is none. */
 bool ex_advance(void)
 {
-    while (ex->length > 0) {
-        Node *node = &ex->path[ex->length - 1];
+    while (ex->path.length > 0) {
+        Node *node = &ex->path.nodes[ex->path.length - 1];
         node->taken++;
         if (node->taken < node->count)
             return true;
-        ex->length--;
+        ex->path.length--;
     }
     return false;
 }
@@ -67,7 +67,7 @@ static bool word_is(const char *word, size_t length, const char *name)
 /* The word at which it stands; its text has no count, and `count` is how often it is still to be taken. */
 static const char *word_now(size_t *length, unsigned *count)
 {
-    const char *at = ex->replay + strspn(ex->replay, " ");
+    const char *at = ex->search.replay + strspn(ex->search.replay, " ");
     *length = strcspn(at, "* ");
     *count = at[*length] == '*' ? (unsigned)strtoul(at + *length + 1, NULL, 10) : 1;
     return at;
@@ -82,7 +82,7 @@ static void take_word(const char *word)
     if (++taken < count)
         return;
     taken = 0;
-    ex->replay = word + strcspn(word, " ");
+    ex->search.replay = word + strcspn(word, " ");
 }
 
 static unsigned play_again(unsigned count, Asks asks, const int *clients)
@@ -110,28 +110,28 @@ static unsigned play_again(unsigned count, Asks asks, const int *clients)
 /* ---- By a seed: a coin at each choice, or priorities. */
 unsigned ex_draw(unsigned count)
 {
-    ex->random ^= ex->random << 13;
-    ex->random ^= ex->random >> 7;
-    ex->random ^= ex->random << 17;
-    return (unsigned)((ex->random >> 20) % count);
+    ex->path.random ^= ex->path.random << 13;
+    ex->path.random ^= ex->path.random >> 7;
+    ex->path.random ^= ex->path.random << 17;
+    return (unsigned)((ex->path.random >> 20) % count);
 }
 
 /* Of each client at random; and the steps at which the one that runs falls behind all others, of those that a run in order has. */
 void ex_draw_priorities(void)
 {
     for (int client = 0; client <= RUNNERS; client++)
-        ex->priorities[client] = DEPTH + 1 + ex_draw(1U << 30);
-    for (unsigned at = 0; at + 1 < ex->pct; at++)
-        ex->changes[at] = 1 + ex_draw(ex->usual_steps);
-    ex->changed = 0;
+        ex->path.priorities[client] = DEPTH + 1 + ex_draw(1U << 30);
+    for (unsigned at = 0; at + 1 < ex->search.pct; at++)
+        ex->path.changes[at] = 1 + ex_draw(ex->path.usual_steps);
+    ex->path.changed = 0;
 }
 
 static void change_priorities(void)
 {
-    for (unsigned at = 0; at + 1 < ex->pct; at++)
-        if (ex->changes[at] <= ex->steps && !(ex->changed >> at & 1)) {
-            ex->changed |= 1U << at;
-            ex->priorities[ex->current] = DEPTH - at;
+    for (unsigned at = 0; at + 1 < ex->search.pct; at++)
+        if (ex->path.changes[at] <= ex->run.steps && !(ex->path.changed >> at & 1)) {
+            ex->path.changed |= 1U << at;
+            ex->path.priorities[ex->run.current] = DEPTH - at;
         }
 }
 
@@ -140,7 +140,7 @@ static unsigned by_priority(unsigned count, const int *clients)
     unsigned best = 0;
     change_priorities();
     for (unsigned at = 1; at < count; at++)
-        if (ex->priorities[clients[at]] > ex->priorities[clients[best]])
+        if (ex->path.priorities[clients[at]] > ex->path.priorities[clients[best]])
             best = at;
     return best;
 }
@@ -148,13 +148,13 @@ static unsigned by_priority(unsigned count, const int *clients)
 unsigned ex_decide(unsigned count, Asks asks, const int *clients, bool may_stay)
 {
     bool is_switch = asks == SWITCH;
-    if (ex->is_guided)
+    if (ex->run.is_guided)
         return ex_guided(count, asks, clients);
-    if (ex->replay)
+    if (ex->search.replay)
         return play_again(count, asks, clients);
-    if (ex->seed && is_switch && ex->pct)
+    if (ex->search.seed && is_switch && ex->search.pct)
         return by_priority(count, clients);
-    if (ex->seed)
+    if (ex->search.seed)
         return is_switch ? ex_draw(count) : ex_draw(8) == 0;
     return follow(count, is_switch, may_stay ? clients[0] : 0);
 }
@@ -163,18 +163,18 @@ unsigned ex_decide(unsigned count, Asks asks, const int *clients, bool may_stay)
 static size_t in_a_row(size_t at, size_t length)
 {
     size_t end = at + 1;
-    while (end < length && ex->schedule[end] == ex->schedule[at] && ex->schedule[at] < INSIDE)
+    while (end < length && ex->schedule.steps[end] == ex->schedule.steps[at] && ex->schedule.steps[at] < INSIDE)
         end++;
     return end - at;
 }
 
 const char *ex_schedule_text(size_t length)
 {
-    char *text = ex->schedule_text;
-    size_t used = 0, size = sizeof ex->schedule_text, count;
+    char *text = ex->schedule.text;
+    size_t used = 0, size = sizeof ex->schedule.text, count;
     text[0] = 0;
     for (size_t at = 0; at < length && used + 64 < size; at += count) {
-        uint8_t client = ex->schedule[at];
+        uint8_t client = ex->schedule.steps[at];
         count = in_a_row(at, length);
         used += (size_t)snprintf(text + used, size - used, at ? " %s" : "%s", client == FAIL ? "fail" : client == INSIDE ? "inside" : ex_runners[client].name);
         if (count > 1)

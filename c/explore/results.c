@@ -21,7 +21,7 @@ static uint64_t file_hash(const char *path)
 
 void ex_name_search(const char *words, const char *scenario)
 {
-    snprintf(ex->search, sizeof ex->search, "%.400s scenario %016llx program %016llx", words, (unsigned long long)file_hash(scenario), (unsigned long long)file_hash("/proc/self/exe"));
+    snprintf(ex->search.name, sizeof ex->search.name, "%.400s scenario %016llx program %016llx", words, (unsigned long long)file_hash(scenario), (unsigned long long)file_hash("/proc/self/exe"));
 }
 
 /* ---- Writing. */
@@ -57,8 +57,8 @@ static void put_kind(FILE *to, const Kind *kind)
 static void put_path(FILE *to)
 {
     fprintf(to, "path");
-    for (size_t at = 0; at < ex->length; at++)
-        fprintf(to, " %u.%u.%d", ex->path[at].count, ex->path[at].taken, ex->path[at].is_switch);
+    for (size_t at = 0; at < ex->path.length; at++)
+        fprintf(to, " %u.%u.%d", ex->path.nodes[at].count, ex->path.nodes[at].taken, ex->path.nodes[at].is_switch);
     putc('\n', to);
 }
 
@@ -70,13 +70,13 @@ int ex_save(const char *path)
     FILE *to = fopen(beside, "w");
     if (to) {
         fprintf(to, "kazdrin search 1\n");
-        put_text(to, "search", ex->search);
-        fprintf(to, "shard %u %u\nwhole %d\nreduced %d\n", ex->shard, ex->shards ? ex->shards : 1, ex->is_whole, ex->is_reduced);
-        for (int at = 0; at < ex->counted_count; at++)
-            put_numbers(to, &ex->counted[at]);
-        for (int at = 0; at < ex->kinds_count; at++)
-            put_kind(to, &ex->kinds[at]);
-        if (!ex->is_whole) {
+        put_text(to, "search", ex->search.name);
+        fprintf(to, "shard %u %u\nwhole %d\nreduced %d\n", ex->search.shard, ex->search.shards ? ex->search.shards : 1, ex->total.is_whole, ex->search.is_reduced);
+        for (int at = 0; at < ex->total.counted_count; at++)
+            put_numbers(to, &ex->total.counted[at]);
+        for (int at = 0; at < ex->kinds.count; at++)
+            put_kind(to, &ex->kinds.all[at]);
+        if (!ex->total.is_whole) {
             Counted now = ex_count_now();
             fprintf(to, "at ");
             put_numbers(to, &now);
@@ -120,13 +120,13 @@ static bool read_numbers(const char *text, Counted *one)
 static void add_numbers(const Counted *more)
 {
     int at = 0;
-    while (at < ex->counted_count && ex->counted[at].bound != more->bound)
+    while (at < ex->total.counted_count && ex->total.counted[at].bound != more->bound)
         at++;
     if (at == BOUNDS)
         return;
-    Counted *one = &ex->counted[at];
-    if (at == ex->counted_count) {
-        ex->counted_count++;
+    Counted *one = &ex->total.counted[at];
+    if (at == ex->total.counted_count) {
+        ex->total.counted_count++;
         *one = *more;
         return;
     }
@@ -142,13 +142,13 @@ static void add_numbers(const Counted *more)
 static bool read_path(char *text)
 {
     char *rest = NULL;
-    ex->length = 0;
+    ex->path.length = 0;
     for (char *word = strtok_r(text, " \n", &rest); word; word = strtok_r(NULL, " \n", &rest)) {
         unsigned count, taken;
         int is_switch;
-        if (ex->length == PATH || sscanf(word, "%u.%u.%d", &count, &taken, &is_switch) != 3)
+        if (ex->path.length == PATH || sscanf(word, "%u.%u.%d", &count, &taken, &is_switch) != 3)
             return false;
-        ex->path[ex->length++] = (Node){.count = (uint8_t)count, .taken = (uint8_t)taken, .is_switch = is_switch};
+        ex->path.nodes[ex->path.length++] = (Node){.count = (uint8_t)count, .taken = (uint8_t)taken, .is_switch = is_switch};
     }
     return true;
 }
@@ -191,9 +191,9 @@ static void read_line(char *line, Reading *from)
         from->is_right = read_path(line + 4);
     } else if (strncmp(line, "search ", 7) == 0) {
         plain(line + 7);
-        if (!ex->search[0])
-            snprintf(ex->search, sizeof ex->search, "%s", line + 7);
-        from->is_right = strcmp(ex->search, line + 7) == 0;
+        if (!ex->search.name[0])
+            snprintf(ex->search.name, sizeof ex->search.name, "%s", line + 7);
+        from->is_right = strcmp(ex->search.name, line + 7) == 0;
         if (!from->is_right)
             fprintf(stderr, "this is another search: %s\n", line + 7);
     } else {
@@ -228,13 +228,13 @@ int ex_resume(const char *path)
     fclose(file);
     if (!read_file(path, &reading))
         return 3;
-    if (reading.shard != ex->shard || reading.shards != (ex->shards ? ex->shards : 1)) {
+    if (reading.shard != ex->search.shard || reading.shards != (ex->search.shards ? ex->search.shards : 1)) {
         fprintf(stderr, "%s: is part %u/%u of the search\n", path, reading.shard, reading.shards);
         return 3;
     }
-    ex->is_resumed = reading.has_place;
-    ex->is_whole = reading.is_whole;
-    ex->resumed = reading.at;
+    ex->total.is_resumed = reading.has_place;
+    ex->total.is_whole = reading.is_whole;
+    ex->total.resumed = reading.at;
     return 0;
 }
 
@@ -262,7 +262,7 @@ int ex_merge(char **paths, int count)
             status = 4;
         }
     }
-    ex->is_reduced = is_reduced;
+    ex->search.is_reduced = is_reduced;
     for (unsigned at = 0; at < shards; at++)
         if (!is_there[at] && !missing++)
             fprintf(stderr, "part %u/%u isn't there\n", at, shards);

@@ -6,11 +6,11 @@ static KzClient clients[KZ_FIRST_THREAD]; /* by their numbers */
 
 static Runner *new_runner(const char *name)
 {
-    Runner *one = &ex_runners[++ex->runners_count];
-    one->client = &clients[ex->runners_count];
-    kz_new_client(one->client, name, (unsigned)ex->runners_count);
+    Runner *one = &ex_runners[++ex->run.runners_count];
+    one->client = &clients[ex->run.runners_count];
+    kz_new_client(one->client, name, (unsigned)ex->run.runners_count);
     one->name = name;
-    one->like = ex->runners_count;
+    one->like = ex->run.runners_count;
     return one;
 }
 
@@ -19,7 +19,7 @@ static void add(const KzScript *script)
     Runner *one = new_runner(script->name);
     one->script = script;
     one->client->is_last = script->is_finally;
-    for (int at = ex->runners_count - 1; at >= 1; at--)
+    for (int at = ex->run.runners_count - 1; at >= 1; at--)
         if (kz_is_same_script(ex_runners[at].script, script))
             one->like = ex_runners[at].like;
 }
@@ -28,8 +28,8 @@ static void add(const KzScript *script)
 static int add_workers(void)
 {
     static char names[WORKERS][16] = {"work"};
-    int first = ex->runners_count + 1;
-    unsigned workers = ex->workers ? ex->workers : 1;
+    int first = ex->run.runners_count + 1;
+    unsigned workers = ex->search.workers ? ex->search.workers : 1;
     if (first + (int)workers > KZ_FIRST_THREAD) {
         fprintf(stderr, "with these clients there is room for %d workers\n", KZ_FIRST_THREAD - first);
         return 2;

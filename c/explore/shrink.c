@@ -14,7 +14,7 @@ struct Guide {
     Segment all[SEGMENTS];
     unsigned count, at, done;
 };
-#define guide ex->guide
+#define guide ex->run.guide
 
 static bool read_schedule(const char *text)
 {
@@ -27,7 +27,7 @@ static bool read_schedule(const char *text)
             return false;
         if (at[length] == '*')
             sscanf(at + length + 1, "%u", &times);
-        for (int number = 1; number <= ex->runners_count && !client; number++)
+        for (int number = 1; number <= ex->run.runners_count && !client; number++)
             if (ex_runners[number].client && strlen(ex_runners[number].name) == length && strncmp(ex_runners[number].name, at, length) == 0)
                 client = (unsigned)number;
         if (!client)
@@ -66,9 +66,9 @@ unsigned ex_guided(unsigned count, Asks asks, const int *clients)
 
 static Kind *found_again(const Kind *wanted)
 {
-    for (int at = 0; at < ex->kinds_count; at++)
-        if (ex->kinds[at].of == wanted->of && strcmp(ex->kinds[at].key, wanted->key) == 0)
-            return &ex->kinds[at];
+    for (int at = 0; at < ex->kinds.count; at++)
+        if (ex->kinds.all[at].of == wanted->of && strcmp(ex->kinds.all[at].key, wanted->key) == 0)
+            return &ex->kinds.all[at];
     return NULL;
 }
 
@@ -126,12 +126,12 @@ static bool is_found_without(const Kind *wanted)
     enum { RUNS = 20000 };
     unsigned preemptions = wanted->preemptions < 3 ? wanted->preemptions : 3;
     bool is_found = false;
-    for (ex->bound = 0; ex->bound <= preemptions && !is_found; ex->bound++) {
+    for (ex->search.bound = 0; ex->search.bound <= preemptions && !is_found; ex->search.bound++) {
         unsigned runs = 0;
         bool is_more = true;
-        ex->length = 0;
+        ex->path.length = 0;
         while (is_more && !is_found && runs++ < RUNS) {
-            ex->kinds_count = 0;
+            ex->kinds.count = 0;
             ex_run_once();
             is_found = found_again(wanted) != NULL;
             is_more = ex_advance();
@@ -143,11 +143,11 @@ static bool is_found_without(const Kind *wanted)
 /* The requests of a client that are left out, a bit for each. */
 static void put_scenario(void)
 {
-    for (int at = 1; at <= ex->usual_count; at++) {
+    for (int at = 1; at <= ex->run.usual_count; at++) {
         const Runner *one = &ex_runners[at];
         unsigned left = 0;
         for (size_t request = 0; one->script && request < one->script->count; request++) {
-            if (ex->left_out[at] >> request & 1)
+            if (ex->run.left_out[at] >> request & 1)
                 continue;
             if (!left++)
                 printf("    %s%s: ", one->script->is_finally ? "" : "client ", one->name);
@@ -161,65 +161,65 @@ static void put_scenario(void)
 static void shrink_scenario(const Kind *wanted)
 {
     unsigned without = 0;
-    memset(ex->left_out, 0, sizeof ex->left_out);
-    for (int at = 1; at <= ex->usual_count; at++)
+    memset(ex->run.left_out, 0, sizeof ex->run.left_out);
+    for (int at = 1; at <= ex->run.usual_count; at++)
         for (size_t request = ex_runners[at].script ? ex_runners[at].script->count : 0; request-- > 0;) {
-            ex->left_out[at] |= 1ULL << request;
+            ex->run.left_out[at] |= 1ULL << request;
             if (is_found_without(wanted))
                 without++;
             else
-                ex->left_out[at] &= ~(1ULL << request);
+                ex->run.left_out[at] &= ~(1ULL << request);
         }
     if (without) {
         printf("\nwith %u requests less the same is found:\n", without);
         ex_put_kind_line(wanted);
         put_scenario();
     }
-    memset(ex->left_out, 0, sizeof ex->left_out);
+    memset(ex->run.left_out, 0, sizeof ex->run.left_out);
 }
 
 static void each_scenario(void)
 {
-    int count = ex->kinds_count;
-    Kind *kept = ex_map(sizeof ex->kinds);
-    memcpy(kept, ex->kinds, sizeof ex->kinds);
-    ex->is_guided = false;
+    int count = ex->kinds.count;
+    Kind *kept = ex_map(sizeof ex->kinds.all);
+    memcpy(kept, ex->kinds.all, sizeof ex->kinds.all);
+    ex->run.is_guided = false;
     for (int at = 0; at < count; at++)
         if (kept[at].of != END && kept[at].of != LIMITED)
             shrink_scenario(&kept[at]);
-    memcpy(ex->kinds, kept, sizeof ex->kinds);
-    ex->kinds_count = count;
+    memcpy(ex->kinds.all, kept, sizeof ex->kinds.all);
+    ex->kinds.count = count;
 }
 
 /* What else comes up meanwhile doesn't count. */
 static void shrink_schedules(void)
 {
-    int count = ex->kinds_count;
+    int count = ex->kinds.count;
     uint64_t *counts = ex_map(sizeof *counts * KINDS);
     for (int at = 0; at < count; at++)
-        counts[at] = ex->kinds[at].count;
+        counts[at] = ex->kinds.all[at].count;
     for (int at = 0; at < count; at++)
-        if (ex->kinds[at].of != END && ex->kinds[at].of != LIMITED)
-            shrink_schedule(&ex->kinds[at]);
+        if (ex->kinds.all[at].of != END && ex->kinds.all[at].of != LIMITED)
+            shrink_schedule(&ex->kinds.all[at]);
     for (int at = 0; at < count; at++)
-        ex->kinds[at].count = counts[at];
-    ex->kinds_count = count;
+        ex->kinds.all[at].count = counts[at];
+    ex->kinds.count = count;
 }
 
 void ex_shrink(void)
 {
-    uint64_t seed = ex->seed, counts[LIMITED + 1], schedules = ex->schedules;
-    unsigned longest = ex->longest, shards = ex->shards, fails = ex->fails;
-    memcpy(counts, ex->counts, sizeof counts);
-    ex->is_reduced = false;
-    ex->seed = ex->shards = 0;
+    uint64_t seed = ex->search.seed, counts[LIMITED + 1], schedules = ex->total.schedules;
+    unsigned longest = ex->total.longest, shards = ex->search.shards, fails = ex->search.fails;
+    memcpy(counts, ex->total.counts, sizeof counts);
+    ex->search.is_reduced = false;
+    ex->search.seed = ex->search.shards = 0;
     guide = ex_map(sizeof(struct Guide));
-    ex->is_guided = true;
-    ex->bound = UINT32_MAX;
-    ex->length = 0;
+    ex->run.is_guided = true;
+    ex->search.bound = UINT32_MAX;
+    ex->path.length = 0;
     shrink_schedules();
     each_scenario();
-    ex->is_guided = false;
-    ex->seed = seed, ex->schedules = schedules, ex->longest = longest, ex->shards = shards, ex->fails = fails;
-    memcpy(ex->counts, counts, sizeof counts);
+    ex->run.is_guided = false;
+    ex->search.seed = seed, ex->total.schedules = schedules, ex->total.longest = longest, ex->search.shards = shards, ex->search.fails = fails;
+    memcpy(ex->total.counts, counts, sizeof counts);
 }

@@ -19,7 +19,7 @@ void ex_open_states(void)
 {
     states = ex_map(sizeof *states);
     states->size = 1024;
-    while (2 * states->size * sizeof(Known) <= ex->memory)
+    while (2 * states->size * sizeof(Known) <= ex->search.memory)
         states->size *= 2;
     states->table = ex_map(states->size * sizeof(Known));
 }
@@ -69,8 +69,8 @@ uint64_t ex_bytes_hash(const void *bytes, size_t size, uint64_t seed)
 static uint64_t said(void)
 {
     uint64_t hash = 0;
-    const char *text = ex->output, *end = ex->output + ex->output_length;
-    while (ex->wants_ends && text < end) {
+    const char *text = ex->output.text, *end = ex->output.text + ex->output.length;
+    while (ex->search.wants_ends && text < end) {
         const char *line = memchr(text, '\n', (size_t)(end - text));
         size_t length = line ? (size_t)(line - text) + 1 : (size_t)(end - text);
         hash += ex_bytes_hash(text, length, 1);
@@ -81,9 +81,9 @@ static uint64_t said(void)
 
 static uint64_t key(int stays)
 {
-    uint64_t rest = (uint64_t)ex->fails_used << 32 | (uint64_t)ex->timeouts << 8 | ex->is_limited;
+    uint64_t rest = (uint64_t)ex->run.fails_used << 32 | (uint64_t)ex->run.timeouts << 8 | ex->run.is_limited;
     uint64_t hash = ex_memory_hash() + 3 * ex_stacks_hash() + 5 * ex_clocks_hash() + 7 * said() + 11 * ex_patience_hash();
-    return ex_mixed(hash) + ex_mixed(rest + 1) + (ex->has_no_bound ? 0 : ex_mixed((uint64_t)stays + 2) * 3);
+    return ex_mixed(hash) + ex_mixed(rest + 1) + (ex->search.has_no_bound ? 0 : ex_mixed((uint64_t)stays + 2) * 3);
 }
 
 uint64_t ex_state_key(void)
@@ -102,14 +102,14 @@ static Known *find(uint64_t wanted)
 /* The run comes back to where it was, only by going on as it does where nothing else is chosen, and each client that could go on all the time did: it never ends. */
 static bool is_loop(uint64_t wanted)
 {
-    uint32_t able = ex->able;
-    for (size_t at = ex->depth; at > 0 && !ex->path[at - 1].taken; at--) {
-        able &= ex->path[at - 1].able;
-        if (ex->path[at - 1].key != wanted)
+    uint32_t able = ex->run.able;
+    for (size_t at = ex->path.depth; at > 0 && !ex->path.nodes[at - 1].taken; at--) {
+        able &= ex->path.nodes[at - 1].able;
+        if (ex->path.nodes[at - 1].key != wanted)
             continue;
-        for (size_t step = ex->path[at - 1].place; step < ex->schedule_length; step++)
-            if (ex->schedule[step] < INSIDE)
-                able &= ~(1U << ex->schedule[step]);
+        for (size_t step = ex->path.nodes[at - 1].place; step < ex->schedule.length; step++)
+            if (ex->schedule.steps[step] < INSIDE)
+                able &= ~(1U << ex->schedule.steps[step]);
         return !able;
     }
     return false;
@@ -119,9 +119,9 @@ static bool is_loop(uint64_t wanted)
 bool ex_is_known(int stays)
 {
     uint64_t wanted = key(stays);
-    uint32_t left = ex->has_no_bound ? 1 : ex->bound - ex->preemptions + 1;
+    uint32_t left = ex->search.has_no_bound ? 1 : ex->search.bound - ex->run.preemptions + 1;
     Known *one = find(wanted);
-    ex->path[ex->depth].key = wanted;
+    ex->path.nodes[ex->path.depth].key = wanted;
     if (one->left >= left) {
         if (is_loop(wanted))
             ex_found(STUCK, "ENDLESS: the run comes back to where it was");

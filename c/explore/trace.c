@@ -5,21 +5,21 @@
 
 static void append(const char *text)
 {
-    if (ex->trace_length + strlen(text) + 1 > sizeof ex->trace)
+    if (ex->trace.length + strlen(text) + 1 > sizeof ex->trace.text)
         return;
-    kz_unmark(ex->trace + ex->trace_length, sizeof ex->trace - ex->trace_length, text);
-    ex->trace_length += strlen(ex->trace + ex->trace_length);
+    kz_unmark(ex->trace.text + ex->trace.length, sizeof ex->trace.text - ex->trace.length, text);
+    ex->trace.length += strlen(ex->trace.text + ex->trace.length);
 }
 
 /* ---- Events, for the page. */
 static Event *new_event(EventKind kind, unsigned client)
 {
-    if (!ex->events)
-        ex->events = ex_map(EVENTS * sizeof *ex->events);
-    if (ex->events_count == EVENTS)
+    if (!ex->trace.events)
+        ex->trace.events = ex_map(EVENTS * sizeof *ex->trace.events);
+    if (ex->trace.count == EVENTS)
         return NULL;
-    Event *one = &ex->events[ex->events_count++];
-    *one = (Event){.kind = kind, .client = client, .step = ex->steps};
+    Event *one = &ex->trace.events[ex->trace.count++];
+    *one = (Event){.kind = kind, .client = client, .step = ex->run.steps};
     return one;
 }
 
@@ -68,8 +68,8 @@ void ex_trace_access(const void *address, bool is_write, bool is_atomic, const v
     static const char *const words[2][2] = {{"reads", "writes"}, {"reads in order", "writes in order"}};
     describe(address, name, sizeof name);
     snprintf(text, sizeof text, "%s %s", words[is_atomic][is_write], name);
-    for (size_t at = ex->touches_from; at < ex->events_count; at++)
-        if (ex->events[at].kind == EVENT_TOUCH && strcmp(ex->events[at].text, text) == 0)
+    for (size_t at = ex->trace.touches_from; at < ex->trace.count; at++)
+        if (ex->trace.events[at].kind == EVENT_TOUCH && strcmp(ex->trace.events[at].text, text) == 0)
             return;
     Event *one = new_event(EVENT_TOUCH, kz_me->number);
     if (one) {
@@ -81,9 +81,9 @@ void ex_trace_access(const void *address, bool is_write, bool is_atomic, const v
 /* Whether the client took the object as a lock before. */
 static bool was_lock(const void *object)
 {
-    for (size_t at = ex->events_count; at-- > 0;)
-        if (ex->events[at].object == object && ex->events[at].client == kz_me->number)
-            return ex->events[at].is_lock;
+    for (size_t at = ex->trace.count; at-- > 0;)
+        if (ex->trace.events[at].object == object && ex->trace.events[at].client == kz_me->number)
+            return ex->trace.events[at].is_lock;
     return false;
 }
 
@@ -108,14 +108,14 @@ static void put_touches(void)
 {
     char line[TEXT];
     size_t used = 0;
-    for (size_t at = ex->touches_from; at < ex->events_count; at++)
-        if (ex->events[at].kind == EVENT_TOUCH && used + 200 < sizeof line)
-            used += (size_t)snprintf(line + used, sizeof line - used, "%s%s", used ? ", " : "        ", ex->events[at].text);
+    for (size_t at = ex->trace.touches_from; at < ex->trace.count; at++)
+        if (ex->trace.events[at].kind == EVENT_TOUCH && used + 200 < sizeof line)
+            used += (size_t)snprintf(line + used, sizeof line - used, "%s%s", used ? ", " : "        ", ex->trace.events[at].text);
     if (used) {
         append(line);
         append("\n");
     }
-    ex->touches_from = ex->events_count;
+    ex->trace.touches_from = ex->trace.count;
 }
 
 /* ---- */
@@ -135,7 +135,7 @@ void ex_trace_step(const Runner *runner, bool is_preemption)
 {
     char text[TEXT];
     put_touches();
-    if ((int)runner->client->number != ex->current || !ex->trace_length) {
+    if ((int)runner->client->number != ex->run.current || !ex->trace.length) {
         snprintf(text, sizeof text, "---- %s%s\n", runner->name, is_preemption ? " (preempts)" : "");
         append(text);
     }
@@ -153,11 +153,11 @@ void ex_trace_end(void)
 {
     char text[TEXT];
     put_touches();
-    ex_put_lines(stdout, ex->trace);
-    for (int at = 0; at < ex->kinds_count; at++) {
-        if (ex->kinds[at].of == END || ex->kinds[at].of == LIMITED)
+    ex_put_lines(stdout, ex->trace.text);
+    for (int at = 0; at < ex->kinds.count; at++) {
+        if (ex->kinds.all[at].of == END || ex->kinds.all[at].of == LIMITED)
             continue;
-        kz_unmark(text, sizeof text, ex->kinds[at].text);
+        kz_unmark(text, sizeof text, ex->kinds.all[at].text);
         fputs("==== ", stdout);
         ex_put_sources(stdout, text);
         putchar('\n');

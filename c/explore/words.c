@@ -40,14 +40,14 @@ static bool read_long(const char *value, uint64_t *number)
 
 static bool read_shard(const char *word)
 {
-    return sscanf(word, "%u/%u", &ex->shard, &ex->shards) == 2 && ex->shards > 0 && ex->shard < ex->shards;
+    return sscanf(word, "%u/%u", &ex->search.shard, &ex->search.shards) == 2 && ex->search.shards > 0 && ex->search.shard < ex->search.shards;
 }
 
 static bool read_memory(const char *value)
 {
     uint64_t megabytes;
     bool is_right = read_long(value, &megabytes);
-    ex->memory = megabytes << 20;
+    ex->search.memory = megabytes << 20;
     return is_right;
 }
 
@@ -61,21 +61,21 @@ static bool read_path(const char *value, const char **path)
 static bool read_pair(const char *word, const char *value, Asked *asked)
 {
     if (strcmp(word, "--bound") == 0)
-        return read_number(value, 0, BOUNDS - 1, &ex->asked_bound);
+        return read_number(value, 0, BOUNDS - 1, &ex->search.asked_bound);
     if (strcmp(word, "--fails") == 0)
-        return read_number(value, 0, 1000, &ex->fails);
+        return read_number(value, 0, 1000, &ex->search.fails);
     if (strcmp(word, "--workers") == 0)
-        return read_number(value, 1, WORKERS, &ex->workers);
+        return read_number(value, 1, WORKERS, &ex->search.workers);
     if (strcmp(word, "--jobs") == 0)
         return read_number(value, 1, 256, &asked->jobs);
     if (strcmp(word, "--stop") == 0)
-        return read_number(value, 1, STEPS, &ex->stops_at);
+        return read_number(value, 1, STEPS, &ex->search.stops_at);
     if (strcmp(word, "--seed") == 0)
-        return read_long(value, &ex->asked_seed);
+        return read_long(value, &ex->search.asked_seed);
     if (strcmp(word, "--runs") == 0)
-        return read_long(value, &ex->asked_runs);
+        return read_long(value, &ex->search.asked_runs);
     if (strcmp(word, "--pct") == 0)
-        return read_number(value, 1, DEPTH, &ex->pct);
+        return read_number(value, 1, DEPTH, &ex->search.pct);
     if (strcmp(word, "--replay") == 0)
         return read_path(value, &asked->replay);
     if (strcmp(word, "--learn") == 0)
@@ -103,21 +103,21 @@ static bool read_one(const char *word, Asked *asked)
     const struct {
         const char *name;
         bool *to;
-    } ones[] = {{"--ends", &ex->wants_ends},  {"--trace", &ex->is_traced},         {"--quiet", &ex->is_quiet},   {"--reduce", &ex->is_reduced},
-                {"--coarse", &ex->is_coarse}, {"--inline", &ex->has_inside},       {"--shrink", &asked->shrinks}, {"--gdb", &asked->is_debugged},
-                {"--states", &ex->has_no_bound}};
+    } ones[] = {{"--ends", &ex->search.wants_ends},  {"--trace", &ex->search.is_traced},         {"--quiet", &ex->search.is_quiet},   {"--reduce", &ex->search.is_reduced},
+                {"--coarse", &ex->search.is_coarse}, {"--inline", &ex->search.has_inside},       {"--shrink", &asked->shrinks}, {"--gdb", &asked->is_debugged},
+                {"--states", &ex->search.has_no_bound}};
     for (size_t at = 0; at < sizeof ones / sizeof ones[0]; at++)
         if (strcmp(ones[at].name, word) == 0)
             return *ones[at].to = true;
     if (strcmp(word, "--fail-each") == 0) {
-        ex->fails = 1;
-        ex->asked_bound = 0;
+        ex->search.fails = 1;
+        ex->search.asked_bound = 0;
         return true;
     }
     if (strcmp(word, "--strict") != 0)
         return false;
     kz_be_strict(true);
-    return ex->is_strict = true;
+    return ex->search.is_strict = true;
 }
 
 /* Whether it is of what is searched, and not of how it is spread or shown. */
@@ -140,18 +140,18 @@ static void note_word(Asked *asked, const char *word, const char *value)
 /* Words that don't go together. */
 static bool are_right(const Asked *asked)
 {
-    bool knows_states = ex->is_reduced, is_spread = ex->shards > 1 || asked->jobs > 1;
+    bool knows_states = ex->search.is_reduced, is_spread = ex->search.shards > 1 || asked->jobs > 1;
     if (knows_states && is_spread)
         return refuse("--reduce and --states don't go with --shard and --jobs: a part would leave out what another has met");
     if (knows_states && asked->resume)
         return refuse("--reduce and --states don't go with --resume: what was met isn't stored");
-    if (asked->jobs > 1 && ex->shards > 1)
+    if (asked->jobs > 1 && ex->search.shards > 1)
         return refuse("--jobs and --shard both spread the search: take one of them");
     if (asked->jobs > 1 && (asked->replay || asked->is_debugged))
         return refuse("--replay is one schedule: it isn't spread");
     if (asked->is_debugged && !asked->replay)
         return refuse("--gdb goes with --replay");
-    if (ex->pct && !ex->asked_seed)
+    if (ex->search.pct && !ex->search.asked_seed)
         return refuse("--pct goes with --seed");
     return true;
 }
@@ -179,9 +179,9 @@ bool ex_read_words(int count, char **words, Asked *asked)
             at++;
         }
     }
-    ex->is_reduced |= ex->has_no_bound;
-    ex->wants_ends |= asked->learns || asked->expects;
-    ex->is_traced |= asked->replay && asked->page;
+    ex->search.is_reduced |= ex->search.has_no_bound;
+    ex->search.wants_ends |= asked->learns || asked->expects;
+    ex->search.is_traced |= asked->replay && asked->page;
     return asked->scenario ? are_right(asked) : usage(words[0], stderr);
 }
 

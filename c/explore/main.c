@@ -2,7 +2,7 @@
 #include "explore.h"
 #include "core/said.h"
 #include "run/open.h"
-#include "run/words.h"
+#include "run/runfile.h"
 
 #include <signal.h>
 #include <stdlib.h>

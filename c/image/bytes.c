@@ -1,3 +1,4 @@
+/* The bytes of a binary's file, and what is wrong with it. */
 #include "image/pe.h"
 
 #include <stdarg.h>

@@ -1,3 +1,4 @@
+/* The server's folder itself: folders, room, names and modes. */
 #define _GNU_SOURCE
 #include "below.h"
 

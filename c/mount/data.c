@@ -1,3 +1,4 @@
+/* Calls of open files. */
 #include "data.h"
 
 #include "files.h"

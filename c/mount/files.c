@@ -1,3 +1,4 @@
+/* Open files, on the line that opened them or elsewhere for one operation. */
 #include "files.h"
 
 #include <errno.h>

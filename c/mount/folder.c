@@ -1,3 +1,4 @@
+/* Folders: what the server lists, and what lies below. */
 #include "folder.h"
 
 #include "attributes.h"

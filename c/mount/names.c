@@ -1,3 +1,4 @@
+/* Calls by name: look-ups, attributes, deletions. */
 #include "names.h"
 
 #include "attributes.h"

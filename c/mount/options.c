@@ -1,3 +1,4 @@
+/* The words of the command line. */
 #include "options.h"
 
 #include <limits.h>

@@ -1,3 +1,4 @@
+/* Paths as the server takes them. */
 #include "path.h"
 
 #include <errno.h>

@@ -1,3 +1,4 @@
+/* What the protocol has no word for. */
 #include "refused.h"
 
 #include <errno.h>

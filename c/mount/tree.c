@@ -1,3 +1,4 @@
+/* Folders are made, removed and renamed in the server's folder itself. */
 #include "tree.h"
 
 #include "attributes.h"

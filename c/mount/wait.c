@@ -1,3 +1,4 @@
+/* Waits that end by themselves now and then. */
 #include "wait.h"
 
 void condition_open(pthread_cond_t *condition)

@@ -1,3 +1,4 @@
+/* What the loader of drivers' binaries hands down; without it there are none. */
 #include "core/binary.h"
 
 KzBinaries kz_binaries;

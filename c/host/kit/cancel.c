@@ -8,7 +8,7 @@
 #include "core/told.h"
 #include "filesystem/notice.h"
 #include "manager/below.h"
-#include "manager/context.h"
+#include "manager/hand.h"
 #include "manager/operation.h"
 #include "kit/queue.h"
 

@@ -10,7 +10,7 @@
 #include "filesystem/fileobject.h"
 #include "filesystem/handle.h"
 #include "manager/below.h"
-#include "manager/context.h"
+#include "manager/hand.h"
 #include "manager/instance.h"
 
 #include <stdlib.h>

@@ -12,6 +12,7 @@
 #include "core/told.h"
 #include "lib/letters.h"
 #include "manager/context.h"
+#include "manager/hand.h"
 #include "manager/reference.h"
 #include "kit/cancel.h"
 

@@ -10,6 +10,7 @@
 #include "core/told.h"
 #include "lib/letters.h"
 #include "manager/context.h"
+#include "manager/hand.h"
 #include "manager/filter.h"
 
 #include <stdlib.h>

@@ -10,7 +10,7 @@
 #include "core/state.h"
 #include "core/told.h"
 #include "filesystem/handle.h"
-#include "manager/context.h"
+#include "manager/hand.h"
 #include "manager/operation.h"
 
 #include <setjmp.h>

@@ -6,6 +6,7 @@
 #include "core/state.h"
 #include "manager/instance.h"
 #include "manager/operation.h"
+#include "manager/post.h"
 
 enum { NAMED = 4 };
 

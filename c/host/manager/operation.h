@@ -4,13 +4,10 @@
 
 #include "host.h"
 
-/* Its verdicts, and whether one waits still for what it passed. */
-KazdrinEvent kz_verdict_of(KzOp *op, PFLT_INSTANCE instance, FLT_PREOP_CALLBACK_STATUS said, PVOID completion);
-bool kz_owes(KzOp *op, PFLT_INSTANCE instance, const KazdrinEvent *verdict);
-void kz_leave_flight(KzOp *op, PFLT_INSTANCE instance);
-bool kz_drain_next(PFLT_INSTANCE instance);
 bool kz_is_held(const KzOp *op);
 FLT_RELATED_OBJECTS kz_objects(PFLT_INSTANCE instance, KzFile *file);
+/* NULL if it is none that is under way. */
+KzOp *kz_op_of(uint64_t id);
 KzOp *kz_op_with(PFLT_CALLBACK_DATA data);
 void kz_tell_held(void);
 void kz_leave_ops(const KzClient *client); /* nobody waits any more for those that it carries on */

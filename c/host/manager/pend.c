@@ -9,6 +9,7 @@
 #include "manager/data.h"
 #include "manager/instance.h"
 #include "manager/operation.h"
+#include "manager/pre.h"
 
 void kz_resume(KzOp *op)
 {

@@ -12,7 +12,7 @@
 #include "core/place.h"
 #include "core/state.h"
 #include "core/told.h"
-#include "manager/context.h"
+#include "manager/hand.h"
 #include "manager/filter.h"
 #include "manager/instance.h"
 #include "manager/operation.h"

@@ -1,7 +1,6 @@
 /* Expectations: what the last request answered, which callbacks it called, and what was told. What is unmet is said in words. */
 #include "run/expect.h"
 
-#include "core/said.h"
 #include "core/status.h"
 #include "run/report.h"
 #include "run/seen.h"

@@ -2,6 +2,8 @@
 #include "run/line.h"
 
 #include "core/memory.h"
+#include "run/read.h"
+#include "run/runfile.h"
 #include "run/words.h"
 
 #include <stdlib.h>

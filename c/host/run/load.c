@@ -9,7 +9,7 @@
 #include "kit/dpc.h"
 #include "kit/timer.h"
 #include "run/scenario.h"
-#include "run/words.h"
+#include "run/runfile.h"
 
 #include <pthread.h>
 #include <time.h>

@@ -8,6 +8,8 @@
 #include "manager/disposition.h"
 #include "manager/perform.h"
 #include "run/masks.h"
+#include "run/read.h"
+#include "run/runfile.h"
 #include "run/words.h"
 
 #include <stdlib.h>

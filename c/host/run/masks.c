@@ -1,7 +1,7 @@
 /* What a create asks for, in words. */
 #include "run/masks.h"
 
-#include "run/words.h"
+#include "run/read.h"
 
 #include <stdlib.h>
 

@@ -2,7 +2,6 @@
 #include "run/seen.h"
 
 #include "core/client.h"
-#include "core/said.h"
 #include "core/source.h"
 #include "run/report.h"
 

@@ -1,0 +1,185 @@
+/* A preoperation, and what an operation owes an instance after it. */
+#include "manager/pre.h"
+
+#include "core/client.h"
+#include "core/major.h"
+#include "core/place.h"
+#include "core/state.h"
+#include "core/status.h"
+#include "core/told.h"
+#include "filesystem/fileobject.h"
+#include "manager/context.h"
+#include "manager/hand.h"
+#include "manager/data.h"
+#include "manager/filter.h"
+#include "manager/operation.h"
+
+/* A shutdown, and what is asked of a device, has no file object. */
+FLT_RELATED_OBJECTS kz_objects_of(PFLT_INSTANCE instance, const KzOp *op)
+{
+    return kz_objects(instance, op->carried && op->carried->has_no_file ? NULL : op->file);
+}
+
+FLT_RELATED_OBJECTS kz_objects(PFLT_INSTANCE instance, KzFile *file)
+{
+    return (FLT_RELATED_OBJECTS){sizeof(FLT_RELATED_OBJECTS), 0, instance->filter, instance->volume, instance, file ? &file->object : NULL, NULL};
+}
+
+static bool asks_for_post(FLT_PREOP_CALLBACK_STATUS said)
+{
+    return said == FLT_PREOP_SUCCESS_WITH_CALLBACK || said == FLT_PREOP_SYNCHRONIZE;
+}
+
+/* An operation that a filter completes, with what its answer counts as. */
+static void complete(KzOp *op, KazdrinEvent *verdict)
+{
+    IO_STATUS_BLOCK said = op->data->IoStatus;
+    bool is_exact;
+    verdict->mode = KZV_COMPLETE;
+    if (said.Status == STATUS_PENDING) {
+        kz_tell(KZM_COMPLETED_PENDING, "FLT_PREOP_COMPLETE", "IoStatus.Status is STATUS_PENDING: it counts as STATUS_SUCCESS");
+        said.Status = STATUS_SUCCESS;
+    }
+    verdict->status = (uint8_t)kz_number(said.Status, &is_exact);
+    op->other = is_exact ? STATUS_SUCCESS : said.Status;
+    if (op->event == KZE_CLEANUP || op->event == KZE_CLOSE) {
+        op->other = STATUS_SUCCESS;
+        if (NT_SUCCESS(said.Status))
+            kz_tell(KZM_CLOSE_COMPLETED, "FLT_PREOP_COMPLETE", "of a cleanup or a close: it counts as FLT_PREOP_SUCCESS_NO_CALLBACK");
+        else
+            kz_tell(KZM_FAILED_CLOSE, "FLT_PREOP_COMPLETE", "of a cleanup or a close with 0x%08x: these can't fail", (unsigned)said.Status);
+    } else if (op->event == KZE_CREATE && said.Status == STATUS_REPARSE) {
+        verdict->status = KZS_DEVICE_FAULT; /* nothing is opened, and those above see STATUS_REPARSE */
+        op->other = said.Status;
+    } else if (op->event == KZE_CREATE && NT_SUCCESS(said.Status)) {
+        op->other = STATUS_SUCCESS;
+        kz_tell(KZM_CREATE_COMPLETED, "FLT_PREOP_COMPLETE", "of a create with success: it counts as STATUS_ACCESS_DENIED");
+    } else {
+        kz_serve(op);
+    }
+}
+
+static bool is_fast(const KzOp *op)
+{
+    return op->carried && op->carried->data_flags & FLTFL_CALLBACK_DATA_FAST_IO_OPERATION;
+}
+
+KazdrinEvent kz_verdict_of(KzOp *op, PFLT_INSTANCE instance, FLT_PREOP_CALLBACK_STATUS said, PVOID completion)
+{
+    KazdrinEvent verdict = {.mode = KZV_NO_CALLBACK, .operation = op->id, .worker = kz_worker()};
+    switch (said) {
+    case FLT_PREOP_SUCCESS_WITH_CALLBACK:
+    case FLT_PREOP_SYNCHRONIZE:
+        verdict.mode = said == FLT_PREOP_SYNCHRONIZE ? KZV_SYNCHRONIZE : KZV_WITH_CALLBACK;
+        kz_sends(op, completion, &verdict);
+        if (!kz_registered(instance->filter, kz_major_of(op))->PostOperation)
+            kz_tell(KZM_NO_POST, "FLT_PREOP_SUCCESS_WITH_CALLBACK", "no postoperation is registered: it counts as FLT_PREOP_SUCCESS_NO_CALLBACK");
+        break;
+    case FLT_PREOP_SUCCESS_NO_CALLBACK:
+        break;
+    case FLT_PREOP_PENDING:
+        if (op->carried && !(op->carried->data_flags & FLTFL_CALLBACK_DATA_IRP_OPERATION))
+            kz_tell(KZM_NO_VERDICT, "FLT_PREOP_PENDING", "of what is no IRP, and can't be held: it counts as FLT_PREOP_SUCCESS_NO_CALLBACK");
+        else
+            verdict.mode = KZV_PENDING;
+        break;
+    case FLT_PREOP_COMPLETE:
+        complete(op, &verdict);
+        break;
+    case FLT_PREOP_DISALLOW_FASTIO:
+        if (is_fast(op)) {
+            verdict.mode = KZV_COMPLETE;
+            verdict.status = KZS_DEVICE_FAULT;
+            op->other = STATUS_FLT_DISALLOW_FAST_IO;
+            break;
+        } /* fall through */
+    default:
+        kz_tell(KZM_NO_VERDICT, "PFLT_PRE_OPERATION_CALLBACK", "%d is no verdict for an IRP: it counts as FLT_PREOP_SUCCESS_NO_CALLBACK", (int)said);
+    }
+    return verdict;
+}
+
+/* A filter that registered the postoperation alone is taken past as if its preoperation had asked for it. A preoperation that pends may have been completed before it
+ * returns: then that is its verdict. */
+static FLT_PREOP_CALLBACK_STATUS ask_pre(KzOp *op, PFLT_INSTANCE instance, PVOID *completion)
+{
+    PFLT_PRE_OPERATION_CALLBACK callback = kz_registered(instance->filter, kz_major_of(op))->PreOperation;
+    if (!callback)
+        return FLT_PREOP_SUCCESS_WITH_CALLBACK;
+    FLT_RELATED_OBJECTS objects = kz_objects_of(instance, op);
+    op->stage = KZ_IN_PREOPERATION;
+    unsigned depth = kz_let_driver("preoperation", callback);
+    FLT_PREOP_CALLBACK_STATUS said = KZ_CALL_DRIVER(callback, op->data, &objects, completion);
+    kz_driver_returned(depth, "preoperation returns");
+    bool is_completed = op->stage == KZ_COMPLETED_IN_PRE;
+    op->stage = KZ_GOES_ON;
+    if (is_completed && said == FLT_PREOP_PENDING) {
+        said = op->early;
+        *completion = op->early_context;
+        kz_scheduler->touch(op, 0, KZT_TAKES);
+    } else if (is_completed) {
+        kz_tell(KZM_COMPLETED_NOT_PENDED, "FltCompletePendedPreOperation", "called for an operation that the preoperation doesn't pend");
+    }
+    kz_take_pre(op, asks_for_post(said) || said == FLT_PREOP_PENDING, said == FLT_PREOP_COMPLETE || said == FLT_PREOP_PENDING);
+    return said;
+}
+
+/* Whether it still owes the instance something: then its teardown waits. */
+bool kz_owes(KzOp *op, PFLT_INSTANCE instance, const KazdrinEvent *verdict)
+{
+    if (verdict->mode == KZV_PENDING)
+        return true;
+    return (verdict->mode == KZV_WITH_CALLBACK || verdict->mode == KZV_SYNCHRONIZE) && kz_registered(instance->filter, kz_major_of(op))->PostOperation;
+}
+
+static void enter_flight(KzOp *op, PFLT_INSTANCE instance)
+{
+    instance->in_flight++;
+    if (op->owed_count < KZ_OWED)
+        op->owed[op->owed_count++] = (KzOwed){instance, false};
+}
+
+void kz_leave_flight(KzOp *op, PFLT_INSTANCE instance)
+{
+    instance->in_flight--;
+    for (unsigned at = 0; at < op->owed_count; at++)
+        if (op->owed[at].instance == instance) {
+            op->owed[at] = op->owed[--op->owed_count];
+            break;
+        }
+    kz.changes++;
+    kz_scheduler->touch(&instance->in_flight, 0, KZT_GIVES);
+}
+
+KzOwed *kz_owed_to(KzOp *op, PFLT_INSTANCE instance)
+{
+    for (unsigned at = 0; at < op->owed_count; at++)
+        if (op->owed[at].instance == instance)
+            return &op->owed[at];
+    return NULL;
+}
+
+void kz_pre(KzOp *op, PFLT_INSTANCE instance)
+{
+    PVOID completion = NULL;
+    enter_flight(op, instance);
+    KzPlace before = kz_enter(KZ_IN_PRE, kz_worker(), instance->filter, instance, op, op->data);
+    kz_show_pre(op, instance);
+    FLT_PREOP_CALLBACK_STATUS said = ask_pre(op, instance, &completion);
+    kz_adopt_name(op->file);
+    KazdrinEvent verdict = kz_verdict_of(op, instance, said, completion);
+    if (verdict.mode == KZV_SYNCHRONIZE && kz_owed_to(op, instance))
+        kz_owed_to(op, instance)->is_synchronized = true;
+    kz_scheduler->touch(&op->users, 0, KZT_GIVES); /* what it sends along may be drained by another client */
+    kz_keep_rest(&verdict);
+    kz_leave(before);
+    kz.changes++;
+    if (kazdrin_pre_returned(&kz.manager, &verdict) == KZS_OK && verdict.mode == KZV_PENDING) {
+        op->stage = KZ_HELD_BY_PRE;
+        op->holder = instance;
+        op->holder_function = kz_registered(instance->filter, kz_major_of(op))->PreOperation;
+    }
+    if (!kz_owes(op, instance, &verdict))
+        kz_leave_flight(op, instance);
+    kz_clean_up();
+}

@@ -1,0 +1,15 @@
+/* A preoperation, and what an operation owes an instance after it. */
+#ifndef KZ_MANAGER_PRE_H
+#define KZ_MANAGER_PRE_H
+
+#include "core/operation.h"
+
+void kz_pre(KzOp *op, PFLT_INSTANCE instance);
+/* Its verdict, and whether the instance waits still for what it passed. */
+KazdrinEvent kz_verdict_of(KzOp *op, PFLT_INSTANCE instance, FLT_PREOP_CALLBACK_STATUS said, PVOID completion);
+bool kz_owes(KzOp *op, PFLT_INSTANCE instance, const KazdrinEvent *verdict);
+KzOwed *kz_owed_to(KzOp *op, PFLT_INSTANCE instance);
+void kz_leave_flight(KzOp *op, PFLT_INSTANCE instance);
+FLT_RELATED_OBJECTS kz_objects_of(PFLT_INSTANCE instance, const KzOp *op);
+
+#endif

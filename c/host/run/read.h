@@ -1,0 +1,16 @@
+/* Words of a request as numbers, bytes and things: false where they are none. */
+#ifndef KZ_RUN_READ_H
+#define KZ_RUN_READ_H
+
+#include "host.h"
+
+bool kz_read_number(const char *word, uint64_t limit, uint64_t *number);
+bool kz_read_hex(const char *word, uint8_t *bytes, size_t *length);
+bool kz_read_filter(const char *word, uint64_t *number);
+bool kz_read_volume(const char *word, uint64_t *number);
+bool kz_read_instance(const char *word, uint64_t *number);
+bool kz_read_handle(const char *word, uint64_t *number);
+bool kz_is_name(const char *word);
+void kz_name_handle(const char *word, uint64_t handle);
+
+#endif

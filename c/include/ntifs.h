@@ -547,7 +547,8 @@ typedef enum _TOKEN_INFORMATION_CLASS {
     TokenSessionId,
     TokenElevationType = 18,
     TokenElevation = 20,
-    TokenIntegrityLevel = 25
+    TokenIntegrityLevel = 25,
+    TokenGroupsAndPrivileges = 13, TokenSessionReference = 14, TokenSandBoxInert = 15, TokenAuditPolicy = 16, TokenOrigin = 17, TokenLinkedToken = 19, TokenHasRestrictions = 21, TokenAccessInformation = 22, TokenVirtualizationAllowed = 23, TokenVirtualizationEnabled = 24, TokenUIAccess = 26, TokenMandatoryPolicy = 27, TokenLogonSid = 28, MaxTokenInfoClass = 29
 } TOKEN_INFORMATION_CLASS, *PTOKEN_INFORMATION_CLASS;
 BOOLEAN RtlValidSid(PSID Sid);
 ULONG RtlLengthSid(PSID Sid);

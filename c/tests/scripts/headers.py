@@ -1,7 +1,7 @@
 #!/usr/bin/env python3
 """The headers of c/include beside Debian's mingw-w64 headers (mingw-w64-x86-64-dev), by the compilers themselves: headers.py [FILE]. What both have must be the same: the values of constants and
 enumerators, the sizes of structures and where their fields are (with clang), and how many parameters a routine has, and of which size each is (with clang). FILE (c/tests/headers.txt) lists what differs,
-with the reason. Where the package or the compiler isn't there it says so. The last line is 'headers: N passed, M failed'.
+with the reason. Of their constants and structures nearly all are ours, but for those that c/tests/undeclared.txt leaves out by reason. Where the package or the compiler isn't there it says so. The last line is 'headers: N passed, M failed'.
 """
 import os
 import re
@@ -13,7 +13,7 @@ DEFINED = ["-D_WIN64=1", "-D_M_AMD64=100", "-D_AMD64_=1", "-DNTDDI_VERSION=0x0A0
 OURS = ["cc", "-fshort-wchar", "-fms-extensions"] + DEFINED + ["-Ic/include", "-include", "fltKernel.h"]
 THEIR_WORDS = ["-w", f"-I{MINGW}/ddk", "-D_WIN32_WINNT=0x0A00", "-DNTDDI_VERSION=0x0A000000"]
 THEIRS = ["x86_64-w64-mingw32-gcc"] + THEIR_WORDS
-THEIR_TEXT = "#include <ntifs.h>\n#include <ntddk.h>\n#include <dpfilter.h>\n#include <bcrypt.h>\n#include <ntimage.h>\n"
+THEIR_TEXT = "".join(f"#include <{name}.h>\n" for name in "ntifs ntddk dpfilter bcrypt ntimage ntdddisk ntddstor mountdev mountmgr".split())
 OUR_TEXT = "#include <bcrypt.h>\n#include <ntimage.h>\n"
 CLANG = ["clang", "-w", "-fsyntax-only"]
 OUR_CLANG = CLANG + ["-fshort-wchar", "-fms-extensions", "-mms-bitfields"] + DEFINED + ["-Ic/include", "-include", "fltKernel.h"]
@@ -161,6 +161,26 @@ class Check:
             self.same(name, hex(ours[name] & mask), hex(there[name] & mask))
 
 
+    def declared(self, reasons):
+        """Of their constants and structures at most one in twenty isn't ours, but for those that have a reason."""
+        theirs = names(THEIRS, THEIR_TEXT)
+        there = set(values(THEIRS, THEIR_TEXT, theirs - names(OURS, OUR_TEXT)))
+        there |= {name.lstrip("_") for name in set(records(THEIR_CLANG, THEIR_TEXT)) - set(records(OUR_CLANG, OUR_TEXT))}
+        known = identifiers(OURS, OUR_TEXT)
+        gone = sorted(name for name in there - known if not any(re.match(pattern, name) for pattern in reasons))
+        self.compared += 1
+        print(f"headers: {len(theirs)} constants there, {len(gone)} of those that a minifilter may use aren't declared here")
+        if len(gone) * 20 > len(theirs):
+            self.failed += 1
+            print("headers: undeclared: " + " ".join(gone))
+
+
+def identifiers(command, text):
+    """All names that a text brings: macros, and words of declarations."""
+    macros = re.findall(r"^#define (\w+)", run(command + ["-dM", "-E"], text)[0], re.M)
+    return set(macros) | set(re.findall(r"[A-Za-z_]\w*", run(command + ["-E", "-P"], text)[0]))
+
+
 def main():
     """Compares: 0, or 1 if something differs that isn't listed."""
     os.chdir(os.path.join(os.path.dirname(os.path.abspath(__file__)), "../../.."))
@@ -174,6 +194,8 @@ def main():
     if is_there("clang"):
         check.structures()
         check.prototypes()
+        if is_there(THEIRS[0]):
+            check.declared([line.split(" ")[0] for line in open("c/tests/undeclared.txt", encoding="utf-8") if not line.startswith("#")])
         for name in sorted(set(listed) - check.used):
             check.failed += 1
             print(f"headers: {name} is listed, and doesn't differ")

@@ -1,0 +1,178 @@
+//! A create whose client is gone before a filter lets it go: the handle that it opens is closed by whoever takes its answer. That is seen by another client, who
+//! marks the file for deletion: it goes with its last handle.
+
+use crate::peer::{Step, exchange, follow, is_done, send};
+use crate::server::{Filters, goes_well};
+use fm_cli::Front;
+use std::alloc::Global;
+use std::net::{Net, TcpListener, TcpStream};
+use std::os::unix::net::UnixStream;
+use std::thread;
+use std::time::{Clock, Duration};
+
+/// How many milliseconds the server has to see that a client is gone, and to end its connection.
+const REST: u64 = 500;
+
+/// How often something is looked for, ten milliseconds apart.
+const ASKS: usize = 500;
+
+/// Filters that hold creates of new files. The client that stays has a file open.
+const FLUSHED: [Step; 3] = [
+    (0, &["load", "flushed"], 0, 0, b""),
+    (0, &["attach", "0", "0", "h", "100"], 0, 0, b""),
+    (0, &["create", "0", "always", "y"], 0, 0, b""),
+];
+
+const CLEANED_UP: [Step; 2] = [
+    (0, &["load", "cleanedup"], 0, 0, b""),
+    (0, &["attach", "0", "0", "h", "100"], 0, 0, b""),
+];
+
+// The number as a word.
+fn word(alloc: Global, number: u64) -> Option<String> {
+    format!(in alloc; "{}", number).ok()
+}
+
+// A client asks for a new file of that name, and is gone. The server has ended its connection once this ends.
+fn leave_create<R>(rt: &R, alloc: Global, at: &Front, name: &str) -> Option<()>
+where
+    R: Net<Listener = TcpListener, Stream = TcpStream> + Clock,
+{
+    let stream = UnixStream::connect(rt, at.socket).ok()?;
+    send(alloc, &stream, &["create", "0", "new", name])?;
+    drop(stream);
+    thread::sleep(rt, Duration::from_millis(REST));
+    Some(())
+}
+
+// Whether the file of that name is there. Its name is one letter.
+fn is_there(alloc: Global, stream: &UnixStream, name: &str) -> Option<bool> {
+    let (_, _, listed) = exchange(alloc, stream, &["list", "0"])?;
+    Some(listed.as_slice().iter().any(|byte| name.as_bytes().first() == Some(byte)))
+}
+
+// Waits until the file is there, opens it, marks it for deletion, and closes it.
+fn delete<R: Clock>(rt: &R, alloc: Global, stream: &UnixStream, name: &str) -> Option<bool> {
+    for _ in 0..ASKS {
+        if is_there(alloc, stream, name)? {
+            let (_, handle, _) = exchange(alloc, stream, &["create", "0", "existing", name])?;
+            let handle = word(alloc, handle)?;
+            return Some(
+                is_done(alloc, stream, &["setdelete", handle.as_str()])
+                    && is_done(alloc, stream, &["close", handle.as_str()]),
+            );
+        }
+        thread::sleep(rt, Duration::from_millis(10));
+    }
+    Some(false)
+}
+
+// Whether the file goes, while that is asked again and again.
+fn goes<R: Clock>(
+    rt: &R,
+    alloc: Global,
+    stream: &UnixStream,
+    name: &str,
+    words: &[&str],
+) -> Option<bool> {
+    for _ in 0..ASKS {
+        if !is_there(alloc, stream, name)? {
+            return Some(true);
+        }
+        exchange(alloc, stream, words)?;
+        thread::sleep(rt, Duration::from_millis(10));
+    }
+    Some(false)
+}
+
+// Whether the file goes, while other connections come and end.
+fn goes_with_others<R>(rt: &R, alloc: Global, at: &Front, name: &str) -> Option<bool>
+where
+    R: Net<Listener = TcpListener, Stream = TcpStream> + Clock,
+{
+    for _ in 0..ASKS {
+        let other = UnixStream::connect(rt, at.socket).ok()?;
+        if !is_there(alloc, &other, name)? {
+            return Some(true);
+        }
+        drop(other);
+        thread::sleep(rt, Duration::from_millis(10));
+    }
+    Some(false)
+}
+
+// A flush lets the create go. Other connections come and end, and the server takes its answer.
+fn flushed<R>(rt: &R, alloc: Global, at: &Front) -> Option<bool>
+where
+    R: Net<Listener = TcpListener, Stream = TcpStream> + Clock,
+{
+    let mut streams = Vec::new(alloc);
+    streams.push(UnixStream::connect(rt, at.socket).ok()?).ok()?;
+    let is_begun = follow(alloc, streams.as_slice(), &FLUSHED);
+    leave_create(rt, alloc, at, "x")?;
+    let stream = streams.first()?;
+    Some(
+        is_begun
+            && is_done(alloc, stream, &["flush", "0"])
+            && delete(rt, alloc, stream, "x")?
+            && goes_with_others(rt, alloc, at, "x")?,
+    )
+}
+
+// A detach lets it go. No other connection ends: each detach has the server take the answer of what is done, one that is refused too.
+fn detached<R>(rt: &R, alloc: Global, at: &Front) -> Option<bool>
+where
+    R: Net<Listener = TcpListener, Stream = TcpStream> + Clock,
+{
+    let mut streams = Vec::new(alloc);
+    streams.push(UnixStream::connect(rt, at.socket).ok()?).ok()?;
+    let is_begun = follow(alloc, streams.as_slice(), &FLUSHED);
+    leave_create(rt, alloc, at, "x")?;
+    let stream = streams.first()?;
+    exchange(alloc, stream, &["detach", "0"])?;
+    Some(
+        is_begun
+            && delete(rt, alloc, stream, "x")?
+            && goes(rt, alloc, stream, "x", &["detach", "0"])?,
+    )
+}
+
+// The end of another connection lets it go, as its first handle is closed, and takes its answer, as the second one is closed: one worker carries all. On a machine
+// that is slow the answer may come too late for that, so there is more than one try.
+fn cleaned_up<R>(rt: &R, alloc: Global, at: &Front) -> Option<bool>
+where
+    R: Net<Listener = TcpListener, Stream = TcpStream> + Clock,
+{
+    let mut streams = Vec::new(alloc);
+    streams.push(UnixStream::connect(rt, at.socket).ok()?).ok()?;
+    let is_begun = follow(alloc, streams.as_slice(), &CLEANED_UP);
+    let stream = streams.first()?;
+    for name in ["p", "q", "r", "s", "t"] {
+        let other = UnixStream::connect(rt, at.socket).ok()?;
+        exchange(alloc, &other, &["create", "0", "always", "a"])?;
+        exchange(alloc, &other, &["create", "0", "always", "b"])?;
+        leave_create(rt, alloc, at, name)?;
+        drop(other);
+        thread::sleep(rt, Duration::from_millis(REST));
+        if delete(rt, alloc, stream, name)? && !is_there(alloc, stream, name)? {
+            return Some(is_begun);
+        }
+        goes_with_others(rt, alloc, at, name)?;
+    }
+    Some(false)
+}
+
+#[test]
+fn a_flush_lets_a_create_go(rt: HostRuntime) {
+    assert!(rt; goes_well(&rt, &rt, "flushed-create", Filters::Holders, flushed) == Some(true));
+}
+
+#[test]
+fn a_detach_lets_a_create_go(rt: HostRuntime) {
+    assert!(rt; goes_well(&rt, &rt, "detached-create", Filters::Holders, detached) == Some(true));
+}
+
+#[test]
+fn the_end_of_a_connection_lets_a_create_go(rt: HostRuntime) {
+    assert!(rt; goes_well(&rt, &rt, "ended-create", Filters::Single, cleaned_up) == Some(true));
+}

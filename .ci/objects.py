@@ -61,6 +61,9 @@ MISUSES, HELD = ("KZ0102", "KZ0113"), "KZ0111"
 # What a trial can't do without: where it is refused and no line expects that, it counts as unmet.
 SET_UPS = ("load", "attach")
 
+# The verdict of a run that ended with that status; of another it is Unexpected.
+VERDICTS = {0: "Well", 2: "WrongLine", 5: "Left"}
+
 # The word of a step in a trial's lines, for each event that tells one.
 STEPS = {"Pre": "pre", "Base": "base", "Post": "post", "PostHeld": "post", "Drained": "drain", "Replied": "reply"}
 
@@ -130,7 +133,7 @@ def faults_of(told, kinds, events):
 
 def run(program, word, script):
     with open(script, "rb") as it:
-        return subprocess.run([program, word], stdin=it, capture_output=True, timeout=120).stdout.decode("ascii")
+        return subprocess.run([program, *([word] if word else [])], stdin=it, capture_output=True, timeout=120).stdout.decode("ascii")
 
 
 def frame_faults(all_told):
@@ -146,15 +149,41 @@ def frame_faults(all_told):
     end = all_told[-1]
     if end["refused"] != names.count("Refused") or end["leaks"] != names.count("Leaked"):
         faults.append("End counts other refusals or leaks")
+    if end["verdict"] != VERDICTS.get(end["status"], "Unexpected"):
+        faults.append(f"End says {end['verdict']} of a run that ended with {end['status']}")
     return faults
 
 
-def script_faults(all_told, events, script):
+def handle_faults(all_told):
+    """Which operations are told of another volume than that of the create that opened their handle."""
+    faults, creates, closes, volumes = [], {}, {}, {}
+    for told in all_told:
+        if told["event"] == "Began" and told["request"] == "create":
+            creates[told["operation"]] = told["volume"]
+        elif told["event"] == "Began" and "handle" in told:
+            if told.get("volume") != volumes.get(told["handle"]):
+                faults.append(f"line {told['line']} is told of {told.get('volume')}, and its handle is of {volumes.get(told['handle'])}")
+            if told["request"] == "close":
+                closes[told["operation"]] = told["handle"]
+        elif told["event"] == "Replied" and told["status"] == 0:
+            if told["operation"] in creates:
+                volumes[told["handle"]] = creates[told["operation"]]
+            volumes.pop(closes.get(told["operation"]), None)
+    return faults
+
+
+def script_faults(program, all_told, events, script):
     """What is wrong with the run of a script as a whole."""
-    faults = frame_faults(all_told)
+    faults = frame_faults(all_told) + handle_faults(all_told)
+    held = sum(line.startswith("  HELD ") for line in all_told[-1]["words"].splitlines())
+    if all_told[-1]["held"] != held:
+        faults.append(f"End counts {all_told[-1]['held']} operations as held, and its words {held}")
     names = [told["event"] for told in all_told]
     if any("kind" not in told or "owner" not in told for told in all_told if told["event"] == "Leaked"):
         faults.append("a leak without kind or owner")
+    shown = script.with_suffix(".txt")
+    if shown.exists() and run(program, None, script) != shown.read_text():
+        faults.append(f"it is shown otherwise than {shown.name} has it")
     printed = script.with_suffix(".out")
     if printed.exists():
         told = sum(events[told["event"]][2] and not told["command"].startswith("#! expect") for told in all_told)
@@ -193,9 +222,22 @@ def trial_faults(program, all_told, scenario):
     heads = {"mistake": "TOLD", "limit": "LIMIT"}
     if any(told["words"].split()[:2] != [heads[told["telling"]], told["id"]] for told in all_told if told["event"] == "Told"):
         faults.append("what is told has another number or kind in its words")
+    faults += answered_faults(all_told, texts)
     if all_told[-1].get("status") != done.returncode:
         faults.append("another exit status")
     return faults + line_faults(all_told, scenario) + (end_faults(all_told, texts) if done.returncode != 2 else [])
+
+
+def answered_faults(all_told, texts):
+    """Whether an expectation that isn't met says what was told of the last request, and of no other."""
+    asked = [number for number, text in enumerate(texts, 1) if text.split() and not text.split()[0].startswith(("#", "expect"))]
+    faults = []
+    for unmet in (told for told in all_told if told["event"] == "Unmet" and told["command"].startswith("expect")):
+        last = max((number for number in asked if number < unmet["line"]), default=0)
+        wanted = [f"told {told['id']}" for told in all_told if told["event"] == "Told" and told["line"] == last]
+        if [line for line in unmet["answered"] if line.startswith("told ")] != wanted:
+            faults.append(f"line {unmet['line']} has {unmet['answered']}, and {wanted} was told of line {last}")
+    return faults
 
 
 def end_faults(all_told, texts):
@@ -333,7 +375,7 @@ def main():
     scripts = [pathlib.Path(word) for word in words] or [*sorted(DATA.rglob("*.flt")), own]
     scripts += random_scripts(program, room.name, count, seed)
     kinds, events, trial_events, _ = schema()
-    runs = [check(script, program, kinds, events, lambda told, script=script: script_faults(told, events, script)) for script in scripts]
+    runs = [check(script, program, kinds, events, lambda told, script=script: script_faults(program, told, events, script)) for script in scripts]
     if trial:
         runs += [check(it, trial, kinds, events, lambda told, it=it: trial_faults(trial, told, it)) for it in (*TRIALS, own_trial, own_held)]
     seen = {told["event"] for all_told, _ in runs for told in all_told}

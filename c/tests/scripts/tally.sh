@@ -66,7 +66,7 @@ untried() {
 # How many tests this part has at least where each tool is there. A list that came out empty makes fewer.
 least() {
     case $PART in
-        host) echo 119 ;;
+        host) echo 120 ;;
         legal) echo 96 ;;
         order) echo 14 ;;
         *) echo 1 ;;

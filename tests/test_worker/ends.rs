@@ -121,11 +121,11 @@ impl<L: Ledger, R: Wait + Clock> Scene<'_, L, R> {
         self.open(OTHER, b"z", 2)
     }
 
-    // A hand is in the cleanup of a context of that kind, which it has allocated in a read's callback of the highest instance.
-    fn take_due(&mut self, kind: ContextKind, is_first: bool) -> Result<(), Status> {
+    // A hand is in the cleanup of a context of that kind, which it has allocated in the highest instance's callback of a read of that handle.
+    fn take_due(&mut self, handle: u64, kind: ContextKind, is_first: bool) -> Result<(), Status> {
         let rt = self.rt;
         let hand = if is_first { &mut self.first } else { &mut self.second };
-        let reading = self.manager.begin(rt, read_of(0))?;
+        let reading = self.manager.begin(rt, read_of(handle))?;
         let FlowAction::Pre(_, lent) = self.manager.next(rt, hand, reading)? else {
             return Err(Status::WrongStep);
         };
@@ -175,8 +175,8 @@ fn dismounts<L: Ledger, R: Wait + Clock>(
     let (rt, manager) = (scene.rt, scene.manager);
     scene.fill()?;
     let filled = scene.counts();
-    scene.take_due(ContextKind::Instance, true)?;
-    scene.take_due(ContextKind::Volume, false)?;
+    scene.take_due(0, ContextKind::Instance, true)?;
+    scene.take_due(0, ContextKind::Volume, false)?;
     let at_instance = scene.client.dismount(rundown, seat, OWN);
     let phases = (
         manager.phase(rt, BELOW),
@@ -205,12 +205,42 @@ fn dismounts<L: Ledger, R: Wait + Clock>(
         && scene.counts() == (18, 17))
 }
 
-// The same with a seat of a gate for both volumes.
+// A dismount that nothing is in the way of: it closes both handles. Of an instance on the other volume a context is being cleaned up meanwhile, so that its detach
+// has been refused at its end: the dismount doesn't touch it.
+fn dismounts_at_once<L: Ledger, R: Wait + Clock>(
+    scene: &mut Scene<'_, L, R>,
+    rundown: &RundownGate,
+    seat: &mut GateSeat,
+) -> Result<bool, Status>
+    requires own { IsSeatOf rundown.now seat.old }
+{
+    let (rt, manager) = (scene.rt, scene.manager);
+    scene.fill()?;
+    scene.take_due(2, ContextKind::Instance, true)?;
+    let refused = scene.client.detach(BESIDE);
+    let beside = manager.phase(rt, BESIDE);
+    let dismounted = scene.client.dismount(rundown, seat, OWN);
+    let left = scene.counts();
+    let handles = manager.handles(rt);
+    manager.cleaned(rt, &mut scene.first, 0)?;
+    let detached = scene.client.detach(BESIDE);
+    Ok(matches!(refused, Err(Status::Busy(1)))
+        && beside == Some(Phase::Emptying)
+        && dismounted.is_ok()
+        && left == (17, 15)
+        && handles == 1
+        && detached.is_ok()
+        && scene.counts() == (17, 16))
+}
+
+// A dismount with a seat of a gate for both volumes.
 fn dismounts_seated<L: Ledger, R: Wait + Clock>(
     scene: &mut Scene<'_, L, R>,
+    is_at_once: bool,
 ) -> Result<bool, Status> {
     let (rundown, mut seats) = RundownGate::new(scene.alloc, 2, 1)?;
     match take_seat(&rundown, &mut seats) {
+        Some(mut seat) if is_at_once => dismounts_at_once(scene, &rundown, &mut seat),
         Some(mut seat) => dismounts(scene, &rundown, &mut seat),
         None => Err(Status::TooMany),
     }
@@ -230,7 +260,7 @@ fn unloads<L: Ledger, R: Wait + Clock>(scene: &mut Scene<'_, L, R>) -> Result<bo
     let (rt, manager) = (scene.rt, scene.manager);
     scene.fill()?;
     scene.client.detach(ABOVE)?;
-    scene.take_due(ContextKind::Volume, false)?;
+    scene.take_due(0, ContextKind::Volume, false)?;
     let reading = manager.begin(rt, read_of(0))?;
     let FlowAction::Pre(_, lent) = manager.next(rt, &mut scene.first, reading)? else {
         return Err(Status::WrongStep);
@@ -271,6 +301,7 @@ fn declines<L: Ledger, R: Wait + Clock>(scene: &mut Scene<'_, L, R>) -> Result<b
 #[derive(Clone, Copy)]
 enum Play {
     Dismount,
+    DismountAtOnce,
     Unload,
     Decline,
 }
@@ -316,7 +347,8 @@ fn scene_day<L: Ledger, R: Wait + Clock>(
         second,
     };
     match play {
-        Play::Dismount => dismounts_seated(&mut scene),
+        Play::Dismount => dismounts_seated(&mut scene, false),
+        Play::DismountAtOnce => dismounts_seated(&mut scene, true),
         Play::Unload => unloads(&mut scene),
         Play::Decline => declines(&mut scene),
     }
@@ -333,6 +365,11 @@ fn is_well<R: Wait + Clock>(rt: &R, alloc: Global, play: Play) -> bool {
 #[test]
 fn dismount_goes_on_where_it_was_refused(rt: HostRuntime) {
     assert!(rt; is_well(&rt, rt.alloc(), Play::Dismount));
+}
+
+#[test]
+fn dismount_leaves_other_volumes(rt: HostRuntime) {
+    assert!(rt; is_well(&rt, rt.alloc(), Play::DismountAtOnce));
 }
 
 #[test]

@@ -8,13 +8,19 @@ mod ends;
 #[cfg(test)]
 mod fixture;
 #[cfg(test)]
+mod full_note;
+#[cfg(test)]
 mod full_queue;
+#[cfg(test)]
+mod hands;
 #[cfg(test)]
 mod held_beside;
 #[cfg(test)]
 mod in_flight;
 #[cfg(test)]
 mod keeper;
+#[cfg(test)]
+mod one_by_one;
 #[cfg(test)]
 mod one_place;
 #[cfg(test)]
@@ -35,6 +41,8 @@ mod stress;
 mod teardown_race;
 #[cfg(test)]
 mod teardown_schedules;
+#[cfg(test)]
+mod three_aside;
 #[cfg(test)]
 mod ties;
 #[cfg(test)]

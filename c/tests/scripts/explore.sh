@@ -77,7 +77,7 @@ for scenario in "$scenarios"/*.txt; do
     fi
     tell $? "$name"
     [ "$status" != 4 ] || continue
-    case "$name" in polls | settwice) ways=(--reduce) ;; *) ways=(--reduce --states) ;; esac
+    case "$name" in polls | settwice) ways=(--reduce) ;; teardowns) ways=(--states) ;; *) ways=(--reduce --states) ;; esac
     words="--bound 3 $(other_words_of "$scenario") $(words_of "$scenario" | grep -q -e --fail-each && echo --fails 1)"
     search "$name" "$scenario" --ends "$words" > "$room/plain"
     kinds "$room/plain" > "$room/kinds"

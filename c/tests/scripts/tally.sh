@@ -67,7 +67,7 @@ untried() {
 least() {
     case $PART in
         host) echo 120 ;;
-        legal) echo 96 ;;
+        legal) echo 105 ;;
         order) echo 14 ;;
         *) echo 1 ;;
     esac

@@ -2,7 +2,6 @@
 # c/tests/scripts/thorough.sh [PART ..] (make -C c thorough PART='..') : the long tests of the C half.
 #
 #   explore     each sample with four clients, under every schedule with at most two preemptions
-#   slurm       a search as an array of a Slurm cluster of one node, which begins and ends here
 #   lines       lines of drivers by gcc and clang at several optimizations, and the headers beside those of mingw-w64
 #   threads     each sample for ten seconds with eight threads
 #   names       3,000 random sessions of names beside a model of their own
@@ -23,11 +22,6 @@ export KAZDRIN_LIB=${KAZDRIN_LIB:-$(c/archive.sh --unproved)}
 explore() {
     "$here/explore.sh" --whole
     tell $? explore
-}
-
-slurm() {
-    "$here/slurm.sh"
-    tell $? slurm
 }
 
 # The lines of a driver are the same by each compiler and at each optimization; so are the headers as mingw-w64 has them.
@@ -119,10 +113,10 @@ mount() {
     fi
 }
 
-[ $# -gt 0 ] || set -- explore slurm lines threads names programs image libfuzzer real release mount
+[ $# -gt 0 ] || set -- explore lines threads names programs image libfuzzer real release mount
 for part in "$@"; do
     case $part in
-    explore | slurm | lines | threads | names | programs | image | libfuzzer | real | release | mount) "$part" ;;
+    explore | lines | threads | names | programs | image | libfuzzer | real | release | mount) "$part" ;;
     *)
         echo "there is no part $part" >&2
         exit 2

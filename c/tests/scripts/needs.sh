@@ -3,7 +3,7 @@
 set -u
 case ${1:-} in -h | --help) sed -n '2,/^[^#]/s/^#\( \|$\)//p' "$0"; exit ;; esac
 missing=()
-pkg-config --atleast-version=3.12 fuse3 2> /dev/null || missing+=(pkg-config libfuse3-dev)
+make -s -C "$(dirname "$0")/../.." fuse > /dev/null 2>&1 || missing+=(pkg-config libfuse3-dev)
 command -v fusermount3 > /dev/null || missing+=(fuse3)
 command -v sqlite3 > /dev/null || missing+=(sqlite3)
 [ ${#missing[@]} != 0 ] || exit 0

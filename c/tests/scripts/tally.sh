@@ -98,7 +98,7 @@ may_mount() {
         echo 'nothing may be mounted here'
         return 1
     fi
-    pkg-config --atleast-version=3.12 fuse3 2> /dev/null || { echo 'there is no libfuse3 3.12 or later here'; return 1; }
+    make -s -C c fuse > /dev/null 2>&1 || { echo "there is no libfuse3 $(make -s -C c fuse 2> /dev/null) or later here"; return 1; }
     command -v fusermount3 > /dev/null || { echo 'there is no fusermount3 here'; return 1; }
     command -v python3 > /dev/null || { echo 'there is no python3 here'; return 1; }
 }

@@ -1,5 +1,6 @@
 /* What was found, by kinds: two runs that differ only by the numbers of operations found the same. */
 #include "explore.h"
+#include "core/messages.h"
 #include "core/said.h"
 
 /* ---- Of the run that goes on. */

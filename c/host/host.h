@@ -5,7 +5,6 @@
 #include "kazdrin.h"
 #include "kzflt.h"
 #include "core/binary.h"
-#include "core/messages.h"
 #include "core/said.h"
 #include "wire/status.h"
 

@@ -3,7 +3,7 @@
 #ifndef KZ_MESSAGES_H
 #define KZ_MESSAGES_H
 
-typedef enum {
+enum {
     /* References and contexts. */
     KZM_LEAK = 101,
     KZM_RELEASED_TWICE = 102,
@@ -136,7 +136,7 @@ typedef enum {
     /* Names. */
     KZM_MARK_STAYS = 256,
     KZM_MESSAGES = 300
-} KzMessage;
+};
 
 #define KZ_IS_LIMIT(message) ((message) >= 200)
 

@@ -2,8 +2,6 @@
 #ifndef KZ_SAID_H
 #define KZ_SAID_H
 
-#include "core/messages.h"
-
 #include <stdbool.h>
 #include <stddef.h>
 #include <stdint.h>
@@ -21,6 +19,9 @@ typedef enum {
     KZ_SAID_UNMET, /* an expectation that isn't met */
     KZ_SAID_ELSE
 } KzKind;
+
+/* One of core/messages.h, which who tells something includes; 0 where nothing is told. */
+typedef int KzMessage;
 
 /* A mistake or a limit has its message, its place and the object that it is of, where there is one. */
 typedef struct {

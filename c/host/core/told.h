@@ -3,6 +3,7 @@
 #define KZ_CORE_TOLD_H
 
 #include "host.h"
+#include "core/messages.h"
 
 /* What is told, and where. */
 void kz_tell(KzMessage message, const char *call, const char *format, ...) __attribute__((format(printf, 3, 4)));

@@ -1,5 +1,6 @@
 /* What each number that is told means: what was done, what Windows does, and how it is mended. The rows are those of docs/TOLD.md, which the Makefile lists. */
 #include "host.h"
+#include "core/messages.h"
 
 #include <stdlib.h>
 

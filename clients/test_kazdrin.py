@@ -264,10 +264,10 @@ class Requests(WithPlace):
             self.assertEqual(client.number, 0)
 
     def test_usage(self):
-        for words in ([], ["a", "b"], ["--help"], ["-h"]):
+        for words, status, stream in (([], 2, "stderr"), (["a", "b"], 2, "stderr"), (["--help"], 0, "stdout"), (["-h"], 0, "stdout")):
             said = io.StringIO()
-            with contextlib.redirect_stderr(said):
-                self.assertEqual(kazdrin.main(words), 2)
+            with getattr(contextlib, f"redirect_{stream}")(said):
+                self.assertEqual(kazdrin.main(words), status)
             self.assertIn("usage", said.getvalue())
         said = io.StringIO()
         with contextlib.redirect_stderr(said):

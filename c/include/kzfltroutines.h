@@ -30,17 +30,8 @@ KZ_ROUTINE(BOOLEAN, FALSE, NOT_MODELLED, FltGetCallerIsReadOnlyExtension, PFLT_C
 
 /* ---- Lists of what is there. */
 KZ_ROUTINE(NTSTATUS, STATUS_NOT_SUPPORTED, ATTACH, FltEnumerateInstancesByDeviceObject, PDEVICE_OBJECT DeviceObject, PFLT_INSTANCE *InstanceList, ULONG InstanceListSize, PULONG NumberInstancesReturned)
-KZ_ROUTINE(NTSTATUS, STATUS_NOT_SUPPORTED, ATTACH, FltEnumerateFilterInformation, ULONG Index, FILTER_INFORMATION_CLASS InformationClass, PVOID Buffer, ULONG BufferSize, PULONG BytesReturned)
-KZ_ROUTINE(NTSTATUS, STATUS_NOT_SUPPORTED, ATTACH, FltEnumerateInstanceInformationByFilter, PFLT_FILTER Filter, ULONG Index, INSTANCE_INFORMATION_CLASS InformationClass, PVOID Buffer, ULONG BufferSize,
-           PULONG BytesReturned)
-KZ_ROUTINE(NTSTATUS, STATUS_NOT_SUPPORTED, ATTACH, FltEnumerateInstanceInformationByVolume, PFLT_VOLUME Volume, ULONG Index, INSTANCE_INFORMATION_CLASS InformationClass, PVOID Buffer, ULONG BufferSize,
-           PULONG BytesReturned)
-KZ_ROUTINE(NTSTATUS, STATUS_NOT_SUPPORTED, ATTACH, FltEnumerateInstanceInformationByVolumeName, PUNICODE_STRING VolumeName, ULONG Index, INSTANCE_INFORMATION_CLASS InformationClass, PVOID Buffer,
-           ULONG BufferSize, PULONG BytesReturned)
 KZ_ROUTINE(NTSTATUS, STATUS_NOT_SUPPORTED, ATTACH, FltEnumerateInstanceInformationByDeviceObject, PDEVICE_OBJECT DeviceObject, ULONG Index, INSTANCE_INFORMATION_CLASS InformationClass, PVOID Buffer,
            ULONG BufferSize, PULONG BytesReturned)
-KZ_ROUTINE(NTSTATUS, STATUS_NOT_SUPPORTED, ATTACH, FltEnumerateVolumeInformation, PFLT_FILTER Filter, ULONG Index, FILTER_VOLUME_INFORMATION_CLASS InformationClass, PVOID Buffer, ULONG BufferSize,
-           PULONG BytesReturned)
 
 /* ---- A filter's own input and output. */
 KZ_ROUTINE(NTSTATUS, STATUS_NOT_SUPPORTED, OWN_IO, FltCreateNamedPipeFile, PFLT_FILTER Filter, PFLT_INSTANCE Instance, PHANDLE FileHandle, PFILE_OBJECT *FileObject, ULONG DesiredAccess,
@@ -64,8 +55,6 @@ KZ_ROUTINE(NTSTATUS, STATUS_NOT_SUPPORTED, OWN_IO, FltQueryInformationByName, PF
 KZ_ROUTINE(NTSTATUS, STATUS_NOT_SUPPORTED, OWN_IO, FltQueryQuotaInformationFile, PFLT_INSTANCE Instance, PFILE_OBJECT FileObject, PIO_STATUS_BLOCK IoStatusBlock, PVOID Buffer, ULONG Length,
            BOOLEAN ReturnSingleEntry, PVOID SidList, ULONG SidListLength, PSID StartSid, BOOLEAN RestartScan, PULONG LengthReturned)
 KZ_ROUTINE(NTSTATUS, STATUS_NOT_SUPPORTED, OWN_IO, FltSetQuotaInformationFile, PFLT_INSTANCE Instance, PFILE_OBJECT FileObject, PVOID Buffer, ULONG Length)
-KZ_ROUTINE(NTSTATUS, STATUS_NOT_SUPPORTED, REPARSE, FltTagFileEx, PFLT_INSTANCE InitiatingInstance, PFILE_OBJECT FileObject, ULONG FileTag, GUID *Guid, PVOID DataBuffer, USHORT DataBufferLength,
-           ULONG ExistingFileTag, GUID *ExistingGuid, ULONG Flags)
 KZ_ROUTINE(NTSTATUS, STATUS_NOT_SUPPORTED, OWN_IO, FltAllocateCallbackDataEx, PFLT_INSTANCE Instance, PFILE_OBJECT FileObject, ULONG Flags, PFLT_CALLBACK_DATA *RetNewCallbackData)
 KZ_ROUTINE(NTSTATUS, STATUS_NOT_SUPPORTED, REPARSE, FltCopyOpenReparseList, PFLT_FILTER Filter, PFLT_CALLBACK_DATA Data, PECP_LIST EcpList)
 KZ_ROUTINE(VOID, , REPARSE, FltFreeOpenReparseList, PFLT_FILTER Filter, PECP_LIST EcpList)

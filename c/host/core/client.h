@@ -42,6 +42,10 @@ struct KzClient {
     char says[4096]; /* its last answer as text, up to its reply */
     char reparsed[320]; /* the name that its last create was answered with, and what that asked for at its beginning */
     KzCreate reparsed_create;
+    struct {
+        PFLT_INSTANCE instance; /* that sends an operation down again, inside FltReissueSynchronousIo; NULL if none does */
+        bool is_user;           /* and a program, or a request, asked for it */
+    } reissues;
     const char *request; /* what it asks for, in words, for what is told; NULL if that isn't known */
     unsigned line_number; /* in its file; 0 if it isn't of one */
     char line[KZ_LINE];

@@ -169,6 +169,11 @@ struct KzOp {
     PECP_LIST ecps; /* that a filter put into a create */
     KzCancel cancel;
     bool is_cancelled; /* a create that a filter cancelled in its postoperation */
+    struct {
+        const struct KzBytes *point; /* of the reparse point that a create came upon; NULL if it came upon none */
+        size_t rest;                 /* letters of its name behind that */
+    } met;
+    FLT_TAG_DATA_BUFFER *tag; /* the same, as callbacks see it */
     KzCreate asked, create; /* what a create asked for as it began, and what it asks for by now */
     unsigned users;   /* callbacks that look at it beside its runner */
     const char *request, *path; /* as in KzPlace */

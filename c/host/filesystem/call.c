@@ -11,6 +11,7 @@
 #include "filesystem/notice.h"
 #include "filesystem/sharing.h"
 #include "filesystem/rename.h"
+#include "filesystem/tag.h"
 #include "filesystem/tree.h"
 #include "filesystem/tunnel.h"
 
@@ -68,6 +69,9 @@ static bool answers_create(KzOp *op, const KazdrinData *call, NTSTATUS *status)
         return true;
     *status = STATUS_DELETE_PENDING;
     if (name->node->is_marked)
+        return true;
+    *status = STATUS_REPARSE;
+    if (kz_meets_tag(op, call->mode))
         return true;
     *status = STATUS_OBJECT_PATH_NOT_FOUND;
     if (kz_has_file_above(name->volume, name->text))

@@ -7,6 +7,7 @@
 #include "filesystem/notice.h"
 #include "filesystem/query.h"
 #include "filesystem/ranges.h"
+#include "filesystem/tag.h"
 #include "filesystem/tree.h"
 
 /* ---- Extended attributes: a chain, as it was set. */
@@ -100,10 +101,9 @@ static NTSTATUS lock(KzOp *op, const FLT_PARAMETERS *now)
 static NTSTATUS control(KzOp *op, const FLT_PARAMETERS *now)
 {
     USHORT *compressed = now->FileSystemControl.Buffered.SystemBuffer;
+    if (kz_is_tag_control(now->FileSystemControl.Common.FsControlCode))
+        return kz_control_tag(op, now);
     switch (now->FileSystemControl.Common.FsControlCode) {
-    case FSCTL_GET_REPARSE_POINT:
-    case FSCTL_DELETE_REPARSE_POINT:
-        return STATUS_NOT_A_REPARSE_POINT;
     case FSCTL_IS_VOLUME_MOUNTED:
     case FSCTL_LOCK_VOLUME:
     case FSCTL_UNLOCK_VOLUME:

@@ -13,7 +13,7 @@
 #include "filesystem/tree.h"
 #include "filesystem/tunnel.h"
 
-static bool is_empty(const KzName *directory)
+bool kz_is_empty(const KzName *directory)
 {
     for (KzName *one = kz_all_names(); one; one = one->next)
         if (kz_is_below(one, directory->volume, directory->text) && one->node->exists)
@@ -58,7 +58,7 @@ NTSTATUS kz_dispose(KzFile *file, ULONG flags)
     if (name->node->attributes & FILE_ATTRIBUTE_READONLY && !(flags & FILE_DISPOSITION_IGNORE_READONLY_ATTRIBUTE))
         return STATUS_CANNOT_DELETE;
     kz_enter_folder(name->volume, name->text);
-    if (name->node->is_directory && !is_empty(name))
+    if (name->node->is_directory && !kz_is_empty(name))
         return STATUS_DIRECTORY_NOT_EMPTY;
     name->node->is_marked = true;
     name->node->is_kept = false;

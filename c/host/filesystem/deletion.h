@@ -18,6 +18,8 @@ void kz_end_cleanup(KzFile *file);
 void kz_note_mark(KzFile *file);
 /* Whether a deletion of the file is the manager's alone: the file system here has no word in it. */
 bool kz_marks_by_itself(const KzFile *file);
+/* Whether nothing lies below the directory. */
+bool kz_is_empty(const KzName *directory);
 /* Whether it is marked to go. */
 bool kz_is_pending(const KzNode *node);
 

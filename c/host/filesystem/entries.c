@@ -7,6 +7,7 @@
 #include "filesystem/name.h"
 #include "filesystem/notice.h"
 #include "filesystem/query.h"
+#include "filesystem/tag.h"
 #include "filesystem/tree.h"
 
 /* Where a class has what it says of a file: all but plain names begin as FILE_DIRECTORY_INFORMATION does. */
@@ -111,7 +112,7 @@ static void show(uint8_t *to, const Shape *shape, const Entry *entry)
     kz_show_network(entry->node, &said);
     FILE_DIRECTORY_INFORMATION head = {0, 0, said.CreationTime, said.LastAccessTime, said.LastWriteTime, said.ChangeTime, said.EndOfFile, said.AllocationSize, said.FileAttributes, length, {0}};
     memcpy(to, &head, offsetof(FILE_DIRECTORY_INFORMATION, FileName));
-    ULONG ea = (ULONG)entry->node->ea.length;
+    ULONG ea = entry->node->reparse.length ? kz_tag_of(entry->node) : (ULONG)entry->node->ea.length;
     if (shape->ea)
         memcpy(to + shape->ea, &ea, sizeof ea);
     if (shape->id)

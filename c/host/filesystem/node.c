@@ -45,6 +45,13 @@ static void choose_key(KzNode *node, const char *text)
         snprintf(node->key, sizeof node->key, "%.240s#%u", first, number);
 }
 
+void kz_forget_tag(KzNode *node)
+{
+    kz_keep_bytes(&node->reparse, NULL, 0);
+    node->attributes &= ~(ULONG)FILE_ATTRIBUTE_REPARSE_POINT;
+    node->attributes |= node->attributes ? 0 : FILE_ATTRIBUTE_NORMAL;
+}
+
 KzNode *kz_new_node(PFLT_VOLUME volume, const char *text)
 {
     KzNode *made = kz_memory(sizeof *made);
@@ -75,6 +82,7 @@ void kz_free_node(KzNode *node)
         node->next->before = node->before;
     free(node->ea.bytes);
     free(node->security.bytes);
+    free(node->reparse.bytes);
     free(node);
 }
 
@@ -99,6 +107,7 @@ void kz_begin_node(KzNode *node, bool is_directory)
     node->attributes = is_directory ? FILE_ATTRIBUTE_DIRECTORY : FILE_ATTRIBUTE_NORMAL;
     kz_keep_bytes(&node->ea, NULL, 0);
     kz_keep_bytes(&node->security, NULL, 0);
+    kz_keep_bytes(&node->reparse, NULL, 0);
 }
 
 static void free_nodes(void)

@@ -12,6 +12,8 @@ void kz_free_node(KzNode *node);
 void kz_begin_node(KzNode *node, bool is_directory);
 /* So much of the volume as a file of that size takes. */
 uint64_t kz_allocated(PFLT_VOLUME volume, uint64_t size);
+/* It is no reparse point any more. */
+void kz_forget_tag(KzNode *node);
 void kz_keep_bytes(KzBytes *kept, const void *bytes, size_t length);
 
 #endif

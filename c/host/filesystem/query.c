@@ -5,6 +5,7 @@
 #include "filesystem/deletion.h"
 #include "filesystem/name.h"
 #include "filesystem/node.h"
+#include "filesystem/tag.h"
 #include "filesystem/tree.h"
 
 /* The fields that several classes have. What lies between two fields is zeros. */
@@ -218,6 +219,7 @@ static size_t show_fixed(const KzFile *file, int class, Fixed *said)
         return sizeof said->alignment;
     case FileAttributeTagInformation:
         said->tag.FileAttributes = node->attributes;
+        said->tag.ReparseTag = kz_tag_of(node);
         return sizeof said->tag;
     case FileIdInformation:
         said->id.VolumeSerialNumber = node->volume->id + 1u;

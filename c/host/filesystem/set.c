@@ -35,7 +35,8 @@ static NTSTATUS set_basic(KzName *name, const FILE_BASIC_INFORMATION *said)
         if (times[at].said > 0)
             *times[at].kept = times[at].said;
     if (said->FileAttributes)
-        node->attributes = (said->FileAttributes & ~(ULONG)FILE_ATTRIBUTE_DIRECTORY) | (node->is_directory ? FILE_ATTRIBUTE_DIRECTORY : 0);
+        node->attributes = (said->FileAttributes & ~(ULONG)(FILE_ATTRIBUTE_DIRECTORY | FILE_ATTRIBUTE_REPARSE_POINT)) | (node->is_directory ? FILE_ATTRIBUTE_DIRECTORY : 0) |
+                           (node->reparse.length ? FILE_ATTRIBUTE_REPARSE_POINT : 0);
     kz_notify(name, FILE_NOTIFY_CHANGE_ATTRIBUTES, FILE_ACTION_MODIFIED);
     return STATUS_SUCCESS;
 }

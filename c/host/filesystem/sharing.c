@@ -113,6 +113,7 @@ void kz_note_opened(KzOp *op, bool was_there)
     if (was_there && node && !node->is_directory) {
         kz.store->cut(file, 0);
         kz_keep_bytes(&node->ea, NULL, 0);
+        kz_forget_tag(node);
     }
     if (node)
         give_attributes(node, create);

@@ -18,7 +18,7 @@ static inline unsigned kz_name_place(PFLT_VOLUME volume, const char *text)
 }
 
 /* Bytes that are kept as they were given. */
-typedef struct {
+typedef struct KzBytes {
     uint8_t *bytes;
     size_t length;
 } KzBytes;
@@ -41,7 +41,7 @@ typedef struct KzNode {
     uint64_t id, size, allocation;
     LONGLONG created, accessed, written, changed;
     ULONG attributes;
-    KzBytes ea, security;
+    KzBytes ea, security, reparse;
     SHARE_ACCESS share;
 } KzNode;
 

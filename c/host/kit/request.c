@@ -157,7 +157,10 @@ VOID FltReissueSynchronousIo(PFLT_INSTANCE InitiatingInstance, PFLT_CALLBACK_DAT
         kz_tell(KZM_NOT_OWN_DATA, __func__, "callback data of no operation");
         return;
     }
+    kz_me->reissues.instance = InitiatingInstance;
+    kz_me->reissues.is_user = kz_requestor_of(op) == UserMode;
     CallbackData->IoStatus.Status = carry_out(InitiatingInstance, CallbackData->Iopb, &done, __func__);
+    kz_me->reissues.instance = NULL;
     CallbackData->IoStatus.Information = done;
     op->shown.parameters = *op->iopb; /* what it changed there has counted */
 }

@@ -40,8 +40,6 @@ NTSTATUS FltOpenVolume(PFLT_INSTANCE Instance, PHANDLE VolumeHandle, PFILE_OBJEC
 
 NONE(KZM_OWN_IO, FltNotifyFilterChangeDirectory, PVOID NotifySync, PLIST_ENTRY NotifyList, PVOID FsContext, PVOID FullDirectoryName, BOOLEAN WatchTree,
      BOOLEAN IgnoreBuffer, ULONG CompletionFilter, PFLT_CALLBACK_DATA NotifyCallbackData, PVOID TraverseCallback, PVOID SubjectContext, PVOID FilterCallback)
-NONE(KZM_REPARSE, FltTagFile, PFLT_INSTANCE InitiatingInstance, PFILE_OBJECT FileObject, ULONG FileTag, GUID *Guid, PVOID DataBuffer, USHORT DataBufferLength)
-NONE(KZM_REPARSE, FltUntagFile, PFLT_INSTANCE InitiatingInstance, PFILE_OBJECT FileObject, ULONG FileTag, GUID *Guid)
 
 /* File, transaction and section contexts. A file system without file contexts answers so. */
 NTSTATUS FltSetFileContext(PFLT_INSTANCE Instance, PFILE_OBJECT FileObject, FLT_SET_CONTEXT_OPERATION Operation, PFLT_CONTEXT NewContext,
@@ -165,28 +163,5 @@ BOOLEAN IoIs32bitProcess(PIRP Irp)
     return FALSE;
 }
 
-/* The manager's own requests, made by a driver. */
-NTSTATUS FltAttachVolume(PFLT_FILTER Filter, PFLT_VOLUME Volume, PCUNICODE_STRING InstanceName, PFLT_INSTANCE *RetInstance)
-{
-    KZ_INSIDE();
-    if (RetInstance)
-        *RetInstance = NULL;
-    return none(KZM_ATTACH, __func__);
-}
-
-NTSTATUS FltAttachVolumeAtAltitude(PFLT_FILTER Filter, PFLT_VOLUME Volume, PCUNICODE_STRING Altitude, PCUNICODE_STRING InstanceName, PFLT_INSTANCE *RetInstance)
-{
-    KZ_INSIDE();
-    if (RetInstance)
-        *RetInstance = NULL;
-    return none(KZM_ATTACH, __func__);
-}
-
-NONE(KZM_ATTACH, FltDetachVolume, PFLT_FILTER Filter, PFLT_VOLUME Volume, PCUNICODE_STRING InstanceName)
 NONE(KZM_ATTACH, FltLoadFilter, PCUNICODE_STRING FilterName)
 NONE(KZM_ATTACH, FltUnloadFilter, PCUNICODE_STRING FilterName)
-NONE(KZM_ATTACH, FltGetInstanceInformation, PFLT_INSTANCE Instance, INSTANCE_INFORMATION_CLASS InformationClass, PVOID Buffer, ULONG BufferSize,
-     PULONG BytesReturned)
-NONE(KZM_ATTACH, FltGetFilterInformation, PFLT_FILTER Filter, FILTER_INFORMATION_CLASS InformationClass, PVOID Buffer, ULONG BufferSize, PULONG BytesReturned)
-NONE(KZM_ATTACH, FltGetVolumeInformation, PFLT_VOLUME Volume, FILTER_VOLUME_INFORMATION_CLASS InformationClass, PVOID Buffer, ULONG BufferSize,
-     PULONG BytesReturned)

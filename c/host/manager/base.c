@@ -14,13 +14,17 @@
 #include "filesystem/tree.h"
 #include "manager/below.h"
 #include "manager/carrier.h"
+#include "manager/disposition.h"
 #include "manager/perform.h"
 
 static void answer(KzOp *op, NTSTATUS status, const uint8_t *bytes, size_t length)
 {
     bool is_exact;
-    KazdrinEvent event = {.worker = kz_worker(), .status = (uint8_t)kz_number(status, &is_exact), .offset = length, .flag = length > 0};
-    op->other = is_exact ? STATUS_SUCCESS : status;
+    uint32_t number = kz_number(status, &is_exact);
+    if (status == STATUS_REPARSE)
+        number = KZS_DEVICE_FAULT; /* nothing is opened */
+    KazdrinEvent event = {.worker = kz_worker(), .status = (uint8_t)number, .offset = length, .flag = length > 0};
+    op->other = is_exact && status != STATUS_REPARSE ? STATUS_SUCCESS : status;
     kazdrin_based(&kz.manager, &event, length ? bytes : (const uint8_t *)"", length);
 }
 
@@ -80,7 +84,9 @@ static void call_create(KzOp *op, const KazdrinData *call, uint8_t worker)
     NTSTATUS status;
     bool was_there = kz_is_there(op->file->name), is_opened;
     if (answers(op, call, &status)) {
-        is_opened = NT_SUCCESS(status);
+        is_opened = NT_SUCCESS(status) && !op->met.point;
+        if (op->met.point)
+            kz_show_tag(op);
     } else {
         call_bytes(op, call, worker);
         is_opened = opens_bytes(op, call->mode, was_there);

@@ -36,6 +36,12 @@ FLT_CALLBACK_DATA_FLAGS kz_data_flags(const KzOp *op)
     return FLTFL_CALLBACK_DATA_IRP_OPERATION | (op->own.initiator ? own : 0);
 }
 
+KPROCESSOR_MODE kz_requestor_of(const KzOp *op)
+{
+    bool is_of_kernel = op->own.irp_flags & IRP_PAGING_IO || (op->own.is_own && !op->own.is_user);
+    return is_of_kernel ? KernelMode : UserMode;
+}
+
 KzOp *kz_own_op(PFLT_CALLBACK_DATA data)
 {
     for (KzOp *op = kz.ops; op; op = op->next)
@@ -86,6 +92,10 @@ static KzAnswer begin(const KzOwn *own, KzFile *file, KazdrinEvent asked, const 
     KzOp *op = kz_new_op(begun.told.operation, asked, file, file->volume);
     op->own = *own;
     op->own.is_own = true;
+    if (own->initiator && own->initiator == kz_me->reissues.instance) {
+        op->own.is_reissued = true;
+        op->own.is_user |= kz_me->reissues.is_user;
+    }
     op->own.worker = kz_worker();
     op->own.carried = NULL;
     op->own.create = NULL;

@@ -7,6 +7,8 @@
 #include "filesystem/store.h"
 
 FLT_CALLBACK_DATA_FLAGS kz_data_flags(const KzOp *op);
+/* Who asks, as callbacks see it: the memory manager and a driver are the kernel's. One that is sent down again is its first requestor's. */
+KPROCESSOR_MODE kz_requestor_of(const KzOp *op);
 KzOp *kz_own_op(PFLT_CALLBACK_DATA data);
 extern const KzStore kz_manager_store;
 /* An operation that a driver begins inside a callback, a work item or a thread of its own. Another worker carries it on, before the call returns. One that a filter holds

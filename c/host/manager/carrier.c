@@ -67,7 +67,7 @@ static void fill(KzOp *op, PFLT_INSTANCE instance, const FLT_PARAMETERS *paramet
     op->shown.asked_length = 0;
     op->shown.parameters = *op->iopb;
     op->data->Flags = (kz_data_flags(op) & ~(ULONG)FLTFL_CALLBACK_DATA_IRP_OPERATION) | carried->data_flags;
-    op->data->RequestorMode = op->own.is_own && !op->own.is_user ? KernelMode : UserMode;
+    op->data->RequestorMode = kz_requestor_of(op);
 }
 
 void kz_show_carried(KzOp *op, PFLT_INSTANCE instance, bool is_post)

@@ -254,7 +254,7 @@ static void show(KzOp *op, PFLT_INSTANCE instance)
     op->shown.pristine = op->shown.asked ? copied(op, op->shown.asked, op->shown.asked_length) : NULL;
     op->shown.parameters = *op->iopb;
     op->data->Flags = kz_data_flags(op);
-    op->data->RequestorMode = is_paging(op) || (op->own.is_own && !op->own.is_user) ? KernelMode : UserMode;
+    op->data->RequestorMode = kz_requestor_of(op);
     if (irp_flags_of(op->event) & IRP_BUFFERED_IO)
         op->data->Flags |= FLTFL_CALLBACK_DATA_SYSTEM_BUFFER;
 }
@@ -474,7 +474,8 @@ static void show_answer(KzOp *op)
     op->data->IoStatus.Information = op->lent.information;
     switch (op->event) {
     case KZE_CREATE:
-        op->data->IoStatus.Information = op->lent.status ? 0 : op->file->created;
+        op->data->TagData = op->other == STATUS_REPARSE ? op->tag : NULL;
+        op->data->IoStatus.Information = op->lent.status && !op->data->TagData ? 0 : op->file->created;
         break;
     case KZE_READ:
         memcpy(below, op->shown.answered, least(op->shown.answered_length, room));

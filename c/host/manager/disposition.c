@@ -1,6 +1,7 @@
 /* Creates: what they ask for, as callbacks see and change it. */
 #include "manager/disposition.h"
 
+#include "filesystem/tree.h"
 #include "manager/block.h"
 
 KzCreate kz_usual_create(ULONG disposition, bool is_directory)
@@ -79,6 +80,14 @@ void kz_show_create(KzOp *op, FLT_PARAMETERS *shown)
     shown->Create.EaLength = create->ea_length;
     shown->Create.EaBuffer = create->ea;
     shown->Create.AllocationSize.QuadPart = create->allocation;
+}
+
+void kz_show_tag(KzOp *op)
+{
+    const KzBytes *point = op->met.point;
+    op->tag = kz_block(op, point->length);
+    memcpy(op->tag, point->bytes, point->length);
+    op->tag->UnparsedNameLength = (USHORT)(op->met.rest * sizeof(WCHAR));
 }
 
 bool kz_take_create(KzOp *op)

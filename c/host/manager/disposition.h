@@ -16,6 +16,8 @@ ACCESS_MASK kz_map_access(ACCESS_MASK access);
 NTSTATUS kz_check_create(const KzCreate *create);
 void kz_begin_create(KzOp *op, const KzCreate *asked);
 void kz_show_create(KzOp *op, FLT_PARAMETERS *shown);
+/* It came upon a reparse point: its callbacks on the way up see the tag. */
+void kz_show_tag(KzOp *op);
 /* What the callback left in them; false if it is nothing that a create may ask for. */
 bool kz_take_create(KzOp *op);
 /* Whether a handle with that access lets its user make the operation. */

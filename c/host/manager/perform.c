@@ -112,7 +112,7 @@ KzAnswer kz_collect(KzOp *op)
         put_carried(op, &answer);
     kz_scheduler->touch(op->file, 0, KZT_GIVES);
     if (op->other == STATUS_REPARSE)
-        kz_note_reparse(op);
+        answer.other = kz_note_reparse(op);
     if (op->is_cancelled && answer.reply.status == KZS_OK)
         answer.reply = kz_cancelled(op, &answer.other);
     else

@@ -122,7 +122,7 @@ void kz_drain(KzOp *op, PFLT_INSTANCE instance, PVOID completion)
     FLT_CALLBACK_DATA data = {.Flags = kz_data_flags(op) | FLTFL_CALLBACK_DATA_POST_OPERATION | FLTFL_CALLBACK_DATA_DRAINING_IO,
                               .Thread = op->thread,
                               .Iopb = &iopb,
-                              .RequestorMode = op->own.is_own && !op->own.is_user ? KernelMode : UserMode};
+                              .RequestorMode = kz_requestor_of(op)};
     KzPlace before = kz_enter(KZ_IN_DRAIN, kz_worker(), instance->filter, instance, op, &data);
     PFLT_POST_OPERATION_CALLBACK callback = kz_registered(instance->filter, kz_major_of(op))->PostOperation;
     op->users++;

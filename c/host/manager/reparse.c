@@ -8,6 +8,7 @@
 #include "core/told.h"
 #include "lib/letters.h"
 #include "filesystem/fileobject.h"
+#include "filesystem/tag.h"
 #include "filesystem/volumes.h"
 #include "manager/disposition.h"
 
@@ -19,10 +20,13 @@ static bool is_reparsed(KzAnswer answer)
 }
 
 /* What is to be opened in its place; the client's own until its next create. */
-void kz_note_reparse(const KzOp *op)
+NTSTATUS kz_note_reparse(const KzOp *op)
 {
     kz_me->reparsed_create = op->asked;
+    if (op->tag)
+        return kz_target_of(op, kz_me->reparsed, sizeof kz_me->reparsed) ? STATUS_REPARSE : STATUS_IO_REPARSE_TAG_NOT_HANDLED;
     kz_narrow(kz_me->reparsed, sizeof kz_me->reparsed, &op->file->object.FileName);
+    return STATUS_REPARSE;
 }
 
 static KzAnswer refused(NTSTATUS status)

@@ -9,6 +9,7 @@
 typedef KzAnswer KzBeginCreate(void *given, KazdrinEvent asked, const char *path);
 
 KzAnswer kz_follow(KzAnswer answer, void *given, KzBeginCreate *begin);
-void kz_note_reparse(const KzOp *op);
+/* What its answer counts as: STATUS_REPARSE, or that nobody took the tag that it came upon. */
+NTSTATUS kz_note_reparse(const KzOp *op);
 
 #endif

@@ -9,10 +9,11 @@
 #include "manager/altitude.h"
 #include "manager/filter.h"
 #include "manager/instance.h"
+#include "kit/aggregate.h"
+#include "kit/attach.h"
 #include "user/error.h"
 #include "user/object.h"
 #include "user/program.h"
-#include "../user/fltUserStructures.h"
 
 #include <stdlib.h>
 
@@ -100,18 +101,13 @@ static NTSTATUS attach(const WCHAR *filter_name, const WCHAR *volume_name, const
         return filter ? STATUS_FLT_VOLUME_NOT_FOUND : STATUS_FLT_FILTER_NOT_FOUND;
     if (altitude)
         narrow(text, sizeof text, altitude);
-    else
-        snprintf(text, sizeof text, "%s", filter->altitude);
-    if (!*text)
-        return STATUS_FLT_INSTANCE_NOT_FOUND; /* as where an INF file has no default instance */
     if (instance_name)
         narrow(name, sizeof name, instance_name);
-    else
-        snprintf(name, sizeof name, "%.24s-%.12s", filter->driver->name, volume->name);
-    uint32_t status = kz_attach(filter, volume, name, text, FLTFL_INSTANCE_SETUP_MANUAL_ATTACHMENT, &number);
-    if (status == KZS_OK)
-        put_name(room, size, name);
-    return kz_ntstatus(status);
+    KzAttaching asked = {filter, volume, altitude ? text : NULL, instance_name ? name : NULL};
+    NTSTATUS status = kz_attach_by_hand(&asked, &number);
+    if (NT_SUCCESS(status))
+        put_name(room, size, kz.instances[number]->name);
+    return status;
 }
 
 int32_t FilterAttachAtAltitude(const WCHAR *filter, const WCHAR *volume, const WCHAR *altitude, const WCHAR *instance, uint32_t size, WCHAR *room);
@@ -141,12 +137,8 @@ static NTSTATUS detach(const WCHAR *filter_name, const WCHAR *volume_name, const
         return filter ? STATUS_FLT_VOLUME_NOT_FOUND : STATUS_FLT_FILTER_NOT_FOUND;
     if (instance_name)
         narrow(name, sizeof name, instance_name);
-    for (size_t at = 0; at < kz.instances_count; at++) {
-        PFLT_INSTANCE one = kz.instances[at];
-        if (one->filter == filter && one->volume == volume && kz_phase(one) != KZP_INSTANCE_DETACHED && (!*name || KzStricmp(one->name, name) == 0))
-            return kz_ntstatus(kz_detach(one));
-    }
-    return STATUS_FLT_INSTANCE_NOT_FOUND;
+    PFLT_INSTANCE one = kz_instance_named(filter, volume, name);
+    return one ? kz_ntstatus(kz_detach(one)) : STATUS_FLT_INSTANCE_NOT_FOUND;
 }
 
 int32_t FilterDetach(const WCHAR *filter, const WCHAR *volume, const WCHAR *instance);
@@ -186,128 +178,9 @@ void kz_free_found(KzObject *object)
     free(object->found);
 }
 
-/* Texts behind a structure, each with its length and its place there. */
-typedef struct {
-    uint8_t *room;
-    uint32_t used, size;
-} Texts;
-
-static void put_text(Texts *to, uint16_t *length, uint16_t *offset, const char *text)
-{
-    *length = (uint16_t)(strlen(text) * sizeof(WCHAR));
-    *offset = (uint16_t)to->used;
-    for (; *text; text++, to->used += sizeof(WCHAR)) {
-        WCHAR letter = (WCHAR)(*text == '/' ? '\\' : (UCHAR)*text);
-        if (to->used + sizeof letter <= to->size)
-            memcpy(to->room + to->used, &letter, sizeof letter);
-    }
-}
-
-/* Where it doesn't fit nothing is given but how much it needs. */
-static NTSTATUS given(const Texts *texts, const void *head, size_t size, uint32_t *returned)
-{
-    *returned = texts->used;
-    if (texts->used > texts->size)
-        return STATUS_BUFFER_TOO_SMALL;
-    memcpy(texts->room, head, size);
-    return STATUS_SUCCESS;
-}
-
-static void volume_name(char *room, size_t size, PFLT_VOLUME volume)
-{
-    snprintf(room, size, "/Device/%s", volume->name);
-}
-
-static NTSTATUS give_instance(void *found, uint32_t class, uint8_t *room, uint32_t size, uint32_t *returned)
-{
-    PFLT_INSTANCE one = found;
-    char volume[64];
-    volume_name(volume, sizeof volume, one->volume);
-    if (class == InstanceBasicInformation) {
-        INSTANCE_BASIC_INFORMATION info = {0};
-        Texts texts = {room, sizeof info, size};
-        put_text(&texts, &info.InstanceNameLength, &info.InstanceNameBufferOffset, one->name);
-        return given(&texts, &info, sizeof info, returned);
-    }
-    if (class == InstancePartialInformation) {
-        INSTANCE_PARTIAL_INFORMATION info = {0};
-        Texts texts = {room, sizeof info, size};
-        put_text(&texts, &info.InstanceNameLength, &info.InstanceNameBufferOffset, one->name);
-        put_text(&texts, &info.AltitudeLength, &info.AltitudeBufferOffset, one->altitude);
-        return given(&texts, &info, sizeof info, returned);
-    }
-    if (class == InstanceFullInformation) {
-        INSTANCE_FULL_INFORMATION info = {0};
-        Texts texts = {room, sizeof info, size};
-        put_text(&texts, &info.InstanceNameLength, &info.InstanceNameBufferOffset, one->name);
-        put_text(&texts, &info.AltitudeLength, &info.AltitudeBufferOffset, one->altitude);
-        put_text(&texts, &info.VolumeNameLength, &info.VolumeNameBufferOffset, volume);
-        put_text(&texts, &info.FilterNameLength, &info.FilterNameBufferOffset, one->filter->driver->name);
-        return given(&texts, &info, sizeof info, returned);
-    }
-    INSTANCE_AGGREGATE_STANDARD_INFORMATION info = {.Flags = FLTFL_IASI_IS_MINIFILTER, .Type.MiniFilter.VolumeFileSystemType = one->volume->type};
-    Texts texts = {room, sizeof info, size};
-    put_text(&texts, &info.Type.MiniFilter.InstanceNameLength, &info.Type.MiniFilter.InstanceNameBufferOffset, one->name);
-    put_text(&texts, &info.Type.MiniFilter.AltitudeLength, &info.Type.MiniFilter.AltitudeBufferOffset, one->altitude);
-    put_text(&texts, &info.Type.MiniFilter.VolumeNameLength, &info.Type.MiniFilter.VolumeNameBufferOffset, volume);
-    put_text(&texts, &info.Type.MiniFilter.FilterNameLength, &info.Type.MiniFilter.FilterNameBufferOffset, one->filter->driver->name);
-    return class == InstanceAggregateStandardInformation ? given(&texts, &info, sizeof info, returned) : STATUS_INVALID_PARAMETER;
-}
-
-static uint32_t instances_of(PFLT_FILTER filter)
-{
-    uint32_t count = 0;
-    for (size_t at = 0; at < kz.instances_count; at++)
-        count += kz.instances[at]->filter == filter && kz_phase(kz.instances[at]) == KZP_INSTANCE_ATTACHED;
-    return count;
-}
-
-static NTSTATUS give_filter(void *found, uint32_t class, uint8_t *room, uint32_t size, uint32_t *returned)
-{
-    PFLT_FILTER one = found;
-    if (class == FilterFullInformation) {
-        FILTER_FULL_INFORMATION info = {.NumberOfInstances = instances_of(one)};
-        uint16_t unused;
-        Texts texts = {room, offsetof(FILTER_FULL_INFORMATION, FilterNameBuffer), size};
-        put_text(&texts, &info.FilterNameLength, &unused, one->driver->name);
-        return given(&texts, &info, offsetof(FILTER_FULL_INFORMATION, FilterNameBuffer), returned);
-    }
-    if (class == FilterAggregateBasicInformation) {
-        FILTER_AGGREGATE_BASIC_INFORMATION info = {.Flags = FLTFL_AGGREGATE_INFO_IS_MINIFILTER, .Type.MiniFilter.NumberOfInstances = instances_of(one)};
-        Texts texts = {room, sizeof info, size};
-        put_text(&texts, &info.Type.MiniFilter.FilterNameLength, &info.Type.MiniFilter.FilterNameBufferOffset, one->driver->name);
-        put_text(&texts, &info.Type.MiniFilter.FilterAltitudeLength, &info.Type.MiniFilter.FilterAltitudeBufferOffset, one->altitude);
-        return given(&texts, &info, sizeof info, returned);
-    }
-    FILTER_AGGREGATE_STANDARD_INFORMATION info = {.Flags = FLTFL_AGGREGATE_INFO_IS_MINIFILTER, .Type.MiniFilter.NumberOfInstances = instances_of(one)};
-    Texts texts = {room, sizeof info, size};
-    put_text(&texts, &info.Type.MiniFilter.FilterNameLength, &info.Type.MiniFilter.FilterNameBufferOffset, one->driver->name);
-    put_text(&texts, &info.Type.MiniFilter.FilterAltitudeLength, &info.Type.MiniFilter.FilterAltitudeBufferOffset, one->altitude);
-    return class == FilterAggregateStandardInformation ? given(&texts, &info, sizeof info, returned) : STATUS_INVALID_PARAMETER;
-}
-
-static NTSTATUS give_volume(void *found, uint32_t class, uint8_t *room, uint32_t size, uint32_t *returned)
-{
-    PFLT_VOLUME one = found;
-    uint16_t unused;
-    char name[64];
-    volume_name(name, sizeof name, one);
-    if (class == FilterVolumeBasicInformation) {
-        FILTER_VOLUME_BASIC_INFORMATION info = {0};
-        Texts texts = {room, offsetof(FILTER_VOLUME_BASIC_INFORMATION, FilterVolumeName), size};
-        put_text(&texts, &info.FilterVolumeNameLength, &unused, name);
-        return given(&texts, &info, offsetof(FILTER_VOLUME_BASIC_INFORMATION, FilterVolumeName), returned);
-    }
-    FILTER_VOLUME_STANDARD_INFORMATION info = {.FileSystemType = one->type};
-    Texts texts = {room, offsetof(FILTER_VOLUME_STANDARD_INFORMATION, FilterVolumeName), size};
-    put_text(&texts, &info.FilterVolumeNameLength, &unused, name);
-    return class == FilterVolumeStandardInformation ? given(&texts, &info, offsetof(FILTER_VOLUME_STANDARD_INFORMATION, FilterVolumeName), returned) : STATUS_INVALID_PARAMETER;
-}
-
-typedef NTSTATUS Give(void *found, uint32_t class, uint8_t *room, uint32_t size, uint32_t *returned);
 
 /* One that doesn't fit is given by the next call. */
-static int32_t give_next(KzObject *find, Give *give, uint32_t class, uint8_t *room, uint32_t size, uint32_t *returned)
+static int32_t give_next(KzObject *find, KzGive *give, uint32_t class, uint8_t *room, uint32_t size, uint32_t *returned)
 {
     *returned = 0;
     if (!find)
@@ -319,7 +192,7 @@ static int32_t give_next(KzObject *find, Give *give, uint32_t class, uint8_t *ro
     return kz_hresult_of(status);
 }
 
-static int32_t begin(Found *found, Give *give, uint32_t class, uint8_t *room, uint32_t size, uint32_t *returned, void **handle)
+static int32_t begin(Found *found, KzGive *give, uint32_t class, uint8_t *room, uint32_t size, uint32_t *returned, void **handle)
 {
     *handle = (void *)(intptr_t)-1;
     KzObject *find = kz_new_object(KZU_FIND);
@@ -365,14 +238,14 @@ int32_t FilterFindFirst(uint32_t class, void *room, uint32_t size, uint32_t *ret
     for (size_t at = 0; at < kz.filters_count && found->count < 64; at++)
         if (kz_filter_phase(kz.filters[at]) != KZP_FILTER_NOT_LOADED)
             found->all[found->count++] = kz.filters[at];
-    return begin(found, give_filter, class, room, size, returned, handle);
+    return begin(found, kz_give_filter, class, room, size, returned, handle);
 }
 
 int32_t FilterFindNext(void *handle, uint32_t class, void *room, uint32_t size, uint32_t *returned);
 int32_t FilterFindNext(void *handle, uint32_t class, void *room, uint32_t size, uint32_t *returned)
 {
     KZ_CALL();
-    return give_next(kz_object(handle, KZU_FIND), give_filter, class, room, size, returned);
+    return give_next(kz_object(handle, KZU_FIND), kz_give_filter, class, room, size, returned);
 }
 
 int32_t FilterVolumeFindFirst(uint32_t class, void *room, uint32_t size, uint32_t *returned, void **handle);
@@ -383,14 +256,14 @@ int32_t FilterVolumeFindFirst(uint32_t class, void *room, uint32_t size, uint32_
     for (size_t at = 0; at < kz.volumes_count && found->count < 64; at++)
         if (!kz.volumes[at]->is_dismounting)
             found->all[found->count++] = kz.volumes[at];
-    return begin(found, give_volume, class, room, size, returned, handle);
+    return begin(found, kz_give_volume, class, room, size, returned, handle);
 }
 
 int32_t FilterVolumeFindNext(void *handle, uint32_t class, void *room, uint32_t size, uint32_t *returned);
 int32_t FilterVolumeFindNext(void *handle, uint32_t class, void *room, uint32_t size, uint32_t *returned)
 {
     KZ_CALL();
-    return give_next(kz_object(handle, KZU_FIND), give_volume, class, room, size, returned);
+    return give_next(kz_object(handle, KZU_FIND), kz_give_volume, class, room, size, returned);
 }
 
 int32_t FilterInstanceFindFirst(const WCHAR *filter, uint32_t class, void *room, uint32_t size, uint32_t *returned, void **handle);
@@ -398,7 +271,7 @@ int32_t FilterInstanceFindFirst(const WCHAR *filter, uint32_t class, void *room,
 {
     KZ_CALL();
     PFLT_FILTER one = filter_of(filter);
-    return one ? begin(instances(one, NULL), give_instance, class, room, size, returned, handle) : kz_hresult_of(STATUS_FLT_FILTER_NOT_FOUND);
+    return one ? begin(instances(one, NULL), kz_give_instance, class, room, size, returned, handle) : kz_hresult_of(STATUS_FLT_FILTER_NOT_FOUND);
 }
 
 int32_t FilterVolumeInstanceFindFirst(const WCHAR *volume, uint32_t class, void *room, uint32_t size, uint32_t *returned, void **handle);
@@ -406,14 +279,14 @@ int32_t FilterVolumeInstanceFindFirst(const WCHAR *volume, uint32_t class, void 
 {
     KZ_CALL();
     PFLT_VOLUME one = volume_of(volume);
-    return one ? begin(instances(NULL, one), give_instance, class, room, size, returned, handle) : kz_hresult_of(STATUS_FLT_VOLUME_NOT_FOUND);
+    return one ? begin(instances(NULL, one), kz_give_instance, class, room, size, returned, handle) : kz_hresult_of(STATUS_FLT_VOLUME_NOT_FOUND);
 }
 
 int32_t FilterInstanceFindNext(void *handle, uint32_t class, void *room, uint32_t size, uint32_t *returned);
 int32_t FilterInstanceFindNext(void *handle, uint32_t class, void *room, uint32_t size, uint32_t *returned)
 {
     KZ_CALL();
-    return give_next(kz_object(handle, KZU_FIND), give_instance, class, room, size, returned);
+    return give_next(kz_object(handle, KZU_FIND), kz_give_instance, class, room, size, returned);
 }
 
 int32_t FilterVolumeInstanceFindNext(void *handle, uint32_t class, void *room, uint32_t size, uint32_t *returned);

@@ -1,4 +1,4 @@
-/* A filter that says what each create asks for, and what came of it. Of a name that begins with `x` its instance above opens another file itself, in the ways of the kit. */
+/* A filter that says what each create asks for, and what came of it; and of each read who asks. Of a name that begins with `x` its instance above opens another file itself, in the ways of the kit. */
 #include <fltKernel.h>
 
 static PFLT_FILTER gFilter;
@@ -48,6 +48,14 @@ static FLT_POSTOP_CALLBACK_STATUS PostCreate(_Inout_ PFLT_CALLBACK_DATA Data, _I
     return FLT_POSTOP_FINISHED_PROCESSING;
 }
 
+static FLT_PREOP_CALLBACK_STATUS PreRead(_Inout_ PFLT_CALLBACK_DATA Data, _In_ PCFLT_RELATED_OBJECTS FltObjects, _Flt_CompletionContext_Outptr_ PVOID *CompletionContext)
+{
+    UNREFERENCED_PARAMETER(FltObjects);
+    UNREFERENCED_PARAMETER(CompletionContext);
+    DbgPrint("read: at %I64d, flags %08x, %s mode\n", Data->Iopb->Parameters.Read.ByteOffset.QuadPart, Data->Flags, Data->RequestorMode == UserMode ? "user" : "kernel");
+    return FLT_PREOP_SUCCESS_NO_CALLBACK;
+}
+
 static NTSTATUS Unload(_In_ FLT_FILTER_UNLOAD_FLAGS Flags)
 {
     UNREFERENCED_PARAMETER(Flags);
@@ -55,7 +63,7 @@ static NTSTATUS Unload(_In_ FLT_FILTER_UNLOAD_FLAGS Flags)
     return STATUS_SUCCESS;
 }
 
-static const FLT_OPERATION_REGISTRATION Callbacks[] = {{IRP_MJ_CREATE, 0, PreCreate, PostCreate}, {IRP_MJ_OPERATION_END}};
+static const FLT_OPERATION_REGISTRATION Callbacks[] = {{IRP_MJ_CREATE, 0, PreCreate, PostCreate}, {IRP_MJ_READ, 0, PreRead, NULL}, {IRP_MJ_OPERATION_END}};
 static const FLT_REGISTRATION Registration = {sizeof(FLT_REGISTRATION), FLT_REGISTRATION_VERSION, 0, NULL, Callbacks, Unload};
 
 NTSTATUS DriverEntry(_In_ PDRIVER_OBJECT DriverObject, _In_ PUNICODE_STRING RegistryPath)

@@ -217,6 +217,51 @@ BOOL SetEndOfFile(HANDLE File);
 BOOL DeleteFileA(LPCSTR Name);
 BOOL DeleteFileW(LPCWSTR Name);
 
+/* ---- Directories, and files by their names. */
+#define INVALID_FILE_ATTRIBUTES 0xffffffff
+#define FILE_ATTRIBUTE_REPARSE_POINT 0x00000400
+#define MOVEFILE_REPLACE_EXISTING 1
+#define MOVEFILE_COPY_ALLOWED 2
+typedef enum _GET_FILEEX_INFO_LEVELS { GetFileExInfoStandard, GetFileExMaxInfoLevel } GET_FILEEX_INFO_LEVELS;
+typedef struct _WIN32_FILE_ATTRIBUTE_DATA {
+    DWORD dwFileAttributes;
+    FILETIME ftCreationTime, ftLastAccessTime, ftLastWriteTime;
+    DWORD nFileSizeHigh, nFileSizeLow;
+} WIN32_FILE_ATTRIBUTE_DATA, *LPWIN32_FILE_ATTRIBUTE_DATA;
+typedef struct _WIN32_FIND_DATAA {
+    DWORD dwFileAttributes;
+    FILETIME ftCreationTime, ftLastAccessTime, ftLastWriteTime;
+    DWORD nFileSizeHigh, nFileSizeLow, dwReserved0, dwReserved1;
+    CHAR cFileName[260];
+    CHAR cAlternateFileName[14];
+} WIN32_FIND_DATAA, *PWIN32_FIND_DATAA, *LPWIN32_FIND_DATAA;
+typedef struct _WIN32_FIND_DATAW {
+    DWORD dwFileAttributes;
+    FILETIME ftCreationTime, ftLastAccessTime, ftLastWriteTime;
+    DWORD nFileSizeHigh, nFileSizeLow, dwReserved0, dwReserved1;
+    WCHAR cFileName[260];
+    WCHAR cAlternateFileName[14];
+} WIN32_FIND_DATAW, *PWIN32_FIND_DATAW, *LPWIN32_FIND_DATAW;
+BOOL CreateDirectoryA(LPCSTR Name, LPSECURITY_ATTRIBUTES Attributes);
+BOOL CreateDirectoryW(LPCWSTR Name, LPSECURITY_ATTRIBUTES Attributes);
+BOOL RemoveDirectoryA(LPCSTR Name);
+BOOL RemoveDirectoryW(LPCWSTR Name);
+DWORD GetFileAttributesA(LPCSTR Name);
+DWORD GetFileAttributesW(LPCWSTR Name);
+BOOL GetFileAttributesExA(LPCSTR Name, GET_FILEEX_INFO_LEVELS Level, LPVOID Data);
+BOOL GetFileAttributesExW(LPCWSTR Name, GET_FILEEX_INFO_LEVELS Level, LPVOID Data);
+BOOL SetFileAttributesA(LPCSTR Name, DWORD Attributes);
+BOOL SetFileAttributesW(LPCWSTR Name, DWORD Attributes);
+BOOL MoveFileA(LPCSTR From, LPCSTR To);
+BOOL MoveFileW(LPCWSTR From, LPCWSTR To);
+BOOL MoveFileExA(LPCSTR From, LPCSTR To, DWORD Flags);
+BOOL MoveFileExW(LPCWSTR From, LPCWSTR To, DWORD Flags);
+HANDLE FindFirstFileA(LPCSTR Name, LPWIN32_FIND_DATAA Data);
+HANDLE FindFirstFileW(LPCWSTR Name, LPWIN32_FIND_DATAW Data);
+BOOL FindNextFileA(HANDLE Find, LPWIN32_FIND_DATAA Data);
+BOOL FindNextFileW(HANDLE Find, LPWIN32_FIND_DATAW Data);
+BOOL FindClose(HANDLE Find);
+
 #define FILE_MAP_READ 4
 LPVOID MapViewOfFile(HANDLE Section, DWORD Access, DWORD OffsetHigh, DWORD OffsetLow, SIZE_T Size);
 BOOL UnmapViewOfFile(LPCVOID Address);
@@ -282,6 +327,17 @@ char *gets_s(char *Room, size_t Size);
 #define CreateSemaphore CreateSemaphoreW
 #define CreateMutex CreateMutexW
 #define CreateFile CreateFileW
+#define CreateDirectory CreateDirectoryW
+#define RemoveDirectory RemoveDirectoryW
+#define GetFileAttributes GetFileAttributesW
+#define GetFileAttributesEx GetFileAttributesExW
+#define SetFileAttributes SetFileAttributesW
+#define MoveFile MoveFileW
+#define MoveFileEx MoveFileExW
+#define FindFirstFile FindFirstFileW
+#define FindNextFile FindNextFileW
+#define WIN32_FIND_DATA WIN32_FIND_DATAW
+#define LPWIN32_FIND_DATA LPWIN32_FIND_DATAW
 #define DeleteFile DeleteFileW
 #define OutputDebugString OutputDebugStringW
 #define lstrlen lstrlenW
@@ -290,6 +346,17 @@ char *gets_s(char *Room, size_t Size);
 #define CreateSemaphore CreateSemaphoreA
 #define CreateMutex CreateMutexA
 #define CreateFile CreateFileA
+#define CreateDirectory CreateDirectoryA
+#define RemoveDirectory RemoveDirectoryA
+#define GetFileAttributes GetFileAttributesA
+#define GetFileAttributesEx GetFileAttributesExA
+#define SetFileAttributes SetFileAttributesA
+#define MoveFile MoveFileA
+#define MoveFileEx MoveFileExA
+#define FindFirstFile FindFirstFileA
+#define FindNextFile FindNextFileA
+#define WIN32_FIND_DATA WIN32_FIND_DATAA
+#define LPWIN32_FIND_DATA LPWIN32_FIND_DATAA
 #define DeleteFile DeleteFileA
 #define OutputDebugString OutputDebugStringA
 #define lstrlen lstrlenA

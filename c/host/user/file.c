@@ -32,9 +32,8 @@ static uint32_t error_of(KzAnswer answer)
     return NT_SUCCESS(status) ? 0 : kz_win32_of(status);
 }
 
-void kz_close_program_file(KzObject *object)
+void kz_close_opened(KzFile *file)
 {
-    KzFile *file = object->file;
     ask(file, (KazdrinEvent){.event = KZE_CLEANUP}, "", 0);
     file->is_close_due = true;
     kz_let_go_file(file);
@@ -132,22 +131,34 @@ static uint32_t open_at(PFLT_VOLUME volume, const char *path, const KzCreate *as
     KazdrinEvent event = {.event = KZE_CREATE, .volume = volume->id, .mode = kz_mode_of(create.options >> 24)};
     uint32_t error = error_of(kz_follow(begin(&opening, event, path), &opening, begin));
     *file = opening.file;
-    return error == 183 ? 80 : error; /* ERROR_FILE_EXISTS */
+    return error;
+}
+
+uint32_t kz_open_path(const char *name, const KzCreate *create, KzFile **file)
+{
+    const char *path;
+    *file = NULL;
+    PFLT_VOLUME volume = split(name, &path);
+    if (!volume || strlen(path) > 255)
+        return volume ? 123 : 3; /* ERROR_INVALID_NAME, ERROR_PATH_NOT_FOUND */
+    return open_at(volume, path, create, file);
+}
+
+NTSTATUS kz_ask_opened(KzFile *file, const KzAsked *asked, KzAnswer *answer)
+{
+    const KzOwn own = {.is_waited_for = true, .is_user = true, .carried = asked};
+    *answer = kz_below(&own, file, (KazdrinEvent){.event = KZE_FLUSH, .handle = file->handle}, "", 0);
+    return kz_status_of(*answer);
 }
 
 static KzFile *open_file(const char *name, const Asked *asked)
 {
-    const char *path;
     KzFile *file = NULL;
-    PFLT_VOLUME volume = split(name, &path);
-    if (!volume || strlen(path) > 255 || asked->disposition < CREATE_NEW || asked->disposition > TRUNCATE_EXISTING) {
-        kz_failed(!volume ? 3 : strlen(path) > 255 ? 123 : 87);
-        return NULL;
-    }
-    const KzCreate create = create_of(asked);
-    uint32_t error = open_at(volume, path, &create, &file);
+    bool is_right = asked->disposition >= CREATE_NEW && asked->disposition <= TRUNCATE_EXISTING;
+    const KzCreate create = is_right ? create_of(asked) : (KzCreate){0};
+    uint32_t error = is_right ? kz_open_path(name, &create, &file) : 87;
     if (error) {
-        kz_failed(error);
+        kz_failed(error == 183 ? 80 : error); /* ERROR_FILE_EXISTS */
         return NULL;
     }
     bool was_there = file->created == FILE_OPENED || file->created == FILE_OVERWRITTEN;
@@ -409,31 +420,4 @@ int SetEndOfFile(void *handle)
         size = object ? object->offset : 0;
     }
     return simple(handle, (KazdrinEvent){.event = KZE_SET_SIZE, .offset = size}, NULL, __func__);
-}
-
-static int delete_file(const char *name)
-{
-    void *handle = create(name, &(Asked){DELETE, FILE_SHARE_VALID_FLAGS, OPEN_EXISTING, 0x00200000}); /* FILE_FLAG_OPEN_REPARSE_POINT */
-    if (handle == (void *)(intptr_t)-1)
-        return 0;
-    int is_right = simple(handle, (KazdrinEvent){.event = KZE_SET_DELETE}, NULL, "DeleteFile");
-    int CloseHandle(void *handle);
-    CloseHandle(handle);
-    return is_right;
-}
-
-int DeleteFileA(const char *name);
-int DeleteFileA(const char *name)
-{
-    return delete_file(name);
-}
-
-int DeleteFileW(const WCHAR *name);
-int DeleteFileW(const WCHAR *name)
-{
-    char text[320];
-    UNICODE_STRING wide;
-    RtlInitUnicodeString(&wide, name);
-    kz_narrow(text, sizeof text, &wide);
-    return delete_file(text);
 }

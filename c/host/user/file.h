@@ -3,8 +3,13 @@
 #define KZ_USER_FILE_H
 
 #include "host.h"
+#include "core/operation.h"
 #include "user/program.h"
 
-void kz_close_program_file(KzObject *object);
+/* A file by its path, with `/` between its parts; its access is as it is said, with generic bits. 0, or the error, and then no file. */
+uint32_t kz_open_path(const char *name, const KzCreate *create, KzFile **file);
+void kz_close_opened(KzFile *file);
+/* What the manager has no operation for. Its bytes are in the client's room. */
+NTSTATUS kz_ask_opened(KzFile *file, const KzAsked *asked, KzAnswer *answer);
 
 #endif

@@ -6,6 +6,7 @@
 #include "kit/create.h"
 #include "kit/device.h"
 #include "kit/port.h"
+#include "user/directory.h"
 #include "user/file.h"
 #include "user/manage.h"
 #include "user/message.h"
@@ -72,11 +73,13 @@ void kz_close_object(KzObject *object)
         kz_abort_messages(object, STATUS_CANCELLED);
         kz_disconnect_port(object->port);
     } else if (object->kind == KZU_FILE) {
-        kz_close_program_file(object);
+        kz_close_opened(object->file);
     } else if (object->kind == KZU_DEVICE) {
         kz_close_device(&object->device);
     } else if (object->kind == KZU_FIND) {
         kz_free_found(object);
+    } else if (object->kind == KZU_SEARCH) {
+        kz_free_search(object);
     } else if (object->kind == KZU_THREAD) {
         object->owner->object = NULL;
     }

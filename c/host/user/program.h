@@ -49,7 +49,7 @@ struct KzUser {
     bool has_ended;
 };
 
-typedef enum { KZU_THREAD, KZU_EVENT, KZU_SEMAPHORE, KZU_MUTEX, KZU_PORT, KZU_COMPLETION, KZU_FILE, KZU_FIND, KZU_DEVICE } KzObjectKind;
+typedef enum { KZU_THREAD, KZU_EVENT, KZU_SEMAPHORE, KZU_MUTEX, KZU_PORT, KZU_COMPLETION, KZU_FILE, KZU_FIND, KZU_SEARCH, KZU_DEVICE } KzObjectKind;
 
 /* A packet of a completion port. */
 typedef struct KzPacket {
@@ -92,6 +92,7 @@ struct KzObject {
     uint64_t offset;
     bool is_append;
     struct KzFound *found;
+    struct KzSearch *search;
 };
 
 extern const struct KzModule kz_program_module;

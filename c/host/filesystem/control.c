@@ -2,6 +2,7 @@
 #include "filesystem/control.h"
 
 #include "core/operation.h"
+#include "filesystem/fsctl.h"
 #include "filesystem/name.h"
 #include "filesystem/node.h"
 #include "filesystem/notice.h"
@@ -108,7 +109,6 @@ static NTSTATUS control(KzOp *op, const FLT_PARAMETERS *now)
     case FSCTL_LOCK_VOLUME:
     case FSCTL_UNLOCK_VOLUME:
     case FSCTL_SET_COMPRESSION:
-    case FSCTL_SET_SPARSE:
         return STATUS_SUCCESS;
     case FSCTL_GET_COMPRESSION:
         if (now->FileSystemControl.Common.OutputBufferLength < sizeof *compressed)
@@ -117,7 +117,7 @@ static NTSTATUS control(KzOp *op, const FLT_PARAMETERS *now)
         op->carried->information = sizeof *compressed;
         return STATUS_SUCCESS;
     default:
-        return STATUS_INVALID_DEVICE_REQUEST;
+        return kz_control_file(op, now);
     }
 }
 

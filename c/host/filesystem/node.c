@@ -83,6 +83,7 @@ void kz_free_node(KzNode *node)
     free(node->ea.bytes);
     free(node->security.bytes);
     free(node->reparse.bytes);
+    free(node->object_id.bytes);
     free(node);
 }
 
@@ -108,6 +109,7 @@ void kz_begin_node(KzNode *node, bool is_directory)
     kz_keep_bytes(&node->ea, NULL, 0);
     kz_keep_bytes(&node->security, NULL, 0);
     kz_keep_bytes(&node->reparse, NULL, 0);
+    kz_keep_bytes(&node->object_id, NULL, 0);
 }
 
 static void free_nodes(void)

@@ -11,6 +11,7 @@ typedef struct KzStore {
     bool (*drop)(PFLT_VOLUME volume, const char *key);
     /* The file, which may be about to be opened, has that size, by an operation that no instance hears. */
     NTSTATUS (*cut)(KzFile *file, uint64_t size);
+    NTSTATUS (*write)(KzFile *file, uint64_t offset, const uint8_t *bytes, size_t length);
     /* An operation that waited in the file system is answered, and goes on. */
     void (*go_on)(KzOp *op, NTSTATUS status);
 } KzStore;

@@ -41,7 +41,7 @@ typedef struct KzNode {
     uint64_t id, size, allocation;
     LONGLONG created, accessed, written, changed;
     ULONG attributes;
-    KzBytes ea, security, reparse;
+    KzBytes ea, security, reparse, object_id;
     SHARE_ACCESS share;
 } KzNode;
 

@@ -15,7 +15,12 @@ struct KzLabelState {
     char of[8][LETTERS + 1];
 };
 
-static LONGLONG free_units(PFLT_VOLUME volume)
+LONGLONG kz_units(void)
+{
+    return UNITS;
+}
+
+LONGLONG kz_free_units(PFLT_VOLUME volume)
 {
     uint64_t used = 0;
     for (const KzName *one = kz_all_names(); one; one = one->next)
@@ -54,7 +59,7 @@ static NTSTATUS query_attributes(PFLT_VOLUME volume, const KzRoom *room)
 
 static NTSTATUS query(PFLT_VOLUME volume, int class, const KzRoom *room)
 {
-    LARGE_INTEGER all = {.QuadPart = UNITS}, left = {.QuadPart = free_units(volume)};
+    LARGE_INTEGER all = {.QuadPart = UNITS}, left = {.QuadPart = kz_free_units(volume)};
     FILE_FS_SIZE_INFORMATION size = {all, left, 1, volume->sector};
     FILE_FS_FULL_SIZE_INFORMATION full = {all, left, left, 1, volume->sector};
     FILE_FS_DEVICE_INFORMATION device = {volume->disk.DeviceType, volume->disk.Characteristics | (volume->is_read_only ? FILE_READ_ONLY_DEVICE : 0)};

@@ -5,6 +5,9 @@
 #include "host.h"
 
 /* The volume that a name begins with, and what is behind it; NULL if it begins with none. */
+/* How many units of a sector a volume has, and how many are free. */
+LONGLONG kz_units(void);
+LONGLONG kz_free_units(PFLT_VOLUME volume);
 PFLT_VOLUME kz_volume_named(const char *name, const char **rest);
 extern const struct KzModule kz_label_module;
 NTSTATUS kz_answer_volume(KzOp *op, const FLT_PARAMETERS *now);

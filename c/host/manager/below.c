@@ -283,4 +283,4 @@ static bool mark(KzFile *file)
     return kz_below(&unheard, file, (KazdrinEvent){.event = KZE_SET_DELETE, .handle = file->handle}, "", 0).reply.status == KZS_OK;
 }
 
-const KzStore kz_manager_store = {mark, drop, cut, kz_go_on_from_base};
+const KzStore kz_manager_store = {mark, drop, cut, kz_write_unheard, kz_go_on_from_base};

@@ -27,7 +27,7 @@ static PUNICODE_STRING pattern(KzOp *op, const char *text)
     return name;
 }
 
-/* One buffer for both ways. */
+/* One buffer for both ways, but where the code leaves them to who answers it. */
 static void fill_control(KzOp *op, const KzAsked *asked, FLT_PARAMETERS *now)
 {
     size_t room = asked->input_size > asked->room ? asked->input_size : asked->room;
@@ -38,6 +38,8 @@ static void fill_control(KzOp *op, const KzAsked *asked, FLT_PARAMETERS *now)
     now->FileSystemControl.Buffered.OutputBufferLength = (ULONG)asked->room;
     now->FileSystemControl.Buffered.FsControlCode = asked->code;
     now->FileSystemControl.Buffered.SystemBuffer = buffer;
+    if (METHOD_FROM_CTL_CODE(asked->code) == METHOD_NEITHER)
+        now->FileSystemControl.Neither.OutputBuffer = buffer = asked->room ? kz_block(op, asked->room) : NULL;
     op->carried->output = asked->room ? buffer : NULL;
     op->carried->output_size = asked->room;
 }

@@ -88,6 +88,7 @@ def kit():
 def manager():
     text = (INCLUDE / "fltKernel.h").read_text()
     text = re.sub(r"#include <(dontuse|suppress)\.h>\n", "", text).replace("#include <ntifs.h>", "#include <kit.h>")
+    text = re.sub(r'#include (?:<kz\w+\.h>|"\.\./user/\w+\.h")\n', "", text)
     text = re.sub(OF_FUNCTIONS, "", text)
     # Routines that aren't modelled are no driver's here; what mingw-w64 has already is mingw-w64's.
     text = re.sub(r"#define KZ_ROUTINE.*?#undef KZ_ROUTINE\n", "", text, flags=re.S)

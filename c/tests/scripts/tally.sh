@@ -66,7 +66,7 @@ untried() {
 # How many tests this part has at least where each tool is there. A list that came out empty makes fewer.
 least() {
     case $PART in
-        host) echo 120 ;;
+        host) echo 125 ;;
         legal) echo 105 ;;
         order) echo 14 ;;
         *) echo 1 ;;

@@ -110,7 +110,7 @@ typedef struct {
     bool is_preemption;
 } Event;
 
-/* How the scenario is searched (words.c). */
+/* How the scenario is searched (options.c). */
 typedef struct {
     unsigned bound, fails, shard, shards;
     bool wants_ends, is_traced, is_quiet, is_strict; /* is_strict: a limit counts */
@@ -224,7 +224,7 @@ typedef struct {
     char search[400];
 } Asked;
 
-/* words.c: false if a sentence has said what is wrong. */
+/* options.c: false if a sentence has said what is wrong. */
 bool ex_read_words(int count, char **words, Asked *asked);
 int ex_debug(int count, char **words);
 
@@ -238,7 +238,7 @@ enum { FAIL = 255, INSIDE = 254 };     /* in a schedule: the call was refused; t
 /* scenario.c: 0, or what is wrong was said. */
 int ex_read(const char *path);
 
-/* image.c: memory at the set-up's end, put back before each run. */
+/* snapshot.c: memory at the set-up's end, put back before each run. */
 void ex_open_memory(void);
 void *ex_map(size_t size);
 void ex_take_image(void);

@@ -61,7 +61,7 @@ fn listen<R: Files + Net>(rt: &R, path: &str) -> io::Result<(UnixListener, UnixS
     Ok((listener, UnixStream::from(OwnedFd::from(again))))
 }
 
-// The same once more descriptors were had than connections and the files of workers need: they are held until the socket is there.
+// The same once so many descriptors were had at once: they are held until the socket is there.
 fn listen_with_room<R: Files + Net>(
     rt: &R,
     alloc: Global,
@@ -76,7 +76,7 @@ fn listen_with_room<R: Files + Net>(
 
 /// Looks at the folder that a server is asked to serve, and then makes its socket, whose path must not be there yet. Each thread gets a base of its own over the
 /// folder. `Memory` if a growth was refused, `Outside` if the folder isn't there, the socket can't be made, or the host has too few descriptors for 32 connections
-/// and a file of each worker.
+/// and a file of each of them and of each worker.
 pub fn prepare<R>(rt: &R, alloc: Global, asked: &Front<'_>) -> Result<Endpoint<Folder<R>>, Fault>
 where
     R: Files + Net + AllocGlobal + Clone + Drop,
@@ -84,7 +84,10 @@ where
     let count = usize::from(asked.workers);
     let workers = bases(rt, alloc, asked.folder, count).map_err(fault_of)?;
     let connections = bases(rt, alloc, asked.folder, CONNECTIONS).map_err(fault_of)?;
-    match listen_with_room(rt, alloc, asked.socket, CONNECTIONS.saturating_add(count)) {
+    let descriptors = CONNECTIONS
+        .saturating_add(CONNECTIONS)
+        .saturating_add(count);
+    match listen_with_room(rt, alloc, asked.socket, descriptors) {
         Ok((listener, bell)) => Ok(Endpoint {
             workers,
             connections,

@@ -84,15 +84,16 @@ impl<'a, F: Callbacks, L: Ledger, R: Wait, G: CallbackHook, D: Device> Worker<'a
         self.shared.rt
     }
 
-    /// Begins an operation, and has a worker carry it on (`submit`): `wait_for` tells its answer. Refused as its beginning is.
+    /// Begins an operation and carries it on here, as far as it goes: `wait_for` tells its answer. What its callbacks resumed becomes jobs for the workers.
+    /// Refused as its beginning is.
     pub fn begin(&mut self, request: Request) -> Result<OpId, Status> {
         let operation = self.shared.manager.begin(self.shared.rt, request)?;
-        self.submit(operation);
+        self.carry_here(operation);
         Ok(operation)
     }
 
-    /// Begins an operation, has a worker carry it on (`submit`), and waits for its answer. What of it is this thread's turn alone is done here. Refused as its
-    /// beginning is.
+    /// Begins an operation, carries it on here as far as it goes, and waits for its answer. What of it is this thread's turn alone later is done here too.
+    /// Refused as its beginning is.
     pub fn answer(&mut self, request: Request) -> Result<Answer, Status> {
         let operation = self.begin(request)?;
         self.wait(operation)
@@ -121,7 +122,7 @@ impl<'a, F: Callbacks, L: Ledger, R: Wait + Clock, G: CallbackHook, D: Device> W
     G,
     D,
 > {
-    /// Waits for the answer of an operation that was begun and submitted, but no longer than that time: none then, and it can be waited for again. What of it
+    /// Waits for the answer of an operation that was begun, but no longer than that time: none then, and it can be waited for again. What of it
     /// is this thread's turn alone is done here. Refused with 30, if the operation isn't there or its answer was handed out.
     pub fn wait_for(&mut self, operation: OpId, time: Duration) -> Result<Option<Answer>, Status> {
         let rt = self.shared.rt;

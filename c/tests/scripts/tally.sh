@@ -68,7 +68,14 @@ least() {
     case $PART in
         host) echo 125 ;;
         legal) echo 105 ;;
+        explore) echo 236 ;;
+        image) echo 60 ;; # with one of the toolchains
+        misuse) echo 20 ;;
+        names) echo 33 ;;
         order) echo 14 ;;
+        programs) echo 56 ;;
+        spread) echo 22 ;;
+        threads) echo 10 ;;
         *) echo 1 ;;
     esac
 }

@@ -1,6 +1,7 @@
 /* What the processor refuses a binary, since this is no kernel. Instructions of the kernel's are carried out in place of it; all else is an exception of the binary's. The signal's handler
  * keeps the registers on the thread's own stack and has the thread go on here: so calls of the host and handlers of the binary are called as from anywhere else. */
 #define _GNU_SOURCE
+#include "image/absent.h"
 #include "image/calls.h"
 #include "image/machine.h"
 #include "image/point.h"
@@ -16,10 +17,10 @@
 #define ILLEGAL_INSTRUCTION 0xc000001du
 #define DIVIDED_BY_ZERO 0xc0000094u
 #define PRIVILEGED_INSTRUCTION 0xc0000096u
-enum { BELOW = 256, PAGE_WRITE = 2, PAGE_RUN = 16, BACKWARDS_AND_TRAP = 0x500, FAST_FAIL = 0x139 };
+enum { NEAR = 1 << 20, BELOW = 256, PAGE_WRITE = 2, PAGE_RUN = 16, BACKWARDS_AND_TRAP = 0x500, FAST_FAIL = 0x139 };
 
 /* What an instruction of the kernel's is. */
-typedef enum { NONE, READS_CR8, WRITES_CR8, INTERRUPTS, FAILS_FAST, ASSERTS, BREAKS, TOUCHES_TIMES, IS_POINT } Kind;
+typedef enum { NONE, READS_CR8, WRITES_CR8, INTERRUPTS, FAILS_FAST, ASSERTS, BREAKS, TOUCHES_TIMES, IS_POINT, IS_ABSENT } Kind;
 
 typedef struct {
     KzContext context;
@@ -116,6 +117,9 @@ __attribute__((section("kz_stubs"), noinline)) static bool carry_out(Fault *faul
     case IS_POINT:
         kz_pass_point(context);
         return true;
+    case IS_ABSENT:
+        kz_tell_absent(fault->address, context->rip);
+        return true;
     case ASSERTS:
         tell_assertion();
         context->rip += 2;
@@ -147,6 +151,25 @@ static KzException exception_of(const Fault *fault, const KzContext *context)
     return one;
 }
 
+/* The system stops: no handler of the driver's is asked. */
+static void tell_constant(const Fault *fault, const KzContext *context)
+{
+    const KzImage *image = kz_image_at(fault->address);
+    const KzSection *section = image ? kz_section_at(&image->headers, (uint32_t)(fault->address - (uintptr_t)image->bytes.start)) : NULL;
+    if (fault->signal != SIGSEGV || !(fault->error & PAGE_WRITE) || !section || section->is_written)
+        return;
+    KZ_INSIDE_FROM(section->name, (const void *)(uintptr_t)(context->rip + 1));
+    kz_tell(KZM_READ_ONLY, section->name, "it is written, and holds what can't be");
+    abort();
+}
+
+void kz_tell_stack(const void *frame)
+{
+    kz_me->stack = frame;
+    KZ_INSIDE_FROM("the stack", kz_stub_caller);
+    kz_tell(KZM_STACK, "the stack", "the driver's own code has more than %d KB of it", KZ_STACK >> 10);
+}
+
 /* A copy faulted on behalf of its caller: it counts as at that call. */
 static void leave_copy(KzContext *context)
 {
@@ -165,6 +188,7 @@ _Noreturn void kz_fault(Fault *fault)
     KzContext context = fault->context;
     if (fault->is_copy)
         leave_copy(&context);
+    tell_constant(fault, &context);
     KzException exception = exception_of(fault, &context);
     kz_stub_caller = (const void *)(uintptr_t)context.rip;
     kz_raise(&exception, &context);
@@ -210,8 +234,15 @@ static bool carry_out_in_place(int signal, void *information, void *context)
         return true;
     Fault fault = fault_of(signal, information, context);
     uint64_t rip = place_of(context);
-    if (!kz_image_at(rip - (signal == SIGTRAP)))
-        return false;
+    bool is_absent = signal == SIGSEGV && kz_is_absent(fault.address);
+    if (is_absent && !kz_image_at(rip))
+        kz_open_absent(fault.address); /* the host itself touches it */
+    if (is_absent && kz_image_at(rip)) {
+        fault.kind = IS_ABSENT;
+        leave_signal(context, fault);
+    }
+    if (is_absent || !kz_image_at(rip - (signal == SIGTRAP)))
+        return is_absent;
     /* An address outside of code can't be read for its instruction. */
     const KzImage *image = kz_image_at(rip);
     const KzSection *section = image ? kz_section_at(&image->headers, (uint32_t)(rip - (uintptr_t)image->bytes.start)) : NULL;
@@ -222,14 +253,20 @@ static bool carry_out_in_place(int signal, void *information, void *context)
     return true;
 }
 
+/* There is no stack left to go on with: that is the end. */
+static bool is_past_stack(const Fault *fault, const ucontext_t *there)
+{
+    return fault->signal == SIGSEGV && fault->address - ((uint64_t)there->uc_mcontext.gregs[REG_RSP] - NEAR) < 2 * NEAR;
+}
+
 static bool raise_in_place(int signal, void *information, void *context)
 {
     Fault fault = fault_of(signal, information, context);
     uint64_t rip = place_of(context);
     fault.is_copy = rip - (uintptr_t)kz_copies < (uintptr_t)(kz_copies_end - kz_copies);
-    bool is_known = given_up == rip;
+    bool is_known = given_up == rip, has_no_stack = is_past_stack(&fault, context);
     given_up = 0;
-    if (is_known || signal == SIGABRT || !(fault.is_copy || kz_image_at(rip)))
+    if (has_no_stack || is_known || signal == SIGABRT || !(fault.is_copy || kz_image_at(rip)))
         return false;
     leave_signal(context, fault);
     return true;

@@ -2,6 +2,7 @@
 #define _GNU_SOURCE
 #include "image/image.h"
 
+#include "image/absent.h"
 #include "image/calls.h"
 #include "core/memory.h"
 
@@ -79,21 +80,28 @@ void kz_open_text(const KzImage *image)
             mprotect(image->bytes.start + image->headers.sections[at].at, image->headers.sections[at].size, PROT_READ | PROT_WRITE);
 }
 
+void kz_protect_section(const KzImage *image, const KzSection *section, bool is_there)
+{
+    int rights = (section->is_read || section->is_run ? PROT_READ : 0) | (section->is_written ? PROT_WRITE : 0) | (section->is_run ? PROT_EXEC : 0);
+    mprotect(image->bytes.start + section->at, section->size, is_there ? rights : PROT_NONE);
+}
+
 void kz_protect_image(const KzImage *image)
 {
     mprotect(image->bytes.start, image->bytes.size, PROT_NONE);
     mprotect(image->bytes.start, KZ_PAGE, PROT_READ);
-    for (unsigned at = 0; at < image->headers.sections_count; at++) {
-        const KzSection *one = &image->headers.sections[at];
-        int rights = (one->is_read || one->is_run ? PROT_READ : 0) | (one->is_written ? PROT_WRITE : 0) | (one->is_run ? PROT_EXEC : 0);
-        mprotect(image->bytes.start + one->at, one->size, rights);
-    }
+    for (unsigned at = 0; at < image->headers.sections_count; at++)
+        kz_protect_section(image, &image->headers.sections[at], true);
 }
 
 /* A driver is loaded: its variables are as they were laid out. */
 static void open_again(const KzDriver *driver)
 {
-    const KzImage *image = kz_image_at((uintptr_t)driver->entry);
+    KzImage *image = (KzImage *)(uintptr_t)kz_image_at((uintptr_t)driver->entry);
+    if (image && image->is_entered) {
+        image->is_entered = false;
+        kz_protect_image(image);
+    }
     for (unsigned at = 0; image && at < image->headers.sections_count; at++) {
         const KzSection *one = &image->headers.sections[at];
         if (one->is_written)
@@ -134,7 +142,9 @@ static uint64_t find_import(void *given, const char *module, const char *name)
     const KzImage *image = given;
     const void *found = kz_find_export(name);
     if (!found) {
-        fprintf(stderr, "%s: %s of %s isn't in this kit: a call of it is told, and answers STATUS_NOT_SUPPORTED\n", image->path, name, module);
+        const char *near = kz_is_known(name) ? NULL : kz_nearest_known(name);
+        fprintf(stderr, "%s: %s of %s %s%s%s: a call of it is told, and answers STATUS_NOT_SUPPORTED\n", image->path, name, module,
+                kz_is_known(name) ? "isn't in this kit" : "is exported by no Windows that is known here", near ? "; the nearest is " : "", near ? near : "");
         found = kz_missing_call(name);
     }
     return (uintptr_t)found;
@@ -199,5 +209,6 @@ const KzImage *kz_load_image(const char *path, KzRefusal *why)
     kz_binaries.data = find_data;
     kz_binaries.watch = kz_watch_binaries;
     kz_watch_faults();
+    kz_watch_absent();
     return image;
 }

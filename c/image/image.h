@@ -12,6 +12,7 @@ typedef struct KzImage {
     KzBytes bytes;    /* as it lies in memory */
     uint8_t *pristine; /* as it was laid out */
     KzDriver driver;
+    bool is_entered; /* its DriverEntry has succeeded */
 } KzImage;
 
 /* image.c: NULL if the file can't be used, and why. What it imports and isn't here is written to the standard error output. */
@@ -23,8 +24,11 @@ uint8_t *kz_take_arena(size_t size);
 /* Its code can be written, and isn't run; its pages have the rights of their sections. */
 void kz_open_text(const KzImage *image);
 void kz_protect_image(const KzImage *image);
+void kz_protect_section(const KzImage *image, const KzSection *section, bool is_there);
 /* level.c: its reads and writes of the IRQL come to the host without a trap, where there is room for it. */
 void kz_rewrite_levels(const KzImage *image);
+/* Whether they are. */
+extern bool kz_watches_copies;
 /* point.c: each access of theirs to memory that others may reach is told from now on. */
 void kz_watch_binaries(KzTellAccess *to);
 /* line.c: the line of its source before that address; else its function or its name, with how far that is behind it. */

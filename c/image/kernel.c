@@ -23,6 +23,11 @@ static const KzExport variables[] = {
     {"__security_cookie", &cookie},
 };
 
+const char *kz_export_at(size_t at)
+{
+    return at < sizeof calls / sizeof calls[0] ? calls[at].name : NULL;
+}
+
 static int compare(const void *name, const void *row)
 {
     return strcmp(name, ((const KzExport *)row)->name);

@@ -27,7 +27,7 @@ bool kz_find_image_line(uintptr_t address, char *room, size_t size)
     uintptr_t linked = image->headers.linked + at;
     if (kz_ask_line("llvm-addr2line", image->path, linked, room, size) || kz_ask_line("addr2line", image->path, linked, room, size))
         return true;
-    const char *name = begin ? kz_exported_name(&image->headers, image->bytes, begin) : NULL;
+    const char *name = begin ? kz_exported_name(&image->headers, (KzBytes){image->pristine, image->bytes.size}, begin) : NULL;
     if (name)
         snprintf(room, size, "%s!%s+0x%x", image->driver.name, name, at - begin);
     else

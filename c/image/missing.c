@@ -11,7 +11,10 @@ KZ_STUB(uint64_t, tell_missing, const char *name)
 {
     KZ_FROM();
     KZ_INSIDE_OF(name);
-    kz_tell(KZM_NOT_MODELLED, name, "isn't in this kit: it answers STATUS_NOT_SUPPORTED");
+    if (kz_is_known(name))
+        kz_tell(KZM_NOT_MODELLED, name, "isn't in this kit: it answers STATUS_NOT_SUPPORTED");
+    else
+        kz_tell(KZM_NO_SUCH_ROUTINE, name, "is exported by no Windows that is known here: it answers STATUS_NOT_SUPPORTED");
     return (uint32_t)STATUS_NOT_SUPPORTED;
 }
 

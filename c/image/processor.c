@@ -1,5 +1,6 @@
 /* What compiled code of the kernel reads of the processor without a call: its block behind gs, and the kernel's page of times at a fixed address. */
 #define _GNU_SOURCE
+#include "image/calls.h"
 #include "image/machine.h"
 
 #include <asm/prctl.h>
@@ -26,6 +27,7 @@ void kz_enter_processor(void)
         syscall(SYS_arch_prctl, ARCH_SET_GS, block);
     }
     put(CURRENT_THREAD, PsGetCurrentThread());
+    kz_me->stack = __builtin_frame_address(0);
 }
 
 /* ---- KUSER_SHARED_DATA. No process can have that page: the instruction is carried out with one of ours, by its base register, in a single step. */

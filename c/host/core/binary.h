@@ -43,6 +43,8 @@ typedef struct {
     uintptr_t stubs, stubs_size; /* what they call; a driver may hand out the address of one */
     void (*open)(const KzDriver *driver); /* it is to be loaded: its image is laid out anew */
     void (*enter)(void);                  /* the thread is about to run code of one */
+    void (*run)(void);                    /* code of a driver is about to go on, at an IRQL that may be another one */
+    void (*entered)(const KzDriver *driver); /* its DriverEntry has succeeded */
     /* The processor refused an instruction: whether it was carried out in place of it, and whether the exception that it is goes on in a handler. */
     bool (*carry_out)(int signal, void *information, void *context);
     bool (*raise)(int signal, void *information, void *context);

@@ -67,8 +67,11 @@ unsigned kz_begin_call(const char *name, const void *from)
 void kz_end_inside(unsigned *depth)
 {
     kz_me->inside = *depth;
-    if (*depth == 0)
-        kz_scheduler->unlock();
+    if (*depth > 0)
+        return;
+    if (kz_binaries.run)
+        kz_binaries.run();
+    kz_scheduler->unlock();
 }
 
 void kz_end_call(unsigned *depth)
@@ -82,6 +85,8 @@ static unsigned step_out(const char *name)
 {
     unsigned depth = kz_me->inside;
     kz_me->inside = 0;
+    if (kz_binaries.run)
+        kz_binaries.run();
     kz_scheduler->unlock();
     kz_scheduler->point(name, NULL);
     return depth;

@@ -28,6 +28,7 @@ struct KzClient {
     PIRP top_level;
     int region;      /* stands for its critical region */
     unsigned inside; /* how many calls of the host it is in; 0 in a driver's code */
+    const void *stack; /* where that of a binary's code begins that was called last */
     unsigned number;
     bool is_last; /* it goes on where no other can: what it expects is looked at */
     struct {

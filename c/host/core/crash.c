@@ -105,7 +105,7 @@ static bool is_touch(int signal, const siginfo_t *information, const void *conte
 /* Also what a binary may not do by itself in this process, or takes for an exception. */
 static bool is_carried_on(int signal, siginfo_t *information, void *context)
 {
-    if (!kz_is_binary(code_at(context)) && !kz_is_stub(code_at(context)))
+    if (!kz_is_binary(code_at(context)) && !kz_is_stub(code_at(context)) && !kz_is_binary(information->si_addr))
         return is_touch(signal, information, context);
     return kz_binaries.carry_out(signal, information, context) || is_touch(signal, information, context) || kz_binaries.raise(signal, information, context);
 }

@@ -88,6 +88,10 @@ enum {
     /* The driver's own. */
     KZM_ASSERT = 191,
     KZM_BUG_CHECK = 192,
+    /* Its sections and its stack, where it is a binary. */
+    KZM_GONE = 193,
+    KZM_READ_ONLY = 194,
+    KZM_STACK = 195,
 
     /* Contexts. */
     KZM_HAND_IS_FULL = 201,
@@ -135,6 +139,8 @@ enum {
     KZM_CRYPTO = 255,
     /* Names. */
     KZM_MARK_STAYS = 256,
+    /* What isn't known. */
+    KZM_NO_SUCH_ROUTINE = 257,
     KZM_MESSAGES = 300
 };
 

@@ -371,6 +371,8 @@ static uint32_t enter(PFLT_FILTER filter, NTSTATUS *other)
     kz_driver_returned(depth, "DriverEntry returns");
     kz_filter_begins(filter);
     kz_scheduler->touch(&filter->is_started, 0, KZT_GIVES);
+    if (NT_SUCCESS(said) && kz_binaries.entered)
+        kz_binaries.entered(filter->driver);
     if (NT_SUCCESS(said) && !filter->is_registered)
         kz_tell(KZM_NEVER_REGISTERED, "FltRegisterFilter", "never called by a DriverEntry that succeeded");
     else if (NT_SUCCESS(said) && !filter->is_started)

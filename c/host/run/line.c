@@ -2,47 +2,23 @@
 #include "run/line.h"
 
 #include "core/memory.h"
+#include "core/near.h"
 #include "run/read.h"
 #include "run/runfile.h"
 #include "run/words.h"
 
 #include <stdlib.h>
 
-enum { LONGEST = 15, NEAR = 2 };
-
-static size_t least(size_t a, size_t b)
-{
-    return a < b ? a : b;
-}
-
-/* How many letters have to be added, left out or changed to make one of two words of the other; more than NEAR for a long one. */
-static size_t distance(const char *a, const char *b)
-{
-    size_t row[LONGEST + 1], length = strlen(b);
-    if (strlen(a) > LONGEST || length > LONGEST)
-        return LONGEST;
-    for (size_t at = 0; at <= length; at++)
-        row[at] = at;
-    for (size_t line = 1; *a; line++, a++) {
-        size_t corner = row[0];
-        row[0] = line;
-        for (size_t at = 1; at <= length; at++) {
-            size_t changed = corner + (*a != b[at - 1]);
-            corner = row[at];
-            row[at] = least(changed, least(row[at], row[at - 1]) + 1);
-        }
-    }
-    return row[length];
-}
+enum { NEAR = 2 };
 
 static const char *nearest(const char *word)
 {
     const char *best = NULL;
     size_t far = NEAR + 1;
     for (size_t at = 0; kz_request_at(at); at++) {
-        size_t own = distance(word, kz_request_at(at)->name);
+        size_t own = kz_letters_apart(word, kz_request_at(at)->name);
         best = own < far ? kz_request_at(at)->name : best;
-        far = least(own, far);
+        far = own < far ? own : far;
     }
     return best;
 }

@@ -2,7 +2,9 @@
  * breakpoint, an assertion; and calls with more arguments than there are registers. A load finds its variables as they were linked. */
 #include <fltKernel.h>
 
-NTKERNELAPI NTSTATUS KzNoSuchCall(ULONG Value);
+/* The kernel exports the first, which this kit hasn't; nobody exports the second. */
+NTKERNELAPI NTSTATUS HeadlessDispatch(ULONG Value);
+NTKERNELAPI NTSTATUS RtlInitUnicodeStrings(ULONG Value);
 
 static PFLT_FILTER gFilter;
 static ULONG gLoads = 3;
@@ -60,7 +62,8 @@ static FLT_PREOP_CALLBACK_STATUS PreRead(PFLT_CALLBACK_DATA Data, PCFLT_RELATED_
     Times();
     Lists();
     DbgPrint("inlines: %d %u %c %s %S %I64d\n", -1, 2u, '3', "four", L"five", (LONG64)-6);
-    DbgPrint("inlines: 0x%08x\n", KzNoSuchCall(1));
+    DbgPrint("inlines: 0x%08x\n", HeadlessDispatch(1));
+    DbgPrint("inlines: 0x%08x\n", RtlInitUnicodeStrings(1));
     return FLT_PREOP_SUCCESS_NO_CALLBACK;
 }
 

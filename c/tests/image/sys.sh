@@ -26,7 +26,7 @@ libraries() {
     { printf 'LIBRARY FLTMGR.SYS\nEXPORTS\n'; grep '^Flt' "$room/exports"; } > "$room/fltmgr.def"
     {
         printf 'LIBRARY ntoskrnl.exe\nEXPORTS\n'
-        { grep -v '^Flt' "$room/exports"; x86_64-w64-mingw32-nm $mingw/lib/libntoskrnl.a 2> /dev/null | awk '$2 == "T" { print $3 }'; echo KzNoSuchCall; } |
+        { grep -v '^Flt' "$room/exports"; x86_64-w64-mingw32-nm $mingw/lib/libntoskrnl.a 2> /dev/null | awk '$2 == "T" { print $3 }'; echo RtlInitUnicodeStrings; } |
             grep -vE "^($(IFS='|'; echo "${DATA[*]}")|_head.*|.*_iname)$" | sort -u
         printf '%s DATA\n' "${DATA[@]}"
     } > "$room/ntoskrnl.def"
@@ -65,7 +65,11 @@ for source in "$@"; do
     esac
 done
 case $kind in
-msvc) lld-link /nologo /driver /subsystem:native /entry:DriverEntry /nodefaultlib /debug "/pdb:${out%.sys}.pdb" "/out:$out" "${objects[@]}" "$room/fltmgr.lib" "$room/ntoskrnl.lib" ;;
+msvc) lld-link /nologo /driver /section:INIT,ERD /subsystem:native /entry:DriverEntry /nodefaultlib /debug "/pdb:${out%.sys}.pdb" "/out:$out" "${objects[@]}" "$room/fltmgr.lib" "$room/ntoskrnl.lib" ;;
 mingw) x86_64-w64-mingw32-gcc -nostdlib -shared -Wl,--subsystem,native -Wl,--entry,DriverEntry -Wl,--exclude-all-symbols -o "$out" "${objects[@]}" -L"$room" -lfltmgr-kit -lntoskrnl-kit ;;
 esac
+# A linker of mingw-w64 has no word for it: INIT is discarded, as the kit's projects ask of theirs.
+if [ "$kind" = mingw ] && x86_64-w64-mingw32-objdump -h "$out" | grep -q ' INIT '; then
+    x86_64-w64-mingw32-objcopy --set-section-flags INIT=alloc,load,code,readonly,debug "$out"
+fi
 rm -f "${objects[@]}"

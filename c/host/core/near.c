@@ -1,0 +1,27 @@
+#include "core/near.h"
+
+#include <string.h>
+
+static size_t least(size_t a, size_t b)
+{
+    return a < b ? a : b;
+}
+
+size_t kz_letters_apart(const char *a, const char *b)
+{
+    size_t row[KZ_FAR], length = strlen(b);
+    if (strlen(a) >= KZ_FAR || length >= KZ_FAR)
+        return KZ_FAR;
+    for (size_t at = 0; at <= length; at++)
+        row[at] = at;
+    for (size_t line = 1; *a; line++, a++) {
+        size_t corner = row[0];
+        row[0] = line;
+        for (size_t at = 1; at <= length; at++) {
+            size_t changed = corner + (*a != b[at - 1]);
+            corner = row[at];
+            row[at] = least(changed, least(row[at], row[at - 1]) + 1);
+        }
+    }
+    return row[length];
+}

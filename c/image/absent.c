@@ -1,0 +1,115 @@
+/* Windows may page out a section whose name begins with PAGE, and gives back one that is discardable once DriverEntry has succeeded. Here they can't be touched at such times: the first touch is
+ * told, and then all of the section is there until the next change. */
+#include "image/absent.h"
+
+#include "core/client.h"
+#include "core/held.h"
+#include "core/told.h"
+
+#include <sys/mman.h>
+
+static bool is_closed; /* those that can be paged out */
+static _Thread_local bool is_told; /* it is told, until the IRQL falls */
+static bool is_watched;
+
+static bool is_paged(const KzSection *section)
+{
+    /* The explorer has the pages that a driver writes under its own watch. */
+    return strncmp(section->name, "PAGE", 4) == 0 && !(section->is_written && kz_watches_copies);
+}
+
+static bool is_initial(const KzSection *section)
+{
+    return section->is_discarded && strncmp(section->name, "INIT", 4) == 0;
+}
+
+static void set_rights(const KzImage *image, bool (*is_meant)(const KzSection *section), bool is_there)
+{
+    for (unsigned at = 0; at < image->headers.sections_count; at++)
+        if (is_meant(&image->headers.sections[at]))
+            kz_protect_section(image, &image->headers.sections[at], is_there);
+}
+
+static void open_paged(const KzImage *image)
+{
+    set_rights(image, is_paged, true);
+}
+
+static void close_paged(const KzImage *image)
+{
+    set_rights(image, is_paged, false);
+}
+
+/* The client's code of a driver goes on. */
+static void run(void)
+{
+    bool is_high = kz_irql() >= DISPATCH_LEVEL, closes = is_high && !is_told;
+    is_told &= is_high;
+    if (closes == is_closed)
+        return;
+    is_closed = closes;
+    kz_each_image(closes ? close_paged : open_paged);
+}
+
+static void entered(const KzDriver *driver)
+{
+    KzImage *image = (KzImage *)(uintptr_t)kz_image_at((uintptr_t)driver->entry);
+    if (!image)
+        return;
+    image->is_entered = true;
+    set_rights(image, is_initial, false);
+}
+
+static void look_for_paged(const KzImage *image)
+{
+    for (unsigned at = 0; at < image->headers.sections_count; at++)
+        is_watched |= strncmp(image->headers.sections[at].name, "PAGE", 4) == 0;
+}
+
+void kz_watch_absent(void)
+{
+    kz_each_image(look_for_paged);
+    if (is_watched)
+        kz_binaries.run = run;
+    kz_binaries.entered = entered;
+}
+
+static const KzSection *section_of(uint64_t address, const KzImage **image)
+{
+    *image = kz_image_at(address);
+    return *image ? kz_section_at(&(*image)->headers, (uint32_t)(address - (uintptr_t)(*image)->bytes.start)) : NULL;
+}
+
+bool kz_is_absent(uint64_t address)
+{
+    const KzImage *image;
+    const KzSection *section = section_of(address, &image);
+    return section && ((is_closed && is_paged(section)) || (image->is_entered && is_initial(section)));
+}
+
+void kz_open_absent(uint64_t address)
+{
+    const KzImage *image;
+    const KzSection *section = section_of(address, &image);
+    if (is_initial(section)) {
+        ((KzImage *)(uintptr_t)image)->is_entered = false;
+        set_rights(image, is_initial, true);
+    } else {
+        is_closed = false;
+        kz_each_image(open_paged);
+    }
+}
+
+void kz_tell_absent(uint64_t address, uint64_t rip)
+{
+    const KzImage *image;
+    const KzSection *section = section_of(address, &image);
+    bool is_run = address == rip, is_gone = is_initial(section);
+    kz_open_absent(address);
+    KZ_INSIDE_FROM(section->name, (const void *)(uintptr_t)(rip + 1));
+    is_told = !is_gone;
+    if (is_gone)
+        kz_tell(KZM_GONE, section->name, "%s after DriverEntry, and the section is gone by then", is_run ? "its code runs" : "it is touched");
+    else if (kz_irql() >= DISPATCH_LEVEL)
+        kz_tell(KZM_IRQL, section->name, "%s at IRQL %u, and the section can be paged out", is_run ? "its code runs" : "it is touched", kz_irql());
+}

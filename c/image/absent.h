@@ -1,0 +1,15 @@
+/* Sections whose pages aren't always there: those that can be paged out, at DISPATCH_LEVEL; those of INIT, once DriverEntry has returned. */
+#ifndef KZ_IMAGE_ABSENT_H
+#define KZ_IMAGE_ABSENT_H
+
+#include "image/image.h"
+
+/* They are watched from now on, if an image has some. */
+void kz_watch_absent(void);
+/* Whether that address isn't there now. */
+bool kz_is_absent(uint64_t address);
+/* The driver touched it, at that place of its code: it is told, and is there again. */
+void kz_tell_absent(uint64_t address, uint64_t rip);
+void kz_open_absent(uint64_t address);
+
+#endif

@@ -11,7 +11,14 @@
     type KZ_MS_ABI symbol(__VA_ARGS__)
 #define KZ_STUB(type, name, ...) KZ_STUB_AS(type, kz_stub_##name, __VA_ARGS__)
 /* Where its caller goes on, for what is told. */
-#define KZ_FROM() (kz_stub_caller = __builtin_return_address(0), kz_look_at_stack(__builtin_frame_address(0)))
+#define KZ_FROM() (kz_stub_caller = kz_call_before(__builtin_return_address(0), __func__ + sizeof "kz_stub_" - 1), kz_look_at_stack(__builtin_frame_address(0)))
+/* tail.c: the same where the driver jumped to it. */
+const void *kz_call_by_jump(const void *behind, const char *stub);
+static inline const void *kz_call_before(const void *behind, const char *stub)
+{
+    const uint8_t *at = behind;
+    return kz_is_binary(behind) && at[-6] == 0xff && at[-5] == 0x15 ? behind : kz_call_by_jump(behind, stub);
+}
 /* A thread of the kernel's has a stack of 24 KB, of which code of the driver's alone, since it was called, may not have more. */
 enum { KZ_STACK = 24 << 10 };
 void kz_tell_stack(const void *frame);

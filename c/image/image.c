@@ -151,7 +151,7 @@ static uint64_t find_import(void *given, const char *module, const char *name)
 }
 
 /* ---- Files. */
-static bool read_file(const char *path, KzBytes *to, KzRefusal *why)
+bool kz_read_file(const char *path, KzBytes *to, KzRefusal *why)
 {
     enum { LARGEST = 256 << 20 };
     errno = 0;
@@ -188,6 +188,7 @@ static bool make(KzImage *image, KzBytes file, KzRefusal *why)
     image->pristine = kz_memory(image->bytes.size);
     memcpy(image->pristine, image->bytes.start, image->bytes.size);
     name_driver(image);
+    kz_read_symbols(image);
     kz_rewrite_levels(image);
     return true;
 }
@@ -197,7 +198,7 @@ const KzImage *kz_load_image(const char *path, KzRefusal *why)
     KzBytes file;
     KzImage *image = kz_memory(sizeof *image);
     image->path = path;
-    bool is_made = read_file(path, &file, why) && make(image, file, why);
+    bool is_made = kz_read_file(path, &file, why) && make(image, file, why);
     free(file.start);
     if (!is_made) {
         free(image);

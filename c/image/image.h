@@ -3,6 +3,7 @@
 #define KZ_IMAGE_H
 
 #include "host.h"
+#include "image/pdb.h"
 #include "image/pe.h"
 
 typedef struct KzImage {
@@ -13,10 +14,13 @@ typedef struct KzImage {
     uint8_t *pristine; /* as it was laid out */
     KzDriver driver;
     bool is_entered; /* its DriverEntry has succeeded */
+    KzLines lines;   /* of its .pdb */
 } KzImage;
 
 /* image.c: NULL if the file can't be used, and why. What it imports and isn't here is written to the standard error output. */
 const KzImage *kz_load_image(const char *path, KzRefusal *why);
+/* Its bytes are the caller's to free. */
+bool kz_read_file(const char *path, KzBytes *to, KzRefusal *why);
 const KzImage *kz_image_at(uint64_t address); /* NULL: it is in none */
 void kz_each_image(void (*use)(const KzImage *image));
 /* So many bytes behind the images, to be written; NULL if there are none. */
@@ -31,6 +35,10 @@ void kz_rewrite_levels(const KzImage *image);
 extern bool kz_watches_copies;
 /* point.c: each access of theirs to memory that others may reach is told from now on. */
 void kz_watch_binaries(KzTellAccess *to);
+/* symbols.c: its .pdb, if there is one. */
+void kz_read_symbols(KzImage *image);
+/* line.c: a path without its folders. */
+const char *kz_last_name(const char *path);
 /* line.c: the line of its source before that address; else its function or its name, with how far that is behind it. */
 bool kz_find_image_line(uintptr_t address, char *room, size_t size);
 /* fault.c: what the processor refuses is carried out, or raised. */

@@ -1,5 +1,5 @@
-/* Where a binary's code stands, in words: a line of its source by its .pdb or its DWARF, which llvm's program reads where it is there; else the function's name, if it is exported, or the
- * driver's, with how far that is behind it, as a debugger says it. It is called in a signal's handler too. */
+/* Where a binary's code stands, in words: a line of its source by its .pdb, or by its DWARF, which a program like addr2line reads where one is there; else the function's name, if it is exported,
+ * or the driver's, with how far that is behind it, as a debugger says it. It is called in a signal's handler too. */
 #include "image/image.h"
 #include "core/source.h"
 
@@ -18,6 +18,14 @@ static uint32_t begin_of(const KzImage *image, uint32_t at)
     return 0;
 }
 
+const char *kz_last_name(const char *path)
+{
+    const char *name = path + strlen(path);
+    while (name > path && name[-1] != '/' && name[-1] != '\\')
+        name--;
+    return name;
+}
+
 bool kz_find_image_line(uintptr_t address, char *room, size_t size)
 {
     const KzImage *image = kz_image_at(address);
@@ -25,7 +33,12 @@ bool kz_find_image_line(uintptr_t address, char *room, size_t size)
         return false;
     uint32_t at = (uint32_t)(address - (uintptr_t)image->bytes.start), begin = begin_of(image, at);
     uintptr_t linked = image->headers.linked + at;
-    if (kz_ask_line("llvm-addr2line", image->path, linked, room, size) || kz_ask_line("addr2line", image->path, linked, room, size))
+    const KzLine *line = kz_line_at(&image->lines, at);
+    if (line && !kz_is_left_out(line->file)) {
+        snprintf(room, size, "%s:%u", kz_last_name(line->file), line->line);
+        return true;
+    }
+    if (image->lines.count == 0 && (kz_ask_line("llvm-addr2line", image->path, linked, room, size) || kz_ask_line("addr2line", image->path, linked, room, size)))
         return true;
     const char *name = begin ? kz_exported_name(&image->headers, (KzBytes){image->pristine, image->bytes.size}, begin) : NULL;
     if (name)

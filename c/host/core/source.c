@@ -77,8 +77,7 @@ static size_t ask(const char *reader, const char *program, uintptr_t address, ch
 }
 
 /* ---- Lines. */
-/* In the kit's headers, whose functions are put in place of their calls, or in the host. */
-static bool is_left_out(const char *path)
+bool kz_is_left_out(const char *path)
 {
     static const char *const folders[] = {"/c/include/", "/c/host/", "Windows Kits\\", "/x86_64-w64-mingw32/", "/lib/clang/"};
     for (size_t at = 0; at < sizeof folders / sizeof folders[0]; at++)
@@ -101,7 +100,7 @@ bool kz_ask_line(const char *reader, const char *program, uintptr_t address, cha
         while (name > at && name[-1] != '/' && name[-1] != '\\')
             name--;
         size_t length = strcspn(name, " ");
-        if (!is_left_out(at) && length && length < size && name[length - 1] != '?')
+        if (!kz_is_left_out(at) && length && length < size && name[length - 1] != '?')
             ((char *)memcpy(line, name, length))[length] = 0;
     }
     return line[0];

@@ -1,5 +1,7 @@
-/* reader SECONDS: changed copies of a small binary are read, laid out and bound, each in memory of exactly its size: under the address sanitizer nothing outside of them may be touched. What
- * comes of each is a sentence or an image. */
+/* reader SECONDS [DRIVER.sys DRIVER.pdb]: changed copies of a small binary are read, laid out and bound, or changed copies of that .pdb are read, each in memory of exactly its size: under the
+ * address sanitizer nothing outside of them may be touched. What comes of each is a sentence, or an image, or lines. Of random bytes instructions are decoded. */
+#include "image/instruction.h"
+#include "image/pdb.h"
 #include "image/pe.h"
 
 #include <stdio.h>
@@ -125,8 +127,81 @@ static void change(uint8_t *file)
     memcpy(file + place, &value, place + size > FILE_SIZE ? FILE_SIZE - place : size);
 }
 
+/* ---- A .pdb. */
+static KzBytes whole_file(const char *path)
+{
+    KzBytes bytes = {malloc(1 << 24), 0};
+    FILE *from = fopen(path, "rb");
+    if (from) {
+        bytes.size = fread(bytes.start, 1, 1 << 24, from);
+        fclose(from);
+    }
+    return bytes;
+}
+
+static size_t lines_of(const uint8_t *bytes, size_t size, const KzHeaders *headers, const KzBuild *build)
+{
+    KzRefusal why;
+    KzLines lines;
+    uint8_t *copy = malloc(size ? size : 1);
+    memcpy(copy, bytes, size);
+    kz_read_lines((KzBytes){copy, size}, headers, build, &lines, &why);
+    size_t count = lines.count;
+    free(copy);
+    kz_line_at(&lines, headers->entry);
+    kz_forget_lines(&lines);
+    return count;
+}
+
+/* Most changes go to where numbers of blocks and sizes stand. */
+static void change_lines(uint8_t *file, size_t size)
+{
+    uint32_t places[] = {draw(64), draw(4096), 4096 * (1 + draw((uint32_t)size / 4096 - 1)) + draw(128), draw((uint32_t)size)};
+    uint32_t place = places[draw(4)], value = draw(2) ? draw(0x10000) : (uint32_t)state;
+    memcpy(file + place, &value, place + 4 > size ? size - place : 1 + draw(4));
+}
+
+static int read_lines(int seconds, const char *image, const char *path)
+{
+    KzHeaders headers;
+    KzRefusal why;
+    KzBuild build;
+    KzBytes driver = whole_file(image), file = whole_file(path), info = kz_pdb_stream(file, 1);
+    unsigned long tried = 0, taken = 0;
+    if (!kz_read_headers(driver, &headers, &why) || !kz_copy(info, 12, &build, sizeof build) || lines_of(file.start, file.size, &headers, &build) < 20)
+        return printf("there are no lines in %s\n", path), 1;
+    uint8_t *changed = malloc(file.size);
+    for (time_t end = time(NULL) + seconds; time(NULL) < end; tried++) {
+        memcpy(changed, file.start, file.size);
+        for (uint32_t changes = 1 + draw(8); changes > 0; changes--)
+            change_lines(changed, file.size);
+        taken += lines_of(changed, draw(4) ? file.size : draw((uint32_t)file.size), &headers, &build) > 0;
+    }
+    printf("%lu files, %lu of them with lines\n", tried, taken);
+    free(changed);
+    free(info.start);
+    free(file.start);
+    free(driver.start);
+    return taken == 0 || taken == tried;
+}
+
+/* ---- Instructions. */
+static void decode_some(void)
+{
+    KzInstruction one;
+    size_t size = 1 + draw(16);
+    uint8_t *bytes = malloc(size);
+    for (size_t at = 0; at < size; at++)
+        bytes[at] = (uint8_t)draw(256);
+    if (kz_decode(bytes, size, &one) && one.length <= size)
+        kz_operand(&one);
+    free(bytes);
+}
+
 int main(int count, char **words)
 {
+    if (count == 4)
+        return read_lines(atoi(words[1]), words[2], words[3]);
     uint8_t file[FILE_SIZE];
     KzRefusal why = {""};
     unsigned long tried = 0, taken = 0;
@@ -140,6 +215,7 @@ int main(int count, char **words)
         make(file);
         for (uint32_t changes = 1 + draw(8); changes > 0; changes--)
             change(file);
+        decode_some();
         taken += use(file, draw(4) ? FILE_SIZE : draw(FILE_SIZE), &why);
         tried++;
     }

@@ -26,7 +26,7 @@ tell $? "calls through pointers"
 # The reader: changed files, in all of the ways that a seed gives, and what it refuses.
 if has_sanitizers address,undefined; then
     ${CC:-cc} -std=gnu11 -fshort-wchar -O1 -g -Wall -Wextra -Werror -fsanitize=address,undefined -fno-sanitize-recover=undefined -Ic -Ic/include -o "$room/reader" \
-        $tests/image/reader.c c/image/{bytes,headers,layout,imports,exports}.c
+        $tests/image/reader.c c/image/{bytes,headers,layout,imports,exports,streams,pdb,instruction,access}.c
     tell $? "the reader, as it was built under sanitizers,"
     "$room/reader" "${SECONDS_OF_FUZZ:-5}" > "$room/reader.out" 2>&1 || { cat "$room/reader.out"; false; }
     tell $? "changed files"
@@ -101,6 +101,7 @@ for kind in msvc mingw; do
     done
     for requests in "$tests"/image/*.txt; do
         name=$(basename "$requests" .txt)
+        [ "$name" != jumps ] || continue
         driver=$room/$kind/$(sed -n 's/^load //p' "$requests" | head -n 1).sys
         [ -f "$driver" ] || continue
         { "$RUN" "$driver" "$requests"; echo "status $?"; } > "$room/$name.out" 2> "$room/$name.err"
@@ -129,6 +130,20 @@ for kind in msvc mingw; do
     tell $? "a schedule that is played again by $kind"
     ./flt run "$room/$kind/contentscan.sys" --user c/samples/user/scanservice.c $tests/requests/contentscan.txt 2> "$room/flt.err" | diff $tests/expected/contentscan.out -
     tell $? "flt run by $kind"
+    if [ "$kind" = msvc ] && [ -x "$room/reader" ]; then
+        "$room/reader" "${SECONDS_OF_FUZZ:-3}" "$room/msvc/contentscan.sys" "$room/msvc/contentscan.pdb" > "$room/reader.out" 2>&1 || { cat "$room/reader.out"; false; }
+        tell $? "changed files of lines"
+        # Lines of another build aren't used.
+        cp "$room/msvc/ctx.sys" "$room/other.sys"
+        cp "$room/msvc/contentscan.pdb" "$room/other.pdb"
+        printf 'load other\n' > "$room/other.txt"
+        "$RUN" "$room/other.sys" "$room/other.txt" 2>&1 | grep -q "other.pdb isn't used: it is of another build"
+        tell $? "lines of another build"
+    fi
+    # A jump that stands for a call has its line.
+    LEVEL=-O2 "$tests/image/sys.sh" "$kind" "$room/kit-$kind" "$room/$kind/jumps.sys" $tests/image/jumps.c
+    { "$RUN" "$room/$kind/jumps.sys" $tests/image/jumps.txt; echo "status $?"; } 2>&1 | diff $tests/image/jumps.out -
+    tell $? "jumps to the kit by $kind"
     # What isn't here is said as the driver is loaded.
     "$RUN" "$room/$kind/inlines.sys" $tests/image/inlines.txt 2>&1 > "$room/out" | sed 's/.*inlines.sys: //' | LC_ALL=C sort > "$room/missing"
     printf '%s\n' "HeadlessDispatch of ntoskrnl.exe isn't in this kit: a call of it is told, and answers STATUS_NOT_SUPPORTED" \

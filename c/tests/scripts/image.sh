@@ -17,6 +17,8 @@ build run --image "$room/run" c/samples/nullfilter.c "${users[@]}"
 export RUN=$room/run
 build explore --explore --image "$room/explore"
 EXPLORE=$room/explore
+build serve --serve --image "$room/serve"
+! may_mount > /dev/null || make -s -C c fltmount PROGRAM="$room/fltmount"
 build levels --image --main $tests/image/levels.c "$room/levels"
 
 # Each place where the host calls a driver's function does so by the convention of who it is.
@@ -154,6 +156,30 @@ for kind in msvc mingw; do
     said=$("$room/levels" "$room/$kind/inlines.sys" 2> /dev/null)
     [ "${said% of *}" -ge 5 ] && [ "$said" = "$((${said#* of } - 1)) of ${said#* of }" ] || { echo "$said"; false; }
     tell $? "the IRQL by $kind"
+    # Words for machines, and each refusal once, by flt.
+    ./flt run "$room/$kind/jumps.sys" --quiet --junit "$room/report.xml" $tests/image/jumps.txt > "$room/out" 2> "$room/err"
+    [ $? = 5 ] && ! grep -q '^>' "$room/out" && [ "$(grep -c '^TOLD KZ0143' "$room/out")" = 2 ] && grep -q '<testsuite' "$room/report.xml" && grep -q 'jumps.c:9' "$room/report.xml"
+    tell $? "a report by $kind"
+    ./flt run --fail-each "$room/refusal.sys" $tests/scenarios/refusal.txt > "$room/out" 2>&1
+    [ $? = 139 ] && grep -q '^bound 0: 10 schedules' "$room/out"
+    tell $? "each refusal once by $kind"
+    # A server of binaries, and the mount above it.
+    if why=$(may_mount); then
+        mkdir -p "$room/served-$kind"
+        cp $tests/serve/drivers/*.c "$room/served-$kind"
+        cp c/samples/passthrough.c "$room/served-$kind/meter.c"
+        cp c/samples/nullfilter.c "$room/served-$kind/carry.c"
+        for source in "$room/served-$kind"/*.c; do
+            "$tests/image/sys.sh" "$kind" "$room/kit-$kind" "${source%.c}.sys" "$source"
+        done
+        printf '#!/bin/sh\nexec "%s/serve" "%s/served-%s"/*.sys "$@"\n' "$room" "$room" "$kind" > "$room/server-$kind"
+        chmod +x "$room/server-$kind"
+        $tests/mount/check.py --server "$room/server-$kind" --mount "$room/fltmount" calls late > "$room/out" 2>&1 || { cat "$room/out"; false; }
+        tell $? "a mount above a server by $kind"
+    else
+        untried "$why, for the mount above binaries"
+        tell $? "a mount above a server by $kind"
+    fi
     # A driver of source beside one that is a binary.
     printf 'load nullfilter\nload ctx\nattach ctx v0 first 300\ncreate v0 new a as a\nclose a\n' > "$room/both.txt"
     "$RUN" "$room/$kind/ctx.sys" "$room/both.txt" | grep -q '^contexts born 3, cleaned 3, leaked references 0, told 0, limits 0$'

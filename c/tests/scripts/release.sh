@@ -17,6 +17,14 @@ fi
 (cd "$release" && sha256sum --quiet -c SHA256SUMS)
 tell $? 'its checksums'
 
+# A driver's binary, where one can be made.
+if [ "$(uname -m)" = x86_64 ] && command -v clang lld-link llvm-dlltool > /dev/null && [ -f /usr/x86_64-w64-mingw32/include/ddk/ntifs.h ]; then
+    c/build.sh --image "$room/run" && RUN=$room/run "$tests/image/sys.sh" msvc "$room/kit" "$room/first.sys" $tests/misuse/first.c
+    tell $? "a driver's binary, as it was built,"
+else
+    echo "release: no driver's binary is tried, since there is no clang with lld and headers of mingw-w64 here"
+fi
+
 # What is done in the room: each line is a test, by its name.
 cat > "$room/script" <<'SCRIPT'
 set -u
@@ -42,6 +50,15 @@ as_user 'its schedules' 'cd "my folder/counter" && kazdrin-build --explore explo
 as_user 'its tests by CMake' 'cd "my folder/counter" && KAZDRIN=/usr ./ci.sh | grep -q "100% tests passed"'
 as_user 'random requests' 'cd "my folder/counter" && kazdrin-fuzz counter.c -- 50 7 | grep -q "50 sessions"'
 as_user 'a mistake is told' 's=0; kazdrin-build first /tmp/first.c && ./first /tmp/first.txt > out || s=$?; [ $s = 5 ] && grep -q "TOLD KZ0151 .*first.c:12" out'
+if [ -f /tmp/first.sys ]; then
+    # Nothing but these is on its path: no compiler, no linker, no reader of debug information.
+    mkdir /tmp/few
+    for tool in sh bash env readlink dirname basename cat sed awk grep; do ln -s "$(command -v $tool)" /tmp/few/; done
+    as_user 'no compiler is there' 'PATH=/tmp/few; ! command -v cc && ! command -v gcc && ! command -v clang && ! command -v make && ! command -v addr2line'
+    as_user 'a binary' 's=0; PATH=/tmp/few /usr/bin/flt run /tmp/first.sys /tmp/first.txt > out || s=$?; [ $s = 5 ] && grep -q "TOLD KZ0151 .*first.c:12" out'
+    as_user 'schedules of a binary' 'printf "load first\nattach first v0 f 100\nclient a: create v0 new a.secret; write \$ 0 61\nclient b: list 0\n" > s.txt; s=0; PATH=/tmp/few /usr/bin/flt run --explore /tmp/first.sys --bound 1 s.txt > out || s=$?; [ $s = 5 ] && grep -q "^    TOLD KZ0151" out'
+    as_user 'a server of a binary' 'mkdir -p below && (PATH=/tmp/few /usr/bin/flt run --serve /tmp/first.sys below binary.sock > binary.out & echo $! > binary.pid); for i in 1 2 3 4 5 6 7 8 9; do [ -S binary.sock ] || sleep 0.3; done; fltc binary.sock load first && fltc binary.sock stop'
+fi
 as_user 'a server' 'mkdir -p files && (fltd files here.sock > server.out &) ; for i in 1 2 3 4 5 6 7 8 9; do [ -S here.sock ] || sleep 0.3; done; fltc here.sock load shift && fltc here.sock attach 0 0 s 100'
 if [ -c /dev/fuse ] && [ -x /usr/bin/fltmount ]; then
     mkdir -p /tmp/mnt
@@ -76,6 +93,7 @@ unshare -m bash -c '
     mount -t tmpfs none "$root/tmp"
     chmod 1777 "$root/tmp"
     cp "$4"/kazdrin_*.deb "$root/tmp/kazdrin.deb"
+    [ ! -f "$1/first.sys" ] || cp "$1/first.sys" "$1/first.pdb" "$root/tmp/"
     cp "$5"/misuse/first.c "$5"/requests/first.txt "$1/script" "$root/tmp/"
     chmod 644 "$root"/tmp/*.*
     exec env -i PATH=/usr/sbin:/usr/bin:/sbin:/bin LC_ALL=C.UTF-8 chroot "$root" bash /tmp/script

@@ -52,6 +52,12 @@ for source in "$@"; do
     object=$out.$(basename "$source").o
     objects+=("$object")
     case $source in
+    *.rs)
+        "${RUSTC:-rustc}" --target x86_64-pc-windows-gnu --crate-type staticlib -C panic=abort -O -g -o "$object" "$source"
+        continue
+        ;;
+    esac
+    case $source in
     *.cpp) language=(-x c++ -std=c++17 -fno-exceptions -fno-rtti) ;;
     *) language=(-std=gnu11) ;;
     esac

@@ -49,6 +49,18 @@ has() {
     [ -f /usr/x86_64-w64-mingw32/include/ddk/ntifs.h ] || { echo "image: drivers by $kind aren't tried, since there are no headers of mingw-w64 here"; return 1; }
 }
 
+# The compiler of Rust that has a core library of Windows.
+rust_of_windows() {
+    local rust
+    for rust in rustc /usr/bin/rustc; do
+        if [ -d "$("$rust" --print sysroot 2> /dev/null)/lib/rustlib/x86_64-pc-windows-gnu" ]; then
+            echo "$rust"
+            return
+        fi
+    done
+    return 1
+}
+
 # play NAME DRIVER..: its requests, beside what is stored of the driver's source.
 play() {
     local name=$1
@@ -88,11 +100,12 @@ for kind in msvc mingw; do
     mingw) has python3 x86_64-w64-mingw32-gcc x86_64-w64-mingw32-dlltool || continue ;;
     esac
     mkdir -p "$room/$kind"
-    for source in c/samples/*.c "$tests"/drivers/majors.c "$tests"/image/*.c "$tests"/image/*.cpp; do
+    for source in c/samples/*.c "$tests"/drivers/majors.c "$tests"/image/*.c "$tests"/image/*.cpp "$tests"/image/*.rs; do
         name=$(basename "$source")
         name=${name%.*}
         case $kind-$name in
-        *-reader | *-decode | *-levels | mingw-minispy | mingw-wordscanner | mingw-raises) continue ;;
+        *-reader | *-decode | *-levels | msvc-rust | mingw-minispy | mingw-wordscanner | mingw-raises) continue ;;
+        mingw-rust) RUSTC=$(rust_of_windows) && export RUSTC || { echo "image: no driver in Rust is tried, since no rustc here builds for x86_64-pc-windows-gnu"; continue; } ;;
         mingw-classes) command -v x86_64-w64-mingw32-g++ > /dev/null || { echo "image: no driver in C++ is tried by mingw, since there is no x86_64-w64-mingw32-g++ here"; continue; } ;;
         esac
         $tests/image/sys.sh $kind "$room/kit-$kind" "$room/$kind/$name.sys" "$source" > "$room/$name.log" 2>&1 || { head -n 5 "$room/$name.log"; tell 1 "$name, as it was built by $kind,"; }

@@ -32,10 +32,12 @@ status=0
 for driver in "$@"; do
     "$decode" "$driver" | LC_ALL=C sort > "$driver.ours" || { tail -n 1 "$driver.ours"; status=1; }
     theirs "$driver" | LC_ALL=C sort > "$driver.theirs"
-    [ "$(wc -l < "$driver.ours")" -gt 50 ] || { echo "decode.sh: $driver has hardly any instructions"; status=1; }
+    [ "$(wc -l < "$driver.ours")" -gt 20 ] || { echo "decode.sh: $driver has hardly any instructions"; status=1; }
     LC_ALL=C comm -23 "$driver.ours" "$driver.theirs" | head -n 40 > "$driver.wrong"
     while read -r at next operand; do
-        [ "$(theirs --start-address="0x$at" --stop-address="$((0x$next + 16))" "$driver" | head -n 1)" = "$at $next${operand:+ $operand}" ] || { echo "$driver: $at $next $operand"; status=1; }
+        said=$(theirs --start-address="0x$at" --stop-address="$((0x$next + 16))" "$driver" | head -n 1)
+        # Of the last one of a section nothing is said there, since no other follows.
+        [ -z "$said" ] || [ "$said" = "$at $next${operand:+ $operand}" ] || { echo "$driver: $at $next $operand"; status=1; }
     done < "$driver.wrong"
 done
 exit "$status"

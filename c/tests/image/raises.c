@@ -4,10 +4,9 @@
 #define FIRST ((NTSTATUS)0xE0000001)
 #define SECOND ((NTSTATUS)0xE0000002)
 
-enum { NONE, RAISED, WRITTEN, COPIED, DIVIDED, MISALIGNED, PROBED, AGAIN, FILTERED, RETURNED, PASSED, CONSTANT };
+enum { NONE, RAISED, WRITTEN, COPIED, DIVIDED, MISALIGNED, PROBED, AGAIN, FILTERED, RETURNED, PASSED };
 
 static PFLT_FILTER gFilter;
-static const LONG gConstant = 5;
 static char gSteps[24];
 static ULONG gCount;
 
@@ -31,9 +30,6 @@ __declspec(noinline) static VOID Raise(ULONG Kind, volatile LONG *Nowhere)
         break;
     case WRITTEN:
         *Nowhere = 1;
-        break;
-    case CONSTANT:
-        *(volatile LONG *)&gConstant = 1;
         break;
     case COPIED:
         RtlCopyMemory((PVOID)Nowhere, room, sizeof(room));

@@ -100,7 +100,7 @@ for kind in msvc mingw; do
     mingw) has python3 x86_64-w64-mingw32-gcc x86_64-w64-mingw32-dlltool || continue ;;
     esac
     mkdir -p "$room/$kind"
-    for source in c/samples/*.c "$tests"/drivers/majors.c "$tests"/image/*.c "$tests"/image/*.cpp "$tests"/image/*.rs; do
+    for source in c/samples/*.c "$tests"/drivers/majors.c "$tests"/misuse/first.c "$tests"/image/*.c "$tests"/image/*.cpp "$tests"/image/*.rs; do
         name=$(basename "$source")
         name=${name%.*}
         case $kind-$name in
@@ -110,7 +110,7 @@ for kind in msvc mingw; do
         esac
         $tests/image/sys.sh $kind "$room/kit-$kind" "$room/$kind/$name.sys" "$source" > "$room/$name.log" 2>&1 || { head -n 5 "$room/$name.log"; tell 1 "$name, as it was built by $kind,"; }
     done
-    for source in c/samples/*.c; do
+    for source in c/samples/*.c "$tests"/misuse/first.c; do
         name=$(basename "$source" .c)
         [ ! -f "$room/$kind/$name.sys" ] || play "$name" "$room/$kind"/*.sys
     done

@@ -32,6 +32,7 @@ if has_sanitizers address,undefined; then
     tell $? "the reader, as it was built under sanitizers,"
     "$room/reader" "${SECONDS_OF_FUZZ:-5}" > "$room/reader.out" 2>&1 || { cat "$room/reader.out"; false; }
     tell $? "changed files"
+    build sanitized --image --sanitize=address,undefined "$room/sanitized"
 fi
 ${CC:-cc} -std=gnu11 -fshort-wchar -O1 -g -Wall -Wextra -Werror -Ic -Ic/include -o "$room/decode" $tests/image/decode.c c/image/{bytes,headers,layout,instruction,access}.c && "$room/decode"
 tell $? "what instructions do with memory"
@@ -123,6 +124,17 @@ for kind in msvc mingw; do
         diff "$tests/image/$name.out" "$room/$name.out"
         tell $? "$name by $kind"
     done
+    # The loader under sanitizers, and under valgrind.
+    if [ -x "$room/sanitized" ]; then
+        for name in inlines sections; do
+            { "$room/sanitized" "$room/$kind/$name.sys" "$tests/image/$name.txt"; echo "status $?"; } > "$room/out" 2> "$room/err"
+            diff "$tests/image/$name.out" "$room/out" && ! grep -E 'Sanitizer|runtime error' "$room/err"
+            tell $? "$name under sanitizers by $kind"
+        done
+        "$room/sanitized" "$room/$kind"/*.sys $tests/requests/ctx.txt 2> "$room/err" | diff $tests/expected/ctx.out - && ! grep -E 'Sanitizer|runtime error' "$room/err"
+        tell $? "all binaries under sanitizers by $kind"
+    fi
+    look "ctx-$kind" "$RUN" "$room/$kind/ctx.sys" $tests/requests/ctx.txt
     # The decoder, over code of each kind.
     if command -v llvm-objdump > /dev/null; then
         for source in c/samples/swapbuffers.c c/samples/passthrough.c c/samples/ctx.c; do

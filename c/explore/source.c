@@ -32,7 +32,7 @@ static void read_text(Place *one)
 }
 
 /* The innermost line that is neither in the kit's headers nor in the host. */
-static void find(Place *one)
+static void find_in_program(Place *one)
 {
     char command[128], line[1024];
     snprintf(command, sizeof command, "addr2line -i -e /proc/%d/exe %lx 2>/dev/null", (int)getpid(), one->address - 1);
@@ -47,6 +47,16 @@ static void find(Place *one)
     }
     if (from)
         pclose(from);
+}
+
+static void find(Place *one)
+{
+    bool is_binary = kz_is_binary((const void *)one->address) && kz_binaries.find_path;
+    const char *path = is_binary ? kz_binaries.find_path(one->address - 1, &one->line) : NULL;
+    if (path)
+        snprintf(one->path, sizeof one->path, "%s", path);
+    else if (!is_binary)
+        find_in_program(one);
     if (one->path[0])
         read_text(one);
 }
@@ -99,6 +109,11 @@ static void read_symbols(void)
 
 static void put_variable(FILE *to, unsigned long address)
 {
+    char name[96];
+    if (kz_is_binary((const void *)address) && kz_binaries.find_variable && kz_binaries.find_variable(address, name, sizeof name)) {
+        fputs(name, to);
+        return;
+    }
     if (!symbols.all)
         read_symbols();
     for (size_t at = 0; at < symbols.count; at++) {

@@ -286,5 +286,7 @@ void kz_watch_faults(void)
     kz_binaries.carry_out = carry_out_in_place;
     kz_binaries.raise = raise_in_place;
     kz_binaries.find_line = kz_find_image_line;
+    kz_binaries.find_path = kz_find_image_path;
+    kz_binaries.find_variable = kz_find_image_variable;
     sigaction(SIGTRAP, &(struct sigaction){.sa_sigaction = on_trap, .sa_flags = SA_SIGINFO | SA_ONSTACK}, NULL);
 }

@@ -41,6 +41,8 @@ void kz_read_symbols(KzImage *image);
 const char *kz_last_name(const char *path);
 /* line.c: the line of its source before that address; else its function or its name, with how far that is behind it. */
 bool kz_find_image_line(uintptr_t address, char *room, size_t size);
+const char *kz_find_image_path(uintptr_t address, unsigned *line);
+bool kz_find_image_variable(uintptr_t address, char *room, size_t size);
 /* fault.c: what the processor refuses is carried out, or raised. */
 void kz_watch_faults(void);
 

@@ -26,6 +26,30 @@ const char *kz_last_name(const char *path)
     return name;
 }
 
+const char *kz_find_image_path(uintptr_t address, unsigned *line)
+{
+    const KzImage *image = kz_image_at(address);
+    const KzLine *found = image ? kz_line_at(&image->lines, (uint32_t)(address - (uintptr_t)image->bytes.start)) : NULL;
+    if (found)
+        *line = found->line;
+    return found ? found->file : NULL;
+}
+
+bool kz_find_image_variable(uintptr_t address, char *room, size_t size)
+{
+    const KzImage *image = kz_image_at(address);
+    uint32_t at = image ? (uint32_t)(address - (uintptr_t)image->bytes.start) : 0;
+    const KzSection *section = image ? kz_section_at(&image->headers, at) : NULL;
+    const KzVariable *found = section ? kz_variable_at(&image->lines, at) : NULL;
+    if (!found || found->at < section->at)
+        return false;
+    if (found->at == at)
+        snprintf(room, size, "%s", found->name);
+    else
+        snprintf(room, size, "%s+%u", found->name, at - found->at);
+    return true;
+}
+
 bool kz_find_image_line(uintptr_t address, char *room, size_t size)
 {
     const KzImage *image = kz_image_at(address);

@@ -184,6 +184,7 @@ bool kz_read_lines(KzBytes file, const KzHeaders *headers, const KzBuild *build,
     read_modules(file, &module);
     if (to->count)
         qsort(to->all, to->count, sizeof *to->all, compare);
+    kz_read_variables(file, headers, to);
     return true;
 }
 
@@ -204,5 +205,7 @@ void kz_forget_lines(KzLines *lines)
 {
     free(lines->all);
     free(lines->names);
+    free(lines->variables);
+    free(lines->symbols);
     *lines = (KzLines){0};
 }

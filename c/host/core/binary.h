@@ -49,6 +49,8 @@ typedef struct {
     bool (*carry_out)(int signal, void *information, void *context);
     bool (*raise)(int signal, void *information, void *context);
     bool (*find_line)(uintptr_t address, char *room, size_t size);
+    const char *(*find_path)(uintptr_t address, unsigned *line);        /* of the source; NULL if it isn't known */
+    bool (*find_variable)(uintptr_t address, char *room, size_t size); /* its name, and how far it is behind it */
     bool (*data)(unsigned at, char **start, char **end); /* where variables of theirs lie, one range after the other */
     void (*watch)(KzTellAccess *to);                     /* each access of theirs is told from now on, but for those to their own frames */
 } KzBinaries;

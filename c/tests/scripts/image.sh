@@ -28,7 +28,7 @@ tell $? "calls through pointers"
 # The reader: changed files, in all of the ways that a seed gives, and what it refuses.
 if has_sanitizers address,undefined; then
     ${CC:-cc} -std=gnu11 -fshort-wchar -O1 -g -Wall -Wextra -Werror -fsanitize=address,undefined -fno-sanitize-recover=undefined -Ic -Ic/include -o "$room/reader" \
-        $tests/image/reader.c c/image/{bytes,headers,layout,imports,exports,streams,pdb,instruction,access}.c
+        $tests/image/reader.c c/image/{bytes,headers,layout,imports,exports,streams,pdb,variables,instruction,access}.c
     tell $? "the reader, as it was built under sanitizers,"
     "$room/reader" "${SECONDS_OF_FUZZ:-5}" > "$room/reader.out" 2>&1 || { cat "$room/reader.out"; false; }
     tell $? "changed files"
@@ -155,6 +155,13 @@ for kind in msvc mingw; do
     LEVEL=-O2 explored counter
     [ $? = 0 ] && "$EXPLORE" --replay "$(sed -n "s/^  --replay '\\(.*\\)'$/\\1/p" "$room/counter.out" | head -n 1)" "$room/counter.sys" $tests/scenarios/counter.txt | grep -q 'RACE: an update without lock'
     tell $? "a schedule that is played again by $kind"
+    # A trace has the source's lines and the names of variables, from a .pdb.
+    if [ "$kind" = msvc ]; then
+        explored counter
+        "$EXPLORE" --trace --replay 'a*4 b*9 a*6' "$room/counter.sys" $tests/scenarios/counter.txt > "$room/out"
+        grep -q 'counter.c:11 *gReads++;' "$room/out" && grep -q 'reads in order gReads' "$room/out" && grep -q 'writes in order gReads' "$room/out" || { cat "$room/out"; false; }
+        tell $? "a trace by $kind"
+    fi
     ./flt run "$room/$kind/contentscan.sys" --user c/samples/user/scanservice.c $tests/requests/contentscan.txt 2> "$room/flt.err" | diff $tests/expected/contentscan.out -
     tell $? "flt run by $kind"
     if [ "$kind" = msvc ] && [ -x "$room/reader" ]; then

@@ -12,21 +12,22 @@ static bool is_closed; /* those that can be paged out */
 static _Thread_local bool is_told; /* it is told, until the IRQL falls */
 static bool is_watched;
 
-static bool is_paged(const KzSection *section)
+static bool is_paged(const KzImage *image, const KzSection *section)
 {
     /* The explorer has the pages that a driver writes under its own watch. */
-    return strncmp(section->name, "PAGE", 4) == 0 && !(section->is_written && kz_watches_copies);
+    return strncmp(section->name, "PAGE", 4) == 0 && !image->locks_pages && !(section->is_written && kz_watches_copies);
 }
 
-static bool is_initial(const KzSection *section)
+static bool is_initial(const KzImage *image, const KzSection *section)
 {
+    (void)image;
     return section->is_discarded && strncmp(section->name, "INIT", 4) == 0;
 }
 
-static void set_rights(const KzImage *image, bool (*is_meant)(const KzSection *section), bool is_there)
+static void set_rights(const KzImage *image, bool (*is_meant)(const KzImage *image, const KzSection *section), bool is_there)
 {
     for (unsigned at = 0; at < image->headers.sections_count; at++)
-        if (is_meant(&image->headers.sections[at]))
+        if (is_meant(image, &image->headers.sections[at]))
             kz_protect_section(image, &image->headers.sections[at], is_there);
 }
 
@@ -63,7 +64,7 @@ static void entered(const KzDriver *driver)
 static void look_for_paged(const KzImage *image)
 {
     for (unsigned at = 0; at < image->headers.sections_count; at++)
-        is_watched |= strncmp(image->headers.sections[at].name, "PAGE", 4) == 0;
+        is_watched |= is_paged(image, &image->headers.sections[at]);
 }
 
 void kz_watch_absent(void)
@@ -84,14 +85,14 @@ bool kz_is_absent(uint64_t address)
 {
     const KzImage *image;
     const KzSection *section = section_of(address, &image);
-    return section && ((is_closed && is_paged(section)) || (image->is_entered && is_initial(section)));
+    return section && ((is_closed && is_paged(image, section)) || (image->is_entered && is_initial(image, section)));
 }
 
 void kz_open_absent(uint64_t address)
 {
     const KzImage *image;
     const KzSection *section = section_of(address, &image);
-    if (is_initial(section)) {
+    if (is_initial(image, section)) {
         ((KzImage *)(uintptr_t)image)->is_entered = false;
         set_rights(image, is_initial, true);
     } else {
@@ -104,7 +105,7 @@ void kz_tell_absent(uint64_t address, uint64_t rip)
 {
     const KzImage *image;
     const KzSection *section = section_of(address, &image);
-    bool is_run = address == rip, is_gone = is_initial(section);
+    bool is_run = address == rip, is_gone = is_initial(image, section);
     kz_open_absent(address);
     KZ_INSIDE_FROM(section->name, (const void *)(uintptr_t)(rip + 1));
     is_told = !is_gone;

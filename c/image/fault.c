@@ -165,7 +165,10 @@ static void tell_constant(const Fault *fault, const KzContext *context)
 
 void kz_tell_stack(const void *frame)
 {
+    const KzImage *image = kz_image_at((uintptr_t)kz_stub_caller);
     kz_me->stack = frame;
+    if (image && image->expands_stack)
+        return;
     KZ_INSIDE_FROM("the stack", kz_stub_caller);
     kz_tell(KZM_STACK, "the stack", "the driver's own code has more than %d KB of it", KZ_STACK >> 10);
 }

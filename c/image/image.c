@@ -139,7 +139,9 @@ static void set_cookie(const KzImage *image)
 
 static uint64_t find_import(void *given, const char *module, const char *name)
 {
-    const KzImage *image = given;
+    KzImage *image = given;
+    image->locks_pages |= strncmp(name, "MmLockPagable", 13) == 0 || strcmp(name, "MmResetDriverPaging") == 0;
+    image->expands_stack |= strncmp(name, "KeExpandKernelStack", 19) == 0;
     const void *found = kz_find_export(name);
     if (!found) {
         const char *near = kz_is_known(name) ? NULL : kz_nearest_known(name);

@@ -14,6 +14,7 @@ typedef struct KzImage {
     uint8_t *pristine; /* as it was laid out */
     KzDriver driver;
     bool is_entered; /* its DriverEntry has succeeded */
+    bool locks_pages, expands_stack; /* it imports the calls for that: whether a page may be paged out, and how much stack there is, isn't known here */
     KzLines lines;   /* of its .pdb */
 } KzImage;
 

@@ -174,6 +174,13 @@ for kind in msvc mingw; do
         "$RUN" "$room/other.sys" "$room/other.txt" 2>&1 | grep -q "other.pdb isn't used: it is of another build"
         tell $? "lines of another build"
     fi
+    # A driver that may lock its pages isn't told of paging.
+    sed 's/    First("in DriverEntry");/    if (RegistryPath == NULL)\n        MmLockPagableDataSection((PVOID)\&gLimit);/' $tests/image/sections.c > "$room/locked.c"
+    "$tests/image/sys.sh" "$kind" "$room/kit-$kind" "$room/locked.sys" "$room/locked.c"
+    sed 's/sections/locked/; /^read a 4/,$d' $tests/image/sections.txt > "$room/locked.txt"
+    "$RUN" "$room/locked.sys" "$room/locked.txt" > "$room/out" 2> "$room/err"
+    [ $? = 0 ] && grep -q 'paged code at DISPATCH_LEVEL' "$room/out"
+    tell $? "pages that may be locked by $kind"
     # A jump that stands for a call has its line.
     LEVEL=-O2 "$tests/image/sys.sh" "$kind" "$room/kit-$kind" "$room/$kind/jumps.sys" $tests/image/jumps.c
     { "$RUN" "$room/$kind/jumps.sys" $tests/image/jumps.txt; echo "status $?"; } 2>&1 | diff $tests/image/jumps.out -

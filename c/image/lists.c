@@ -1,6 +1,7 @@
 /* Lookaside lists. The kit's headers take from a list and give back to it by themselves, and call nobody while it has entries and room. A list here never has an entry, and has room for one:
  * so each taking comes to the call that pops an entry, each giving back to the one that pushes it, and the host's own list does the rest. */
 #include "image/calls.h"
+#include "image/point.h"
 #include "core/made.h"
 
 typedef GENERAL_LOOKASIDE_POOL Lookaside;
@@ -12,8 +13,33 @@ KZ_STUB(PVOID, LookasideIsRefused, POOL_TYPE type, SIZE_T size, ULONG tag)
     return NULL;
 }
 
+/* Those that there are, as far as there is room. */
+enum { MOST = 256 };
+static const Lookaside *lists[MOST];
+static size_t lists_count;
+
+bool kz_is_in_list(uint64_t address)
+{
+    for (size_t at = 0; at < lists_count; at++)
+        if (address - (uintptr_t)lists[at] < sizeof *lists[at])
+            return true;
+    return false;
+}
+
+static void forget(const void *list)
+{
+    for (size_t at = 0; at < lists_count; at++)
+        if (lists[at] == list) {
+            lists[at] = lists[--lists_count];
+            return;
+        }
+}
+
 static void make(Lookaside *list)
 {
+    forget(list);
+    if (lists_count < MOST)
+        lists[lists_count++] = list;
     list->Depth = 1;
     if (!list->Allocate)
         list->Allocate = (PALLOCATE_FUNCTION)kz_stub_LookasideIsRefused;
@@ -45,18 +71,21 @@ KZ_STUB(NTSTATUS, ExInitializeLookasideListEx, PLOOKASIDE_LIST_EX list, PVOID al
 KZ_STUB(VOID, ExDeleteNPagedLookasideList, PNPAGED_LOOKASIDE_LIST list)
 {
     KZ_FROM();
+    forget(&list->L);
     ExDeleteNPagedLookasideList(list);
 }
 
 KZ_STUB(VOID, ExDeletePagedLookasideList, PPAGED_LOOKASIDE_LIST list)
 {
     KZ_FROM();
+    forget(&list->L);
     ExDeletePagedLookasideList(list);
 }
 
 KZ_STUB(VOID, ExDeleteLookasideListEx, PLOOKASIDE_LIST_EX list)
 {
     KZ_FROM();
+    forget(&list->L);
     ExDeleteLookasideListEx(list);
 }
 

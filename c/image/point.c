@@ -150,10 +150,11 @@ static void tell_access(const KzPoint *point, uint64_t address, const KzContext 
 void kz_pass_point(KzContext *context)
 {
     const KzPoint *point = point_at(context->rip - 1);
+    uint64_t address = point->operand.how & KZ_STRING ? 0 : kz_operand_at(point, context);
     if (point->operand.how & KZ_STRING)
         tell_string(point, context);
-    else
-        tell_access(point, kz_operand_at(point, context), context);
+    else if (!kz_is_in_list(address))
+        tell_access(point, address, context);
     context->rip = (uintptr_t)point->slot;
 }
 

@@ -10,6 +10,8 @@ void kz_put_points(const KzImage *image);
 bool kz_is_point(uint64_t address);
 /* The thread stands at one: it goes on with the instruction. */
 void kz_pass_point(KzContext *context);
+/* lists.c: whether that is a lookaside list's own memory, which the kit's headers count in without a lock. */
+bool kz_is_in_list(uint64_t address);
 /* A binary compares memory by a call. */
 void kz_watch_compare(const void *a, const void *b, size_t size);
 

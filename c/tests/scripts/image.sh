@@ -150,6 +150,16 @@ for kind in msvc mingw; do
     for source in "$tests"/misuse/schedules/*.c; do
         explored "$(basename "$source" .c)"
     done
+    # Nothing is told of a sample, as of its source.
+    for source in c/samples/*.c; do
+        name=$(basename "$source" .c)
+        bound=0
+        [ "$name" != swapbuffers ] || bound=1
+        [ -f "$room/$kind/$name.sys" ] || continue
+        sed "s/DRIVER/$name/" $tests/scenarios/four-clients.txt > "$room/four.txt"
+        "$EXPLORE" --bound $bound "$room/$kind/$name.sys" "$room/four.txt" > "$room/out" 2>&1 && grep -q "^bound $bound: .*told 0, races 0, stuck 0, crashed 0" "$room/out" || { cat "$room/out"; false; }
+        tell $? "$name with four clients by $kind"
+    done
     # An update that is one instruction is a read and a write; and what was found is found again.
     LEVEL=-O2 explored lostupdate
     LEVEL=-O2 explored counter

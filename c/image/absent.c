@@ -88,6 +88,13 @@ bool kz_is_absent(uint64_t address)
     return section && ((is_closed && is_paged(image, section)) || (image->is_entered && is_initial(image, section)));
 }
 
+bool kz_is_back(uint64_t address, bool is_write, bool is_run)
+{
+    const KzImage *image;
+    const KzSection *section = section_of(address, &image);
+    return section && is_paged(image, section) && (section->is_written || !is_write) && (section->is_run || !is_run);
+}
+
 void kz_open_absent(uint64_t address)
 {
     const KzImage *image;

@@ -8,6 +8,8 @@
 void kz_watch_absent(void);
 /* Whether that address isn't there now. */
 bool kz_is_absent(uint64_t address);
+/* Whether it wasn't there a moment ago, by another thread's IRQL, and is by now. */
+bool kz_is_back(uint64_t address, bool is_write, bool is_run);
 /* The driver touched it, at that place of its code: it is told, and is there again. */
 void kz_tell_absent(uint64_t address, uint64_t rip);
 void kz_open_absent(uint64_t address);

@@ -231,21 +231,30 @@ static uint64_t place_of(ucontext_t *there)
     return (uint64_t)*rip;
 }
 
+/* What wasn't there when it was touched: the thread goes on. */
+static bool is_absent(Fault *fault, ucontext_t *there, uint64_t rip)
+{
+    if (fault->signal != SIGSEGV || !kz_is_absent(fault->address))
+        return fault->signal == SIGSEGV && kz_is_back(fault->address, fault->error & PAGE_WRITE, fault->error & PAGE_RUN);
+    if (!kz_image_at(rip)) { /* the host itself touches it */
+        kz_open_absent(fault->address);
+        return true;
+    }
+    fault->kind = IS_ABSENT;
+    leave_signal(there, *fault);
+    return true;
+}
+
 static bool carry_out_in_place(int signal, void *information, void *context)
 {
     if (signal == SIGTRAP && kz_end_touch(context))
         return true;
     Fault fault = fault_of(signal, information, context);
     uint64_t rip = place_of(context);
-    bool is_absent = signal == SIGSEGV && kz_is_absent(fault.address);
-    if (is_absent && !kz_image_at(rip))
-        kz_open_absent(fault.address); /* the host itself touches it */
-    if (is_absent && kz_image_at(rip)) {
-        fault.kind = IS_ABSENT;
-        leave_signal(context, fault);
-    }
-    if (is_absent || !kz_image_at(rip - (signal == SIGTRAP)))
-        return is_absent;
+    if (is_absent(&fault, context, rip))
+        return true;
+    if (!kz_image_at(rip - (signal == SIGTRAP)))
+        return false;
     /* An address outside of code can't be read for its instruction. */
     const KzImage *image = kz_image_at(rip);
     const KzSection *section = image ? kz_section_at(&image->headers, (uint32_t)(rip - (uintptr_t)image->bytes.start)) : NULL;

@@ -6,9 +6,12 @@
 #include "core/held.h"
 #include "core/told.h"
 
-#include <sys/mman.h>
+#include <sched.h>
+#include <stdatomic.h>
 
-static bool is_closed; /* those that can be paged out */
+/* Whether those that can be paged out are closed: it is read and changed with their pages, by one thread at a time. No code that holds it touches them. */
+static bool is_closed;
+static atomic_flag is_held = ATOMIC_FLAG_INIT;
 static _Thread_local bool is_told; /* it is told, until the IRQL falls */
 static bool is_watched;
 
@@ -41,15 +44,33 @@ static void close_paged(const KzImage *image)
     set_rights(image, is_paged, false);
 }
 
+static void hold(void)
+{
+    while (atomic_flag_test_and_set(&is_held))
+        sched_yield();
+}
+
+static void let_go(void)
+{
+    atomic_flag_clear(&is_held);
+}
+
+static void set_closed(bool closes)
+{
+    hold();
+    if (closes != is_closed) {
+        is_closed = closes;
+        kz_each_image(closes ? close_paged : open_paged);
+    }
+    let_go();
+}
+
 /* The client's code of a driver goes on. */
 static void run(void)
 {
     bool is_high = kz_irql() >= DISPATCH_LEVEL, closes = is_high && !is_told;
     is_told &= is_high;
-    if (closes == is_closed)
-        return;
-    is_closed = closes;
-    kz_each_image(closes ? close_paged : open_paged);
+    set_closed(closes);
 }
 
 static void entered(const KzDriver *driver)
@@ -85,7 +106,10 @@ bool kz_is_absent(uint64_t address)
 {
     const KzImage *image;
     const KzSection *section = section_of(address, &image);
-    return section && ((is_closed && is_paged(image, section)) || (image->is_entered && is_initial(image, section)));
+    hold();
+    bool is_absent = section && ((is_closed && is_paged(image, section)) || (image->is_entered && is_initial(image, section)));
+    let_go();
+    return is_absent;
 }
 
 bool kz_is_back(uint64_t address, bool is_write, bool is_run)
@@ -103,8 +127,7 @@ void kz_open_absent(uint64_t address)
         ((KzImage *)(uintptr_t)image)->is_entered = false;
         set_rights(image, is_initial, true);
     } else {
-        is_closed = false;
-        kz_each_image(open_paged);
+        set_closed(false);
     }
 }
 

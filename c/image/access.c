@@ -27,29 +27,14 @@ static KzOperand of_group(const KzInstruction *one, unsigned group)
     }
 }
 
-static KzOperand of_one_byte(const KzInstruction *one)
+static KzOperand of_move(const KzInstruction *one)
 {
-    unsigned opcode = one->opcode, group = one->modrm >> 3 & 7;
-    if (opcode < 0x40) /* cmp is the last of them */
-        return (KzOperand){opcode & 2 || opcode >= 0x38 ? KZ_READS : CHANGES, by_bit(one)};
-    switch (opcode) {
+    switch (one->opcode) {
     case 0x63:
         return (KzOperand){KZ_READS, 4};
-    case 0x69:
-    case 0x6b:
-        return (KzOperand){KZ_READS, whole(one)};
-    case 0x80:
-    case 0x81:
-    case 0x83:
-        return (KzOperand){group == 7 ? KZ_READS : CHANGES, by_bit(one)};
-    case 0x84:
-    case 0x85:
     case 0x8a:
     case 0x8b:
         return (KzOperand){KZ_READS, by_bit(one)};
-    case 0x86:
-    case 0x87: /* xchg needs no prefix */
-        return (KzOperand){CHANGES | KZ_LOCKED, by_bit(one)};
     case 0x88:
     case 0x89:
     case 0xc6:
@@ -61,6 +46,30 @@ static KzOperand of_one_byte(const KzInstruction *one)
         return (KzOperand){KZ_READS, 2};
     case 0x8f:
         return (KzOperand){KZ_WRITES, 8};
+    default: /* lea; numbers of the coprocessor, which no driver has */
+        return (KzOperand){0, 0};
+    }
+}
+
+static KzOperand of_one_byte(const KzInstruction *one)
+{
+    unsigned opcode = one->opcode, group = one->modrm >> 3 & 7;
+    if (opcode < 0x40) /* cmp is the last of them */
+        return (KzOperand){opcode & 2 || opcode >= 0x38 ? KZ_READS : CHANGES, by_bit(one)};
+    switch (opcode) {
+    case 0x69:
+    case 0x6b:
+        return (KzOperand){KZ_READS, whole(one)};
+    case 0x80:
+    case 0x81:
+    case 0x83:
+        return (KzOperand){group == 7 ? KZ_READS : CHANGES, by_bit(one)};
+    case 0x84:
+    case 0x85:
+        return (KzOperand){KZ_READS, by_bit(one)};
+    case 0x86:
+    case 0x87: /* xchg needs no prefix */
+        return (KzOperand){CHANGES | KZ_LOCKED, by_bit(one)};
     case 0xc0:
     case 0xc1:
     case 0xd0:
@@ -73,8 +82,8 @@ static KzOperand of_one_byte(const KzInstruction *one)
     case 0xfe:
     case 0xff:
         return of_group(one, group);
-    default: /* lea; numbers of the coprocessor, which no driver has */
-        return (KzOperand){0, 0};
+    default:
+        return of_move(one);
     }
 }
 

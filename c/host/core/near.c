@@ -1,3 +1,4 @@
+/* How many letters two words are apart: rows of a table, one letter of the first word after the other. */
 #include "core/near.h"
 
 #include <string.h>

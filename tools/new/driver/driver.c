@@ -66,7 +66,7 @@ static FLT_PREOP_CALLBACK_STATUS PreWrite(_Inout_ PFLT_CALLBACK_DATA Data, _In_ 
 {
     UNREFERENCED_PARAMETER(FltObjects);
     UNREFERENCED_PARAMETER(CompletionContext);
-    if (!IsSecret(Data)) {
+    if (FlagOn(Data->Iopb->IrpFlags, IRP_PAGING_IO) || !IsSecret(Data)) { /* in paging I/O no name may be asked for */
         return FLT_PREOP_SUCCESS_NO_CALLBACK;
     }
     Data->IoStatus.Status = STATUS_ACCESS_DENIED;

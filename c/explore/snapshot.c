@@ -203,6 +203,8 @@ void ex_put_back(void)
         Range *range = range_of(page);
         memcpy(page, range->copy + (page - range->start), PAGE);
     }
+    if (kz_binaries.put_back)
+        kz_binaries.put_back();
 }
 
 /* Of all that a run changed: pages that were written, and what the clients allocated. A page that is as it was counts as none. */

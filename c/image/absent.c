@@ -11,14 +11,20 @@
 
 /* Whether those that can be paged out are closed: it is read and changed with their pages, by one thread at a time. No code that holds it touches them. */
 static bool is_closed;
+static _Thread_local bool is_changed; /* since the explorer put memory back; it isn't put back itself */
 static atomic_flag is_held = ATOMIC_FLAG_INIT;
 static _Thread_local bool is_told; /* it is told, until the IRQL falls */
 static bool is_watched;
 
+static bool can_be_out(const KzImage *image, const KzSection *section)
+{
+    return strncmp(section->name, "PAGE", 4) == 0 && !image->locks_pages;
+}
+
+/* The explorer has the pages that a driver writes under its own watch: there each access is looked at (kz_look_at_paged). */
 static bool is_paged(const KzImage *image, const KzSection *section)
 {
-    /* The explorer has the pages that a driver writes under its own watch. */
-    return strncmp(section->name, "PAGE", 4) == 0 && !image->locks_pages && !(section->is_written && kz_watches_copies);
+    return can_be_out(image, section) && !(section->is_written && kz_watches_copies);
 }
 
 static bool is_initial(const KzImage *image, const KzSection *section)
@@ -29,6 +35,7 @@ static bool is_initial(const KzImage *image, const KzSection *section)
 
 static void set_rights(const KzImage *image, bool (*is_meant)(const KzImage *image, const KzSection *section), bool is_there)
 {
+    is_changed = true;
     for (unsigned at = 0; at < image->headers.sections_count; at++)
         if (is_meant(image, &image->headers.sections[at]))
             kz_protect_section(image, &image->headers.sections[at], is_there);
@@ -82,6 +89,19 @@ static void entered(const KzDriver *driver)
     set_rights(image, is_initial, false);
 }
 
+static void set_again(const KzImage *image)
+{
+    set_rights(image, is_paged, !is_closed);
+    set_rights(image, is_initial, !image->is_entered);
+}
+
+void kz_close_absent(void)
+{
+    if (is_changed)
+        kz_each_image(set_again);
+    is_changed = false;
+}
+
 static void look_for_paged(const KzImage *image)
 {
     for (unsigned at = 0; at < image->headers.sections_count; at++)
@@ -94,6 +114,7 @@ void kz_watch_absent(void)
     if (is_watched)
         kz_binaries.run = run;
     kz_binaries.entered = entered;
+    kz_binaries.put_back = kz_close_absent;
 }
 
 static const KzSection *section_of(uint64_t address, const KzImage **image)
@@ -131,6 +152,11 @@ void kz_open_absent(uint64_t address)
     }
 }
 
+static void tell_paged(const KzSection *section, bool is_run)
+{
+    kz_tell(KZM_IRQL, section->name, "%s at IRQL %u, and the section can be paged out", is_run ? "its code runs" : "it is touched", kz_irql());
+}
+
 void kz_tell_absent(uint64_t address, uint64_t rip)
 {
     const KzImage *image;
@@ -142,5 +168,16 @@ void kz_tell_absent(uint64_t address, uint64_t rip)
     if (is_gone)
         kz_tell(KZM_GONE, section->name, "%s after DriverEntry, and the section is gone by then", is_run ? "its code runs" : "it is touched");
     else if (kz_irql() >= DISPATCH_LEVEL)
-        kz_tell(KZM_IRQL, section->name, "%s at IRQL %u, and the section can be paged out", is_run ? "its code runs" : "it is touched", kz_irql());
+        tell_paged(section, is_run);
+}
+
+void kz_look_at_paged(const KzAccess *access)
+{
+    const KzImage *image;
+    const KzSection *section = kz_is_binary(access->address) ? section_of((uintptr_t)access->address, &image) : NULL;
+    if (!section || is_told || kz_irql() < DISPATCH_LEVEL || !section->is_written || !can_be_out(image, section))
+        return;
+    is_told = true;
+    KZ_INSIDE_FROM(section->name, access->from);
+    tell_paged(section, false);
 }

@@ -173,6 +173,14 @@ void kz_tell_stack(const void *frame)
     kz_tell(KZM_STACK, "the stack", "the driver's own code has more than %d KB of it", KZ_STACK >> 10);
 }
 
+/* From __chkstk: where the frame's end would be, and where the function goes on. */
+void kz_look_at_probe(const void *frame, const void *from);
+void kz_look_at_probe(const void *frame, const void *from)
+{
+    kz_stub_caller = from;
+    kz_look_at_stack(frame);
+}
+
 /* A copy faulted on behalf of its caller: it counts as at that call. */
 static void leave_copy(KzContext *context)
 {

@@ -2,6 +2,7 @@
  * others wrote between the two is lost, as it would be. */
 #include "image/point.h"
 
+#include "image/absent.h"
 #include "image/calls.h"
 #include "image/slot.h"
 #include "core/memory.h"
@@ -105,10 +106,16 @@ bool kz_is_point(uint64_t address)
 }
 
 /* ---- One is passed. */
+static bool tell_access(const KzAccess *access)
+{
+    kz_look_at_paged(access);
+    return tell(access);
+}
+
 static bool tell_one(const KzPoint *point, uint64_t address, uint64_t size, unsigned how)
 {
     KzAccess access = {.address = (const void *)(uintptr_t)address, .size = size, .from = (const void *)(uintptr_t)(point->at + 1), .how = how};
-    return tell(&access);
+    return tell_access(&access);
 }
 
 static void tell_string(const KzPoint *point, const KzContext *context)
@@ -135,7 +142,7 @@ static void tell_update(const KzPoint *point, uint64_t address, unsigned how)
         memcpy((void *)(uintptr_t)address, value, point->operand.size);
 }
 
-static void tell_access(const KzPoint *point, uint64_t address, const KzContext *context)
+static void tell_operand(const KzPoint *point, uint64_t address, const KzContext *context)
 {
     unsigned size = point->operand.size, how = size <= 8 && address % size == 0 ? KZ_ACCESS_IS_SINGLE : 0;
     if (point->operand.how & KZ_LOCKED) {
@@ -154,7 +161,7 @@ void kz_pass_point(KzContext *context)
     if (point->operand.how & KZ_STRING)
         tell_string(point, context);
     else if (!kz_is_in_list(address))
-        tell_access(point, address, context);
+        tell_operand(point, address, context);
     context->rip = (uintptr_t)point->slot;
 }
 
@@ -165,11 +172,11 @@ void KZ_MS_ABI kz_watch_copy(void *to, const void *from, size_t size, const void
 {
     KzAccess access = {.size = size, .from = caller, .address = from};
     if (from && size)
-        tell(&access);
+        tell_access(&access);
     access.address = to;
     access.how = KZ_ACCESS_WRITES;
     if (to && size)
-        tell(&access);
+        tell_access(&access);
 }
 
 void kz_watch_compare(const void *a, const void *b, size_t size)
@@ -177,9 +184,9 @@ void kz_watch_compare(const void *a, const void *b, size_t size)
     KzAccess access = {.size = size, .from = kz_stub_caller, .address = a};
     if (!kz_watches_copies || !size)
         return;
-    tell(&access);
+    tell_access(&access);
     access.address = b;
-    tell(&access);
+    tell_access(&access);
 }
 
 void kz_watch_binaries(KzTellAccess *to)

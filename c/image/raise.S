@@ -154,9 +154,31 @@ STUB RtlCaptureContext
 STUB __C_specific_handler
     jmp kz_c_specific_handler
 
-/* A function with large locals touches the stack's pages first: they are there. */
+/* A function with large locals touches the stack's pages first, of so many bytes as rax says: they are there, and it is looked whether a stack of the kernel's has as many. Each register stays. */
 STUB __chkstk
 STUB ___chkstk_ms
+    .irp r, rax, rcx, rdx, rsi, rdi, r8, r9, r10, r11
+    push %\r
+    .endr
+    lea 80(%rsp), %rdi
+    sub %rax, %rdi
+    mov 72(%rsp), %rsi
+    push %rbp
+    mov %rsp, %rbp
+    and $-16, %rsp
+    sub $0x100, %rsp
+    .irp n, 0, 1, 2, 3, 4, 5, 6, 7, 8, 9, 10, 11, 12, 13, 14, 15
+    movaps %xmm\n, 16*\n(%rsp)
+    .endr
+    cld
+    call kz_look_at_probe
+    .irp n, 0, 1, 2, 3, 4, 5, 6, 7, 8, 9, 10, 11, 12, 13, 14, 15
+    movaps 16*\n(%rsp), %xmm\n
+    .endr
+    mov %rbp, %rsp
+    .irp r, rbp, r11, r10, r9, r8, rdi, rsi, rdx, rcx, rax
+    pop %\r
+    .endr
     ret
 
 /* ---- Copies. They may touch what isn't there on behalf of the binary: then the return address is on top of the stack, and rsi and rdi are in r10 and r11. Where accesses are watched, they are

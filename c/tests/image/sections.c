@@ -5,10 +5,12 @@
 #define PAGED __attribute__((section("PAGE"), noinline))
 #define FIRST __attribute__((section("INIT"), noinline))
 #define PAGED_CONSTANT __attribute__((section("PAGECONS")))
+#define PAGED_VARIABLE __attribute__((section("PAGEDATA")))
 
 static PFLT_FILTER gFilter;
 static KSPIN_LOCK gLock;
 PAGED_CONSTANT const ULONG gLimit = 7;
+PAGED_VARIABLE ULONG gCount = 7;
 const ULONG gFixed = 5;
 
 PAGED static VOID Paged(PCSTR Where)
@@ -41,6 +43,13 @@ static VOID Deep(ULONG Levels)
     room[1] = room[0];
 }
 
+static VOID Wide(VOID)
+{
+    volatile UCHAR room[28 << 10];
+
+    room[0] = 0;
+}
+
 static VOID Endless(volatile ULONG *Count)
 {
     volatile UCHAR room[4096];
@@ -58,6 +67,10 @@ static VOID AtDispatch(ULONG Kind)
     KeRaiseIrql(DISPATCH_LEVEL, &before);
     if (Kind == 1)
         Paged("at DISPATCH_LEVEL");
+    else if (Kind == 9)
+        limit = gCount++;
+    else if (Kind == 10)
+        limit = *(volatile ULONG *)NULL;
     else
         limit = *(volatile const ULONG *)&gLimit;
     KeLowerIrql(before);
@@ -78,6 +91,8 @@ static FLT_PREOP_CALLBACK_STATUS PreRead(PFLT_CALLBACK_DATA Data, PCFLT_RELATED_
         break;
     case 1:
     case 2:
+    case 9:
+    case 10:
         AtDispatch(kind);
         break;
     case 3:
@@ -94,6 +109,9 @@ static FLT_PREOP_CALLBACK_STATUS PreRead(PFLT_CALLBACK_DATA Data, PCFLT_RELATED_
         break;
     case 7:
         Endless(&count);
+        break;
+    case 8:
+        Wide();
         break;
     }
     return FLT_PREOP_SUCCESS_NO_CALLBACK;

@@ -46,7 +46,7 @@ read -r -a words <<< "${LEVEL:--O0} ${WORDS:-}"
 words+=(-g -fno-builtin -Werror=implicit-function-declaration -D_AMD64_ -D_WIN32_WINNT=0x0A00 -DNTDDI_VERSION=0x0A000002 -D_KERNEL_MODE=1 -DPOOL_NX_OPTIN=1 -DDBG=1 -DKERNEL)
 # Headers of mingw-w64 want to see gcc; the code is that of Microsoft's conventions all the same.
 msvc=(--target=x86_64-pc-windows-msvc -fms-extensions -fms-compatibility-version=0 -fgnuc-version=4.8.0 -U_MSC_VER -D__MINGW32__=1 -D__MINGW64__=1 -D__MSVCRT__=1 -D__CRT__NO_INLINE
-    -D_MSC_EXTENSIONS_SEH -gcodeview -mno-stack-arg-probe -Wno-everything -Werror=implicit-function-declaration -nostdinc -isystem "$(clang -print-resource-dir 2> /dev/null)/include")
+    -D_MSC_EXTENSIONS_SEH -gcodeview -Wno-everything -Werror=implicit-function-declaration -nostdinc -isystem "$(clang -print-resource-dir 2> /dev/null)/include")
 objects=()
 for source in "$@"; do
     object=$out.$(basename "$source").o
@@ -66,7 +66,7 @@ for source in "$@"; do
     mingw)
         gcc=x86_64-w64-mingw32-gcc
         case $source in *.cpp) gcc=x86_64-w64-mingw32-g++ ;; esac
-        $gcc "${language[@]}" "${words[@]}" -gdwarf-4 -mno-stack-arg-probe -w -Werror=implicit-function-declaration -isystem "$room/include" -isystem $mingw/include/ddk -c -o "$object" "$source"
+        $gcc "${language[@]}" "${words[@]}" -gdwarf-4 -w -Werror=implicit-function-declaration -isystem "$room/include" -isystem $mingw/include/ddk -c -o "$object" "$source"
         ;;
     esac
 done

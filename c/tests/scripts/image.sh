@@ -160,6 +160,15 @@ for kind in msvc mingw; do
         "$EXPLORE" --bound $bound "$room/$kind/$name.sys" "$room/four.txt" > "$room/out" 2>&1 && grep -q "^bound $bound: .*told 0, races 0, stuck 0, crashed 0" "$room/out" || { cat "$room/out"; false; }
         tell $? "$name with four clients by $kind"
     done
+    # What may not be touched there is told in each schedule, also behind one that a crash ended.
+    for asked in 0 1 2 3 4 8 9 10; do
+        printf 'load sections\nattach sections v0 first 300\ncreate v0 new a as a\nwrite a 0 3132333435363738393031\nclient x: read a %s 1; read a %s 1\nclient y: read a 0 1\n' $asked $asked > "$room/asked.txt"
+        "$EXPLORE" --bound 1 "$room/$kind/sections.sys" "$room/asked.txt" > "$room/out" 2>&1
+        read -r bound number schedules <<< "$(sed -n 's/^bound \(1\): \([0-9]*\) \(schedules\).*/\1 \2 \3/p' "$room/out")"
+        case $asked in 0) wanted='told 0, races 0, stuck 0, crashed 0' ;; 10) wanted="told 0, races 0, stuck 0, crashed $number" ;; *) wanted="told $number, races 0, stuck 0, crashed 0" ;; esac
+        [ "$bound$schedules" = 1schedules ] && grep -q "^bound 1: .*; $wanted\$" "$room/out" || { cat "$room/out"; false; }
+        tell $? "sections under the explorer by $kind, of $asked,"
+    done
     # An update that is one instruction is a read and a write; and what was found is found again.
     LEVEL=-O2 explored lostupdate
     LEVEL=-O2 explored counter

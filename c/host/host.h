@@ -109,7 +109,7 @@ typedef struct KzFile {
     FILE_OBJECT object;
     SECTION_OBJECT_POINTERS sections;
     struct KzFile *next;
-    uint64_t handle;
+    uint64_t handle, number; /* that the manager gave it, and by which clients know it */
     bool has_handle, is_directory, is_close_due;
     bool is_opening;      /* the file system has answered its create, which goes up still */
     bool is_own;          /* a driver opened it: its handle is no client's */
@@ -122,7 +122,6 @@ typedef struct KzFile {
     bool is_by_key;      /* it is opened by its key, whatever the names are */
     uint8_t cached;      /* formats in which its name was asked for while its create was under way, a bit each */
     bool is_counted;     /* among its file's open handles */
-    bool is_leaving;     /* and its cleanup has begun */
     bool is_posix;       /* a deletion takes its name away with the handle's cleanup */
     bool is_sharing;     /* it counts in its file's share access */
     ACCESS_MASK access;  /* that its create was granted */
@@ -146,6 +145,8 @@ typedef struct {
     size_t filters_count, volumes_count, instances_count;
     KzOp *ops, *resumed, **resumed_end;
     KzFile *files;
+    uint64_t *unheard; /* handles by which files went, in their order: to clients they have no number */
+    size_t unheard_count;
     KzCounts counts;
     uint64_t changes; /* how often something ended that somebody may wait for */
     LONGLONG passed;  /* since the run began, in units of 100 nanoseconds */

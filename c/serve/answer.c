@@ -81,7 +81,7 @@ static KazdrinEvent event_of(const Frame *frame)
 {
     static const uint8_t events[] = {
         [FRAME_READ] = KZE_READ,         [FRAME_WRITE] = KZE_WRITE, [FRAME_QUERY_SIZE] = KZE_QUERY_SIZE, [FRAME_SET_SIZE] = KZE_SET_SIZE,
-        [FRAME_FLUSH] = KZE_FLUSH,       [FRAME_LIST] = KZE_LIST,   [FRAME_SET_DELETE] = KZE_SET_DELETE,
+        [FRAME_FLUSH] = KZE_FLUSH,       [FRAME_LIST] = KZE_LIST,
     };
     return (KazdrinEvent){.event = events[frame->code], .volume = frame->volume, .handle = frame->handle, .offset = frame->offset, .len = frame->length};
 }
@@ -111,6 +111,9 @@ static void operate(Link *link, const Frame *frame)
         create(link, frame);
     } else if (frame->code == FRAME_CLOSE) {
         close_handle(link);
+    } else if (frame->code == FRAME_SET_DELETE) {
+        asking = link;
+        kz_delete_file(frame->handle);
     } else {
         asking = link;
         kz_perform(event_of(frame), frame->code == FRAME_WRITE ? frame->text : (const uint8_t *)"", frame->text_length, NULL);

@@ -129,16 +129,12 @@ enum {
     KZM_DEVICE = 245,
     KZM_LEFT_OUT = 246,
     KZM_UNKNOWN_WAIT = 247,
-    /* A driver's own input and output, its programs and threads. */
-    KZM_MARKED_CLEANUP = 250,
     /* What isn't modelled. */
     KZM_NOT_MODELLED = 251,
     KZM_FILE_LOCK = 252,
     KZM_CACHE = 253,
     KZM_ECP = 254,
     KZM_CRYPTO = 255,
-    /* Names. */
-    KZM_MARK_STAYS = 256,
     /* What isn't known. */
     KZM_NO_SUCH_ROUTINE = 257,
     KZM_MESSAGES = 300

@@ -63,8 +63,10 @@ static NTSTATUS open_directory(KzName *name, uint8_t mode)
 static bool answers_create(KzOp *op, const KazdrinData *call, NTSTATUS *status)
 {
     KzName *name = op->file->name;
-    if (op->own.is_unheard)
-        return false; /* it is one by the file's key */
+    KzFound found;
+    *status = STATUS_SUCCESS;
+    if (op->own.is_unheard) /* it is one by the file's key; a folder hasn't it any more once its name is gone */
+        return name->is_gone && kz_look_in_folder(name->volume->id, "", &found);
     if (name->is_gone && answers_overtaken(name, call->mode, status))
         return true;
     *status = STATUS_DELETE_PENDING;
@@ -89,20 +91,11 @@ static bool answers_create(KzOp *op, const KazdrinData *call, NTSTATUS *status)
     return name->node->is_directory || (call->mode != 1 && !NT_SUCCESS(*status));
 }
 
-/* ---- Closes that would take the bytes away. They stay where the mark was taken back, or where the file has another name; below a folder they went with the name. */
-static bool answers_close(KzName *name)
+/* ---- Closes that take the bytes away: they come of a file that has no name any more. Below a folder they went with the name. */
+static bool answers_close(const KzName *name)
 {
     KzFound found;
-    KzNode *node = name->node;
-    bool is_taken = name->is_gone && kz_look_in_folder(name->volume->id, "", &found);
-    bool has_other = node->links > 1 || node->is_directory;
-    if (node->marked && !node->marked->is_gone && has_other)
-        kz_delete_name(node->marked);
-    else if (!is_taken && (node->marked || !node->links) && !node->is_directory)
-        return false;
-    node->is_marked_there = node->is_kept = false;
-    node->marked = NULL;
-    return true;
+    return kz_look_in_folder(name->volume->id, "", &found);
 }
 
 bool kz_answers_call(KzOp *op, const KazdrinData *call, NTSTATUS *status)
@@ -137,21 +130,6 @@ static void note_create(KzName *name, const KazdrinData *call)
     kz_notify(name, FILE_NOTIFY_CHANGE_FILE_NAME, FILE_ACTION_ADDED);
 }
 
-static void note_close(KzName *name)
-{
-    KzNode *node = name->node;
-    node->is_marked_there = false;
-    node->marked = NULL;
-    if (!name->is_gone) {
-        kz_notify(name, FILE_NOTIFY_CHANGE_FILE_NAME, FILE_ACTION_REMOVED);
-        kz_put_in_tunnel(name);
-        node->is_marked_there = true; /* its bytes are gone already */
-        kz_take_away(name);
-        node->is_marked_there = false;
-    }
-    node->exists = false;
-}
-
 void kz_note_call(KzOp *op, const KazdrinData *call)
 {
     KzName *name = op->file->name;
@@ -172,9 +150,6 @@ void kz_note_call(KzOp *op, const KazdrinData *call)
         node->size = call->offset;
         node->written = node->changed = kz_time();
         kz_notify(name, FILE_NOTIFY_CHANGE_SIZE, FILE_ACTION_MODIFIED);
-        break;
-    case KZE_CLOSE:
-        note_close(name);
         break;
     }
 }

@@ -1,11 +1,9 @@
-/* Deletions. A file that is marked goes with its last handle, or its name at once, by POSIX semantics: before the cleanup of the last one begins, the manager is told to mark it too, by an
- * operation that no instance hears. So its bytes go with that handle's close, as those of a file that was marked in the manager in the first place. */
+/* Deletions. A file has one mark, which is taken back as it was given. It goes with the last handle's cleanup, or its name at once, by POSIX semantics. The manager, whose mark is for good,
+ * hears of it as the file goes, by a handle that nobody hears of: so its bytes go with the last close. */
 #include "filesystem/deletion.h"
 
-#include "core/told.h"
 #include "filesystem/call.h"
 #include "filesystem/disk.h"
-#include "filesystem/folder.h"
 #include "filesystem/name.h"
 #include "filesystem/notice.h"
 #include "filesystem/rename.h"
@@ -21,17 +19,6 @@ bool kz_is_empty(const KzName *directory)
     return true;
 }
 
-bool kz_is_pending(const KzNode *node)
-{
-    return node->is_marked || (node->is_marked_there && !node->is_kept);
-}
-
-bool kz_marks_by_itself(const KzFile *file)
-{
-    const KzNode *node = file && file->name ? file->name->node : NULL;
-    return !node || (!node->is_directory && node->links == 1 && !file->name->is_gone && !(node->attributes & FILE_ATTRIBUTE_READONLY));
-}
-
 static NTSTATUS keep(KzFile *file)
 {
     KzNode *node = file->name->node;
@@ -39,10 +26,13 @@ static NTSTATUS keep(KzFile *file)
     node->marked = NULL;
     file->is_posix = false;
     file->object.DeletePending = FALSE;
-    if (node->is_marked_there && !node->is_kept) {
-        node->is_kept = true;
-        kz_tell(KZM_MARK_STAYS, "FILE_DISPOSITION_INFORMATION", "the deletion is taken back, and creates of the file are answered STATUS_DELETE_PENDING until its handles are closed");
-    }
+    return STATUS_SUCCESS;
+}
+
+/* Whether it is to be marked as its handle goes, as a create may have it. */
+static NTSTATUS set_on_close(KzFile *file, bool is_set)
+{
+    file->object.Flags = (file->object.Flags & ~(ULONG)FO_DELETE_ON_CLOSE) | (is_set ? FO_DELETE_ON_CLOSE : 0);
     return STATUS_SUCCESS;
 }
 
@@ -54,46 +44,31 @@ NTSTATUS kz_dispose(KzFile *file, ULONG flags)
     if (name->is_gone)
         return STATUS_FILE_DELETED;
     if (!(flags & FILE_DISPOSITION_DELETE))
-        return keep(file);
+        return flags & FILE_DISPOSITION_ON_CLOSE ? set_on_close(file, false) : keep(file);
     if (name->node->attributes & FILE_ATTRIBUTE_READONLY && !(flags & FILE_DISPOSITION_IGNORE_READONLY_ATTRIBUTE))
         return STATUS_CANNOT_DELETE;
     kz_enter_folder(name->volume, name->text);
     if (name->node->is_directory && !kz_is_empty(name))
         return STATUS_DIRECTORY_NOT_EMPTY;
+    if (flags & FILE_DISPOSITION_ON_CLOSE)
+        return set_on_close(file, true);
     name->node->is_marked = true;
-    name->node->is_kept = false;
     name->node->marked = name;
     file->object.DeletePending = TRUE;
     file->is_posix |= (flags & FILE_DISPOSITION_POSIX_SEMANTICS) != 0;
     return STATUS_SUCCESS;
 }
 
-void kz_note_mark(KzFile *file)
+/* ---- Names that go. The bytes of a file without one go with its last handle, by another one that nobody hears of. */
+static void drop_bytes(KzName *name)
 {
-    KzName *name = file->name;
-    file->object.DeletePending = TRUE;
-    if (!name)
+    KzNode *node = name->node;
+    bool has_bytes = node->exists && !node->is_directory;
+    if (node->opens)
         return;
-    name->node->is_marked_there = true;
-    name->node->is_kept = false;
-    name->node->marked = name;
-}
-
-/* ---- Names that go. The bytes of a file without one go with its last handle, or else by a handle that nobody hears of. */
-static void drop_bytes(KzNode *node)
-{
-    KzFound found;
-    if (!node->exists || node->is_directory || kz_look_in_folder(node->volume->id, "", &found)) {
-        node->exists = node->opens != 0;
-        return;
-    }
-    if (node->opens) {
-        node->is_marked = true;
-        return;
-    }
     node->exists = false;
-    if (!node->is_marked_there)
-        node->is_abandoned = !kz.store->drop(node->volume, node->key);
+    if (has_bytes)
+        node->is_abandoned = !kz.store->drop(name);
 }
 
 static void take_streams(KzName *name)
@@ -129,7 +104,7 @@ void kz_take_away(KzName *name)
     name->is_gone = true;
     end_streams(name);
     if (--node->links == 0)
-        drop_bytes(node);
+        drop_bytes(name);
     kz_let_go_name(name);
 }
 
@@ -148,24 +123,6 @@ void kz_count_no_open(KzFile *file)
         return;
     file->is_counted = false;
     file->name->node->opens--;
-    file->name->node->leaving -= file->is_leaving;
-}
-
-/* Whether the bytes go with this handle: no other one is left, and no other name. */
-static bool goes(const KzNode *node)
-{
-    return node->is_marked && !node->is_marked_there && node->opens == node->leaving && node->links <= 1 && !node->is_directory;
-}
-
-void kz_begin_cleanup(KzFile *file)
-{
-    if (!file->is_counted || file->is_leaving)
-        return;
-    KzNode *node = file->name->node;
-    file->is_leaving = true;
-    node->leaving++;
-    if (goes(node) && kz.store->mark(file))
-        node->is_marked_there = true;
 }
 
 void kz_delete_name(KzName *name)
@@ -184,15 +141,15 @@ void kz_end_cleanup(KzFile *file)
         return;
     KzName *name = file->name;
     KzNode *node = name->node;
+    if (file->object.Flags & FO_DELETE_ON_CLOSE)
+        kz_dispose(file, FILE_DISPOSITION_DELETE);
     kz_count_no_open(file);
-    KzName *gone = node->marked ? node->marked : name;
-    bool is_last = !node->opens;
-    if (node->is_marked && !gone->is_gone && (is_last || file->is_posix)) {
-        node->is_marked = !is_last && node->links == 1; /* its bytes stay until the last one */
-        kz_delete_name(gone);
+    KzName *gone = node->is_marked ? node->marked : NULL;
+    if (gone && !gone->is_gone && (!node->opens || file->is_posix)) {
+        node->is_marked = false;
         node->marked = NULL;
-        node->is_kept |= node->is_marked_there && node->links > 0;
+        kz_delete_name(gone);
+    } else if (!node->links) {
+        drop_bytes(name);
     }
-    if (is_last && !node->links)
-        node->exists = false;
 }

@@ -10,17 +10,11 @@ NTSTATUS kz_dispose(KzFile *file, ULONG flags);
 void kz_take_away(KzName *name);
 /* The same with what comes of it: the notice, the tunnel, a folder of the host machine. */
 void kz_delete_name(KzName *name);
-/* A create gives the file a handle; the cleanup of one begins, and has come to the file system; a file was marked in the manager. */
+/* A create gives the file a handle; the cleanup of one has come to the file system. */
 void kz_count_open(KzFile *file);
 void kz_count_no_open(KzFile *file); /* it failed after all, or its handle was dropped */
-void kz_begin_cleanup(KzFile *file);
 void kz_end_cleanup(KzFile *file);
-void kz_note_mark(KzFile *file);
-/* Whether a deletion of the file is the manager's alone: the file system here has no word in it. */
-bool kz_marks_by_itself(const KzFile *file);
 /* Whether nothing lies below the directory. */
 bool kz_is_empty(const KzName *directory);
-/* Whether it is marked to go. */
-bool kz_is_pending(const KzNode *node);
 
 #endif

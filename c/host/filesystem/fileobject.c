@@ -12,12 +12,31 @@
 
 #include <stdlib.h>
 
-KzFile *kz_file_of(uint64_t handle)
+KzFile *kz_file_of(uint64_t number)
 {
     for (KzFile *file = kz.files; file; file = file->next)
-        if (file->has_handle && file->handle == handle)
+        if (file->has_handle && !file->is_own && file->number == number)
             return file;
     return NULL;
+}
+
+void kz_hide_number(uint64_t handle)
+{
+    uint64_t *kept = kz.unheard;
+    if ((kz.unheard_count & (kz.unheard_count + 1)) == 0) { /* no room is left */
+        kz.unheard = kz_memory((kz.unheard_count + 1) * 2 * sizeof *kept);
+        memcpy(kz.unheard, kept ? kept : kz.unheard, kz.unheard_count * sizeof *kept);
+        free(kept);
+    }
+    kz.unheard[kz.unheard_count++] = handle;
+}
+
+static uint64_t number_of(uint64_t handle)
+{
+    size_t lower = kz.unheard_count;
+    while (lower > 0 && kz.unheard[lower - 1] > handle)
+        lower--;
+    return handle - lower;
 }
 
 KzFile *kz_file_with(PFILE_OBJECT object)
@@ -68,6 +87,7 @@ void kz_file_answered(KzFile *file, uint64_t handle)
 {
     kz_file_opened(file);
     file->handle = handle;
+    file->number = number_of(handle);
     file->is_opening = true;
 }
 
@@ -108,7 +128,9 @@ KzFile *kz_file_of_client(HANDLE root)
 
 void kz_drop_file(uint64_t handle)
 {
-    KzFile *file = kz_file_of(handle);
+    KzFile *file = kz.files;
+    while (file && !(file->has_handle && file->handle == handle))
+        file = file->next;
     if (!file)
         return;
     file->has_handle = false;

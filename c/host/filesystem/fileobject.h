@@ -4,7 +4,10 @@
 
 #include "host.h"
 
-KzFile *kz_file_of(uint64_t handle);
+/* By the number that clients have of it. */
+KzFile *kz_file_of(uint64_t number);
+/* That one is no client's, and its number is nobody's. */
+void kz_hide_number(uint64_t handle);
 KzFile *kz_file_with(PFILE_OBJECT object);
 KzFile *kz_new_file(PFLT_VOLUME volume, const char *path, bool is_directory);
 void kz_file_opened(KzFile *file);

@@ -101,7 +101,7 @@ void kz_begin_node(KzNode *node, bool is_directory)
 {
     node->exists = true;
     node->is_directory = is_directory;
-    node->is_marked = node->is_marked_there = node->is_kept = false;
+    node->is_marked = false;
     node->id = new_id(node);
     node->size = node->allocation = 0;
     node->created = node->accessed = node->written = node->changed = kz_time();

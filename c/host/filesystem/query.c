@@ -43,7 +43,7 @@ uint64_t kz_allocation_of(const KzNode *node)
 void kz_show_standard(const KzFile *file, FILE_STANDARD_INFORMATION *to)
 {
     const KzNode *node = file->name->node;
-    bool is_pending = kz_is_pending(node);
+    bool is_pending = node->is_marked || !node->links;
     memset(to, 0, sizeof *to);
     to->AllocationSize.QuadPart = (LONGLONG)kz_allocation_of(node);
     to->EndOfFile.QuadPart = node->is_directory ? 0 : (LONGLONG)node->size;

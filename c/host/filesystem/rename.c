@@ -69,7 +69,7 @@ static bool has_open_below(PFLT_VOLUME volume, const char *text)
 
 static NTSTATUS source_status(const KzName *from, bool is_link)
 {
-    if (from->is_gone || kz_is_pending(from->node))
+    if (from->is_gone || from->node->is_marked)
         return STATUS_ACCESS_DENIED;
     if (!*from->text)
         return STATUS_INVALID_PARAMETER;
@@ -95,7 +95,7 @@ static NTSTATUS target_status(const KzName *from, KzName *to, ULONG flags, bool 
         return STATUS_ACCESS_DENIED;
     if (to->node == from->node)
         return STATUS_SUCCESS;
-    if (kz_is_pending(to->node))
+    if (to->node->is_marked)
         return STATUS_DELETE_PENDING;
     if (!to->node->opens)
         return STATUS_SUCCESS;

@@ -121,14 +121,6 @@ void kz_note_opened(KzOp *op, bool was_there)
         kz_keep_bytes(&node->ea, create->ea, create->ea_length);
 }
 
-void kz_delete_on_close(KzFile *file)
-{
-    if (!kz_marks_by_itself(file))
-        kz_dispose(file, FILE_DISPOSITION_DELETE);
-    else
-        kz.store->mark(file);
-}
-
 bool kz_opens_directory(const KzCreate *create, PFLT_VOLUME volume, const char *path)
 {
     if (create->options & (FILE_DIRECTORY_FILE | FILE_NON_DIRECTORY_FILE))

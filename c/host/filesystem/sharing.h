@@ -11,8 +11,6 @@ NTSTATUS kz_may_open(KzOp *op);
 void kz_note_opened(KzOp *op, bool was_there);
 /* No other looks at its sharing any more. */
 void kz_stop_sharing(KzFile *file);
-/* The file goes with its handle, as its create asked. */
-void kz_delete_on_close(KzFile *file);
 /* A create that doesn't say what it opens opens a directory where there is one. */
 bool kz_opens_directory(const KzCreate *create, PFLT_VOLUME volume, const char *path);
 

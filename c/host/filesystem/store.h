@@ -5,10 +5,8 @@
 #include "host.h"
 
 typedef struct KzStore {
-    /* The file is marked to go with its handle, and no instance hears of it. */
-    bool (*mark)(KzFile *file);
-    /* The same at once, of a file that no handle leads to. */
-    bool (*drop)(PFLT_VOLUME volume, const char *key);
+    /* The name's file goes with its last close, and no instance hears of it. */
+    bool (*drop)(struct KzName *name);
     /* The file, which may be about to be opened, has that size, by an operation that no instance hears. */
     NTSTATUS (*cut)(KzFile *file, uint64_t size);
     NTSTATUS (*write)(KzFile *file, uint64_t offset, const uint8_t *bytes, size_t length);

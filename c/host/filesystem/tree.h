@@ -30,14 +30,12 @@ typedef struct KzNode {
     PFLT_VOLUME volume;
     char key[256];
     bool exists, is_directory;
-    bool is_marked;          /* it goes with its last handle */
-    bool is_marked_there;    /* and the manager has that mark, which it never takes back */
-    bool is_kept;            /* the mark was taken back all the same: the file stays */
-    bool is_abandoned;       /* its bytes couldn't be taken away: nobody has its key any more */
-    unsigned links;          /* names by which it is found */
-    unsigned names;          /* all that are kept */
-    unsigned opens, leaving; /* handles whose cleanup isn't over, and those of them whose cleanup has begun */
-    struct KzName *marked;   /* the name that goes with the mark */
+    bool is_marked;        /* it goes with its last handle */
+    bool is_abandoned;     /* its bytes couldn't be taken away: nobody has its key any more */
+    unsigned links;        /* names by which it is found */
+    unsigned names;        /* all that are kept */
+    unsigned opens;        /* handles whose cleanup isn't over */
+    struct KzName *marked; /* the name that goes with the mark */
     uint64_t id, size, allocation;
     LONGLONG created, accessed, written, changed;
     ULONG attributes;

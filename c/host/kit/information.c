@@ -74,11 +74,8 @@ NTSTATUS kz_set_below(PFLT_INSTANCE instance, PFILE_OBJECT object, PVOID from, U
     if (!file)
         return STATUS_INVALID_PARAMETER;
     bool is_end = class == FileEndOfFileInformation && length >= sizeof(FILE_END_OF_FILE_INFORMATION) && !file->is_directory;
-    bool is_gone = class == FileDispositionInformation && length >= sizeof(FILE_DISPOSITION_INFORMATION) && ((PFILE_DISPOSITION_INFORMATION)from)->DeleteFile;
     if (is_end)
         return kz_status_of(kz_below_file(&own, file, (KazdrinEvent){.event = KZE_SET_SIZE, .offset = (uint64_t)((PFILE_END_OF_FILE_INFORMATION)from)->EndOfFile.QuadPart}, "", 0));
-    if (is_gone && kz_marks_by_itself(file))
-        return kz_status_of(kz_below_file(&own, file, (KazdrinEvent){.event = KZE_SET_DELETE}, "", 0));
     return kz_ask_below(instance, file, &(KzAsked){.major = IRP_MJ_SET_INFORMATION, .code = (ULONG)class, .input = from, .input_size = length, .irp_flags = IRP_BUFFERED_IO}, NULL, &information);
 }
 

@@ -82,8 +82,6 @@ static KzAnswer begin(const KzOwn *own, KzFile *file, KazdrinEvent asked, const 
     KzAnswer answer = {0};
     if (asked.event == KZE_CREATE)
         name_file(file, bytes, &bytes, &length);
-    else if (asked.event == KZE_CLEANUP)
-        kz_begin_cleanup(file);
     KzTold begun = kz_event_with(kz_worker(), asked, bytes, length);
     answer.reply.status = begun.status;
     answer.is_refused = begun.status != KZS_OK;
@@ -137,24 +135,15 @@ void kz_end_below(KzOp *op)
         own.done(own.given, kz_status_of(answer), answer.reply.information, kz_me->room, answer.length);
 }
 
-/* By another handle, whose cleanup isn't done. */
-static bool is_open_else(const KzFile *file)
-{
-    for (const KzFile *one = kz.files; one; one = one->next)
-        if (one != file && one->has_handle && one->name && file->name && one->name->node == file->name->node && !(one->object.Flags & FO_CLEANUP_COMPLETE))
-            return true;
-    return false;
-}
-
 /* A file object that nobody hears of, for a file by its key. */
-static KzFile *new_hidden(KzFile *file)
+static KzFile *new_hidden(PFLT_VOLUME volume, const char *path, KzName *name)
 {
-    KzFile *hidden = kz_new_file(file->volume, file->path, false);
+    KzFile *hidden = kz_new_file(volume, path, false);
     hidden->users++;
     hidden->is_own = true;
-    hidden->name = file->name;
-    if (hidden->name)
-        kz_keep_name(hidden->name);
+    hidden->name = name;
+    if (name)
+        kz_keep_name(name);
     return hidden;
 }
 
@@ -162,7 +151,7 @@ static KzFile *new_hidden(KzFile *file)
 static KzAnswer reopened(const KzOwn *own, KzFile *file, KazdrinEvent asked, const void *bytes, size_t length)
 {
     const KzOwn unheard = {.is_unheard = true, .is_waited_for = true};
-    KzFile *hidden = new_hidden(file);
+    KzFile *hidden = new_hidden(file->volume, file->path, file->name);
     KzAnswer answer = kz_below(&unheard, hidden, (KazdrinEvent){.event = KZE_CREATE, .volume = file->volume->id}, file->path, strlen(file->path));
     if (answer.reply.status == KZS_OK) {
         KzOwn waited = *own;
@@ -176,9 +165,7 @@ static KzAnswer reopened(const KzOwn *own, KzFile *file, KazdrinEvent asked, con
         memcpy(kz_me->room, kept, answer.length);
         free(kept);
     } else if (answer.reply.status == KZS_DELETE_PENDING) {
-        answer.other = STATUS_FILE_DELETED; /* as a file system answers behind the last cleanup of a file that is marked */
-        if (!(file->object.Flags & FO_CLEANUP_COMPLETE) || is_open_else(file))
-            kz_tell(KZM_MARKED_CLEANUP, "IRP_MJ_CLEANUP", "a file that is marked to be deleted is gone for its filters once its cleanup begins: it answers STATUS_FILE_DELETED");
+        answer.other = STATUS_FILE_DELETED; /* as a file system answers behind the last cleanup of a file that was marked */
     }
     kz_let_go_file(hidden);
     return answer;
@@ -192,15 +179,14 @@ KzAnswer kz_below_file(const KzOwn *own, KzFile *file, KazdrinEvent asked, const
     return answer.is_refused && answer.reply.status == KZS_NO_HANDLE ? reopened(own, file, asked, bytes, length) : answer;
 }
 
-static bool drop(PFLT_VOLUME volume, const char *key)
+static bool drop(KzName *name)
 {
     const KzOwn unheard = {.is_unheard = true, .is_waited_for = true};
-    KzFile *hidden = kz_new_file(volume, key, false);
-    hidden->users++;
-    hidden->is_own = hidden->is_by_key = true;
-    bool is_open = kz_below(&unheard, hidden, (KazdrinEvent){.event = KZE_CREATE, .volume = volume->id}, key, strlen(key)).reply.status == KZS_OK;
+    KzFile *hidden = new_hidden(name->volume, name->text, name);
+    bool is_open = kz_below(&unheard, hidden, (KazdrinEvent){.event = KZE_CREATE, .volume = name->volume->id}, name->text, strlen(name->text)).reply.status == KZS_OK;
     bool is_gone = is_open && kz_below(&unheard, hidden, (KazdrinEvent){.event = KZE_SET_DELETE, .handle = hidden->handle}, "", 0).reply.status == KZS_OK;
     if (is_open) {
+        kz_hide_number(hidden->handle);
         kz_below(&unheard, hidden, (KazdrinEvent){.event = KZE_CLEANUP, .handle = hidden->handle}, "", 0);
         is_gone &= kz_below(&unheard, hidden, (KazdrinEvent){.event = KZE_CLOSE, .handle = hidden->handle}, "", 0).reply.status == KZS_OK;
     }
@@ -277,10 +263,4 @@ void kz_close_if_due(KzFile *file)
     kz_below(&own, file, (KazdrinEvent){.event = KZE_CLOSE, .handle = file->handle}, "", 0);
 }
 
-static bool mark(KzFile *file)
-{
-    const KzOwn unheard = {.is_unheard = true, .is_waited_for = true};
-    return kz_below(&unheard, file, (KazdrinEvent){.event = KZE_SET_DELETE, .handle = file->handle}, "", 0).reply.status == KZS_OK;
-}
-
-const KzStore kz_manager_store = {mark, drop, cut, kz_write_unheard, kz_go_on_from_base};
+const KzStore kz_manager_store = {drop, cut, kz_write_unheard, kz_go_on_from_base};

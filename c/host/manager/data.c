@@ -156,17 +156,10 @@ void kz_free_data(KzOp *op)
 /* ---- What is asked for. */
 static void show_information(KzOp *op, FLT_PARAMETERS *shown)
 {
-    if (op->event == KZE_SET_SIZE) {
-        FILE_END_OF_FILE_INFORMATION end = {.EndOfFile.QuadPart = (LONGLONG)op->lent.offset};
-        op->shown.asked = copied(op, &end, sizeof end);
-        op->shown.asked_length = sizeof end;
-        shown->SetFileInformation.FileInformationClass = FileEndOfFileInformation;
-    } else {
-        FILE_DISPOSITION_INFORMATION gone = {TRUE};
-        op->shown.asked = copied(op, &gone, sizeof gone);
-        op->shown.asked_length = sizeof gone;
-        shown->SetFileInformation.FileInformationClass = FileDispositionInformation;
-    }
+    FILE_END_OF_FILE_INFORMATION end = {.EndOfFile.QuadPart = (LONGLONG)op->lent.offset};
+    op->shown.asked = copied(op, &end, sizeof end);
+    op->shown.asked_length = sizeof end;
+    shown->SetFileInformation.FileInformationClass = FileEndOfFileInformation;
     shown->SetFileInformation.Length = (ULONG)op->shown.asked_length;
     shown->SetFileInformation.InfoBuffer = op->shown.asked;
 }
@@ -205,7 +198,6 @@ static void show_parameters(KzOp *op, FLT_PARAMETERS *shown)
         show_buffer(op, shown);
         break;
     case KZE_SET_SIZE:
-    case KZE_SET_DELETE:
         show_information(op, shown);
         break;
     case KZE_LIST:
@@ -230,7 +222,6 @@ static ULONG irp_flags_of(uint8_t event)
         return IRP_CLOSE_OPERATION | IRP_SYNCHRONOUS_API;
     case KZE_QUERY_SIZE:
     case KZE_SET_SIZE:
-    case KZE_SET_DELETE:
         return IRP_BUFFERED_IO | IRP_SYNCHRONOUS_API;
     default:
         return IRP_SYNCHRONOUS_API;
@@ -345,9 +336,6 @@ static bool changed(KzOp *op, KazdrinEvent *event, const uint8_t **bytes, size_t
     case KZE_SET_SIZE:
         event->offset = (uint64_t)((PFILE_END_OF_FILE_INFORMATION)now->SetFileInformation.InfoBuffer)->EndOfFile.QuadPart;
         return now->SetFileInformation.FileInformationClass == FileEndOfFileInformation;
-    case KZE_SET_DELETE:
-        return now->SetFileInformation.FileInformationClass == FileDispositionInformation &&
-               ((PFILE_DISPOSITION_INFORMATION)now->SetFileInformation.InfoBuffer)->DeleteFile;
     default:
         return true;
     }

@@ -106,18 +106,31 @@ bool kz_take_create(KzOp *op)
 }
 
 /* ---- What a handle is good for. */
-bool kz_is_granted(const KzFile *file, const KazdrinEvent *asked)
+static ACCESS_MASK needed_to_set(ULONG class)
 {
-    switch (asked->event) {
-    case KZE_READ:
-        return file->access & (FILE_READ_DATA | FILE_EXECUTE);
-    case KZE_WRITE:
-        return file->access & (FILE_WRITE_DATA | FILE_APPEND_DATA);
-    case KZE_SET_SIZE:
-        return file->access & FILE_WRITE_DATA;
-    case KZE_SET_DELETE:
-        return file->access & DELETE;
+    switch (class) {
+    case FileBasicInformation:
+        return FILE_WRITE_ATTRIBUTES;
+    case FileRenameInformation:
+    case FileRenameInformationEx:
+    case FileDispositionInformation:
+    case FileDispositionInformationEx:
+        return DELETE;
+    case FileEndOfFileInformation:
+    case FileAllocationInformation:
+    case FileValidDataLengthInformation:
+        return FILE_WRITE_DATA;
     default:
-        return true;
+        return 0;
     }
+}
+
+bool kz_is_granted(const KzFile *file, const KazdrinEvent *asked, const KzAsked *carried)
+{
+    ACCESS_MASK needed = carried && carried->major == IRP_MJ_SET_INFORMATION ? needed_to_set(carried->code) : asked->event == KZE_SET_SIZE ? FILE_WRITE_DATA : 0;
+    if (asked->event == KZE_READ)
+        return file->access & (FILE_READ_DATA | FILE_EXECUTE);
+    if (asked->event == KZE_WRITE)
+        return file->access & (FILE_WRITE_DATA | FILE_APPEND_DATA);
+    return (file->access & needed) == needed;
 }

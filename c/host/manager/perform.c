@@ -58,6 +58,8 @@ static void put_carried(const KzOp *op, KzAnswer *answer)
 static void open_handle(KzOp *op, KzReply *reply)
 {
     kz_file_answered(op->file, reply->information);
+    if (!op->own.is_own)
+        reply->information = op->file->number;
     op->file->is_opening = false;
     reply->is_handle = 1;
     op->file->has_handle = true;
@@ -65,8 +67,6 @@ static void open_handle(KzOp *op, KzReply *reply)
     if (!op->own.is_unheard)
         kz_count_open(op->file);
     kz_scheduler->touch(&op->file->handle, 0, KZT_GIVES);
-    if (op->create.options & FILE_DELETE_ON_CLOSE)
-        kz_delete_on_close(op->file);
 }
 
 static void leave_unopened(KzFile *file)
@@ -91,8 +91,6 @@ static void note_end(KzOp *op, KzReply *reply)
         open_handle(op, reply);
     else if (op->event == KZE_CREATE)
         leave_unopened(op->file);
-    else if (op->event == KZE_SET_DELETE && is_right)
-        kz_note_mark(op->file);
     else if (op->event == KZE_CLEANUP && is_right)
         kz_cleanup_over(op->file);
     else if (op->event == KZE_CLOSE && is_right)
@@ -141,7 +139,7 @@ static bool close_due(void)
         return true;
     }
     file->is_close_due = false;
-    run(&(KzBegin){.event = {.event = KZE_CLOSE, .handle = file->handle}, .bytes = ""});
+    run(&(KzBegin){.event = {.event = KZE_CLOSE, .handle = file->number}, .bytes = ""});
     return true;
 }
 
@@ -197,21 +195,14 @@ void kz_settle(void)
     } while (kz_run_notice() || close_due() || kz_let_others() || kz.resumed);
 }
 
-/* A driver's own handle is no client's, nor is one before its create is over. */
-static bool may_ask(const KazdrinEvent *asked)
+/* The file of a client's handle, whose number isn't the manager's; a driver's own is no client's, nor is one before its create is over. */
+static bool find_file(KazdrinEvent *asked, KzFile **file)
 {
     bool is_on_volume = asked->event == KZE_CREATE || asked->event == KZE_LIST;
-    for (const KzFile *file = kz.files; !is_on_volume && file; file = file->next)
-        if ((file->has_handle || file->is_opening) && file->handle == asked->handle)
-            return file->has_handle && !file->is_own;
-    return true;
-}
-
-/* The system refuses what the handle isn't good for, before any filter hears of it. */
-static bool may_use(const KazdrinEvent *asked)
-{
-    const KzFile *file = asked->event == KZE_CREATE || asked->event == KZE_LIST ? NULL : kz_file_of(asked->handle);
-    return !file || kz_is_granted(file, asked);
+    *file = is_on_volume ? NULL : kz_file_of(asked->handle);
+    if (*file)
+        asked->handle = (*file)->handle;
+    return is_on_volume || *file;
 }
 
 /* The name of a create's file, and in the path's place the file's key. */
@@ -226,11 +217,9 @@ static KzName *name_of(KzBegin *asked)
     return name;
 }
 
-static KzFile *file_of(const KzBegin *asked, KzName *name)
+static KzFile *new_file(const KzBegin *asked, KzName *name)
 {
     bool is_list = asked->event.event == KZE_LIST;
-    if (asked->event.event != KZE_CREATE && !is_list)
-        return kz_file_of(asked->event.handle);
     PFLT_VOLUME volume = kz.volumes[asked->event.volume];
     bool is_directory = is_list ? !asked->path : kz_opens_directory(asked->create, volume, asked->path);
     KzFile *made = kz_new_file(volume, asked->path ? asked->path : "", is_directory);
@@ -254,22 +243,21 @@ static KzAnswer begin(const KzBegin *begun)
 {
     KzBegin asked = *begun;
     const KzCreate usual = kz_usual_create(kz_disposition_of((uint8_t)asked.event.mode), false);
-    if (!may_ask(&asked.event))
+    KzFile *file;
+    if (!find_file(&asked.event, &file))
         return refused(KZS_NO_HANDLE);
-    if (!may_use(&asked.event))
+    if (file && !kz_is_granted(file, &asked.event, asked.carried)) /* the system refuses it, before any filter hears of it */
         return refused(KZS_ACCESS_DENIED);
     if (!asked.create)
         asked.create = &usual;
     KzName *name = name_of(&asked);
-    KzFile *closing = asked.event.event == KZE_CLEANUP ? kz_file_of(asked.event.handle) : NULL;
-    if (closing)
-        kz_begin_cleanup(closing);
     KzTold told = kz_event_with(kz_worker(), asked.event, asked.bytes, asked.length);
     if (told.status != KZS_OK) {
         kz_let_go_name(name);
         return refused(told.status);
     }
-    KzFile *file = file_of(&asked, name);
+    if (!file)
+        file = new_file(&asked, name);
     KzOp *op = kz_new_op(told.told.operation, asked.event, file, file->volume);
     op->own.irp_flags = asked.irp_flags;
     op->own.worker = kz_worker();
@@ -328,6 +316,12 @@ KzReply kz_perform_create(uint8_t volume, const char *path, const KzCreate *crea
 KzReply kz_ask_file(uint64_t handle, const KzAsked *asked)
 {
     return kz_perform_as(&(KzBegin){.event = {.event = KZE_FLUSH, .handle = handle}, .bytes = "", .carried = asked});
+}
+
+KzReply kz_delete_file(uint64_t handle)
+{
+    const FILE_DISPOSITION_INFORMATION gone = {TRUE};
+    return kz_ask_file(handle, &(KzAsked){.major = IRP_MJ_SET_INFORMATION, .code = FileDispositionInformation, .input = &gone, .input_size = sizeof gone, .irp_flags = IRP_BUFFERED_IO});
 }
 
 KzReply kz_ask_file_twice(uint64_t handle, const KzAsked *first, const KzAsked *second)

@@ -28,6 +28,8 @@ void kz_go_on(KzOp *op);
 void kz_cleanup_over(KzFile *file);
 /* A client's, by a handle, or on a volume. The reply is passed on. */
 KzReply kz_ask_file(uint64_t handle, const KzAsked *asked);
+/* The file is marked to go with its last handle. */
+KzReply kz_delete_file(uint64_t handle);
 /* After a success the second one follows, whose reply isn't passed on. */
 KzReply kz_ask_file_twice(uint64_t handle, const KzAsked *first, const KzAsked *second);
 KzReply kz_ask_volume(PFLT_VOLUME volume, const KzAsked *asked);

@@ -128,12 +128,14 @@ static KzReply ask_dispose(char **words)
             is_extended = extended.Flags |= FILE_DISPOSITION_POSIX_SEMANTICS;
         else if (strcmp(*word, "force") == 0)
             is_extended = extended.Flags |= FILE_DISPOSITION_IGNORE_READONLY_ATTRIBUTE;
+        else if (strcmp(*word, "onclose") == 0)
+            is_extended = extended.Flags |= FILE_DISPOSITION_ON_CLOSE;
         else if (strcmp(*word, "ex") == 0)
             is_extended = true;
         else if (strcmp(*word, "keep") != 0)
             return kz_wrong();
     }
-    const FILE_DISPOSITION_INFORMATION plain = {extended.Flags != 0};
+    const FILE_DISPOSITION_INFORMATION plain = {extended.Flags & FILE_DISPOSITION_DELETE};
     if (is_extended)
         return set(words[1], FileDispositionInformationEx, &extended, sizeof extended);
     return set(words[1], FileDispositionInformation, &plain, sizeof plain);

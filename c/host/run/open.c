@@ -63,6 +63,9 @@ static void free_all(void)
     for (size_t at = 0; at < kz.instances_count; at++)
         free(kz.instances[at]);
     free(kz.instances);
+    free(kz.unheard);
+    kz.unheard = NULL;
+    kz.unheard_count = 0;
     kz.instances = NULL;
     kz.filters_count = kz.volumes_count = kz.instances_count = 0;
 }

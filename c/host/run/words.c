@@ -291,16 +291,10 @@ static KzReply ask_flush(char **words)
     return on_handle(words, KZE_FLUSH);
 }
 
-/* The mark is the manager's; where the file system has a word in it, it is asked. */
 static KzReply ask_set_delete(char **words)
 {
     uint64_t handle;
-    const FILE_DISPOSITION_INFORMATION gone = {TRUE};
-    if (!kz_read_handle(words[1], &handle))
-        return kz_wrong();
-    if (kz_marks_by_itself(kz_file_of(handle)))
-        return on_handle(words, KZE_SET_DELETE);
-    return kz_set_file(handle, FileDispositionInformation, &gone, sizeof gone);
+    return kz_read_handle(words[1], &handle) ? kz_delete_file(handle) : kz_wrong();
 }
 
 static KzReply ask_close(char **words)

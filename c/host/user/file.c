@@ -20,7 +20,7 @@ static const KzOwn requests = {.is_waited_for = true, .is_user = true};
 static KzAnswer ask(KzFile *file, KazdrinEvent asked, const void *bytes, size_t length)
 {
     asked.handle = file->handle;
-    if (!kz_is_granted(file, &asked))
+    if (!kz_is_granted(file, &asked, NULL))
         return (KzAnswer){.reply.status = KZS_ACCESS_DENIED, .is_refused = true};
     return kz_below(&requests, file, asked, bytes, length);
 }

@@ -1,13 +1,22 @@
-/* What a file object says of a deletion: in the manner of the kit's sample `delete`, by a query of the filter's own behind the cleanup. */
+/* What a file object says of a deletion: in the manner of the kit's sample `delete`, by queries of the filter's own before the cleanup and behind it. */
 #include <fltKernel.h>
 
 static PFLT_FILTER gFilter;
 
 static FLT_PREOP_CALLBACK_STATUS PreCleanup(PFLT_CALLBACK_DATA Data, PCFLT_RELATED_OBJECTS FltObjects, PVOID *Context)
 {
+    FILE_INTERNAL_INFORMATION id;
+    FILE_STANDARD_INFORMATION information;
+    NTSTATUS asked, standard;
+
     UNREFERENCED_PARAMETER(Data);
-    UNREFERENCED_PARAMETER(FltObjects);
     UNREFERENCED_PARAMETER(Context);
+    asked = FltQueryInformationFile(FltObjects->Instance, FltObjects->FileObject, &id, sizeof(id), FileInternalInformation, NULL);
+    standard = FltQueryInformationFile(FltObjects->Instance, FltObjects->FileObject, &information, sizeof(information), FileStandardInformation, NULL);
+    if (!NT_SUCCESS(asked) || !NT_SUCCESS(standard))
+        DbgPrint("Deletes: before the cleanup ID 0x%08x, size 0x%08x\n", asked, standard);
+    else if (information.DeletePending)
+        DbgPrint("Deletes: %wZ of %I64d bytes is to go\n", &FltObjects->FileObject->FileName, information.EndOfFile.QuadPart);
     return FLT_PREOP_SYNCHRONIZE;
 }
 

@@ -22,8 +22,6 @@ class File:
         self.links = 0
         self.handles = 0
         self.mark = None            # the name that is to go
-        self.by_manager = False     # the manager has a mark, which stays until the last close
-        self.is_kept = False        # though it was taken back
 
     def is_pending(self):
         return self.mark is not None
@@ -79,7 +77,7 @@ class Model:
     # ---- Opening and closing.
     def create(self, slot, mode, text, is_directory):
         found = self.find(text)
-        if found and (found.file.is_pending() or found.file.by_manager):
+        if found and found.file.is_pending():
             return MARKED, None, None
         if self.has_file_above(text):
             return DEVICE, NO_PATH, None
@@ -104,19 +102,9 @@ class Model:
             if not file.mark.is_gone:
                 self.remove(file.mark)
             file.mark = None
-        if is_last:
-            file.by_manager = file.is_kept = False
         return OK, None, None
 
     # ---- Marks.
-    def set_delete(self, slot):
-        handle = self.handles[slot]
-        file = handle.file
-        if file.is_directory or file.links != 1 or handle.name.is_gone:
-            return self.dispose(slot, True, False)
-        file.mark, file.by_manager, file.is_kept = handle.name, True, False
-        return OK, None, None
-
     def dispose(self, slot, is_gone, is_posix):
         handle = self.handles[slot]
         file = handle.file
@@ -284,7 +272,7 @@ def on_handle(draw, model, slot, kind, ask):
         words = "delete posix" if is_gone and is_posix else "delete" if is_gone else "keep"
         ask(f"dispose {handle} {words}", model.dispose(slot, is_gone, is_posix))
     elif kind < 79:
-        ask(f"setdelete {handle}", model.set_delete(slot))
+        ask(f"setdelete {handle}", model.dispose(slot, True, False))
     elif kind < 84:
         ask(f"query {handle} standard", model.standard(slot))
     elif kind < 88:

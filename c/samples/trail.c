@@ -1,5 +1,5 @@
 /* Follows files through their renames. A stream context has the file's name as it is now, and counts renames, links and writes; it is said once the stream is over. A program's rename to
- * NAME.exe leads to NAME.exe.held, by a buffer of the filter's own in place of the caller's. */
+ * NAME.exe leads to NAME.exe.held, by a buffer of the filter's own in place of the caller's, if it is in the same folder. */
 #include <fltKernel.h>
 
 #define TRAIL_NAME_TAG 'mNrT'
@@ -179,7 +179,8 @@ static FLT_PREOP_CALLBACK_STATUS TrailPreSetInformation(_Inout_ PFLT_CALLBACK_DA
     if (!TrailIsRename(Data) && !TrailIsLink(Data)) {
         return FLT_PREOP_SUCCESS_NO_CALLBACK;
     }
-    if (!TrailIsRename(Data) || !TrailIsHeld(FltObjects, rename)) {
+    /* Where the folder of the new name was opened, the name in that folder's file object counts, and none in a buffer. */
+    if (!TrailIsRename(Data) || Data->Iopb->Parameters.SetFileInformation.ParentOfTarget != NULL || !TrailIsHeld(FltObjects, rename)) {
         return FLT_PREOP_SYNCHRONIZE;
     }
     longer = TrailLengthen(rename, &length);

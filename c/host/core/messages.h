@@ -85,6 +85,7 @@ enum {
     KZM_ROUTINE_LEFT = 186,
     KZM_IRP = 187,
     KZM_NAME_QUERY = 188,
+    KZM_OTHER_TARGET = 189,
     /* The driver's own. */
     KZM_ASSERT = 191,
     KZM_BUG_CHECK = 192,

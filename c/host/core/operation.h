@@ -21,6 +21,8 @@ struct KzCarried {
     uint8_t *output; /* the requestor's own buffer for the answer, and its size; and how many bytes it sent */
     size_t output_size, input_size;
     uint64_t information;
+    KzFile *target; /* the folder that a rename leads to, open as long as that is under way; else NULL */
+    bool is_misled; /* a filter put another name into its buffer */
 };
 
 /* What is asked for. */
@@ -32,6 +34,7 @@ struct KzAsked {
     size_t input_size, room;
     uint64_t from, length; /* of a lock */
     const char *pattern;
+    KzFile *target; /* as the rename that has it */
     bool has_no_file, waits; /* it may wait in the file system */
 };
 
@@ -169,6 +172,7 @@ struct KzOp {
     PECP_LIST ecps; /* that a filter put into a create */
     KzCancel cancel;
     bool is_cancelled; /* a create that a filter cancelled in its postoperation */
+    bool is_reopened;  /* a create that failed, and that a filter sent down again: its file is open all the same */
     struct {
         const struct KzBytes *point; /* of the reparse point that a create came upon; NULL if it came upon none */
         size_t rest;                 /* letters of its name behind that */

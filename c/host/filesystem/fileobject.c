@@ -47,18 +47,24 @@ KzFile *kz_file_with(PFILE_OBJECT object)
     return NULL;
 }
 
-KzFile *kz_new_file(PFLT_VOLUME volume, const char *path, bool is_directory)
+void kz_name_object(KzFile *file, const char *path)
 {
-    KzFile *file = kz_memory(sizeof *file);
-    char text[260] = "/";
-    file->volume = volume;
-    file->is_directory = is_directory;
-    strncpy(file->path, path, sizeof file->path - 1);
-    memcpy(text + 1, file->path, sizeof file->path);
+    char text[600];
+    snprintf(text, sizeof text, "/%s", path);
+    kz_free_file_name(file);
     if (!kz_give_name(&file->object.FileName, text, false)) {
         fprintf(stderr, "no memory\n");
         exit(1);
     }
+}
+
+KzFile *kz_new_file(PFLT_VOLUME volume, const char *path, bool is_directory)
+{
+    KzFile *file = kz_memory(sizeof *file);
+    file->volume = volume;
+    file->is_directory = is_directory;
+    strncpy(file->path, path, sizeof file->path - 1);
+    kz_name_object(file, file->path);
     file->object.Type = 5;
     file->object.Size = sizeof(FILE_OBJECT);
     file->object.DeviceObject = &volume->disk;

@@ -9,6 +9,8 @@ KzFile *kz_file_of(uint64_t number);
 /* That one is no client's, and its number is nobody's. */
 void kz_hide_number(uint64_t handle);
 KzFile *kz_file_with(PFILE_OBJECT object);
+/* The name in its file object. */
+void kz_name_object(KzFile *file, const char *path);
 KzFile *kz_new_file(PFLT_VOLUME volume, const char *path, bool is_directory);
 void kz_file_opened(KzFile *file);
 void kz_file_answered(KzFile *file, uint64_t handle);

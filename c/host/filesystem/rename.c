@@ -58,6 +58,16 @@ bool kz_destination(const KzFile *file, HANDLE root, const WCHAR *name, ULONG le
     return put > 0 && (size_t)put < size && put <= LONGEST_PATH;
 }
 
+bool kz_name_in_target(const KzFile *folder, char *text, size_t size)
+{
+    char said[300];
+    if (!folder || !folder->name || kz_narrow(said, sizeof said, &folder->object.FileName) >= sizeof said)
+        return false;
+    const char *slash = strrchr(said, '/'), *above = folder->name->text;
+    int put = snprintf(text, size, "%s%s%s", above, *above ? "/" : "", slash ? slash + 1 : said);
+    return put > 0 && (size_t)put < size && put <= LONGEST_PATH;
+}
+
 /* ---- What stands in the way: the refusals in the order of the kit's file systems. */
 static bool has_open_below(PFLT_VOLUME volume, const char *text)
 {

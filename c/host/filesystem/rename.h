@@ -5,6 +5,8 @@
 #include "host.h"
 
 /* Where a rename or a link leads to, as the kit's three fields say it; false if that is no name. */
+/* The name that a rename gives whose folder was opened: in that folder, by the last part of what its file object says. */
+bool kz_name_in_target(const KzFile *folder, char *text, size_t size);
 bool kz_destination(const KzFile *file, HANDLE root, const WCHAR *name, ULONG length, char *text, size_t size);
 NTSTATUS kz_rename(KzFile *file, const char *text, bool is_link, ULONG flags);
 /* What lies below a name, and its streams, go along; or the streams alone. */

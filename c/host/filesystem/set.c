@@ -3,6 +3,7 @@
 
 #include "core/operation.h"
 #include "filesystem/deletion.h"
+#include "filesystem/fileobject.h"
 #include "filesystem/name.h"
 #include "filesystem/notice.h"
 #include "filesystem/query.h"
@@ -49,7 +50,9 @@ static NTSTATUS set_name(KzFile *file, const FLT_PARAMETERS *now, bool is_link, 
     size_t head = offsetof(FILE_RENAME_INFORMATION, FileName);
     if (now->SetFileInformation.Length < head || now->SetFileInformation.Length - head < said->FileNameLength)
         return STATUS_INFO_LENGTH_MISMATCH;
-    if (!kz_destination(file, said->RootDirectory, said->FileName, said->FileNameLength, text, sizeof text))
+    bool is_right = now->SetFileInformation.ParentOfTarget ? kz_name_in_target(kz_file_with(now->SetFileInformation.ParentOfTarget), text, sizeof text)
+                                                           : kz_destination(file, said->RootDirectory, said->FileName, said->FileNameLength, text, sizeof text);
+    if (!is_right)
         return STATUS_OBJECT_NAME_INVALID;
     return kz_rename(file, text, is_link, is_extended ? said->Flags : said->ReplaceIfExists ? FILE_RENAME_REPLACE_IF_EXISTS : 0);
 }

@@ -90,8 +90,11 @@ static void give_attributes(KzNode *node, const KzCreate *create)
         node->allocation = kz_allocated(node->volume, (uint64_t)create->allocation);
 }
 
-static ULONG_PTR result_of(const KzCreate *create, bool was_there)
+static ULONG_PTR result_of(const KzCreate *create, PFLT_VOLUME volume, bool was_there)
 {
+    const KzName *target = create->target ? kz_find_name(volume, create->target) : NULL;
+    if (create->target)
+        return target && target->node->exists ? FILE_EXISTS : FILE_DOES_NOT_EXIST;
     if (!was_there)
         return FILE_CREATED;
     if (!is_emptied(create))
@@ -105,9 +108,9 @@ void kz_note_opened(KzOp *op, bool was_there)
     const KzCreate *create = &op->create;
     file->object.Flags = (file->object.Flags & ~(ULONG)FO_SYNCHRONOUS_IO) | flags_of(create);
     file->access = create->access;
-    file->created = result_of(create, was_there);
+    file->created = result_of(create, file->volume, was_there);
     share(file, create);
-    if (file->created == FILE_OPENED)
+    if (file->created == FILE_OPENED || create->target)
         return;
     KzNode *node = file->name ? file->name->node : NULL;
     if (was_there && node && !node->is_directory) {

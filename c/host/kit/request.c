@@ -1,8 +1,11 @@
 /* Operations that a filter makes up by itself, in callback data of its own; and those of a callback that it sends down again. */
 #include "core/client.h"
+#include "core/operation.h"
 #include "core/piece.h"
 #include "core/told.h"
+#include "filesystem/name.h"
 #include "manager/below.h"
+#include "manager/disposition.h"
 #include "manager/instance.h"
 #include "manager/operation.h"
 #include "kit/control.h"
@@ -147,7 +150,24 @@ NTSTATUS FltPerformAsynchronousIo(PFLT_CALLBACK_DATA CallbackData, PFLT_COMPLETE
     return STATUS_PENDING;
 }
 
-/* A create can't be sent down again here. */
+/* A create that failed is sent down again, with the same file object: if it comes to something, that is open for who asked first. */
+static NTSTATUS open_again(PFLT_INSTANCE instance, KzOp *op, PULONG done)
+{
+    const char *path = kz_name_now(op->file);
+    *done = 0;
+    if (op->lent.status == KZS_OK || op->is_reopened || kz_me->place.callback != KZ_IN_POST || !kz_take_create(op)) {
+        kz_tell(KZM_OWN_IO, "FltReissueSynchronousIo", "a create is sent down again in its postoperation alone, and if it failed: it answers STATUS_NOT_SUPPORTED");
+        return STATUS_NOT_SUPPORTED;
+    }
+    const KzOwn own = {.initiator = instance, .is_waited_for = true, .ecps = op->ecps, .create = &op->create};
+    KazdrinEvent event = {.event = KZE_CREATE, .volume = op->volume->id, .mode = kz_mode_of(op->create.options >> 24)};
+    NTSTATUS status = kz_status_of(kz_below(&own, op->file, event, path, strlen(path)));
+    op->is_reopened = NT_SUCCESS(status) && status != STATUS_REPARSE;
+    op->other = op->is_reopened ? STATUS_SUCCESS : status;
+    *done = op->is_reopened ? (ULONG)op->file->created : 0;
+    return status;
+}
+
 VOID FltReissueSynchronousIo(PFLT_INSTANCE InitiatingInstance, PFLT_CALLBACK_DATA CallbackData)
 {
     KZ_CALL();
@@ -159,8 +179,13 @@ VOID FltReissueSynchronousIo(PFLT_INSTANCE InitiatingInstance, PFLT_CALLBACK_DAT
     }
     kz_me->reissues.instance = InitiatingInstance;
     kz_me->reissues.is_user = kz_requestor_of(op) == UserMode;
-    CallbackData->IoStatus.Status = carry_out(InitiatingInstance, CallbackData->Iopb, &done, __func__);
+    bool is_create = op->event == KZE_CREATE && !op->carried;
+    CallbackData->IoStatus.Status = is_create ? open_again(InitiatingInstance, op, &done) : carry_out(InitiatingInstance, CallbackData->Iopb, &done, __func__);
     kz_me->reissues.instance = NULL;
     CallbackData->IoStatus.Information = done;
+    if (is_create) {
+        CallbackData->TagData = NULL;
+        op->shown.status = CallbackData->IoStatus; /* those above see it */
+    }
     op->shown.parameters = *op->iopb; /* what it changed there has counted */
 }

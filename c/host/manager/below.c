@@ -21,6 +21,8 @@
 #include "manager/filter.h"
 #include "manager/operation.h"
 #include "manager/perform.h"
+#include "manager/reparse.h"
+#include "manager/target.h"
 
 #include <stdlib.h>
 
@@ -82,11 +84,22 @@ static KzAnswer begin(const KzOwn *own, KzFile *file, KazdrinEvent asked, const 
     KzAnswer answer = {0};
     if (asked.event == KZE_CREATE)
         name_file(file, bytes, &bytes, &length);
+    KzAsked renames;
+    const KzAsked *carried = own->carried;
+    NTSTATUS wrong = kz_put_target(own->initiator, file, &carried, &renames);
+    if (!NT_SUCCESS(wrong)) {
+        answer = kz_refused(wrong);
+        answer.is_refused = true;
+        return answer;
+    }
     KzTold begun = kz_event_with(kz_worker(), asked, bytes, length);
     answer.reply.status = begun.status;
     answer.is_refused = begun.status != KZS_OK;
-    if (answer.is_refused)
+    if (answer.is_refused) {
+        if (carried && carried->target)
+            kz_close_target(own->initiator, carried->target);
         return answer;
+    }
     KzOp *op = kz_new_op(begun.told.operation, asked, file, file->volume);
     op->own = *own;
     op->own.is_own = true;
@@ -101,8 +114,8 @@ static KzAnswer begin(const KzOwn *own, KzFile *file, KazdrinEvent asked, const 
         const KzCreate usual = kz_usual_create(kz_disposition_of((uint8_t)asked.mode), file->is_directory);
         kz_begin_create(op, own->create ? own->create : &usual);
     }
-    if (own->carried)
-        kz_begin_carried(op, own->carried);
+    if (carried)
+        kz_begin_carried(op, carried);
     if (kz_carry_to_end(op))
         return kz_collect(op);
     return (KzAnswer){.reply = {.held = 1, .operation = op->id}};

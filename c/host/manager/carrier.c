@@ -11,6 +11,7 @@
 #include "core/told.h"
 #include "filesystem/control.h"
 #include "filesystem/entries.h"
+#include "filesystem/rename.h"
 #include "filesystem/set.h"
 #include "filesystem/volumes.h"
 #include "manager/below.h"
@@ -124,6 +125,19 @@ static void check_swap(KzOp *op, bool has_post)
         kz_tell(KZM_LOST_SWAP, "FltSetCallbackDataDirty", "a buffer was swapped and no postoperation is asked for: what comes into it never comes to the caller's");
 }
 
+/* The folder of a rename was opened, with the name in its file object: another one in the buffer leads nowhere. */
+static void check_target(KzOp *op)
+{
+    const FILE_RENAME_INFORMATION *said = op->iopb->Parameters.SetFileInformation.InfoBuffer;
+    char now[600], opened[600];
+    if (!op->carried->target || op->carried->is_misled || !kz_name_in_target(op->carried->target, opened, sizeof opened))
+        return;
+    bool is_same = kz_destination(op->file, said->RootDirectory, said->FileName, said->FileNameLength, now, sizeof now) && strcmp(now, opened) == 0;
+    op->carried->is_misled = !is_same;
+    if (!is_same)
+        kz_tell(KZM_OTHER_TARGET, "FltSetCallbackDataDirty", "another name in a rename whose folder was opened: the name of ParentOfTarget counts");
+}
+
 void kz_take_carried_pre(KzOp *op, bool has_post, bool is_completed)
 {
     KzCarried *carried = op->carried;
@@ -139,6 +153,7 @@ void kz_take_carried_pre(KzOp *op, bool has_post, bool is_completed)
         return;
     }
     check_swap(op, has_post);
+    check_target(op);
     keep_description(op);
     carried->now = op->iopb->Parameters;
     carried->operation_flags = op->iopb->OperationFlags;

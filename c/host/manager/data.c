@@ -236,7 +236,7 @@ static void show(KzOp *op, PFLT_INSTANCE instance)
     op->iopb->IrpFlags = irp_flags_of(op->event) | op->own.irp_flags;
     op->iopb->MajorFunction = kz_major_of(op);
     op->iopb->MinorFunction = op->event == KZE_LIST ? IRP_MN_QUERY_DIRECTORY : IRP_MN_NORMAL;
-    op->iopb->OperationFlags = op->event == KZE_LIST ? SL_RESTART_SCAN : 0;
+    op->iopb->OperationFlags = op->event == KZE_LIST ? SL_RESTART_SCAN : op->create.target ? SL_OPEN_TARGET_DIRECTORY | SL_FORCE_ACCESS_CHECK : 0;
     op->iopb->TargetFileObject = &op->file->object;
     op->iopb->TargetInstance = instance;
     op->shown.asked = NULL;
@@ -463,7 +463,7 @@ static void show_answer(KzOp *op)
     switch (op->event) {
     case KZE_CREATE:
         op->data->TagData = op->other == STATUS_REPARSE ? op->tag : NULL;
-        op->data->IoStatus.Information = op->lent.status && !op->data->TagData ? 0 : op->file->created;
+        op->data->IoStatus.Information = op->lent.status && !op->data->TagData && !op->is_reopened ? 0 : op->file->created;
         break;
     case KZE_READ:
         memcpy(below, op->shown.answered, least(op->shown.answered_length, room));
@@ -504,7 +504,7 @@ void kz_show_post(KzOp *op, PFLT_INSTANCE instance)
     op->shown.answered = copied(op, kz_me->room, op->lent.length);
     op->shown.answered_length = op->lent.length;
     op->data->Flags |= FLTFL_CALLBACK_DATA_POST_OPERATION;
-    op->data->IoStatus.Status = op->other ? op->other : kz_ntstatus(op->lent.status);
+    op->data->IoStatus.Status = op->other ? op->other : op->is_reopened ? STATUS_SUCCESS : kz_ntstatus(op->lent.status);
     show_answer(op);
     op->shown.status = op->data->IoStatus;
     op->shown.parameters = *op->iopb;

@@ -85,6 +85,8 @@ static void fill_set(KzOp *op, const KzAsked *asked, FLT_PARAMETERS *now)
     now->SetFileInformation.InfoBuffer = name;
     if (is_name && asked->input_size >= sizeof(FILE_RENAME_INFORMATION))
         now->SetFileInformation.ReplaceIfExists = name->ReplaceIfExists;
+    now->SetFileInformation.ParentOfTarget = asked->target ? &asked->target->object : NULL;
+    op->carried->target = asked->target;
 }
 
 static void fill_volume(KzOp *op, const KzAsked *asked, FLT_PARAMETERS *now)

@@ -22,6 +22,7 @@
 #include "manager/reference.h"
 #include "manager/reparse.h"
 #include "manager/says.h"
+#include "manager/target.h"
 
 static KzAnswer refused(uint32_t status)
 {
@@ -106,12 +107,16 @@ KzAnswer kz_collect(KzOp *op)
     KzAnswer answer = {.reply = {.status = told.status, .information = told.information, .operation = op->id}, .other = op->other, .length = told.length};
     if (op->served.is_there)
         put_served(op, &answer);
+    if (op->carried && op->carried->target)
+        kz_close_target(op->own.initiator, op->carried->target);
     if (op->carried)
         put_carried(op, &answer);
     kz_scheduler->touch(op->file, 0, KZT_GIVES);
     if (op->other == STATUS_REPARSE)
         answer.other = kz_note_reparse(op);
-    if (op->is_cancelled && answer.reply.status == KZS_OK)
+    if (op->is_reopened)
+        answer.reply = (KzReply){.status = KZS_OK, .information = op->own.is_own ? op->file->handle : op->file->number, .operation = op->id, .is_handle = 1};
+    else if (op->is_cancelled && answer.reply.status == KZS_OK)
         answer.reply = kz_cancelled(op, &answer.other);
     else
         note_end(op, &answer.reply);
@@ -250,10 +255,16 @@ static KzAnswer begin(const KzBegin *begun)
         return refused(KZS_ACCESS_DENIED);
     if (!asked.create)
         asked.create = &usual;
+    KzAsked renames;
+    NTSTATUS wrong = kz_put_target(NULL, file, &asked.carried, &renames);
+    if (!NT_SUCCESS(wrong))
+        return kz_refused(wrong);
     KzName *name = name_of(&asked);
     KzTold told = kz_event_with(kz_worker(), asked.event, asked.bytes, asked.length);
     if (told.status != KZS_OK) {
         kz_let_go_name(name);
+        if (asked.carried && asked.carried->target)
+            kz_close_target(NULL, asked.carried->target);
         return refused(told.status);
     }
     if (!file)

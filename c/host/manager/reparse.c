@@ -29,7 +29,7 @@ NTSTATUS kz_note_reparse(const KzOp *op)
     return STATUS_REPARSE;
 }
 
-static KzAnswer refused(NTSTATUS status)
+KzAnswer kz_refused(NTSTATUS status)
 {
     bool is_exact;
     KzAnswer answer = {.reply.status = kz_number(status, &is_exact)};
@@ -45,7 +45,7 @@ KzAnswer kz_follow(KzAnswer answer, void *given, KzBeginCreate *begin)
         memcpy(name, kz_me->reparsed, sizeof name);
         PFLT_VOLUME volume = kz_volume_named(name, &path);
         if (!volume || round == MOST)
-            return refused(volume ? STATUS_OBJECT_NAME_NOT_FOUND : STATUS_OBJECT_PATH_NOT_FOUND);
+            return kz_refused(volume ? STATUS_OBJECT_NAME_NOT_FOUND : STATUS_OBJECT_PATH_NOT_FOUND);
         path += *path == '/';
         answer = begin(given, (KazdrinEvent){.event = KZE_CREATE, .volume = volume->id, .mode = kz_mode_of(kz_me->reparsed_create.options >> 24)}, path);
     }

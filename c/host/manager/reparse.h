@@ -8,6 +8,8 @@
 /* Begins a create, and its answer. Of an answer STATUS_REPARSE the create that comes in its place is begun, and so on. */
 typedef KzAnswer KzBeginCreate(void *given, KazdrinEvent asked, const char *path);
 
+/* The answer of what never began. */
+KzAnswer kz_refused(NTSTATUS status);
 KzAnswer kz_follow(KzAnswer answer, void *given, KzBeginCreate *begin);
 /* What its answer counts as: STATUS_REPARSE, or that nobody took the tag that it came upon. */
 NTSTATUS kz_note_reparse(const KzOp *op);

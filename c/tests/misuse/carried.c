@@ -56,6 +56,19 @@ static FLT_POSTOP_CALLBACK_STATUS PostQuery(PFLT_CALLBACK_DATA Data, PCFLT_RELAT
     return FLT_POSTOP_FINISHED_PROCESSING;
 }
 
+/* The name in the buffer of a rename whose folder is opened isn't the one that counts. */
+static FLT_PREOP_CALLBACK_STATUS PreSet(PFLT_CALLBACK_DATA Data, PCFLT_RELATED_OBJECTS FltObjects, PVOID *CompletionContext)
+{
+    PFILE_RENAME_INFORMATION rename = Data->Iopb->Parameters.SetFileInformation.InfoBuffer;
+
+    UNREFERENCED_PARAMETER(CompletionContext);
+    if (Data->Iopb->Parameters.SetFileInformation.FileInformationClass == FileRenameInformation && IsNamed(FltObjects->FileObject, L"\\led")) {
+        rename->FileName[rename->FileNameLength / sizeof(WCHAR) - 1] = L'x';
+        FltSetCallbackDataDirty(Data);
+    }
+    return FLT_PREOP_SUCCESS_NO_CALLBACK;
+}
+
 /* Names are asked for where the file system may wait for the caller. */
 static FLT_PREOP_CALLBACK_STATUS PreName(PFLT_CALLBACK_DATA Data, PCFLT_RELATED_OBJECTS FltObjects, PVOID *CompletionContext)
 {
@@ -102,6 +115,7 @@ static NTSTATUS Unload(FLT_FILTER_UNLOAD_FLAGS Flags)
 }
 
 CONST FLT_OPERATION_REGISTRATION Callbacks[] = {{IRP_MJ_QUERY_INFORMATION, 0, PreQuery, PostQuery},
+                                                {IRP_MJ_SET_INFORMATION, 0, PreSet, NULL},
                                                 {IRP_MJ_READ, 0, PreName, NULL},
                                                 {IRP_MJ_CLOSE, 0, PreName, NULL},
                                                 {IRP_MJ_ACQUIRE_FOR_SECTION_SYNCHRONIZATION, 0, PreAcquire, NULL},

@@ -155,6 +155,7 @@ typedef struct {
     struct KzContextState *context;
     struct KzDeviceState *device;
     struct KzDpcState *dpc;
+    struct KzFileContextState *filecontext;
     struct KzHandleState *handle;
     struct KzHeldState *held;
     struct KzKeptState *kept;

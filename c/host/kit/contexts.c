@@ -14,12 +14,14 @@ VOID FltGetContexts(PCFLT_RELATED_OBJECTS FltObjects, FLT_CONTEXT_TYPE DesiredCo
         FltGetStreamContext(FltObjects->Instance, FltObjects->FileObject, &Contexts->StreamContext);
     if (DesiredContexts & FLT_STREAMHANDLE_CONTEXT && FltObjects->FileObject)
         FltGetStreamHandleContext(FltObjects->Instance, FltObjects->FileObject, &Contexts->StreamHandleContext);
+    if (DesiredContexts & FLT_FILE_CONTEXT && FltObjects->FileObject)
+        FltGetFileContext(FltObjects->Instance, FltObjects->FileObject, &Contexts->FileContext);
 }
 
 VOID FltReleaseContexts(PFLT_RELATED_CONTEXTS Contexts)
 {
     KZ_CALL();
-    PFLT_CONTEXT all[] = {Contexts->VolumeContext, Contexts->InstanceContext, Contexts->StreamContext, Contexts->StreamHandleContext};
+    PFLT_CONTEXT all[] = {Contexts->VolumeContext, Contexts->InstanceContext, Contexts->StreamContext, Contexts->StreamHandleContext, Contexts->FileContext};
     for (size_t at = 0; at < sizeof all / sizeof all[0]; at++)
         if (all[at])
             FltReleaseContext(all[at]);
@@ -43,29 +45,36 @@ VOID FltReleaseContextsEx(SIZE_T ContextsSize, PFLT_RELATED_CONTEXTS_EX Contexts
     FltReleaseContexts((PFLT_RELATED_CONTEXTS)Contexts);
 }
 
+/* The file system has none before it opened the file, nor of a volume. */
+static bool has_contexts(PFILE_OBJECT object)
+{
+    const KzFile *file = kz_file_with(object);
+    return file && object->FsContext && file->name;
+}
+
+/* Those of NTFS and ReFS have some by themselves; to others the filter manager gives them. */
 BOOLEAN FltSupportsFileContexts(PFILE_OBJECT FileObject)
 {
     KZ_INSIDE();
-    (void)FileObject;
-    return FALSE;
+    const KzFile *file = kz_file_with(FileObject);
+    return has_contexts(FileObject) && (file->volume->type == FLT_FSTYPE_NTFS || file->volume->type == FLT_FSTYPE_REFS);
 }
 
 BOOLEAN FltSupportsFileContextsEx(PFILE_OBJECT FileObject, PFLT_INSTANCE Instance)
 {
     KZ_INSIDE();
-    (void)FileObject, (void)Instance;
-    return FALSE;
+    (void)Instance;
+    return has_contexts(FileObject);
 }
 
 BOOLEAN FltSupportsStreamContexts(PFILE_OBJECT FileObject)
 {
     KZ_INSIDE();
-    KzFile *file = kz_file_with(FileObject);
-    return file && !file->is_directory && FileObject->FsContext; /* the file system has none before it opened the file */
+    return has_contexts(FileObject);
 }
 
 BOOLEAN FltSupportsStreamHandleContexts(PFILE_OBJECT FileObject)
 {
     KZ_INSIDE();
-    return FltSupportsStreamContexts(FileObject);
+    return has_contexts(FileObject);
 }

@@ -41,31 +41,7 @@ NTSTATUS FltOpenVolume(PFLT_INSTANCE Instance, PHANDLE VolumeHandle, PFILE_OBJEC
 NONE(KZM_OWN_IO, FltNotifyFilterChangeDirectory, PVOID NotifySync, PLIST_ENTRY NotifyList, PVOID FsContext, PVOID FullDirectoryName, BOOLEAN WatchTree,
      BOOLEAN IgnoreBuffer, ULONG CompletionFilter, PFLT_CALLBACK_DATA NotifyCallbackData, PVOID TraverseCallback, PVOID SubjectContext, PVOID FilterCallback)
 
-/* File, transaction and section contexts. A file system without file contexts answers so. */
-NTSTATUS FltSetFileContext(PFLT_INSTANCE Instance, PFILE_OBJECT FileObject, FLT_SET_CONTEXT_OPERATION Operation, PFLT_CONTEXT NewContext,
-                           PFLT_CONTEXT *OldContext)
-{
-    KZ_INSIDE();
-    if (OldContext)
-        *OldContext = NULL;
-    return none(KZM_NO_SUCH_CONTEXTS, __func__);
-}
-
-NTSTATUS FltGetFileContext(PFLT_INSTANCE Instance, PFILE_OBJECT FileObject, PFLT_CONTEXT *Context)
-{
-    KZ_INSIDE();
-    *Context = NULL;
-    return none(KZM_NO_SUCH_CONTEXTS, __func__);
-}
-
-NTSTATUS FltDeleteFileContext(PFLT_INSTANCE Instance, PFILE_OBJECT FileObject, PFLT_CONTEXT *OldContext)
-{
-    KZ_INSIDE();
-    if (OldContext)
-        *OldContext = NULL;
-    return none(KZM_NO_SUCH_CONTEXTS, __func__);
-}
-
+/* Contexts of transactions. */
 NTSTATUS FltSetTransactionContext(PFLT_INSTANCE Instance, PKTRANSACTION Transaction, FLT_SET_CONTEXT_OPERATION Operation, PFLT_CONTEXT NewContext,
                                   PFLT_CONTEXT *OldContext)
 {

@@ -32,7 +32,7 @@ struct KzContextState {
     size_t dead_next;
 };
 
-const char *const kz_context_kinds[] = {"a volume", "an instance", "a stream", "a stream handle", "a section"};
+const char *const kz_context_kinds[] = {"a volume", "an instance", "a stream", "a stream handle", "a section", "a file"};
 
 /* ---- Finding. */
 static KzContext **place_of(PVOID body)
@@ -164,6 +164,12 @@ static void finish(KzContext *context, uint8_t worker)
     free(context);
 }
 
+void kz_end_unused(KzContext *context)
+{
+    if (!context->kept && !context->is_known && !context->is_linked)
+        finish(context, kz_worker());
+}
+
 /* The next one that is due in the manager; NULL if none is. Its body there is the header's address. */
 static KzContext *take_due(uint8_t worker)
 {
@@ -224,8 +230,8 @@ NTSTATUS FltAllocateContext(PFLT_FILTER Filter, FLT_CONTEXT_TYPE ContextType, SI
         return STATUS_FLT_CONTEXT_ALLOCATION_NOT_FOUND;
     if (ContextType == FLT_VOLUME_CONTEXT && PoolType == PagedPool)
         return STATUS_INVALID_PARAMETER;
-    if (kz_context_kind(ContextType) > 3 && ContextType != FLT_SECTION_CONTEXT) {
-        kz_tell(KZM_NO_SUCH_CONTEXTS, __func__, "contexts of files and transactions aren't modelled: it answers STATUS_NOT_SUPPORTED");
+    if (kz_context_kind(ContextType) == KZ_OF_TRANSACTION) {
+        kz_tell(KZM_NO_SUCH_CONTEXTS, __func__, "contexts of transactions aren't modelled: it answers STATUS_NOT_SUPPORTED");
         return STATUS_NOT_SUPPORTED;
     }
     PVOID body = kz_refuses(KZ_CHOICE_CONTEXT, __func__) ? NULL : new_body(how, ContextSize, PoolType);
@@ -234,7 +240,7 @@ NTSTATUS FltAllocateContext(PFLT_FILTER Filter, FLT_CONTEXT_TYPE ContextType, SI
     KzContext *made = kz_memory(sizeof *made);
     *made = (KzContext){.body = body, .kind = kz_context_kind(ContextType), .type = ContextType, .filter = Filter, .how = how};
     enter_tables(made);
-    uint32_t status = made->kind > 3 ? KZS_WRONG_STEP : kz_make_known(made); /* the manager has none of sections: the host alone counts their references */
+    uint32_t status = made->kind > 3 ? KZS_WRONG_STEP : kz_make_known(made); /* the manager has none of sections and files: the host alone counts their references */
     if (status == KZS_WRONG_STEP || status == KZS_HAND_FULL) {
         kz_keep_reference(made, &kz_me->place); /* in no callback of an instance, or where 16 are held: the manager gets to know it once it is set */
     } else if (status != KZS_OK) {
@@ -320,8 +326,7 @@ VOID FltReleaseContext(PFLT_CONTEXT Context)
         return;
     }
     kz_drop_reference(context);
-    if (!context->kept && !context->is_known)
-        finish(context, kz_worker());
+    kz_end_unused(context);
 }
 
 /* ---- The end of a filter, and of a run. */

@@ -18,6 +18,7 @@ typedef struct KzContext {
     uint8_t kind;
     bool is_known; /* to the manager: not before it is set, if no callback of an instance allocated it, and not once it was cleaned up there */
     bool is_in_cleanup, is_told;
+    bool is_linked; /* to a file, by the host */
     FLT_CONTEXT_TYPE type;
     PFLT_FILTER filter;
     const FLT_CONTEXT_REGISTRATION *how;
@@ -39,6 +40,8 @@ void kz_keep_reference(KzContext *context, const KzPlace *place);
 void kz_drop_reference(KzContext *context);
 /* Whether that worker of the manager holds a reference. */
 bool kz_holds(uint8_t worker, const KzContext *context);
+/* It goes if nobody has it: of those that the manager doesn't know. */
+void kz_end_unused(KzContext *context);
 void kz_clean_up(void);
 void kz_tell_kept(PFLT_FILTER filter);
 extern const struct KzModule kz_context_module;

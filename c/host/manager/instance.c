@@ -9,6 +9,7 @@
 #include "core/told.h"
 #include "manager/busy.h"
 #include "manager/context.h"
+#include "manager/filecontext.h"
 #include "manager/hand.h"
 #include "manager/filter.h"
 #include "manager/operation.h"
@@ -196,6 +197,7 @@ static uint32_t stop(PFLT_INSTANCE instance, FLT_INSTANCE_TEARDOWN_FLAGS reason)
 
 uint32_t kz_finish_teardown(PFLT_INSTANCE instance)
 {
+    kz_end_files_of(instance);
     kz_clean_up();
     uint32_t status = kz_until_free("finish", (KazdrinEvent){.event = KZE_FINISH, .instance = instance->id}, NULL);
     kz_scheduler->touch(instance->filter, 0, KZT_GIVES);

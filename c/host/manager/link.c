@@ -6,6 +6,7 @@
 #include "core/told.h"
 #include "filesystem/fileobject.h"
 #include "manager/context.h"
+#include "manager/filecontext.h"
 #include "manager/instance.h"
 #include "manager/taken.h"
 
@@ -247,6 +248,10 @@ VOID FltDeleteContext(PFLT_CONTEXT Context)
     KZ_CALL();
     KzContext *context = kz_context_of(Context, __func__);
     PFLT_CONTEXT there = NULL;
+    if (context && context->type == FLT_FILE_CONTEXT) {
+        kz_unlink_context(context);
+        return;
+    }
     if (!context || get(__func__, kz_worker(), context->kind, &there) != STATUS_SUCCESS)
         return;
     if (there == Context)

@@ -18,6 +18,7 @@
 #include "manager/carrier.h"
 #include "manager/context.h"
 #include "manager/disposition.h"
+#include "manager/filecontext.h"
 #include "manager/operation.h"
 #include "manager/reference.h"
 #include "manager/reparse.h"
@@ -85,6 +86,12 @@ void kz_cleanup_over(KzFile *file)
     kz_end_cleanup(file);
 }
 
+static void close_handle(KzFile *file)
+{
+    kz_end_file(file);
+    kz_drop_file(file->handle);
+}
+
 static void note_end(KzOp *op, KzReply *reply)
 {
     bool is_right = reply->status == KZS_OK;
@@ -95,7 +102,7 @@ static void note_end(KzOp *op, KzReply *reply)
     else if (op->event == KZE_CLEANUP && is_right)
         kz_cleanup_over(op->file);
     else if (op->event == KZE_CLOSE && is_right)
-        kz_drop_file(op->file->handle);
+        close_handle(op->file);
 }
 
 /* Of a done operation, which is forgotten. */

@@ -3,7 +3,6 @@
 
 #include "core/told.h"
 
-/* The manager's number of a kind of context; 4 of a kind that it lacks, 5 of none. */
 uint8_t kz_context_kind(FLT_CONTEXT_TYPE type)
 {
     switch (type) {
@@ -15,12 +14,14 @@ uint8_t kz_context_kind(FLT_CONTEXT_TYPE type)
         return 2;
     case FLT_STREAMHANDLE_CONTEXT:
         return 3;
-    case FLT_FILE_CONTEXT:
-    case FLT_TRANSACTION_CONTEXT:
     case FLT_SECTION_CONTEXT:
-        return 4;
+        return KZ_OF_SECTION;
+    case FLT_FILE_CONTEXT:
+        return KZ_OF_FILE;
+    case FLT_TRANSACTION_CONTEXT:
+        return KZ_OF_TRANSACTION;
     default:
-        return 5;
+        return KZ_OF_NOTHING;
     }
 }
 
@@ -38,7 +39,7 @@ NTSTATUS kz_registration_of_contexts(PFLT_FILTER filter, uint8_t *mask)
     *mask = 0;
     for (; one && one->ContextType != FLT_CONTEXT_END; one++) {
         uint8_t kind = kz_context_kind(one->ContextType);
-        if (kind == 5) {
+        if (kind == KZ_OF_NOTHING) {
             kz_tell(KZM_NO_END, "FltRegisterFilter", "context type 0x%04x is none (is FLT_CONTEXT_END missing?)", one->ContextType);
             return STATUS_FLT_INVALID_CONTEXT_REGISTRATION;
         }

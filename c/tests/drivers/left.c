@@ -15,8 +15,7 @@ static FLT_POSTOP_CALLBACK_STATUS PostCreate(PFLT_CALLBACK_DATA Data, PCFLT_RELA
     SHOW(FltOpenVolume(FltObjects->Instance, &handle, NULL));
     SHOW(FltSetQuotaInformationFile(FltObjects->Instance, FltObjects->FileObject, room, sizeof(room)));
     SHOW(FltPrefetchFile(FltObjects->Instance, FltObjects->FileObject, NULL));
-    SHOW(FltAllocateContext(gFilterHandle, FLT_FILE_CONTEXT, 8, PagedPool, &context));
-    SHOW(FltGetFileContext(FltObjects->Instance, FltObjects->FileObject, &context));
+    SHOW(FltAllocateContext(gFilterHandle, FLT_TRANSACTION_CONTEXT, 8, PagedPool, &context));
     SHOW(FltGetTransactionContext(FltObjects->Instance, FltObjects->Transaction, &context));
     SHOW(FltTagFile(FltObjects->Instance, FltObjects->FileObject, IO_REPARSE_TAG_SYMLINK, NULL, NULL, 0));
     if (NT_SUCCESS(Data->IoStatus.Status)) {
@@ -42,7 +41,7 @@ static NTSTATUS Notify(PCFLT_RELATED_OBJECTS FltObjects, PFLT_CONTEXT Transactio
 }
 
 CONST FLT_OPERATION_REGISTRATION Callbacks[] = {{IRP_MJ_CREATE, 0, NULL, PostCreate}, {IRP_MJ_OPERATION_END}};
-CONST FLT_CONTEXT_REGISTRATION Contexts[] = {{FLT_FILE_CONTEXT, 0, NULL, 8, 'tfeL'}, {FLT_TRANSACTION_CONTEXT, 0, NULL, 8, 'tfeL'}, {FLT_CONTEXT_END}};
+CONST FLT_CONTEXT_REGISTRATION Contexts[] = {{FLT_TRANSACTION_CONTEXT, 0, NULL, 8, 'tfeL'}, {FLT_CONTEXT_END}};
 CONST FLT_REGISTRATION Registration = {sizeof(FLT_REGISTRATION), FLT_REGISTRATION_VERSION, 0, Contexts, Callbacks, Unload, NULL, NULL, NULL, NULL, NULL, NULL, NULL, Notify};
 
 NTSTATUS DriverEntry(PDRIVER_OBJECT DriverObject, PUNICODE_STRING RegistryPath)

@@ -75,7 +75,7 @@ static FLT_POSTOP_CALLBACK_STATUS PostCreate(PFLT_CALLBACK_DATA Data, PCFLT_RELA
     UNREFERENCED_PARAMETER(Flags);
     if (NT_SUCCESS(Data->IoStatus.Status)) {
         SHOW(FltObjects->FileObject->WriteAccess && FltObjects->FileObject->FsContext != NULL);
-        SHOW(FltSupportsStreamContexts(FltObjects->FileObject) && !FltSupportsFileContexts(FltObjects->FileObject));
+        SHOW(FltSupportsStreamContexts(FltObjects->FileObject) && FltSupportsFileContexts(FltObjects->FileObject));
     }
     return FLT_POSTOP_FINISHED_PROCESSING;
 }

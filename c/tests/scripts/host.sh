@@ -50,7 +50,7 @@ tell $? "much of everything"
 
 # Limits count if they are to, and what is allowed isn't told.
 "$room/drivers" --strict $tests/requests/left.txt > "$room/strict.out"
-[ $? = 5 ] && tail -n 1 "$room/strict.out" | grep -q "told 8, limits 8"
+[ $? = 5 ] && tail -n 1 "$room/strict.out" | grep -q "told 7, limits 7"
 tell $? "strict"
 "$room/drivers" --allow KZ0130 $tests/requests/answers.txt > "$room/allow.out"
 [ $? = 5 ] && ! grep -q KZ0130 "$room/allow.out" && tail -n 1 "$room/allow.out" | grep -q "told 7, limits 3"

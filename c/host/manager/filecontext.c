@@ -1,0 +1,202 @@
+/* Contexts of files: one for each instance and file, whatever its streams. The manager has none, so the host links them and counts their references. */
+#include "manager/filecontext.h"
+
+#include "core/client.h"
+#include "core/memory.h"
+#include "core/module.h"
+#include "core/state.h"
+#include "core/told.h"
+#include "filesystem/fileobject.h"
+#include "filesystem/name.h"
+#include "filesystem/tree.h"
+#include "manager/instance.h"
+#include "manager/registration.h"
+
+#include <stdlib.h>
+
+/* A context that is a file's, by the key of the file without its streams. */
+typedef struct Link {
+    struct Link *next;
+    PFLT_INSTANCE instance;
+    char key[256];
+    KzContext *context;
+} Link;
+
+struct KzFileContextState {
+    Link *first;
+};
+
+/* ---- Which file. The streams of one have the key of its first one. */
+static bool key_of(const KzFile *file, char *key, size_t size)
+{
+    char text[256];
+    if (!file->name)
+        return false;
+    const char *now = file->name->text, *slash = strrchr(now, '/'), *colon = strchr(slash ? slash : now, ':');
+    snprintf(text, sizeof text, "%.*s", colon ? (int)(colon - now) : (int)strlen(now), now);
+    const KzName *base = colon ? kz_find_name(file->volume, text) : file->name;
+    snprintf(key, size, "%s", base ? base->node->key : text);
+    return true;
+}
+
+static Link **place_of(PFLT_INSTANCE instance, const char *key)
+{
+    Link **at = &kz.filecontext->first;
+    while (*at && !((*at)->instance == instance && strcmp((*at)->key, key) == 0))
+        at = &(*at)->next;
+    return at;
+}
+
+/* The file of an instance's call, and its key; else what the call answers. */
+static NTSTATUS find_file(PFLT_INSTANCE instance, PFILE_OBJECT object, char *key, size_t size, const char *call)
+{
+    const KzFile *file = kz_may_use(call, instance) ? kz_file_with(object) : NULL;
+    if (!instance || !file)
+        return STATUS_INVALID_PARAMETER;
+    bool is_opened = object->FsContext && (file->has_handle || file->is_opening);
+    return is_opened && key_of(file, key, size) ? STATUS_SUCCESS : STATUS_NOT_SUPPORTED;
+}
+
+/* ---- Links. */
+static void take(KzContext *context, PFLT_CONTEXT *to)
+{
+    if (!to)
+        return;
+    kz_scheduler->touch(context, 0, KZT_TAKES);
+    kz_keep_reference(context, &kz_me->place);
+    *to = context->body;
+}
+
+/* Its link goes; with its last reference it goes itself. */
+static void end_link(Link **at)
+{
+    Link *gone = *at;
+    KzContext *context = gone->context;
+    *at = gone->next;
+    free(gone);
+    context->is_linked = false;
+    kz_end_unused(context);
+}
+
+void kz_unlink_context(KzContext *context)
+{
+    Link **at = &kz.filecontext->first;
+    while (*at && (*at)->context != context)
+        at = &(*at)->next;
+    if (*at)
+        end_link(at);
+}
+
+void kz_end_file(const KzFile *file)
+{
+    char key[256], other[256];
+    if (!kz.filecontext->first || !key_of(file, key, sizeof key))
+        return;
+    for (const KzFile *one = kz.files; one; one = one->next)
+        if (one != file && one->volume == file->volume && (one->has_handle || one->is_opening) && key_of(one, other, sizeof other) && strcmp(key, other) == 0)
+            return;
+    for (Link **at = &kz.filecontext->first; *at;)
+        if ((*at)->instance->volume == file->volume && strcmp((*at)->key, key) == 0) {
+            end_link(at);
+            at = &kz.filecontext->first; /* the cleanup callback may have changed others */
+        } else {
+            at = &(*at)->next;
+        }
+}
+
+void kz_end_files_of(PFLT_INSTANCE instance)
+{
+    Link **at = &kz.filecontext->first;
+    while (*at)
+        if ((*at)->instance == instance) {
+            end_link(at);
+            at = &kz.filecontext->first;
+        } else {
+            at = &(*at)->next;
+        }
+}
+
+/* ---- The calls. */
+static NTSTATUS check_new(PFLT_INSTANCE instance, const KzContext *context, const char *call)
+{
+    if (!context)
+        return STATUS_INVALID_PARAMETER;
+    if (context->type != FLT_FILE_CONTEXT) {
+        kz_tell(KZM_OTHER_KIND, call, "%s context", kz_context_kinds[context->kind]);
+        return STATUS_INVALID_PARAMETER;
+    }
+    if (context->is_linked)
+        return STATUS_FLT_CONTEXT_ALREADY_LINKED;
+    if (!context->kept) {
+        kz_tell(KZM_NOT_REFERENCED, call, "%s context to which no reference is held", kz_context_kinds[context->kind]);
+        return STATUS_INVALID_PARAMETER;
+    }
+    uint64_t phase = kz_phase(instance);
+    return phase == KZP_INSTANCE_SETUP || phase == KZP_INSTANCE_ATTACHED ? STATUS_SUCCESS : STATUS_FLT_DELETING_OBJECT;
+}
+
+NTSTATUS FltSetFileContext(PFLT_INSTANCE Instance, PFILE_OBJECT FileObject, FLT_SET_CONTEXT_OPERATION Operation, PFLT_CONTEXT NewContext, PFLT_CONTEXT *OldContext)
+{
+    KZ_CALL();
+    char key[256];
+    if (OldContext)
+        *OldContext = NULL;
+    NTSTATUS status = find_file(Instance, FileObject, key, sizeof key, __func__);
+    KzContext *context = NT_SUCCESS(status) ? kz_context_of(NewContext, __func__) : NULL;
+    if (NT_SUCCESS(status))
+        status = check_new(Instance, context, __func__);
+    if (!NT_SUCCESS(status))
+        return status;
+    Link **at = place_of(Instance, key);
+    if (*at) {
+        take((*at)->context, OldContext);
+        if (Operation == FLT_SET_CONTEXT_KEEP_IF_EXISTS)
+            return STATUS_FLT_CONTEXT_ALREADY_DEFINED;
+        end_link(at);
+    }
+    Link *made = kz_memory(sizeof *made);
+    *made = (Link){.next = kz.filecontext->first, .instance = Instance, .context = context};
+    memcpy(made->key, key, sizeof key);
+    kz.filecontext->first = made;
+    context->is_linked = true;
+    kz_scheduler->touch(context, 0, KZT_GIVES);
+    return STATUS_SUCCESS;
+}
+
+NTSTATUS FltGetFileContext(PFLT_INSTANCE Instance, PFILE_OBJECT FileObject, PFLT_CONTEXT *Context)
+{
+    KZ_CALL();
+    char key[256];
+    *Context = NULL;
+    NTSTATUS status = find_file(Instance, FileObject, key, sizeof key, __func__);
+    Link *found = NT_SUCCESS(status) ? *place_of(Instance, key) : NULL;
+    if (found)
+        take(found->context, Context);
+    return NT_SUCCESS(status) && !found ? STATUS_NOT_FOUND : status;
+}
+
+NTSTATUS FltDeleteFileContext(PFLT_INSTANCE Instance, PFILE_OBJECT FileObject, PFLT_CONTEXT *OldContext)
+{
+    KZ_CALL();
+    char key[256];
+    if (OldContext)
+        *OldContext = NULL;
+    NTSTATUS status = find_file(Instance, FileObject, key, sizeof key, __func__);
+    Link **at = NT_SUCCESS(status) ? place_of(Instance, key) : NULL;
+    if (!at || !*at)
+        return NT_SUCCESS(status) ? STATUS_NOT_FOUND : status;
+    take((*at)->context, OldContext);
+    end_link(at);
+    return STATUS_SUCCESS;
+}
+
+static void free_links(void)
+{
+    while (kz.filecontext->first) {
+        Link *gone = kz.filecontext->first;
+        kz.filecontext->first = gone->next;
+        free(gone);
+    }
+}
+
+const KzModule kz_filecontext_module = {KZ_STATE(filecontext), .free = free_links};

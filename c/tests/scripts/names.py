@@ -126,6 +126,11 @@ class Model:
         source = self.handles[slot].name
         file = source.file
         target = self.find(text)
+        folder = self.find("/".join(text.split("/")[:-1])) if "/" in text else None
+        if folder and folder.file.is_directory:
+            if folder.file.is_pending():
+                return MARKED, None, None
+            text = folder.text + "/" + text.split("/")[-1]
         if source.is_gone or file.is_pending():
             return DENIED, None, None
         if not source.text:

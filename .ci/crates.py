@@ -1,13 +1,13 @@
-"""What crates.txt says: which crate of this repository stands on which."""
+"""What crates.txt says, and tests/uses.txt of tests without a proof: which crate of this repository stands on which."""
 import pathlib
 
 TOP = pathlib.Path(__file__).resolve().parent.parent
 
 
-def stands_on():
-    """Of each crate those of this repository that it names, in the order of crates.txt."""
+def stands_on(*files):
+    """Of each crate those of this repository that it names, in the order of crates.txt and of other such files."""
     named = {}
-    for line in (TOP / "crates.txt").read_text(encoding="utf-8").splitlines():
+    for line in "\n".join((TOP / file).read_text(encoding="utf-8") for file in ("crates.txt", *files)).splitlines():
         name, colon, rest = line.partition("#")[0].partition(":")
         if colon:
             named[name.split()[0]] = rest.split()
@@ -16,7 +16,7 @@ def stands_on():
 
 def above(crate):
     """A crate with those that stand on it, directly or not."""
-    stands, found = stands_on(), {crate}
+    stands, found = stands_on("tests/uses.txt"), {crate}
     while True:
         more = {name for name, below in stands.items() if found & set(below)} - found
         if not more:

@@ -6,7 +6,6 @@
 It works on a copy. For each wrong body it says which crate's tests or program showed it. It ends with 1 where nothing showed one."""
 
 import pathlib
-import shutil
 import subprocess
 import sys
 import tempfile
@@ -35,7 +34,12 @@ FIRST = {
 
 
 def is_tested(crate):
-    return any("#[test]" in path.read_text() for path in (TOP / "crates" / crate / "src").rglob("*.rt"))
+    return is_unproved(crate) or any("#[test]" in path.read_text() for path in (TOP / "crates" / crate / "src").rglob("*.rt"))
+
+
+def is_unproved(crate):
+    """Whether its tests stand in tests/."""
+    return (TOP / "tests" / crate).is_dir()
 
 
 def order(crate):
@@ -83,10 +87,9 @@ def runs_well(copy, crate):
 def shown_by(edit, crate):
     """The first crate whose tests fail with that wrong body."""
     with tempfile.TemporaryDirectory() as folder:
-        copy = pathlib.Path(folder)
-        shutil.copytree(TOP / "crates", copy / "crates", ignore=shutil.ignore_patterns("out"))
-        for name in ("crates.txt", "HANDLES"):
-            shutil.copy(TOP / name, copy / name)
+        copy = pathlib.Path(folder) / "copy"
+        unproved = sorted(path.name for path in (TOP / "tests").iterdir() if path.is_dir())
+        subprocess.run([TOP / ".ci" / "unproved-tests", "--into", copy, *unproved], check=True)
         apply(edit, copy / "crates" / crate)
         for name in order(crate):
             if not runs_well(copy, name):

@@ -1,6 +1,10 @@
-//! Tests of the server of which a proof says nothing more: what becomes of operations whose clients are gone.
+//! The server and its client over a Unix socket, both ends in one process, each in a thread of its own; and what becomes of operations whose clients are gone.
 #![tactic(auto)]
 
+#[cfg(test)]
+mod abandoned;
+#[cfg(test)]
+mod fakes;
 #[cfg(test)]
 mod gone;
 #[cfg(test)]
@@ -13,5 +17,11 @@ mod most_gone;
 mod peer;
 #[cfg(test)]
 mod server;
+#[cfg(test)]
+mod sockets;
+#[cfg(test)]
+mod steps;
+#[cfg(test)]
+mod talks;
 #[cfg(test)]
 mod two_drained;

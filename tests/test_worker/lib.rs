@@ -1,6 +1,9 @@
-//! Tests of workers of which a proof says nothing more: rows of many steps, lists that other drivers play too, schedules by seed and by path, rounds of random work.
+//! Workers that carry operations on, each in a thread of its own, and connections that attach, detach, unload and dismount beside them. Each test is bounded
+//! in turns, and so in time. Beside them are rows of many steps, lists that other drivers play too, schedules by seed and by path, and rounds of random work.
 #![tactic(auto)]
 
+#[cfg(test)]
+mod counts;
 #[cfg(test)]
 mod drained_turn;
 #[cfg(test)]
@@ -15,6 +18,8 @@ mod full_queue;
 mod hands;
 #[cfg(test)]
 mod held_beside;
+#[cfg(test)]
+mod holds;
 #[cfg(test)]
 mod in_flight;
 #[cfg(test)]
@@ -35,6 +40,8 @@ mod same_worker;
 mod schedules;
 #[cfg(test)]
 mod shifted;
+#[cfg(test)]
+mod side_by_side;
 #[cfg(test)]
 mod stress;
 #[cfg(test)]

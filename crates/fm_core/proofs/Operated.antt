@@ -1,13 +1,13 @@
 -- The events on operations, from what their parts did.
 use Rattle.fm_core.proofs.Words.{IsAsked, FindsAt, IsState, IsTied, Ends, MayBring, MaySend, back_in, kept_brought, kept_sent, Sweeping, is_lost_of, base_of}
 use Rattle.fm_core.proofs.Words.{drain_of, post_of, pre_of, answered, decided, known_in, target_in, Target, leaves_alike, ContextsKept, base_after, StandsAt}
-use Rattle.fm_core.proofs.Words.{IsRefusalOrMemory, idle_there, told_there, empty_hand, sent_is_held, drains_next, volume_refusals, phase_refusal, FileHandle}
+use Rattle.fm_core.proofs.Words.{IsRefusalOrMemory, idle_there, told_there, empty_hand, sent_is_held, drains_next, volume_refusals, phase_refusal_at, FileHandle}
 use Rattle.fm_core.proofs.Words.{FileStream, Place, Bool, Err, List, None, Ok, Option, Result, Some, [], ap, arith, cond, false, inl, inr, is_ok, refl, subst}
 use Rattle.fm_core.proofs.Words.{sym, true, ℕ, ◌&&◌, ◌+◌, ◌<◌, ◌==◌, ◌^◌, ◌||◌, ◌∙◌, ◌∷◌, ◌≡◌, within_hands, hand_of, holds, IsLawful, Leaves, ContextTable}
 use Rattle.fm_core.proofs.Words.{BaseCall, Data, data_fits, operation_of, Answer, Params, Request, PreVerdict, carried_by, handed, FlowRecord, base_fits}
 use Rattle.fm_core.proofs.Words.{drain_returned_of, next_of, post_returned_of, pre_returned_of, FlowTable, carried, changed, is_full, is_number, operation_at}
 use Rattle.fm_core.proofs.Words.{told, Below, FlowAction, PreState, InBase, InDrain, PostRunning, PreRunning, found_holds, AnswersOrMemory, first_of, CtxId}
-use Rattle.fm_core.proofs.Words.{HandleId, InstanceId, OpId, StreamId, VolumeId, WorkerId, Operation, Status, Unless, asked_refused, base_step, drains_at}
+use Rattle.fm_core.proofs.Words.{HandleId, InstanceId, OpId, StreamId, VolumeId, WorkerId, Operation, Status, Unless, asked_refused_at, base_step, drains_at}
 use Rattle.fm_core.proofs.Words.{filed_pre, flow_after_next, has_no_handle_left, is_created_on, moved_on, received, sent, sent_in, state_at, state_given}
 use Rattle.fm_core.proofs.Words.{FileTable, after_pre, created, handle_at, stream_for, LosesLinks, IsSound, after_next, is_idle, put, worker_at, World, carries}
 use Rattle.fm_core.proofs.Words.{length, option_map, slice_get, and_parts, none-some, same_Some, slice_get_within}
@@ -18,7 +18,13 @@ use Rattle.fm_world.proofs.Words.{carries_after, filed_next, filed_record, has_p
 use Rattle.fm_world.proofs.Words.{is_in_at, is_spot, spot_at, IsAmong, unwrap_or, and_from, eq-eqb, or_parts}
 use Rattle.std.proofs.Common.{nat_eq}
 use Rattle.fm_flow.specs.Table.{MayLieBelowOf}
-use Rattle.fm_world.specs.Events.{PreReturnsOver, ReturnsFrom, filed_base, refused_at, refused_on, begun_at}
+use Rattle.fm_world.specs.Events.{PreReturnsOver, ReturnsFrom, filed_base, refused_at_by, refused_on_at, begun_at}
+use Rattle.fm_world.specs.declared.begins_from.BeginsFrom.{BeginsFrom}
+use Rattle.fm_core.proofs.Words.{StackWorld}
+use Rattle.fm_world.proofs.Words.{BeginsAt, BeginsLower, placed_from, after_begin, begin_refused_at, from_refusals, placed_at}
+use Rattle.fm_world.proofs.Initiators.{asks_there, begun_there, placed_balance, placed_holds}
+use Rattle.fm_world.specs.Owners.{is_left_by, row_at}
+use Rattle.fm_core.specs.Begun.{MayPlace}
 use Rattle.fm_core.proofs.Changes.{change_agrees, change_same}
 use Rattle.fm_world.proofs.Ties.{tied_there, spot_pre, spot_base, spot_post, spot_drain}
 use Rattle.fm_world.proofs.Turns.{may_visit, unchanged_flow, next_balance, was_known}
@@ -542,47 +548,107 @@ begin_wants old what h = (subst (λ r. IsRefusalOrMemory r Status.NoMemory) (sym
 
 -- ---- an operation on a handle begins
 
-pub asks : {old now : World} (h : HandleId) (p : Params) (x : FileHandle) (v : VolumeId) (result : Result OpId Status) (t : FlowTable) (f : FileTable)
-    → old ≡ now → (asked : IsAsked old h p x v) → Took old.flow v (Some x.stream) (Some h) old.stack.births (Some asked.stream.path) p result t
+pub asks : {old now : World} (lower : Bool) (h : HandleId) (p : Params) (x : FileHandle) (v : VolumeId) (result : Result OpId Status) (t : FlowTable)
+    (f : FileTable)
+    → old ≡ now → (asked : IsAsked lower old h p x v) → Took old.flow v (Some x.stream) (Some h) old.stack.births (Some asked.stream.path) p result t
     → f ≡ cond (is_ok result) (moved_on (operation_of p) h old.flow.next old.files) old.files
-    → Asks now h p result (record old { flow = t; files = f })
+    → Asks lower now h p result (record old { flow = t; files = f })
 unfolding Asks
-asks {old} h p x v result t f same asked event files =
+asks {old} lower h p x v result t f same asked event files =
     let y = asked.stream in
-    let parts = asked_within (is_within_limits p) (refused_at old p (handle_at h old.files)) asked.free in
-    let on : refused_on old p x (Some y) ≡ None = ap (refused_on old p x) (sym asked.there) ∙ ap (refused_at old p) (sym asked.handle) ∙ parts.1 in
-    let room = full_from _ _ (is_full old.flow) (none_else (phase_refusal old.flow (operation_of p) x.phase) _ on) in
+    let parts = asked_within (is_within_limits p) (refused_at_by lower old p (handle_at h old.files)) asked.free in
+    let on : refused_on_at lower old p x (Some y) ≡ None =
+    ap (refused_on_at lower old p x) (sym asked.there) ∙ ap (refused_at_by lower old p) (sym asked.handle) ∙ parts.1 in
+    let room = full_from _ _ (is_full old.flow) (none_else (phase_refusal_at lower old.flow (operation_of p) x.phase) _ on) in
     let here : asked_begun old h p ≡ begun_on old h p x (Some y) = ap (begun_at old h p) asked.handle ∙ ap (begun_on old h p x) asked.there in
-    let begun' = begun_as old (asked_refused old h p) y.volume (Some x.stream) (Some h) (Some y.path) p result t f
+    let begun' = begun_as old (asked_refused_at lower old h p) y.volume (Some x.stream) (Some h) (Some y.path) p result t f
     (moved_on (operation_of p) h old.flow.next old.files) asked.free room
     (subst (λ (u : VolumeId). Took old.flow u (Some x.stream) (Some h) old.stack.births (Some y.path) p result t) (sym asked.volume) event) files in
-    subst (λ (w : World). Asks w h p result (record old { flow = t; files = f })) same
-    (subst (λ (w : World). AnswersOrMemory (asked_refused old h p) result old (record old { flow = t; files = f })
+    subst (λ (w : World). Asks lower w h p result (record old { flow = t; files = f })) same
+    (subst (λ (w : World). AnswersOrMemory (asked_refused_at lower old h p) result old (record old { flow = t; files = f })
     (λ (o : OpId). (o.0 ≡ old.flow.next) × (◌≡◌ {A = World} (record old { flow = t; files = f }) w))) (sym here) begun')
 
 -- what is asked leaves a sound World
-pub asks_sound : (old : World) (h : HandleId) (p : Params) (result : Result OpId Status) (new : World) → Asks old h p result new
+pub asks_sound : (lower : Bool) (old : World) (h : HandleId) (p : Params) (result : Result OpId Status) (new : World) → Asks lower old h p result new
     → is_create (operation_of p) ≡ false → IsSound old → IsSound new
 unfolding Asks
-asks_sound old h p (Err why) new e none s = subst IsSound (sym e.1) s
-asks_sound old h p (Ok o) new e none s = subst IsSound (sym e.1.1) (asked_sound old h p e.0 none s)
+asks_sound lower old h p (Err why) new e none s = subst IsSound (sym e.1) s
+asks_sound lower old h p (Ok o) new e none s = subst IsSound (sym e.1.1) (asked_sound lower old h p e.0 none s)
 
 -- which the event is of, for a request
-pub asks_begins : (old : World) (h : HandleId) (asked : FileRequest) (result : Result OpId Status) (new : World) → Asks old h (params_of asked) result new
-    → Begins old (Request.OnHandle h asked) result new
-unfolding Asks Begins
-asks_begins old h asked result new e = e
+pub asks_begins : (lower : Bool) (old : World) (h : HandleId) (asked : FileRequest) (result : Result OpId Status) (new : World)
+    → Asks lower old h (params_of asked) result new → BeginsAt lower old (Request.OnHandle h asked) result new
+unfolding Asks
+asks_begins lower old h asked result new e = e
 
-pub asked_phase : (w : World) (h : HandleId) (p : Params) (x : FileHandle) (v : VolumeId) (why : Status) → is_within_limits p ≡ true
+pub asked_phase : (lower : Bool) (w : World) (h : HandleId) (p : Params) (x : FileHandle) (v : VolumeId) (why : Status) → is_within_limits p ≡ true
     → handle_at h w.files ≡ Some x
-    → option_map (λ (y : FileStream). y.volume) (stream_at x.stream w.files) ≡ Some v → phase_refusal w.flow (operation_of p) x.phase ≡ Some why
-    → asked_refused w h p ≡ Some why
-asked_phase w h p x v why within open' there refuses =
-    ap (λ b. cond b (refused_at w p (handle_at h w.files)) (Some Status.BadRequest)) within ∙ ap (refused_at w p) open' ∙ by_stream (stream_at x.stream w.files)
-    there
+    → option_map (λ (y : FileStream). y.volume) (stream_at x.stream w.files) ≡ Some v
+    → phase_refusal_at lower w.flow (operation_of p) x.phase ≡ Some why
+    → asked_refused_at lower w h p ≡ Some why
+asked_phase lower w h p x v why within open' there refuses =
+    ap (λ b. cond b (refused_at_by lower w p (handle_at h w.files)) (Some Status.BadRequest)) within
+    ∙ ap (refused_at_by lower w p) open' ∙ by_stream (stream_at x.stream w.files) there
   where
-    by_stream : (m : Option FileStream) → option_map (λ (y : FileStream). y.volume) m ≡ Some v → refused_on w p x m ≡ Some why
+    by_stream : (m : Option FileStream) → option_map (λ (y : FileStream). y.volume) m ≡ Some v → refused_on_at lower w p x m ≡ Some why
     by_stream None e = absurd (none-some v e)
     by_stream (Some y) e = ap (λ m. or_else m (first_of (volume_refusals w y.volume (is_full w.flow)))) refuses
+
+-- ---- an operation of a filter's own begins
+
+abbrev number_of : ℕ → OpId
+number_of n = record { 0 = n }
+
+numbered : (p : OpId) (n : ℕ) → p.0 ≡ n → p ≡ record { 0 = n }
+numbered p n is = ap number_of is
+
+-- what was asked, and goes to its place
+pub lower_begins : {mid : World} (old : World) (begins : BeginsFrom) (what : Request) (o : OpId) (new : World)
+    → first_of (from_refusals old begins what) ≡ None → BeginsAt true old what (Ok o) mid → new ≡ placed_at o begins mid
+    → BeginsLower old begins what (Ok o) new
+unfolding BeginsLower
+lower_begins old begins what o new free event at = (
+  ap (λ m. or_else m (begin_refused_at true old what)) free ∙ event.0,
+  (
+    event.1.0,
+    at ∙ ap (placed_at o begins) event.1.1 ∙ ap (λ (p : OpId). placed_at p begins (after_begin old what)) (numbered o old.flow.next event.1.0),
+  ),
+)
+
+pub may_place : {mid : World} (old : World) (begins : BeginsFrom) (what : Request) (o : OpId) → IsSound old
+    → first_of (from_refusals old begins what) ≡ None → BeginsAt true old what (Ok o) mid → MayPlace mid o begins
+may_place old begins what o s free event =
+    let there = begun_there true old what event.0 s in
+    let left = asks_there old begins what free in
+    subst (λ (w : World). MayPlace w o begins) (sym event.1.1) (record {
+      row = there.0.0;
+      there = ap (λ (p : OpId). operation_at p (after_begin old what).flow) (numbered o old.flow.next event.1.0) ∙ there.0.1;
+      entries = there.0.2.entries;
+      stage = there.0.2.stage;
+      left = λ i is. ap (λ (t : StackWorld). is_left_by (row_at t i)) there.1 ∙ left i is;
+    })
+
+-- what refuses the instance, or what it asks
+pub lower_refused : (old : World) (begins : BeginsFrom) (what : Request) (why : Status) → first_of (from_refusals old begins what) ≡ Some why
+    → BeginsLower old begins what (Err why) old
+unfolding BeginsLower
+lower_refused old begins what why refuses =
+    (subst (λ m. IsRefusalOrMemory (or_else m (begin_refused_at true old what)) why) (sym refuses) refl, refl)
+
+pub lower_wants : (old : World) (begins : BeginsFrom) (what : Request) (why : Status) (new : World) → first_of (from_refusals old begins what) ≡ None
+    → BeginsAt true old what (Err why) new → BeginsLower old begins what (Err why) new
+unfolding BeginsLower
+lower_wants old begins what why new free event =
+    (subst (λ m. IsRefusalOrMemory (or_else m (begin_refused_at true old what)) why) (sym free) event.0, event.1)
+
+-- a State in which it goes to its place
+pub placed_state : {old now : World} {kept : ContextsKept} (o : OpId) (begins : BeginsFrom) (t : FlowTable) → IsState old kept → old ≡ now
+    → MayPlace now o begins → t ≡ changed o (placed_from old.stack.births begins) old.flow → IsState (record old { flow = t }) kept
+placed_state {old} {kept = kept} o begins t s same may_now is =
+    let may = subst (λ (w : World). MayPlace w o begins) (sym same) may_now in
+    subst (λ (u : FlowTable). IsState (record old { flow = u }) kept) (sym is) (record {
+      sound = placed_holds old o may.row begins may.there (record { entries = may.entries; stage = may.stage }) may.left s.sound;
+      tied = λ c. s.tied c ∙ placed_balance old.stack.births old.flow o may.row begins may.there c;
+    })
 
 -- ---- collect

@@ -35,7 +35,7 @@ pub use Rattle.fm_world.proofs.Runs.{headline_from}
 pub use Rattle.fm_world.proofs.Turns.{next_does}
 pub use Rattle.fm_world.specs.Events.{drains_next, volume_refusals}
 pub use Rattle.fm_world.specs.Files.{fresh_handle}
-pub use Rattle.fm_world.specs.Requests.{phase_refusal}
+pub use Rattle.fm_world.specs.Requests.{phase_refusal_at}
 pub use Rattle.fm_world.specs.declared.file.FileHandle.{FileHandle}
 pub use Rattle.fm_world.specs.declared.file.FileStream.{FileStream}
 pub use Rattle.fm_world.specs.declared.file.HandlePhase.{HandlePhase}
@@ -53,7 +53,7 @@ pub use Rattle.fm_world.proofs.Words.{pre_returned_of, pre_settled, FlowTable, I
 pub use Rattle.fm_world.proofs.Words.{FlowAction, Ask, PreState, InBase, InDrain, PostRunning, PreRunning, StackWorld, Instance, change_none, count-cons}
 pub use Rattle.fm_world.proofs.Words.{found_holds, change_first, without_first, Answers, AnswersOrMemory, first_of, ContextKind, CtxId, FilterId, HandleId}
 pub use Rattle.fm_world.proofs.Words.{InstanceId, OpId, StreamId, VolumeId, WorkerId, Operation, Status, Callback, before, callback_of, is_gone_at}
-pub use Rattle.fm_world.proofs.Words.{totalled_for, with_contexts, Begins, Nexts, PostReturns, PreReturns, Unless, asked_refused, base_step, drains_at}
+pub use Rattle.fm_world.proofs.Words.{totalled_for, with_contexts, Begins, Nexts, PostReturns, PreReturns, Unless, asked_refused_at, base_step, drains_at}
 pub use Rattle.fm_world.proofs.Words.{filed_pre, flow_after_next, has_no_handle_left, is_created_on, moved_on, received, sent, sent_in, state_at, state_given}
 pub use Rattle.fm_world.proofs.Words.{FileTable, after_pre, created, handle_at, has_handle_on, is_at_path, is_handle, is_on, is_stream, stream_for, with_mark}
 pub use Rattle.fm_world.proofs.Words.{with_phase, Headline, LosesLinks, is_there, names_there, object_by, place_in, row_at, IsSound, RunThrough, after_next}

@@ -1,6 +1,8 @@
 //! What an operation finds on its way: the next instance below it or the base, which callbacks an instance has, and whether an instance that asked is drained.
 
-ghost use Rattle.std.specs.Prelude.{◌≡◌, slice_get};
+ghost use Rattle.std.specs.Prelude.{◌≡◌, option_map, slice_get};
+ghost use Rattle.fm_flow.specs.Entries.{visited};
+ghost use Rattle.fm_world.specs.Descent.{cursor_of};
 ghost use Rattle.fm_core.specs.Descent.{FindsAt, IsDownOrCall};
 ghost use Rattle.fm_flow.specs.Creates.{is_create};
 ghost use Rattle.fm_world.specs.Events.{LiesBelow, AnswersBelow, base_known, known_create, known_at, known_on, unlinks, has_pre, has_post, drains_next, is_stopping_ask};
@@ -113,6 +115,18 @@ fn is_create(operation: Operation) -> bool
     matches!(operation, Operation::Create)
 }
 
+/// The instance below which the next one is looked for: the one visited last, or else the one below which the operation began.
+pub(crate) fn cursor(operation: &OperationRecord) -> Option<InstanceId>
+    ensures { option_map (λ i. i.0) result ≡ cursor_of operation.now.below (visited operation.now.entries) }
+{
+    let last = operation.last_visited();
+    if last.is_some() {
+        last
+    } else {
+        operation.below()
+    }
+}
+
 /// What lies below an operation: the next instance, or the base.
 fn found_below(stack: &Stack, files: &Files, flow: &Flow, operation: &OperationRecord) -> Below
     ensures lies { LiesBelow stack.now operation.now result }
@@ -120,7 +134,7 @@ fn found_below(stack: &Stack, files: &Files, flow: &Flow, operation: &OperationR
 {
     match stack.next_below(
         operation.volume(),
-        operation.last_visited(),
+        cursor(operation),
         operation.entries_before_last(),
         operation.born(),
         operation.operation(),

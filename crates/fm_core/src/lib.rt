@@ -16,6 +16,7 @@ mod ending;
 mod file_name;
 mod files;
 mod holds;
+mod initiators;
 mod instances;
 mod names;
 mod operations;
@@ -41,5 +42,6 @@ pub use fm_flow::{
 };
 pub use fm_stack::{FilterPhase, Phase, VolumePhase};
 pub use fm_world::{
-    About, AboutOperation, FileHandle, HandlePhase, Place, Refused, SetAnswer, Step, StepReply,
+    About, AboutOperation, BeginsFrom, FileHandle, HandlePhase, Place, Refused, SetAnswer, Step,
+    StepReply,
 };

@@ -5,7 +5,7 @@ ghost use Rattle.std.specs.Prelude.{◌≡◌, IfSome};
 ghost use Rattle.fm_world.specs.Hands.{OnlyHandOf};
 ghost use Rattle.fm_core.specs.Passing.{ComesDown, ComesUp, IsComing, LiesNext, OwesPlain, Passes, PassesDown, PassesUp, answered_by, numbered};
 
-use crate::descent::{has_post, has_pre, is_stopping};
+use crate::descent::{cursor, has_post, has_pre, is_stopping};
 use crate::references::end_callback;
 use crate::state::State;
 use fm_data::{Completion, PreVerdict};
@@ -56,7 +56,7 @@ fn next_down(stack: &Stack, operation: &OperationRecord) -> Option<InstanceId>
     let kind = operation.operation();
     let instance = stack.next_below(
         operation.volume(),
-        operation.last_visited(),
+        cursor(operation),
         operation.entries_before_last(),
         operation.born(),
         kind,

@@ -6,10 +6,10 @@ ghost use Rattle.fm_stack.specs.Events.{is_mounted_phase};
 ghost use Rattle.fm_data.specs.Params.{operation_of};
 ghost use Rattle.fm_flow.specs.Creates.{is_create};
 ghost use Rattle.fm_flow.specs.Table.{is_full};
-ghost use Rattle.fm_world.specs.Requests.{phase_refusal};
+ghost use Rattle.fm_world.specs.Requests.{is_late_use, is_use, phase_refusal, phase_refusal_at};
 ghost use Rattle.fm_world.specs.Files.{created, has_handle_on};
 ghost use Rattle.fm_world.specs.declared.file.FileStream.{FileStream};
-ghost use Rattle.fm_world.specs.Events.{Begins, has_no_handle_left, moved_on, asked_refused, volume_refusals};
+ghost use Rattle.fm_world.specs.Events.{Begins, BeginsAt, has_no_handle_left, moved_on, volume_refusals};
 ghost use Rattle.fm_world.specs.Hands.{KeepsHands};
 ghost use Rattle.fm_core.specs.FilesKept.{found_at};
 ghost use Rattle.fm_core.specs.Begun.{Asks, IsAsked, IsAskedOr, refusal_by};
@@ -72,6 +72,39 @@ fn phase_refusal(flow: &Flow, operation: Operation, phase: HandlePhase) -> Optio
     }
 }
 
+/// Whether an operation only uses the file that its handle is on.
+fn is_use(operation: Operation) -> bool
+    ensures { result ≡ is_use operation }
+{
+    matches!(operation.role(), Role::Uses)
+}
+
+/// Whether a filter asks for such an operation between a handle's cleanup and its close.
+fn is_late_use(is_lower: bool, operation: Operation, phase: HandlePhase) -> bool
+    ensures { result ≡ is_late_use is_lower operation phase }
+{
+    match phase {
+        HandlePhase::CleaningUp(_) => is_lower && is_use(operation),
+        HandlePhase::Open | HandlePhase::Closing => false,
+    }
+}
+
+/// What a handle's phase refuses of an operation that a client asks for, or a filter, which is lower.
+fn phase_refusal_at(
+    flow: &Flow,
+    is_lower: bool,
+    operation: Operation,
+    phase: HandlePhase,
+) -> Option<Status>
+    ensures { result ≡ phase_refusal_at is_lower flow.now operation phase }
+{
+    if is_late_use(is_lower, operation, phase) {
+        None
+    } else {
+        phase_refusal(flow, operation, phase)
+    }
+}
+
 /// A create that began is on its path's stream.
 fn note_create(
     files: &mut Files,
@@ -124,15 +157,28 @@ impl State {
     /// open, is past its cleanup (for all but a close) or has begun its close; 30 for a second cleanup, and for a close before the cleanup is done;
     /// 33 where the volume is dismounting; 29 at 256 operations that weren't collected, at 4,096 handles with those that creates under way may give,
     /// and where numbers run out; 1.
-    #[tactic(auto, using(fm_world::proofs::Requests::begin_does))]
+    #[tactic(auto, unfolding(fm_world::specs::Events::Begins))]
     pub fn begin(&mut self, what: Request) -> Result<OpId, Status>
         ensures event { Begins self.old what result self.new }
+        ensures hand { KeepsHands self.old self.new }
+    {
+        self.begin_at(false, what)
+    }
+
+    /// Begins an operation for a client, or for a filter, which is lower.
+    #[tactic(auto, using(fm_world::proofs::Requests::begin_at_does))]
+    pub(crate) fn begin_at(&mut self, is_lower: bool, what: Request) -> Result<OpId, Status>
+        ensures event { BeginsAt is_lower self.old what result self.new }
         ensures hand { KeepsHands self.old self.new }
     {
         match what {
             Request::List { volume } => self.begin_list(volume),
             Request::Create { volume, path, mode } => self.begin_create(volume, path, mode),
-            Request::OnHandle { handle, request } => self.begin_on(handle, request.into_params()),
+            Request::OnHandle { handle, request } => self.begin_on(
+                is_lower,
+                handle,
+                request.into_params(),
+            ),
         }
     }
 
@@ -221,8 +267,13 @@ impl State {
     }
 
     /// The handle and the volume of an operation that nothing refuses but want of memory.
-    fn on_handle(&self, handle: HandleId, params: &Params) -> Result<(FileHandle, VolumeId), Status>
-        ensures { IsAskedOr self.now handle params.now result }
+    fn on_handle(
+        &self,
+        is_lower: bool,
+        handle: HandleId,
+        params: &Params,
+    ) -> Result<(FileHandle, VolumeId), Status>
+        ensures { IsAskedOr is_lower self.now handle params.now result }
     {
         if !params.is_within_limits() {
             return Err(Status::BadRequest);
@@ -233,7 +284,12 @@ impl State {
         let Some(volume) = self.files.volume_of(row.stream) else {
             return Err(Status::NoHandle);
         };
-        if let Some(refusal) = phase_refusal(&self.flow, params.operation(), row.phase) {
+        if let Some(refusal) = phase_refusal_at(
+            &self.flow,
+            is_lower,
+            params.operation(),
+            row.phase,
+        ) {
             return Err(refusal);
         }
         match self.volume_refusal(volume, self.flow.is_full()) {
@@ -244,12 +300,12 @@ impl State {
 
     /// Begins an operation on a handle.
     #[tactic(auto, unfolding(crate::specs::Begun::Asks))]
-    fn begin_on(&mut self, handle: HandleId, params: Params) -> Result<OpId, Status>
+    fn begin_on(&mut self, is_lower: bool, handle: HandleId, params: Params) -> Result<OpId, Status>
         requires { is_create (operation_of params) ≡ false }
-        ensures { Asks self.old handle params result self.new }
+        ensures { Asks is_lower self.old handle params result self.new }
     {
-        match self.on_handle(handle, &params) {
-            Ok((row, volume)) => self.begin_asked(handle, params, row, volume),
+        match self.on_handle(is_lower, handle, &params) {
+            Ok((row, volume)) => self.begin_asked(is_lower, handle, params, row, volume),
             Err(refusal) => Err(refusal),
         }
     }
@@ -258,14 +314,15 @@ impl State {
     #[tactic(auto, unfolding(crate::specs::Begun::Asks))]
     fn begin_asked(
         &mut self,
+        is_lower: bool,
         handle: HandleId,
         params: Params,
         row: FileHandle,
         volume: VolumeId,
     ) -> Result<OpId, Status>
         requires none { is_create (operation_of params) ≡ false }
-        requires asked { IsAsked self.old handle params row volume }
-        ensures { Asks self.old handle params result self.new }
+        requires asked { IsAsked is_lower self.old handle params row volume }
+        ensures { Asks is_lower self.old handle params result self.new }
     {
         let Ok(path) = self.files.path_of(row.stream) else {
             return Err(Status::NoMemory);

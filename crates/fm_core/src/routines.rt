@@ -47,7 +47,7 @@ fn file_by(files: &Files, handle: Option<HandleId>) -> Option<FileObject>
 }
 
 /// The volume of a handle's file.
-fn volume_by(files: &Files, handle: HandleId) -> Option<VolumeId>
+pub(crate) fn volume_by(files: &Files, handle: HandleId) -> Option<VolumeId>
     ensures { result ≡ volume_by files.now.table handle }
 {
     let row = files.handle(handle)?;
@@ -66,7 +66,7 @@ fn lacks_handle(files: &Files, handle: Option<HandleId>) -> bool
 
 impl State {
     // Whether the instance is there, and isn't Detached.
-    fn is_left(&self, instance: InstanceId) -> bool
+    pub(crate) fn is_left(&self, instance: InstanceId) -> bool
         ensures { result ≡ is_left_by (row_at self.now.stack instance) }
     {
         match self.stack.phase(instance) {

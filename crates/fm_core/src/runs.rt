@@ -84,6 +84,7 @@ impl State {
             } => StepReply::Instance(self.attach(worker, filter, volume, name, altitude)),
             Step::SetupDone { worker, accept } => StepReply::Done(self.setup_done(worker, accept)),
             Step::Begin(what) => StepReply::Operation(self.begin(what)),
+            Step::BeginFrom(from, what) => StepReply::Operation(self.begin_from(from, what)),
             Step::Next { worker, operation } => StepReply::Action(self.next(worker, operation)),
             Step::PreReturned {
                 worker,

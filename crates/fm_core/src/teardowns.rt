@@ -31,11 +31,13 @@ fn is_queried(instance: InstanceId, workers: &[Place]) -> bool
 }
 
 impl State {
-    // What a teardown waits for: at most 256 operations and 48 workers.
+    // What a teardown waits for: operations in flight, at most 256 that began below the instance, and at most 48 workers.
     fn unfinished_at(&self, instance: InstanceId) -> u64
         ensures { result ≡ unfinished_at self.now instance }
     {
-        self.flow.in_flight(instance) + routines_at(instance, &self.workers)
+        self.flow.in_flight(instance)
+            + self.flow.begun_by(instance)
+            + routines_at(instance, &self.workers)
     }
 
     /// Asks the filter of an instance whether it may be detached (`FltDetachVolume`): the worker is then in the query callback

@@ -3,7 +3,7 @@ use Rattle.fm_flow.proofs.Words.{ℕ, Bool, true, false, cond, not, List, Option
 use Rattle.fm_flow.proofs.Words.{arith, nat_tests, find, list_any, same_Some, Ok, Err, WrongStep, HandleId, Params, Answer, FlowRecord, IsSound}
 use Rattle.fm_flow.proofs.Words.{is_running_drain, marked, All, AllPairs, false≢true, eq-eqb, and_parts, and_from, All-push}
 use Rattle.fm_flow.proofs.Words.{All-weaker, is_done, FlowTable, IsFlow, without_first, is_number, operation_at, changed, removed, told}
-use Rattle.fm_flow.proofs.Words.{begun, begun_record, under_way, is_full, is_spent, collected_of, collected_in, collect_reply, is_collectable, count_by-push}
+use Rattle.fm_flow.proofs.Words.{InstanceId, placed, begun, begun_record, under_way, is_full, is_spent, collected_of, collected_in, collect_reply, is_collectable, count_by-push}
 use Rattle.fm_flow.proofs.Words.{get_or_default, [], IsTallied, is_creating, one}
 use Rattle.fm_flow.proofs.Tallied.{count_set, count_removed, done_uncreating, total_set, total_removed, total_push}
 use Rattle.fm_flow.proofs.Words.{opens, times, instances, owed}
@@ -51,6 +51,18 @@ flow_begins v stream handle born path p t on within h full =
       few = omega (arith, count_by-push (λ (r : FlowRecord). not r.collected) t.operations fresh, room);
       needed = All-push (λ (r : FlowRecord). is_spent r ≡ false) t.operations fresh h.needed refl;
     }
+
+-- it began below an instance, or at the base
+pub sound_placed : (below : Option InstanceId) (born : ℕ) (r : FlowRecord) → IsSound r → IsSound (placed below born r)
+sound_placed below born r h = record {
+  course = h.course;
+  here = h.here;
+  params = h.params;
+  kept = h.kept;
+  places = h.places;
+  bytes = h.bytes;
+  collected = h.collected;
+}
 
 -- it is tallied
 pub tally_begun : {flying creating n : ℕ} {counts : List ℕ} {a : Bool} (rs : List FlowRecord) (r : FlowRecord)

@@ -18,7 +18,7 @@ pub use Rattle.fm_flow.specs.Steps.{give_post, is_done, kept_of, left_answer, le
 pub use Rattle.fm_flow.specs.Steps.{post_entry, post_leads, post_returned_of, post_state, pre_after, pre_entry, pre_leads, pre_returned_of}
 pub use Rattle.fm_flow.specs.Steps.{returned_answer, turn, unwound, unwound_to, with_base, with_drain, with_entry, with_visit}
 pub use Rattle.fm_flow.specs.Table.{FlowTable, IsFlow, MayLieBelowOf, StandsAt, begun, begun_record, change_first, changed, collect_reply}
-pub use Rattle.fm_flow.specs.Table.{collected_in, collected_of, is_collectable, is_full, is_number, marked, operation_at, removed, told}
+pub use Rattle.fm_flow.specs.Table.{collected_in, collected_of, is_collectable, is_full, is_number, marked, operation_at, placed, removed, told}
 pub use Rattle.fm_flow.specs.Table.{is_spent, total, under_way, without_first}
 pub use Rattle.fm_flow.specs.Creates.{is_creating}
 pub use Rattle.fm_flow.specs.Tallied.{IsAscending, IsTallied}

@@ -8,6 +8,7 @@ pub mod Counts
 pub mod Flights
 pub mod Table
 pub mod OnVolumes
+pub mod Initiators
 pub mod Creates
 pub mod Tallied
 pub mod Verdict

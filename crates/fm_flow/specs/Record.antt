@@ -4,6 +4,7 @@ use Rattle.fm_types.specs.declared.ids.OpId.{OpId}
 use Rattle.fm_types.specs.declared.ids.VolumeId.{VolumeId}
 use Rattle.fm_types.specs.declared.ids.StreamId.{StreamId}
 use Rattle.fm_types.specs.declared.ids.HandleId.{HandleId}
+use Rattle.fm_types.specs.declared.ids.InstanceId.{InstanceId}
 use Rattle.fm_types.specs.declared.operation.Operation.{Operation}
 use Rattle.fm_data.specs.declared.params.Params.{Params}
 use Rattle.fm_data.specs.declared.answer.Answer.{Answer}
@@ -19,6 +20,8 @@ pub record FlowRecord : Type 0 where
   pub handle : Option HandleId
   -- how many instances were born before it began
   pub born : ℕ
+  -- the instance below which it began, whose filter asked for it; none where it began at the top, or at the base
+  pub below : Option InstanceId
   -- the path of the file that it is on, as it was when it began; a listing has none
   pub path : Option (List ℕ)
   -- its parameters as the next callback finds them; none while a callback or the base has them

@@ -6,6 +6,7 @@ use Rattle.fm_types.specs.declared.ids.OpId.{OpId}
 use Rattle.fm_types.specs.declared.ids.VolumeId.{VolumeId}
 use Rattle.fm_types.specs.declared.ids.StreamId.{StreamId}
 use Rattle.fm_types.specs.declared.ids.HandleId.{HandleId}
+use Rattle.fm_types.specs.declared.ids.InstanceId.{InstanceId}
 use Rattle.fm_types.specs.declared.ids.CtxId.{CtxId}
 use Rattle.fm_types.specs.declared.status.Status.{Status}
 use Rattle.fm_types.specs.declared.status.Status.TheVariants.{Success, TooMany, WrongStep}
@@ -68,6 +69,7 @@ begun_record number volume stream handle born path params = record {
   stream = stream;
   handle = handle;
   born = born;
+  below = None;
   path = path;
   params = Some params;
   answer = bare_answer Success;
@@ -83,6 +85,10 @@ begun volume stream handle born path params t = record {
       t.operations ++ begun_record t.next volume stream handle born path params ∷ [];
   next = t.next + 1;
 }
+
+-- it began below that instance, if one is named, and not at the top; and it visits those that were born before `born` alone
+abbrev pub placed : Option InstanceId → ℕ → FlowRecord → FlowRecord
+placed below born r = record r { born = born; below = below }
 
 -- an operation begins, with the next number: refused with 29 where the table is full, and with 1 where memory is refused
 abbrev pub BeginsRecord : VolumeId → Option StreamId → Option HandleId → ℕ → Option (List ℕ) → Params → FlowTable → Result OpId Status → FlowTable → Type 0

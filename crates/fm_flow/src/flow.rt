@@ -11,7 +11,8 @@ ghost use Rattle.fm_flow.specs.Tallied.{IsAscending, entered, left_pre, left_pos
 ghost use Rattle.fm_flow.specs.Drains.{owes, DrainTaken, RunsEarly, drain_done_of};
 ghost use Rattle.fm_flow.specs.Flights.{flies};
 ghost use Rattle.fm_flow.specs.OnVolumes.{is_left_on, left_on};
-ghost use Rattle.fm_flow.specs.Table.{in_flight, IsFlow, MayLieBelowOf, OwesNext, StandsAt, empty_table, is_number, operation_at, changed, told, is_full, is_collectable, BeginsRecord, collect_reply, collected_of, is_spent};
+ghost use Rattle.fm_flow.specs.Initiators.{is_below, is_begun_by, begun_by};
+ghost use Rattle.fm_flow.specs.Table.{in_flight, IsFlow, MayLieBelowOf, OwesNext, StandsAt, empty_table, is_number, operation_at, changed, placed, told, is_full, is_collectable, BeginsRecord, collect_reply, collected_of, is_spent};
 
 use crate::action::{Below, FlowAction};
 use crate::boxed_record::BoxedRecord;
@@ -146,6 +147,30 @@ fn left_on(operations: &[BoxedRecord], volume: VolumeId) -> usize
     operations
         .iter()
         .filter(|operation| is_left_on(operation.as_ref(), volume))
+        .count()
+}
+
+fn is_below(instance: InstanceId, below: Option<InstanceId>) -> bool
+    ensures { result ≡ is_below instance.0 below }
+{
+    match below {
+        Some(below) => below.0 == instance.0,
+        None => false,
+    }
+}
+
+fn is_begun_by(operation: &OperationRecord, instance: InstanceId) -> bool
+    ensures { result ≡ is_begun_by instance.0 operation.now }
+{
+    !operation.is_collected() && is_below(instance, operation.below())
+}
+
+fn begun_by(operations: &[BoxedRecord], instance: InstanceId) -> usize
+    ensures { result ≡ count_by (is_begun_by instance.0) operations.now }
+{
+    operations
+        .iter()
+        .filter(|operation| is_begun_by(operation.as_ref(), instance))
         .count()
 }
 
@@ -418,6 +443,18 @@ impl Flow {
         Ok(number)
     }
 
+    /// An operation that has just begun began below an instance, whose filter asked for it, or at the base
+    /// (`InitiatingInstance` of `FltReadFile` and its like): it visits those instances alone that were
+    /// born before `born`, and lie below that one if one is named. The operation has to be there. All other
+    /// operations stay. It takes no memory.
+    pub fn place_below(&mut self, number: OpId, below: Option<InstanceId>, born: u64)
+        requires { is_some (operation_at number self.old) ≡ true }
+        ensures { self.new ≡ changed number (placed below born) self.old }
+    {
+        let place = standing(&self.operations, number);
+        self.operations[place].as_mut().place_below(below, born);
+    }
+
     /// Whether no operation can begin: 256 are there whose answer wasn't handed out, or the numbers run
     /// out.
     pub fn is_full(&self) -> bool
@@ -564,6 +601,13 @@ impl Flow {
         ensures { result ≡ left_on volume self.now }
     {
         left_on(&self.operations, volume) as u64
+    }
+
+    /// How many operations began below an instance, asked for by its filter, whose answers weren't handed out.
+    pub fn begun_by(&self, instance: InstanceId) -> u64
+        ensures { result ≡ begun_by instance.0 self.now }
+    {
+        begun_by(&self.operations, instance) as u64
     }
 
     /// Gives an instance that is torn down the completion of a postoperation that it is owed, before

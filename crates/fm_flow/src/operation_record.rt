@@ -14,7 +14,7 @@ ghost use Rattle.fm_flow.specs.Sound.{IsSound};
 ghost use Rattle.fm_flow.specs.Drains.{is_of, owes, owed_to, drained_early, early_over, RunsEarly};
 ghost use Rattle.fm_flow.specs.Flights.{flies};
 ghost use Rattle.fm_flow.specs.Holds.{holder, is_held, same_number, sync_of};
-ghost use Rattle.fm_flow.specs.Table.{begun_record, marked, is_collectable};
+ghost use Rattle.fm_flow.specs.Table.{begun_record, placed, marked, is_collectable};
 
 use crate::action::{Below, FlowAction};
 use crate::answered::{bare_answer, base_counted, handle_given};
@@ -49,6 +49,7 @@ pub struct OperationRecord {
     stream: Option<StreamId>,
     handle: Option<HandleId>,
     born: u64,
+    below: Option<InstanceId>,
     path: Option<SharedPath>,
     // the same path, for the base's call, so that `next` takes no memory
     lent_path: Option<SharedPath>,
@@ -75,9 +76,9 @@ impl Model for OperationRecord {
     ghost use Rattle.fm_flow.specs.Sound.{IsSound, HasPath};
     ghost use Rattle.fm_flow.specs.Noted.{IsBare, IsNoted, received_in};
 
-    ghost view = { λ o. record { number = o.number; operation = o.operation; volume = o.volume; stream = o.stream; handle = o.handle; born = o.born; path = o.path; params = received_in o.data; answer = o.answer; stage = o.stage; entries = o.entries.items; kept = o.kept.items; collected = o.is_collected } };
+    ghost view = { λ o. record { number = o.number; operation = o.operation; volume = o.volume; stream = o.stream; handle = o.handle; born = o.born; below = o.below; path = o.path; params = received_in o.data; answer = o.answer; stage = o.stage; entries = o.entries.items; kept = o.kept.items; collected = o.is_collected } };
 
-    ghost invariant = { λ o. IsSound (record { number = o.number; operation = o.operation; volume = o.volume; stream = o.stream; handle = o.handle; born = o.born; path = o.path; params = received_in o.data; answer = o.answer; stage = o.stage; entries = o.entries.items; kept = o.kept.items; collected = o.is_collected }) × ((65 ≤ vec_capacity o.entries) × ((32 ≤ vec_capacity o.kept) × (HasPath o.stage o.path o.lent_path × (IsBare o.data × IsNoted o.owed o.last o.entries.items)))) };
+    ghost invariant = { λ o. IsSound (record { number = o.number; operation = o.operation; volume = o.volume; stream = o.stream; handle = o.handle; born = o.born; below = o.below; path = o.path; params = received_in o.data; answer = o.answer; stage = o.stage; entries = o.entries.items; kept = o.kept.items; collected = o.is_collected }) × ((65 ≤ vec_capacity o.entries) × ((32 ≤ vec_capacity o.kept) × (HasPath o.stage o.path o.lent_path × (IsBare o.data × IsNoted o.owed o.last o.entries.items)))) };
 }
 
 impl OperationRecord {
@@ -109,6 +110,7 @@ impl OperationRecord {
             stream,
             handle,
             born,
+            below: None,
             path,
             lent_path,
             data: Some(data),
@@ -120,6 +122,22 @@ impl OperationRecord {
             kept,
             is_collected: false,
         })
+    }
+
+    /// It began below that instance, if one is named, and visits those that were born before `born` alone.
+    pub(crate) fn place_below(&mut self, below: Option<InstanceId>, born: u64)
+        ensures { self.new ≡ placed below born self.old }
+    {
+        self.below = below;
+        self.born = born;
+    }
+
+    /// The instance below which it began, whose filter asked for it (`InitiatingInstance` of `FltReadFile`
+    /// and its like); none where it began at the top, or at the base.
+    pub fn below(&self) -> Option<InstanceId>
+        ensures { result ≡ self.now.below }
+    {
+        self.below
     }
 
     /// The number by which it is named.

@@ -1,5 +1,5 @@
 -- What is known of an event outside the lock.
-use Rattle.fm_lock.specs.Events.{EventAlone, EventBy, HandAfter, IsRefused, Made, MadeAlone, is_by, is_register}
+use Rattle.fm_lock.specs.Events.{EventAlone, EventBy, HandAfter, IsRefused, Made, MadeAlone, is_by, has_own_call}
 use Rattle.fm_lock.specs.Views.{HandView, LockedView}
 use Rattle.fm_world.specs.Hands.{hand_len}
 use Rattle.fm_world.specs.StepHands.{worker_of}
@@ -43,7 +43,7 @@ alone_by false s old result new h = subst (λ r. IfErr r (λ refused. refused �
 
 pub alone_seen : (s : Step) (old : LockedView) (result : Result StepReply (Refused Step)) (new : LockedView) → EventAlone s old result new
     → IfErr result (λ refused. refused ≡ record { status = Status.WrongStep; handed_back = s })
-alone_seen s old result new h = alone_by (is_none (worker_of s) && not (is_register s)) s old result new h
+alone_seen s old result new h = alone_by (is_none (worker_of s) && not (has_own_call s)) s old result new h
 
 -- an answer that isn't handed out is refused so
 collected_by : (m : Option FlowRecord) → IfErr (unwrap_or (option_map collect_reply m) (Err Status.WrongStep)) (λ status. status ≡ Status.WrongStep)

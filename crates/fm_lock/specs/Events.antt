@@ -41,14 +41,16 @@ abbrev pub MadeAlone : Step → LockedView → Result StepReply (Refused Step) �
 MadeAlone s old (Ok answer) new = Steps old.world s answer new.world × KeepsHired old new
 MadeAlone s old (Err refused) new = ⊥
 
--- a filter registers by its name alone, which has to be that of one that was handed in
-abbrev pub is_register : Step → Bool
-is_register (step.Register name registration) = true
-is_register _ = false
+-- an event with a call of its own: a filter registers by its name alone, which has to be that of one that was handed in, and a dismount begins by what a
+-- look at a rundown gate made, which found the volume drained
+abbrev pub has_own_call : Step → Bool
+has_own_call (step.Register name registration) = true
+has_own_call (step.StartDismount v) = true
+has_own_call _ = false
 
 -- by nobody's hand, if the event names no worker
 abbrev pub EventAlone : Step → LockedView → Result StepReply (Refused Step) → LockedView → Type 0
-EventAlone s old result new = MatchBool (is_none (worker_of s) && not (is_register s)) (MadeAlone s old result new) (IsRefused s result × (new ≡ old))
+EventAlone s old result new = MatchBool (is_none (worker_of s) && not (has_own_call s)) (MadeAlone s old result new) (IsRefused s result × (new ≡ old))
 
 -- an event that hands data out or back: by the hand's worker, if its number is the state's, and else `wrong`
 abbrev pub EventOr : {A : Type 0} → A → (WorkerId → World → A → World → Type 0) → LockedView → HandView → A → LockedView → HandView → Type 0

@@ -15,10 +15,11 @@ use fm_altitude::Altitude;
 use fm_ctx::{Due, SetMode};
 use fm_data::{Completion, PreVerdict, Request};
 use fm_flow::Hold;
+use fm_rundown::Seen;
 use fm_types::{
     Bytes, ContextKind, CtxId, FilterId, HandleId, InstanceId, Name, OpId, Status, VolumeId,
 };
-use fm_world::{SetAnswer, Step};
+use fm_world::{BeginsFrom, SetAnswer, Step};
 use std::sync::Wait;
 use std::sync::ledger::Ledger;
 
@@ -73,6 +74,17 @@ impl<F: Drop, L: Ledger> Manager<F, L> {
     /// An operation begins. It answers as the State does: 32, 14, 30, 7, 33, 29, 1.
     pub fn begin<R: Wait>(&self, rt: &R, what: Request) -> Result<OpId, Status> {
         operation_in(self.step_alone(rt, Step::Begin(what)))
+    }
+
+    /// An operation begins that an instance's filter asks for itself, below that instance or at the base (`FltReadFile`, `FltCreateFileEx` and their like). It
+    /// answers as the State does: 8, 13, 32, then as `begin`.
+    pub fn begin_from<R: Wait>(
+        &self,
+        rt: &R,
+        from: BeginsFrom,
+        what: Request,
+    ) -> Result<OpId, Status> {
+        operation_in(self.step_alone(rt, Step::BeginFrom(from, what)))
     }
 
     /// Lets an operation go on that a preoperation held (`FltCompletePendedPreOperation`). It answers as the State does: 30, 32, 28. The hand loses the
@@ -466,9 +478,9 @@ impl<F: Drop, L: Ledger> Manager<F, L> {
         done_in(self.step_alone(rt, Step::FinishFilter { filter }))
     }
 
-    /// The dismount of a volume begins. It answers as the State does: 7, 33, 34.
-    pub fn start_dismount<R: Wait>(&self, rt: &R, volume: VolumeId) -> Result<(), Status> {
-        done_in(self.step_alone(rt, Step::StartDismount { volume }))
+    /// The dismount of a volume begins, which a look at a rundown gate found drained; no other call begins one. It answers as the State does: 7, 33, 34.
+    pub fn start_dismount<R: Wait>(&self, rt: &R, seen: Seen) -> Result<(), Status> {
+        self.locked(rt).start_dismount(seen)
     }
 
     /// The lowest handle that is open on a dismounting volume closes. It answers as the State does: 7, 30.

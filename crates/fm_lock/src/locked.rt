@@ -4,8 +4,9 @@ ghost use Rattle.std.specs.Prelude.{◌≡◌, ◌↔◌, false, Some, None, IsT
 ghost use Rattle.fm_flow.specs.Steps.{is_done};
 ghost use Rattle.fm_flow.specs.Table.{operation_at};
 ghost use Rattle.fm_world.specs.World.{empty_world};
+ghost use Rattle.fm_world.specs.Dismounts.{StartsDismount};
 ghost use Rattle.fm_world.specs.Events.{Collects, Registers, sync_worker};
-ghost use Rattle.fm_lock.specs.Events.{EventAlone, EventBy, KeepsHired, is_by, is_register};
+ghost use Rattle.fm_lock.specs.Events.{EventAlone, EventBy, KeepsHired, is_by, has_own_call};
 ghost use Rattle.fm_lock.specs.Turns.{place_of};
 ghost use Rattle.fm_lock.specs.Views.{HandView};
 ghost use Rattle.fm_lock.specs.Blanks.{IsBlankOf};
@@ -13,6 +14,7 @@ ghost use Rattle.fm_lock.specs.Blanks.{IsBlankOf};
 use crate::hand::Hand;
 use fm_core::State;
 use fm_data::Answer;
+use fm_rundown::Seen;
 use fm_types::limits::{FILTERS, WORKERS};
 use fm_types::{FilterId, Name, OpId, Registration, Status, WorkerId};
 use fm_world::{Refused, Step, StepReply};
@@ -50,11 +52,11 @@ fn is_by(worker: WorkerId, named: Option<WorkerId>) -> bool
     }
 }
 
-/// Whether an event registers a filter.
-fn is_register(step: &Step) -> bool
-    ensures { result ≡ is_register step.now }
+/// Whether an event has a call of its own: `register` or `start_dismount`.
+fn has_own_call(step: &Step) -> bool
+    ensures { result ≡ has_own_call step.now }
 {
-    matches!(step, Step::Register { .. })
+    matches!(step, Step::Register { .. } | Step::StartDismount { .. })
 }
 
 impl<L: Ledger> Locked<L> {
@@ -101,12 +103,12 @@ impl<L: Ledger> Locked<L> {
     }
 
     /// Makes an event that names no worker. It answers as the State does. Refused with 30 before the event, nothing changed and the event handed back: if
-    /// it names one, or registers a filter, which `register` does.
+    /// it names one, or registers a filter or begins a dismount, which `register` and `start_dismount` do.
     #[tactic(auto, using(fm_world::proofs::Handing::keeps_pairs))]
     pub fn step_alone(&mut self, step: Step) -> Result<StepReply, Refused<Step>>
         ensures { EventAlone step self.old result self.new }
     {
-        if step.worker().is_some() || is_register(&step) {
+        if step.worker().is_some() || has_own_call(&step) {
             return Err(Refused {
                 status: Status::WrongStep,
                 handed_back: step,
@@ -133,6 +135,15 @@ impl<L: Ledger> Locked<L> {
             self.loaded[at] = Some(place);
         }
         Ok(filter)
+    }
+
+    /// The dismount of a volume begins, which a look at a rundown gate found drained. It answers as the State does: 7, 33, 34.
+    #[tactic(auto, using(fm_world::proofs::Handing::keeps_pairs))]
+    pub fn start_dismount(&mut self, seen: Seen) -> Result<(), Status>
+        ensures event { StartsDismount self.old.world seen.volume result self.new.world }
+        ensures kept { KeepsHired self.old self.new }
+    {
+        self.state.start_dismount(seen.volume())
     }
 
     /// The place of the filter that a number stands for; none where that number wasn't given.

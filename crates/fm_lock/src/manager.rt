@@ -113,7 +113,8 @@ impl<F: Drop, L: Ledger> Manager<F, L> {
         result
     }
 
-    /// Makes an event that names no worker, as `Locked::step_alone`. A filter is registered by `register` alone, by its name.
+    /// Makes an event that names no worker, as `Locked::step_alone`. A filter is registered by `register` alone, by its name,
+    /// and a dismount begins by `start_dismount` alone.
     #[tactic(auto, using(crate::proofs::Seen::alone_seen))]
     pub fn step_alone<R: Wait>(&self, rt: &R, step: Step) -> Result<StepReply, Refused<Step>>
         ensures { IfErr result (λ refused. refused ≡ record { status = Status.WrongStep; handed_back = step }) }

@@ -75,7 +75,7 @@ svg .callback { stroke: var(--quiet); stroke-width: 2; fill: none; }
 svg .here { fill: var(--pick); }
 svg .faded { opacity: 0.18; }
 #told { flex: 1 1 0; overflow: auto; margin: 0; padding: 4px 0 30px; font: 12px/1.5 ui-monospace, monospace; }
-#told div { display: grid; grid-template-columns: 52px minmax(150px, 26ch) 1fr; gap: 0 12px; padding: 0 12px; cursor: pointer; content-visibility: auto; contain-intrinsic-height: 18px; }
+#told div { display: grid; grid-template-columns: 52px minmax(150px, 26ch) 1fr; gap: 0 12px; padding: 0 12px; cursor: pointer; }
 #told div:hover { background: var(--panel); }
 #told div.here { background: var(--pick); }
 #told .line { color: var(--quiet); text-align: right; }
@@ -112,7 +112,7 @@ svg .faded { opacity: 0.18; }
   #paper { display: block; }
   #paper svg { position: static; margin: 0 0 6mm; break-inside: avoid; max-width: 100%; height: auto; }
   #told { overflow: visible; font-size: 9px; }
-  #told div { content-visibility: visible; break-inside: avoid; }
+  #told div { break-inside: avoid; }
 }
 </style>
 </head>
@@ -139,7 +139,7 @@ pub const PAGE_END: &str = r##"</script>
 <script>
 'use strict';
 // A run is drawn from its objects: columns are what happened, in order; lanes are clients, instances by altitude, and file systems.
-const STEP = 15, LANE = 30, ROW = 13, ROWS = 12, BAR = 12, SVG = 'http://www.w3.org/2000/svg';
+const CHUNK = 100, STEP = 15, LANE = 30, ROW = 13, ROWS = 12, BAR = 12, SVG = 'http://www.w3.org/2000/svg';
 const HUES = [210, 22, 135, 280, 330, 45, 181, 90];
 const SILENT = new Set(['Run', 'End', 'Comment', 'Became', 'Leaked', 'Told', 'Met', 'Unmet']);
 const RETURNS = { preoperation: ['Pre'], postoperation: ['Post', 'PostHeld'], drain: ['Drained'] };
@@ -560,24 +560,55 @@ function cell(row, name, text) {
   row.appendChild(element);
 }
 
-function fillList() {
-  const list = byId('told');
-  let line = -1;
-  for (const told of run.rows) {
-    const row = document.createElement('div');
-    row.className = told.event + (told.event === 'Base' && told.status === 18 ? ' fault' : '') + (told.telling === 'limit' ? ' limit' : '');
-    row.setAttribute('role', 'listitem');
-    row.told = told;
-    told.row = row;
-    cell(row, 'line', told.line === line || told.event === 'End' ? '' : String(told.line));
-    if (told.event === 'Comment') cell(row, 'comment', told.command);
-    else {
-      cell(row, 'command', told.line === line ? '' : told.command || (told.expected !== undefined ? '#! expect ' + told.expected : ''));
-      cell(row, 'words', wordsOf(told));
-    }
-    line = told.line;
-    list.appendChild(row);
+// A row of the list, with its line and command unless those of the row before are the same.
+function rowOf(told, before) {
+  const row = document.createElement('div'), isSame = before !== undefined && before.line === told.line;
+  row.className = told.event + (told.event === 'Base' && told.status === 18 ? ' fault' : '') + (told.telling === 'limit' ? ' limit' : '') + (told === run.here ? ' here' : '');
+  row.setAttribute('role', 'listitem');
+  row.told = told;
+  told.row = row;
+  cell(row, 'line', isSame || told.event === 'End' ? '' : String(told.line));
+  if (told.event === 'Comment') cell(row, 'comment', told.command);
+  else {
+    cell(row, 'command', isSame ? '' : told.command || (told.expected !== undefined ? '#! expect ' + told.expected : ''));
+    cell(row, 'words', wordsOf(told));
   }
+  return row;
+}
+
+// The list stands in chunks. One has its rows as long as it is near what is seen; else it has their height, which is a guess before it was seen.
+function fillList() {
+  const list = byId('told'), near = new IntersectionObserver((seen) => seen.forEach(noteSeen), { root: list, rootMargin: '600px' });
+  run.chunks = [];
+  for (let from = 0; from < run.rows.length; from += CHUNK) {
+    const chunk = document.createElement('section');
+    chunk.setAttribute('role', 'none');
+    chunk.from = from;
+    chunk.style.height = Math.min(CHUNK, run.rows.length - from) * 18 + 'px';
+    run.chunks.push(chunk);
+    list.appendChild(chunk);
+    near.observe(chunk);
+  }
+  run.rows.forEach((told, at) => { told.at = at; });
+}
+
+function noteSeen(seen) {
+  seen.target.isNear = seen.isIntersecting;
+  if (seen.isIntersecting) fillChunk(seen.target);
+  else emptyChunk(seen.target);
+}
+
+function fillChunk(chunk) {
+  if (chunk.firstChild) return;
+  for (let at = chunk.from; at < Math.min(chunk.from + CHUNK, run.rows.length); at += 1) chunk.appendChild(rowOf(run.rows[at], run.rows[at - 1]));
+  chunk.style.height = '';
+}
+
+function emptyChunk(chunk) {
+  if (!chunk.firstChild) return;
+  chunk.style.height = chunk.offsetHeight + 'px';
+  for (const row of chunk.children) row.told.row = null;
+  chunk.replaceChildren();
 }
 
 function wordsOf(told) {
@@ -587,8 +618,9 @@ function wordsOf(told) {
 }
 
 function choose(told, fromList) {
-  if (run.here) run.here.classList.remove('here');
-  run.here = told.row;
+  if (run.here && run.here.row) run.here.row.classList.remove('here');
+  run.here = told;
+  if (told.at !== undefined) fillChunk(run.chunks[Math.floor(told.at / CHUNK)]);
   if (told.row) told.row.classList.add('here');
   chosen = told.column !== undefined ? told.column : told.near;
   const chart = byId('chart');
@@ -616,7 +648,7 @@ function clickChart(event) {
 }
 
 function clickList(event) {
-  const row = event.target.closest('#told > div');
+  const row = event.target.closest('#told div');
   if (!row || row.told.event === 'End') return;
   run.only = row.told.operation || null;
   choose(row.told, true);
@@ -778,7 +810,8 @@ function start() {
   byId('explain').addEventListener('click', () => byId('legend').classList.toggle('shown'));
   addEventListener('keydown', pressKey);
   addEventListener('resize', () => drawView(true));
-  addEventListener('beforeprint', fillPaper);
+  addEventListener('beforeprint', () => { run.chunks.forEach(fillChunk); fillPaper(); });
+  addEventListener('afterprint', () => run.chunks.filter((chunk) => !chunk.isNear).forEach(emptyChunk));
   const line = /^#L(\d+)$/.exec(location.hash);
   const told = line && run.columns.find((told) => told.line === Number(line[1]));
   if (told) choose(told, false);

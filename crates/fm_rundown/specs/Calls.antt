@@ -48,11 +48,11 @@ abbrev pub Closes : ℕ → SeatView → Result (Unit {0}) Status → SeatView �
 Closes v old result new = MatchResult result (λ _. new ≡ changed v closed old) (λ _. ⊥)
 
 -- `look`: whatever it answers, it has taken one look; what it answers is what the seat has then seen; a volume that the seat has seen closing isn't
--- open, and of a drained one it holds no pass
+-- open, and of a drained one, which is named, it holds no pass
 abbrev pub Sees : ℕ → SeatView → Look → SeatView → Type 0
 Sees v old Open new = IsUnseen v old × (new ≡ changed v took_look old)
 Sees v old Closing new = new ≡ changed v (λ p. saw_closing (took_look p)) old
-Sees v old Drained new = ((volume_of v old).held ≡ 0) × (new ≡ changed v (λ p. saw_drained (took_look p)) old)
+Sees v old (Drained seen) new = (seen.volume.0 ≡ v) × ((volume_of v old).held ≡ 0) × (new ≡ changed v (λ p. saw_drained (took_look p)) old)
 
 abbrev pub Looks : ℕ → SeatView → Result Look Status → SeatView → Type 0
 Looks v old result new = MatchResult result (λ look. Sees v old look new) (λ _. ⊥)

@@ -10,7 +10,7 @@ ghost use Rattle.fm_rundown.specs.Seats.{IsSeatOf, volumes_of};
 ghost use Rattle.fm_rundown.specs.Calls.{OnVolume, Enters, Leaves, Closes, Sees, Looks};
 
 use crate::gate::RundownGate;
-use crate::look::Look;
+use crate::look::{Look, Seen};
 use crate::seat::GateSeat;
 use crate::steps::{Shared, add, read, release, shut, undo};
 use crate::view::SeatView;
@@ -52,14 +52,14 @@ fn try_enter(
 }
 
 // `look`.
-fn see(shared: &Shared, seat: &mut Seat<(), SeatView>, volume: usize) -> Look
+fn see(shared: &Shared, seat: &mut Seat<(), SeatView>, volume: VolumeId) -> Look
     requires own { IsAt shared.now.table_id seat.old }
-    requires volume { volume < most_volumes }
+    requires volume { volume.0 < most_volumes }
     ensures own { IsAt shared.now.table_id seat.new }
-    ensures sees { Sees volume seat.old.me.0 result seat.new.me.0 }
+    ensures sees { Sees volume.0 seat.old.me.0 result seat.new.me.0 }
 {
-    match read(shared, seat, volume) {
-        1 => Look::Drained,
+    match read(shared, seat, usize::from(volume.0)) {
+        1 => Look::Drained(Seen { volume }),
         found if is_closing(found) => Look::Closing,
         _ => Look::Open,
     }
@@ -124,7 +124,7 @@ impl RundownGate {
         Ok(())
     }
 
-    /// How far the volume's rundown has come. Drained is final: nobody holds a pass of it then, and nobody gets one
+    /// How far the volume's rundown has come. Drained is final, and names the volume: nobody holds a pass of it then, and nobody gets one
     /// (`laws::drained_is_final`). While an `enter` takes its pass back, the answer may be Closing. Refused with 7 where the gate has no such
     /// volume, and then nothing changes.
     pub fn look(&self, seat: &mut GateSeat, volume: VolumeId) -> Result<Look, Status>
@@ -132,8 +132,8 @@ impl RundownGate {
         ensures own { IsSeatOf self.now seat.new }
         ensures looks { OnVolume Looks self.now volume.0 seat.old result seat.new }
     {
-        let place = self.place(volume)?;
+        self.place(volume)?;
         let GateSeat { seat, held: _ } = seat;
-        Ok(see(&self.table.shared, seat, place))
+        Ok(see(&self.table.shared, seat, volume))
     }
 }

@@ -14,6 +14,6 @@ mod steps;
 mod view;
 
 pub use crate::gate::RundownGate;
-pub use crate::look::Look;
+pub use crate::look::{Look, Seen};
 pub use crate::seat::GateSeat;
 pub use crate::view::{SeatView, VolumeView};

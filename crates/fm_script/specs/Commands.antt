@@ -1,5 +1,5 @@
 -- What the words of a line stand for, and by which status a line is refused that stands for nothing.
-use Rattle.std.specs.Prelude.{◌≡◌, ℕ, Bool, true, false, List, [], ◌∷◌, Option, Result, Ok, Err, MatchResult, codes, bytes_eq, cond, find}
+use Rattle.std.specs.Prelude.{◌≡◌, ℕ, Bool, true, false, List, [], ◌∷◌, Option, Some, None, Result, Ok, Err, MatchResult, codes, bytes_eq, cond, find}
 use Rattle.fm_script.specs.Words.{CtxId, OpId, WorkerId, Status, BadRequest, World, Keyword, Task, ◌>>=◌}
 use Rattle.fm_types.specs.declared.operation.CreateMode.{CreateMode}
 use Rattle.fm_types.specs.declared.operation.CreateMode.TheVariants as create
@@ -9,11 +9,13 @@ use Rattle.fm_types.specs.Paths.{IsPath}
 use Rattle.fm_types.specs.Names.{IsName}
 use Rattle.fm_altitude.specs.Grammar.{IsAltitude, canonical}
 use Rattle.fm_data.specs.declared.request.Request.TheVariants as request
+use Rattle.fm_world.specs.declared.begins_from.BeginsFrom.{BeginsFrom}
+use Rattle.fm_world.specs.declared.begins_from.BeginsFrom.TheVariants as begins
 use Rattle.fm_world.specs.declared.step.Step.TheVariants as step
 use Rattle.fm_script.specs.declared.keyword.Keyword.TheVariants as keyword
 use Rattle.fm_script.specs.declared.task.Task.TheVariants as task
-use Rattle.fm_script.specs.Ids.{filter_in, volume_in, operation_in, worker_in}
-use Rattle.fm_script.specs.Tasks.{volume_id, worker_id, place_ids, turn_ids, turn_in, one_id, only_instance, only_volume, only_worker, answered_read, event}
+use Rattle.fm_script.specs.Ids.{filter_in, instance_in, volume_in, operation_in, worker_in}
+use Rattle.fm_script.specs.Tasks.{instance_id, volume_id, worker_id, place_ids, turn_ids, turn_in, one_id, only_instance, only_volume, only_worker, answered_read, event}
 use Rattle.fm_script.specs.ContextCommands.{context_read, allocate_read, write_body_read}
 use Rattle.fm_script.specs.FileCommands.{file_read, write_read}
 use Rattle.fm_script.specs.TeardownCommands.{teardown_read}
@@ -84,6 +86,8 @@ spelling keyword.EmptyV = codes "emptyv"
 spelling keyword.FinishV = codes "finishv"
 spelling keyword.QuerySize = codes "querysize"
 spelling keyword.SetDelete = codes "setdelete"
+spelling keyword.Below = codes "below"
+spelling keyword.AtBase = codes "atbase"
 
 abbrev pub all_keywords : List Keyword
 all_keywords =
@@ -94,7 +98,8 @@ all_keywords =
     keyword.Delete ∷ keyword.Cleanup ∷ keyword.Close ∷ keyword.Fail ∷ keyword.Failures ∷ keyword.Resume ∷ keyword.ResPost ∷
     keyword.Query ∷ keyword.Queried ∷ keyword.Start ∷ keyword.Started ∷ keyword.Complete ∷ keyword.Completed ∷ keyword.Enter ∷ keyword.Left ∷ keyword.Unload ∷
     keyword.Unloaded ∷ keyword.EmptyF ∷ keyword.FinishF ∷ keyword.Flight ∷ keyword.Drain ∷ keyword.Drained ∷
-    keyword.Dismount ∷ keyword.Drop ∷ keyword.EmptyV ∷ keyword.FinishV ∷ keyword.QuerySize ∷ keyword.SetDelete ∷ []
+    keyword.Dismount ∷ keyword.Drop ∷ keyword.EmptyV ∷ keyword.FinishV ∷ keyword.QuerySize ∷ keyword.SetDelete ∷
+    keyword.Below ∷ keyword.AtBase ∷ []
 
 -- the keyword that a word is
 unfoldable pub keyword_read : List ℕ → Option Keyword
@@ -272,6 +277,33 @@ resume_post_read w words = turn_read w words >>= λ turn. event (step.ResumePost
 abbrev pub phase_read : World → List (List ℕ) → Result Task Status
 phase_read w words = only_instance w words >>= λ own. Ok (task.Phase own)
 
+-- ---- a filter's own requests
+
+-- a request but a create and a write
+abbrev pub asked_by : World → Option Keyword → List (List ℕ) → Result Task Status
+asked_by w None words = Err BadRequest
+asked_by w (Some keyword.List) words = list_read w words
+asked_by w (Some other) words = file_read w other words
+
+abbrev pub request_read : World → List (List ℕ) → Result Task Status
+request_read w [] = Err BadRequest
+request_read w (word ∷ words) = asked_by w (keyword_read word) words
+
+-- it begins there, if it is one
+abbrev pub begun_from : BeginsFrom → Task → Result Task Status
+begun_from from (task.Event (step.Begin what)) = event (step.BeginFrom from what)
+begun_from from _ = Err BadRequest
+
+-- below an instance
+abbrev pub below_read : World → List (List ℕ) → Result Task Status
+below_read w [] = Err BadRequest
+below_read w (instance ∷ words) =
+    instance_id instance >>= λ i. request_read w words >>= λ asked. instance_in w i >>= λ own. begun_from (begins.Below own) asked
+
+-- at the base
+abbrev pub at_base_read : World → List (List ℕ) → Result Task Status
+at_base_read w words = request_read w words >>= begun_from begins.Base
+
 -- the command whose path takes memory as it is read
 abbrev pub is_create : Keyword → Bool
 is_create keyword.Create = true
@@ -295,6 +327,8 @@ ReadsAs w contexts keyword.Resume words result = Resumes w words result
 ReadsAs w contexts keyword.ResPost words result = result ≡ resume_post_read w words
 ReadsAs w contexts keyword.Collect words result = result ≡ collect_read w words
 ReadsAs w contexts keyword.Phase words result = result ≡ phase_read w words
+ReadsAs w contexts keyword.Below words result = result ≡ below_read w words
+ReadsAs w contexts keyword.AtBase words result = result ≡ at_base_read w words
 ReadsAs w contexts other words result =
     result ≡ cond (is_of_contexts other) (context_read contexts other words)
     (cond (is_of_teardowns other) (teardown_read w other words) (file_read w other words))

@@ -3,7 +3,7 @@
 //! that wasn't given is refused: 6, 7, 8, 14, 30 and 25 in this order, and 30 for a worker last.
 
 ghost use Rattle.std.specs.Prelude.{◌≡◌, IfOk, map};
-ghost use Rattle.fm_script.specs.Commands.{Attaches, Creates, Loads, Mounts, ReadsAs, ReadsCreate, ReadsPlace, SetsUp, attach_at, base_read, collect_read, create_at, create_ids, create_mode_read, go_read, is_create, is_of_contexts, is_of_teardowns, list_read, next_read, option_read, phase_read, registration_read, resume_post_read, setup_at, setup_done_read, setup_ids, takes_bytes, turn_read, with_bytes_read};
+ghost use Rattle.fm_script.specs.Commands.{at_base_read, begun_from, below_read, request_read, Attaches, Creates, Loads, Mounts, ReadsAs, ReadsCreate, ReadsPlace, SetsUp, attach_at, base_read, collect_read, create_at, create_ids, create_mode_read, go_read, is_create, is_of_contexts, is_of_teardowns, list_read, next_read, option_read, phase_read, registration_read, resume_post_read, setup_at, setup_done_read, setup_ids, takes_bytes, turn_read, with_bytes_read};
 ghost use Rattle.fm_text.specs.Numbers.{id_read, number_read};
 ghost use Rattle.fm_script.specs.Tasks.{answered_read, ids_read, numbers_read, one_id, only_instance, only_volume, only_worker, or_bad, turn_in, with_worker, yes_or_no};
 
@@ -15,7 +15,7 @@ use crate::task::Task;
 use crate::teardown_command::read_teardown_command;
 use crate::verdict_command::{read_plan, read_post, read_pre, read_resume};
 use fm_altitude::Altitude;
-use fm_core::{State, Step};
+use fm_core::{BeginsFrom, State, Step};
 use fm_data::Request;
 use fm_text::{read_id, read_number};
 use fm_types::{
@@ -81,6 +81,8 @@ pub fn read_command(
         Keyword::ResPost => read_resume_post(state, words),
         Keyword::Collect => read_collect(state, words),
         Keyword::Phase => read_phase(state, words),
+        Keyword::Below => read_below(state, words),
+        Keyword::AtBase => read_at_base(state, words),
         other if is_of_contexts(other) => read_context_command(contexts, other, words),
         other if is_of_teardowns(other) => read_teardown_command(state, other, words),
         other => read_file_command(state, other, words),
@@ -133,6 +135,51 @@ fn read_phase(state: &State, words: &[&[u8]]) -> Result<Task, Status>
     ensures { result ≡ phase_read state.now (map (λ word. word.now) words.now) }
 {
     Ok(Task::Phase(only_instance(state, words)?))
+}
+
+// A request but a create and a write.
+fn read_request(state: &State, words: &[&[u8]]) -> Result<Task, Status>
+    ensures { result ≡ request_read state.now (map (λ word. word.now) words.now) }
+{
+    let Some((keyword, words)) = words.split_first() else {
+        return Err(Status::BadRequest);
+    };
+    match Keyword::read(keyword) {
+        None => Err(Status::BadRequest),
+        Some(Keyword::List) => read_list(state, words),
+        Some(other) => read_file_command(state, other, words),
+    }
+}
+
+// A filter's own request begins there.
+fn begun_from(from: BeginsFrom, asked: Task) -> Result<Task, Status>
+    ensures { result ≡ begun_from from asked }
+{
+    match asked {
+        Task::Event(Step::Begin(what)) => Ok(Task::Event(Step::BeginFrom(from, what))),
+        _ => Err(Status::BadRequest),
+    }
+}
+
+// `below I REQUEST`: a filter's own request begins below its instance.
+fn read_below(state: &State, words: &[&[u8]]) -> Result<Task, Status>
+    ensures { result ≡ below_read state.now (map (λ word. word.now) words.now) }
+{
+    let Some((instance, words)) = words.split_first() else {
+        return Err(Status::BadRequest);
+    };
+    let instance = id(b'i', instance)?;
+    let asked = read_request(state, words)?;
+    let instance = instance_in(state, instance)?;
+    begun_from(BeginsFrom::Below(instance), asked)
+}
+
+// `atbase REQUEST`: it begins at the base.
+fn read_at_base(state: &State, words: &[&[u8]]) -> Result<Task, Status>
+    ensures { result ≡ at_base_read state.now (map (λ word. word.now) words.now) }
+{
+    let asked = read_request(state, words)?;
+    begun_from(BeginsFrom::Base, asked)
 }
 
 // Whether the command is on contexts.

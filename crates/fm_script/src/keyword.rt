@@ -70,6 +70,8 @@ pub enum Keyword {
     QuerySize,
     /// `delete` by the word of requests.
     SetDelete,
+    Below,
+    AtBase,
 }
 
 // The keywords that begin with that letter.
@@ -80,10 +82,10 @@ fn beginning_with(letter: u8) -> &'static [Keyword]
     match letter {
         b'l' => &[Keyword::Load, Keyword::List, Keyword::Leaks, Keyword::Left],
         b'm' => &[Keyword::Mount],
-        b'a' => &[Keyword::Attach, Keyword::Alloc],
+        b'a' => &[Keyword::Attach, Keyword::Alloc, Keyword::AtBase],
         b'n' => &[Keyword::Next],
         b'p' => &[Keyword::Pre, Keyword::Plan, Keyword::Post, Keyword::Phase],
-        b'b' => &[Keyword::Base, Keyword::Body, Keyword::Bump],
+        b'b' => &[Keyword::Base, Keyword::Body, Keyword::Bump, Keyword::Below],
         b'g' => &[Keyword::Go, Keyword::Get],
         b'c' => &[
             Keyword::Collect,
@@ -150,7 +152,7 @@ fn spelled(keywords: &[Keyword], word: &[u8]) -> Option<Keyword>
 
 impl Keyword {
     /// All of them.
-    pub const ALL: [Keyword; 62] = [
+    pub const ALL: [Keyword; 64] = [
         Keyword::Load,
         Keyword::Mount,
         Keyword::Attach,
@@ -213,6 +215,8 @@ impl Keyword {
         Keyword::FinishV,
         Keyword::QuerySize,
         Keyword::SetDelete,
+        Keyword::Below,
+        Keyword::AtBase,
     ];
 
     /// The keyword that a word is, if it is one.
@@ -301,6 +305,8 @@ impl Keyword {
             Keyword::FinishV => b"finishv",
             Keyword::QuerySize => b"querysize",
             Keyword::SetDelete => b"setdelete",
+            Keyword::Below => b"below",
+            Keyword::AtBase => b"atbase",
         }
     }
 }

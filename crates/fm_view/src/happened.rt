@@ -282,7 +282,7 @@ impl LineContext<'_> {
                 Event::entered(number_of(*worker), Place::Setup(instance_of(said)))
             }
             Step::SetupDone { worker, .. } => self.returned(*worker),
-            Step::Begin(_) => of_operation(Kind::Began, number_in(said)),
+            Step::Begin(_) | Step::BeginFrom(_, _) => { of_operation(Kind::Began, number_in(said)) }
             Step::ResumePre {
                 worker,
                 operation,

@@ -64,7 +64,10 @@ fn name(notes: &mut Notes, since: u32, task: &Task) -> Result<(), AllocError> {
 // An operation began.
 fn begin(notes: &mut Notes, line: u32, task: &Task) -> Result<(), AllocError> {
     match task {
-        Task::Event(Step::Begin(request)) => notes.begin(line, what_of(request)?),
+        Task::Event(Step::Begin(request) | Step::BeginFrom(_, request)) => notes.begin(
+            line,
+            what_of(request)?,
+        ),
         _ => Ok(()),
     }
 }

@@ -6,7 +6,7 @@ use crate::subject::{
 use crate::usage::{say_wrong, usage};
 use crate::verdict::say_where;
 use fm_altitude::Altitude;
-use fm_core::{Count, Entry, FilterPhase, Phase, Place, State, Step, VolumePhase};
+use fm_core::{BeginsFrom, Count, Entry, FilterPhase, Phase, Place, State, Step, VolumePhase};
 use fm_report::{
     ContextNote, Facts, InstanceNote, Notes, Text, What, fill, held_at, push_ascii, push_context,
     push_instance, push_operation, push_those, push_verb, sentence,
@@ -97,8 +97,11 @@ fn say_unasked(alloc: Global, text: &mut Text, refusal: &RefusedLine<'_>, status
 // Which limit or rule a line passes that could be read.
 fn past_a_limit(task: &Task) -> &'static str {
     match task {
-        Task::Event(Step::Begin(_)) => {
+        Task::Event(Step::Begin(_) | Step::BeginFrom(BeginsFrom::Base, _)) => {
             "one read or write has at most 32,768 bytes, and a file ends at 2^40 at most"
+        }
+        Task::Event(Step::BeginFrom(BeginsFrom::Below(_), _)) => {
+            "it is on another volume than the instance, or past a limit of 32,768 bytes or 2^40"
         }
         Task::Event(Step::WriteBody { .. }) => "the body has another length",
         Task::Event(Step::Bump { .. }) => "the body ends before eight bytes from there",
@@ -422,6 +425,7 @@ fn torn(task: &Task) -> Option<InstanceId> {
             Step::StartTeardown { instance, .. }
             | Step::CompleteTeardown { instance, .. }
             | Step::EnterRoutine { instance, .. }
+            | Step::BeginFrom(BeginsFrom::Below(instance), _)
             | Step::Finish { instance },
         ) => Some(*instance),
         _ => None,

@@ -1,6 +1,6 @@
 //! What a line is about, as far as its task names it or the callback is for it that its worker is in.
 
-use fm_core::{Place, Step};
+use fm_core::{BeginsFrom, Place, Step};
 use fm_data::Request;
 use fm_report::{Facts, instance_in, operation_in};
 use fm_script::Task;
@@ -77,6 +77,7 @@ pub fn instance_of(task: &Task, place: Place) -> Option<u64> {
             | Step::DrainTake { instance, .. }
             | Step::CompleteTeardown { instance, .. }
             | Step::EnterRoutine { instance, .. }
+            | Step::BeginFrom(BeginsFrom::Below(instance), _)
             | Step::Finish { instance },
         ) => Some(u64::from(instance.0)),
         _ => instance_in(place),
@@ -107,6 +108,7 @@ pub fn volume_of(task: &Task) -> Option<VolumeId> {
         | Task::Event(
             Step::Attach { volume, .. }
             | Step::Begin(Request::Create { volume, .. } | Request::List { volume })
+            | Step::BeginFrom(_, Request::Create { volume, .. } | Request::List { volume })
             | Step::StartDismount { volume }
             | Step::DropHandle { volume }
             | Step::EmptyVolume { volume }
@@ -119,7 +121,10 @@ pub fn volume_of(task: &Task) -> Option<VolumeId> {
 /// The handle that a line names.
 pub fn handle_of(task: &Task) -> Option<u64> {
     match task {
-        Task::Event(Step::Begin(Request::OnHandle { handle, .. })) => Some(handle.0),
+        Task::Event(
+            Step::Begin(Request::OnHandle { handle, .. })
+            | Step::BeginFrom(_, Request::OnHandle { handle, .. }),
+        ) => Some(handle.0),
         _ => None,
     }
 }

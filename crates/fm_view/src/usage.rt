@@ -47,6 +47,12 @@ fn usage_of_few(keyword: Keyword) -> &'static str {
         Keyword::List | Keyword::Dismount | Keyword::Drop | Keyword::EmptyV | Keyword::FinishV =>
             "V",
         Keyword::Leaks | Keyword::Failures => "[alone]",
+        Keyword::Below => {
+            "I list, read, setsize, size, querysize, flush, delete, setdelete, cleanup or close"
+        }
+        Keyword::AtBase => {
+            "list, read, setsize, size, querysize, flush, delete, setdelete, cleanup or close"
+        }
         _ => "W",
     }
 }

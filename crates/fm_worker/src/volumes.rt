@@ -9,7 +9,7 @@ use crate::hook::CallbackHook;
 use crate::worker::Worker;
 use fm_device::Device;
 use fm_filter::Callbacks;
-use fm_rundown::{GateSeat, Look, RundownGate};
+use fm_rundown::{GateSeat, Look, RundownGate, Seen};
 use fm_stack::VolumePhase;
 use fm_types::{InstanceId, Status, VolumeId};
 use std::sync::Wait;
@@ -34,19 +34,18 @@ impl<'a, F: Callbacks, L: Ledger, R: Wait, G: CallbackHook, D: Device> Worker<'a
     {
         rundown.close(seat, volume)?;
         match rundown.look(seat, volume)? {
-            Look::Drained => self.dismount_drained(seat, volume),
+            Look::Drained(seen) => self.dismount_drained(seen),
             Look::Open | Look::Closing => Err(Status::Busy(0)),
         }
     }
 
-    // The dismount of a volume that nobody enters any more, as that seat has seen, from where it is.
-    fn dismount_drained(&mut self, seat: &GateSeat, volume: VolumeId) -> Result<(), Status>
-        requires drained { (volume_of volume.0 (view_of seat.now)).is_drained ≡ true }
+    // The dismount of a volume that was seen drained, from where it is.
+    fn dismount_drained(&mut self, seen: Seen) -> Result<(), Status>
         ensures settled { LeavesNone self.old.own.port.resumed self.new.own.port.resumed }
     {
-        let _ = seat;
+        let volume = seen.volume();
         if !self.is_dismounting(volume) {
-            self.shared.manager.start_dismount(self.shared.rt, volume)?;
+            self.shared.manager.start_dismount(self.shared.rt, seen)?;
         }
         self.stop_all(volume)?;
         self.drop_handles(volume)?;

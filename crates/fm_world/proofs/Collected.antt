@@ -1,5 +1,5 @@
 -- Records that stay after their answers were handed out: each has a drain that runs, and that a worker is in, so that they are no more than workers.
-use Rattle.fm_world.proofs.Words.{drain_opens, is_running_drain, is_number, is_spent, Base, Drain, Post, Pre, count-cons, collected_records, drains_running}
+use Rattle.fm_world.proofs.Words.{drain_opens, is_running_drain, is_number, is_spent, Drain, count-cons, collected_records, drains_running}
 use Rattle.fm_world.proofs.Words.{is_in_drain, Entry, FlowRecord, FlowTable, IsFlow, OpId, one, operation_at, Place, All, AllPairs, Bool, List, None, Option}
 use Rattle.fm_world.proofs.Words.{Some, [], ap, arith, count_by, false, get_or, inl, inr, length, nat_le, option_map, refl, suc, sym, true, unwrap_or, ℕ, ◌+◌}
 use Rattle.fm_world.proofs.Words.{◌<◌, ◌==◌, ◌∷◌, ◌≡◌, ◌≤◌, cases_Bool, nat_tests, All-head, All-tail, list_any}

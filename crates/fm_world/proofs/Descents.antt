@@ -1,8 +1,8 @@
 -- A visit of the next instance, the call of the base, and every event of the stack keep an operation's descent.
 use Rattle.fm_world.proofs.Words.{Follows, altitude_at, is_live_on, is_lower, is_lower_option, same_altitude, same_name, IsHighest, IsStack, pair_at, HasRoom}
-use Rattle.fm_world.proofs.Words.{IsDescent, is_among, last_of, Instance, NonePasses, Operation, StackWorld, VolumeId, clashes, is_below_cursor, is_candidate}
+use Rattle.fm_world.proofs.Words.{IsDescent, is_among, last_of, trail, cursor_of, InstanceId, Instance, NonePasses, Operation, StackWorld, VolumeId, clashes, is_below_cursor, is_candidate}
 use Rattle.fm_world.proofs.Words.{is_detached, is_lower_at, is_to_visit, AllPairs, Bool, List, None, Option, Some, [], ap, arith, false, get_or, inl, inr}
-use Rattle.fm_world.proofs.Words.{length, not, option_map, refl, slice_get, subst, suc, sym, true, zero, ℕ, ◌&&◌, ◌++◌, ◌<◌, ◌==◌, ◌||◌, ◌∙◌, ◌∷◌, ◌≡◌, ◌≤◌}
+use Rattle.fm_world.proofs.Words.{count_by, length, length-append, not, option_map, refl, slice_get, subst, suc, sym, true, zero, ℕ, ◌&&◌, ◌++◌, ◌<◌, ◌==◌, ◌||◌, ◌∙◌, ◌∷◌, ◌≡◌, ◌≤◌}
 use Rattle.fm_world.proofs.Words.{and_from, and_parts, and_right, cases_order, eq-eqb, false≢true, ne_eqb, or_parts, common_steps, reverse-append}
 use Rattle.fm_world.proofs.Words.{all_pairs_push, slice_get-get_or}
 use Rattle.std.proofs.Common.{Ordering}
@@ -49,6 +49,24 @@ first_stays (z ∷ xs) x y = refl
 -- more before the last one
 pub last_of-cons : (i j : ℕ) (is : List ℕ) → last_of (i ∷ j ∷ is) ≡ last_of (j ∷ is)
 last_of-cons i j is = grind (arith, common_steps, reverse-append, first_stays)
+
+-- a visit comes at the end of the way
+pub trail_push : (below : Option InstanceId) (is : List ℕ) (i : ℕ) → trail below (is ++ i ∷ []) ≡ trail below is ++ i ∷ []
+trail_push None is i = refl
+trail_push (Some j) is i = refl
+
+pub cursor_push : (below : Option InstanceId) (is : List ℕ) (i : ℕ) → cursor_of below (is ++ i ∷ []) ≡ Some i
+cursor_push below is i = ap last_of (trail_push below is i) ∙ last_of-push (trail below is) i
+
+-- before the first visit it is where the operation began
+pub cursor_from : (below : Option InstanceId) → cursor_of below [] ≡ option_map (λ i. i.0) below
+cursor_from None = refl
+cursor_from (Some i) = refl
+
+-- what isn't on the way wasn't visited
+among_trail : (below : Option InstanceId) (is : List ℕ) (i : ℕ) → is_among (trail below is) i ≡ false → is_among is i ≡ false
+among_trail None is i h = h
+among_trail (Some j) is i h = (or_parts (j.0 == i) (is_among is i) h).1
 
 -- what is lower than the last visit is lower than all of them
 below_all : (s : StackWorld) (a : Option (List ℕ)) (is : List ℕ) → AllPairs (λ i j. is_lower_at s j i ≡ true) is
@@ -115,40 +133,48 @@ next_lower : (s : StackWorld) (v : VolumeId) (born : ℕ) (operation : Operation
     → (k : ℕ) (d : ℕ) → k < length visited → is_lower_at s i (get_or visited k d) ≡ true
 next_lower s v born operation visited i h6 h7 k d h10 = grind (arith, and_parts, below_all, altitude_there)
 
-pub next_unseen : (s : StackWorld) (v : VolumeId) (born : ℕ) (operation : Operation) (visited : List ℕ) (i : ℕ) (reached : Bool)
-    → IsDescent s v born operation visited reached → IsHighest (is_candidate s v (last_of visited) born operation) s.instances i
+pub next_unseen : (s : StackWorld) (v : VolumeId) (below : Option InstanceId) (born : ℕ) (operation : Operation) (visited : List ℕ) (i : ℕ) (reached : Bool)
+    → IsDescent s v below born operation visited reached → IsHighest (is_candidate s v (cursor_of below visited) born operation) s.instances i
     → is_among visited i ≡ false
-next_unseen s v born operation visited i reached d next = unseen_from s i visited (next_lower s v born operation visited i d.falls next)
+next_unseen s v below born operation visited i reached d next =
+    among_trail below visited i (unseen_from s i (trail below visited) (next_lower s v born operation (trail below visited) i d.falls next))
 
 among_push : (is : List ℕ) (i : ℕ) (j : ℕ) → is_among (is ++ i ∷ []) j ≡ false → (is_among is j ≡ false) × ((i ≡ j) → ⊥)
 among_push [] i j h = (refl, λ e. false≢true (sym (or_parts (i == j) false h).0 ∙ eq-eqb i j e))
 among_push (k ∷ is) i j h = grind (arith, (among_push is i j))
 
 -- a visit of the next instance
-pub descent_visits : (s : StackWorld) (v : VolumeId) (born : ℕ) (operation : Operation) (visited : List ℕ) (i : ℕ) → IsStack s
-    → IsDescent s v born operation visited false → IsHighest (is_candidate s v (last_of visited) born operation) s.instances i
-    → IsDescent s v born operation (visited ++ i ∷ []) false
-descent_visits s v born operation visited i stack d next = record {
-  falls = all_pairs_push (λ i j. is_lower_at s j i ≡ true) visited i d.falls (λ k e l. next_lower s v born operation visited i d.falls next k e l);
-  passes_none = λ j row h t u.
+pub descent_visits : (s : StackWorld) (v : VolumeId) (below : Option InstanceId) (born : ℕ) (operation : Operation) (visited : List ℕ) (i : ℕ) → IsStack s
+    → IsDescent s v below born operation visited false → IsHighest (is_candidate s v (cursor_of below visited) born operation) s.instances i
+    → IsDescent s v below born operation (visited ++ i ∷ []) false
+descent_visits s v below born operation visited i stack d next = record {
+  falls = subst (AllPairs (λ i j. is_lower_at s j i ≡ true)) (sym (trail_push below visited i))
+      (all_pairs_push (λ i j. is_lower_at s j i ≡ true) (trail below visited) i d.falls
+      (λ k e l. next_lower s v born operation (trail below visited) i d.falls next k e l));
+  passes_none = λ j row h t b u.
       let unseen = among_push visited i j u in
-      let before = d.passes_none j row h t unseen.0 in
-      let not_higher = next.highest j row h (and_from (is_to_visit s v born operation row) (is_below_cursor s (last_of visited) row) t before.0) in
-      let passes = and_parts (is_to_visit s v born operation next.row) (is_below_cursor s (last_of visited) next.row) next.passes in
+      let before = d.passes_none j row h t b unseen.0 in
+      let cursor = cursor_of below visited in
+      let not_higher = next.highest j row h (and_from (is_to_visit s v born operation row) (is_below_cursor s cursor row) t before.0) in
+      let passes = and_parts (is_to_visit s v born operation next.row) (is_below_cursor s cursor next.row) next.passes in
       let differ = apart_altitudes s v i j next.row row stack next.there h
       (to_visit_there s v born operation next.row passes.0) (to_visit_there s v born operation row t) unseen.1 in
-      let lower : is_lower row.altitude next.row.altitude ≡ true = lower_or next.row.altitude row.altitude not_higher differ in grind (arith, common_steps);
+      let lower : is_lower row.altitude next.row.altitude ≡ true = lower_or next.row.altitude row.altitude not_higher differ in (
+        ap (λ c. is_below_cursor s c row) (cursor_push below visited i)
+            ∙ ap (is_lower_option (Some row.altitude)) (altitude_there s i next.row next.there) ∙ lower,
+        refl,
+      );
 }
 
 -- where nothing is left to visit, the base may be called
-pub descent_reaches : (s : StackWorld) (v : VolumeId) (born : ℕ) (operation : Operation) (visited : List ℕ)
-    → IsDescent s v born operation visited false → NonePasses (is_candidate s v (last_of visited) born operation) s.instances
-    → IsDescent s v born operation visited true
-descent_reaches s v born operation visited d none = record {
+pub descent_reaches : (s : StackWorld) (v : VolumeId) (below : Option InstanceId) (born : ℕ) (operation : Operation) (visited : List ℕ)
+    → IsDescent s v below born operation visited false → NonePasses (is_candidate s v (cursor_of below visited) born operation) s.instances
+    → IsDescent s v below born operation visited true
+descent_reaches s v below born operation visited d none = record {
   falls = d.falls;
-  passes_none = λ j row h t u.
-      let before = d.passes_none j row h t u in
-      let passes = and_from (is_to_visit s v born operation row) (is_below_cursor s (last_of visited) row) t before.0 in
+  passes_none = λ j row h t b u.
+      let before = d.passes_none j row h t b u in
+      let passes = and_from (is_to_visit s v born operation row) (is_below_cursor s (cursor_of below visited) row) t before.0 in
       absurd (false≢true (sym (none j row h) ∙ passes));
 }
 
@@ -172,15 +198,20 @@ below_was s t f (Some l) a b e there h =
     grind (arith, altitude_there, altitude_stays)
 
 -- every event of the stack keeps every descent
-pub descent_follows : (s t : StackWorld) (v : VolumeId) (born : ℕ) (operation : Operation) (visited : List ℕ) (reached : Bool)
-    → Follows s t → born ≤ s.births → IsDescent s v born operation visited reached → IsDescent t v born operation visited reached
-descent_follows s t v born operation visited reached f past d = record {
-  falls = λ i j e p q. lower_stays s t f (get_or visited j e) (get_or visited i e) (d.falls i j e p q);
-  passes_none = λ i row h k u.
-      let before = f.visits v born operation i row past h k in
-      let was = d.passes_none i before.0 before.1 before.2 u in
-      (below_stays s t f (last_of visited) before.0 row (sym before.3) was.0, was.1);
-}
+pub descent_follows : (s t : StackWorld) (v : VolumeId) (below : Option InstanceId) (born : ℕ) (operation : Operation) (visited : List ℕ) (reached : Bool)
+    → Follows s t → born ≤ s.births → ((l : ℕ) → option_map (λ (i : InstanceId). i.0) below ≡ Some l → l < length s.instances)
+    → IsDescent s v below born operation visited reached → IsDescent t v below born operation visited reached
+descent_follows s t v below born operation visited reached f past there d =
+    let way = trail below visited in
+    let first = option_map (λ (i : InstanceId). i.0) below in
+    record {
+      falls = λ i j e p q. lower_stays s t f (get_or way j e) (get_or way i e) (d.falls i j e p q);
+      passes_none = λ i row h k b u.
+          let before = f.visits v born operation i row past h k in
+          let begins = below_was s t f first before.0 row (sym before.3) there b in
+          let was = d.passes_none i before.0 before.1 before.2 begins u in
+          (below_stays s t f (cursor_of below visited) before.0 row (sym before.3) was.0, was.1);
+    }
 
 -- nothing that was left to visit comes to be left
 pub none_follows : (s t : StackWorld) (v : VolumeId) (born : ℕ) (operation : Operation) (cursor : Option ℕ)
@@ -196,38 +227,67 @@ none_follows s t v born operation cursor f past there none j row h =
 
 -- room for the visits that may come
 
-pub room_is : (s : StackWorld) (v : VolumeId) (born : ℕ) (operation : Operation) (visited : List ℕ) (i : ℕ)
-    → HasRoom s v born operation visited → IsHighest (is_candidate s v (last_of visited) born operation) s.instances i → length visited < 32
-room_is s v born operation visited i r next = grind (arith, count-some)
+pub room_is : (s : StackWorld) (v : VolumeId) (below : Option InstanceId) (born : ℕ) (operation : Operation) (visited : List ℕ) (i : ℕ)
+    → HasRoom s v below born operation visited → IsHighest (is_candidate s v (cursor_of below visited) born operation) s.instances i → length visited < 32
+room_is s v below born operation visited i r next = grind (arith, count-some)
 
-pub room_visits : (s : StackWorld) (v : VolumeId) (born : ℕ) (operation : Operation) (visited : List ℕ) (i : ℕ)
-    → HasRoom s v born operation visited → IsHighest (is_candidate s v (last_of visited) born operation) s.instances i
-    → HasRoom s v born operation (visited ++ i ∷ [])
-room_visits s v born operation visited i r next =
+pub room_visits : (s : StackWorld) (v : VolumeId) (below : Option InstanceId) (born : ℕ) (operation : Operation) (visited : List ℕ) (i : ℕ)
+    → HasRoom s v below born operation visited → IsHighest (is_candidate s v (cursor_of below visited) born operation) s.instances i
+    → HasRoom s v below born operation (visited ++ i ∷ [])
+room_visits s v below born operation visited i r next =
+    let cursor = cursor_of below visited in
     let q = is_candidate s v (Some i) born operation in
     let there = altitude_there s i next.row next.there in
     let itself : q next.row ≡ false =
     and_right (is_to_visit s v born operation next.row) (is_below_cursor s (Some i) next.row)
     (subst (λ x. is_lower_option (Some next.row.altitude) x ≡ false) (sym there) (lower_irrefl next.row.altitude)) in
-    let passed = and_parts (is_to_visit s v born operation next.row) (is_below_cursor s (last_of visited) next.row) next.passes in
-    let fewer = count-lt (is_candidate s v (last_of visited) born operation) q s.instances i next.row next.there next.passes itself
+    let passed = and_parts (is_to_visit s v born operation next.row) (is_below_cursor s cursor next.row) next.passes in
+    let fewer = count-lt (is_candidate s v cursor born operation) q s.instances i next.row next.there next.passes itself
     (λ row k.
     let parts = and_parts (is_to_visit s v born operation row) (is_below_cursor s (Some i) row) k in
-    and_from (is_to_visit s v born operation row) (is_below_cursor s (last_of visited) row) parts.0
-    ((elim (last_of visited) as (λ c. is_below_cursor s c next.row ≡ true → is_below_cursor s c row ≡ true) [
+    and_from (is_to_visit s v born operation row) (is_below_cursor s cursor row) parts.0
+    ((elim cursor as (λ c. is_below_cursor s c next.row ≡ true → is_below_cursor s c row ≡ true) [
       | None ↦ λ _. refl
       | Some l ↦ option_trans (Some row.altitude) (Some next.row.altitude) (altitude_at s l)
           (subst (λ x. is_lower_option (Some row.altitude) x ≡ true) there parts.1)
     ]) passed.1)) in
-    grind (arith, common_steps)
+    record {
+      past = r.past;
+      room = omega (
+        arith,
+        r.room,
+        fewer,
+        length-append visited (i ∷ []),
+        ap (λ c. count_by (is_candidate s v c born operation) s.instances) (cursor_push below visited i),
+      );
+    }
 
-pub room_follows : (s t : StackWorld) (v : VolumeId) (born : ℕ) (operation : Operation) (visited : List ℕ)
-    → Follows s t → ((l : ℕ) → last_of visited ≡ Some l → l < length s.instances)
-    → HasRoom s v born operation visited → HasRoom t v born operation visited
-room_follows s t v born operation visited f there r =
-    let cursor = last_of visited in
+pub room_follows : (s t : StackWorld) (v : VolumeId) (below : Option InstanceId) (born : ℕ) (operation : Operation) (visited : List ℕ)
+    → Follows s t → ((l : ℕ) → cursor_of below visited ≡ Some l → l < length s.instances)
+    → HasRoom s v below born operation visited → HasRoom t v below born operation visited
+room_follows s t v below born operation visited f there r =
+    let cursor = cursor_of below visited in
     let fewer = count-le (is_candidate s v cursor born operation) (is_candidate t v cursor born operation) s.instances t.instances
     (λ i row h k.
     let parts = and_parts (is_to_visit t v born operation row) (is_below_cursor t cursor row) k in
     let before = f.visits v born operation i row r.past h parts.0 in grind (arith, and_from, below_was)) in
     record { past = omega (arith, r.past, f.births); room = omega (arith, r.room, fewer) }
+
+-- ---- below an instance, or at the base
+
+-- of what is to be visited fewer are lower than an instance
+pub room_below : (s : StackWorld) (v : VolumeId) (below : Option InstanceId) (born : ℕ) (operation : Operation)
+    → count_by (is_to_visit s v born operation) s.instances ≤ 32 → born ≤ s.births → HasRoom s v below born operation []
+room_below s v below born operation few past = record {
+  past = past;
+  room = omega (
+    arith,
+    few,
+    count-le (is_to_visit s v born operation) (is_candidate s v (cursor_of below []) born operation) s.instances s.instances
+        (λ i row h k. (row, h, (and_parts (is_to_visit s v born operation row) (is_below_cursor s (cursor_of below []) row) k).0)),
+  );
+}
+
+pub descent_begins : (s : StackWorld) (v : VolumeId) (below : Option InstanceId) (born : ℕ) (operation : Operation) → IsDescent s v below born operation [] false
+descent_begins s v None born operation = record { falls = λ i j d p q. absurd (omega arith); passes_none = λ i row h t b u. (b, refl) }
+descent_begins s v (Some l) born operation = record { falls = λ i j d p q. absurd (omega arith); passes_none = λ i row h t b u. (b, refl) }

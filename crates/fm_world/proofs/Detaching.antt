@@ -2,11 +2,12 @@
 use Rattle.fm_world.proofs.Words.{goes_on_follows, goes_on_keeps, Filter, Volume, none_refuses, hand_len, left_by, holds_links_by, is_flown, row_at, IsSound}
 use Rattle.fm_world.proofs.Words.{HasWorkers, IsUnderWay, is_made, AsksDetach, CompleteReturns, CompleteReturnsAt, CompletesTeardown, QueryReturns}
 use Rattle.fm_world.proofs.Words.{QueryReturnsAt, StartReturns, StartReturnsAt, StartsTeardown, Instance, InstanceId, Leaves, Phase, StackWorld, Status}
-use Rattle.fm_world.proofs.Words.{WorkerId, in_flight, is_attached, is_completing, is_stopping, one, AtComplete, AtQuery, AtRoutine, AtSetup, AtStart}
+use Rattle.fm_world.proofs.Words.{WorkerId, in_flight, is_attached, is_completing, is_stopping, one, AtComplete, AtQuery, AtRoutine, AtStart}
 use Rattle.fm_world.proofs.Words.{InstanceCallback, routines_at, unfinished_at, ◌≤◌}
 use Rattle.fm_world.proofs.Words.{after_entering, cleanup_in, is_at, is_queried, put, worker_at, World, carries, Place, Bool, Err, List, None, Ok, Option}
 use Rattle.fm_world.proofs.Words.{Result, Some, ap, arith, count_by, false, inr, length, not, refl, slice_get, subst, sym, true, ℕ, ◌&&◌, ◌+◌, ◌∙◌, ◌≡◌, eq-eqb}
 use Rattle.fm_world.proofs.Words.{ltb-false, or_parts, true≢false}
+use Rattle.fm_flow.specs.Initiators.{begun_by}
 use Rattle.fm_stack.proofs.GoingOn.{passes_row}
 use Rattle.fm_stack.proofs.Teardowns.{completing_goes_on, emptying_goes_on, started_goes_on, starting_goes_on, stopped_goes_on}
 use Rattle.fm_stack.specs.Instances.{passes}
@@ -216,8 +217,8 @@ complete_workers i row d workers m is none rest moves h = grind arith
 complete_goes : (w : World) (j : ℕ) (row : Instance) → in_flight j w.flow ≡ 0 → GoesOnAt w j row (stack.in_phase Phase.Completing row)
 complete_goes w j row none = record { filter = refl; left = λ h. refl; keeps = λ h. refl; quiet = λ h. inr none }
 
-none_left : (n m : ℕ) → n + m ≤ 0 → (n ≡ 0) × (m ≡ 0)
-none_left n m h = (omega (arith, h), omega (arith, h))
+none_left : (n b m : ℕ) → n + b + m ≤ 0 → (n ≡ 0) × (m ≡ 0)
+none_left n b m h = (omega (arith, h), omega (arith, h))
 
 pub complete_teardown_does : (old : World) (k : WorkerId) (i : InstanceId) (result : Result (Unit {0}) Status) (new : World)
     → CompletesTeardown old k i result new → Does old new
@@ -239,7 +240,7 @@ complete_teardown_does old k i result new h =
         let row = passes_row stack.is_to_complete (row_at old.stack i) (not_false completes tests.0) in
         let goes = completing_goes_on old.stack i (not_false completes tests.0) in
         let changes = row_updated old.stack t change i.0 row.0 refl row.1 in
-        let none = none_left (in_flight i.0 old.flow) (routines_at i old.workers) (ltb-false 0 (unfinished_at old i) frees.1.1.0) in
+        let none = none_left (in_flight i.0 old.flow) (begun_by i.0 old.flow) (routines_at i old.workers) (ltb-false 0 (unfinished_at old i) frees.1.1.0) in
         makes old (record old { stack = t; workers = put old.workers k (Place.Complete i) }) new
         (e ∙ ap (λ x. record old { stack = x; workers = put old.workers k (Place.Complete i) }) h.1) (still old.contexts) (λ s. record {
           under_way = callback_enters old k (Place.Complete i) i t row.0 (change row.0) at refl refl changes

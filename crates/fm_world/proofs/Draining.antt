@@ -72,7 +72,7 @@ module _ (old : World) (k : WorkerId) (o : OpId) (i : InstanceId) (r : FlowRecor
       record {
         under_way = step_keeps old o r f k Place.Idle (Place.EarlyDrain o i) at idle (λ x. stays_early i x)
             (sound_early i r owes sound) (needed_early i r owes sound)
-            (among_drain old.stack r.volume r.born r.operation r.entries r.stage _
+            (among_drain old.stack r.volume r.below r.born r.operation r.entries r.stage _
             (found_holds (IsAmong old.stack) (is_number o) old.flow.operations r u.among at))
             (spots_stay o Place.Idle (Place.EarlyDrain o i) r (f r) idle_unseen (early_unseen o i)
             (let same = drain_unseen r.entries (record { instance = i; is_running = true }) in spot_stays r.stage r.entries (f r).entries same.0 same.1))
@@ -217,7 +217,7 @@ module _ (old : World) (k : WorkerId) (o : OpId) (i : InstanceId) (r : FlowRecor
       let f = early_over i in
       let u = s.under_way in
       step_moves old o r f k (Place.EarlyDrain o i) Place.Idle at worker (λ x. stays_over i x)
-      (among_over old.stack r.volume r.born r.operation r.entries r.stage i.0 (found_holds (IsAmong old.stack) (is_number o) old.flow.operations r u.among at))
+      (among_over old.stack r.volume r.below r.born r.operation r.entries r.stage i.0 (found_holds (IsAmong old.stack) (is_number o) old.flow.operations r u.among at))
       (spots_stay o (Place.EarlyDrain o i) Place.Idle r (f r) (early_unseen o i) idle_unseen
       (let same = over_unseen i.0 r.entries in spot_stays r.stage r.entries (f r).entries same.0 same.1))
       (drains_balance o (Place.EarlyDrain o i) Place.Idle r (f r) (λ j. one (i.0 == j)) (λ j. 0) (in_early o i) (in_no_drain o Place.Idle (λ p j. refl))

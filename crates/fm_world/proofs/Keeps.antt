@@ -54,7 +54,7 @@ pub stack_changes : (w : World) (t : StackWorld) → IsStack t → Follows w.sta
 stack_changes w t stack follows still h = record {
   stack = stack;
   flow = h.flow;
-  among = λ k d l. among_follows w.stack t _ _ _ _ _ follows (h.among k d l);
+  among = λ k d l. among_follows w.stack t _ _ _ _ _ _ follows (h.among k d l);
   hands = h.hands;
   workers = h.workers;
   drains = h.drains;
@@ -69,7 +69,7 @@ pub worker_moves : (w : World) (t : StackWorld) (k : WorkerId) (a b : Place) →
 worker_moves w t k a b at from to stack follows instance_callbacks h = record {
   stack = stack;
   flow = h.flow;
-  among = λ k d l. among_follows w.stack t _ _ _ _ _ follows (h.among k d l);
+  among = λ k d l. among_follows w.stack t _ _ _ _ _ _ follows (h.among k d l);
   hands = length-set w.workers k.0 b ∙ h.hands;
   workers = λ o spot. count_stays (is_in_at o spot) w.workers k a b at (from.spots o spot) (to.spots o spot) ∙ h.workers o spot;
   drains = λ o i. count_stays (is_in_drain o i) w.workers k a b at (from.drains o i) (to.drains o i) ∙ h.drains o i;

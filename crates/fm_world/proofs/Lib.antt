@@ -21,6 +21,7 @@ pub mod Losing
 pub mod Flowing
 pub mod Events
 pub mod Requests
+pub mod Initiators
 pub mod Turns
 pub mod Returns
 pub mod Resumes

@@ -2,7 +2,7 @@
 use Rattle.fm_world.proofs.Words.{lawful_alike, are_on, is_within_limits, operation_of, Request, none_running, carried_by, drain_opens, flight}
 use Rattle.fm_world.proofs.Words.{is_running_drain, done_at, is_done, begun_record, collected_in, is_number, marked, removed, total, all_change, all_without}
 use Rattle.fm_world.proofs.Words.{count_changed, count_without, find_without, found_holds, length_change, CreateMode, Begins, Collects, after_begin}
-use Rattle.fm_world.proofs.Words.{asked_begun, asked_refused, begin_refused, begun_on, created_begun, has_no_handle_left, moved_on, or_else, IsCreatedOn}
+use Rattle.fm_world.proofs.Words.{BeginsAt, asked_begun, asked_refused_at, begin_refused_at, begun_on, created_begun, has_no_handle_left, moved_on, or_else, IsCreatedOn}
 use Rattle.fm_world.proofs.Words.{FileTable, created, handle_at, has_handle_on, stream_for, KeepsHands, names_there, AskCarries, IsAmong, IsFileSound, IsFiled}
 use Rattle.fm_world.proofs.Words.{IsOwned, IsSound, IsUnderWay, Answer, Ask, CtxId, Descending, FlowRecord, FlowTable, HandleId, IsFlow, IsLawful, OpId}
 use Rattle.fm_world.proofs.Words.{Operation, Params, Stage, Status, StreamId, VolumeId, begun, carried, changed, collected_of, creates, first_of, is_create}
@@ -46,19 +46,19 @@ names_none : (path : Option (List ℕ)) (p : Params) → is_create (operation_of
 names_none path p none = grind arith
 
 -- what begins on a handle that is open, where nothing refuses it
-asked_begun_by : (P : World → Type 0) (old : World) (h : HandleId) (p : Params) → asked_refused old h p ≡ None
+asked_begun_by : (P : World → Type 0) (lower : Bool) (old : World) (h : HandleId) (p : Params) → asked_refused_at lower old h p ≡ None
     → ((x : FileHandle) (y : FileStream) → handle_at h old.files ≡ Some x → is_within_limits p ≡ true → is_full old.flow ≡ false
     → P (begun_on old h p x (Some y))) → P (asked_begun old h p)
-asked_begun_by P old h p free event = grind arith
+asked_begun_by P lower old h p free event = grind arith
 
 -- what begins: a listing, a create, or an operation on a handle
-begun_by : (P : World → Type 0) (old : World) (what : Request) → begin_refused old what ≡ None
+pub begun_by : (P : World → Type 0) (lower : Bool) (old : World) (what : Request) → begin_refused_at lower old what ≡ None
     → ((v : VolumeId) → is_full old.flow ≡ false → P (after_begin old (Request.List v)))
     → ((v : VolumeId) (path : List ℕ) (mode : CreateMode) → is_full old.flow || has_no_handle_left old ≡ false → P (created_begun old v path mode))
     → ((h : HandleId) (p : Params) (x : FileHandle) (y : FileStream) → is_create (operation_of p) ≡ false
     → handle_at h old.files ≡ Some x → is_within_limits p ≡ true
     → is_full old.flow ≡ false → P (begun_on old h p x (Some y))) → P (after_begin old what)
-begun_by P old what free lists h5 asks = grind arith
+begun_by P lower old what free lists h5 asks = grind arith
 
 -- ---- an operation comes
 
@@ -197,22 +197,32 @@ creates_sound old v path mode free s =
     (named_more old.files files old.contexts.slots (created_there v path old.flow.next old.files) s.links) s
 
 -- an operation on a handle begins
-pub asked_sound : (old : World) (h : HandleId) (p : Params) → asked_refused old h p ≡ None → is_create (operation_of p) ≡ false
+pub asked_sound : (lower : Bool) (old : World) (h : HandleId) (p : Params) → asked_refused_at lower old h p ≡ None → is_create (operation_of p) ≡ false
     → IsSound old → IsSound (asked_begun old h p)
-asked_sound old h p free none s = asked_begun_by IsSound old h p free (λ x y at within room. asks_sound old h p x y none at within room s)
+asked_sound lower old h p free none s = asked_begun_by IsSound lower old h p free (λ x y at within room. asks_sound old h p x y none at within room s)
 
-pub begin_does : (old : World) (what : Request) (result : Result OpId Status) (new : World) → Begins old what result new → Does old new × KeepsHands old new
-unfolding Begins
-begin_does old what result new h = memory_by (λ _ w. Does old w × KeepsHands old w) _ result old new _ h (λ why. (nothing old, λ n. refl)) (λ o free e.
-    let begun = begun_by (λ w. (w.contexts ≡ old.contexts) × (IsSound old → IsSound w)) old what free
+-- what begins leaves all contexts, and a sound World
+pub begun_sound : (lower : Bool) (old : World) (what : Request) → begin_refused_at lower old what ≡ None
+    → ((after_begin old what).contexts ≡ old.contexts) × (IsSound old → IsSound (after_begin old what))
+begun_sound lower old what free = begun_by (λ w. (w.contexts ≡ old.contexts) × (IsSound old → IsSound w)) lower old what free
     (λ v room. (
       refl,
       λ s. operation_sound old v None None None Params.List old.files refl refl room
           (file_lists old.files old.flow v old.stack.births s.filed) s.links s,
     ))
     (λ v path mode room. (refl, λ s. creates_sound old v path mode room s))
-    (λ h p x y none at within room. (refl, λ s. asks_sound old h p x y none at within room s)) in
+    (λ h p x y none at within room. (refl, λ s. asks_sound old h p x y none at within room s))
+
+pub begin_at_does : (lower : Bool) (old : World) (what : Request) (result : Result OpId Status) (new : World) → BeginsAt lower old what result new
+    → Does old new × KeepsHands old new
+begin_at_does lower old what result new h =
+    memory_by (λ _ w. Does old w × KeepsHands old w) _ result old new _ h (λ why. (nothing old, λ n. refl)) (λ o free e.
+    let begun = begun_sound lower old what free in
     let same = ap contexts_in e.1 ∙ begun.0 in grind arith)
+
+pub begin_does : (old : World) (what : Request) (result : Result OpId Status) (new : World) → Begins old what result new → Does old new × KeepsHands old new
+unfolding Begins
+begin_does old what result new h = begin_at_does false old what result new h
 
 -- ---- an operation goes
 

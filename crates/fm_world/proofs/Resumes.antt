@@ -133,7 +133,7 @@ pre_resumed_sound old k o i given new place held loses s =
     loses_sound (pre_resumed old k o state) new loses
     (step_stays old o r f x.at (λ y. record { number = refl; collected = refl }) (sound_pre_resumed state r at.0 (counted_from state quiet) x.sound)
     (undone_at r PreHeld at.0 refl)
-    (among_settles old.stack r.volume r.born r.operation r.entries r.stage (pre_leads state) (settle_pre state)
+    (among_settles old.stack r.volume r.below r.born r.operation r.entries r.stage (pre_leads state) (settle_pre state)
     (settle_pre_keeps state) (not_base_of (pre_leads state) quiet) x.among)
     (ap is_running at.0) quiet (λ j. omega (arith, drains_pre_settled j state r.entries)) s.under_way)
     (owned_with old old.stack t old.workers (sent old.contexts k m) k (hand_left hand m)
@@ -219,7 +219,7 @@ post_resumed_sound old o i held s =
     record {
       under_way = step_stays old o r f x.at (λ y. record { number = refl; collected = refl }) (sound_post_resumed r stage x.sound)
           (undone_at r PostHeld stage refl)
-          (among_settles old.stack r.volume r.born r.operation r.entries r.stage Ascending (settle_post post.Finished)
+          (among_settles old.stack r.volume r.below r.born r.operation r.entries r.stage Ascending (settle_post post.Finished)
           (settle_post_keeps post.Finished) (not_base_of Ascending refl) x.among)
           (ap is_running stage) refl (λ j. omega (arith, drains_post_settled j post.Finished r.entries)) s.under_way;
       owned = flow_owned old (changed o f old.flow) (lawful_alike (λ c. sym (post_resumed_balance old o i held s.under_way c)) s.owned.lawful)

@@ -176,7 +176,7 @@ pre_sound old k o i given lent after new at fits leaves loses s =
     (sound_pre_returned state lent r x.1 (counted_from state quiet)
     (sym (told_there (λ (x : FlowRecord). data_fits x.operation x.path lent) false o old.flow r x.0.at) ∙ fits) x.0.sound)
     (undone_at r PreRunning x.1 refl)
-    (among_settles old.stack r.volume r.born r.operation r.entries r.stage (pre_leads state) (settle_pre state) (settle_pre_keeps state)
+    (among_settles old.stack r.volume r.below r.born r.operation r.entries r.stage (pre_leads state) (settle_pre state) (settle_pre_keeps state)
     (not_base_of (pre_leads state) quiet) x.0.among) s.under_way)
     (left_owned old o r f k (Place.Pre o i) (sent old.contexts k (sent_in state)) after x.0.at at worker refl law rests.0 rests.1 rests.2 leaves
     (subst (All (AskCarries old.stack slots)) (sym settled.2)
@@ -244,7 +244,7 @@ base_sound old k o call given new at fits loses s =
     (in_no_drain o (Place.Base o) (λ p j. refl)) (λ j. omega (arith, drains_push j r.entries (Base counts.status counts.information)))
     (at_none (Place.Base o) refl)
     (sound_base call given handle r x.1 fitting x.0.sound) (undone_at r InBase x.1 refl)
-    (among_base old.stack r.volume r.born r.operation r.entries r.stage counts.status counts.information no_base' (x.0.among.base x.1) x.0.among) s.under_way)
+    (among_base old.stack r.volume r.below r.born r.operation r.entries r.stage counts.status counts.information no_base' (x.0.among.base x.1) x.0.among) s.under_way)
     (step_owned old o r f k (Place.Base o) Place.Idle old.contexts (hand_of old.contexts.hands k.0) x.0.at at
     (worker_below old k (Place.Base o) at s.under_way) refl refl
     (lawful_alike (λ c. omega (arith, carried_changed old.flow o r f x.0.at c, base_returned_carries c call given handle r))
@@ -341,7 +341,7 @@ post_does old k given lent result new h = by_place lent (worker_at old.workers k
         (sound_post_returned given back r x.1 (sym (told_there (λ (x : FlowRecord). data_fits x.operation x.path back) false o old.flow
         r x.0.at) ∙ fits) x.0.sound)
         (undone_at r PostRunning x.1 refl)
-        (among_settles old.stack r.volume r.born r.operation r.entries r.stage (post_leads state) (settle_post state) (settle_post_keeps state)
+        (among_settles old.stack r.volume r.below r.born r.operation r.entries r.stage (post_leads state) (settle_post state) (settle_post_keeps state)
         (not_base_of (post_leads state) (post_quiet given)) x.0.among) s.under_way) s))
     by_place None (Some (Place.Drain o i)) at e = ends o (drain_returned_of i) e (λ s.
         let x = inside_drain old k o i at s.under_way in
@@ -357,7 +357,7 @@ post_does old k given lent result new h = by_place lent (worker_at old.workers k
         (subst (Matches o (Place.Drain o i)) (sym (ap (λ a. spot_at a r.entries) x.1)) (matches_drain o i)) refl (in_a_drain o i) even
         (at_none (Place.Drain o i) refl)
         (sound_drain_returned i r x.1 x.0.sound) (undone_at r (InDrain i) x.1 refl)
-        (among_settles old.stack r.volume r.born r.operation r.entries r.stage Ascending (settle_drain i.0) (settle_drain_keeps i.0)
+        (among_settles old.stack r.volume r.below r.born r.operation r.entries r.stage Ascending (settle_drain i.0) (settle_drain_keeps i.0)
         (not_base_of Ascending refl) x.0.among) s.under_way) s)
     by_place None (Some (Place.Post o i)) at h = refused_by (λ r w. Ends old k r w) Status.BadRequest result old new h (none_ends old k)
     by_place (Some back) (Some (Place.Drain o i)) at h = refused_by (λ r w. Ends old k r w) Status.BadRequest result old new h (none_ends old k)

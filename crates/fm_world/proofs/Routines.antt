@@ -2,9 +2,10 @@
 use Rattle.fm_world.proofs.Words.{none_refuses, hand_len, left_by, is_flown, is_flown_by, row_at, HasWorkers, IsUnderWay, EntersRoutine, RoutineReturns}
 use Rattle.fm_world.proofs.Words.{RoutineReturnsAt, file_by, routine_refusals, HandleId, Instance, InstanceId, Status, WorkerId, one, AtRoutine, InstanceCallback}
 use Rattle.fm_world.proofs.Words.{is_at, put, worker_at, World, FileObject, Place, Bool, Option, Result, Some, ap, arith, cond, count_by, not, refl, slice_get, true, ℕ}
-use Rattle.fm_world.proofs.Words.{◌+◌, ◌∷◌, ◌≡◌, ◌≤◌, eq-eqb, flight, total, count-cons, FlowRecord, All, List, [], All-head, All-tail, unfinished_at}
+use Rattle.fm_world.proofs.Words.{◌&&◌, ◌+◌, ◌∷◌, ◌≡◌, ◌≤◌, eq-eqb, flight, total, count-cons, FlowRecord, All, List, [], All-head, All-tail, unfinished_at}
 use Rattle.std.proofs.lemmas.List.Sums.{count_by-le-length}
 use Rattle.fm_flow.proofs.Counting.{flight_few}
+use Rattle.fm_flow.specs.Initiators.{is_begun_by, is_below}
 use Rattle.fm_flow.specs.Sound as flow
 use Rattle.fm_world.specs.Workers.{is_in_routine}
 use Rattle.fm_world.proofs.Callbacks.{not_false}
@@ -93,9 +94,24 @@ few_fly i (r ∷ rs) sound = omega (
     either_counts : (b : Bool) → one (not b) + one b ≡ 1
     either_counts b = grind arith
 
-pub unfinished_few : (w : World) (i : InstanceId) → IsUnderWay w → unfinished_at w i ≤ 352
+-- an operation that wasn't collected began below one instance at most
+begun_few : (i : ℕ) (rs : List FlowRecord) → count_by (is_begun_by i) rs ≤ count_by (λ r. not r.collected) rs
+begun_few i [] = omega arith
+begun_few i (r ∷ rs) = omega (
+  arith,
+  count-cons (is_begun_by i) r rs,
+  count-cons (λ (x : FlowRecord). not x.collected) r rs,
+  both_few (not r.collected) (is_below i r.below),
+  begun_few i rs,
+)
+  where
+    both_few : (a b : Bool) → one (a && b) ≤ one a
+    both_few a b = grind arith
+
+pub unfinished_few : (w : World) (i : InstanceId) → IsUnderWay w → unfinished_at w i ≤ 608
 unfinished_few w i s = omega (
   arith,
+  begun_few i.0 w.flow.operations,
   few_fly i.0 w.flow.operations s.flow.sound,
   s.flow.few,
   collected_few w.workers w.flow s.flow s.hands s.drains,

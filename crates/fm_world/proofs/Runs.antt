@@ -22,6 +22,7 @@ use Rattle.fm_world.proofs.Draining.{drain_done_does, drain_take_does}
 use Rattle.fm_world.proofs.Filed.{file_empty}
 use Rattle.fm_world.proofs.Linking.{allocate_does, delete_does, get_does, set_does}
 use Rattle.fm_world.proofs.Owning.{attach_does, mount_does, register_does, setup_does}
+use Rattle.fm_world.proofs.Initiators.{begin_from_does}
 use Rattle.fm_world.proofs.Requests.{begin_does, collect_does}
 use Rattle.fm_world.proofs.Resumes.{first_held_does, resume_post_does, resume_pre_does}
 use Rattle.fm_world.proofs.Returns.{base_does, post_does, pre_does}
@@ -227,6 +228,7 @@ step_does old (Step.Mount name) (StepReply.Volume r) new h = mount_does old name
 step_does old (Step.Attach k f v name altitude) (StepReply.Instance r) new h = attach_does old k f v name altitude r new h
 step_does old (Step.SetupDone k accept) (StepReply.Done r) new h = (setup_does old k accept r new h).0
 step_does old (Step.Begin what) (StepReply.Operation r) new h = (begin_does old what r new h).0
+step_does old (Step.BeginFrom from what) (StepReply.Operation r) new h = (begin_from_does old from what r new h).0
 step_does old (Step.Next k o) (StepReply.Action r) new h = (next_does old k o r new h).0
 step_does old (Step.PreReturned k verdict lent) (StepReply.Done r) new h = (pre_does old k verdict lent r new h).0
 step_does old (Step.BaseReturned k call given) (StepReply.Done r) new h = base_does old k call given r new h

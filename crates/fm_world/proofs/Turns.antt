@@ -218,29 +218,29 @@ leads_of s k o r lies drains stack sound finds h = each_turn (Leads s o r) k lie
       let visit : PreVisit = record { instance = i; worker = k; state = PreState.Running; place = length r.kept } in
       leads_in s o r (call_pre k i r (Some p)) (ap is_running e)
       (subst (Matches o (Place.Pre o i)) (sym (ap (option_map AtPre) (visit_last r.entries visit))) (matches_pre o i))
-      (among_visits s r.volume r.born r.operation r.entries r.stage PreRunning visit stack (none e) (λ x. absurd (apart PreRunning refl x)) (below e is).0 h);
+      (among_visits s r.volume r.below r.born r.operation r.entries r.stage PreRunning visit stack (none e) (λ x. absurd (apart PreRunning refl x)) (below e is).0 h);
   skips = λ i e is. record {
-    among = among_visits s r.volume r.born r.operation r.entries r.stage Descending
+    among = among_visits s r.volume r.below r.born r.operation r.entries r.stage Descending
         (record { instance = i; worker = k; state = bare_ask; place = length r.kept }) stack (none e)
         (λ x. absurd (apart Descending refl x)) (below e is).0 h;
     spots = nowhere e;
   };
   asks = grind arith;
   knows = λ why e is. record {
-    among = among_base s r.volume r.born r.operation r.entries r.stage why 0 (none e) (below e is) h;
+    among = among_base s r.volume r.below r.born r.operation r.entries r.stage why 0 (none e) (below e is) h;
     spots = nowhere e;
   };
   drains = λ ask e.
       leads_in s o r (turn (Ok (FlowAction.Drain ask.instance ask.completion)) (with_drain ask.instance (InDrain ask.instance) r)) (ap is_running e)
       (matches_drain o ask.instance)
-      (among_other s r.volume r.born r.operation r.entries r.stage (InDrain ask.instance)
+      (among_other s r.volume r.below r.born r.operation r.entries r.stage (InDrain ask.instance)
       (Drain (record { instance = ask.instance; is_running = true })) refl refl
       (λ x. absurd (apart (InDrain ask.instance) refl x)) h);
   posts = λ ask m kept p e.
       let visit : PostVisit = record { instance = ask.instance; worker = k; state = PostState.Running } in
       leads_in s o r (give_post k ask (record r { params = m; kept = kept }) (Some p)) (ap is_running e)
       (subst (Matches o (Place.Post o ask.instance)) (sym (ap (option_map AtPost) (post_last r.entries visit))) (matches_post o ask.instance))
-      (among_other s r.volume r.born r.operation r.entries r.stage PostRunning (Post visit) refl refl (λ x. absurd (apart PostRunning refl x)) h);
+      (among_other s r.volume r.below r.born r.operation r.entries r.stage PostRunning (Post visit) refl refl (λ x. absurd (apart PostRunning refl x)) h);
 })
   where
     nobody_goes : (reply : Result FlowAction Status) → gives_nothing reply ≡ true → placed_by o reply ≡ Place.Idle
@@ -270,8 +270,8 @@ times_unseen i (x ∷ xs) h = grind (arith, (times_unseen i xs))
 
 pub may_visit : (s : StackWorld) (r : FlowRecord) (lies : Below) → IsAmong s r → LiesBelow s r lies → MayLieBelow lies r.entries
 may_visit s r (Below.Instance i is_called) h lies = (
-  times_unseen i.0 (visited r.entries) (next_unseen s r.volume r.born r.operation (visited r.entries) i.0 (has_base r.entries) h.descent lies.0),
-  room_is s r.volume r.born r.operation (visited r.entries) i.0 h.room lies.0,
+  times_unseen i.0 (visited r.entries) (next_unseen s r.volume r.below r.born r.operation (visited r.entries) i.0 (has_base r.entries) h.descent lies.0),
+  room_is s r.volume r.below r.born r.operation (visited r.entries) i.0 h.room lies.0,
 )
 may_visit s r Below.Call h lies = tt
 may_visit s r (Below.Known status) h lies = tt

@@ -68,12 +68,12 @@ pub use Rattle.fm_world.specs.ContextEvents.{context_by, filter_of, is_gone_at, 
 pub use Rattle.fm_world.specs.ContextEvents.{totalled_for, with_contexts}
 unfoldable pub use Rattle.fm_world.specs.ContextEvents.{Allocates, Bumps, Cleans, Deletes, Finishes, Gets, ReadsBody, References, Releases, Sets, TakesDue}
 unfoldable pub use Rattle.fm_world.specs.ContextEvents.{WritesBody}
-pub use Rattle.fm_world.specs.Descent.{HasRoom, IsDescent, is_among, last_of}
+pub use Rattle.fm_world.specs.Descent.{HasRoom, IsDescent, begins_below, cursor_of, is_among, last_of, trail}
 pub use Rattle.fm_world.specs.Dismounts.{Drops, dropped, is_handle_on, lowest_on}
 unfoldable pub use Rattle.fm_world.specs.Dismounts.{DropsHandle, EmptiesVolume, FinishesVolume, StartsDismount}
-pub use Rattle.fm_world.specs.Events.{BaseReturnsAt, EmptiesUnless, FindsBelow, FindsHeldAt, LiesBelow, LosesByKnown, NextsAt, NextsOver, PostReturnsAt}
-pub use Rattle.fm_world.specs.Events.{PreReturnsAt, ResumesPostAt, ResumesPreAt, SetsUpAt, Unless, after_begin, asked_begun, asked_refused, base_returned}
-pub use Rattle.fm_world.specs.Events.{base_step, begin_refused, begun_on, brought, carries_after, created_begun, drains_at, filed_next, filed_pre, filed_record}
+pub use Rattle.fm_world.specs.Events.{BaseReturnsAt, BeginsAt, EmptiesUnless, FindsBelow, FindsHeldAt, LiesBelow, LosesByKnown, NextsAt, NextsOver, PostReturnsAt}
+pub use Rattle.fm_world.specs.Events.{PreReturnsAt, ResumesPostAt, ResumesPreAt, SetsUpAt, Unless, after_begin, asked_begun, asked_refused_at, base_returned}
+pub use Rattle.fm_world.specs.Events.{base_step, begin_refused, begin_refused_at, begun_on, brought, carries_after, created_begun, drains_at, filed_next, filed_pre, filed_record}
 pub use Rattle.fm_world.specs.Events.{flow_after_next, has_no_handle_left, has_post, is_created_on, is_held_by, lets_go, moved_on, of_hand, or_else}
 pub use Rattle.fm_world.specs.Events.{pre_resumed, pre_step, received, resume_post_refused, resume_pre_refused, returned, sent, sent_in, state_at, state_given}
 unfoldable pub use Rattle.fm_world.specs.Events.{Attaches, BaseReturns, Begins, Collects, FindsHeld, Mounts, Nexts, PostReturns, PreReturns, Registers}
@@ -96,6 +96,9 @@ pub use Rattle.fm_world.specs.Sound.{is_made, most_at}
 pub use Rattle.fm_world.specs.Steps.{Run, RunThrough, Steps}
 pub use Rattle.fm_world.specs.Routines.{RoutineReturnsAt, file_by, routine_refusals}
 unfoldable pub use Rattle.fm_world.specs.Routines.{EntersRoutine, RoutineReturns}
+pub use Rattle.fm_world.specs.Initiators.{after_begin_from, from_refusals, is_off_volume, placed_at, placed_from, requested_volume}
+unfoldable pub use Rattle.fm_world.specs.Initiators.{BeginsLower}
+pub use Rattle.fm_world.specs.declared.begins_from.BeginsFrom.{BeginsFrom}
 pub use Rattle.fm_world.specs.Teardowns.{CompleteReturnsAt, QueryReturnsAt, StartReturnsAt, UnloadReturnsAt, unfinished_at}
 unfoldable pub use Rattle.fm_world.specs.Teardowns.{AsksDetach, AsksUnload, CompleteReturns, CompletesTeardown, EmptiesFilter, FinishesFilter, ForcesUnload}
 unfoldable pub use Rattle.fm_world.specs.Teardowns.{QueryReturns, StartReturns, StartsTeardown, UnloadReturns}

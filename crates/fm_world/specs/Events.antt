@@ -4,7 +4,7 @@
 use Rattle.std.specs.Prelude.{◌≡◌, ℕ, ◌+◌, ◌-◌, ◌^◌, ◌==◌, ◌&&◌, ◌||◌, Bool, true, false, cond, not, List, [], ◌∷◌, length, nat_le, Option, Some, None, is_none, Result, Ok, Err, slice_get}
 use Rattle.fm_world.specs.Words.{FilterId, VolumeId, InstanceId, OpId, WorkerId, HandleId, StreamId, CtxId, Status, Operation, first_of, Answers, AnswersOrMemory}
 use Rattle.fm_world.specs.Words.{Params, Answer, Instance, Phase, StackWorld, IsNextInstance, has_pre_in, has_post_in, holds, hand_of, ContextTable, grabbed}
-use Rattle.fm_world.specs.Words.{handed_on, Leaves, Sweeps, is_linked_of, FlowAction, Ask, PreState, Descending, FlowRecord, owed, last_visited, creates}
+use Rattle.fm_world.specs.Words.{handed_on, Leaves, Sweeps, is_linked_of, FlowAction, Ask, PreState, Descending, FlowRecord, owed, visited, creates}
 use Rattle.fm_world.specs.Words.{has_create_on, is_create, FlowTable, carried, operation_at, changed, told, begun, is_full, collect_reply, collected_of}
 use Rattle.fm_types.specs.declared.registration.Registration.{Registration}
 use Rattle.fm_data.specs.Calls.{BaseCall}
@@ -36,10 +36,11 @@ use Rattle.fm_data.specs.declared.request.Request.{Request}
 use Rattle.fm_data.specs.declared.request.Request.TheVariants as request
 use Rattle.fm_world.specs.declared.place.Place.{Place}
 use Rattle.fm_world.specs.declared.place.Place.TheVariants as place
+use Rattle.fm_world.specs.Descent.{cursor_of}
 use Rattle.fm_world.specs.Links.{LosesLinks}
 use Rattle.fm_world.specs.World.{World, carries}
 use Rattle.fm_data.specs.Requests.{params_of}
-use Rattle.fm_world.specs.Requests.{phase_refusal}
+use Rattle.fm_world.specs.Requests.{phase_refusal_at}
 use Rattle.fm_world.specs.Files.{FileTable, stream_at, handle_at, stream_for, created, phased, has_other_handle, is_marked, after_base, after_pre}
 use Rattle.fm_world.specs.declared.file.FileHandle.{FileHandle}
 use Rattle.fm_world.specs.declared.file.FileStream.{FileStream}
@@ -103,22 +104,26 @@ abbrev pub or_else : Option Status → Option Status → Option Status
 or_else (Some refusal) others = Some refusal
 or_else None others = others
 
--- a handle's phase refuses first, then its volume
-abbrev pub refused_on : World → Params → FileHandle → Option FileStream → Option Status
-refused_on w p x None = Some status.NoHandle
-refused_on w p x (Some y) = or_else (phase_refusal w.flow (operation_of p) x.phase) (first_of (volume_refusals w y.volume (is_full w.flow)))
+-- a handle's phase refuses first, then its volume; lower says that a filter asks
+abbrev pub refused_on_at : Bool → World → Params → FileHandle → Option FileStream → Option Status
+refused_on_at lower w p x None = Some status.NoHandle
+refused_on_at lower w p x (Some y) = or_else (phase_refusal_at lower w.flow (operation_of p) x.phase) (first_of (volume_refusals w y.volume (is_full w.flow)))
 
-abbrev pub refused_at : World → Params → Option FileHandle → Option Status
-refused_at w p None = Some status.NoHandle
-refused_at w p (Some x) = refused_on w p x (stream_at x.stream w.files)
+abbrev pub refused_at_by : Bool → World → Params → Option FileHandle → Option Status
+refused_at_by lower w p None = Some status.NoHandle
+refused_at_by lower w p (Some x) = refused_on_at lower w p x (stream_at x.stream w.files)
 
-abbrev pub asked_refused : World → HandleId → Params → Option Status
-asked_refused w h p = cond (is_within_limits p) (refused_at w p (handle_at h w.files)) (Some status.BadRequest)
+abbrev pub asked_refused_at : Bool → World → HandleId → Params → Option Status
+asked_refused_at lower w h p = cond (is_within_limits p) (refused_at_by lower w p (handle_at h w.files)) (Some status.BadRequest)
 
+abbrev pub begin_refused_at : Bool → World → Request → Option Status
+begin_refused_at lower w (request.List v) = first_of (volume_refusals w v (is_full w.flow))
+begin_refused_at lower w (request.Create v path mode) = first_of (volume_refusals w v (is_full w.flow || has_no_handle_left w))
+begin_refused_at lower w (request.OnHandle h asked) = asked_refused_at lower w h (params_of asked)
+
+-- what a client asks is refused so
 abbrev pub begin_refused : World → Request → Option Status
-begin_refused w (request.List v) = first_of (volume_refusals w v (is_full w.flow))
-begin_refused w (request.Create v path mode) = first_of (volume_refusals w v (is_full w.flow || has_no_handle_left w))
-begin_refused w (request.OnHandle h asked) = asked_refused w h (params_of asked)
+begin_refused w what = begin_refused_at false w what
 
 -- a cleanup and a close move the handle's end on
 abbrev pub moved_on : Operation → HandleId → ℕ → FileTable → FileTable
@@ -151,10 +156,13 @@ after_begin w (request.List v) = record w { flow = begun v None None w.stack.bir
 after_begin w (request.Create v path mode) = created_begun w v path mode
 after_begin w (request.OnHandle h asked) = asked_begun w h (params_of asked)
 
-unfoldable pub Begins : World → Request → Result OpId Status → World → Type 0
-Begins old what result new =
-    AnswersOrMemory (begin_refused old what) result old new
+abbrev pub BeginsAt : Bool → World → Request → Result OpId Status → World → Type 0
+BeginsAt lower old what result new =
+    AnswersOrMemory (begin_refused_at lower old what) result old new
     (λ (o : OpId). (o.0 ≡ old.flow.next) × (new ≡ after_begin old what))
+
+unfoldable pub Begins : World → Request → Result OpId Status → World → Type 0
+Begins old what result new = BeginsAt false old what result new
 
 -- ---- the next callback or call of an operation
 
@@ -191,13 +199,13 @@ known_create f (Some s) = cond (is_marked s f) (Some status.DeletePending) None
 abbrev pub base_known : FileTable → FlowTable → FlowRecord → Option Status
 base_known f t r = cond (is_create r.operation) (known_create f r.stream) (known_at f t r.operation r.stream r.handle)
 
--- what an operation finds below its last visit: the next instance, or the base
+-- what an operation finds below its last visit, or below where it began: the next instance, or the base
 abbrev pub LiesBelow : StackWorld → FlowRecord → Below → Type 0
 LiesBelow s r (below.Instance i is_called) =
-    IsNextInstance s r.volume (last_visited r.entries) r.born r.operation (Some i)
+    IsNextInstance s r.volume (cursor_of r.below (visited r.entries)) r.born r.operation (Some i)
     × (is_called ≡ has_pre s (slice_get s.instances i.0) r.operation)
-LiesBelow s r below.Call = IsNextInstance s r.volume (last_visited r.entries) r.born r.operation None
-LiesBelow s r (below.Known status) = IsNextInstance s r.volume (last_visited r.entries) r.born r.operation None
+LiesBelow s r below.Call = IsNextInstance s r.volume (cursor_of r.below (visited r.entries)) r.born r.operation None
+LiesBelow s r (below.Known status) = IsNextInstance s r.volume (cursor_of r.below (visited r.entries)) r.born r.operation None
 
 -- the base is called, or its answer is known
 abbrev pub AnswersBelow : FileTable → FlowTable → FlowRecord → Below → Type 0

@@ -32,9 +32,9 @@ IsInOrder r = walk Descending r.entries ≡ Some (way_of r.stage)
 abbrev pub IsSynchronized : FlowRecord → Type 0
 IsSynchronized r = All (MadeAsAsked (asked r.entries)) r.entries
 
--- the preoperations fall by altitude, and nobody is passed over
+-- the preoperations fall by altitude, and nobody is passed over: of an operation that an instance's filter asked for itself nobody that stands lower
 abbrev pub DescendsIn : StackWorld → FlowRecord → Type 0
-DescendsIn s r = IsDescent s r.volume r.born r.operation (visited r.entries) (has_base r.entries)
+DescendsIn s r = IsDescent s r.volume r.below r.born r.operation (visited r.entries) (has_base r.entries)
 
 -- where `next` has brought an operation to a worker: inside an instance's preoperation, the base's call, an instance's postoperation or its drain
 pub data Spot : Type 0 where

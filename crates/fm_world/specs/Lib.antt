@@ -12,6 +12,7 @@ pub mod About
 pub mod Teardowns
 pub mod EarlyDrains
 pub mod Routines
+pub mod Initiators
 pub mod Dismounts
 pub mod Steps
 pub mod Descent

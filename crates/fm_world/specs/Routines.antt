@@ -1,6 +1,6 @@
 -- The events by which a worker does for an instance what its filter does outside of callbacks: in a work item, a thread, a timer. In a routine it may do
 -- what a callback of the instance may. A refusal changes nothing.
-use Rattle.std.specs.Prelude.{◌≡◌, ◌==◌, Bool, true, false, not, List, [], ◌∷◌, Option, Some, None, is_none, option_map, option_and_then, Result, Ok, Err}
+use Rattle.std.specs.Prelude.{◌≡◌, ◌==◌, Bool, false, not, List, [], ◌∷◌, Option, Some, None, is_none, option_map, option_and_then, Result, Ok, Err}
 use Rattle.fm_world.specs.Words.{HandleId, Instance, InstanceId, VolumeId, WorkerId, Status, first_of, Answers, Leaves}
 use Rattle.fm_types.specs.declared.status.Status.TheVariants as status
 use Rattle.fm_world.specs.declared.file.FileHandle.{FileHandle}

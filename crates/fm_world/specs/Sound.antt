@@ -1,7 +1,7 @@
 -- What an induction over events needs besides the Headline, and from which the Headline follows.
 use Rattle.std.specs.Prelude.{◌≡◌, ℕ, ◌+◌, ◌<◌, ◌≤◌, ◌&&◌, Bool, true, false, cond, List, length, All, count_by, Option, Some, None, slice_get}
 use Rattle.fm_world.specs.Words.{InstanceId, WorkerId, OpId, VolumeId, Operation, Instance, StackWorld, is_setup, NonePasses, is_candidate, cleaning_of}
-use Rattle.fm_world.specs.Words.{hand_of, IsLawful, Slot, Stage, InBase, Entry, FlowRecord, visited, last_visited, has_base, owed, creates, FlowTable, IsFlow}
+use Rattle.fm_world.specs.Words.{hand_of, IsLawful, Slot, Stage, InBase, Entry, FlowRecord, visited, has_base, owed, creates, FlowTable, IsFlow}
 use Rattle.fm_world.specs.Words.{in_flight, carried, ContextTable, one, is_stopping, is_completing}
 use Rattle.fm_stack.specs.Stacks.{IsStack}
 use Rattle.fm_stack.specs.declared.instance.StartMark.{StartMark}
@@ -14,7 +14,7 @@ use Rattle.fm_world.specs.Links.{names_there}
 use Rattle.fm_world.specs.World.{World}
 use Rattle.fm_world.specs.Workers.{worker_at, cleanup_in, InstanceCallback, AtSetup, AtQuery, AtStart, AtComplete, AtRoutine, is_at}
 use Rattle.fm_world.specs.Owners.{row_at, place_in, HoldsIn, AskCarries, fits, is_flown, is_flown_by}
-use Rattle.fm_world.specs.Descent.{IsDescent, HasRoom}
+use Rattle.fm_world.specs.Descent.{IsDescent, HasRoom, trail, cursor_of}
 use Rattle.fm_world.specs.Headline.{Spot, is_in_at, stands_at, is_in_drain, drains_running}
 
 -- nothing is left for an operation to visit that visited the cursor last
@@ -22,15 +22,15 @@ abbrev pub NoneLeft : StackWorld → VolumeId → Option ℕ → ℕ → Operati
 NoneLeft s v cursor born operation = NonePasses (is_candidate s v cursor born operation) s.instances
 
 -- an operation among the instances
-pub record IsAmongAt (s : StackWorld) (v : VolumeId) (born : ℕ) (operation : Operation) (entries : List Entry) (stage : Stage) : Type 0 where
-  pub descent : IsDescent s v born operation (visited entries) (has_base entries)
-  pub room : HasRoom s v born operation (visited entries)
-  pub there : All (λ i. i < length s.instances) (visited entries)
+pub record IsAmongAt (s : StackWorld) (v : VolumeId) (below : Option InstanceId) (born : ℕ) (operation : Operation) (entries : List Entry) (stage : Stage) : Type 0 where
+  pub descent : IsDescent s v below born operation (visited entries) (has_base entries)
+  pub room : HasRoom s v below born operation (visited entries)
+  pub there : All (λ i. i < length s.instances) (trail below (visited entries))
   -- while the base is called, nothing comes to be left
-  pub base : stage ≡ InBase → NoneLeft s v (last_visited entries) born operation
+  pub base : stage ≡ InBase → NoneLeft s v (cursor_of below (visited entries)) born operation
 
 abbrev pub IsAmong : StackWorld → FlowRecord → Type 0
-IsAmong s r = IsAmongAt s r.volume r.born r.operation r.entries r.stage
+IsAmong s r = IsAmongAt s r.volume r.below r.born r.operation r.entries r.stage
 
 abbrev pub is_made : StartMark → Bool
 is_made mark.Made = true

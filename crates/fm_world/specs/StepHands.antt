@@ -19,6 +19,7 @@ worker_of (step.Mount name) = None
 worker_of (step.Attach k f v name altitude) = Some k
 worker_of (step.SetupDone k accept) = Some k
 worker_of (step.Begin what) = None
+worker_of (step.BeginFrom from what) = None
 worker_of (step.Next k o) = Some k
 worker_of (step.PreReturned k verdict lent) = Some k
 worker_of (step.BaseReturned k call given) = Some k

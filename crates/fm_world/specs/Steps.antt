@@ -12,6 +12,7 @@ use Rattle.fm_world.specs.ContextEvents.{Allocates, Sets, Gets, Deletes, Referen
 use Rattle.fm_world.specs.Teardowns.{AsksDetach, QueryReturns, StartsTeardown, StartReturns, CompletesTeardown, CompleteReturns}
 use Rattle.fm_world.specs.EarlyDrains.{TakesDrain, DrainReturns}
 use Rattle.fm_world.specs.Routines.{EntersRoutine, RoutineReturns}
+use Rattle.fm_world.specs.Initiators.{BeginsLower}
 use Rattle.fm_world.specs.Dismounts.{StartsDismount, DropsHandle, EmptiesVolume, FinishesVolume}
 use Rattle.fm_world.specs.Teardowns.{AsksUnload, UnloadReturns, ForcesUnload, EmptiesFilter, FinishesFilter}
 use Rattle.fm_world.specs.Events.{Registers, Mounts, Attaches, SetsUp, Begins, Nexts, PreReturns, BaseReturns, PostReturns, ResumesPre, ResumesPost, FindsHeld, Collects}
@@ -88,6 +89,7 @@ Steps old (step.Mount name) answer new = OfVolume answer (λ r. Mounts old name 
 Steps old (step.Attach k f v name altitude) answer new = OfInstance answer (λ r. Attaches old k f v name altitude r new)
 Steps old (step.SetupDone k accept) answer new = OfDone answer (λ r. SetsUp old k accept r new)
 Steps old (step.Begin what) answer new = OfOperation answer (λ r. Begins old what r new)
+Steps old (step.BeginFrom from what) answer new = OfOperation answer (λ r. BeginsLower old from what r new)
 Steps old (step.Next k o) answer new = OfAction answer (λ r. Nexts old k o r new)
 Steps old (step.PreReturned k verdict lent) answer new = OfDone answer (λ r. PreReturns old k verdict lent r new)
 Steps old (step.BaseReturned k call given) answer new = OfDone answer (λ r. BaseReturns old k call given r new)

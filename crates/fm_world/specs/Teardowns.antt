@@ -5,6 +5,7 @@ use Rattle.std.specs.Prelude.{◌≡◌, ◌+◌, ℕ, Bool, Option, Some, Resul
 use Rattle.fm_world.specs.Words.{FilterId, InstanceId, WorkerId, Status, first_of, Answers, Context, ContextTable, Leaves, Sweeps, is_linked_of, open_of, in_flight}
 use Rattle.fm_types.specs.declared.status.Status.TheVariants as status
 use Rattle.fm_ctx.specs.declared.owner.Owner.TheVariants as owner
+use Rattle.fm_flow.specs.Initiators.{begun_by}
 use Rattle.fm_stack.specs.Detaching as stack
 use Rattle.fm_stack.specs.Unloading as filters
 use Rattle.fm_world.specs.declared.place.Place.{Place}
@@ -48,9 +49,9 @@ StartReturnsAt old k result new _ = (result ≡ Err status.WrongStep) × (new �
 unfoldable pub StartReturns : World → WorkerId → Result (Unit {0}) Status → World → Type 0
 StartReturns old k result new = StartReturnsAt old k result new (worker_at old.workers k)
 
--- what a teardown waits for: operations in flight at the instance, and its filter's routines
+-- what a teardown waits for: operations in flight at the instance, those that began below it, and its filter's routines
 abbrev pub unfinished_at : World → InstanceId → ℕ
-unfinished_at w i = in_flight i.0 w.flow + routines_at i w.workers
+unfinished_at w i = in_flight i.0 w.flow + begun_by i.0 w.flow + routines_at i w.workers
 
 -- by an idle worker, which then is in the teardown-complete callback, where nothing is left to wait for
 unfoldable pub CompletesTeardown : World → WorkerId → InstanceId → Result (Unit {0}) Status → World → Type 0

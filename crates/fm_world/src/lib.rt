@@ -6,6 +6,7 @@
 #![tactic(auto)]
 
 mod about;
+mod begins_from;
 mod file;
 pub mod laws;
 mod place;
@@ -14,6 +15,7 @@ mod set_answer;
 mod step;
 
 pub use crate::about::{About, AboutOperation};
+pub use crate::begins_from::BeginsFrom;
 pub use crate::file::{FileHandle, FileObject, FileStream, HandlePhase};
 pub use crate::place::Place;
 pub use crate::refused::Refused;

@@ -3,6 +3,7 @@
 ghost use Rattle.std.specs.Prelude.{◌≡◌};
 ghost use Rattle.fm_world.specs.StepHands.{worker_of};
 
+use crate::begins_from::BeginsFrom;
 use crate::set_answer::SetAnswer;
 use fm_altitude::Altitude;
 use fm_ctx::{Due, SetMode};
@@ -40,6 +41,8 @@ pub enum Step {
     },
     /// An operation begins.
     Begin(Request),
+    /// An operation begins below an instance whose filter asks for it, or at the base.
+    BeginFrom(BeginsFrom, Request),
     /// The worker asks for the next callback or call of an operation.
     Next {
         worker: WorkerId,
@@ -244,6 +247,7 @@ impl Step {
             Step::Register { .. }
             | Step::Mount { .. }
             | Step::Begin(_)
+            | Step::BeginFrom(_, _)
             | Step::Collect { .. }
             | Step::Finish { .. }
             | Step::ForceUnload { .. }
@@ -298,7 +302,7 @@ pub enum StepReply {
     Volume(Result<VolumeId, Status>),
     /// To Attach.
     Instance(Result<InstanceId, Status>),
-    /// To Begin.
+    /// To Begin and BeginFrom.
     Operation(Result<OpId, Status>),
     /// To Next.
     Action(Result<FlowAction, Status>),

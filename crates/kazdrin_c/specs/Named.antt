@@ -1,5 +1,5 @@
 -- The event that C names by a number, with the fields that the event reads.
-use Rattle.std.specs.Prelude.{ℕ, ◌==◌, Bool, cond, not, List, [], ◌∷◌, Option, Some, None, option_map, slice_get}
+use Rattle.std.specs.Prelude.{ℕ, ◌==◌, Bool, cond, not, List, [], ◌∷◌, Option, Some, None, option_and_then, option_map, slice_get}
 use Rattle.fm_types.specs.declared.operation.CreateMode.{CreateMode}
 use Rattle.fm_types.specs.declared.operation.CreateMode.TheVariants as create
 use Rattle.fm_types.specs.declared.context_kind.ContextKind.{ContextKind}
@@ -17,7 +17,9 @@ use Rattle.fm_types.specs.declared.status.Status.{Status}
 use Rattle.fm_types.specs.declared.status.Status.TheVariants.{Success, NoMemory, BadAltitude, BadName, NameCollision, AltitudeCollision, NoFilter, NoVolume, NoInstance, NotLoaded, AlreadyLoaded, DoNotAttach, DoNotDetach, DeletingObject, NoHandle, BadPath, DeletePending, AccessDenied, DeviceFault, FileNotFound, AlreadyExists, NotRegistered, AlreadyDefined, AlreadyLinked, NoContext, NotHeld, HandFull, NoObject, NotPended, TooMany, WrongStep, EndOfFile, BadRequest, Dismounting, Busy}
 use Rattle.fm_data.specs.declared.request.FileRequest.{FileRequest}
 use Rattle.fm_data.specs.declared.request.FileRequest.TheVariants as file
+use Rattle.fm_data.specs.declared.request.Request.{Request}
 use Rattle.fm_data.specs.declared.request.Request.TheVariants as request
+use Rattle.fm_world.specs.declared.begins_from.BeginsFrom.TheVariants as from
 use Rattle.fm_data.specs.declared.verdict.Completion.{Completion}
 use Rattle.fm_data.specs.declared.verdict.PreVerdict.{PreVerdict}
 use Rattle.fm_data.specs.declared.verdict.PreVerdict.TheVariants as verdict
@@ -155,9 +157,15 @@ context_named e bytes =
     (cond (e.event == 25) (Some (step.WriteBody (worker_in e) (context_in e) bytes))
     (cond (e.event == 26) (Some (step.Bump (worker_in e) (context_in e) e.offset e.number)) (request_named e)))))))))
 
--- an operation on the event's handle
+-- an operation that begins at the top, below the event's instance, or at the base
+abbrev pub begun_named : KazdrinEvent → Request → Option Step
+begun_named e what =
+    cond (e.kind == 0) (Some (step.Begin what))
+    (cond (e.kind == 1) (Some (step.BeginFrom (from.Below (instance_in e)) what)) (cond (e.kind == 2) (Some (step.BeginFrom from.Base what)) None))
+
+-- one on the event's handle
 abbrev pub asks : KazdrinEvent → FileRequest → Option Step
-asks e what = Some (step.Begin (request.OnHandle (handle_in e) what))
+asks e what = begun_named e (request.OnHandle (handle_in e) what)
 
 abbrev pub file_named : KazdrinEvent → List ℕ → Option Step
 file_named e bytes =
@@ -176,8 +184,8 @@ step_named e bytes =
     cond (e.event == 1) (Some (step.Register bytes (registration_in e)))
     (cond (e.event == 2) (Some (step.Mount bytes))
     (cond (e.event == 3) (Some (step.SetupDone (worker_in e) (flag_in e)))
-    (cond (e.event == 4) (option_map (λ m. step.Begin (request.Create (volume_in e) bytes m)) (create_mode_named e.mode))
-    (cond (e.event == 5) (Some (step.Begin (request.List (volume_in e)))) (file_named e bytes)))))
+    (cond (e.event == 4) (option_and_then (λ m. begun_named e (request.Create (volume_in e) bytes m)) (create_mode_named e.mode))
+    (cond (e.event == 5) (begun_named e (request.List (volume_in e))) (file_named e bytes)))))
 
 -- the attachment of the event's filter to its volume, under that name and at that altitude
 abbrev pub attach_named : KazdrinEvent → List ℕ → List ℕ → Step

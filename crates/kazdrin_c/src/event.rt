@@ -1,11 +1,11 @@
 //! What C says of an event: one structure for all of them, and the event that it names.
 
 ghost use Rattle.std.specs.Prelude.{◌≡◌, IfErr, IfOk, None};
-ghost use Rattle.kazdrin_c.specs.Named.{attach_named, completion_in, context_named, create_mode_named, file_named, kind_named, registration_in, request_named, set_mode_named, hold_named, status_at, step_named, teardown_named, unload_named, routine_named, file_handle_in, post_named, verdict_named, flag_in};
+ghost use Rattle.kazdrin_c.specs.Named.{attach_named, begun_named, completion_in, context_named, create_mode_named, file_named, kind_named, registration_in, request_named, set_mode_named, hold_named, status_at, step_named, teardown_named, unload_named, routine_named, file_handle_in, post_named, verdict_named, flag_in};
 ghost use Rattle.kazdrin_c.specs.Refusals.{Unnamed, Unread, UnreadTexts, takes_memory};
 
 use fm_altitude::Altitude;
-use fm_core::{Hold, SetMode, Step};
+use fm_core::{BeginsFrom, Hold, SetMode, Step};
 use fm_data::{Completion, FileRequest, PostVerdict, PreVerdict, Request};
 use fm_types::{
     Bytes, ContextKind, ContextMask, CreateMode, CtxId, FilterId, HandleId, InstanceId, Name, OpId,
@@ -173,6 +173,18 @@ impl KazdrinEvent {
         }
     }
 
+    /// The operation that begins, by where it does: 0 at the top, 1 below the event's instance, 2 at the base; none for another number.
+    fn begun(&self, what: Request) -> Option<Step>
+        ensures { result ≡ begun_named self.now what }
+    {
+        match self.kind {
+            0 => Some(Step::Begin(what)),
+            1 => Some(Step::BeginFrom(BeginsFrom::Below(InstanceId(self.instance)), what)),
+            2 => Some(Step::BeginFrom(BeginsFrom::Base, what)),
+            _ => None,
+        }
+    }
+
     /// The event that the number names, with the bytes that C passed as its text, body or data. Refused with 32 for a number that names none, with 3 or 15
     /// for a text that is no name or no path, and with 1 where memory was refused.
     pub fn step(&self, alloc: Global, bytes: &[u8]) -> Result<Step, Status>
@@ -191,14 +203,14 @@ impl KazdrinEvent {
                 worker: WorkerId(self.worker),
                 accept: self.is_flagged(),
             },
-            4 => Step::Begin(Request::Create {
+            4 => named(self.begun(Request::Create {
                 volume: VolumeId(self.volume),
                 path: SharedPath::new(alloc, RelPath::read(bytes)?)?,
                 mode: named(create_mode_of(self.mode))?,
-            }),
-            5 => Step::Begin(Request::List {
+            }))?,
+            5 => named(self.begun(Request::List {
                 volume: VolumeId(self.volume),
-            }),
+            }))?,
             _ => return self.file_step(alloc, bytes),
         };
         Ok(step)
@@ -240,7 +252,7 @@ impl KazdrinEvent {
             13 => FileRequest::Close,
             _ => return self.context_step(alloc, bytes),
         };
-        Ok(Step::Begin(Request::OnHandle {
+        named(self.begun(Request::OnHandle {
             handle: HandleId(self.handle),
             request,
         }))

@@ -41,11 +41,24 @@ enum Line {
     Leaves(VolumeId, Result<(), Status>),
     Closes(VolumeId, Result<(), Status>),
     Looks(VolumeId, Result<Look, Status>),
+    /// It sees that volume drained.
+    Drained(VolumeId),
     /// How many passes it holds.
     Holds(u64),
 }
 
-use Line::{Closes, Enters, Holds, Leaves, Looks};
+use Line::{Closes, Drained, Enters, Holds, Leaves, Looks};
+
+// The volume that a look finds drained, if it is.
+fn seen_drained(gate: &RundownGate, seat: &mut GateSeat, volume: VolumeId) -> Option<VolumeId>
+    requires { IsSeatOf gate.now seat.old }
+    ensures { IsSeatOf gate.now seat.new }
+{
+    match gate.look(seat, volume) {
+        Ok(Look::Drained(seen)) => Some(seen.volume()),
+        _ => None,
+    }
+}
 
 // Whether the seat says what the line has.
 fn is_said(gate: &RundownGate, seat: &mut GateSeat, line: Line) -> bool
@@ -57,6 +70,7 @@ fn is_said(gate: &RundownGate, seat: &mut GateSeat, line: Line) -> bool
         Leaves(volume, told) => gate.leave(seat, volume) == told,
         Closes(volume, told) => gate.close(seat, volume) == told,
         Looks(volume, told) => gate.look(seat, volume) == told,
+        Drained(volume) => seen_drained(gate, seat, volume) == Some(volume),
         Holds(count) => seat.passes() == count,
     }
 }
@@ -111,7 +125,7 @@ const REFUSED: &[Line] = &[Enters(VOLUME, Err(Status::Dismounting))];
 
 const DRAINED: &[Line] = &[
     Leaves(VOLUME, Ok(())),
-    Looks(VOLUME, Ok(Look::Drained)),
+    Drained(VOLUME),
     Leaves(VOLUME, Err(Status::NotHeld)),
 ];
 
@@ -187,7 +201,7 @@ const FULL: &[Line] = &[
 const LEFT: &[Line] = &[Looks(VOLUME, Ok(Look::Closing)), Leaves(VOLUME, Ok(()))];
 
 const EMPTY: &[Line] = &[
-    Looks(VOLUME, Ok(Look::Drained)),
+    Drained(VOLUME),
     Looks(VolumeId(1), Ok(Look::Open)),
     Holds(1),
 ];
@@ -289,7 +303,7 @@ fn close_and_look<R: Wait>(
     }
     let _ = gate.close(&mut seat, VOLUME);
     'looks: for _ in rt.forever() {
-        if gate.look(&mut seat, VOLUME) == Ok(Look::Drained) {
+        if seen_drained(gate, &mut seat, VOLUME) == Some(VOLUME) {
             break;
         }
         thread::yield_now();
@@ -383,10 +397,7 @@ fn next_two(gate: &RundownGate, seats: &mut Vec<GateSeat>) -> Option<Two>
     Some(Two(one, other))
 }
 
-const ENDED: &[Line] = &[
-    Enters(VOLUME, Err(Status::Dismounting)),
-    Looks(VOLUME, Ok(Look::Drained)),
-];
+const ENDED: &[Line] = &[Enters(VOLUME, Err(Status::Dismounting)), Drained(VOLUME)];
 
 // Whether the seat finds the volume drained, before it goes back to the list.
 fn other_at_end(

@@ -1,7 +1,8 @@
 //! What a script's lines have done, done by a manager that threads share.
 
-ghost use Rattle.std.specs.Prelude.{◌≡◌};
+ghost use Rattle.std.specs.Prelude.{◌≡◌, All, IfSome};
 ghost use Rattle.fm_lock.specs.Blanks.{IsBlankOf};
+ghost use Rattle.fm_rundown.specs.Seats.{IsSeatOf};
 
 use crate::declared::Declared;
 use fm_altitude::Altitude;
@@ -9,12 +10,13 @@ use fm_core::{Action, Entry, State, Step, StepReply};
 use fm_data::{PostVerdict, PreVerdict};
 use fm_device::Device;
 use fm_lock::{Hand, Manager};
+use fm_rundown::{GateSeat, Look, RundownGate, Seen};
 use fm_script::{
     ContextList, Devices, Interpreter, Output, Said, ScriptEnd, Task, Word, said_attached,
     said_called, said_count, said_done, said_given, said_of, said_phase,
 };
 use fm_session::{Given, Lent};
-use fm_types::limits::TURNS;
+use fm_types::limits::{TURNS, VOLUMES};
 use fm_types::{FilterId, InstanceId, Name, OpId, Status, VolumeId, WorkerId};
 use fm_world::Refused;
 use std::alloc::{AllocError, Global};
@@ -37,6 +39,7 @@ pub struct Driver<L: Ledger> {
     devices: Devices,
     contexts: ContextList,
     output: Output<Vec<u8>>,
+    alloc: Global,
 }
 
 // The end of a script that was refused memory of its own.
@@ -75,6 +78,27 @@ fn call<L: Ledger, R: Wait>(
     Ok(reply)
 }
 
+// What a look finds at a gate before which nobody is.
+fn seen_drained(alloc: Global, volume: VolumeId) -> Result<Seen, Status> {
+    let (gate, mut seats) = RundownGate::new(alloc, VOLUMES, 1)?;
+    let Some(mut seat) = only_seat(&gate, &mut seats) else {
+        return Err(Status::WrongStep);
+    };
+    gate.close(&mut seat, volume)?;
+    match gate.look(&mut seat, volume)? {
+        Look::Drained(seen) => Ok(seen),
+        Look::Open | Look::Closing => Err(Status::WrongStep),
+    }
+}
+
+fn only_seat(gate: &RundownGate, seats: &mut Vec<GateSeat>) -> Option<GateSeat>
+    requires { All (λ seat. IsSeatOf gate.now seat) seats.old.items }
+    ensures { IfSome result (λ seat. IsSeatOf gate.now seat) }
+{
+    let _ = gate;
+    seats.pop()
+}
+
 impl<L: Ledger> Driver<L> {
     /// A manager of these filters before its first event, with a hand for each of a script's workers. Refused with 1.
     pub fn new<R: Wait>(
@@ -99,6 +123,7 @@ impl<L: Ledger> Driver<L> {
             devices: Devices::new(alloc)?,
             contexts: ContextList::new(alloc),
             output: Output::new(alloc, Vec::new(alloc)),
+            alloc,
         })
     }
 
@@ -127,6 +152,10 @@ impl<L: Ledger> Driver<L> {
     fn step_alone<R: Wait>(&self, rt: &R, step: Step) -> Result<StepReply, Status> {
         if let Step::Register { name, .. } = step {
             return Ok(StepReply::Filter(self.manager.register(rt, &name)));
+        }
+        if let Step::StartDismount { volume } = step {
+            let seen = seen_drained(self.alloc, volume);
+            return Ok(StepReply::Done(seen.and_then(|seen| self.manager.start_dismount(rt, seen))));
         }
         self.manager
             .step_alone(rt, step)

@@ -106,7 +106,7 @@ fn pass_brackets(rt: HostRuntime) {
     let seen = two_listings(rt.alloc()).expect(&rt, "a gate of two seats");
     assert!(rt; seen.first == Some(Status::Success) && seen.second == Some(Status::Dismounting));
     assert!(rt;
-        matches!(seen.during, Some(Look::Closing)) && matches!(seen.after, Some(Look::Drained))
+        matches!(seen.during, Some(Look::Closing)) && matches!(seen.after, Some(Look::Drained(_)))
     );
     assert!(rt; seen.answers == 1);
 }

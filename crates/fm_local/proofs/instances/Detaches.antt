@@ -10,6 +10,7 @@ use Rattle.fm_types.specs.Refusals.{first_of}
 use Rattle.fm_stack.specs.Detaching as stack
 use Rattle.fm_stack.specs.Instances.{is_completing, is_detached, is_gone_at, is_setup, is_stopping, passes}
 use Rattle.fm_flow.specs.Table.{in_flight, total}
+use Rattle.fm_flow.specs.Initiators.{begun_by, is_begun_by}
 use Rattle.fm_flow.specs.Counts.{flight}
 use Rattle.fm_flow.specs.Drains.{owed_to}
 use Rattle.fm_world.specs.Sound.{HasWorkers, is_made, least_at}
@@ -221,8 +222,11 @@ module _ (k : WorkerId) (i : InstanceId) where
   none_flies : (t : FlowTable) → t.operations ≡ [] → in_flight i.0 t ≡ 0
   none_flies t none = ap (λ rs. total (flight i.0) rs) none
 
+  none_begun : (t : FlowTable) → t.operations ≡ [] → begun_by i.0 t ≡ 0
+  none_begun t none = ap (λ rs. count_by (is_begun_by i.0) rs) none
+
   none_unfinished : (w : World) → IsAtRest k w → unfinished_at w i ≡ 0
-  none_unfinished w rests = omega (arith, none_flies w.flow rests.operations, no_count (is_in_routine i.0) refl w.workers rests.all)
+  none_unfinished w rests = omega (arith, none_flies w.flow rests.operations, none_begun w.flow rests.operations, no_count (is_in_routine i.0) refl w.workers rests.all)
 
   completes_row : (row : Instance) (asked : Bool) (n : ℕ) → stack.is_to_complete row ≡ true → asked ≡ false → n ≡ 0
       → first_of ((is_detached row.phase, Status.NoInstance) ∷ (not (stack.is_to_complete row) || asked, Status.WrongStep)

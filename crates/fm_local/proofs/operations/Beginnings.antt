@@ -4,7 +4,7 @@ use Rattle.fm_local.proofs.Words.{false, true, worker_at, ℕ, ◌++◌, ◌+◌
 use Rattle.fm_local.proofs.Words.{after_begin, begin_refused, begun_at, begun_on, Begins, handle_at, stream_at, HandleId, StreamId, FileHandle}
 use Rattle.fm_local.proofs.Words.{FileStream, subject_of, IsAtRest}
 use Rattle.fm_flow.specs.Table.{begun_record}
-use Rattle.fm_world.specs.Events.{refused_at, refused_on}
+use Rattle.fm_world.specs.Events.{refused_at_by, refused_on_at}
 use Rattle.fm_world.specs.Files.{stream_for}
 use Rattle.fm_local.proofs.operations.TurnFolds.{IsGoing}
 
@@ -21,11 +21,11 @@ pub record Started (old after : World) : Type 0 where
   pub stack : after.stack ≡ old.stack
 
 module _ (old : World) (rest : old.flow.operations ≡ []) where
-  on_handle : (h : HandleId) (p : Params) (m : Option FileHandle) → refused_at old p m ≡ None → Started old (begun_at old h p m)
+  on_handle : (h : HandleId) (p : Params) (m : Option FileHandle) → refused_at_by false old p m ≡ None → Started old (begun_at old h p m)
   on_handle h p None none = cc
   on_handle h p (Some x) none = by_stream (stream_at x.stream old.files) none
     where
-      by_stream : (m : Option FileStream) → refused_on old p x m ≡ None → Started old (begun_on old h p x m)
+      by_stream : (m : Option FileStream) → refused_on_at false old p x m ≡ None → Started old (begun_on old h p x m)
       by_stream None none = cc
       by_stream (Some y) none = record {
         volume = y.volume;
@@ -69,7 +69,7 @@ module _ (old : World) (rest : old.flow.operations ≡ []) where
   }
   started (Request.OnHandle h asked) none =
       on_handle h (params_of asked) (handle_at h old.files)
-      (within (is_within_limits (params_of asked)) (refused_at old (params_of asked) (handle_at h old.files)) none)
+      (within (is_within_limits (params_of asked)) (refused_at_by false old (params_of asked) (handle_at h old.files)) none)
 
 -- it is on its way, alone, before its first turn
 module _ (k : WorkerId) (o : OpId) (what : Request) (old : World) (rest : IsAtRest k old) (begun : World) (begins : Begins old what (Ok o) begun) where
@@ -85,6 +85,7 @@ module _ (k : WorkerId) (o : OpId) (what : Request) (old : World) (rest : IsAtRe
 
   pub going : IsGoing k o (subject_of first) first begun
   going = record {
+    top = refl;
     alone = record { operations = start.operations; number = eq-eqb old.flow.next o.0 (sym begun_parts.1) };
     idle = ap (λ ws. worker_at ws k) start.workers ∙ rest.idle;
     uncollected = refl;

@@ -18,7 +18,9 @@ use Rattle.fm_flow.specs.Sound as flow
 use Rattle.fm_flow.specs.Steps.{pre_entry, post_entry, with_visit, with_base, bare_ask, Turned as Turn}
 use Rattle.fm_flow.specs.Verdict.{completed_as}
 use Rattle.fm_flow.specs.declared.entry.PostState.{PostState}
+use Rattle.fm_stack.specs.Next.{is_candidate, IsHighest, IsNextInstance}
 use Rattle.fm_world.proofs.Descents.{last_of-push, room_visits}
+use Rattle.fm_world.specs.Descent.{HasRoom, cursor_of}
 use Rattle.fm_world.proofs.Turns.{may_visit}
 use Rattle.fm_world.specs.Events.{base_known, filed_base, filed_next, filed_record, drains_next, LiesBelow, AnswersBelow, is_stopping_ask}
 use Rattle.fm_world.specs.Files.{after_base, after_pre}
@@ -44,8 +46,9 @@ pub record IsOn (x : Subject) (r : FlowRecord) : Type 0 where
   pub kind : r.operation ≡ x.operation
   pub all : r.stage ≡ Descending → subject_of r ≡ x
 
--- an operation that is on its way, alone, between two callbacks
+-- an operation that is on its way from the top, alone, between two callbacks
 pub record IsGoing (k : WorkerId) (o : OpId) (x : Subject) (r : FlowRecord) (w : World) : Type 0 where
+  pub top : r.below ≡ None
   pub alone : Alone o r w.flow
   pub idle : worker_at w.workers k ≡ Some Place.Idle
   pub uncollected : r.collected ≡ false
@@ -76,11 +79,12 @@ record GivenKeeps (u s : FlowRecord) : Type 0 where
   path : s.path ≡ u.path
   volume : s.volume ≡ u.volume
   born : s.born ≡ u.born
+  below : s.below ≡ u.below
   collected : s.collected ≡ u.collected
 
 given_keeps : (k : WorkerId) (ask : Ask) (u : FlowRecord) (m : Option Params) → GivenKeeps u (give_post k ask u m).after
-given_keeps k ask u None = record { operation = refl; path = refl; volume = refl; born = refl; collected = refl }
-given_keeps k ask u (Some q) = record { operation = refl; path = refl; volume = refl; born = refl; collected = refl }
+given_keeps k ask u None = record { operation = refl; path = refl; volume = refl; born = refl; below = refl; collected = refl }
+given_keeps k ask u (Some q) = record { operation = refl; path = refl; volume = refl; born = refl; below = refl; collected = refl }
 
 -- an entry more
 one_more : (es : List Entry) (e : Entry) → length (es ++ e ∷ []) ≡ suc (length es)
@@ -122,11 +126,11 @@ module _ {F D : Type 0} (pre_may : F → Data → PreVerdict → Data → Type 0
     pub less : Leaves k (chain x) (Meets r) r next (under d old) (under e new)
 
   -- so it is where the turn only moved it
-  still_going : (next : FlowRecord) (mid new : World) → new ≡ mid → Alone o next mid.flow → worker_at mid.workers k ≡ Some Place.Idle
+  still_going : (next : FlowRecord) (mid new : World) → next.below ≡ None → new ≡ mid → Alone o next mid.flow → worker_at mid.workers k ≡ Some Place.Idle
       → next.collected ≡ false → is_between next.stage ≡ true
       → IsOn x next → ArePlain k (length next.kept) (owed next.entries) → IsGoing k o x next new
-  still_going next mid new same alone idle uncollected between on asks =
-      subst (IsGoing k o x next) (sym same) (record { alone = alone; idle = idle; uncollected = uncollected; between = between; on = on; asks = asks })
+  still_going next mid new top same alone idle uncollected between on asks =
+      subst (IsGoing k o x next) (sym same) (record { top = top; alone = alone; idle = idle; uncollected = uncollected; between = between; on = on; asks = asks })
 
   -- verdicts of filters that are there are plain
   pre_plain : (i : ℕ) (lent : Data) (given : PreVerdict) (back : Data) → PreMay pre_may (filter_in filters s i) lent given back → IsPlainPre given
@@ -183,6 +187,21 @@ module _ {F D : Type 0} (pre_may : F → Data → PreVerdict → Data → Type 0
     fits : fit r.operation r.path p ≡ true
     fits = subst (λ (m : Option Params). IfSome m (λ q. fit r.operation r.path q ≡ true)) has own.params
 
+    -- what is looked for below its way is looked for below its last visit
+    at_top : {A : Type 0} (P : Option ℕ → A → Type 0) (a : A) → P (cursor_of r.below (visited r.entries)) a → P (last_visited r.entries) a
+    at_top P a h = subst (λ (m : Option InstanceId). P (cursor_of m (visited r.entries)) a) going.top h
+
+    room : HasRoom s r.volume None r.born r.operation (visited r.entries)
+    room = subst (λ (m : Option InstanceId). HasRoom s r.volume m r.born r.operation (visited r.entries)) going.top among.room
+
+    next_one : (i : InstanceId) → IsNextInstance s r.volume (cursor_of r.below (visited r.entries)) r.born r.operation (Some i)
+        → IsHighest (is_candidate s r.volume (last_visited r.entries) r.born r.operation) s.instances i.0
+    next_one i lies = at_top (λ m n. IsHighest (is_candidate s r.volume m r.born r.operation) s.instances n) i.0 lies
+
+    none_left : IsNextInstance s r.volume (cursor_of r.below (visited r.entries)) r.born r.operation None
+        → Visits s r.volume r.born r.operation (last_visited r.entries) []
+    none_left lies = at_top (λ m n. Visits s r.volume r.born r.operation m n) [] lies
+
     -- ---- a visit
     module _ (st : r.stage ≡ Descending) where
       course : IsCourse Descending r.entries
@@ -200,12 +219,12 @@ module _ {F D : Type 0} (pre_may : F → Data → PreVerdict → Data → Type 0
         further : (below : List ℕ) × Visits s r.volume r.born r.operation (Some i.0) below
         further =
             let rest = visits_after s r.volume r.born r.operation (visited r.entries ++ i.0 ∷ [])
-            (room_visits s r.volume r.born r.operation (visited r.entries) i.0 among.room lies.0) in
+            (room_visits s r.volume None r.born r.operation (visited r.entries) i.0 room (next_one i lies.0)) in
             (rest.0, subst (λ (m : Option ℕ). Visits s r.volume r.born r.operation m rest.0) (last_of-push (visited r.entries) i.0) rest.1)
 
         meets : (below : List ℕ) → Visits s r.volume r.born r.operation (Some i.0) below
             → Visits s r.volume r.born r.operation (last_visited r.entries) (i.0 ∷ below)
-        meets below v = (lies.0, v)
+        meets below v = (next_one i lies.0, v)
 
         module _ (given : PreVerdict) (back : Data) (may : PreMay pre_may (filter_in filters s i.0) (fresh_data p) given back)
             (same : back.received ≡ p) (new : World) (e : D) (end_is : e ≡ d) where
@@ -225,6 +244,7 @@ module _ {F D : Type 0} (pre_may : F → Data → PreVerdict → Data → Type 0
               record {
                 next = next;
                 going = record {
+                  top = going.top;
                   alone = left.alone;
                   idle = left.idle;
                   uncollected = going.uncollected;
@@ -286,12 +306,12 @@ module _ {F D : Type 0} (pre_may : F → Data → PreVerdict → Data → Type 0
       bare_turn i lies mid alone idle stack files new e same end_is =
           let next = with_visit k i bare_ask r in
           let fresh = (may_visit s r (Below.Instance i false) among lies).0 in
-          let less = left_bare (chain (subject_of r)) (Meets r) r p has (under d old) k i st course fresh going.asks (λ below v. (lies.0, v)) (sym lies.1) in
+          let less = left_bare (chain (subject_of r)) (Meets r) r p has (under d old) k i st course fresh going.asks (λ below v. (next_one i lies.0, v)) (sym lies.1) in
           let ends : under d old ≡ under e new =
           ap₂ (λ dev fs. record { device = dev; files = fs }) (sym end_is) (sym (ap (λ (w : World). w.files) same ∙ files)) in
           record {
             next = next;
-            going = still_going next mid new same alone idle going.uncollected refl (record { kind = going.on.kind; all = λ h. going.on.all st }) less.plain;
+            going = still_going next mid new going.top same alone idle going.uncollected refl (record { kind = going.on.kind; all = λ h. going.on.all st }) less.plain;
             stays = ap (λ (w : World). w.stack) same ∙ stack ∙ sym at_stack;
             same = (refl, refl);
             longer = one_more r.entries (pre_entry k i bare_ask r);
@@ -321,6 +341,7 @@ module _ {F D : Type 0} (pre_may : F → Data → PreVerdict → Data → Type 0
             record {
               next = next;
               going = record {
+                top = going.top;
                 alone = left'.alone;
                 idle = left'.idle;
                 uncollected = going.uncollected;
@@ -352,7 +373,7 @@ module _ {F D : Type 0} (pre_may : F → Data → PreVerdict → Data → Type 0
             let less = left_known (chain (subject_of r)) (Meets r) r p has (under d old) k st going.asks lies (under e new) why may in
             record {
               next = next;
-              going = still_going next mid new same alone idle going.uncollected refl (record { kind = going.on.kind; all = λ h. cc }) less.plain;
+              going = still_going next mid new going.top same alone idle going.uncollected refl (record { kind = going.on.kind; all = λ h. cc }) less.plain;
               stays = ap (λ (w : World). w.stack) same ∙ stack ∙ sym at_stack;
               same = (refl, refl);
               longer = one_more r.entries (Entry.Base why 0);
@@ -404,6 +425,7 @@ module _ {F D : Type 0} (pre_may : F → Data → PreVerdict → Data → Type 0
           record {
             next = next;
             going = record {
+              top = keeps.below ∙ unwinds.below ∙ going.top;
               alone = left'.alone;
               idle = left'.idle;
               uncollected = keeps.collected ∙ unwinds.collected ∙ going.uncollected;
@@ -446,12 +468,12 @@ module _ {F D : Type 0} (pre_may : F → Data → PreVerdict → Data → Type 0
           ∙ ap (λ a. filed_next old o mid.flow a (Below.Instance i false)) said) new e moved.0 moved.1
       down_by st Below.Call found answers said alone files =
           let is : reply ≡ Ok (FlowAction.Base (call_of r p)) = said ∙ ap (λ m. (call_base r m).reply) has in
-          base_turn st found answers mid (subst (λ (m : Option Params). Alone o (call_base r m).after mid.flow) has alone)
+          base_turn st (none_left found) answers mid (subst (λ (m : Option Params). Alone o (call_base r m).after mid.flow) has alone)
           (brought (Ok (FlowAction.Base (call_of r p))) (Place.Base o) is refl) stack
           (files ∙ ap (λ a. filed_next old o mid.flow a Below.Call) is) new e (subst Done is does)
       down_by st (Below.Known why) found answers said alone files =
           let moved : Done (Ok FlowAction.Moved) = subst Done said does in
-          known_turn st found why answers mid alone (rested (Ok FlowAction.Moved) said refl) stack (files
+          known_turn st (none_left found) why answers mid alone (rested (Ok FlowAction.Moved) said refl) stack (files
           ∙ ap (λ a. filed_next old o mid.flow a (Below.Known why)) said) new e moved.0 moved.1
 
       up_by : r.stage ≡ Ascending → (asks : List Ask) → owed r.entries ≡ asks → (lies : Below) → reply ≡ (ascend k false r (slice_get asks 0)).reply

@@ -70,11 +70,11 @@ highest_or_none test (row ∷ rows) =
 
 module _ (s : StackWorld) (v : VolumeId) (born : ℕ) (operation : Operation) where
   -- there are no more than 32 in all
-  visits_within : (fuel : ℕ) (visited : List ℕ) → 32 ≤ length visited + fuel → HasRoom s v born operation visited
+  visits_within : (fuel : ℕ) (visited : List ℕ) → 32 ≤ length visited + fuel → HasRoom s v None born operation visited
       → (below : List ℕ) × Visits s v born operation (last_of visited) below
   visits_within zero visited enough room =
       elim (highest_or_none (is_candidate s v (last_of visited) born operation) s.instances) [
-        | inl h ↦ absurd (omega (arith, room_is s v born operation visited h.0 room h.1, enough))
+        | inl h ↦ absurd (omega (arith, room_is s v None born operation visited h.0 room h.1, enough))
         | inr none ↦ ([], none)
       ]
   visits_within (suc fuel) visited enough room =
@@ -82,13 +82,13 @@ module _ (s : StackWorld) (v : VolumeId) (born : ℕ) (operation : Operation) wh
         | inl h ↦
             let i : ℕ = h.0 in
             let rest = visits_within fuel (visited ++ i ∷ []) (omega (arith, enough, length-append visited (i ∷ [])))
-            (room_visits s v born operation visited i room h.1) in
+            (room_visits s v None born operation visited i room h.1) in
             (i ∷ rest.0, (h.1, subst (λ (cursor : Option ℕ). Visits s v born operation cursor rest.0) (last_of-push visited i) rest.1))
         | inr none ↦ ([], none)
       ]
 
   -- after some visits, with room for those that may come
-  pub visits_after : (visited : List ℕ) → HasRoom s v born operation visited → (below : List ℕ) × Visits s v born operation (last_of visited) below
+  pub visits_after : (visited : List ℕ) → HasRoom s v None born operation visited → (below : List ℕ) × Visits s v born operation (last_of visited) below
   visits_after visited room = visits_within 32 visited (omega arith) room
 
   pub visits_all : IsStack s → born ≤ s.births → (below : List ℕ) × Visits s v born operation None below

@@ -243,6 +243,7 @@ pub record PutBack (place : ℕ) (r s : FlowRecord) (p : Params) : Type 0 where
   pub path : s.path ≡ r.path
   pub volume : s.volume ≡ r.volume
   pub born : s.born ≡ r.born
+  pub below : s.below ≡ r.below
   pub collected : s.collected ≡ r.collected
 
 pub put_back : (place : ℕ) (r : FlowRecord) (p : Params) (m : Option Params) → slice_get r.kept place ≡ m → r.params ≡ Some p
@@ -252,7 +253,7 @@ put_back place r p m at has = by_kept m at
     with_both : (q : Option Params) (kept : List Params) → q ≡ Some (sees r.kept place p) → kept ≡ take place r.kept
         → PutBack place r (record r { params = q; kept = kept }) p
     with_both q kept is were =
-        record { params = is; kept = were; entries = refl; operation = refl; answer = refl; path = refl; volume = refl; born = refl; collected = refl }
+        record { params = is; kept = were; entries = refl; operation = refl; answer = refl; path = refl; volume = refl; born = refl; below = refl; collected = refl }
 
     by_kept : (m : Option Params) → slice_get r.kept place ≡ m → PutBack place r (unwound_to place r m) p
     by_kept None at = with_both r.params r.kept (has ∙ ap (λ (m : Option Params). Some (unwrap_or m p)) (sym at)) (sym (none_taken r.kept place at))

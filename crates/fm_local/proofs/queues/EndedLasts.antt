@@ -2,7 +2,7 @@
 use Rattle.fm_local.proofs.Words.{◌≡◌, OpId, Step, StepReply, World, false, IsSound}
 use Rattle.fm_world.specs.Steps.{Steps}
 use Rattle.fm_local.specs.Waits.{IsEnded, hands_out}
-use Rattle.fm_local.proofs.queues.LooseOperations.{base_ends, begins, collects_other, drain_over, drain_taken, nexts_ended, post_ends, post_resumes, pre_ends, pre_resumes}
+use Rattle.fm_local.proofs.queues.LooseOperations.{base_ends, begins, begins_lower, collects_other, drain_over, drain_taken, nexts_ended, post_ends, post_resumes, pre_ends, pre_resumes}
 use Rattle.fm_local.proofs.queues.OtherRecords.{by_same}
 use Rattle.fm_local.proofs.queues.SameOperations as unmoved
 
@@ -15,6 +15,7 @@ ended_lasts old (Step.Attach k f v name altitude) (StepReply.Instance r) new p s
     (by_same p old.flow new.flow (unmoved.attached old new k f v name altitude r h)).ended
 ended_lasts old (Step.SetupDone k accept) (StepReply.Done r) new p s h other = (by_same p old.flow new.flow (unmoved.set_up old new k accept r h)).ended
 ended_lasts old (Step.Begin what) (StepReply.Operation r) new p s h other = (begins p old what r new h).ended
+ended_lasts old (Step.BeginFrom from what) (StepReply.Operation r) new p s h other = (begins_lower p old from what r new h).ended
 ended_lasts old (Step.Next k o) (StepReply.Action r) new p s h other = nexts_ended p old k o r new h
 ended_lasts old (Step.PreReturned k verdict lent) (StepReply.Done r) new p s h other = (pre_ends p old k s r new verdict lent h).ended
 ended_lasts old (Step.BaseReturned k call given) (StepReply.Done r) new p s h other = (base_ends p old k s r new call given h).ended

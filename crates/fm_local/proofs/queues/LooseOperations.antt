@@ -11,7 +11,7 @@ use Rattle.fm_flow.proofs.Holds.{held_post, held_pre}
 use Rattle.fm_flow.proofs.Next.{next_stays}
 use Rattle.fm_flow.specs.Drains.{DrainTaken, drain_done_in, drained_early, early_over, is_of, owed_to}
 use Rattle.fm_flow.specs.Steps.{done_at}
-use Rattle.fm_flow.specs.Table.{collected_in, is_collectable, is_spent, marked, removed}
+use Rattle.fm_flow.specs.Table.{collected_in, is_collectable, is_number, is_spent, marked, removed}
 use Rattle.fm_flow.specs.Counts.{is_running_drain}
 use Rattle.fm_flow.specs.declared.hold.Hold.{Hold}
 use Rattle.std.specs.List.{list_any}
@@ -19,7 +19,11 @@ use Rattle.fm_world.proofs.Cases.{by_bool}
 use Rattle.fm_world.proofs.Events.{answers_by, idle_by, memory_by, refused_by, unless_by}
 use Rattle.fm_world.proofs.Operations.{inside_base, inside_drain, inside_post, inside_pre}
 use Rattle.fm_world.proofs.Resumes.{held_by}
+use Rattle.fm_types.proofs.Firsts.{change_none}
 use Rattle.fm_world.specs.EarlyDrains.{DrainReturns, DrainReturnsAt}
+use Rattle.fm_world.specs.Initiators.{BeginsLower, placed_at, placed_from}
+use Rattle.fm_world.specs.declared.begins_from.BeginsFrom.{BeginsFrom}
+use Rattle.fm_world.specs.declared.begins_from.BeginsFrom.TheVariants as begins_at
 use Rattle.fm_world.specs.Events.{ResumesPost, ResumesPostAt, ResumesPre, ResumesPreAt, base_step, is_held_by, lets_go, pre_step}
 use Rattle.fm_world.specs.Owners.{place_in}
 use Rattle.fm_local.specs.Waits.{IsEnded, is_between, is_loose}
@@ -87,6 +91,24 @@ owing_not_ended i r completion owes h = by_asks r.stage (owed r.entries) (second
     by_asks Stage.Ascending (ask ∷ asks) done owes = cc
     by_asks _ (ask ∷ asks) done owes = cc
 
+-- what stays in one step and in the next stays in both
+after_stays : (p : OpId) (t u v : FlowTable) → Stays p t u → Stays p u v → Stays p t v
+after_stays p t u v one other = record { loose = λ h. other.loose (one.loose h); ended = λ h. other.ended (one.ended h) }
+
+-- an operation that goes to its place is told as before
+placed_stays : (p : OpId) (from : BeginsFrom) (w : World) (o : OpId) → Stays p w.flow (placed_at o from w).flow
+placed_stays p from w o = by_there (operation_at o w.flow) refl
+  where
+    by_there : (m : Option FlowRecord) → operation_at o w.flow ≡ m → Stays p w.flow (placed_at o from w).flow
+    by_there None at = by_record p w.flow (placed_at o from w).flow
+        (ap (λ rs. find (is_number p) rs) (change_none (is_number o) (placed_from w.stack.births from) w.flow.operations at))
+    by_there (Some r) at = by_from from
+      where
+        by_from : (b : BeginsFrom) → Stays p w.flow (placed_at o b w).flow
+        by_from (BeginsFrom.Below i) =
+            alike_changed p o r (placed_from w.stack.births (begins_at.Below i)) w.flow at (λ x. refl) (λ h. h) (λ h. h)
+        by_from BeginsFrom.Base = alike_changed p o r (placed_from w.stack.births begins_at.Base) w.flow at (λ x. refl) (λ h. h) (λ h. h)
+
 module _ (p : OpId) (old : World) where
   abbrev After : (T : Type 0) → Result T Status → World → Type 0
   After T r w = Keeps p old w
@@ -112,6 +134,12 @@ module _ (p : OpId) (old : World) where
   pub begins : (what : Request) (result : Result OpId Status) (new : World) → Begins old what result new → Keeps p old new
   unfolding Begins
   begins what result new h = memory_by (After OpId) _ result old new _ h (λ why. nothing p old) (λ o none event. subst (Keeps p old) (sym event.1) (begun what))
+
+  -- a filter's own goes to its place besides
+  pub begins_lower : (from : BeginsFrom) (what : Request) (result : Result OpId Status) (new : World) → BeginsLower old from what result new → Keeps p old new
+  unfolding BeginsLower
+  begins_lower from what result new h = memory_by (After OpId) _ result old new _ h (λ why. nothing p old) (λ o none event.
+      subst (Keeps p old) (sym event.1) (after_stays p old.flow (after_begin old what).flow _ (begun what) (placed_stays p from (after_begin old what) _)))
 
   -- ---- what is next
 

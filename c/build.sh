@@ -9,6 +9,9 @@
 #   --sanitize=WORDS    under these sanitizers of the compiler; `thread` watches the drivers alone
 #   --main FILE         a main program of your own, above c/include/kzflt.h
 #   --fuzz, --libfuzzer a program of random requests, as c/fuzz.sh makes it
+#   -IFOLDER, -DNAME    a folder of headers, and a macro, of the drivers and the programs
+#   --depfile FILE      writes a rule for make, of all files that the program is made of, headers too
+#   --flags             builds nothing: prints the compiler's words for a driver, one a line, for editors; --flags=user prints those for a program behind --user
 #
 # CC is the compiler (cc), CXX that of C++ (c++), CFLAGS are more words for the drivers and the host, KZAPI what the drivers see (KZAPI="-DNTDDI_VERSION=0x06000000 -DDBG=0"),
 # KAZDRIN_LIB the archive of crates/kazdrin_c (else that of c/archive.sh, or one without proofs). The host is compiled once for each CC and CFLAGS, and kept.
@@ -26,6 +29,9 @@ kind=""
 sanitizers=""
 main=""
 image=""
+depfile=""
+flags=""
+own=()
 while [ $# -gt 0 ]; do
     case "$1" in
     --explore | --serve | --fuzz | --libfuzzer) kind=${1#--} ;;
@@ -36,20 +42,50 @@ while [ $# -gt 0 ]; do
         main=$2
         shift
         ;;
+    --depfile)
+        [ $# -gt 1 ] || usage
+        depfile=$2
+        shift
+        ;;
+    --flags | --flags=user) flags=$1 ;;
+    -[ID]?*) own+=("$1") ;;
     --driver | [!-]*) break ;;
     *) usage ;;
     esac
     shift
 done
-[ $# -ge "$([ -n "$image" ] && echo 1 || echo 2)" ] && [ "$1" != --driver ] || usage
+if [ -n "$flags" ]; then
+    [ $# = 0 ] || usage
+else
+    [ $# -ge "$([ -n "$image" ] && echo 1 || echo 2)" ] && [ "$1" != --driver ] || usage
+fi
 if [ -n "$image" ] && [ "$(uname -m)" != x86_64 ]; then
     say "binaries of drivers run on x86-64 alone"
     exit 2
 fi
-program=$1
-shift
+program=${1:-}
+[ $# = 0 ] || shift
 cc=${CC:-cc}
 cflags=${CFLAGS:-}
+for tool in "${cc%% *}" objcopy; do
+    command -v "$tool" > /dev/null || {
+        say "there is no $tool here: drivers in C need a C compiler, make and binutils (Debian: apt install build-essential)"
+        exit 2
+    }
+done
+for word in "$@"; do
+    case $word in
+    --driver | --user) ;;
+    *) [ -e "$word" ] || {
+        say "there is no $word"
+        exit 2
+    } ;;
+    esac
+done
+[ -z "$program" ] || [ -d "$(dirname "$program")" ] || {
+    say "there is no folder $(dirname "$program") for the program"
+    exit 2
+}
 is_clang() {
     $1 --version 2> /dev/null | grep -q clang
 }
@@ -60,11 +96,33 @@ case " $cflags ${KZAPI:-} " in
     ;;
 esac
 
+# ---- Words for the compiler. A driver's warnings are its author's; pointers are taken as the kit's compiler takes them. What the kit's projects set is set.
+host_cflags=$cflags
+case "$sanitizers" in
+"" | thread) ;;
+*) host_cflags="$cflags -fsanitize=$sanitizers -fno-sanitize-recover=undefined" ;;
+esac
+includes=(-I"$here/include" "${own[@]}")
+read -r -d '' -a host_words <<< "$host_cflags" || true
+read -r -d '' -a api <<< "${KZAPI:-}" || true
+common=(-fshort-wchar -fno-strict-aliasing -O1 -g "${host_words[@]}")
+machine=(-D_WIN64=1 -D_M_AMD64=100 -D_M_X64=100 -D_AMD64_=1 -D_WIN32_WINNT=0x0A00 -DWINVER=0x0A00 -DNTDDI_VERSION=0x0A000002)
+driver=(-fwrapv -fms-extensions "${common[@]}" "${machine[@]}" -DDBG=1 -D_KERNEL_MODE=1 -DKZ_DRIVER=1 -include ntdef.h "${api[@]}")
+user=(-fwrapv -fms-extensions "${common[@]}" "-I$here/user" "-I$here/include" "${own[@]}" "${machine[@]}" -D_WIN32=1 -fno-builtin -include windows.h)
+link=("${common[@]}")
+renames=()
+c_words=(-std=gnu11 -Wall -Wno-incompatible-pointer-types -Wno-int-conversion -Wno-unknown-pragmas -Wno-missing-braces)
+if is_clang "$cc"; then volatiles=(-mllvm -tsan-distinguish-volatile=1); else volatiles=(--param=tsan-distinguish-volatile=1); fi
+case "$flags" in
+--flags) printf '%s\n' "${c_words[@]}" -Wno-multichar "${driver[@]}" "${includes[@]}" ;;
+--flags=user) printf '%s\n' "${c_words[@]}" "${user[@]}" ;;
+esac
+[ -z "$flags" ] || exit 0
+
 # ---- The manager's archive, and what it needs of the kit: an installed tree has both.
 library=${KAZDRIN_LIB:-$here/../lib/libkazdrin_c.a}
 [ -n "${KAZDRIN_LIB:-}" ] || [ -f "$library" ] || library=$here/../crates/kazdrin_c/out/libkazdrin_c.a
 if [ -z "${KAZDRIN_LIB:-}" ] && [ ! -f "$library" ]; then
-    say "the manager's archive isn't proved here (c/archive.sh proves it): taking one without proofs"
     library=$("$here/archive.sh" --unproved)
 fi
 if [ ! -f "$library" ]; then
@@ -74,41 +132,16 @@ fi
 support=$here/../lib
 [ -f "$support/liblibc_c.a" ] || support=$("$here/archive.sh" --support)
 
-# ---- The host's libraries, by the compiler and its words: those of this tree, or beside the user's other caches where it can't be written.
-host_cflags=$cflags
-case "$sanitizers" in
-"" | thread) ;;
-*) host_cflags="$cflags -fsanitize=$sanitizers -fno-sanitize-recover=undefined" ;;
-esac
-out=$here/../out/c
-make=(make -s --no-print-directory -C "$here")
-if ! mkdir -p "$out" 2> /dev/null || [ ! -w "$out" ]; then
-    out=${XDG_CACHE_HOME:-$HOME/.cache}/kazdrin/$(echo "$here" | sha256sum | cut -c1-12)
-    mkdir -p "$out"
-    ln -sfn "$here" "$out/src"
-    make=(make -s --no-print-directory -C "$out" -f src/Makefile SRC=src OUT=.)
-fi
-exec 9> "$out/.lock"
-flock 9
-key=$("${make[@]}" where LIBRARIES="host $kind $image" CC="$cc" CFLAGS="$host_cflags")
-exec 9>&-
-host=$out/$key
+# ---- The host's libraries, by the compiler and its words.
+read -r -a names <<< "host $kind $image"
+host=$(CC="$cc" CFLAGS="$host_cflags" "$here/libraries.sh" "${names[@]}")
 
-# ---- Words for the compiler. A driver's warnings are its author's; pointers are taken as the kit's compiler takes them. What the kit's projects set is set.
-includes=(-I"$here/include")
-read -r -d '' -a host_words <<< "$host_cflags" || true
-read -r -d '' -a api <<< "${KZAPI:-}" || true
-common=(-fshort-wchar -fno-strict-aliasing -O1 -g "${host_words[@]}")
-machine=(-D_WIN64=1 -D_M_AMD64=100 -D_M_X64=100 -D_AMD64_=1 -D_WIN32_WINNT=0x0A00 -DWINVER=0x0A00 -DNTDDI_VERSION=0x0A000002)
-driver=(-fwrapv -fms-extensions "${common[@]}" "${machine[@]}" -DDBG=1 -D_KERNEL_MODE=1 -DKZ_DRIVER=1 -include ntdef.h "${api[@]}")
-link=("${common[@]}")
-renames=()
-if is_clang "$cc"; then volatiles=(-mllvm -tsan-distinguish-volatile=1); else volatiles=(--param=tsan-distinguish-volatile=1); fi
 libraries=("$host/libkazdrin_host.a")
 # The explorer is behind the compiler's calls before each access of a driver's code; its addresses are those of the program's file.
 case "$kind" in
 explore)
     driver+=(-fsanitize=thread -fno-pie "${volatiles[@]}")
+    is_clang "$cc" || driver+=(-Wno-tsan) # its own library doesn't know barriers; the explorer does
     link+=(-no-pie "-Wl,-z,now")
     libraries=("$host/libkazdrin_explore.a" "${libraries[@]}")
     renames=(memcpy:KzHookCopy memmove:KzHookMove memset:KzHookFill memcmp:KzHookCompare)
@@ -136,8 +169,10 @@ for pair in "${renames[@]}" wcslen:KzWcslen wcsnlen:KzWcsnlen wcscmp:KzWcscmp wc
     wmemset:KzWmemset wcstol:KzWcstol wcstoul:KzWcstoul swprintf:KzSwprintfRoom vswprintf:KzVsnwprintf towupper:KzTowupper towlower:KzTowlower; do
     changes+=(--redefine-sym "${pair%:*}=${pair#*:}")
 done
-# libFuzzer plays all sessions in one process: the drivers' variables are in sections by which they are put back before each.
-[ "$kind" != libfuzzer ] || changes+=(--rename-section ".data=kz_data,alloc,load,data,contents" --rename-section ".bss=kz_bss,alloc")
+# The drivers' variables are in sections of their own. What leads to memory is looked for in these alone; and libFuzzer, which plays all sessions in one process, puts them back before each.
+variables_of() {
+    objdump -h "$1" | awk '$2 ~ /^\.data(\.|$)/ && $2 !~ /^\.data\.rel\.ro/ { print "--rename-section=" $2 "=kz_data,alloc,load,data,contents" } $2 ~ /^\.bss(\.|$)/ { print "--rename-section=" $2 "=kz_bss,alloc" }'
+}
 
 # What is told names the line of a driver that makes a call: calls of two lines aren't made one, and a call at a function's end leaves its frame there.
 calls_of() {
@@ -156,10 +191,13 @@ if echo 'int a;' | $cc -mms-bitfields -x c -c -o /dev/null - 2> /dev/null; then
     driver+=(-mms-bitfields)
 fi
 
-# ---- Drivers: each a name and its files. All but its entry is its own, so that two drivers may use one name.
+# ---- Drivers: each a name and its files. All but its entry is its own, so that two drivers may use one name. As many are compiled at once as there are processors.
 room=$(mktemp -d)
-includes+=(-I"$room/tmh")
 trap 'rm -rf "$room"' EXIT
+processors=$(nproc)
+wait_for_one() {
+    while [ "$(jobs -rp | wc -l)" -ge "$processors" ]; do wait -n || true; done
+}
 count=0
 : > "$room/entries"
 : > "$room/declarations"
@@ -167,21 +205,28 @@ count=0
 tracing() {
     local name
     while read -r name; do
-        mkdir -p "$room/tmh/$(dirname "$name")"
+        mkdir -p "$1.tmh/$(dirname "$name")"
         {
             echo '#include <kzwpp.h>'
-            cat "$(dirname "$1")"/*.[chCH] "$(dirname "$1")"/*.cpp 2> /dev/null | sed -nE 's|^[[:space:]]*//[[:space:]]*FUNC[[:space:]]+([A-Za-z_][A-Za-z_0-9]*).*|\1|p' |
+            cat "$(dirname "$2")"/*.[chCH] "$(dirname "$2")"/*.cpp 2> /dev/null | sed -nE 's|^[[:space:]]*//[[:space:]]*FUNC[[:space:]]+([A-Za-z_][A-Za-z_0-9]*).*|\1|p' |
                 sort -u | sed 's/.*/#undef &\n#define &(...) ((void)0)/'
-        } > "$room/tmh/$name"
-    done < <(grep -hoE '^[[:space:]]*#[[:space:]]*include[[:space:]]*"[^"]+\.tmh"' "$1" | sed 's/.*"\(.*\)"/\1/')
+        } > "$1.tmh/$name"
+    done < <(grep -hoE '^[[:space:]]*#[[:space:]]*include[[:space:]]*"[^"]+\.tmh"' "$2" | sed 's/.*"\(.*\)"/\1/')
 }
 # In C++ the words __try and __finally are those of its own library's headers, where a source has some.
 blocks() {
     grep -qE '^[[:space:]]*#[[:space:]]*include[[:space:]]*<[a-z_]+>' "$1" || words+=(-DKZ_SEH)
 }
+# What an object is made of: its source, and each header that its compiler read, but for those that are made here.
+needs() {
+    [ -n "$depfile" ] || return 0
+    printf '%s\n' "$2" > "$1.needs"
+    sed -e ':a' -e 'N' -e '$!ba' -e 's/\\\n/ /g' "$1.d" | sed -e 's/^[^:]*: *//' -e 's/\\ /\x01/g' | tr -s ' ' '\n' | sed -e 's/\x01/ /g' -e 's/\$\$/$/g' -e 's/\\#/#/g' |
+        { grep -v -F "$room/" || true; } >> "$1.needs"
+}
 compile() {
-    local file words=("${driver[@]}")
-    tracing "$2"
+    local file words=("${driver[@]}" -MMD -MT object -MF "$1.d" -I"$1.tmh")
+    tracing "$1" "$2"
     mkdir "$1.adapted"
     file=$("$host/adapt" "$1.adapted" "$2") || exit 1
     case "$2" in
@@ -189,25 +234,40 @@ compile() {
         blocks "$2"
         ${CXX:-c++} -std=gnu++17 -fno-exceptions -fno-rtti -w "${words[@]}" "${calls_cxx[@]}" "${includes[@]}" -iquote "$(dirname "$2")" -DDriverEntry="$3" -c -o "$1" "$file"
         ;;
-    *) $cc -std=gnu11 -Wall -Wno-incompatible-pointer-types -Wno-int-conversion -Wno-multichar -Wno-unknown-pragmas -Wno-missing-braces "${words[@]}" "${calls[@]}" "${includes[@]}" -iquote "$(dirname "$2")" \
-        -DDriverEntry="$3" -c -o "$1" "$file" ;;
+    *) $cc "${c_words[@]}" -Wno-multichar "${words[@]}" "${calls[@]}" "${includes[@]}" -iquote "$(dirname "$2")" -DDriverEntry="$3" -c -o "$1" "$file" ;;
     esac
+    needs "$1" "$2"
 }
-add() {
-    local name=$1 file object objects=() entry=kz_entry_$count
-    shift
+# Calls of the C library that are linked here, and in no kernel.
+no_kernel_has='malloc|calloc|realloc|free|exit|_exit|abort|printf|vprintf|fprintf|puts|putchar|fputs|fopen|fclose|fread|fwrite|fgets|getenv|system|sleep|usleep|time|clock|signal|pthread_create'
+add_object() {
+    local name=$1 number=$2 file object objects=() entry=kz_entry_$2 foreign variables
+    shift 2
     for file in "$@"; do
-        object="$room/${count}_$(basename "$file").o"
+        object="$room/${number}_$(basename "$file").o"
         compile "$object" "$file" "$entry"
         objects+=("$object")
     done
-    $cc -nostdlib -r -o "$room/driver_$count.o" "${objects[@]}"
-    if ! nm "$room/driver_$count.o" | grep -q " T $entry\$"; then
+    $cc -nostdlib -r -o "$room/driver_$number.o" "${objects[@]}"
+    if ! nm "$room/driver_$number.o" | grep -q " T $entry\$"; then
         say "$name has no DriverEntry"
         exit 1
     fi
-    objcopy --keep-global-symbol="$entry" "${changes[@]}" "$room/driver_$count.o"
-    name=${name//\\/\\\\}
+    foreign=$(nm -u "$room/driver_$number.o" | sed -nE "s/^ +U ($no_kernel_has)\$/\1/p" | tr '\n' ' ')
+    if [ -n "$foreign" ]; then
+        say "$name calls what the kit's libraries don't have: $foreign"
+        exit 1
+    fi
+    mapfile -t variables < <(variables_of "$room/driver_$number.o")
+    objcopy --keep-global-symbol="$entry" "${changes[@]}" "${variables[@]}" "$room/driver_$number.o"
+}
+add() {
+    local name=${1//\\/\\\\} entry=kz_entry_$count
+    wait_for_one
+    (
+        trap '[ $? = 0 ] || touch "$room/failed"' EXIT
+        add_object "$1" "$count" "${@:2}"
+    ) &
     printf 'int %s(void *, void *);\n' "$entry" >> "$room/declarations"
     printf '{"%s", %s},\n' "${name//\"/\\\"}" "$entry" >> "$room/entries"
     count=$((count + 1))
@@ -219,33 +279,40 @@ name_of() {
 }
 # A program beside the drivers: its console, its end and its streams are the host's.
 programs=0
-: > "$room/programs"
-user=(-fwrapv -fms-extensions "${common[@]}" "-I$here/user" "-I$here/include" "${machine[@]}" -D_WIN32=1 -fno-builtin -include windows.h)
 streams=()
 for name in printf vprintf fprintf puts fputs putchar fputc fflush fopen fgets fgetc getchar exit; do
     streams+=(--redefine-sym "$name=KzUser$(printf %s "${name:0:1}" | tr '[:lower:]' '[:upper:]')${name:1}")
 done
-add_user() {
-    local name=$1 file object objects=() entry=kz_program_$programs main=main
-    shift
+user_object() {
+    local name=$1 number=$2 file object objects=() entry=kz_program_$2 main=main variables
+    shift 2
     for file in "$@"; do
-        object="$room/user_${programs}_$(basename "$file").o"
+        object="$room/user_${number}_$(basename "$file").o"
         case "$file" in
-        *.cpp | *.cc | *.cxx) ${CXX:-c++} -std=gnu++17 -fno-exceptions -fno-rtti -w "${user[@]}" -c -o "$object" "$file" ;;
-        *) $cc -std=gnu11 -Wall -Wno-incompatible-pointer-types -Wno-int-conversion -Wno-unknown-pragmas -Wno-missing-braces "${user[@]}" -c -o "$object" "$file" ;;
+        *.cpp | *.cc | *.cxx) ${CXX:-c++} -std=gnu++17 -fno-exceptions -fno-rtti -w "${user[@]}" -MMD -MT object -MF "$object.d" -c -o "$object" "$file" ;;
+        *) $cc "${c_words[@]}" "${user[@]}" -MMD -MT object -MF "$object.d" -c -o "$object" "$file" ;;
         esac
+        needs "$object" "$file"
         objects+=("$object")
     done
-    $cc -nostdlib -r -o "$room/program_$programs.o" "${objects[@]}"
-    ! nm "$room/program_$programs.o" | grep -q ' T wmain$' || main=wmain
-    if ! nm "$room/program_$programs.o" | grep -q " T $main\$"; then
+    $cc -nostdlib -r -o "$room/program_$number.o" "${objects[@]}"
+    ! nm "$room/program_$number.o" | grep -q ' T wmain$' || main=wmain
+    if ! nm "$room/program_$number.o" | grep -q " T $main\$"; then
         say "$name has no main"
         exit 1
     fi
-    objcopy --redefine-sym "$main=$entry" "${streams[@]}" "${changes[@]}" "$room/program_$programs.o"
-    objcopy --keep-global-symbol="$entry" "$room/program_$programs.o"
+    mapfile -t variables < <(variables_of "$room/program_$number.o")
+    objcopy --redefine-sym "$main=$entry" "${streams[@]}" "${changes[@]}" "${variables[@]}" "$room/program_$number.o"
+    objcopy --keep-global-symbol="$entry" "$room/program_$number.o"
     printf 'int %s(int, void *);\n' "$entry" >> "$room/declarations"
-    printf '{"%s", %s, %s},\n' "$name" "$entry" "$([ $main = wmain ] && echo 1 || echo 0)" >> "$room/programs"
+    printf '{"%s", %s, %s},\n' "$name" "$entry" "$([ "$main" = wmain ] && echo 1 || echo 0)" > "$room/program_$number.row"
+}
+add_user() {
+    wait_for_one
+    (
+        trap '[ $? = 0 ] || touch "$room/failed"' EXIT
+        user_object "$1" "$programs" "${@:2}"
+    ) &
     programs=$((programs + 1))
 }
 while [ $# -gt 0 ]; do
@@ -279,6 +346,8 @@ while [ $# -gt 0 ]; do
         shift
     fi
 done
+wait
+[ ! -e "$room/failed" ] || exit 1
 {
     cat "$room/declarations"
     table=kz_drivers
@@ -288,9 +357,14 @@ done
     echo "{0, 0}};"
     echo "const unsigned long ${table}_count = $count;"
     echo "const struct { const char *name; int (*entry)(int, void *); _Bool is_wide; } kz_programs[] = {"
-    cat "$room/programs"
+    for ((at = 0; at < programs; at++)); do cat "$room/program_$at.row"; done
     echo "{0, 0, 0}};"
     echo "const unsigned long kz_programs_count = $programs;"
+    # gdb loads its words for the kit's types by itself, from a folder that its user trusts.
+    case "$here" in
+    *[\"\\]*) ;;
+    *) printf '__asm__(".pushsection .debug_gdb_scripts, \\"MS\\", @progbits, 1\\n.byte 1\\n.asciz \\"%s\\"\\n.popsection");\n' "$here/gdb/kazdrin.py" ;;
+    esac
 } > "$room/drivers.c"
 if [ -n "$main" ]; then
     $cc -std=gnu11 -Wall -Wextra "${common[@]}" "${includes[@]}" -I"$here/host" -I"$here" -c -o "$room/main.o" "$main"
@@ -306,4 +380,12 @@ $cc "${link[@]}" -o "$program" "$room/drivers.c" "${others[@]}" "${libraries[@]}
 cat "$room/said" >&2
 missing=$(sed -n "s/.*undefined reference to [\`']\([A-Za-z_0-9]*\)'.*/\1/p" "$room/said" | sort -u | tr '\n' ' ')
 [ -z "$missing" ] || say "neither in your sources nor in this kit: $missing(docs/PROFILE.md has what is)"
+if [ "$status" = 0 ] && [ -n "$depfile" ]; then
+    printf '%s\n' "$here/build.sh" "$library" "$host/libkazdrin_host.a" > "$room/all.needs"
+    [ -z "$main" ] || printf '%s\n' "$main" >> "$room/all.needs"
+    {
+        printf '%s\n' "$program" | sed 's/[ #]/\\&/g; s/\$/$$/g; s/$/:/'
+        LC_ALL=C sort -u "$room"/*.needs | sed 's/[ #]/\\&/g; s/\$/$$/g; s/^/ /'
+    } | sed '$!s/$/ \\/' > "$depfile"
+fi
 exit "$status"

@@ -15,7 +15,7 @@ share=$prefix/share/kazdrin
 mkdir -p "$share/lib" "$share/c/tests"
 cp "$library" "$share/lib/libkazdrin_c.a"
 cp "$support/libos_c.a" "$support/liblibc_c.a" "$share/lib/"
-cp -Rp "$here/include" "$here/adapt" "$here/user" "$here/host" "$here/image" "$here/explore" "$here/serve" "$here/wire" "$here/fuzz" "$here/Makefile" "$here/build.sh" "$here/fuzz.sh" "$share/c/"
+cp -Rp "$here/include" "$here/adapt" "$here/user" "$here/host" "$here/image" "$here/explore" "$here/serve" "$here/wire" "$here/fuzz" "$here/gdb" "$here/Makefile" "$here/libraries.sh" "$here/build.sh" "$here/fuzz.sh" "$share/c/"
 cp -Rp "$here/tests/scenarios" "$share/c/tests/"
 mkdir -p "$share/docs"
 cp -p "$here/../docs/TOLD.md" "$share/docs/"
@@ -25,9 +25,9 @@ ln -sf ../share/kazdrin/c/fuzz.sh "$prefix/bin/kazdrin-fuzz"
 
 # Its libraries are those of this checkout: their times say that they are newer than the sources.
 mkdir -p "$share/out/c"
-key=$(make -s --no-print-directory -C "$here" where CC="${CC:-cc}" CFLAGS=)
-cp -Rp "$here/../out/c/$key" "$share/out/c/"
-cp "$share/out/c/$key/libkazdrin_host.a" "$share/lib/"
+host=$(CFLAGS='' "$here/libraries.sh")
+cp -Rp "$host" "$share/out/c/"
+cp "$host/libkazdrin_host.a" "$share/lib/"
 cat > "$prefix/lib/pkgconfig/kazdrin.pc" <<'PC'
 prefix=${pcfiledir}/../..
 share=${prefix}/share/kazdrin

@@ -6,6 +6,7 @@
  *   __FUNCTION__ ": x"    "Name" ": x"; in a macro the name of the file, since it has no function. DriverEntry, which has another name in the program, says its own
  *   enum E : ULONG {      enum E {, for types of 32 bits
  *   static __forceinline  __forceinline, which is static here
+ *   #pragma alloc_text(PAGE, F)   the section PAGE for F, in C: what is there may not run at DISPATCH_LEVEL
  */
 #include <ctype.h>
 #include <libgen.h>
@@ -212,6 +213,30 @@ static void take_include(Source *source, unsigned depth)
         adapt(path, name, depth + 1);
 }
 
+/* `#pragma alloc_text(PAGE, F, G)`: words in its place that give each function its section. False for any other one. */
+static bool change_alloc_text(Source *source, const char *word)
+{
+    const char *end = source->at + strcspn(source->at, "\n"), *at = skip_blanks(word + word_length(word));
+    bool is_c = strlen(source->path) > 2 && strcmp(source->path + strlen(source->path) - 2, ".c") == 0;
+    if (!is_c || !is_word(at, word_length(at), "alloc_text") || *skip_blanks(at + word_length(at)) != '(')
+        return false;
+    at = skip_blanks(skip_blanks(at + word_length(at)) + 1);
+    at += *at == '"';
+    if (strncmp(at, "PAGE", 4) != 0)
+        return false;
+    for (at = strchr(at, ','); at && at < end && *at == ','; at = skip_blanks(at)) {
+        char text[3 * NAME];
+        at = skip_blanks(at + 1);
+        int length = (int)word_length(at);
+        snprintf(text, sizeof text, "__typeof__(%.*s) %.*s __attribute__((noinline, section(\"PAGE\"))); ", length, at, length, at);
+        put(source, text, strlen(text));
+        at += length;
+    }
+    source->at = end;
+    source->is_changed = true;
+    return true;
+}
+
 static void take_directive(Source *source, unsigned depth)
 {
     const char *word = source->at + 1 + strspn(source->at + 1, " \t");
@@ -219,7 +244,7 @@ static void take_directive(Source *source, unsigned depth)
     if (is_word(word, word_length(word), "include")) {
         take_include(source, depth);
         keep(source, strcspn(source->at, "\n"));
-    } else {
+    } else if (!is_word(word, word_length(word), "pragma") || !change_alloc_text(source, word)) {
         keep(source, 1);
     }
 }

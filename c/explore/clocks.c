@@ -1,6 +1,7 @@
 /* Which accesses are in order: a clock of each client for each client. What takes an object comes behind all that gave it before. Two accesses of different clients that aren't
  * in order, of which one writes, are a race. Memory that was given back isn't to be touched at all. */
 #include "explore.h"
+#include "core/access.h"
 
 #include <sys/mman.h>
 
@@ -172,7 +173,8 @@ static void look(Cell *cell, uint8_t bytes, unsigned how, const void *from, cons
     }
 }
 
-static void look_at_freed(uintptr_t address, const void *from, bool is_write)
+/* `what` is in words what it does there. */
+static void look_at_freed(uintptr_t address, const void *from, const char *what)
 {
     if (address < shadow->least || address >= shadow->most)
         return;
@@ -183,7 +185,7 @@ static void look_at_freed(uintptr_t address, const void *from, bool is_write)
         char place[32] = "the end of its operation";
         if (shadow->freed[at].from)
             snprintf(place, sizeof place, "@%x", shadow->freed[at].from);
-        snprintf(text, sizeof text, "USE AFTER FREE: %s at @%lx (" KZ_MARK "%s" KZ_MARK ") of memory that %s gave back at %s", word_of(false, is_write, false), (unsigned long)(uintptr_t)from, kz_me->name,
+        snprintf(text, sizeof text, "USE AFTER FREE: %s at @%lx (" KZ_MARK "%s" KZ_MARK ") of memory that %s gave back at %s", what, (unsigned long)(uintptr_t)from, kz_me->name,
                  ex_runners[shadow->freed[at].client].name, place);
         ex_found_race(text, (uintptr_t)from, shadow->freed[at].from);
         return;
@@ -252,7 +254,8 @@ static void note(const void *address, size_t size, unsigned how, const void *fro
     bool is_write = how & IS_WRITE, is_atomic = how & IS_ATOMIC, is_update = how & IS_UPDATE;
     if (ex->search.is_traced)
         ex_trace_access(address, is_write, is_atomic, from);
-    look_at_freed(start, from, is_write);
+    look_at_freed(start, from, word_of(false, is_write, false));
+    kz_look_at_owned(address, size, from, is_write);
     for (uintptr_t tag = start >> 3; tag << 3 < end; tag++) {
         uintptr_t first = tag << 3 < start ? start - (tag << 3) : 0, last = (tag << 3) + 8 > end ? end - (tag << 3) : 8;
         uint8_t bytes = (uint8_t)((0xff << first) & (0xff >> (8 - last)));
@@ -325,6 +328,8 @@ void ex_leave_lib(void)
 /* No other client goes on inside such a call: in the kit too it is the driver's line that is interrupted, before it or behind it. */
 void ex_lib_access(const void *address, size_t size, bool is_write)
 {
+    if (is_watched() && is_write)
+        ex_see_writes(); /* a copy of many bytes: it needn't be late */
     if (is_watched() && calls[kz_me->number].depth > 0 && calls[kz_me->number].from && size && !ex_is_stack(address))
         note(address, size, is_write ? IS_WRITE : 0, calls[kz_me->number].from);
 }
@@ -379,6 +384,8 @@ void ex_touch(const void *object, size_t size, KzTouch how)
         take_back(object, size);
         return;
     }
+    if (kz_me->place.call && kz_me->place.from) /* the kit itself uses what lies there */
+        look_at_freed((uintptr_t)object, kz_me->place.from, kz_me->place.call);
     Object *one = object_of(object);
     if (ex->search.is_traced && kz_me->place.call)
         ex_trace_object(object, how == KZT_TAKES, kz_me->place.call);

@@ -166,7 +166,7 @@ static int choose(Runner *me)
 }
 
 /* Where states are told apart another stack chooses, so that all clients stand alike. */
-static void go_on(Runner *me)
+static void stand_aside(Runner *me)
 {
     if (ex->search.is_reduced || ex->run.is_alone) {
         ex_switch(&me->stands, ex->run.back);
@@ -178,6 +178,13 @@ static void go_on(Runner *me)
     ex->run.current = client;
     kz_me = client ? ex_runners[client].client : &kz_first;
     ex_switch(&me->stands, client ? ex_runners[client].stands : ex->run.back);
+}
+
+static void go_on(Runner *me)
+{
+    ex_take_out();
+    stand_aside(me);
+    ex_put_in();
 }
 
 /* ---- Who looks for something again and again lets each of the others go first that can, or that could since: so nobody looks for ever while the one that would change it stands. */
@@ -207,6 +214,7 @@ static bool can_others(const Runner *me)
 static bool wait(KzCan *can, void *what, const char *text)
 {
     Runner *me = mine();
+    ex_see_writes();
     me->can = can;
     me->what = what;
     me->timed_out = false;
@@ -270,10 +278,20 @@ uint64_t ex_patience_hash(void)
     return hash;
 }
 
+/* Who stands where, after so many steps: where the same choices led elsewhere, the driver doesn't repeat itself. */
+uint64_t ex_stands_hash(void)
+{
+    uint64_t hash = ex->run.steps + 1;
+    for (int at = 1; at <= ex->run.runners_count; at++)
+        hash = (hash ^ (uintptr_t)ex_runners[at].at ^ (uintptr_t)ex_runners[at].from << 20 ^ (uint64_t)ex_runners[at].state << 60) * 0x9e3779b97f4a7c15ULL;
+    return hash | 1;
+}
+
 /* ---- The scheduler's calls. */
 static void stand(Runner *me, const char *name, const void *from)
 {
     me->is_fresh = false;
+    ex->run.patience[me->client->number].points++;
     me->at = name;
     me->from = from;
     if (++ex->run.patience[me->client->number].in_a_row % IN_A_ROW == 0)
@@ -380,8 +398,12 @@ static void live(void)
     if (me->is_worker)
         work();
     for (size_t at = 0; at < me->script->count; at++)
-        if (!(ex->run.left_out[me->client->number] >> at & 1))
-            kz_scripted_request(me->script->requests[at], &me->handle);
+        if (!(ex->run.left_out[me->client->number] >> at & 1)) {
+            unsigned points = ex->run.patience[me->client->number].points;
+            KzReply reply = kz_scripted_request(me->script->requests[at], &me->handle);
+            ex_note_answer(at, reply.status, reply.status == 0 || ex->run.patience[me->client->number].points > points + 1);
+        }
+    ex_see_writes();
     me->state = ENDED;
     go_on(me);
 }
@@ -392,6 +414,7 @@ static void live_beside(void)
     me->has_begun = true;
     me->state = RUNNING;
     kz_live(me->thread);
+    ex_see_writes();
     me->state = ENDED;
     go_on(me);
 }
@@ -478,7 +501,7 @@ static bool let(KzThread *thread)
     return true;
 }
 
-const KzScheduler ex_scheduler = {point, wait, ex_touch, looked, choose_answer, begin, let, nothing, nothing, ex_say, true, false};
+const KzScheduler ex_scheduler = {point, wait, ex_touch, looked, choose_answer, begin, let, ex_see_writes, nothing, ex_say, true, false};
 
 /* What a client left on its stack below where it stands: two states aren't to differ by that. */
 static void tidy(Runner *one)

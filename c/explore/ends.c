@@ -82,10 +82,8 @@ int ex_learn_ends(const char *path)
     for (size_t at = 0; file && at < ends->count; at++)
         if (!at || strcmp(ends->texts[at], ends->texts[at - 1]) != 0)
             fprintf(file, "%s\n\n", ends->texts[at]);
-    if (!file || fclose(file) != 0) {
-        fprintf(stderr, "%s: can't be written\n", path);
+    if (ex_end_file(file, path) != 0)
         return 3;
-    }
     printf("%zu ends\n", ends->count);
     return 0;
 }

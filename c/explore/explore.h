@@ -19,8 +19,8 @@ enum {
     WORKERS = 4
 };
 
-/* What a choice is of: who goes on, whether a call is refused, whether an operation goes on inside a call. */
-typedef enum { SWITCH, ANSWER_FAIL, ANSWER_INSIDE } Asks;
+/* What a choice is of: who goes on, whether a call is refused, whether an operation goes on inside a call, whether others see a write later, and whether they do by now. */
+typedef enum { SWITCH, ANSWER_FAIL, ANSWER_INSIDE, ANSWER_LATE, ANSWER_SEEN } Asks;
 
 /* ---- A client of the scenario: a coroutine of its own. */
 typedef enum { READY, RUNNING, WAITING, ENDED } State;
@@ -45,6 +45,18 @@ typedef struct {
     uint64_t handle;              /* that of its last create, for $ */
 } Runner;
 
+/* A client's writes that others don't see yet (buffer.c). */
+enum { LATE_WRITES = 8 };
+typedef struct {
+    struct {
+        void *at;
+        size_t size;
+        uint64_t other; /* while its client runs, what others see there; else what its client sees */
+    } writes[LATE_WRITES];
+    unsigned count;
+    const void *last; /* what it wrote as volatile, and a late write could still be of */
+} Buffer;
+
 /* How often a place of the driver's code found the same where it looked, since another client went or it changed something itself. */
 enum { LOOKS = 8, LOOKS_ENOUGH = 3 };
 typedef struct {
@@ -56,6 +68,7 @@ typedef struct {
     } looks[LOOKS];
     bool has_looked;
     unsigned accesses; /* points at memory since its last call of the kit */
+    unsigned points;   /* that it came to: a request that is refused at once has none behind its own */
     unsigned in_a_row; /* steps since another's */
     unsigned alone;    /* how often it went on in vain, since nobody else could */
 } Patience;
@@ -66,6 +79,7 @@ typedef struct {
     uint64_t key; /* of the state, where states are told apart */
     uint32_t able; /* who could go on, a bit for each */
     uint32_t place; /* in the schedule */
+    uint64_t stands; /* who stands where, as a hash; 0 where it isn't known */
 } Node;
 
 /* ---- What was found: of each kind the schedule with the fewest preemptions, then switches, then steps. */
@@ -74,7 +88,7 @@ typedef enum { TOLD, RACE, STUCK, CRASH, END, LIMITED } KindOf;
 typedef struct {
     KindOf of;
     char *key, *text, *schedule;
-    uint64_t count;
+    uint64_t count, earlier; /* in this bound; in the one before it */
     unsigned preemptions, switches, steps;
     uint64_t seed;
 } Kind;
@@ -114,6 +128,7 @@ typedef struct {
 typedef struct {
     unsigned bound, fails, shard, shards;
     bool wants_ends, is_traced, is_quiet, is_strict; /* is_strict: a limit counts */
+    unsigned late, asked_late; /* writes of a run that others may see later; as the words have it, or LATE_UNSAID */
     unsigned asked_bound, workers, stops_at; /* the last bound; how many work items run at once; the step before which a debugger stops, or 0 */
     uint64_t asked_seed, asked_runs;
     bool is_coarse; /* no points at memory */
@@ -154,6 +169,9 @@ typedef struct {
     void *back;
     int current;
     bool is_given_up;
+    Buffer buffers[RUNNERS + 1]; /* of each client */
+    unsigned late_used;
+    bool has_late_reads; /* in any run: a volatile read of another cell behind a volatile write, with nothing between them that empties a buffer */
     Patience patience[RUNNERS + 1]; /* of each client */
     uint32_t able;
 } Run;
@@ -167,9 +185,11 @@ typedef struct {
     Counted counted[BOUNDS]; /* of the bounds that are done */
     int counted_count;
     bool is_whole, is_silent;
+    bool is_endless; /* code without an end was met: the next is taken as that sooner */
+    bool is_unwritten; /* the file in which an interrupted search is to be stored couldn't be written */
     volatile bool is_interrupted;
     const char *full; /* what the explorer's memory is full of: then the search ends */
-    const char *unknown; /* a wait that isn't modelled: then the search ends */
+    const char *unknown; /* why nothing can be told behind some point: then the search ends */
     char resume_path[4200]; /* where an interrupted search is saved; empty if it isn't */
     bool is_resumed;
     Counted resumed; /* where it goes on */
@@ -205,6 +225,10 @@ typedef struct {
         Event *events; /* of a run that is traced */
         size_t count, touches_from;
     } trace;
+    struct { /* of each client: its requests that were made, those that came to something, and how the others were answered; in any run */
+        uint64_t made, done;
+        uint32_t status[KZ_REQUESTS];
+    } asked[RUNNERS + 1];
     struct { /* for what is kept of kinds: never freed */
         char *bytes;
         size_t used;
@@ -233,7 +257,9 @@ void ex_run_once(void);
 void ex_search(void);
 extern Runner ex_runners[RUNNERS + 1]; /* by the client's number: from 1 on */
 #define ROOM (1UL << 30)
-enum { FAIL = 255, INSIDE = 254 };     /* in a schedule: the call was refused; the operation went on inside the call */
+/* In a schedule, beside clients: the call was refused; the operation went on inside the call; others see the next write later; they see what was written. */
+enum { FAIL = 255, INSIDE = 254, LATE = 253, SEEN = 252, FIRST_SIGN = SEEN };
+enum { LATE_UNSAID = 0xffff };
 
 /* scenario.c: 0, or what is wrong was said. */
 int ex_read(const char *path);
@@ -273,6 +299,7 @@ void ex_leave_lib(void);
 void ex_lib_access(const void *address, size_t size, bool is_write);
 void ex_forget_lib_calls(void);
 void ex_in_order(const void *object);
+extern const void *volatile ex_hooked;
 /* Cells that interlocked or volatile accesses meet in the set-up, and in runs before the search: plain accesses to them are points too. */
 void ex_learn_cells(bool is);
 
@@ -286,13 +313,28 @@ uint64_t ex_stacks_hash(void);
 void ex_run(void);
 bool ex_is_stuck(void);
 bool ex_is_busy(const Runner *one);
+uint64_t ex_stands_hash(void);
 /* Before an access of the driver's code: another client may go on first. */
 void ex_memory_point(const void *address, size_t size, const void *from);
 /* It has changed shared memory: it doesn't look in vain. */
 void ex_note_change(void);
 uint64_t ex_patience_hash(void);
 
+/* buffer.c: a write of the driver's code comes next; may_begin: it is volatile, and may be the first that is late. A volatile read comes next. */
+void ex_delay_write(void *address, size_t size, bool may_begin, const void *from);
+void ex_may_be_seen(const void *address);
+/* Others see all that this client wrote. */
+void ex_see_writes(void);
+/* The client stands from here on; it goes on. */
+void ex_take_out(void);
+void ex_put_in(void);
+void ex_empty_buffers(void);
+uint64_t ex_buffers_hash(void);
+
 /* path.c: which of so many is taken. */
+uint8_t ex_sign_of(Asks asks);
+const char *ex_sign_name(uint8_t sign); /* NULL where it is a client */
+uint8_t ex_sign_named(const char *name, size_t length); /* 0 where it is none */
 unsigned ex_decide(unsigned count, Asks asks, const int *clients, bool may_stay);
 unsigned ex_draw(unsigned count);
 bool ex_advance(void);
@@ -302,7 +344,7 @@ const char *ex_schedule_text(size_t length);
 
 /* found.c */
 void ex_end_search(const char *full);
-void ex_stop_at(const char *unknown);
+void ex_stop_at(const char *unknown, const char *why);
 /* The first line of it, or all of its lines; of a race, between these two places of the driver's code. */
 void ex_found(KindOf of, const char *text);
 void ex_found_lines(KindOf of, const char *text);
@@ -316,9 +358,17 @@ void ex_report(void);
 char *ex_kept(const char *text);
 void ex_add_kind(const Kind *more);
 
+/* asked.c: requests that are refused in each schedule, of which nothing is tried. */
+void ex_note_answer(size_t request, uint32_t status, bool is_done);
+void ex_put_refused(void);
+void ex_write_asked(FILE *to);
+bool ex_read_asked(const char *line);
+
 /* results.c: a search in a file. */
 void ex_name_search(const char *words, const char *scenario);
 int ex_save(const char *path);
+/* A file that is written: 0, or 3 if not all of it could be, which a sentence says. */
+int ex_end_file(FILE *file, const char *path);
 int ex_resume(const char *path);
 int ex_merge(char **paths, int count);
 Counted ex_count_now(void);

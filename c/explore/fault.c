@@ -37,10 +37,10 @@ static void handle(int signal, siginfo_t *information, void *context)
         return;
     }
     snprintf(what, sizeof what, "CRASH %s", kz_signal_name(signal));
-    leave_run(CRASH, what, (const char *)machine->uc_mcontext.gregs[REG_RIP] + 1);
+    leave_run(CRASH, what, ex_hooked ? ex_hooked : (const char *)machine->uc_mcontext.gregs[REG_RIP] + 1);
 }
 
-/* Each second of the processor's: a run that stays where it was for some of them is endless. */
+/* Each tenth of a second of the processor's: a run that stays where it was for some of them is endless. */
 static void tick(int signal, siginfo_t *information, void *context)
 {
     const ucontext_t *machine = context;
@@ -50,8 +50,10 @@ static void tick(int signal, siginfo_t *information, void *context)
     last[2] = is_same ? last[2] + 1 : 0;
     last[0] = ex->search.runs;
     last[1] = ex->run.steps;
-    if (last[2] >= 3 && kz_me->inside == 0)
+    if (last[2] >= (ex->total.is_endless ? 2 : 4) && kz_me->inside == 0) {
+        ex->total.is_endless = true;
         leave_run(STUCK, "ENDLESS: the driver's code comes to no call", (const char *)machine->uc_mcontext.gregs[REG_RIP] + 1);
+    }
 }
 
 void ex_watch_faults(void)
@@ -64,5 +66,5 @@ void ex_watch_faults(void)
     action.sa_sigaction = tick;
     action.sa_flags |= SA_RESTART;
     sigaction(SIGVTALRM, &action, NULL);
-    setitimer(ITIMER_VIRTUAL, &(struct itimerval){{1, 0}, {1, 0}}, NULL);
+    setitimer(ITIMER_VIRTUAL, &(struct itimerval){{0, 100000}, {0, 100000}}, NULL);
 }

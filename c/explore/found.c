@@ -80,7 +80,7 @@ void ex_say(const KzSaid *said)
     if (said->kind == KZ_SAID_TOLD)
         ex_found(TOLD, said->text);
     else if (said->kind == KZ_SAID_LIMIT && said->message == KZM_UNKNOWN_WAIT && kz_me != &kz_first) {
-        ex_stop_at(said->text);
+        ex_stop_at(said->text, "a wait isn't modelled");
     } else if (said->kind == KZ_SAID_LIMIT) {
         ex->run.is_limited |= said->message == KZM_LEFT_OUT;
         ex_found(LIMITED, said->text);
@@ -94,12 +94,12 @@ void ex_end_search(const char *full)
     ex->total.full = full;
 }
 
-/* A wait that isn't modelled: what comes after it isn't so on Windows. So neither this run nor another tells anything of it. */
-void ex_stop_at(const char *unknown)
+/* What comes after this isn't so on Windows. So neither this run nor another tells anything of it. */
+void ex_stop_at(const char *unknown, const char *why)
 {
     ex->found.count = 0;
     ex_found(LIMITED, unknown);
-    ex->total.unknown = ex_kept(unknown);
+    ex->total.unknown = why;
     siglongjmp(ex->run.out, 1);
 }
 
@@ -230,7 +230,7 @@ void ex_put_kind_line(const Kind *kind)
 
 void ex_report_kind(const Kind *kind)
 {
-    printf("\n%llu schedules:\n", (unsigned long long)kind->count);
+    printf("\n%llu schedules:\n", (unsigned long long)(kind->count ? kind->count : kind->earlier));
     put_indented(kind->text);
     printf("  the shortest: %u preemptions, %u switches, %u steps\n", kind->preemptions, kind->switches, kind->steps);
     printf("  --replay '%s'%s\n", kind->schedule, ex->search.is_coarse ? " --coarse" : "");

@@ -29,6 +29,8 @@ static void start_run(void)
     memset(ex->run.patience, 0, sizeof ex->run.patience[0] * ((size_t)ex->run.most_runners + 1));
     ex->run.number++;
     ex->search.runs++;
+    ex_hooked = NULL;
+    ex_empty_buffers();
     ex_start_clocks();
 }
 
@@ -119,7 +121,7 @@ static void put_counts(const Counted *one)
     printf("%.2f s, longest %u; told %llu, races %llu, stuck %llu, crashed %llu\n", one->seconds, one->longest, (unsigned long long)one->counts[TOLD], (unsigned long long)one->counts[RACE],
            (unsigned long long)one->counts[STUCK], (unsigned long long)one->counts[CRASH]);
     if (ex->total.unknown)
-        printf("the search ends here, since a wait isn't modelled: what is after it can't be told\n");
+        printf("the search ends here, since %s: what is after it can't be told\n", ex->total.unknown);
     if (ex->total.full)
         printf("the memory for %s is full: the search ends here, and isn't whole (--memory)\n", ex->total.full);
 }
@@ -185,8 +187,11 @@ static void begin_bound(void)
     ex->total.schedules = ex->total.given_up = 0;
     ex_forget_states();
     memset(ex->total.counts, 0, sizeof ex->total.counts);
-    for (int at = 0; at < ex->kinds.count; at++)
-        ex->kinds.all[at].count = 0;
+    for (int at = 0; at < ex->kinds.count; at++) {
+        Kind *kind = &ex->kinds.all[at];
+        kind->earlier = kind->count ? kind->count : kind->earlier;
+        kind->count = 0;
+    }
 }
 
 /* False if it was interrupted. */
@@ -219,7 +224,7 @@ void ex_search(void)
         return;
     ex->search.bound -= !ex->search.has_no_bound;
     if (ex->total.resume_path[0])
-        ex_save(ex->total.resume_path);
+        ex->total.is_unwritten = ex_save(ex->total.resume_path) != 0;
 }
 
 /* Before the search, and before a schedule that is played again: runs without a preemption say how long one is, and which memory is shared by more than locks. Nothing of them is told. */
@@ -229,7 +234,7 @@ static void warm_up(void)
     unsigned fails = ex->search.fails, shards = ex->search.shards, runs = 0;
     ex->search.is_reduced = ex->search.has_no_bound = ex->search.is_traced = ex->search.wants_ends = false;
     ex->search.is_coarse = true;
-    ex->search.bound = ex->search.fails = ex->search.shards = 0;
+    ex->search.bound = ex->search.fails = ex->search.shards = ex->search.late = 0;
     ex_learn_cells(true);
     do {
         ex_run_once();
@@ -241,6 +246,7 @@ static void warm_up(void)
     ex_clear_arenas();
     ex->search.is_reduced = is_reduced, ex->search.has_no_bound = has_no_bound, ex->search.is_coarse = is_coarse, ex->search.is_traced = is_traced, ex->search.wants_ends = wants_ends;
     ex->search.fails = fails, ex->search.shards = shards;
+    ex->search.late = ex->search.asked_late != LATE_UNSAID ? ex->search.asked_late : ex->run.has_late_reads;
     ex->kinds.count = 0;
     ex->total.schedules = ex->path.length = 0;
     ex->total.longest = 0;
@@ -254,7 +260,7 @@ static void draw_runs(void)
     unsigned shards = ex->search.shards ? ex->search.shards : 1, shard = ex->search.shard;
     ex->total.since = seconds();
     ex->search.shards = 0;
-    for (uint64_t at = shard; at < ex->search.asked_runs && !ex->total.unknown; at += shards) {
+    for (uint64_t at = shard; at < ex->search.asked_runs && !ex->total.unknown && !ex->total.is_interrupted; at += shards) {
         ex->search.bound = UINT32_MAX;
         ex->search.seed = ex->search.asked_seed + at;
         ex->path.random = ex->search.seed * 0x9e3779b97f4a7c15ULL | 1;
@@ -266,7 +272,7 @@ static void draw_runs(void)
     if (!ex->total.is_silent)
         printf("seeds %llu to %llu: ", (unsigned long long)ex->search.asked_seed, (unsigned long long)(ex->search.asked_seed + ex->search.asked_runs - 1));
     note_counts();
-    ex->total.is_whole = true;
+    ex->total.is_whole = !ex->total.is_interrupted;
 }
 
 /* ---- The set-up, in order: 0, or the exit status. */
@@ -278,13 +284,14 @@ static int set_up(void)
 
 static int status(void)
 {
-    const Counted *last = ex->total.counted_count ? &ex->total.counted[ex->total.counted_count - 1] : NULL;
-    const uint64_t *counts = last && ex->total.is_whole ? last->counts : ex->total.counts;
-    if (counts[CRASH])
+    bool is_found[LIMITED + 1] = {false};
+    for (int at = 0; at < ex->kinds.count; at++)
+        is_found[ex->kinds.all[at].of] = true;
+    if (is_found[CRASH])
         return 139;
-    if (counts[STUCK])
+    if (is_found[STUCK])
         return 6;
-    if (counts[TOLD] || counts[RACE] || (ex->search.is_strict && counts[LIMITED]))
+    if (is_found[TOLD] || is_found[RACE] || (ex->search.is_strict && is_found[LIMITED]))
         return 5;
     return ex->total.full || ex->total.unknown || !ex->total.is_whole ? 4 : 0;
 }
@@ -328,9 +335,11 @@ static int put_page_of_first(const char *path)
 static int end_search(const Asked *asked)
 {
     if (asked->saves && ex_save(asked->saves) != 0)
-        return 3;
-    if (!ex->total.is_whole && ex->total.resume_path[0])
+        ex->total.is_unwritten = true;
+    if (!ex->total.is_whole && ex->total.resume_path[0] && !ex->total.is_unwritten)
         printf("interrupted: the same words go on, with --resume %s\n", ex->total.resume_path);
+    else if (!ex->total.is_whole)
+        printf("interrupted: the search isn't whole, and what it has found follows\n");
     if (asked->learns && !ex->total.full)
         return ex_learn_ends(asked->learns);
     if (asked->expects && !ex->total.full)
@@ -338,6 +347,7 @@ static int end_search(const Asked *asked)
     if (asked->shrinks)
         ex_shrink();
     ex_report();
+    ex_put_refused();
     return asked->page ? put_page_of_first(asked->page) : status();
 }
 
@@ -378,13 +388,24 @@ static int merge(const Asked *asked)
         return 3;
     put_merged();
     ex_report();
+    ex_put_refused();
     return ended ? ended : status();
 }
 
-static void interrupt(int signal)
+/* The search stops at its next run. A second time the program itself does. */
+static void interrupt(int number)
 {
-    (void)signal;
     ex->total.is_interrupted = true;
+    signal(number, SIG_DFL);
+}
+
+/* What was shown is written, or a sentence says that it isn't. */
+static int end(int ended)
+{
+    if (fflush(stdout) == 0 && !ferror(stdout))
+        return ex->total.is_unwritten ? 3 : ended;
+    fprintf(stderr, "standard output: can't be written\n");
+    return 3;
 }
 
 int main(int count, char **words)
@@ -397,11 +418,12 @@ int main(int count, char **words)
     ex->search.is_quiet = true;
     ex->search.memory = 1UL << 30;
     ex->search.asked_bound = 2;
+    ex->search.asked_late = LATE_UNSAID;
     ex->search.asked_runs = 1000;
     if (!ex_read_words(count, words, &asked))
         return 2;
     if (asked.merges_count)
-        return merge(&asked);
+        return end(merge(&asked));
     if (asked.is_debugged)
         return ex_debug(count, words);
     ex_open_stacks();
@@ -422,7 +444,7 @@ int main(int count, char **words)
     ex_keep_stacks();
     ex_take_image();
     warm_up();
-    if (asked.resume)
+    if (!asked.replay)
         signal(SIGINT, interrupt), signal(SIGTERM, interrupt);
-    return asked.replay ? play(&asked) : search_and_end(&asked);
+    return end(asked.replay ? play(&asked) : search_and_end(&asked));
 }

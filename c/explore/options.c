@@ -1,5 +1,6 @@
 /* The words of the explorer's program. */
 #include "explore.h"
+#include "core/near.h"
 
 #include <stdlib.h>
 #include <unistd.h>
@@ -8,7 +9,7 @@ static bool usage(const char *name, FILE *to)
 {
     fprintf(to,
             "usage: %s [WORD..] SCENARIO, or %s --merge FILE..\n"
-            "  what is searched   --bound N (2), --reduce, --states, --coarse, --inline, --fails N, --fail-each, --workers N, --dispatch none|data|all\n"
+            "  what is searched   --bound N (2), --reduce, --states, --coarse, --inline, --fails N, --fail-each, --workers N, --late N, --dispatch none|data|all\n"
             "  drawn schedules    --seed N [--runs N] [--pct N]\n"
             "  spread             --jobs N, --shard K/N, --save FILE, --merge FILE.., --resume FILE, --memory MB\n"
             "  what is shown      --ends, --learn FILE, --expect-ends FILE, --shrink, --page FILE, --allow KZ0000, --strict\n"
@@ -23,101 +24,114 @@ static bool refuse(const char *sentence)
     return false;
 }
 
-static bool read_number(const char *value, unsigned least, unsigned most, unsigned *number)
+static bool refuse_more(const char *scenario, const char *more)
 {
-    char *end;
-    unsigned long read = strtoul(value, &end, 10);
-    *number = (unsigned)read;
-    return *value >= '0' && *value <= '9' && !*end && read >= least && read <= most;
+    fprintf(stderr, "%s: the scenario is %s, and there is one\n", more, scenario);
+    return false;
 }
 
-static bool read_long(const char *value, uint64_t *number)
+/* ---- Words: one that stands alone, and one with another behind it, which is read as a number, as a path or in its own way. */
+typedef enum { ALONE, NUMBER, LARGE, PATH_TO, OWN } Way;
+typedef struct {
+    const char *name;
+    Way way;
+    void *to;
+    unsigned least, most;
+    bool (*read)(const char *value); /* NULL where `to` says it all */
+    const char *takes;               /* of its own way: what stands behind it */
+} Word;
+enum { WORDS = 40, NEAR = 3 };
+
+static bool is_number(const char *value, uint64_t least, uint64_t most, uint64_t *number)
 {
     char *end;
     *number = strtoull(value, &end, 10);
-    return *value >= '0' && *value <= '9' && !*end;
+    return *value >= '0' && *value <= '9' && !*end && *number >= least && *number <= most;
 }
 
 static bool read_shard(const char *word)
 {
-    return sscanf(word, "%u/%u", &ex->search.shard, &ex->search.shards) == 2 && ex->search.shards > 0 && ex->search.shard < ex->search.shards;
+    int used = 0;
+    return sscanf(word, "%u/%u%n", &ex->search.shard, &ex->search.shards, &used) == 2 && !word[used] && ex->search.shards > 0 && ex->search.shard < ex->search.shards;
 }
 
 static bool read_memory(const char *value)
 {
     uint64_t megabytes;
-    bool is_right = read_long(value, &megabytes);
+    bool is_right = is_number(value, 0, UINT32_MAX, &megabytes);
     ex->search.memory = megabytes << 20;
     return is_right;
 }
 
-static bool read_path(const char *value, const char **path)
+static bool read_fail_each(const char *value)
 {
-    *path = value;
-    return *value;
+    (void)value;
+    ex->search.fails = 1;
+    ex->search.asked_bound = 0;
+    return true;
 }
 
-/* A word that has another after it. */
-static bool read_pair(const char *word, const char *value, Asked *asked)
+static bool read_strict(const char *value)
 {
-    if (strcmp(word, "--bound") == 0)
-        return read_number(value, 0, BOUNDS - 1, &ex->search.asked_bound);
-    if (strcmp(word, "--fails") == 0)
-        return read_number(value, 0, 1000, &ex->search.fails);
-    if (strcmp(word, "--workers") == 0)
-        return read_number(value, 1, WORKERS, &ex->search.workers);
-    if (strcmp(word, "--jobs") == 0)
-        return read_number(value, 1, 256, &asked->jobs);
-    if (strcmp(word, "--stop") == 0)
-        return read_number(value, 1, STEPS, &ex->search.stops_at);
-    if (strcmp(word, "--seed") == 0)
-        return read_long(value, &ex->search.asked_seed);
-    if (strcmp(word, "--runs") == 0)
-        return read_long(value, &ex->search.asked_runs);
-    if (strcmp(word, "--pct") == 0)
-        return read_number(value, 1, DEPTH, &ex->search.pct);
-    if (strcmp(word, "--replay") == 0)
-        return read_path(value, &asked->replay);
-    if (strcmp(word, "--learn") == 0)
-        return read_path(value, &asked->learns);
-    if (strcmp(word, "--expect-ends") == 0)
-        return read_path(value, &asked->expects);
-    if (strcmp(word, "--save") == 0)
-        return read_path(value, &asked->saves);
-    if (strcmp(word, "--resume") == 0)
-        return read_path(value, &asked->resume);
-    if (strcmp(word, "--page") == 0)
-        return read_path(value, &asked->page);
-    if (strcmp(word, "--shard") == 0)
-        return read_shard(value);
-    if (strcmp(word, "--memory") == 0)
-        return read_memory(value);
-    if (strcmp(word, "--dispatch") == 0)
-        return kz_dispatch_as(value);
-    return strcmp(word, "--allow") == 0 && kz_allow(value);
-}
-
-/* One that stands alone. */
-static bool read_one(const char *word, Asked *asked)
-{
-    const struct {
-        const char *name;
-        bool *to;
-    } ones[] = {{"--ends", &ex->search.wants_ends},  {"--trace", &ex->search.is_traced},         {"--quiet", &ex->search.is_quiet},   {"--reduce", &ex->search.is_reduced},
-                {"--coarse", &ex->search.is_coarse}, {"--inline", &ex->search.has_inside},       {"--shrink", &asked->shrinks}, {"--gdb", &asked->is_debugged},
-                {"--states", &ex->search.has_no_bound}};
-    for (size_t at = 0; at < sizeof ones / sizeof ones[0]; at++)
-        if (strcmp(ones[at].name, word) == 0)
-            return *ones[at].to = true;
-    if (strcmp(word, "--fail-each") == 0) {
-        ex->search.fails = 1;
-        ex->search.asked_bound = 0;
-        return true;
-    }
-    if (strcmp(word, "--strict") != 0)
-        return false;
+    (void)value;
     kz_be_strict(true);
     return ex->search.is_strict = true;
+}
+
+static size_t all_words(Asked *asked, Word *words)
+{
+    Search *search = &ex->search;
+    const Word all[] = {
+        {"--ends", ALONE, &search->wants_ends}, {"--trace", ALONE, &search->is_traced}, {"--quiet", ALONE, &search->is_quiet}, {"--reduce", ALONE, &search->is_reduced},
+        {"--coarse", ALONE, &search->is_coarse}, {"--inline", ALONE, &search->has_inside}, {"--shrink", ALONE, &asked->shrinks}, {"--gdb", ALONE, &asked->is_debugged},
+        {"--states", ALONE, &search->has_no_bound}, {"--fail-each", ALONE, .read = read_fail_each}, {"--strict", ALONE, .read = read_strict},
+        {"--bound", NUMBER, &search->asked_bound, 0, BOUNDS - 1}, {"--fails", NUMBER, &search->fails, 0, 1000}, {"--workers", NUMBER, &search->workers, 1, WORKERS}, {"--late", NUMBER, &search->asked_late, 0, LATE_WRITES},
+        {"--jobs", NUMBER, &asked->jobs, 1, 256}, {"--stop", NUMBER, &search->stops_at, 1, STEPS}, {"--pct", NUMBER, &search->pct, 1, DEPTH},
+        {"--seed", LARGE, &search->asked_seed}, {"--runs", LARGE, &search->asked_runs, 1},
+        {"--replay", PATH_TO, &asked->replay, .takes = "a schedule"}, {"--learn", PATH_TO, &asked->learns}, {"--expect-ends", PATH_TO, &asked->expects},
+        {"--save", PATH_TO, &asked->saves}, {"--resume", PATH_TO, &asked->resume}, {"--page", PATH_TO, &asked->page},
+        {"--shard", OWN, .read = read_shard, .takes = "a part, as 0/4 is the first of four"}, {"--memory", OWN, .read = read_memory, .takes = "a number of megabytes"},
+        {"--dispatch", OWN, .read = kz_dispatch_as, .takes = "none, data or all"}, {"--allow", OWN, .read = kz_allow, .takes = "the number of a message, as KZ0130"}};
+    memcpy(words, all, sizeof all);
+    return sizeof all / sizeof all[0];
+}
+
+static bool read_value(const Word *word, const char *value)
+{
+    uint64_t number = 0;
+    bool is_right = *value;
+    if (word->way == OWN)
+        return is_right && word->read(value);
+    if (word->way == PATH_TO)
+        *(const char **)word->to = value;
+    else if (word->way == LARGE)
+        is_right = is_number(value, word->least, UINT64_MAX - 1, (uint64_t *)word->to);
+    else if ((is_right = is_number(value, word->least, word->most, &number)))
+        *(unsigned *)word->to = (unsigned)number;
+    return is_right;
+}
+
+/* What stands behind a word, where something else does. */
+static bool refuse_value(const Word *word, const char *value)
+{
+    fprintf(stderr, "%s%s%s: behind %s stands ", word->name, value ? " " : "", value ? value : "", word->name);
+    if (word->way == NUMBER)
+        fprintf(stderr, "a number from %u to %u\n", word->least, word->most);
+    else
+        fprintf(stderr, "%s\n", word->takes ? word->takes : word->way == LARGE && word->least ? "a number from 1 on" : word->way == LARGE ? "a number" : "a file");
+    return false;
+}
+
+static bool refuse_word(const char *word, const Word *words, size_t count)
+{
+    const char *best = NULL;
+    for (size_t at = 0, far = NEAR; at < count; at++) {
+        size_t own = kz_letters_apart(word, words[at].name);
+        best = own < far ? words[at].name : best;
+        far = own < far ? own : far;
+    }
+    fprintf(stderr, "there is no word %s%s%s (--help shows all)\n", word, best ? "; the nearest is " : "", best ? best : "");
+    return false;
 }
 
 /* Whether it is of what is searched, and not of how it is spread or shown. */
@@ -156,28 +170,48 @@ static bool are_right(const Asked *asked)
     return true;
 }
 
+/* The word there, and what stands behind it: how many were read, or 0 where a sentence has said what is wrong. */
+static int read_word(char **words, int count, Asked *asked)
+{
+    Word all[WORDS];
+    size_t known = all_words(asked, all), at = 0;
+    while (at < known && strcmp(all[at].name, words[0]) != 0)
+        at++;
+    if (at == known)
+        return refuse_word(words[0], all, known);
+    const Word *word = &all[at];
+    const char *value = word->way == ALONE || count < 2 ? NULL : words[1];
+    if (word->way == ALONE && word->read)
+        word->read(NULL);
+    else if (word->way == ALONE)
+        *(bool *)word->to = true;
+    else if (!value || !read_value(word, value))
+        return refuse_value(word, value);
+    note_word(asked, words[0], value);
+    return value ? 2 : 1;
+}
+
 bool ex_read_words(int count, char **words, Asked *asked)
 {
     if (count == 2 && strcmp(words[1], "--help") == 0) {
         usage(words[0], stdout);
         exit(0);
     }
-    for (int at = 1; at < count; at++) {
+    for (int at = 1, read; at < count; at += read) {
         if (strcmp(words[at], "--merge") == 0) {
             asked->merges = words + at + 1;
             asked->merges_count = count - at - 1;
-            return asked->merges_count || usage(words[0], stderr);
+            return asked->merges_count || refuse("--merge: behind --merge stand the files of the parts");
         }
-        if (read_one(words[at], asked)) {
-            note_word(asked, words[at], NULL);
-        } else if (words[at][0] != '-' && !asked->scenario) {
+        read = 1;
+        if (words[at][0] != '-' && asked->scenario)
+            return refuse_more(asked->scenario, words[at]);
+        if (words[at][0] != '-')
             asked->scenario = words[at];
-        } else if (at + 1 == count || !read_pair(words[at], words[at + 1], asked)) {
-            return usage(words[0], stderr);
-        } else {
-            note_word(asked, words[at], words[at + 1]);
-            at++;
-        }
+        else
+            read = read_word(words + at, count - at, asked);
+        if (!read)
+            return false;
     }
     ex->search.is_reduced |= ex->search.has_no_bound;
     ex->search.wants_ends |= asked->learns || asked->expects;
@@ -192,7 +226,7 @@ static unsigned steps_of(const char *schedule)
     for (const char *at = schedule; *at; at += strcspn(at, " ")) {
         at += strspn(at, " ");
         size_t length = strcspn(at, "* ");
-        bool is_step = length && !(length == 4 && strncmp(at, "fail", 4) == 0) && !(length == 6 && strncmp(at, "inside", 6) == 0);
+        bool is_step = length && !ex_sign_named(at, length);
         steps += !is_step ? 0 : at[length] == '*' ? (unsigned)strtoul(at + length + 1, NULL, 10) : 1;
     }
     return steps;

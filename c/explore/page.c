@@ -221,9 +221,5 @@ int ex_put_page(const char *path)
                 put_row(to, at, holds);
         fputs("</tbody>\n</table>\n</body>\n</html>\n", to);
     }
-    if (!to || fclose(to) != 0) {
-        fprintf(stderr, "%s: can't be written\n", path);
-        return 3;
-    }
-    return 0;
+    return ex_end_file(to, path);
 }

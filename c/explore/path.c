@@ -29,6 +29,7 @@ static unsigned follow(unsigned count, bool is_switch, int stays)
         siglongjmp(ex->run.out, 1);
     }
     Node *node = &ex->path.nodes[ex->path.depth];
+    uint64_t stands = ex_stands_hash();
     if (ex->path.depth == ex->path.length && is_switch && ex->search.is_reduced && ex_is_known(stays)) {
         ex->run.is_given_up = true;
         siglongjmp(ex->run.out, 1);
@@ -36,9 +37,9 @@ static unsigned follow(unsigned count, bool is_switch, int stays)
     if (ex->path.depth == ex->path.length) {
         *node = (Node){.count = (uint8_t)count, .is_switch = is_switch, .key = is_switch && ex->search.is_reduced ? node->key : 0, .able = ex->run.able, .place = (uint32_t)ex->schedule.length};
         ex->path.length++;
-    } else if (node->count != count) {
-        ex_found(CRASH, "NOT REPEATABLE: the same schedule came to another choice");
-        siglongjmp(ex->run.out, 1);
+        node->stands = stands;
+    } else if (node->count != count || (node->stands && node->stands != stands)) {
+        ex_stop_at("LIMIT: the same schedule came to another choice: the driver goes by what this doesn't put back, as by the processor's clock or by random numbers", "the driver doesn't repeat itself");
     }
     ex->path.depth++;
     note_deviation(node->taken);
@@ -58,7 +59,38 @@ bool ex_advance(void)
     return false;
 }
 
-/* ---- A schedule in words: a*5 d*13 fail a b*2. */
+/* ---- A schedule in words: a*5 d*13 fail a b*2. What is no client in it is a sign. */
+static const struct {
+    Asks asks;
+    uint8_t sign;
+    const char *name;
+} signs[] = {{ANSWER_FAIL, FAIL, "fail"}, {ANSWER_INSIDE, INSIDE, "inside"}, {ANSWER_LATE, LATE, "late"}, {ANSWER_SEEN, SEEN, "seen"}};
+enum { SIGNS = sizeof signs / sizeof signs[0] };
+
+uint8_t ex_sign_of(Asks asks)
+{
+    for (size_t at = 0; at < SIGNS; at++)
+        if (signs[at].asks == asks)
+            return signs[at].sign;
+    return 0;
+}
+
+const char *ex_sign_name(uint8_t sign)
+{
+    for (size_t at = 0; at < SIGNS; at++)
+        if (signs[at].sign == sign)
+            return signs[at].name;
+    return NULL;
+}
+
+uint8_t ex_sign_named(const char *name, size_t length)
+{
+    for (size_t at = 0; at < SIGNS; at++)
+        if (strlen(signs[at].name) == length && strncmp(signs[at].name, name, length) == 0)
+            return signs[at].sign;
+    return 0;
+}
+
 static bool word_is(const char *word, size_t length, const char *name)
 {
     return strlen(name) == length && strncmp(word, name, length) == 0;
@@ -93,7 +125,7 @@ static unsigned play_again(unsigned count, Asks asks, const int *clients)
     if (!*word)
         return 0;
     if (asks != SWITCH) {
-        bool is_it = word_is(word, length, asks == ANSWER_INSIDE ? "inside" : "fail");
+        bool is_it = ex_sign_named(word, length) == ex_sign_of(asks);
         if (is_it)
             take_word(word);
         return is_it;
@@ -163,7 +195,7 @@ unsigned ex_decide(unsigned count, Asks asks, const int *clients, bool may_stay)
 static size_t in_a_row(size_t at, size_t length)
 {
     size_t end = at + 1;
-    while (end < length && ex->schedule.steps[end] == ex->schedule.steps[at] && ex->schedule.steps[at] < INSIDE)
+    while (end < length && ex->schedule.steps[end] == ex->schedule.steps[at] && ex->schedule.steps[at] < FIRST_SIGN)
         end++;
     return end - at;
 }
@@ -176,7 +208,7 @@ const char *ex_schedule_text(size_t length)
     for (size_t at = 0; at < length && used + 64 < size; at += count) {
         uint8_t client = ex->schedule.steps[at];
         count = in_a_row(at, length);
-        used += (size_t)snprintf(text + used, size - used, at ? " %s" : "%s", client == FAIL ? "fail" : client == INSIDE ? "inside" : ex_runners[client].name);
+        used += (size_t)snprintf(text + used, size - used, at ? " %s" : "%s", ex_sign_name(client) ? ex_sign_name(client) : ex_runners[client].name);
         if (count > 1)
             used += (size_t)snprintf(text + used, size - used, "*%zu", count);
     }

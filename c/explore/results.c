@@ -2,20 +2,24 @@
 #include "explore.h"
 
 #include <stdlib.h>
+#include <sys/mman.h>
+#include <sys/stat.h>
 
 enum { LINE = 1 << 17 };
 
 /* ---- What is searched, so that nothing else is added to it. */
 static uint64_t file_hash(const char *path)
 {
-    static uint8_t bytes[1 << 16];
+    enum { PIECE = 1 << 16 };
+    uint8_t *bytes = ex_map(PIECE); /* the kernel writes there: it is no memory that is put back */
     uint64_t hash = 0;
     size_t got;
     FILE *file = fopen(path, "r");
-    while (file && (got = fread(bytes, 1, sizeof bytes, file)) > 0)
+    while (file && (got = fread(bytes, 1, PIECE, file)) > 0)
         hash = ex_mixed(hash + 1) ^ ex_bytes_hash(bytes, got, 1);
     if (file)
         fclose(file);
+    munmap(bytes, PIECE);
     return hash;
 }
 
@@ -62,32 +66,56 @@ static void put_path(FILE *to)
     putc('\n', to);
 }
 
-/* 0, or 3 if it can't be written. The file is whole at any time. */
+static void put_search(FILE *to)
+{
+    fprintf(to, "kazdrin search 1\n");
+    put_text(to, "search", ex->search.name);
+    fprintf(to, "shard %u %u\nwhole %d\nreduced %d\n", ex->search.shard, ex->search.shards ? ex->search.shards : 1, ex->total.is_whole, ex->search.is_reduced);
+    if (ex->total.unknown)
+        put_text(to, "unknown", ex->total.unknown);
+    if (ex->total.full)
+        put_text(to, "full", ex->total.full);
+    for (int at = 0; at < ex->total.counted_count; at++)
+        put_numbers(to, &ex->total.counted[at]);
+    ex_write_asked(to);
+    for (int at = 0; at < ex->kinds.count; at++)
+        put_kind(to, &ex->kinds.all[at]);
+    if (ex->total.is_whole)
+        return;
+    Counted now = ex_count_now();
+    fprintf(to, "at ");
+    put_numbers(to, &now);
+    put_path(to);
+}
+
+int ex_end_file(FILE *file, const char *path)
+{
+    bool is_written = file && !ferror(file);
+    if (file && fclose(file) == 0 && is_written)
+        return 0;
+    fprintf(stderr, "%s: can't be written\n", path);
+    return 3;
+}
+
+/* 0, or 3 if it can't be written. A file that is there is whole at any time; a device is no file that another may take the place of. */
 int ex_save(const char *path)
 {
     char beside[4200];
-    snprintf(beside, sizeof beside, "%s.new", path);
+    struct stat there;
+    bool is_file = stat(path, &there) != 0 || S_ISREG(there.st_mode);
+    snprintf(beside, sizeof beside, is_file ? "%s.new" : "%s", path);
     FILE *to = fopen(beside, "w");
-    if (to) {
-        fprintf(to, "kazdrin search 1\n");
-        put_text(to, "search", ex->search.name);
-        fprintf(to, "shard %u %u\nwhole %d\nreduced %d\n", ex->search.shard, ex->search.shards ? ex->search.shards : 1, ex->total.is_whole, ex->search.is_reduced);
-        for (int at = 0; at < ex->total.counted_count; at++)
-            put_numbers(to, &ex->total.counted[at]);
-        for (int at = 0; at < ex->kinds.count; at++)
-            put_kind(to, &ex->kinds.all[at]);
-        if (!ex->total.is_whole) {
-            Counted now = ex_count_now();
-            fprintf(to, "at ");
-            put_numbers(to, &now);
-            put_path(to);
-        }
-    }
-    if (!to || fclose(to) != 0 || rename(beside, path) != 0) {
-        fprintf(stderr, "%s: can't be written\n", path);
+    if (to)
+        put_search(to);
+    if (ex_end_file(to, path) != 0) {
+        if (is_file)
+            remove(beside);
         return 3;
     }
-    return 0;
+    if (!is_file || rename(beside, path) == 0)
+        return 0;
+    fprintf(stderr, "%s: can't be written\n", path);
+    return 3;
 }
 
 /* ---- Reading. */
@@ -160,6 +188,20 @@ typedef struct {
     unsigned shard, shards;
 } Reading;
 
+/* Whether a file is of this search, or, where parts are merged, of the one that the first is of; and of this program: another's places are other lines. */
+static bool is_this(const char *name)
+{
+    const char *program = strstr(name, " program ");
+    char own[64];
+    snprintf(own, sizeof own, " program %016llx", (unsigned long long)file_hash("/proc/self/exe"));
+    if (!ex->search.name[0])
+        snprintf(ex->search.name, sizeof ex->search.name, "%s", name);
+    bool is_own = program && strcmp(program, own) == 0, is_it = is_own && strcmp(ex->search.name, name) == 0;
+    if (!is_it)
+        fprintf(stderr, "this is another search%s: %s\n", is_own ? "" : ", by another program, or by another build of it", name);
+    return is_it;
+}
+
 static void read_line(char *line, Reading *from)
 {
     Counted one = {0};
@@ -190,12 +232,13 @@ static void read_line(char *line, Reading *from)
     } else if (strncmp(line, "path", 4) == 0) {
         from->is_right = read_path(line + 4);
     } else if (strncmp(line, "search ", 7) == 0) {
-        plain(line + 7);
-        if (!ex->search.name[0])
-            snprintf(ex->search.name, sizeof ex->search.name, "%s", line + 7);
-        from->is_right = strcmp(ex->search.name, line + 7) == 0;
-        if (!from->is_right)
-            fprintf(stderr, "this is another search: %s\n", line + 7);
+        from->is_right = is_this(plain(line + 7));
+    } else if (strncmp(line, "unknown ", 8) == 0) {
+        ex->total.unknown = ex_kept(plain(line + 8));
+    } else if (strncmp(line, "full ", 5) == 0) {
+        ex->total.full = ex_kept(plain(line + 5));
+    } else if (strncmp(line, "asked ", 6) == 0) {
+        from->is_right = ex_read_asked(line);
     } else {
         from->is_right = false;
     }

@@ -31,7 +31,7 @@ static bool read_schedule(const char *text)
             if (ex_runners[number].client && strlen(ex_runners[number].name) == length && strncmp(ex_runners[number].name, at, length) == 0)
                 client = (unsigned)number;
         if (!client)
-            client = length == 4 && strncmp(at, "fail", 4) == 0 ? FAIL : INSIDE;
+            client = ex_sign_named(at, length);
         guide->all[guide->count++] = (Segment){(uint8_t)client, times};
     }
     return guide->count > 0;
@@ -48,7 +48,7 @@ unsigned ex_guided(unsigned count, Asks asks, const int *clients)
         return 0;
     const Segment *now = &guide->all[guide->at];
     if (asks != SWITCH) {
-        bool is_it = now->client == (asks == ANSWER_INSIDE ? INSIDE : FAIL);
+        bool is_it = now->client == ex_sign_of(asks);
         guide->done += is_it;
         return is_it;
     }

@@ -49,7 +49,7 @@ static const KzPiece *piece_with(const void *address)
 
 static void describe(const void *address, char *room, size_t size)
 {
-    static const char *const kinds[] = {"a pool", "a context", "a name", "a buffer", "callback data"};
+    static const char *const kinds[] = {[KZK_POOL] = "a pool", [KZK_CONTEXT] = "a context", [KZK_NAME] = "a name", [KZK_BUFFER] = "a buffer", [KZK_CALLER] = "a caller's buffer", [KZK_DATA] = "callback data"};
     const KzPiece *piece = piece_with(address);
     char tag[8];
     if (ex_is_program(address))

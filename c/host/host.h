@@ -39,7 +39,8 @@ typedef enum {
     KZ_IN_CANCEL,
     KZ_IN_NOTIFY,
     KZ_IN_COMPLETION,
-    KZ_IN_DISPATCH
+    KZ_IN_DISPATCH,
+    KZ_IN_NAME
 } KzCallback;
 
 typedef struct KzOp KzOp;
@@ -90,6 +91,9 @@ struct _FLT_VOLUME {
     FLT_FILESYSTEM_TYPE type;
     USHORT sector;
     bool is_read_only, is_snapshot;
+    SHARE_ACCESS share;           /* of those that opened the volume itself */
+    const struct KzFile *locker;  /* by FSCTL_LOCK_VOLUME; NULL if nobody has locked it */
+    bool is_to_go;                /* FSCTL_DISMOUNT_VOLUME was sent: it goes with that handle */
     bool has_moved; /* a name isn't its file's key any more */
     bool is_case_sensitive; /* names that differ by it alone are two */
 };
@@ -122,6 +126,7 @@ typedef struct KzFile {
     bool is_by_key;      /* it is opened by its key, whatever the names are */
     uint8_t cached;      /* formats in which its name was asked for while its create was under way, a bit each */
     bool is_counted;     /* among its file's open handles */
+    bool is_volume;      /* it is of the volume itself, whose file is the root here */
     bool is_posix;       /* a deletion takes its name away with the handle's cleanup */
     bool is_sharing;     /* it counts in its file's share access */
     ACCESS_MASK access;  /* that its create was granted */
@@ -152,6 +157,7 @@ typedef struct {
     LONGLONG passed;  /* since the run began, in units of 100 nanoseconds */
     ULONG uuids;      /* that were made */
     /* What each module keeps of a run: a structure that its own file knows, made as the run begins and zero. */
+    struct KzAccessState *access;
     struct KzContextState *context;
     struct KzDeviceState *device;
     struct KzDpcState *dpc;
@@ -160,6 +166,7 @@ typedef struct {
     struct KzHeldState *held;
     struct KzKeptState *kept;
     struct KzLabelState *label;
+    struct KzLentState *lent;
     struct KzMadeState *made;
     struct KzNameState *name;
     struct KzNodeState *node;

@@ -152,6 +152,13 @@ void kz_open_absent(uint64_t address)
     }
 }
 
+bool kz_may_read(const KzImage *image, const KzSection *section)
+{
+    if (is_paged(image, section))
+        set_closed(false);
+    return !(image->is_entered && is_initial(image, section));
+}
+
 static void tell_paged(const KzSection *section, bool is_run)
 {
     kz_tell(KZM_IRQL, section->name, "%s at IRQL %u, and the section can be paged out", is_run ? "its code runs" : "it is touched", kz_irql());

@@ -13,6 +13,8 @@ bool kz_is_back(uint64_t address, bool is_write, bool is_run);
 /* The driver touched it, at that place of its code: it is told, and is there again. */
 void kz_tell_absent(uint64_t address, uint64_t rip);
 void kz_open_absent(uint64_t address);
+/* Whether the host can read it now. What was paged out is there again; what is gone isn't. */
+bool kz_may_read(const KzImage *image, const KzSection *section);
 /* Sections are there or not as the variables say that the explorer put back. */
 void kz_close_absent(void);
 /* An access that the explorer sees: of a section that can be paged out, and that the driver writes. */

@@ -109,13 +109,13 @@ static void open_again(const KzDriver *driver)
     }
 }
 
-/* The variables of all images, a section each. */
+/* The variables of all images, a section each: those that are there. */
 static bool find_data(unsigned at, char **start, char **end)
 {
     for (const KzImage *image = images; image; image = image->next)
         for (unsigned one = 0; one < image->headers.sections_count; one++) {
             const KzSection *section = &image->headers.sections[one];
-            if (!section->is_written || at--)
+            if (!section->is_written || !kz_may_read(image, section) || at--)
                 continue;
             *start = (char *)image->bytes.start + section->at;
             *end = *start + section->size;
@@ -210,6 +210,7 @@ const KzImage *kz_load_image(const char *path, KzRefusal *why)
     images = image;
     kz_binaries.open = open_again;
     kz_binaries.data = find_data;
+    kz_binaries.find_routine = kz_find_export;
     kz_binaries.watch = kz_watch_binaries;
     kz_watch_faults();
     kz_watch_absent();

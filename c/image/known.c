@@ -25,12 +25,9 @@ bool kz_is_known(const char *name)
 
 const char *kz_nearest_known(const char *name)
 {
-    const char *best = NULL, *one;
-    size_t far = NEAR + 1;
-    for (size_t at = 0; (one = at < COUNT ? known[at] : kz_export_at(at - COUNT)); at++) {
-        size_t own = kz_letters_apart(name, one);
-        best = own < far ? one : best;
-        far = own < far ? own : far;
-    }
-    return best;
+    KzNear near = kz_near(name);
+    const char *one;
+    for (size_t at = 0; (one = at < COUNT ? known[at] : kz_export_at(at - COUNT)); at++)
+        kz_try_near(&near, one);
+    return near.best;
 }

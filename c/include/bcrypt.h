@@ -1,4 +1,4 @@
-/* Cryptography: declared, and not modelled. Each routine answers STATUS_NOT_SUPPORTED, and tells a LIMIT with its name. */
+/* Cryptography: digests and their HMAC, keys from passwords, AES by CBC, ECB and GCM, and numbers, by libcrypto where that is on the machine. What else there is answers STATUS_NOT_SUPPORTED, and tells a LIMIT. */
 #ifndef KZ_BCRYPT_H
 #define KZ_BCRYPT_H
 
@@ -23,7 +23,12 @@ typedef struct _BCRYPT_AUTHENTICATED_CIPHER_MODE_INFO {
     ULONGLONG cbData;
     ULONG dwFlags;
 } BCRYPT_AUTHENTICATED_CIPHER_MODE_INFO, *PBCRYPT_AUTHENTICATED_CIPHER_MODE_INFO;
+typedef struct __BCRYPT_KEY_LENGTHS_STRUCT {
+    ULONG dwMinLength, dwMaxLength, dwIncrement;
+} BCRYPT_KEY_LENGTHS_STRUCT, BCRYPT_AUTH_TAG_LENGTHS_STRUCT;
 #define BCRYPT_AUTHENTICATED_CIPHER_MODE_INFO_VERSION 1
+#define BCRYPT_AUTH_MODE_CHAIN_CALLS_FLAG 0x00000001
+#define BCRYPT_AUTH_MODE_IN_PROGRESS_FLAG 0x00000002
 #define BCRYPT_INIT_AUTH_MODE_INFO(info) \
     (RtlZeroMemory(&(info), sizeof(info)), (info).cbSize = sizeof(info), (info).dwInfoVersion = BCRYPT_AUTHENTICATED_CIPHER_MODE_INFO_VERSION)
 #define BCRYPT_SUCCESS(status) ((NTSTATUS)(status) >= 0)
@@ -37,6 +42,7 @@ typedef struct _BCRYPT_AUTHENTICATED_CIPHER_MODE_INFO {
 #define BCRYPT_AES_ALGORITHM L"AES"
 #define BCRYPT_SHA1_ALGORITHM L"SHA1"
 #define BCRYPT_SHA256_ALGORITHM L"SHA256"
+#define BCRYPT_SHA384_ALGORITHM L"SHA384"
 #define BCRYPT_SHA512_ALGORITHM L"SHA512"
 #define BCRYPT_MD5_ALGORITHM L"MD5"
 #define BCRYPT_RNG_ALGORITHM L"RNG"
@@ -49,10 +55,45 @@ typedef struct _BCRYPT_AUTHENTICATED_CIPHER_MODE_INFO {
 #define BCRYPT_OBJECT_LENGTH L"ObjectLength"
 #define BCRYPT_BLOCK_LENGTH L"BlockLength"
 #define BCRYPT_HASH_LENGTH L"HashDigestLength"
+#define BCRYPT_HASH_BLOCK_LENGTH L"HashBlockLength"
 #define BCRYPT_KEY_LENGTH L"KeyLength"
+#define BCRYPT_KEY_LENGTHS L"KeyLengths"
+#define BCRYPT_AUTH_TAG_LENGTH L"AuthTagLength"
 #define BCRYPT_KEY_DATA_BLOB L"KeyDataBlob"
 #define BCRYPT_OPAQUE_KEY_BLOB L"OpaqueKeyBlob"
 #define MS_PRIMITIVE_PROVIDER L"Microsoft Primitive Provider"
+#define BCRYPT_MD5_ALG_HANDLE ((BCRYPT_ALG_HANDLE)0x00000021)
+#define BCRYPT_SHA1_ALG_HANDLE ((BCRYPT_ALG_HANDLE)0x00000031)
+#define BCRYPT_SHA256_ALG_HANDLE ((BCRYPT_ALG_HANDLE)0x00000041)
+#define BCRYPT_SHA384_ALG_HANDLE ((BCRYPT_ALG_HANDLE)0x00000051)
+#define BCRYPT_SHA512_ALG_HANDLE ((BCRYPT_ALG_HANDLE)0x00000061)
+#define BCRYPT_RNG_ALG_HANDLE ((BCRYPT_ALG_HANDLE)0x00000081)
+#define BCRYPT_HMAC_MD5_ALG_HANDLE ((BCRYPT_ALG_HANDLE)0x00000091)
+#define BCRYPT_HMAC_SHA1_ALG_HANDLE ((BCRYPT_ALG_HANDLE)0x000000a1)
+#define BCRYPT_HMAC_SHA256_ALG_HANDLE ((BCRYPT_ALG_HANDLE)0x000000b1)
+#define BCRYPT_HMAC_SHA384_ALG_HANDLE ((BCRYPT_ALG_HANDLE)0x000000c1)
+#define BCRYPT_HMAC_SHA512_ALG_HANDLE ((BCRYPT_ALG_HANDLE)0x000000d1)
+#define BCRYPT_AES_CBC_ALG_HANDLE ((BCRYPT_ALG_HANDLE)0x000001a1)
+#define BCRYPT_AES_ECB_ALG_HANDLE ((BCRYPT_ALG_HANDLE)0x000001b1)
+#define BCRYPT_AES_GCM_ALG_HANDLE ((BCRYPT_ALG_HANDLE)0x000001e1)
+
+NTSTATUS BCryptOpenAlgorithmProvider(BCRYPT_ALG_HANDLE *phAlgorithm, LPCWSTR pszAlgId, LPCWSTR pszImplementation, ULONG dwFlags);
+NTSTATUS BCryptCloseAlgorithmProvider(BCRYPT_ALG_HANDLE hAlgorithm, ULONG dwFlags);
+NTSTATUS BCryptGetProperty(BCRYPT_HANDLE hObject, LPCWSTR pszProperty, PUCHAR pbOutput, ULONG cbOutput, ULONG *pcbResult, ULONG dwFlags);
+NTSTATUS BCryptSetProperty(BCRYPT_HANDLE hObject, LPCWSTR pszProperty, PUCHAR pbInput, ULONG cbInput, ULONG dwFlags);
+NTSTATUS BCryptGenerateSymmetricKey(BCRYPT_ALG_HANDLE hAlgorithm, BCRYPT_KEY_HANDLE *phKey, PUCHAR pbKeyObject, ULONG cbKeyObject, PUCHAR pbSecret, ULONG cbSecret, ULONG dwFlags);
+NTSTATUS BCryptImportKey(BCRYPT_ALG_HANDLE hAlgorithm, BCRYPT_KEY_HANDLE hImportKey, LPCWSTR pszBlobType, BCRYPT_KEY_HANDLE *phKey, PUCHAR pbKeyObject, ULONG cbKeyObject, PUCHAR pbInput, ULONG cbInput, ULONG dwFlags);
+NTSTATUS BCryptEncrypt(BCRYPT_KEY_HANDLE hKey, PUCHAR pbInput, ULONG cbInput, VOID *pPaddingInfo, PUCHAR pbIV, ULONG cbIV, PUCHAR pbOutput, ULONG cbOutput, ULONG *pcbResult, ULONG dwFlags);
+NTSTATUS BCryptDecrypt(BCRYPT_KEY_HANDLE hKey, PUCHAR pbInput, ULONG cbInput, VOID *pPaddingInfo, PUCHAR pbIV, ULONG cbIV, PUCHAR pbOutput, ULONG cbOutput, ULONG *pcbResult, ULONG dwFlags);
+NTSTATUS BCryptDestroyKey(BCRYPT_KEY_HANDLE hKey);
+NTSTATUS BCryptGenRandom(BCRYPT_ALG_HANDLE hAlgorithm, PUCHAR pbBuffer, ULONG cbBuffer, ULONG dwFlags);
+NTSTATUS BCryptCreateHash(BCRYPT_ALG_HANDLE hAlgorithm, BCRYPT_HASH_HANDLE *phHash, PUCHAR pbHashObject, ULONG cbHashObject, PUCHAR pbSecret, ULONG cbSecret, ULONG dwFlags);
+NTSTATUS BCryptDuplicateHash(BCRYPT_HASH_HANDLE hHash, BCRYPT_HASH_HANDLE *phNewHash, PUCHAR pbHashObject, ULONG cbHashObject, ULONG dwFlags);
+NTSTATUS BCryptHashData(BCRYPT_HASH_HANDLE hHash, PUCHAR pbInput, ULONG cbInput, ULONG dwFlags);
+NTSTATUS BCryptFinishHash(BCRYPT_HASH_HANDLE hHash, PUCHAR pbOutput, ULONG cbOutput, ULONG dwFlags);
+NTSTATUS BCryptDestroyHash(BCRYPT_HASH_HANDLE hHash);
+NTSTATUS BCryptHash(BCRYPT_ALG_HANDLE hAlgorithm, PUCHAR pbSecret, ULONG cbSecret, PUCHAR pbInput, ULONG cbInput, PUCHAR pbOutput, ULONG cbOutput);
+NTSTATUS BCryptDeriveKeyPBKDF2(BCRYPT_ALG_HANDLE hPrf, PUCHAR pbPassword, ULONG cbPassword, PUCHAR pbSalt, ULONG cbSalt, ULONGLONG cIterations, PUCHAR pbDerivedKey, ULONG cbDerivedKey, ULONG dwFlags);
 
 #define KZ_ROUTINE(type, answer, message, name, ...) type name(__VA_ARGS__);
 #include <kzbcryptroutines.h>

@@ -595,6 +595,7 @@ KZ_ASSERT(sizeof(FLT_FILE_NAME_INFORMATION) == 0x78, "layout");
 typedef struct _FLT_NAME_CONTROL {
     UNICODE_STRING Name;
 } FLT_NAME_CONTROL, *PFLT_NAME_CONTROL;
+NTSTATUS FltCheckAndGrowNameControl(PFLT_NAME_CONTROL NameCtrl, USHORT NewSize);
 
 NTSTATUS FltGetFileNameInformation(PFLT_CALLBACK_DATA CallbackData, FLT_FILE_NAME_OPTIONS NameOptions, PFLT_FILE_NAME_INFORMATION *FileNameInformation);
 NTSTATUS FltGetFileNameInformationUnsafe(PFILE_OBJECT FileObject, PFLT_INSTANCE Instance, FLT_FILE_NAME_OPTIONS NameOptions,
@@ -1002,6 +1003,7 @@ PTXN_PARAMETER_BLOCK IoGetTransactionParameterBlock(PFILE_OBJECT FileObject);
 VOID FltInitializeOplock(POPLOCK Oplock);
 VOID FltUninitializeOplock(POPLOCK Oplock);
 FLT_PREOP_CALLBACK_STATUS FltOplockFsctrl(POPLOCK Oplock, PFLT_CALLBACK_DATA CallbackData, ULONG OpenCount);
+FLT_PREOP_CALLBACK_STATUS FltOplockFsctrlEx(POPLOCK Oplock, PFLT_CALLBACK_DATA CallbackData, ULONG OpenCount, ULONG Flags);
 FLT_PREOP_CALLBACK_STATUS FltCheckOplock(POPLOCK Oplock, PFLT_CALLBACK_DATA CallbackData, PVOID Context, PVOID WaitCompletionRoutine, PVOID PrePostCallback);
 BOOLEAN FltOplockIsFastIoPossible(POPLOCK Oplock);
 BOOLEAN FltCurrentBatchOplock(POPLOCK Oplock);

@@ -48,6 +48,10 @@ typedef struct {
 
 enum { KZ_LENT_NOTHING, KZ_LENT_PRE, KZ_LENT_BASE, KZ_LENT_POST, KZ_LENT_DRAIN };
 
+/* Where an operation begins, in `kind` of KZE_CREATE to KZE_CLOSE: at the top; below `instance`, whose filter asks for it (InitiatingInstance of FltReadFile and its like), so that
+ * those alone hear it that stand lower; or at the base, where none hears it. */
+enum { KZB_TOP, KZB_BELOW, KZB_BASE };
+
 /* The numbers of events. `bytes` are the text, the body or the data that kazdrin_step is passed. */
 enum {
     KZE_REGISTER = 1,      /* bytes: the name; pre, post, contexts, query, unload */

@@ -1,26 +1,3 @@
-/* Routines of bcrypt.h, which aren't modelled: as kzroutines.h has those of the kernel. */
-KZ_ROUTINE(NTSTATUS, STATUS_NOT_SUPPORTED, CRYPTO, BCryptOpenAlgorithmProvider, BCRYPT_ALG_HANDLE *phAlgorithm, LPCWSTR pszAlgId, LPCWSTR pszImplementation, ULONG dwFlags)
-KZ_ROUTINE(NTSTATUS, STATUS_NOT_SUPPORTED, CRYPTO, BCryptCloseAlgorithmProvider, BCRYPT_ALG_HANDLE hAlgorithm, ULONG dwFlags)
-KZ_ROUTINE(NTSTATUS, STATUS_NOT_SUPPORTED, CRYPTO, BCryptGetProperty, BCRYPT_HANDLE hObject, LPCWSTR pszProperty, PUCHAR pbOutput, ULONG cbOutput, ULONG *pcbResult, ULONG dwFlags)
-KZ_ROUTINE(NTSTATUS, STATUS_NOT_SUPPORTED, CRYPTO, BCryptSetProperty, BCRYPT_HANDLE hObject, LPCWSTR pszProperty, PUCHAR pbInput, ULONG cbInput, ULONG dwFlags)
-KZ_ROUTINE(NTSTATUS, STATUS_NOT_SUPPORTED, CRYPTO, BCryptGenerateSymmetricKey, BCRYPT_ALG_HANDLE hAlgorithm, BCRYPT_KEY_HANDLE *phKey, PUCHAR pbKeyObject, ULONG cbKeyObject, PUCHAR pbSecret,
-           ULONG cbSecret, ULONG dwFlags)
-KZ_ROUTINE(NTSTATUS, STATUS_NOT_SUPPORTED, CRYPTO, BCryptImportKey, BCRYPT_ALG_HANDLE hAlgorithm, BCRYPT_KEY_HANDLE hImportKey, LPCWSTR pszBlobType, BCRYPT_KEY_HANDLE *phKey, PUCHAR pbKeyObject,
-           ULONG cbKeyObject, PUCHAR pbInput, ULONG cbInput, ULONG dwFlags)
+/* Routines of bcrypt.h that aren't modelled: as kzroutines.h has those of the kernel. */
 KZ_ROUTINE(NTSTATUS, STATUS_NOT_SUPPORTED, CRYPTO, BCryptExportKey, BCRYPT_KEY_HANDLE hKey, BCRYPT_KEY_HANDLE hExportKey, LPCWSTR pszBlobType, PUCHAR pbOutput, ULONG cbOutput, ULONG *pcbResult,
            ULONG dwFlags)
-KZ_ROUTINE(NTSTATUS, STATUS_NOT_SUPPORTED, CRYPTO, BCryptEncrypt, BCRYPT_KEY_HANDLE hKey, PUCHAR pbInput, ULONG cbInput, VOID *pPaddingInfo, PUCHAR pbIV, ULONG cbIV, PUCHAR pbOutput, ULONG cbOutput,
-           ULONG *pcbResult, ULONG dwFlags)
-KZ_ROUTINE(NTSTATUS, STATUS_NOT_SUPPORTED, CRYPTO, BCryptDecrypt, BCRYPT_KEY_HANDLE hKey, PUCHAR pbInput, ULONG cbInput, VOID *pPaddingInfo, PUCHAR pbIV, ULONG cbIV, PUCHAR pbOutput, ULONG cbOutput,
-           ULONG *pcbResult, ULONG dwFlags)
-KZ_ROUTINE(NTSTATUS, STATUS_NOT_SUPPORTED, CRYPTO, BCryptDestroyKey, BCRYPT_KEY_HANDLE hKey)
-KZ_ROUTINE(NTSTATUS, STATUS_NOT_SUPPORTED, CRYPTO, BCryptGenRandom, BCRYPT_ALG_HANDLE hAlgorithm, PUCHAR pbBuffer, ULONG cbBuffer, ULONG dwFlags)
-KZ_ROUTINE(NTSTATUS, STATUS_NOT_SUPPORTED, CRYPTO, BCryptCreateHash, BCRYPT_ALG_HANDLE hAlgorithm, BCRYPT_HASH_HANDLE *phHash, PUCHAR pbHashObject, ULONG cbHashObject, PUCHAR pbSecret,
-           ULONG cbSecret, ULONG dwFlags)
-KZ_ROUTINE(NTSTATUS, STATUS_NOT_SUPPORTED, CRYPTO, BCryptDuplicateHash, BCRYPT_HASH_HANDLE hHash, BCRYPT_HASH_HANDLE *phNewHash, PUCHAR pbHashObject, ULONG cbHashObject, ULONG dwFlags)
-KZ_ROUTINE(NTSTATUS, STATUS_NOT_SUPPORTED, CRYPTO, BCryptHashData, BCRYPT_HASH_HANDLE hHash, PUCHAR pbInput, ULONG cbInput, ULONG dwFlags)
-KZ_ROUTINE(NTSTATUS, STATUS_NOT_SUPPORTED, CRYPTO, BCryptFinishHash, BCRYPT_HASH_HANDLE hHash, PUCHAR pbOutput, ULONG cbOutput, ULONG dwFlags)
-KZ_ROUTINE(NTSTATUS, STATUS_NOT_SUPPORTED, CRYPTO, BCryptDestroyHash, BCRYPT_HASH_HANDLE hHash)
-KZ_ROUTINE(NTSTATUS, STATUS_NOT_SUPPORTED, CRYPTO, BCryptHash, BCRYPT_ALG_HANDLE hAlgorithm, PUCHAR pbSecret, ULONG cbSecret, PUCHAR pbInput, ULONG cbInput, PUCHAR pbOutput, ULONG cbOutput)
-KZ_ROUTINE(NTSTATUS, STATUS_NOT_SUPPORTED, CRYPTO, BCryptDeriveKeyPBKDF2, BCRYPT_ALG_HANDLE hPrf, PUCHAR pbPassword, ULONG cbPassword, PUCHAR pbSalt, ULONG cbSalt, ULONGLONG cIterations,
-           PUCHAR pbDerivedKey, ULONG cbDerivedKey, ULONG dwFlags)

@@ -59,6 +59,8 @@ void kz_use_json(bool is);
 void kz_use_junit(const char *path);
 /* Volume 0 is that folder of the host machine from now on: 0 or an errno. */
 int kz_use_folder(const char *path);
+/* So many seconds of the processor's time a callback may take: then the program says where it stands, and ends with status 6. */
+void kz_be_patient(unsigned seconds);
 
 /* How many mistakes and limits were told so far, and how many contexts were born and cleaned up; of a run that was closed, at its end. */
 typedef struct {

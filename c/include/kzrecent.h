@@ -237,7 +237,6 @@ typedef struct _FILE_FS_SECTOR_SIZE_INFORMATION {
 
 /* ---- Processes, images, keys. */
 typedef enum _TOKEN_ELEVATION_TYPE { TokenElevationTypeDefault = 1, TokenElevationTypeFull, TokenElevationTypeLimited } TOKEN_ELEVATION_TYPE, *PTOKEN_ELEVATION_TYPE;
-typedef enum _PSCREATETHREADNOTIFYTYPE { PsCreateThreadNotifyNonSystem = 0, PsCreateThreadNotifySubsystems = 1 } PSCREATETHREADNOTIFYTYPE;
 typedef struct _IMAGE_INFO_EX {
     SIZE_T Size;
     IMAGE_INFO ImageInfo;

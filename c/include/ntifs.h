@@ -694,6 +694,26 @@ KZ_BEGIN
 #define KZ_ROUTINE(type, answer, message, name, ...) type name(__VA_ARGS__);
 #include <kzroutines.h>
 #undef KZ_ROUTINE
+NTSTATUS ZwDeleteKey(HANDLE KeyHandle);
+NTSTATUS ZwOpenProcess(PHANDLE ProcessHandle, ACCESS_MASK DesiredAccess, POBJECT_ATTRIBUTES ObjectAttributes, PCLIENT_ID ClientId);
+NTSTATUS ZwOpenProcessTokenEx(HANDLE ProcessHandle, ACCESS_MASK DesiredAccess, ULONG HandleAttributes, PHANDLE TokenHandle);
+NTSTATUS ZwQueryInformationToken(HANDLE TokenHandle, TOKEN_INFORMATION_CLASS TokenInformationClass, PVOID TokenInformation, ULONG Length, PULONG ResultLength);
+NTSTATUS PsSetCreateThreadNotifyRoutineEx(PSCREATETHREADNOTIFYTYPE NotifyType, PVOID NotifyInformation);
+LONGLONG PsGetProcessCreateTimeQuadPart(PEPROCESS Process);
+NTSTATUS PsGetProcessExitStatus(PEPROCESS Process);
+ULONG PsGetProcessSessionId(PEPROCESS Process);
+BOOLEAN PsIsProtectedProcess(PEPROCESS Process);
+BOOLEAN PsIsProtectedProcessLight(PEPROCESS Process);
+BOOLEAN SeSinglePrivilegeCheck(LUID PrivilegeValue, KPROCESSOR_MODE PreviousMode);
+NTSTATUS SeQueryAuthenticationIdToken(PACCESS_TOKEN Token, PLUID AuthenticationId);
+NTSTATUS SeQuerySessionIdToken(PACCESS_TOKEN Token, PULONG SessionId);
+BOOLEAN SeTokenIsAdmin(PACCESS_TOKEN Token);
+BOOLEAN SeTokenIsRestricted(PACCESS_TOKEN Token);
+NTSTATUS ObQueryNameString(PVOID Object, POBJECT_NAME_INFORMATION ObjectNameInfo, ULONG Length, PULONG ReturnLength);
+NTSTATUS CmCallbackGetKeyObjectID(PLARGE_INTEGER Cookie, PVOID Object, PULONG_PTR ObjectID, PCUNICODE_STRING *ObjectName);
+NTSTATUS CmCallbackGetKeyObjectIDEx(PLARGE_INTEGER Cookie, PVOID Object, PULONG_PTR ObjectID, PCUNICODE_STRING *ObjectName, ULONG Flags);
+VOID CmCallbackReleaseKeyObjectIDEx(PCUNICODE_STRING ObjectName);
+NTSTATUS IoQueryFileDosDeviceName(PFILE_OBJECT FileObject, POBJECT_NAME_INFORMATION *ObjectNameInformation);
 
 /* Registered, and never called. */
 NTSTATUS ObRegisterCallbacks(POB_CALLBACK_REGISTRATION CallbackRegistration, PVOID *RegistrationHandle);

@@ -191,17 +191,40 @@ static FLT_PREOP_CALLBACK_STATUS CipherPreRead(_Inout_ PFLT_CALLBACK_DATA Data, 
     return FLT_PREOP_SUCCESS_WITH_CALLBACK;
 }
 
+/* What was read is turned into the memory that an MDL describes: the caller's own may not be touched at DISPATCH_LEVEL, nor in another process. */
+static VOID CipherTurnRead(_Inout_ PFLT_CALLBACK_DATA Data, _In_ PCIPHER_SWAP Swap, _In_ NTSTATUS Status)
+{
+    PVOID original = NT_SUCCESS(Status) ? MmGetSystemAddressForMdlSafe(Data->Iopb->Parameters.Read.MdlAddress, NormalPagePriority) : NULL;
+
+    if (original != NULL) {
+        CipherTurn(original, Swap->Buffer, Data->IoStatus.Information, Swap->Offset, Swap->Context->Key);
+    } else {
+        Data->IoStatus.Status = NT_SUCCESS(Status) ? STATUS_INSUFFICIENT_RESOURCES : Status;
+        Data->IoStatus.Information = 0;
+    }
+}
+
+static FLT_POSTOP_CALLBACK_STATUS CipherPostReadWhenSafe(_Inout_ PFLT_CALLBACK_DATA Data, _In_ PCFLT_RELATED_OBJECTS FltObjects, _In_opt_ PVOID CompletionContext,
+                                                         _In_ FLT_POST_OPERATION_FLAGS Flags)
+{
+    UNREFERENCED_PARAMETER(FltObjects);
+    UNREFERENCED_PARAMETER(Flags);
+    CipherTurnRead(Data, CompletionContext, FltLockUserBuffer(Data));
+    CipherFreeSwap(CompletionContext);
+    return FLT_POSTOP_FINISHED_PROCESSING;
+}
+
 static FLT_POSTOP_CALLBACK_STATUS CipherPostRead(_Inout_ PFLT_CALLBACK_DATA Data, _In_ PCFLT_RELATED_OBJECTS FltObjects, _In_opt_ PVOID CompletionContext,
                                                  _In_ FLT_POST_OPERATION_FLAGS Flags)
 {
     PCIPHER_SWAP swap = CompletionContext;
-    PFLT_IO_PARAMETER_BLOCK iopb = Data->Iopb;
-    PVOID original;
+    FLT_POSTOP_CALLBACK_STATUS status = FLT_POSTOP_FINISHED_PROCESSING;
 
-    UNREFERENCED_PARAMETER(FltObjects);
     if (!FlagOn(Flags, FLTFL_POST_OPERATION_DRAINING) && NT_SUCCESS(Data->IoStatus.Status) && Data->IoStatus.Information != 0) {
-        original = iopb->Parameters.Read.MdlAddress != NULL ? MmGetSystemAddressForMdlSafe(iopb->Parameters.Read.MdlAddress, NormalPagePriority) : iopb->Parameters.Read.ReadBuffer;
-        CipherTurn(original, swap->Buffer, Data->IoStatus.Information, swap->Offset, swap->Context->Key);
+        if (Data->Iopb->Parameters.Read.MdlAddress == NULL && FltDoCompletionProcessingWhenSafe(Data, FltObjects, CompletionContext, Flags, CipherPostReadWhenSafe, &status)) {
+            return status;
+        }
+        CipherTurnRead(Data, swap, Data->Iopb->Parameters.Read.MdlAddress != NULL ? STATUS_SUCCESS : STATUS_UNSUCCESSFUL);
     }
     CipherFreeSwap(swap);
     return FLT_POSTOP_FINISHED_PROCESSING;

@@ -92,6 +92,37 @@ static NTSTATUS ControlDevice(PDEVICE_OBJECT DeviceObject, PIRP Irp)
     }
 }
 
+/* Counts need no IRP: they are given in the program's own buffer, which may be gone. Anything else comes again as an IRP. */
+static BOOLEAN ControlFast(PFILE_OBJECT FileObject, BOOLEAN Wait, PVOID InputBuffer, ULONG InputBufferLength, PVOID OutputBuffer, ULONG OutputBufferLength, ULONG IoControlCode,
+                           PIO_STATUS_BLOCK IoStatus, PDEVICE_OBJECT DeviceObject)
+{
+    CONTROL_COUNTS counts;
+
+    UNREFERENCED_PARAMETER(FileObject);
+    UNREFERENCED_PARAMETER(Wait);
+    UNREFERENCED_PARAMETER(InputBuffer);
+    UNREFERENCED_PARAMETER(InputBufferLength);
+    UNREFERENCED_PARAMETER(DeviceObject);
+    if (IoControlCode != IOCTL_CONTROL_COUNTS || OutputBufferLength < sizeof(CONTROL_COUNTS)) {
+        return FALSE;
+    }
+    ExAcquireFastMutex(&gLock);
+    counts = gCounts;
+    ExReleaseFastMutex(&gLock);
+    IoStatus->Status = STATUS_SUCCESS;
+    IoStatus->Information = sizeof(CONTROL_COUNTS);
+    try {
+        ProbeForWrite(OutputBuffer, sizeof(CONTROL_COUNTS), sizeof(ULONG));
+        *(PCONTROL_COUNTS)OutputBuffer = counts;
+    } except (EXCEPTION_EXECUTE_HANDLER) {
+        IoStatus->Status = GetExceptionCode();
+        IoStatus->Information = 0;
+    }
+    return TRUE;
+}
+
+static FAST_IO_DISPATCH gFastIo = {.SizeOfFastIoDispatch = sizeof(FAST_IO_DISPATCH), .FastIoDeviceControl = ControlFast};
+
 static NTSTATUS CreateControlDevice(PDRIVER_OBJECT DriverObject)
 {
     NTSTATUS status = IoCreateDevice(DriverObject, 0, &gDeviceName, FILE_DEVICE_UNKNOWN, FILE_DEVICE_SECURE_OPEN, FALSE, &gDevice);
@@ -103,6 +134,7 @@ static NTSTATUS CreateControlDevice(PDRIVER_OBJECT DriverObject)
     DriverObject->MajorFunction[IRP_MJ_CLEANUP] = ControlCleanup;
     DriverObject->MajorFunction[IRP_MJ_CLOSE] = ControlClose;
     DriverObject->MajorFunction[IRP_MJ_DEVICE_CONTROL] = ControlDevice;
+    DriverObject->FastIoDispatch = &gFastIo;
     status = IoCreateSymbolicLink(&gLinkName, &gDeviceName);
     if (!NT_SUCCESS(status)) {
         IoDeleteDevice(gDevice);

@@ -59,7 +59,7 @@ static NTSTATUS CtxCreateStreamContext(_In_ PFLT_CALLBACK_DATA Data, _Outptr_ PC
     PCTX_STREAM_CONTEXT streamContext;
     PFLT_FILE_NAME_INFORMATION nameInfo;
 
-    status = FltAllocateContext(gFilterHandle, FLT_STREAM_CONTEXT, sizeof(CTX_STREAM_CONTEXT), PagedPool, (PFLT_CONTEXT *)&streamContext);
+    status = FltAllocateContext(gFilterHandle, FLT_STREAM_CONTEXT, sizeof(CTX_STREAM_CONTEXT), NonPagedPoolNx, (PFLT_CONTEXT *)&streamContext);
     if (!NT_SUCCESS(status)) {
         return status;
     }

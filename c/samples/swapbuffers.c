@@ -145,21 +145,55 @@ static FLT_PREOP_CALLBACK_STATUS SwapPreReadBuffers(_Inout_ PFLT_CALLBACK_DATA D
     return FLT_PREOP_SUCCESS_WITH_CALLBACK;
 }
 
+/* Below DISPATCH_LEVEL, in any process: the caller's pages are locked first. */
+static FLT_POSTOP_CALLBACK_STATUS SwapPostReadBuffersWhenSafe(_Inout_ PFLT_CALLBACK_DATA Data, _In_ PCFLT_RELATED_OBJECTS FltObjects,
+                                                              _In_ PVOID CompletionContext, _In_ FLT_POST_OPERATION_FLAGS Flags)
+{
+    PFLT_IO_PARAMETER_BLOCK iopb = Data->Iopb;
+    PPRE_2_POST_CONTEXT p2pCtx = CompletionContext;
+    NTSTATUS status = FltLockUserBuffer(Data);
+    PVOID origBuf = NULL;
+
+    UNREFERENCED_PARAMETER(FltObjects);
+    UNREFERENCED_PARAMETER(Flags);
+
+    if (NT_SUCCESS(status)) {
+        origBuf = MmGetSystemAddressForMdlSafe(iopb->Parameters.Read.MdlAddress, NormalPagePriority);
+        status = STATUS_INSUFFICIENT_RESOURCES;
+    }
+    if (origBuf != NULL) {
+        TurnBytes(origBuf, p2pCtx->SwappedBuffer, Data->IoStatus.Information);
+    } else {
+        Data->IoStatus.Status = status;
+        Data->IoStatus.Information = 0;
+    }
+    LetGo(p2pCtx);
+    return FLT_POSTOP_FINISHED_PROCESSING;
+}
+
 static FLT_POSTOP_CALLBACK_STATUS SwapPostReadBuffers(_Inout_ PFLT_CALLBACK_DATA Data, _In_ PCFLT_RELATED_OBJECTS FltObjects,
                                                       _In_ PVOID CompletionContext, _In_ FLT_POST_OPERATION_FLAGS Flags)
 {
     PFLT_IO_PARAMETER_BLOCK iopb = Data->Iopb;
     PPRE_2_POST_CONTEXT p2pCtx = CompletionContext;
+    FLT_POSTOP_CALLBACK_STATUS status = FLT_POSTOP_FINISHED_PROCESSING;
     PVOID origBuf;
-
-    UNREFERENCED_PARAMETER(FltObjects);
 
     if (!FlagOn(Flags, FLTFL_POST_OPERATION_DRAINING)) {
         InterlockedIncrement(&p2pCtx->VolCtx->Reads);
         if (NT_SUCCESS(Data->IoStatus.Status) && Data->IoStatus.Information != 0) {
-            origBuf = iopb->Parameters.Read.MdlAddress != NULL ? MmGetSystemAddressForMdlSafe(iopb->Parameters.Read.MdlAddress, NormalPagePriority)
-                                                               : iopb->Parameters.Read.ReadBuffer;
-            TurnBytes(origBuf, p2pCtx->SwappedBuffer, Data->IoStatus.Information);
+            if (iopb->Parameters.Read.MdlAddress == NULL) {
+                if (FltDoCompletionProcessingWhenSafe(Data, FltObjects, CompletionContext, Flags, SwapPostReadBuffersWhenSafe, &status)) {
+                    return status;
+                }
+                Data->IoStatus.Status = STATUS_UNSUCCESSFUL;
+                Data->IoStatus.Information = 0;
+            } else if ((origBuf = MmGetSystemAddressForMdlSafe(iopb->Parameters.Read.MdlAddress, NormalPagePriority)) != NULL) {
+                TurnBytes(origBuf, p2pCtx->SwappedBuffer, Data->IoStatus.Information);
+            } else {
+                Data->IoStatus.Status = STATUS_INSUFFICIENT_RESOURCES;
+                Data->IoStatus.Information = 0;
+            }
         }
     }
     LetGo(p2pCtx);

@@ -27,8 +27,36 @@ static Link *waiting_for(uint64_t operation)
     return at < all_count ? &all[at] : NULL;
 }
 
+static bool is_ascii(const uint8_t *bytes, size_t length)
+{
+    size_t at = 0;
+    while (at < length && bytes[at] < 0x80)
+        at++;
+    return at == length;
+}
+
+/* The names of a list that a frame may have: a path has no letters beyond ASCII there. */
+static size_t ascii_names(uint8_t *room, const uint8_t *bytes, size_t length)
+{
+    size_t used = 0;
+    for (size_t from = 0, count; from < length; from += count) {
+        const uint8_t *end = memchr(bytes + from, '\n', length - from);
+        count = end ? (size_t)(end - bytes) + 1 - from : length - from;
+        if (!is_ascii(bytes + from, count))
+            continue;
+        memcpy(room + used, bytes + from, count);
+        used += count;
+    }
+    return used;
+}
+
 static void finish(Link *link, KzReply reply, const uint8_t *bytes, size_t length)
 {
+    uint8_t names[KZ_BYTES];
+    if (link->code == FRAME_LIST && length <= sizeof names && !is_ascii(bytes, length)) {
+        length = reply.information = ascii_names(names, bytes, length);
+        bytes = names;
+    }
     if (link->code == FRAME_CREATE && reply.status == KZS_OK)
         link_add(link, reply.information);
     if (link->code == FRAME_CLOSE && reply.status == KZS_OK)
@@ -137,13 +165,14 @@ static uint32_t load(const Frame *frame, uint64_t *number)
 static uint32_t attach(const Frame *frame, uint64_t *number)
 {
     char name[33], altitude[65];
+    NTSTATUS said;
     copy_text(name, frame->text, frame->text_length);
     copy_text(altitude, frame->altitude, frame->altitude_length);
     if (frame->filter >= kz.filters_count)
         return KZS_NO_FILTER;
     if (frame->volume >= kz.volumes_count)
         return KZS_NO_VOLUME;
-    return kz_attach(kz.filters[frame->filter], kz.volumes[frame->volume], name, altitude, FLTFL_INSTANCE_SETUP_MANUAL_ATTACHMENT, number);
+    return kz_attach(kz.filters[frame->filter], kz.volumes[frame->volume], name, altitude, FLTFL_INSTANCE_SETUP_MANUAL_ATTACHMENT, number, &said);
 }
 
 static bool is_anybody_waiting(void)

@@ -58,6 +58,10 @@ typedef struct _CRITICAL_SECTION {
     PVOID Owner;
     LONG Count;
 } CRITICAL_SECTION, *PCRITICAL_SECTION, *LPCRITICAL_SECTION;
+typedef struct _RTL_SRWLOCK {
+    PVOID Ptr;
+} SRWLOCK, *PSRWLOCK;
+#define SRWLOCK_INIT {0}
 
 /* ---- Errors. */
 #define ERROR_SUCCESS 0L
@@ -157,6 +161,78 @@ void EnterCriticalSection(LPCRITICAL_SECTION Section);
 BOOL TryEnterCriticalSection(LPCRITICAL_SECTION Section);
 void LeaveCriticalSection(LPCRITICAL_SECTION Section);
 void DeleteCriticalSection(LPCRITICAL_SECTION Section);
+void InitializeSRWLock(PSRWLOCK Lock);
+void AcquireSRWLockExclusive(PSRWLOCK Lock);
+void AcquireSRWLockShared(PSRWLOCK Lock);
+BOOLEAN TryAcquireSRWLockExclusive(PSRWLOCK Lock);
+BOOLEAN TryAcquireSRWLockShared(PSRWLOCK Lock);
+void ReleaseSRWLockExclusive(PSRWLOCK Lock);
+void ReleaseSRWLockShared(PSRWLOCK Lock);
+
+/* ---- Other processes. */
+#define PROCESS_TERMINATE 0x0001
+#define PROCESS_VM_READ 0x0010
+#define PROCESS_VM_WRITE 0x0020
+#define PROCESS_QUERY_INFORMATION 0x0400
+#define PROCESS_QUERY_LIMITED_INFORMATION 0x1000
+HANDLE OpenProcess(DWORD Access, BOOL Inherits, DWORD ProcessId);
+DWORD GetProcessId(HANDLE Process);
+BOOL TerminateProcess(HANDLE Process, UINT ExitCode);
+
+/* ---- The registry: keys below HKEY_LOCAL_MACHINE. */
+typedef HANDLE HKEY, *PHKEY;
+typedef DWORD REGSAM;
+typedef LONG LSTATUS;
+#define HKEY_LOCAL_MACHINE ((HKEY)(LONG_PTR)(LONG)0x80000002)
+#ifndef REG_SZ
+#define REG_SZ 1
+#define REG_BINARY 3
+#define REG_DWORD 4
+#endif
+#ifndef KEY_READ
+#define KEY_READ 0x20019
+#define KEY_WRITE 0x20006
+#define KEY_ALL_ACCESS 0xf003f
+#endif
+LSTATUS RegOpenKeyExW(HKEY Key, LPCWSTR Name, DWORD Options, REGSAM Access, PHKEY Result);
+LSTATUS RegCreateKeyExW(HKEY Key, LPCWSTR Name, DWORD Reserved, LPWSTR Class, DWORD Options, REGSAM Access, LPSECURITY_ATTRIBUTES Attributes, PHKEY Result, LPDWORD Disposition);
+LSTATUS RegSetValueExW(HKEY Key, LPCWSTR Name, DWORD Reserved, DWORD Type, const BYTE *Data, DWORD Length);
+LSTATUS RegQueryValueExW(HKEY Key, LPCWSTR Name, LPDWORD Reserved, LPDWORD Type, BYTE *Data, LPDWORD Length);
+LSTATUS RegDeleteValueW(HKEY Key, LPCWSTR Name);
+LSTATUS RegCloseKey(HKEY Key);
+
+/* ---- Services: each call is a limit, and fails. */
+typedef HANDLE SC_HANDLE;
+SC_HANDLE OpenSCManagerW(LPCWSTR Machine, LPCWSTR Database, DWORD Access);
+SC_HANDLE OpenServiceW(SC_HANDLE Manager, LPCWSTR Name, DWORD Access);
+BOOL StartServiceW(SC_HANDLE Service, DWORD Count, LPCWSTR *Words);
+BOOL ControlService(SC_HANDLE Service, DWORD Control, LPVOID Status);
+BOOL QueryServiceStatus(SC_HANDLE Service, LPVOID Status);
+BOOL CloseServiceHandle(SC_HANDLE Object);
+BOOL StartServiceCtrlDispatcherW(LPCVOID Table);
+
+/* ---- Locks of bytes, and notices. */
+#define LOCKFILE_FAIL_IMMEDIATELY 1
+#define LOCKFILE_EXCLUSIVE_LOCK 2
+#ifndef FILE_NOTIFY_CHANGE_FILE_NAME
+#define FILE_NOTIFY_CHANGE_FILE_NAME 0x001
+#define FILE_NOTIFY_CHANGE_DIR_NAME 0x002
+#define FILE_NOTIFY_CHANGE_ATTRIBUTES 0x004
+#define FILE_NOTIFY_CHANGE_SIZE 0x008
+#define FILE_NOTIFY_CHANGE_LAST_WRITE 0x010
+#define FILE_ACTION_ADDED 1
+#define FILE_ACTION_REMOVED 2
+#define FILE_ACTION_MODIFIED 3
+typedef struct _FILE_NOTIFY_INFORMATION {
+    DWORD NextEntryOffset, Action, FileNameLength;
+    WCHAR FileName[1];
+} FILE_NOTIFY_INFORMATION, *PFILE_NOTIFY_INFORMATION;
+#endif
+BOOL LockFileEx(HANDLE File, DWORD Flags, DWORD Reserved, DWORD Low, DWORD High, LPOVERLAPPED Overlapped);
+BOOL UnlockFileEx(HANDLE File, DWORD Reserved, DWORD Low, DWORD High, LPOVERLAPPED Overlapped);
+BOOL LockFile(HANDLE File, DWORD OffsetLow, DWORD OffsetHigh, DWORD Low, DWORD High);
+BOOL UnlockFile(HANDLE File, DWORD OffsetLow, DWORD OffsetHigh, DWORD Low, DWORD High);
+BOOL ReadDirectoryChangesW(HANDLE Directory, LPVOID Buffer, DWORD Length, BOOL WatchSubtree, DWORD Filter, LPDWORD Returned, LPOVERLAPPED Overlapped, LPVOID Routine);
 
 /* ---- Completion ports. */
 HANDLE CreateIoCompletionPort(HANDLE File, HANDLE Existing, ULONG_PTR Key, DWORD Threads);
@@ -169,6 +245,16 @@ BOOL CancelIoEx(HANDLE File, LPOVERLAPPED Overlapped);
 
 /* ---- Files. Each call is a request of the program's process, through all filters. */
 #define GENERIC_READ 0x80000000
+#ifndef FILE_LIST_DIRECTORY
+#define FILE_READ_DATA 0x0001
+#define FILE_LIST_DIRECTORY 0x0001
+#define FILE_WRITE_DATA 0x0002
+#define FILE_APPEND_DATA 0x0004
+#define FILE_READ_ATTRIBUTES 0x0080
+#define FILE_WRITE_ATTRIBUTES 0x0100
+#define DELETE 0x00010000
+#define SYNCHRONIZE 0x00100000
+#endif
 #define GENERIC_WRITE 0x40000000
 #define GENERIC_EXECUTE 0x20000000
 #define GENERIC_ALL 0x10000000

@@ -52,6 +52,7 @@ typedef struct {
     const char *(*find_path)(uintptr_t address, unsigned *line);        /* of the source; NULL if it isn't known */
     bool (*find_variable)(uintptr_t address, char *room, size_t size); /* its name, and how far it is behind it */
     bool (*data)(unsigned at, char **start, char **end); /* where variables of theirs lie, one range after the other */
+    const void *(*find_routine)(const char *name); /* as an import of that name; NULL if there is none */
     void (*put_back)(void);                              /* memory is as it was, so sections have to be there or not as they were */
     void (*watch)(KzTellAccess *to);                     /* each access of theirs is told from now on, but for those to their own frames */
 } KzBinaries;

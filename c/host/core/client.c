@@ -1,9 +1,11 @@
 /* Clients, and the calls by which they come inside the host and leave it. */
 #include "core/client.h"
 
+#include "core/access.h"
 #include "core/beside.h"
 #include "core/clock.h"
 #include "core/irql.h"
+#include "core/late.h"
 #include "core/module.h"
 #include "core/said.h"
 
@@ -41,6 +43,7 @@ unsigned kz_go_inside_unsaid(void)
     if (kz_me->inside > 0)
         return kz_me->inside++;
     kz_scheduler->lock();
+    kz_me->calls++;
     kz_me->inside = 1;
     return 0;
 }
@@ -64,20 +67,29 @@ unsigned kz_begin_call(const char *name, const void *from)
     return kz_go_inside(name, from);
 }
 
+/* What a driver's code may touch depends on its IRQL and its process. */
+static void let_code_go_on(void)
+{
+    if (kz_binaries.run)
+        kz_binaries.run();
+    kz_shut_owned();
+}
+
 void kz_end_inside(unsigned *depth)
 {
     kz_me->inside = *depth;
     if (*depth > 0)
         return;
-    if (kz_binaries.run)
-        kz_binaries.run();
+    let_code_go_on();
     kz_scheduler->unlock();
 }
 
 void kz_end_call(unsigned *depth)
 {
-    if (*depth == 0)
+    if (*depth == 0) {
+        kz_look_at_time();
         kz_me->place.call = kz_me->place.from = NULL;
+    }
     kz_end_inside(depth);
 }
 
@@ -85,8 +97,7 @@ static unsigned step_out(const char *name)
 {
     unsigned depth = kz_me->inside;
     kz_me->inside = 0;
-    if (kz_binaries.run)
-        kz_binaries.run();
+    let_code_go_on();
     kz_scheduler->unlock();
     kz_scheduler->point(name, NULL);
     return depth;
@@ -95,6 +106,8 @@ static unsigned step_out(const char *name)
 unsigned kz_let_function(const char *name, const void *function)
 {
     kz_me->place.function = function;
+    if (!kz_scheduler->has_pages)
+        kz_look_at_code((const uint8_t *)function + 1);
     return step_out(name);
 }
 
@@ -103,6 +116,7 @@ void kz_driver_returned(unsigned depth, const char *name)
     kz_scheduler->point(name, NULL);
     kz_scheduler->lock();
     kz_me->inside = depth;
+    kz_open_all_owned();
 }
 
 void kz_pause(const char *name)

@@ -27,6 +27,7 @@ struct KzClient {
     uint64_t process, thread; /* who asks */
     PIRP top_level;
     int region;      /* stands for its critical region */
+    uint64_t calls;  /* that its drivers' code has made */
     unsigned inside; /* how many calls of the host it is in; 0 in a driver's code */
     const void *stack; /* where that of a binary's code begins that was called last */
     unsigned number;
@@ -81,7 +82,8 @@ typedef struct {
     bool has_pages;  /* memory may have pages of its own, and an access to them may be a signal */
 } KzScheduler;
 
-#define KZ_CALL_OF(name) __attribute__((cleanup(kz_end_call), unused)) unsigned kz_depth = kz_begin_call((name), KZ_CALLER())
+#define KZ_CALL_FROM(name, from) __attribute__((cleanup(kz_end_call), unused)) unsigned kz_depth = kz_begin_call((name), (from))
+#define KZ_CALL_OF(name) KZ_CALL_FROM((name), KZ_CALLER())
 #define KZ_CALL() KZ_CALL_OF(__func__)
 #define KZ_INSIDE_UNSAID() __attribute__((cleanup(kz_end_inside), unused)) unsigned kz_depth = kz_go_inside_unsaid()
 #define KZ_INSIDE_FROM(name, from) __attribute__((cleanup(kz_end_call), unused)) unsigned kz_depth = kz_go_inside((name), (from))

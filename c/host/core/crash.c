@@ -12,6 +12,9 @@
 #include <ucontext.h>
 #include <unistd.h>
 
+/* A touch so near to the stack's end may be one past it. */
+enum { NEAR = 1 << 16 };
+
 static const int signals[] = {SIGSEGV, SIGBUS, SIGABRT, SIGFPE, SIGILL};
 static struct {
     struct sigaction before[sizeof signals / sizeof signals[0]];
@@ -33,14 +36,31 @@ static bool find(const void *at, char *line, size_t size)
     return (at && kz_find_source(kz_in_file(at) + 1, line, size)) || (place->from && kz_find_source(kz_in_file(place->from), line, size));
 }
 
-static void tell(const char *what, const void *at)
+/* The request, with its line in the file. */
+static void put_request(const KzPlace *place)
+{
+    char line[32];
+    if (place->request && place->line) {
+        snprintf(line, sizeof line, ", line %u: ", place->line);
+        put(line);
+    } else if (place->request) {
+        put(", ");
+    }
+    if (place->request)
+        put(place->request);
+}
+
+void kz_put_place(const char *head, const char *what, const void *at)
 {
     char marked[256], place[256], line[100];
     if (crash.was_told)
         return;
     crash.was_told = 1;
-    put("CRASH ");
-    put(what);
+    put(head);
+    if (what) {
+        put(" ");
+        put(what);
+    }
     put(": ");
     kz_place_text(marked, sizeof marked);
     kz_unmark(place, sizeof place, marked);
@@ -53,10 +73,7 @@ static void tell(const char *what, const void *at)
         put(", \\");
         put(kz_me->place.path);
     }
-    if (kz_me->place.request) {
-        put(", ");
-        put(kz_me->place.request);
-    }
+    put_request(&kz_me->place);
     put("\n");
 }
 
@@ -79,7 +96,7 @@ const char *kz_signal_name(int signal)
 }
 
 /* Where the program stood. */
-static const void *code_at(const void *context)
+const void *kz_code_at(const void *context)
 {
 #ifdef __x86_64__
     return (const void *)(uintptr_t)((const ucontext_t *)context)->uc_mcontext.gregs[REG_RIP];
@@ -89,23 +106,26 @@ static const void *code_at(const void *context)
 #endif
 }
 
-static void watch(int signal);
-
 /* Memory that was given back was touched: that is told, and the program goes on. */
 static bool is_touch(int signal, const siginfo_t *information, const void *context)
 {
 #ifdef __x86_64__
-    bool is_written = ((const ucontext_t *)context)->uc_mcontext.gregs[REG_ERR] & 2;
+    const greg_t *registers = ((const ucontext_t *)context)->uc_mcontext.gregs;
+    bool is_written = registers[REG_ERR] & 2;
+    uintptr_t stack = (uintptr_t)registers[REG_RSP];
+    bool is_stack = (uintptr_t)information->si_addr - stack + NEAR < 2 * NEAR;
+    const void *caller = is_stack || !stack ? NULL : *(const void *const *)stack; /* of a copy, which keeps nothing there */
 #else
     bool is_written = false;
+    const void *caller = NULL;
 #endif
-    return signal == SIGSEGV && kz_touched(information->si_addr, code_at(context), is_written);
+    return signal == SIGSEGV && kz_touched(information->si_addr, kz_code_at(context), caller, is_written);
 }
 
 /* Also what a binary may not do by itself in this process, or takes for an exception. */
 static bool is_carried_on(int signal, siginfo_t *information, void *context)
 {
-    if (!kz_is_binary(code_at(context)) && !kz_is_stub(code_at(context)) && !kz_is_binary(information->si_addr))
+    if (!kz_is_binary(kz_code_at(context)) && !kz_is_stub(kz_code_at(context)) && !kz_is_binary(information->si_addr))
         return is_touch(signal, information, context);
     return kz_binaries.carry_out(signal, information, context) || is_touch(signal, information, context) || kz_binaries.raise(signal, information, context);
 }
@@ -113,12 +133,9 @@ static bool is_carried_on(int signal, siginfo_t *information, void *context)
 /* What was there before goes on: a sanitizer's report, or the end. */
 static void handle(int signal, siginfo_t *information, void *context)
 {
-    if (is_carried_on(signal, information, context)) {
-        if (!kz_binaries.size)
-            watch(signal);
+    if (is_carried_on(signal, information, context))
         return;
-    }
-    tell(kz_signal_name(signal), kz_caller(code_at(context)));
+    kz_put_place("CRASH", kz_signal_name(signal), kz_caller(kz_code_at(context)));
     for (size_t at = 0; at < sizeof signals / sizeof signals[0]; at++) {
         if (signals[at] != signal)
             continue;
@@ -135,14 +152,13 @@ static void handle(int signal, siginfo_t *information, void *context)
 void __asan_on_error(void);
 void __asan_on_error(void)
 {
-    tell("address sanitizer", NULL);
+    kz_put_place("CRASH", "address sanitizer", NULL);
 }
 
-/* With binaries it stays: their instructions are carried out in it, of several threads at once. */
+/* It stays: several threads at once may touch pages that are shut. A crash inside of it ends the program. */
 static void watch(int signal)
 {
-    int once = kz_binaries.size ? 0 : (int)SA_RESETHAND;
-    sigaction(signal, &(struct sigaction){.sa_sigaction = handle, .sa_flags = SA_SIGINFO | SA_ONSTACK | once}, NULL);
+    sigaction(signal, &(struct sigaction){.sa_sigaction = handle, .sa_flags = SA_SIGINFO | SA_ONSTACK}, NULL);
 }
 
 void kz_watch_crashes(void)

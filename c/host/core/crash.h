@@ -6,5 +6,9 @@
 
 void kz_watch_crashes(void);
 const char *kz_signal_name(int signal);
+/* Where the program stood, of a signal's context. */
+const void *kz_code_at(const void *context);
+/* A line that begins so, and says where the client is; once. Safe in a signal's handler. */
+void kz_put_place(const char *head, const char *what, const void *at);
 
 #endif

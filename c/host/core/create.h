@@ -12,6 +12,7 @@ typedef struct {
     PVOID ea; /* a chain of extended attributes, which the file system checks */
     ULONG ea_length;
     bool ignores_sharing; /* and is ignored by others' */
+    bool is_volume;       /* the volume itself, and no file on it */
     const char *target;   /* the name that a rename is to give, if it is the folder of that that is opened; else NULL */
 } KzCreate;
 

@@ -1,7 +1,9 @@
 /* Locks that clients hold, and the IRQL at which they are. What a client holds stands in a list, by the lock's address, with the callback that took it. */
 #include "core/held.h"
 
+#include "core/access.h"
 #include "core/client.h"
+#include "core/made.h"
 #include "core/memory.h"
 #include "core/module.h"
 #include "core/told.h"
@@ -131,9 +133,27 @@ static void add(Held one)
     kz.held->all[place] = one;
 }
 
+/* What a pool's memory is filled with: a lock is 0 while nobody holds it. */
+#define UNWRITTEN 0xcdcdcdcdcdcdcdcdULL
+
+/* Who holds a spin lock can't wait for a page of it, and the kernel itself touches a fast mutex. */
+static void check_place(const void *lock, KIRQL irql, const char *call)
+{
+    bool is_fast = strstr(call, "FastMutex") || strstr(call, "GuardedMutex");
+    if (strncmp(call, "FltAcquireResource", 18) == 0)
+        kz_is_made(lock, "a resource", call);
+    else if (is_fast && ((const FAST_MUTEX *)lock)->Count != 1)
+        kz_tell_of(lock, KZM_NEVER_MADE, call, "a fast mutex that was never initialized");
+    else if (irql >= DISPATCH_LEVEL && *(const ULONG_PTR *)lock == UNWRITTEN)
+        kz_tell_of(lock, KZM_NEVER_MADE, call, "a spin lock that was never initialized");
+    if (irql >= DISPATCH_LEVEL || strstr(call, "FastMutex"))
+        kz_must_be_there(lock, irql >= DISPATCH_LEVEL ? "a spin lock" : "a fast mutex", call);
+}
+
 static void note(PVOID lock, int how, KIRQL irql, const char *call)
 {
     Held *one = find(lock);
+    check_place(lock, irql, call);
     if (one)
         one->count++;
     else
@@ -195,6 +215,16 @@ VOID KzForgetLock(PVOID Lock, PCSTR Call)
     kz_tell(KZM_LOCK_DELETED, Call, "the lock is still held");
     one->count = 1;
     let_go(one, Lock, Call);
+}
+
+const char *kz_waits_for_mine(void)
+{
+    for (const Wanted *one = kz.held->wanted; one; one = one->next) {
+        const Held *owner = other(one->lock, one->client, is_shared(one->how));
+        if (owner && owner->client == kz_me)
+            return one->client->name;
+    }
+    return NULL;
 }
 
 /* By another client. */

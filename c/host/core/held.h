@@ -5,6 +5,8 @@
 #include "host.h"
 
 KIRQL kz_irql(void);
+/* Who waits for a lock that this client holds; NULL if nobody does. */
+const char *kz_waits_for_mine(void);
 /* Whether the client's thread can't be suspended by an APC: at APC_LEVEL, in a critical region, or with a lock by a call that enters one. */
 bool kz_are_apcs_disabled(void);
 /* What it holds alone it shares from now on; false if it doesn't. */

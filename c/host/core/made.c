@@ -4,6 +4,7 @@
 #include "core/client.h"
 #include "core/memory.h"
 #include "core/module.h"
+#include "core/piece.h"
 #include "core/place.h"
 #include "core/told.h"
 
@@ -61,7 +62,7 @@ bool kz_is_made(const void *at, const char *kind, const char *call)
 {
     if (*find(at))
         return true;
-    kz_tell_of(at, KZM_NEVER_MADE, call, "%s that was never initialized, or was deleted", kind);
+    kz_tell_of(at, KZM_NEVER_MADE, call, kz_is_freed(at) ? "%s whose memory was freed" : "%s that was never initialized, or was deleted", kind);
     return false;
 }
 

@@ -22,6 +22,7 @@ enum {
     KZM_NO_HELD_VERDICT = 114,
     KZM_WRITTEN_DATA = 115,
     KZM_HELD_DRAIN = 116,
+    KZM_DENIED_OPEN = 117,
     /* Parameters and answers. */
     KZM_NOT_DIRTY = 121,
     KZM_LOST_SWAP = 122,
@@ -36,6 +37,11 @@ enum {
     KZM_NOT_OWN_DATA = 131,
     KZM_PAST_BUFFER = 132,
     KZM_NO_SWAP_BUFFER = 133,
+    KZM_OTHER_PROCESS = 134,
+    KZM_NOT_OWN_MEMORY = 135,
+    KZM_STACK_CONTEXT = 136,
+    KZM_NO_BYTES = 137,
+    KZM_PROGRAMS_HANDLE = 138,
     /* Memory. */
     KZM_POOL_LEAK = 141,
     KZM_NO_POOL = 142,
@@ -65,6 +71,9 @@ enum {
     KZM_LOCK_DELETED = 164,
     KZM_IRQL = 165,
     KZM_APCS_ENABLED = 166,
+    KZM_PAGED_OBJECT = 167,
+    KZM_RECURSION = 168,
+    KZM_LOCKED_PAGES = 169,
     /* Loading and unloading. */
     KZM_REGISTERED_OUTSIDE = 171,
     KZM_NEVER_REGISTERED = 172,
@@ -111,7 +120,7 @@ enum {
     KZM_LONG_ANSWER = 225,
     KZM_DIRTY_POST = 226,
     KZM_REDIRECTED = 227,
-    KZM_STATUS_LOST = 228,
+    /* 228 was a routine that wants an operation's status. */
     /* What is left out by name. */
     /* 231 was a port that nobody connects to. */
     KZM_OWN_IO = 232,
@@ -138,6 +147,8 @@ enum {
     KZM_CRYPTO = 255,
     /* What isn't known. */
     KZM_NO_SUCH_ROUTINE = 257,
+    /* Names. */
+    KZM_LONG_PATH = 258,
     KZM_MESSAGES = 300
 };
 

@@ -84,6 +84,14 @@ void kz_operation_ends(KzOp *op)
             (*one)->operation_ends(op);
 }
 
+bool kz_is_mapped(KzOp *op, const void *node, uint64_t size)
+{
+    for EACH (one)
+        if ((*one)->is_mapped && (*one)->is_mapped(op, node, size))
+            return true;
+    return false;
+}
+
 bool kz_goes_on(void)
 {
     for EACH (one)

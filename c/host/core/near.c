@@ -26,3 +26,17 @@ size_t kz_letters_apart(const char *a, const char *b)
     }
     return row[length];
 }
+
+enum { NEAR = 2 };
+
+KzNear kz_near(const char *word)
+{
+    return (KzNear){.word = word, .far = NEAR + 1};
+}
+
+void kz_try_near(KzNear *near, const char *name)
+{
+    size_t far = kz_letters_apart(near->word, name);
+    if (far < near->far)
+        *near = (KzNear){.word = near->word, .best = name, .far = far};
+}

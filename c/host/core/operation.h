@@ -97,6 +97,15 @@ typedef struct {
     size_t length;
 } KzServed;
 
+/* A routine that wants the status with which the file system's call returned, and the parameters as they were when it was asked for. */
+typedef struct KzWantsStatus {
+    struct KzWantsStatus *next;
+    PFLT_INSTANCE instance;
+    const void *function;
+    PVOID context;
+    FLT_IO_PARAMETER_BLOCK parameters;
+} KzWantsStatus;
+
 /* An instance whose teardown waits for an operation, and whether its preoperation has the postoperation in its own thread. */
 typedef struct {
     PFLT_INSTANCE instance;
@@ -114,6 +123,7 @@ typedef struct {
 typedef struct {
     bool is_own, is_unheard, is_waited_for;
     bool is_user;     /* a program began it */
+    bool is_fast;     /* it has no IRP */
     bool is_reissued; /* a filter sent it down again */
     PFLT_INSTANCE initiator; /* those at its altitude and above don't hear; NULL: all hear */
     ULONG irp_flags;
@@ -154,7 +164,11 @@ struct KzOp {
     KzVisit *visits;
     KzMdl *mdls;
     KzSent *sent;
+    KzWantsStatus *wants; /* the last that asked first; none once they were told */
+    bool is_answered;     /* the file system's call has returned with this status; else that is the operation's own */
+    NTSTATUS answered;
     PVOID caller; /* the buffer of the caller */
+    uint64_t process; /* and whose that is */
     PMDL no_mdl;  /* that of a query, which has none */
     ULONG caller_room;
     KzStage stage;
@@ -169,9 +183,11 @@ struct KzOp {
     KzOwn own;
     KzCarried *carried; /* NULL: it is one of the manager's own */
     bool is_waiting;    /* the file system keeps it; it has a worker of its own */
+    bool is_returning;  /* and that it waits is told still: nobody else carries it on before that is over */
     PECP_LIST ecps; /* that a filter put into a create */
     KzCancel cancel;
     bool is_cancelled; /* a create that a filter cancelled in its postoperation */
+    bool is_misnamed;  /* a create whose file object has a name that is none */
     bool is_reopened;  /* a create that failed, and that a filter sent down again: its file is open all the same */
     struct {
         const struct KzBytes *point; /* of the reparse point that a create came upon; NULL if it came upon none */

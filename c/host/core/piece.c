@@ -4,6 +4,7 @@
 #define _GNU_SOURCE
 #include "core/piece.h"
 
+#include "core/access.h"
 #include "core/client.h"
 #include "core/module.h"
 #include "core/operation.h"
@@ -21,7 +22,7 @@ extern void __asan_unpoison_memory_region(const volatile void *start, size_t siz
 
 /* What may hold a structure that the processor's caches are counted by lies at their boundary, as in the kit. */
 enum { LINE = 64 };
-enum { ZONE = 32, ZONE_BYTE = 0xfd, GONE_BYTE = 0xdd };
+enum { ZONE = 32, ZONE_BYTE = 0xfd };
 /* How much of what was given back is kept, to see whether it is written. */
 enum { KEPT = 64, KEPT_BYTES = 32768 };
 
@@ -60,7 +61,12 @@ static KzPiece *first_from(unsigned list)
     return list < LISTS ? kz.piece->taken[list] : NULL;
 }
 
-static KzPiece *piece_behind(const KzPiece *piece)
+KzPiece *kz_first_piece(void)
+{
+    return first_from(0);
+}
+
+KzPiece *kz_next_piece(const KzPiece *piece)
 {
     return piece->next ? piece->next : first_from(piece->list + 1);
 }
@@ -108,7 +114,7 @@ static void open_all(const KzPiece *piece)
 
 static bool is_guarded(KzMemory kind, size_t size)
 {
-    return kz_scheduler->has_pages && !__asan_poison_memory_region && (kind == KZK_POOL || kind == KZK_CONTEXT || kind == KZK_NAME) && size <= GUARDED_BYTES &&
+    return kz_scheduler->has_pages && !__asan_poison_memory_region && kind != KZK_BUFFER && kind != KZK_DATA && size <= GUARDED_BYTES &&
            kz.piece->guarded < GUARDED;
 }
 
@@ -216,22 +222,37 @@ void kz_check_piece(KzPiece *piece)
     if (__asan_poison_memory_region || piece->is_told)
         return;
     bool is_before = !is_zone(body_of(piece) - ZONE), is_behind = !is_zone(body_of(piece) + piece->size);
-    if (!is_before && !is_behind)
-        return;
-    piece->is_told = true;
-    const char *where = is_behind ? "past" : "before";
+    if (is_before || is_behind)
+        kz_tell_past(piece, is_behind, NULL);
+}
+
+/* Where it is written is known where its pages are shut. */
+void kz_tell_past(KzPiece *piece, bool is_behind, const void *from)
+{
+    static const char *const calls[] = {[KZK_POOL] = "ExAllocatePoolWithTag", [KZK_CONTEXT] = "FltAllocateContext", [KZK_NAME] = "UNICODE_STRING", [KZK_BUFFER] = "FLT_CALLBACK_DATA",
+                                        [KZK_CALLER] = "FLT_CALLBACK_DATA", [KZK_DATA] = "FLT_CALLBACK_DATA"};
+    const char *call = calls[piece->kind], *where = is_behind ? "past" : "before";
     char tag[8], taken[40] = "";
     unsigned long long size = piece->size;
+    KzPlace before = kz_me->place;
+    if (piece->is_told)
+        return;
+    piece->is_told = true;
+    if (from) {
+        kz_me->place.call = call;
+        kz_me->place.from = from;
+    }
     if (piece->place.from)
         snprintf(taken, sizeof taken, ", taken at @%lx,", (unsigned long)kz_in_file(piece->place.from));
     if (piece->kind == KZK_POOL)
-        kz_tell(KZM_PAST_POOL, "ExAllocatePoolWithTag", "memory %s the %llu bytes of a pool with the tag '%s'%s was written", where, size, kz_tag(piece->tag, tag), taken);
+        kz_tell(KZM_PAST_POOL, call, "memory %s the %llu bytes of a pool with the tag '%s'%s was written", where, size, kz_tag(piece->tag, tag), taken);
     else if (piece->kind == KZK_CONTEXT)
-        kz_tell(KZM_PAST_CONTEXT, "FltAllocateContext", "memory %s the %llu bytes of a context%s was written", where, size, taken);
+        kz_tell(KZM_PAST_CONTEXT, call, "memory %s the %llu bytes of a context%s was written", where, size, taken);
     else if (piece->kind == KZK_NAME)
-        kz_tell(KZM_PAST_BUFFER, "UNICODE_STRING", "memory %s the %llu bytes of a name was written", where, size);
+        kz_tell(KZM_PAST_BUFFER, call, "memory %s the %llu bytes of a name was written", where, size);
     else
-        kz_tell(KZM_PAST_BUFFER, "FLT_CALLBACK_DATA", "memory %s a buffer of %llu bytes was written", where, size);
+        kz_tell(KZM_PAST_BUFFER, call, "memory %s a buffer of %llu bytes was written", where, size);
+    kz_me->place = before;
 }
 
 static void look_at_last(PFLT_FILTER filter);
@@ -239,7 +260,7 @@ static void look_at_last(PFLT_FILTER filter);
 /* Looks at all memory of a filter. */
 void kz_check_all_memory(PFLT_FILTER filter)
 {
-    for (KzPiece *piece = first_from(0); piece; piece = piece_behind(piece))
+    for (KzPiece *piece = kz_first_piece(); piece; piece = kz_next_piece(piece))
         if (piece->filter == filter)
             kz_check_piece(piece);
 }
@@ -258,11 +279,11 @@ void kz_check_memory(PFLT_FILTER filter)
     look_at_last(filter);
 }
 
-static bool was_freed(const void *memory)
+bool kz_is_freed(const void *memory)
 {
     for (size_t at = 0; at < (size_t)LISTS * KEPT; at++) {
         const KzPiece *piece = kz.piece->gone[at / KEPT].pieces[at % KEPT];
-        if (piece && body_of(piece) == memory)
+        if (piece && (uintptr_t)memory - (uintptr_t)body_of(piece) < (piece->size ? piece->size : 1))
             return true;
     }
     return false;
@@ -271,7 +292,7 @@ static bool was_freed(const void *memory)
 size_t kz_there(const void *memory, size_t size, const char *what)
 {
     const KzPiece *piece = kz_piece_of(memory);
-    if (!piece && was_freed(memory)) {
+    if (!piece && kz_is_freed(memory)) {
         kz_tell(KZM_NO_SWAP_BUFFER, what, "the %llu bytes that the driver put there were freed before they were used", (unsigned long long)size);
         return 0;
     }
@@ -310,7 +331,7 @@ void kz_check_blocks(const KzOp *op)
 static void look_at(KzPiece *piece)
 {
     char tag[8], where[32] = "";
-    if (piece->is_shut || piece->is_touched || is_filled(body_of(piece), piece->size, GONE_BYTE))
+    if (piece->is_shut || piece->is_touched || is_filled(body_of(piece), piece->size, KZ_GONE_BYTE))
         return;
     if (piece->place.from)
         snprintf(where, sizeof where, " at @%lx", (unsigned long)kz_in_file(piece->place.from));
@@ -319,9 +340,11 @@ static void look_at(KzPiece *piece)
                 kz_tag(piece->tag, tag));
     else if (piece->kind == KZK_DATA)
         kz_tell(KZM_WRITTEN_DATA, "FltCompletePendedPreOperation", "callback data was written after the operation was completed");
+    else if (piece->kind == KZK_CALLER)
+        kz_tell(KZM_WRITTEN_DATA, "FltCompletePendedPreOperation", "a caller's buffer was written after the operation was over");
     else
         kz_tell(KZM_WRITTEN_CONTEXT, "FltReleaseContext", "%llu bytes were written after they were cleaned up%s", (unsigned long long)piece->size, where);
-    memset(body_of(piece), GONE_BYTE, piece->size);
+    memset(body_of(piece), KZ_GONE_BYTE, piece->size);
 }
 
 /* The last few that a filter gave back in this client, as its callback returns. */
@@ -351,6 +374,7 @@ void kz_give_back(void *memory)
     KzPiece *piece = memory ? kz_piece_of(memory) : NULL;
     if (!piece)
         return;
+    kz_disown(piece);
     kz_check_piece(piece);
     kz_memory_goes(memory, piece->size);
     kz_scheduler->touch(body_of(piece), piece->size, KZT_HAS_TAKEN_BACK);
@@ -363,7 +387,7 @@ void kz_give_back(void *memory)
         let_go(piece);
         return;
     }
-    memset(body_of(piece), GONE_BYTE, piece->size);
+    memset(body_of(piece), KZ_GONE_BYTE, piece->size);
     piece->place = kz_me->place; /* where it was given back */
     piece->is_shut = piece->pages && mprotect(piece->pages, piece->pages_size, PROT_NONE) == 0;
     size_t *next = &kz.piece->gone[my_list()].next;
@@ -385,12 +409,13 @@ static KzPiece *shut_piece_at(const void *address)
 
 static const char *giving_back(const KzPiece *piece)
 {
-    return piece->kind == KZK_POOL ? "ExFreePoolWithTag" : piece->kind == KZK_CONTEXT ? "FltReleaseContext" : "FltReleaseFileNameInformation";
+    static const char *const calls[] = {[KZK_POOL] = "ExFreePoolWithTag", [KZK_CONTEXT] = "FltReleaseContext", [KZK_NAME] = "FltReleaseFileNameInformation", [KZK_CALLER] = "FLT_CALLBACK_DATA"};
+    return calls[piece->kind];
 }
 
 static void tell_touch(const KzPiece *piece, bool is_written)
 {
-    static const char *const kinds[] = {[KZK_POOL] = "a pool", [KZK_CONTEXT] = "a context", [KZK_NAME] = "a name"};
+    static const char *const kinds[] = {[KZK_POOL] = "a pool", [KZK_CONTEXT] = "a context", [KZK_NAME] = "a name", [KZK_CALLER] = "a caller's buffer"};
     char where[32] = "";
     if (piece->place.from)
         snprintf(where, sizeof where, " at @%lx", (unsigned long)kz_in_file(piece->place.from));
@@ -400,9 +425,11 @@ static void tell_touch(const KzPiece *piece, bool is_written)
 }
 
 /* The driver's own code stands there, or code that it called. Reads see the bytes with which it was filled. */
-bool kz_touched(const void *address, const void *code, bool is_written)
+bool kz_touched(const void *address, const void *code, const void *caller, bool is_written)
 {
     char line[100];
+    if (kz_touched_owned(address, code, caller, is_written))
+        return true;
     KZ_INSIDE_UNSAID();
     KzPiece *piece = shut_piece_at(address);
     if (!piece)
@@ -446,8 +473,18 @@ static const char *freeing_of(ULONG tag)
         return "FltFreeDeferredIoWorkItem";
     case 'dcMF':
         return "FltFreeCallbackData";
+    case KZ_DESCRIPTOR_TAG:
+        return "FltFreeSecurityDescriptor";
     case 'wiO ':
         return "IoFreeWorkItem";
+    case 'nKmC':
+        return "CmCallbackReleaseKeyObjectIDEx";
+    case 'gAcB':
+        return "BCryptCloseAlgorithmProvider";
+    case 'hHcB':
+        return "BCryptDestroyHash";
+    case 'kKcB':
+        return "BCryptDestroyKey";
     default:
         return NULL;
     }
@@ -457,7 +494,7 @@ static const char *freeing_of(ULONG tag)
 void kz_tell_pools(PFLT_FILTER filter)
 {
     char tag[8];
-    for (KzPiece *piece = first_from(0); piece; piece = piece_behind(piece)) {
+    for (KzPiece *piece = kz_first_piece(); piece; piece = kz_next_piece(piece)) {
         if (piece->kind != KZK_POOL || piece->filter != filter)
             continue;
         KzPlace before = kz_enter_again(&piece->place);
@@ -471,8 +508,8 @@ void kz_tell_pools(PFLT_FILTER filter)
 
 static void free_memory(void)
 {
-    for (KzPiece *piece = first_from(0), *behind; piece; piece = behind) {
-        behind = piece_behind(piece);
+    for (KzPiece *piece = kz_first_piece(), *behind; piece; piece = behind) {
+        behind = kz_next_piece(piece);
         open_all(piece);
         let_go(piece);
     }

@@ -4,7 +4,16 @@
 
 #include "host.h"
 
-typedef enum { KZK_POOL, KZK_CONTEXT, KZK_NAME, KZK_BUFFER, KZK_DATA } KzMemory;
+typedef enum { KZK_POOL, KZK_CONTEXT, KZK_NAME, KZK_BUFFER, KZK_CALLER, KZK_DATA } KzMemory;
+
+/* Of a security descriptor, which lies in a pool. */
+#define KZ_DESCRIPTOR_TAG 'dsMF'
+
+/* What memory that was given back is filled with. */
+enum { KZ_GONE_BYTE = 0xdd };
+
+/* Who may touch it (core/access.h): a caller's is the buffer of the program that asked. */
+typedef enum { KZ_EVERYBODYS, KZ_PAGED, KZ_CALLERS, KZ_MANAGERS } KzOwner;
 
 typedef struct KzPiece {
     struct KzPiece *next, *before;
@@ -17,7 +26,12 @@ typedef struct KzPiece {
     PFLT_FILTER filter;
     KzPlace place; /* where it was taken */
     ULONG tag;
-    bool is_paged;
+    KzOwner owner;
+    struct KzPiece *owned, *owned_before; /* those that aren't everybody's */
+    uint64_t process;                     /* whose it is */
+    unsigned locks;                       /* MDLs that have its pages */
+    int rights;                           /* of its pages */
+    bool is_let;                          /* to who touches it since its IRQL or process changed */
     const void *lookaside; /* the list that it is of; NULL if it is of none */
     KzMemory kind;
     unsigned list;
@@ -29,19 +43,26 @@ typedef struct KzPiece {
 void *kz_take_memory(KzMemory kind, size_t size, int fill, ULONG tag);
 void kz_give_back(void *memory);
 KzPiece *kz_piece_of(const void *memory);
+/* All that are there. */
+KzPiece *kz_first_piece(void);
+KzPiece *kz_next_piece(const KzPiece *piece);
+/* Whether it lies in memory that was given back not long ago. */
+bool kz_is_freed(const void *memory);
 /* How many of so many bytes of a driver's memory there are, and 0 where it was freed: that is told. What isn't known is taken as it is. */
 size_t kz_there(const void *memory, size_t size, const char *what);
 /* A text that begins there is read up to its null: that there is none is told. */
 void kz_check_text_from(const void *text, const char *call, const void *from);
 const char *kz_tag(ULONG tag, char *room);
 void kz_check_piece(KzPiece *piece);
+/* Memory before or behind it is written: that is told, once. */
+void kz_tell_past(KzPiece *piece, bool is_behind, const void *from);
 void kz_check_memory(PFLT_FILTER filter);
 void kz_check_all_memory(PFLT_FILTER filter);
 void kz_check_blocks(const KzOp *op);
 void kz_tell_pools(PFLT_FILTER filter);
 void kz_tell_gone(void);
 /* Somebody touched what can't be: whether it is memory that was given back. That is told, and may be touched from then on. */
-bool kz_touched(const void *address, const void *code, bool is_written);
+bool kz_touched(const void *address, const void *code, const void *caller, bool is_written);
 extern const struct KzModule kz_piece_module;
 
 #endif

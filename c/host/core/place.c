@@ -8,12 +8,13 @@
 #include "core/operation.h"
 #include "core/piece.h"
 #include "core/source.h"
+#include "core/spell.h"
 
 #include <stdarg.h>
 
 static const char *const callbacks[] = {"no callback",  "DriverEntry",    "setup",             "preoperation", "postoperation", "drain", "query",
                                         "teardown start", "teardown complete", "unload",       "context cleanup", "work item", "timer",
-                                        "thread",       "port",  "cancel",       "notify routine", "completion", "dispatch"};
+                                        "thread",       "port",  "cancel",       "notify routine", "completion", "dispatch", "name provider"};
 
 KzPlace kz_enter(KzCallback callback, uint8_t worker, PFLT_FILTER filter, PFLT_INSTANCE instance, KzOp *op, PFLT_CALLBACK_DATA data)
 {
@@ -92,15 +93,19 @@ size_t kz_source_text(char *room, size_t size, const char *call)
 {
     const KzPlace *place = &kz_me->place;
     size_t used = 0;
+    char path[400];
     room[0] = 0;
-    if (place->from && strcmp(place->call, call) != 0)
+    kz_spell(path, sizeof path, place->path ? place->path : "");
+    if (place->from && !place->filter && strcmp(place->call, "a request") == 0)
+        ; /* the host's own line says nothing */
+    else if (place->from && strcmp(place->call, call) != 0)
         add(room, size, &used, ", at @%lx by %s", (unsigned long)kz_in_file(place->from), place->call);
     else if (place->from)
         add(room, size, &used, ", at @%lx", (unsigned long)kz_in_file(place->from));
     else if (place->function)
         add(room, size, &used, ", in @%lx", (unsigned long)kz_in_file(place->function) + 1);
     if (place->path)
-        add(room, size, &used, KZ_MARK ", \\%s" KZ_MARK, place->path);
+        add(room, size, &used, KZ_MARK ", \\%s" KZ_MARK, path);
     if (place->request && place->line)
         add(room, size, &used, KZ_MARK ", line %u: %s" KZ_MARK, place->line, place->request);
     else if (place->request)

@@ -1,6 +1,7 @@
 /* Pools: memory that drivers take. As in the kit, it isn't zeroed. */
 #include "core/pool.h"
 
+#include "core/access.h"
 #include "core/client.h"
 #include "core/irql.h"
 #include "core/piece.h"
@@ -11,9 +12,11 @@ static PVOID take_pool(const char *call, bool is_paged, SIZE_T size, int fill, U
 {
     if (is_paged)
         kz_may_be_called(call, APC_LEVEL);
+    if (!size)
+        kz_tell(KZM_NO_BYTES, call, "called for 0 bytes");
     PVOID made = kz_refuses(KZ_CHOICE_POOL, call) ? NULL : kz_take_memory(KZK_POOL, size, fill, tag);
-    if (made)
-        kz_piece_of(made)->is_paged = is_paged;
+    if (is_paged)
+        kz_own(made, KZ_PAGED, 0);
     return made;
 }
 
@@ -76,7 +79,7 @@ void kz_free_pool(PVOID memory, const char *call)
 {
     KZ_INSIDE();
     KzPiece *piece = pool_of(memory, call);
-    if (piece && piece->is_paged)
+    if (piece && piece->owner == KZ_PAGED)
         kz_may_be_called(call, APC_LEVEL);
     if (piece)
         kz_give_back(memory);
@@ -89,7 +92,7 @@ VOID ExFreePoolWithTag(PVOID P, ULONG Tag)
     char own[8], given[8];
     if (!piece)
         return;
-    if (piece->is_paged)
+    if (piece->owner == KZ_PAGED)
         kz_may_be_called(__func__, APC_LEVEL);
     if (Tag && piece->kind == KZK_POOL && (Tag & ~PROTECTED_POOL) != (piece->tag & ~PROTECTED_POOL))
         kz_tell(KZM_WRONG_TAG, __func__, "a pool's memory with the tag '%s', which was taken with '%s'", kz_tag(Tag, given), kz_tag(piece->tag, own));

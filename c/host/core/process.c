@@ -18,7 +18,8 @@ struct KzProcessState {
     PEPROCESS processes;
     PETHREAD threads;
 };
-static const POBJECT_TYPE types[5];
+static const char kinds[5]; /* each has an address of its own */
+static const POBJECT_TYPE types[5] = {(POBJECT_TYPE)&kinds[0], (POBJECT_TYPE)&kinds[1], (POBJECT_TYPE)&kinds[2], (POBJECT_TYPE)&kinds[3], (POBJECT_TYPE)&kinds[4]};
 POBJECT_TYPE *IoFileObjectType = (POBJECT_TYPE *)&types[0], *PsProcessType = (POBJECT_TYPE *)&types[1], *PsThreadType = (POBJECT_TYPE *)&types[2],
              *ExEventObjectType = (POBJECT_TYPE *)&types[3], *SeTokenObjectType = (POBJECT_TYPE *)&types[4];
 static struct _EPROCESS system_process = {.id = 4};
@@ -47,6 +48,31 @@ PETHREAD kz_thread_object(uint64_t process, uint64_t id)
         place = &(*place)->next;
     *made = (struct _ETHREAD){.header.Type = KZ_THREAD_OBJECT, .next = *place, .process = owner, .id = id};
     return *place = made;
+}
+
+bool kz_is_process(const void *object)
+{
+    PEPROCESS one = kz.process->processes;
+    while (one && one != object)
+        one = one->next;
+    return one || object == &system_process;
+}
+
+bool kz_is_thread(const void *object)
+{
+    PETHREAD one = kz.process->threads;
+    while (one && one != object)
+        one = one->next;
+    return one != NULL;
+}
+
+/* Begun, and not over. */
+bool kz_has_thread(uint64_t process, uint64_t id)
+{
+    PETHREAD one = kz.process->threads;
+    while (one && !(one->id == id && one->process->id == process && !one->header.SignalState))
+        one = one->next;
+    return one != NULL;
 }
 
 void kz_end_thread_object(PETHREAD thread)

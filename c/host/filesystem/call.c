@@ -69,6 +69,9 @@ static bool answers_create(KzOp *op, const KazdrinData *call, NTSTATUS *status)
         return name->is_gone && kz_look_in_folder(name->volume->id, "", &found);
     if (name->is_gone && answers_overtaken(name, call->mode, status))
         return true;
+    *status = STATUS_ACCESS_DENIED;
+    if (op->volume->locker)
+        return true;
     *status = STATUS_DELETE_PENDING;
     if (name->node->is_marked)
         return true;

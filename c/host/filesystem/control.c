@@ -2,6 +2,7 @@
 #include "filesystem/control.h"
 
 #include "core/operation.h"
+#include "core/told.h"
 #include "filesystem/fsctl.h"
 #include "filesystem/name.h"
 #include "filesystem/node.h"
@@ -98,6 +99,44 @@ static NTSTATUS lock(KzOp *op, const FLT_PARAMETERS *now)
     }
 }
 
+/* ---- Volumes: one is locked for who opened it, if no file on it is open; it goes with the handle by which its dismount was asked for. */
+static bool has_others(const KzFile *own)
+{
+    for (const KzFile *file = kz.files; file; file = file->next)
+        if (file != own && file->volume == own->volume && file->is_counted)
+            return true;
+    return false;
+}
+
+static NTSTATUS lock_volume(KzFile *file)
+{
+    if (file->volume->locker || has_others(file))
+        return STATUS_ACCESS_DENIED;
+    file->volume->locker = file;
+    return STATUS_SUCCESS;
+}
+
+void kz_unlock_volume(const KzFile *file)
+{
+    if (file->volume->locker == file)
+        file->volume->locker = NULL;
+}
+
+static NTSTATUS control_volume(KzFile *file, ULONG code)
+{
+    if (!file->is_volume)
+        return STATUS_INVALID_PARAMETER;
+    if (code == FSCTL_LOCK_VOLUME)
+        return lock_volume(file);
+    if (code == FSCTL_UNLOCK_VOLUME && file->volume->locker != file)
+        return STATUS_NOT_LOCKED;
+    if (code == FSCTL_UNLOCK_VOLUME)
+        kz_unlock_volume(file);
+    else
+        file->volume->is_to_go = true;
+    return STATUS_SUCCESS;
+}
+
 /* ---- Control codes: those that a file system here knows. */
 static NTSTATUS control(KzOp *op, const FLT_PARAMETERS *now)
 {
@@ -105,9 +144,23 @@ static NTSTATUS control(KzOp *op, const FLT_PARAMETERS *now)
     if (kz_is_tag_control(now->FileSystemControl.Common.FsControlCode))
         return kz_control_tag(op, now);
     switch (now->FileSystemControl.Common.FsControlCode) {
-    case FSCTL_IS_VOLUME_MOUNTED:
     case FSCTL_LOCK_VOLUME:
     case FSCTL_UNLOCK_VOLUME:
+    case FSCTL_DISMOUNT_VOLUME:
+        return control_volume(op->file, now->FileSystemControl.Common.FsControlCode);
+    case FSCTL_REQUEST_OPLOCK_LEVEL_1:
+    case FSCTL_REQUEST_OPLOCK_LEVEL_2:
+    case FSCTL_REQUEST_BATCH_OPLOCK:
+    case FSCTL_REQUEST_FILTER_OPLOCK:
+    case FSCTL_REQUEST_OPLOCK:
+        kz_tell(KZM_OPLOCK, "FSCTL_REQUEST_OPLOCK", "no oplock is granted: it answers STATUS_OPLOCK_NOT_GRANTED");
+        return STATUS_OPLOCK_NOT_GRANTED; /* as a file system may answer at any time */
+    case FSCTL_OPLOCK_BREAK_ACKNOWLEDGE:
+    case FSCTL_OPBATCH_ACK_CLOSE_PENDING:
+    case FSCTL_OPLOCK_BREAK_ACK_NO_2:
+        return STATUS_INVALID_OPLOCK_PROTOCOL;
+    case FSCTL_OPLOCK_BREAK_NOTIFY: /* no break is under way */
+    case FSCTL_IS_VOLUME_MOUNTED:
     case FSCTL_SET_COMPRESSION:
         return STATUS_SUCCESS;
     case FSCTL_GET_COMPRESSION:

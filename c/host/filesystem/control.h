@@ -4,6 +4,8 @@
 
 #include "host.h"
 
+/* Its handle goes: a lock of the volume ends with it. */
+void kz_unlock_volume(const KzFile *file);
 NTSTATUS kz_answer_other(KzOp *op, const FLT_PARAMETERS *now);
 
 #endif

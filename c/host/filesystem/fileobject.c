@@ -80,6 +80,13 @@ KzFile *kz_new_file(PFLT_VOLUME volume, const char *path, bool is_directory)
     return file;
 }
 
+void kz_be_volume(KzFile *file)
+{
+    file->is_volume = file->is_directory = true;
+    file->object.Flags |= FO_VOLUME_OPEN;
+    kz_free_file_name(file);
+}
+
 /* The file system opened it: what it keeps with a file object is there. */
 void kz_file_opened(KzFile *file)
 {

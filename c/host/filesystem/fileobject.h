@@ -10,6 +10,8 @@ KzFile *kz_file_of(uint64_t number);
 void kz_hide_number(uint64_t handle);
 KzFile *kz_file_with(PFILE_OBJECT object);
 /* The name in its file object. */
+/* It is of the volume itself, and has no name. */
+void kz_be_volume(KzFile *file);
 void kz_name_object(KzFile *file, const char *path);
 KzFile *kz_new_file(PFLT_VOLUME volume, const char *path, bool is_directory);
 void kz_file_opened(KzFile *file);

@@ -3,6 +3,7 @@
 #include "filesystem/folder.h"
 
 #include "host.h"
+#include "core/spell.h"
 #include "filesystem/listing.h"
 
 #include "wire/frame.h"
@@ -44,8 +45,10 @@ static KzFolderAnswer refused(int error)
 
 static int open_below(const KzFolder *folder, const char *path, int flags)
 {
+    char spelt[1024];
+    kz_spell(spelt, sizeof spelt, path);
     struct open_how how = {.flags = (uint64_t)(flags | O_CLOEXEC), .mode = flags & O_CREAT ? 0666 : 0, .resolve = RESOLVE_BENEATH | RESOLVE_NO_MAGICLINKS};
-    return (int)syscall(SYS_openat2, folder->descriptor, path, &how, sizeof how);
+    return (int)syscall(SYS_openat2, folder->descriptor, spelt, &how, sizeof how);
 }
 
 /* Looks what is there before it is opened: to open a pipe or a device may wait. -1 and errno: it can't be had. */
@@ -227,17 +230,23 @@ void kz_folder_entries(const KzFolder *folder, const char *path, void (*say)(voi
 {
     int file = open_below(folder, *path ? path : ".", O_RDONLY | O_DIRECTORY);
     DIR *place = file == -1 ? NULL : fdopendir(file);
+    char name[1300];
     for (const struct dirent *entry = place ? readdir(place) : NULL; entry; entry = readdir(place))
-        if (is_path((const uint8_t *)entry->d_name, strlen(entry->d_name)))
-            say(given, entry->d_name);
+        if (kz_unspell(name, sizeof name, entry->d_name) && is_path((const uint8_t *)name, strlen(name)))
+            say(given, name);
     if (place)
         closedir(place);
 }
 
-static const char *last_of(const char *path)
+typedef struct {
+    char text[1024];
+} Spelt;
+
+static const char *last_of(const char *path, Spelt *room)
 {
     const char *slash = strrchr(path, '/');
-    return slash ? slash + 1 : path;
+    kz_spell(room->text, sizeof room->text, slash ? slash + 1 : path);
+    return room->text;
 }
 
 static bool link_over(int from, const char *old, int to, const char *fresh)
@@ -248,8 +257,11 @@ static bool link_over(int from, const char *old, int to, const char *fresh)
 
 KzFolderAnswer kz_folder_rename(const KzFolder *folder, const char *from, const char *to, bool is_link)
 {
+    Spelt old, fresh;
     int place = open_above(folder, from), other = open_above(folder, to);
-    bool is_right = place != -1 && other != -1 && (is_link ? link_over(place, last_of(from), other, last_of(to)) : renameat(place, last_of(from), other, last_of(to)) == 0) && sync_names(other);
+    last_of(from, &old);
+    last_of(to, &fresh);
+    bool is_right = place != -1 && other != -1 && (is_link ? link_over(place, old.text, other, fresh.text) : renameat(place, old.text, other, fresh.text) == 0) && sync_names(other);
     int error = errno;
     if (other != -1)
         close(other);
@@ -259,14 +271,16 @@ KzFolderAnswer kz_folder_rename(const KzFolder *folder, const char *from, const 
 
 KzFolderAnswer kz_folder_make(const KzFolder *folder, const char *path)
 {
+    Spelt name;
     int place = open_above(folder, path);
-    return done(place, place != -1 && mkdirat(place, last_of(path), 0777) == 0 && sync_names(place));
+    return done(place, place != -1 && mkdirat(place, last_of(path, &name), 0777) == 0 && sync_names(place));
 }
 
 KzFolderAnswer kz_folder_unlink(const KzFolder *folder, const char *path)
 {
+    Spelt name;
     int place = open_above(folder, path);
-    return done(place, place != -1 && (unlinkat(place, last_of(path), 0) == 0 || unlinkat(place, last_of(path), AT_REMOVEDIR) == 0) && sync_names(place));
+    return done(place, place != -1 && (unlinkat(place, last_of(path, &name), 0) == 0 || unlinkat(place, name.text, AT_REMOVEDIR) == 0) && sync_names(place));
 }
 
 static KzFolderAnswer list(const KzFolder *folder)

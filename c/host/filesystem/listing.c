@@ -2,6 +2,8 @@
 #define _GNU_SOURCE
 #include "filesystem/listing.h"
 
+#include "core/spell.h"
+
 #include "wire/frame.h"
 
 #include <dirent.h>
@@ -46,10 +48,11 @@ static int keep(Names *names, const char *name)
 static int keep_all(DIR *place, Names *names, size_t size)
 {
     int error = 0;
+    char name[1300];
     errno = 0;
     for (const struct dirent *entry = readdir(place); entry && error == 0; entry = error == 0 ? readdir(place) : NULL) {
-        if (is_path((const uint8_t *)entry->d_name, strlen(entry->d_name)) && may_be_file(dirfd(place), entry))
-            error = keep(names, entry->d_name);
+        if (kz_unspell(name, sizeof name, entry->d_name) && is_path((const uint8_t *)name, strlen(name)) && may_be_file(dirfd(place), entry))
+            error = keep(names, name);
         if (names->bytes > size)
             error = EOVERFLOW;
         errno = 0;

@@ -3,6 +3,9 @@
 
 #include "core/memory.h"
 #include "core/module.h"
+#include "core/told.h"
+#include "lib/letters.h"
+#include "lib/upcase.h"
 #include "filesystem/disk.h"
 #include "filesystem/folder.h"
 #include "filesystem/node.h"
@@ -65,17 +68,21 @@ KzName *kz_first_name(void)
     return kz.tree->first;
 }
 
-static char folded(PFLT_VOLUME volume, char letter)
+/* How many bytes of both are one letter that is the same; 0: they differ. */
+static size_t same(PFLT_VOLUME volume, const char *a, const char *b)
 {
-    return !volume->is_case_sensitive && letter >= 'a' && letter <= 'z' ? (char)(letter - 32) : letter;
+    WCHAR one, other;
+    size_t length = kz_take_letter(a, &one);
+    bool is = length == kz_take_letter(b, &other) && (one == other || (!volume->is_case_sensitive && kz_upcase(one) == kz_upcase(other)));
+    return is ? length : 0;
 }
 
 bool kz_is_same_name(PFLT_VOLUME volume, const char *a, const char *b, size_t length)
 {
-    size_t at = 0;
-    while (at < length && a[at] && folded(volume, a[at]) == folded(volume, b[at]))
-        at++;
-    return at == length || (!a[at] && !b[at]);
+    size_t at = 0, more;
+    while (at < length && a[at] && (more = same(volume, a + at, b + at)) > 0)
+        at += more;
+    return at >= length || (!a[at] && !b[at]);
 }
 
 KzName *kz_find_name(PFLT_VOLUME volume, const char *text)
@@ -160,10 +167,18 @@ bool kz_is_there(KzName *name)
     return name->node->exists;
 }
 
+void kz_tell_long_path(const char *text, const char *call)
+{
+    if (strlen(text) > LONGEST_PATH)
+        kz_tell(KZM_LONG_PATH, call, "a path that counts %zu letters, and 255 are taken: it answers STATUS_OBJECT_NAME_INVALID", strlen(text));
+}
+
 KzName *kz_take_name(PFLT_VOLUME volume, const char *text)
 {
-    if (*text && !is_path((const uint8_t *)text, strlen(text)))
+    if (*text && !is_path((const uint8_t *)text, strlen(text))) {
+        kz_tell_long_path(text, "a create");
         return NULL;
+    }
     KzName *found = kz_find_name(volume, text);
     if (!found)
         found = kz_add_name(volume, text, kz_new_node(volume, text));

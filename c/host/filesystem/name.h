@@ -6,6 +6,8 @@
 #include "filesystem/tree.h"
 
 extern const struct KzModule kz_tree_module;
+/* If it has more than 255 letters. */
+void kz_tell_long_path(const char *text, const char *call);
 /* The name, which has one user more; its file may be none yet. NULL if it is no path. */
 KzName *kz_take_name(PFLT_VOLUME volume, const char *text);
 void kz_keep_name(KzName *name);

@@ -68,8 +68,17 @@ KzNode *kz_new_node(PFLT_VOLUME volume, const char *text)
     return kz.node->first = made;
 }
 
+void kz_write_views(const KzNode *node, uint64_t offset, const uint8_t *bytes, size_t length)
+{
+    for (KzView *one = node->views; one; one = one->next)
+        if (offset < one->size)
+            memcpy(one->bytes + offset, bytes, length < one->size - offset ? length : (size_t)(one->size - offset));
+}
+
 void kz_free_node(KzNode *node)
 {
+    for (KzView *one = node->views; one; one = one->next)
+        one->node = NULL;
     KzNode **at = &kz.node->places[kz_name_place(node->volume, node->key)];
     while (*at != node)
         at = &(*at)->same;

@@ -91,7 +91,7 @@ bool kz_cancel_notice(const KzOp *op)
 bool kz_run_notice(void)
 {
     Notice **at = &kz.notice->first;
-    while (*at && !(*at)->is_due)
+    while (*at && (!(*at)->is_due || (*at)->op->is_returning))
         at = &(*at)->next;
     if (!*at)
         return false;

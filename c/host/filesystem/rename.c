@@ -55,6 +55,8 @@ bool kz_destination(const KzFile *file, HANDLE root, const WCHAR *name, ULONG le
         const char *rest = below_device(file->volume, said);
         put = rest ? snprintf(text, size, "%s", rest) : -1;
     }
+    if (put > 0 && (size_t)put < size)
+        kz_tell_long_path(text, "a rename or a link");
     return put > 0 && (size_t)put < size && put <= LONGEST_PATH;
 }
 

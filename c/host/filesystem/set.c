@@ -1,6 +1,7 @@
 /* What the file system is told of a file, by the kit's classes. */
 #include "filesystem/set.h"
 
+#include "core/module.h"
 #include "core/operation.h"
 #include "filesystem/deletion.h"
 #include "filesystem/fileobject.h"
@@ -58,18 +59,22 @@ static NTSTATUS set_name(KzFile *file, const FLT_PARAMETERS *now, bool is_link, 
 }
 
 /* The bytes aren't here: what cuts a file goes to the file system that has them, by an operation that no instance hears. */
-static NTSTATUS set_end(KzFile *file, LONGLONG size)
+static NTSTATUS set_end(KzOp *op, LONGLONG size)
 {
-    if (size < 0)
+    KzFile *file = op->file;
+    if (size < 0 || file->name->node->is_directory)
         return STATUS_INVALID_PARAMETER;
-    return file->name->node->is_directory ? STATUS_INVALID_PARAMETER : kz.store->cut(file, (uint64_t)size);
+    return kz_is_mapped(op, file->name->node, (uint64_t)size) ? STATUS_USER_MAPPED_FILE : kz.store->cut(file, (uint64_t)size);
 }
 
-static NTSTATUS set_allocation(KzFile *file, LONGLONG size)
+static NTSTATUS set_allocation(KzOp *op, LONGLONG size)
 {
+    KzFile *file = op->file;
     KzNode *node = file->name->node;
     if (size < 0 || node->is_directory)
         return STATUS_INVALID_PARAMETER;
+    if ((uint64_t)size < node->size && kz_is_mapped(op, node, (uint64_t)size))
+        return STATUS_USER_MAPPED_FILE;
     node->allocation = (uint64_t)size;
     return (uint64_t)size < node->size ? kz.store->cut(file, (uint64_t)size) : STATUS_SUCCESS;
 }
@@ -119,9 +124,9 @@ NTSTATUS kz_answer_set(KzOp *op, const FLT_PARAMETERS *now)
     case FileLinkInformationEx:
         return set_name(file, now, class == FileLinkInformationEx, true);
     case FileAllocationInformation:
-        return set_allocation(file, ((const FILE_ALLOCATION_INFORMATION *)said)->AllocationSize.QuadPart);
+        return set_allocation(op, ((const FILE_ALLOCATION_INFORMATION *)said)->AllocationSize.QuadPart);
     case FileEndOfFileInformation:
-        return set_end(file, ((const FILE_END_OF_FILE_INFORMATION *)said)->EndOfFile.QuadPart);
+        return set_end(op, ((const FILE_END_OF_FILE_INFORMATION *)said)->EndOfFile.QuadPart);
     case FileValidDataLengthInformation:
         return (uint64_t)((const FILE_VALID_DATA_LENGTH_INFORMATION *)said)->ValidDataLength.QuadPart > file->name->node->size ? STATUS_INVALID_PARAMETER : STATUS_SUCCESS;
     case FileDispositionInformation:

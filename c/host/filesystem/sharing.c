@@ -1,6 +1,7 @@
 /* What a create makes of a file. */
 #include "filesystem/sharing.h"
 
+#include "core/module.h"
 #include "core/operation.h"
 #include "filesystem/call.h"
 #include "filesystem/control.h"
@@ -12,6 +13,12 @@
 
 /* Those of a file that a create may give it. */
 #define GIVEN (FILE_ATTRIBUTE_READONLY | FILE_ATTRIBUTE_HIDDEN | FILE_ATTRIBUTE_SYSTEM | FILE_ATTRIBUTE_ARCHIVE | FILE_ATTRIBUTE_TEMPORARY | FILE_ATTRIBUTE_OFFLINE | FILE_ATTRIBUTE_NOT_CONTENT_INDEXED)
+
+/* Those who opened the volume itself share it among themselves. */
+static PSHARE_ACCESS share_of(KzFile *file)
+{
+    return file->is_volume ? &file->volume->share : &file->name->node->share;
+}
 
 static ULONG disposition_of(const KzCreate *create)
 {
@@ -41,8 +48,10 @@ NTSTATUS kz_may_open(KzOp *op)
         return STATUS_ACCESS_DENIED;
     if (is_emptied(create) && changes_kind(node, create))
         return STATUS_ACCESS_DENIED;
+    if (is_emptied(create) && !node->is_directory && kz_is_mapped(op, node, 0))
+        return STATUS_USER_MAPPED_FILE;
     kz_grant(&op->file->object, create->access, create->share);
-    return create->ignores_sharing || kz_may_share(&op->file->object, &node->share) ? STATUS_SUCCESS : STATUS_SHARING_VIOLATION;
+    return create->ignores_sharing || kz_may_share(&op->file->object, share_of(op->file)) ? STATUS_SUCCESS : STATUS_SHARING_VIOLATION;
 }
 
 /* ---- It was opened. */
@@ -69,7 +78,7 @@ static void share(KzFile *file, const KzCreate *create)
     kz_grant(&file->object, create->access, create->share);
     if (create->ignores_sharing || !file->name)
         return;
-    kz_count_share(&file->object, &file->name->node->share, 1);
+    kz_count_share(&file->object, share_of(file), 1);
     file->is_sharing = true;
 }
 
@@ -78,7 +87,7 @@ void kz_stop_sharing(KzFile *file)
     if (!file->is_sharing)
         return;
     file->is_sharing = false;
-    kz_count_share(&file->object, &file->name->node->share, -1);
+    kz_count_share(&file->object, share_of(file), -1);
 }
 
 static void give_attributes(KzNode *node, const KzCreate *create)

@@ -12,8 +12,11 @@ enum { KZ_NAME_PLACES = 8192 };
 static inline unsigned kz_name_place(PFLT_VOLUME volume, const char *text)
 {
     uint32_t number = 2166136261U + volume->id;
-    for (; *text; text++)
+    for (; *text; text++) {
         number = (number ^ (uint8_t)(*text >= 'a' && *text <= 'z' ? *text - 32 : *text)) * 16777619U;
+        for (unsigned left = *text == '|' ? 4 : 0; left && text[1]; left--) /* a letter beyond ASCII, whose digits say its case too */
+            text++;
+    }
     return number % KZ_NAME_PLACES;
 }
 
@@ -22,6 +25,14 @@ typedef struct KzBytes {
     uint8_t *bytes;
     size_t length;
 } KzBytes;
+
+/* Memory in which a file's bytes are seen, as far as it reaches: what is written to the file is written there too. */
+typedef struct KzView {
+    struct KzView *next;
+    struct KzNode *node; /* NULL once the file is gone */
+    uint8_t *bytes;
+    uint64_t size;
+} KzView;
 
 /* A file, a directory, or a stream of a file that has a name of its own. */
 typedef struct KzNode {
@@ -41,6 +52,7 @@ typedef struct KzNode {
     ULONG attributes;
     KzBytes ea, security, reparse, object_id;
     SHARE_ACCESS share;
+    KzView *views;
 } KzNode;
 
 /* A name as a client says it. A handle points to the one by which it was opened: so a rename is seen by all its handles, and by those of no other link. */

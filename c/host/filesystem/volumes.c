@@ -108,13 +108,19 @@ static const char *behind(const char *name, const char *prefix)
     return KzStrnicmp(name, prefix, length) == 0 ? name + length : NULL;
 }
 
+void kz_volume_guid(PFLT_VOLUME volume, char *room, size_t size)
+{
+    snprintf(room, size, "Volume{00000000-0000-0000-0000-%012x}", volume->id + 1u);
+}
+
 PFLT_VOLUME kz_volume_named(const char *name, const char **rest)
 {
     for (size_t at = 0; at < kz.volumes_count; at++) {
-        char device[64], letter[] = {(char)('C' + at), ':', 0};
+        char device[64], guid[64], letter[] = {(char)('C' + at), ':', 0};
         snprintf(device, sizeof device, "/Device/%s", kz.volumes[at]->name);
+        kz_volume_guid(kz.volumes[at], guid, sizeof guid);
         const char *folder = behind(name, "/?" "?/") ? behind(name, "/?" "?/") : behind(name, "/DosDevices/");
-        *rest = folder ? behind(folder, letter) : behind(name, device);
+        *rest = folder && behind(folder, guid) ? behind(folder, guid) : folder ? behind(folder, letter) : behind(name, device);
         if (*rest && (**rest == '/' || !**rest))
             return kz.volumes[at];
     }

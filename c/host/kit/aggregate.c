@@ -137,13 +137,13 @@ static NTSTATUS tell(KzGive *give, void *found, uint32_t class, PVOID room, ULON
 
 NTSTATUS FltGetInstanceInformation(PFLT_INSTANCE Instance, INSTANCE_INFORMATION_CLASS InformationClass, PVOID Buffer, ULONG BufferSize, PULONG BytesReturned)
 {
-    KZ_INSIDE();
+    KZ_CALL();
     return kz_may_use(__func__, Instance) ? tell(kz_give_instance, Instance, InformationClass, Buffer, BufferSize, BytesReturned) : STATUS_INVALID_PARAMETER;
 }
 
 NTSTATUS FltGetFilterInformation(PFLT_FILTER Filter, FILTER_INFORMATION_CLASS InformationClass, PVOID Buffer, ULONG BufferSize, PULONG BytesReturned)
 {
-    KZ_INSIDE();
+    KZ_CALL();
     return kz_is_filter(Filter) ? tell(kz_give_filter, Filter, InformationClass, Buffer, BufferSize, BytesReturned) : STATUS_INVALID_PARAMETER;
 }
 
@@ -157,7 +157,7 @@ static bool is_volume(const void *volume)
 
 NTSTATUS FltGetVolumeInformation(PFLT_VOLUME Volume, FILTER_VOLUME_INFORMATION_CLASS InformationClass, PVOID Buffer, ULONG BufferSize, PULONG BytesReturned)
 {
-    KZ_INSIDE();
+    KZ_CALL();
     return is_volume(Volume) ? tell(kz_give_volume, Volume, InformationClass, Buffer, BufferSize, BytesReturned) : STATUS_INVALID_PARAMETER;
 }
 
@@ -194,13 +194,13 @@ static PFLT_INSTANCE instance_at(PFLT_FILTER filter, PFLT_VOLUME volume, ULONG i
 
 NTSTATUS FltEnumerateInstanceInformationByFilter(PFLT_FILTER Filter, ULONG Index, INSTANCE_INFORMATION_CLASS InformationClass, PVOID Buffer, ULONG BufferSize, PULONG BytesReturned)
 {
-    KZ_INSIDE();
+    KZ_CALL();
     return tell_at(kz_give_instance, instance_at(Filter, NULL, Index), InformationClass, Buffer, BufferSize, BytesReturned);
 }
 
 NTSTATUS FltEnumerateInstanceInformationByVolume(PFLT_VOLUME Volume, ULONG Index, INSTANCE_INFORMATION_CLASS InformationClass, PVOID Buffer, ULONG BufferSize, PULONG BytesReturned)
 {
-    KZ_INSIDE();
+    KZ_CALL();
     return tell_at(kz_give_instance, instance_at(NULL, Volume, Index), InformationClass, Buffer, BufferSize, BytesReturned);
 }
 
@@ -219,7 +219,7 @@ static PFLT_VOLUME volume_named(PCUNICODE_STRING name)
 NTSTATUS FltEnumerateInstanceInformationByVolumeName(PUNICODE_STRING VolumeName, ULONG Index, INSTANCE_INFORMATION_CLASS InformationClass, PVOID Buffer, ULONG BufferSize,
                                                      PULONG BytesReturned)
 {
-    KZ_INSIDE();
+    KZ_CALL();
     PFLT_VOLUME volume = volume_named(VolumeName);
     *BytesReturned = 0;
     return volume ? tell_at(kz_give_instance, instance_at(NULL, volume, Index), InformationClass, Buffer, BufferSize, BytesReturned) : STATUS_FLT_VOLUME_NOT_FOUND;
@@ -227,7 +227,7 @@ NTSTATUS FltEnumerateInstanceInformationByVolumeName(PUNICODE_STRING VolumeName,
 
 NTSTATUS FltEnumerateFilterInformation(ULONG Index, FILTER_INFORMATION_CLASS InformationClass, PVOID Buffer, ULONG BufferSize, PULONG BytesReturned)
 {
-    KZ_INSIDE();
+    KZ_CALL();
     PFLT_FILTER found = NULL;
     for (size_t at = 0; at < kz.filters_count && !found; at++)
         if (kz_filter_phase(kz.filters[at]) == KZP_FILTER_LOADED && Index-- == 0)
@@ -237,7 +237,7 @@ NTSTATUS FltEnumerateFilterInformation(ULONG Index, FILTER_INFORMATION_CLASS Inf
 
 NTSTATUS FltEnumerateVolumeInformation(PFLT_FILTER Filter, ULONG Index, FILTER_VOLUME_INFORMATION_CLASS InformationClass, PVOID Buffer, ULONG BufferSize, PULONG BytesReturned)
 {
-    KZ_INSIDE();
+    KZ_CALL();
     (void)Filter;
     PFLT_VOLUME found = NULL;
     for (size_t at = 0; at < kz.volumes_count && !found; at++)

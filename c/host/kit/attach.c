@@ -13,6 +13,7 @@
 NTSTATUS kz_attach_by_hand(const KzAttaching *asked, uint64_t *number)
 {
     char name[40];
+    NTSTATUS said;
     const char *altitude = asked->altitude ? asked->altitude : asked->filter->altitude;
     if (!*altitude)
         return STATUS_FLT_INSTANCE_NOT_FOUND; /* as where an INF file has no default instance */
@@ -20,7 +21,7 @@ NTSTATUS kz_attach_by_hand(const KzAttaching *asked, uint64_t *number)
         snprintf(name, sizeof name, "%s", asked->name);
     else
         snprintf(name, sizeof name, "%.24s-%.12s", asked->filter->driver->name, asked->volume->name);
-    return kz_ntstatus(kz_attach(asked->filter, asked->volume, name, altitude, FLTFL_INSTANCE_SETUP_MANUAL_ATTACHMENT, number));
+    return kz_ntstatus(kz_attach(asked->filter, asked->volume, name, altitude, FLTFL_INSTANCE_SETUP_MANUAL_ATTACHMENT, number, &said));
 }
 
 PFLT_INSTANCE kz_instance_named(PFLT_FILTER filter, PFLT_VOLUME volume, const char *name)

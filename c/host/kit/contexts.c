@@ -4,7 +4,7 @@
 
 VOID FltGetContexts(PCFLT_RELATED_OBJECTS FltObjects, FLT_CONTEXT_TYPE DesiredContexts, PFLT_RELATED_CONTEXTS Contexts)
 {
-    KZ_INSIDE();
+    KZ_CALL();
     memset(Contexts, 0, sizeof *Contexts);
     if (DesiredContexts & FLT_VOLUME_CONTEXT && FltObjects->Volume)
         FltGetVolumeContext(FltObjects->Filter, FltObjects->Volume, &Contexts->VolumeContext);
@@ -30,7 +30,7 @@ VOID FltReleaseContexts(PFLT_RELATED_CONTEXTS Contexts)
 
 NTSTATUS FltGetContextsEx(PCFLT_RELATED_OBJECTS FltObjects, FLT_CONTEXT_TYPE DesiredContexts, SIZE_T ContextsSize, PFLT_RELATED_CONTEXTS_EX Contexts)
 {
-    KZ_INSIDE();
+    KZ_CALL();
     if (ContextsSize < sizeof(FLT_RELATED_CONTEXTS))
         return STATUS_INVALID_PARAMETER;
     memset(Contexts, 0, ContextsSize);
@@ -49,7 +49,7 @@ VOID FltReleaseContextsEx(SIZE_T ContextsSize, PFLT_RELATED_CONTEXTS_EX Contexts
 static bool has_contexts(PFILE_OBJECT object)
 {
     const KzFile *file = kz_file_with(object);
-    return file && object->FsContext && file->name;
+    return file && object->FsContext && file->name && !file->is_volume;
 }
 
 /* Those of NTFS and ReFS have some by themselves; to others the filter manager gives them. */

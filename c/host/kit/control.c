@@ -9,6 +9,7 @@
 #include "manager/below.h"
 #include "manager/instance.h"
 #include "kit/io.h"
+#include "kit/key.h"
 
 static KzFile *opened(PFLT_INSTANCE instance, PFILE_OBJECT object, const char *call)
 {
@@ -171,6 +172,8 @@ NTSTATUS ZwQuerySecurityObject(HANDLE Handle, SECURITY_INFORMATION SecurityInfor
 {
     KZ_CALL();
     IO_STATUS_BLOCK said = {0};
+    if (kz_is_key(Handle))
+        return kz_key_security(Handle, SecurityInformation, SecurityDescriptor, Length, LengthNeeded);
     KzAsked asked = security_query(SecurityInformation, Length);
     NTSTATUS status = ask_by_handle(Handle, &said, &asked, SecurityDescriptor, __func__);
     *LengthNeeded = (ULONG)said.Information;
@@ -181,6 +184,8 @@ NTSTATUS ZwSetSecurityObject(HANDLE Handle, SECURITY_INFORMATION SecurityInforma
 {
     KZ_CALL();
     IO_STATUS_BLOCK said;
+    if (kz_is_key(Handle))
+        return kz_set_key_security(Handle, SecurityInformation, SecurityDescriptor);
     KzAsked asked = security_set(SecurityInformation, SecurityDescriptor);
     return ask_by_handle(Handle, &said, &asked, NULL, __func__);
 }

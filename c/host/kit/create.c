@@ -21,11 +21,12 @@
 typedef struct {
     PFLT_VOLUME volume;
     char path[256];
+    bool is_volume; /* and nothing on it */
 } Named;
 
 static NTSTATUS name_of(POBJECT_ATTRIBUTES attributes, Named *named)
 {
-    char name[320];
+    char name[2000];
     const char *rest = name;
     if (!attributes || !attributes->ObjectName)
         return STATUS_INVALID_PARAMETER;
@@ -43,9 +44,15 @@ static NTSTATUS name_of(POBJECT_ATTRIBUTES attributes, Named *named)
     if (!named->volume)
         return STATUS_OBJECT_PATH_NOT_FOUND;
     const char *begins = root ? kz_name_now(root) : "";
+    named->is_volume = !root && !*rest;
     rest += *rest == '/';
-    int length = snprintf(named->path, sizeof named->path, "%s%s%s", begins, *begins && *rest ? "/" : "", rest);
-    return length < (int)sizeof named->path ? STATUS_SUCCESS : STATUS_OBJECT_NAME_INVALID;
+    char path[2300];
+    snprintf(path, sizeof path, "%s%s%s", begins, *begins && *rest ? "/" : "", rest);
+    kz_tell_long_path(path, "a create");
+    if (strlen(path) >= sizeof named->path)
+        return STATUS_OBJECT_NAME_INVALID;
+    strcpy(named->path, path);
+    return STATUS_SUCCESS;
 }
 
 /* ---- Opening. */
@@ -75,6 +82,8 @@ static KzAnswer begin(void *given, KazdrinEvent asked, const char *path)
     file->users++;
     file->is_own = true;
     file->opener = instance;
+    if (create->is_volume)
+        kz_be_volume(file);
     KzAnswer answer = kz_below(&own, file, asked, path, strlen(path));
     opening->file = answer.reply.status == KZS_OK && !answer.reply.held ? file : NULL;
     if (!opening->file)
@@ -82,26 +91,52 @@ static KzAnswer begin(void *given, KazdrinEvent asked, const char *path)
     return answer;
 }
 
-/* By its number, which is what stands in the place of its name. */
+static const KzName *name_with(PFLT_VOLUME volume, ULONGLONG id)
+{
+    for (const KzName *one = kz_all_names(); one; one = one->next)
+        if (!one->is_gone && one->volume == volume && one->node->exists && one->node->id == id)
+            return one;
+    return NULL;
+}
+
+/* A number of so many bytes at the end of a name; in front of it the volume's own name, unless an instance or a handle says which volume it is. */
+static bool ends_with_id(PCUNICODE_STRING said, size_t bytes, PFLT_VOLUME *volume, ULONGLONG *id)
+{
+    char name[128];
+    const char *rest;
+    ULONGLONG number[2] = {0, 0};
+    if (said->Length < bytes)
+        return false;
+    UNICODE_STRING before = {(USHORT)(said->Length - bytes), 0, said->Buffer};
+    memcpy(number, (const uint8_t *)said->Buffer + before.Length, bytes);
+    *id = number[0];
+    if (before.Length) {
+        kz_narrow(name, sizeof name, &before);
+        PFLT_VOLUME named = before.Buffer[before.Length / sizeof(WCHAR) - 1] == '\\' ? kz_volume_named(name, &rest) : NULL;
+        *volume = named && strcmp(rest, "/") == 0 ? named : NULL;
+    }
+    return *volume && !number[1];
+}
+
+/* By its number, of 8 or of 16 bytes. */
 static NTSTATUS name_by_id(const Wanted *wanted, Named *named)
 {
     ULONGLONG id;
     PCUNICODE_STRING said = wanted->attributes ? wanted->attributes->ObjectName : NULL;
-    if (!said || said->Length != sizeof id || !wanted->instance)
+    const KzFile *root = said && wanted->attributes->RootDirectory ? kz_own_file(wanted->attributes->RootDirectory) : NULL;
+    PFLT_VOLUME hint = root ? root->volume : wanted->instance ? wanted->instance->volume : NULL, volume = hint;
+    bool is_one = said && (ends_with_id(said, sizeof id, &volume, &id) || (volume = hint, ends_with_id(said, 2 * sizeof id, &volume, &id)));
+    const KzName *found = is_one ? name_with(volume, id) : NULL;
+    if (!found)
         return STATUS_INVALID_PARAMETER;
-    memcpy(&id, said->Buffer, sizeof id);
-    for (const KzName *one = kz_all_names(); one; one = one->next)
-        if (!one->is_gone && one->volume == wanted->instance->volume && one->node->exists && one->node->id == id) {
-            named->volume = one->volume;
-            memcpy(named->path, one->text, sizeof named->path);
-            return STATUS_SUCCESS;
-        }
-    return STATUS_INVALID_PARAMETER;
+    named->volume = volume;
+    memcpy(named->path, found->text, sizeof named->path);
+    return STATUS_SUCCESS;
 }
 
 static NTSTATUS create(const Wanted *wanted, KzFile **made)
 {
-    Named named;
+    Named named = {0};
     ULONG disposition = wanted->create.options >> 24;
     NTSTATUS status = wanted->create.options & FILE_OPEN_BY_FILE_ID ? name_by_id(wanted, &named) : name_of(wanted->attributes, &named);
     if (!NT_SUCCESS(status))
@@ -110,11 +145,9 @@ static NTSTATUS create(const Wanted *wanted, KzFile **made)
         return STATUS_INVALID_DEVICE_OBJECT_PARAMETER;
     if (disposition > FILE_MAXIMUM_DISPOSITION)
         return STATUS_INVALID_PARAMETER;
-    if (!*named.path && !kz_opens_directory(&wanted->create, named.volume, named.path)) {
-        kz_tell(KZM_OWN_IO, wanted->call, "a volume: it answers STATUS_NOT_SUPPORTED");
-        return STATUS_NOT_SUPPORTED;
-    }
-    Opening opening = {wanted, NULL};
+    Wanted of_volume = *wanted;
+    of_volume.create.is_volume = named.is_volume && !(wanted->create.options & FILE_DIRECTORY_FILE);
+    Opening opening = {&of_volume, NULL};
     KazdrinEvent event = {.event = KZE_CREATE, .volume = named.volume->id, .mode = kz_mode_of(disposition)};
     status = kz_status_of(kz_follow(begin(&opening, event, named.path), &opening, begin));
     if (NT_SUCCESS(status))
@@ -139,6 +172,26 @@ static void add_extended(KzCreate *create, PVOID ea, ULONG length, ULONG flags)
     create->ignores_sharing = flags & IO_IGNORE_SHARE_ACCESS_CHECK;
 }
 
+/* A create of its own that comes to the filter again, and makes one more: the kernel's stack is gone long before that many. */
+static bool is_too_deep(const Wanted *wanted)
+{
+    enum { DEEPEST = 12 };
+    PFLT_FILTER filter = kz_me->place.filter;
+    if (kz_me->place.depth <= DEEPEST || kz_me->place.major != IRP_MJ_CREATE || !filter)
+        return false;
+    kz_tell(KZM_RECURSION, wanted->call, "it comes to this filter's own create callback again, which calls it again: %u of them are inside one another, and the kernel's stack is gone", kz_me->place.depth);
+    filter->gave_up = true; /* what it does behind it, it never does */
+    return true;
+}
+
+/* Without that word the handle is one of the program whose operation it is, which may close it, and use it. */
+static void check_handle(const Wanted *wanted)
+{
+    bool is_programs = kz_me->place.op && kz_me->process != 4 && wanted->attributes && !(wanted->attributes->Attributes & OBJ_KERNEL_HANDLE);
+    if (is_programs)
+        kz_tell(KZM_PROGRAMS_HANDLE, wanted->call, "opens a handle in a program's process without OBJ_KERNEL_HANDLE: the program may close it, and use it");
+}
+
 static NTSTATUS open_file(const Wanted *wanted, PHANDLE handle, PFILE_OBJECT *object, PIO_STATUS_BLOCK status)
 {
     KzFile *file;
@@ -147,6 +200,9 @@ static NTSTATUS open_file(const Wanted *wanted, PHANDLE handle, PFILE_OBJECT *ob
         *object = NULL;
     if (!kz_may_use(wanted->call, wanted->instance))
         return status->Status = STATUS_INVALID_PARAMETER;
+    if (is_too_deep(wanted))
+        return status->Status = STATUS_INSUFFICIENT_RESOURCES;
+    check_handle(wanted);
     *status = (IO_STATUS_BLOCK){.Status = create(wanted, &file)};
     if (!NT_SUCCESS(status->Status))
         return status->Status;
@@ -224,6 +280,22 @@ NTSTATUS ZwDeleteFile(POBJECT_ATTRIBUTES ObjectAttributes)
     kz_close_below(NULL, file);
     kz_let_go_file(file);
     return STATUS_SUCCESS;
+}
+
+/* As a program opens it, below the instance. */
+NTSTATUS FltOpenVolume(PFLT_INSTANCE Instance, PHANDLE VolumeHandle, PFILE_OBJECT *VolumeFileObject)
+{
+    KZ_CALL();
+    WCHAR letters[64];
+    UNICODE_STRING name = {0, sizeof letters, letters};
+    OBJECT_ATTRIBUTES attributes;
+    IO_STATUS_BLOCK status;
+    *VolumeHandle = NULL;
+    if (!kz_may_use(__func__, Instance) || !NT_SUCCESS(FltGetVolumeName(Instance->volume, &name, NULL)))
+        return STATUS_INVALID_PARAMETER;
+    InitializeObjectAttributes(&attributes, &name, OBJ_KERNEL_HANDLE, NULL, NULL);
+    const Wanted wanted = {Instance, &attributes, asked_by(FILE_READ_DATA | FILE_READ_ATTRIBUTES | SYNCHRONIZE, NULL, 0, FILE_SHARE_READ | FILE_SHARE_WRITE, FILE_OPEN, FILE_SYNCHRONOUS_IO_NONALERT), __func__, "FltClose", NULL};
+    return open_file(&wanted, VolumeHandle, VolumeFileObject, &status);
 }
 
 /* ---- Closing. */

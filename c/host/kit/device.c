@@ -46,7 +46,7 @@ struct KzDeviceState {
 NTSTATUS IoCreateDevice(PDRIVER_OBJECT DriverObject, ULONG DeviceExtensionSize, PUNICODE_STRING DeviceName, DEVICE_TYPE DeviceType, ULONG DeviceCharacteristics,
                         BOOLEAN Exclusive, PDEVICE_OBJECT *DeviceObject)
 {
-    KZ_INSIDE();
+    KZ_CALL();
     PDEVICE_OBJECT made = ExAllocatePoolZero(NonPagedPool, sizeof *made + DeviceExtensionSize, 'iveD');
     *DeviceObject = made;
     if (!made)
@@ -85,6 +85,12 @@ static KzDevice *device_of(PDEVICE_OBJECT object)
     return one;
 }
 
+const char *kz_device_name(const void *object)
+{
+    const KzDevice *one = device_of((PDEVICE_OBJECT)object);
+    return one && *one->name ? one->name : NULL;
+}
+
 /* One that is deleted stays until its last handle is closed. */
 static void free_if_due(KzDevice *device)
 {
@@ -100,7 +106,7 @@ static void free_if_due(KzDevice *device)
 
 VOID IoDeleteDevice(PDEVICE_OBJECT DeviceObject)
 {
-    KZ_INSIDE();
+    KZ_CALL();
     KzDevice *device = device_of(DeviceObject);
     if (!device || device->is_deleted) {
         kz_tell(KZM_NO_HANDLE, __func__, "no device (deleted twice?)");
@@ -135,7 +141,7 @@ static Link **place_of(const char *name)
 
 NTSTATUS IoCreateSymbolicLink(PUNICODE_STRING SymbolicLinkName, PUNICODE_STRING DeviceName)
 {
-    KZ_INSIDE();
+    KZ_CALL();
     char name[128];
     kz_narrow(name, sizeof name, SymbolicLinkName);
     Link **at = place_of(name_of_link(name));
@@ -152,7 +158,7 @@ NTSTATUS IoCreateSymbolicLink(PUNICODE_STRING SymbolicLinkName, PUNICODE_STRING 
 
 NTSTATUS IoDeleteSymbolicLink(PUNICODE_STRING SymbolicLinkName)
 {
-    KZ_INSIDE();
+    KZ_CALL();
     char name[128];
     kz_narrow(name, sizeof name, SymbolicLinkName);
     Link **at = place_of(name_of_link(name)), *gone = *at;
@@ -166,7 +172,7 @@ NTSTATUS IoDeleteSymbolicLink(PUNICODE_STRING SymbolicLinkName)
 /* ---- IRPs. */
 VOID IofCompleteRequest(PIRP Irp, CCHAR PriorityBoost)
 {
-    KZ_INSIDE();
+    KZ_CALL();
     (void)PriorityBoost;
     Request *one = kz.device->requests;
     while (one && one->irp != Irp)
@@ -276,9 +282,36 @@ static void fill_stack(PIO_STACK_LOCATION stack, const KzDeviceAsk *asked, unsig
     }
 }
 
+/* As in the kit a driver's own routine is asked first, with the program's buffers as they are: where that answers TRUE, no IRP is made. */
+static bool asks_fast(KzDeviceFile *file, const KzDeviceAsk *asked, IO_STATUS_BLOCK *answer)
+{
+    KzDevice *device = file->device;
+    const FAST_IO_DISPATCH *fast = device->object->DriverObject->FastIoDispatch;
+    *answer = (IO_STATUS_BLOCK){.Status = STATUS_SUCCESS};
+    if (asked->major != IRP_MJ_DEVICE_CONTROL || !fast || !fast->FastIoDeviceControl)
+        return false;
+    uint8_t worker = kz_helper();
+    KzPlace before = kz_enter(KZ_IN_DISPATCH, worker, device->filter, NULL, NULL, NULL);
+    kz_call_at(PASSIVE_LEVEL);
+    kz_scheduler->touch(device, 0, KZT_TAKES);
+    unsigned depth = kz_let_driver("fast device control", fast->FastIoDeviceControl);
+    bool is_answered = KZ_CALL_DRIVER(fast->FastIoDeviceControl, file->object, TRUE, asked->in, asked->in_length, asked->out, asked->out_length, asked->code, answer, device->object);
+    kz_driver_returned(depth, "fast device control returns");
+    kz_keep_rest(NULL);
+    kz_leave(before);
+    kz_helped(worker);
+    kz_clean_up();
+    return is_answered;
+}
+
 NTSTATUS kz_ask_device(KzDeviceFile *file, const KzDeviceAsk *asked, ULONG_PTR *information)
 {
     KZ_CALL();
+    IO_STATUS_BLOCK fast;
+    if (asks_fast(file, asked, &fast)) {
+        *information = fast.Information;
+        return fast.Status;
+    }
     unsigned method = method_of(file->device, asked);
     PIRP irp = kz_take_memory(KZK_BUFFER, sizeof *irp, 0, 0);
     PIO_STACK_LOCATION stack = kz_take_memory(KZK_BUFFER, sizeof *stack, 0, 0);

@@ -26,5 +26,7 @@ extern const struct KzModule kz_device_module;
 NTSTATUS kz_open_device(const char *name, KzDeviceFile *made);
 NTSTATUS kz_ask_device(KzDeviceFile *file, const KzDeviceAsk *asked, ULONG_PTR *information);
 void kz_close_device(KzDeviceFile *file);
+/* The name of a driver's own device; NULL if it is none, or has none. */
+const char *kz_device_name(const void *object);
 
 #endif

@@ -1,7 +1,9 @@
 /* Events, semaphores and mutexes: what can be waited for. */
 #include "kit/dispatcher.h"
 
+#include "core/access.h"
 #include "core/client.h"
+#include "core/piece.h"
 #include "core/told.h"
 
 /* ---- What was initialized has a list of its own, in which nobody waits here. */
@@ -18,13 +20,15 @@ void kz_make_dispatcher(PDISPATCHER_HEADER object)
 bool kz_check_dispatcher(const DISPATCHER_HEADER *object, const char *kind, const char *call)
 {
     if (!was_made(object))
-        kz_tell_of(object, KZM_NEVER_MADE, call, "%s that was never initialized", kind);
+        kz_tell_of(object, KZM_NEVER_MADE, call, kz_is_freed(object) ? "%s whose memory was freed" : "%s that was never initialized", kind);
     return was_made(object);
 }
 
 /* ---- What can be waited for. */
 VOID KeInitializeEvent(PRKEVENT Event, EVENT_TYPE Type, BOOLEAN State)
 {
+    KZ_INSIDE();
+    kz_must_be_there(Event, "an event", __func__);
     *Event = (KEVENT){.Header = {.Type = (UCHAR)(Type == NotificationEvent ? KZ_EVENT_KEEPS : KZ_EVENT_RESETS), .SignalState = State}};
     kz_make_dispatcher(&Event->Header);
 }
@@ -67,6 +71,8 @@ LONG KeReadStateEvent(PRKEVENT Event)
 
 VOID KeInitializeSemaphore(PRKSEMAPHORE Semaphore, LONG Count, LONG Limit)
 {
+    KZ_INSIDE();
+    kz_must_be_there(Semaphore, "a semaphore", __func__);
     *Semaphore = (KSEMAPHORE){.Header = {.Type = KZ_SEMAPHORE, .SignalState = Count}, .Limit = Limit};
     kz_make_dispatcher(&Semaphore->Header);
 }
@@ -89,7 +95,9 @@ LONG KeReleaseSemaphore(PRKSEMAPHORE Semaphore, KPRIORITY Increment, LONG Adjust
 
 VOID KeInitializeMutex(PRKMUTEX Mutex, ULONG Level)
 {
+    KZ_INSIDE();
     (void)Level;
+    kz_must_be_there(Mutex, "a mutex", __func__);
     *Mutex = (KMUTEX){.Header = {.Type = KZ_MUTANT, .SignalState = 1}};
     kz_make_dispatcher(&Mutex->Header);
 }

@@ -1,6 +1,7 @@
 /* Deferred procedure calls: they run once the request is answered, at DISPATCH_LEVEL. */
 #include "kit/dpc.h"
 
+#include "core/access.h"
 #include "core/client.h"
 #include "core/module.h"
 #include "core/place.h"
@@ -28,6 +29,7 @@ VOID KeInitializeDpc(PRKDPC Dpc, PKDEFERRED_ROUTINE DeferredRoutine, PVOID Defer
     if (is_queued(Dpc))
         kz_tell_of(Dpc, KZM_STILL_MADE, __func__, "a DPC that is queued");
     KeRemoveQueueDpc(Dpc);
+    kz_must_be_there(Dpc, "a DPC", __func__);
     *Dpc = (KDPC){.DeferredRoutine = DeferredRoutine, .DeferredContext = DeferredContext};
 }
 

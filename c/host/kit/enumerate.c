@@ -17,7 +17,7 @@ static NTSTATUS give_volume(PFLT_VOLUME volume, PFLT_VOLUME *to, const char *cal
 
 NTSTATUS FltGetVolumeFromDeviceObject(PFLT_FILTER Filter, PDEVICE_OBJECT DeviceObject, PFLT_VOLUME *RetVolume)
 {
-    KZ_INSIDE();
+    KZ_CALL();
     (void)Filter;
     for (size_t at = 0; at < kz.volumes_count; at++)
         if (DeviceObject == &kz.volumes[at]->device || DeviceObject == &kz.volumes[at]->disk)
@@ -27,7 +27,7 @@ NTSTATUS FltGetVolumeFromDeviceObject(PFLT_FILTER Filter, PDEVICE_OBJECT DeviceO
 
 NTSTATUS FltGetVolumeFromInstance(PFLT_INSTANCE Instance, PFLT_VOLUME *RetVolume)
 {
-    KZ_INSIDE();
+    KZ_CALL();
     if (!kz_may_use(__func__, Instance))
         return STATUS_FLT_DELETING_OBJECT;
     return give_volume(Instance->volume, RetVolume, __func__);
@@ -35,7 +35,7 @@ NTSTATUS FltGetVolumeFromInstance(PFLT_INSTANCE Instance, PFLT_VOLUME *RetVolume
 
 NTSTATUS FltGetVolumeFromFileObject(PFLT_FILTER Filter, PFILE_OBJECT FileObject, PFLT_VOLUME *RetVolume)
 {
-    KZ_INSIDE();
+    KZ_CALL();
     (void)Filter;
     KzFile *file = kz_file_with(FileObject);
     return give_volume(file ? file->volume : NULL, RetVolume, __func__);
@@ -43,7 +43,7 @@ NTSTATUS FltGetVolumeFromFileObject(PFLT_FILTER Filter, PFILE_OBJECT FileObject,
 
 NTSTATUS FltGetVolumeFromName(PFLT_FILTER Filter, PCUNICODE_STRING VolumeName, PFLT_VOLUME *RetVolume)
 {
-    KZ_INSIDE();
+    KZ_CALL();
     (void)Filter;
     char name[80], own[80];
     kz_narrow(name, sizeof name, VolumeName);
@@ -57,7 +57,7 @@ NTSTATUS FltGetVolumeFromName(PFLT_FILTER Filter, PCUNICODE_STRING VolumeName, P
 
 NTSTATUS FltEnumerateVolumes(PFLT_FILTER Filter, PFLT_VOLUME *VolumeList, ULONG VolumeListSize, PULONG NumberVolumesReturned)
 {
-    KZ_INSIDE();
+    KZ_CALL();
     (void)Filter;
     ULONG count = 0;
     for (size_t at = 0; at < kz.volumes_count; at++)
@@ -75,7 +75,7 @@ NTSTATUS FltEnumerateVolumes(PFLT_FILTER Filter, PFLT_VOLUME *VolumeList, ULONG 
 /* ---- Filters and instances. */
 NTSTATUS FltGetFilterFromInstance(PFLT_INSTANCE Instance, PFLT_FILTER *RetFilter)
 {
-    KZ_INSIDE();
+    KZ_CALL();
     if (!kz_may_use(__func__, Instance))
         return STATUS_FLT_DELETING_OBJECT;
     *RetFilter = Instance->filter;
@@ -85,7 +85,7 @@ NTSTATUS FltGetFilterFromInstance(PFLT_INSTANCE Instance, PFLT_FILTER *RetFilter
 
 NTSTATUS FltGetFilterFromName(PCUNICODE_STRING FilterName, PFLT_FILTER *RetFilter)
 {
-    KZ_INSIDE();
+    KZ_CALL();
     char name[80];
     kz_narrow(name, sizeof name, FilterName);
     *RetFilter = NULL;
@@ -105,7 +105,7 @@ static bool is_there(PFLT_INSTANCE one, PFLT_VOLUME volume, PFLT_FILTER filter)
 
 NTSTATUS FltEnumerateInstances(PFLT_VOLUME Volume, PFLT_FILTER Filter, PFLT_INSTANCE *InstanceList, ULONG InstanceListSize, PULONG NumberInstancesReturned)
 {
-    KZ_INSIDE();
+    KZ_CALL();
     ULONG count = 0;
     for (size_t at = 0; at < kz.instances_count; at++)
         count += is_there(kz.instances[at], Volume, Filter);
@@ -131,7 +131,7 @@ static NTSTATUS give_instance(PFLT_INSTANCE instance, PFLT_INSTANCE *to, const c
 
 NTSTATUS FltGetVolumeInstanceFromName(PFLT_FILTER Filter, PFLT_VOLUME Volume, PCUNICODE_STRING InstanceName, PFLT_INSTANCE *RetInstance)
 {
-    KZ_INSIDE();
+    KZ_CALL();
     char name[80];
     kz_narrow(name, sizeof name, InstanceName);
     for (size_t at = 0; at < kz.instances_count; at++)
@@ -157,13 +157,13 @@ static PFLT_INSTANCE outermost(PFLT_VOLUME volume, int side)
 
 NTSTATUS FltGetTopInstance(PFLT_VOLUME Volume, PFLT_INSTANCE *Instance)
 {
-    KZ_INSIDE();
+    KZ_CALL();
     return give_instance(outermost(Volume, 1), Instance, __func__);
 }
 
 NTSTATUS FltGetBottomInstance(PFLT_VOLUME Volume, PFLT_INSTANCE *Instance)
 {
-    KZ_INSIDE();
+    KZ_CALL();
     return give_instance(outermost(Volume, -1), Instance, __func__);
 }
 
@@ -182,7 +182,7 @@ static PFLT_INSTANCE next_to(PFLT_INSTANCE from, int side)
 
 NTSTATUS FltGetUpperInstance(PFLT_INSTANCE CurrentInstance, PFLT_INSTANCE *UpperInstance)
 {
-    KZ_INSIDE();
+    KZ_CALL();
     if (!kz_may_use(__func__, CurrentInstance))
         return STATUS_FLT_DELETING_OBJECT;
     NTSTATUS status = give_instance(next_to(CurrentInstance, 1), UpperInstance, __func__);
@@ -191,7 +191,7 @@ NTSTATUS FltGetUpperInstance(PFLT_INSTANCE CurrentInstance, PFLT_INSTANCE *Upper
 
 NTSTATUS FltGetLowerInstance(PFLT_INSTANCE CurrentInstance, PFLT_INSTANCE *LowerInstance)
 {
-    KZ_INSIDE();
+    KZ_CALL();
     if (!kz_may_use(__func__, CurrentInstance))
         return STATUS_FLT_DELETING_OBJECT;
     NTSTATUS status = give_instance(next_to(CurrentInstance, -1), LowerInstance, __func__);
@@ -200,7 +200,7 @@ NTSTATUS FltGetLowerInstance(PFLT_INSTANCE CurrentInstance, PFLT_INSTANCE *Lower
 
 NTSTATUS FltEnumerateFilters(PFLT_FILTER *FilterList, ULONG FilterListSize, PULONG NumberFiltersReturned)
 {
-    KZ_INSIDE();
+    KZ_CALL();
     ULONG count = 0;
     for (size_t at = 0; at < kz.filters_count; at++)
         count += kz_filter_phase(kz.filters[at]) == KZP_FILTER_LOADED;

@@ -1,4 +1,5 @@
 /* Lookaside lists. */
+#include "core/access.h"
 #include "core/client.h"
 #include "core/made.h"
 #include "core/piece.h"
@@ -16,6 +17,7 @@ typedef GENERAL_LOOKASIDE_POOL Lookaside;
 VOID KzInitializeLookaside(PVOID List, PALLOCATE_FUNCTION Allocate, PFREE_FUNCTION Free, POOL_TYPE Type, SIZE_T Size, ULONG Tag)
 {
     KZ_INSIDE_OF(Type == PagedPool ? "ExInitializePagedLookasideList" : "ExInitializeNPagedLookasideList");
+    kz_must_be_there(List, "a lookaside list", kz_me->place.call);
     kz_made(List, "a lookaside list", "ExInitializeNPagedLookasideList", "ExDeleteNPagedLookasideList");
     *(Lookaside *)List = (Lookaside){.Size = (ULONG)Size, .Tag = Tag, .Type = Type, .Allocate = Allocate, .Free = Free, .Initialized = MADE};
 }
@@ -78,7 +80,7 @@ VOID KzFreeToLookaside(PVOID List, PVOID Entry, PCSTR Call)
 VOID KzDeleteLookaside(PVOID List)
 {
     Lookaside *list = List;
-    KZ_INSIDE_OF("ExDeleteNPagedLookasideList");
+    KZ_CALL_OF("ExDeleteNPagedLookasideList");
     if (!is_made(list, "ExDeleteNPagedLookasideList", KZ_CALLER()))
         return;
     list->Initialized = 0;

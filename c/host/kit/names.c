@@ -1,7 +1,9 @@
 /* Names of files and volumes. */
 #include "kit/names.h"
 
+#include "core/access.h"
 #include "core/client.h"
+#include "core/memory.h"
 #include "core/module.h"
 #include "core/operation.h"
 #include "core/piece.h"
@@ -12,20 +14,22 @@
 #include "filesystem/name.h"
 #include "filesystem/rename.h"
 #include "filesystem/tree.h"
+#include "filesystem/volumes.h"
 #include "manager/instance.h"
 #include "manager/mount.h"
 #include "manager/operation.h"
+#include "kit/provider.h"
 
 #include <stdio.h>
 #include <stdlib.h>
 
-/* What a driver is given lies in memory that is filled once it was released. */
+/* What a driver is given lies in memory that is filled once it was released; until then it is the manager's. */
 typedef struct Named {
-    FLT_FILE_NAME_INFORMATION shown;
     struct Named *next;
+    PFLT_FILE_NAME_INFORMATION shown;
     KzPlace place;
     unsigned references;
-    PVOID texts[2]; /* the driver may change what it is shown */
+    PVOID texts[2]; /* a driver may change what it is shown, though that is told */
 } Named;
 
 struct KzNameState {
@@ -41,33 +45,49 @@ static void free_named(Named *one)
 {
     kz_give_back(one->texts[0]);
     kz_give_back(one->texts[1]);
-    kz_give_back(one);
+    kz_give_back(one->shown);
+    free(one);
+}
+
+static bool fill(Named *made, PFLT_VOLUME volume, const char *whole, FLT_FILE_NAME_OPTIONS options)
+{
+    char text[64];
+    device_name(text, sizeof text, volume);
+    bool is_there = kz_give_name(&made->shown->Volume, text, false);
+    is_there &= kz_give_name(&made->shown->Name, whole, false);
+    made->texts[0] = made->shown->Volume.Buffer;
+    made->texts[1] = made->shown->Name.Buffer;
+    made->shown->Size = sizeof *made->shown;
+    made->shown->Format = options & FLT_VALID_FILE_NAME_FORMATS;
+    return is_there;
+}
+
+/* Of its whole name. */
+static NTSTATUS show_name(PFLT_VOLUME volume, const char *whole, FLT_FILE_NAME_OPTIONS options, PFLT_FILE_NAME_INFORMATION *shown)
+{
+    PFLT_FILE_NAME_INFORMATION room = kz_refuses(KZ_CHOICE_NAME, "FltGetFileNameInformation") ? NULL : kz_take_memory(KZK_NAME, sizeof *room, 0, 0);
+    if (!room)
+        return STATUS_INSUFFICIENT_RESOURCES;
+    Named *made = kz_memory(sizeof *made);
+    *made = (Named){.next = kz.name->first, .shown = room, .place = kz_me->place, .references = 1};
+    if (!fill(made, volume, whole, options)) {
+        free_named(made);
+        return STATUS_INSUFFICIENT_RESOURCES;
+    }
+    kz_own(room, KZ_MANAGERS, 0);
+    kz_own(made->texts[0], KZ_MANAGERS, 0);
+    kz_own(made->texts[1], KZ_MANAGERS, 0);
+    kz.name->first = made;
+    *shown = room;
+    return STATUS_SUCCESS;
 }
 
 static NTSTATUS name_of(PFLT_VOLUME volume, const char *path, FLT_FILE_NAME_OPTIONS options, PFLT_FILE_NAME_INFORMATION *shown)
 {
-    char text[400];
-    Named *made = kz_refuses(KZ_CHOICE_NAME, "FltGetFileNameInformation") ? NULL : kz_take_memory(KZK_NAME, sizeof *made, 0, 0);
-    if (!made)
-        return STATUS_INSUFFICIENT_RESOURCES;
-    device_name(text, sizeof text, volume);
-    bool is_there = kz_give_name(&made->shown.Volume, text, false);
-    snprintf(text + strlen(text), sizeof text - strlen(text), "/%s", path);
-    is_there &= kz_give_name(&made->shown.Name, text, false);
-    made->texts[0] = made->shown.Volume.Buffer;
-    made->texts[1] = made->shown.Name.Buffer;
-    if (!is_there) {
-        free_named(made);
-        return STATUS_INSUFFICIENT_RESOURCES;
-    }
-    made->shown.Size = sizeof made->shown;
-    made->shown.Format = options & FLT_VALID_FILE_NAME_FORMATS;
-    made->references = 1;
-    made->place = kz_me->place;
-    made->next = kz.name->first;
-    kz.name->first = made;
-    *shown = &made->shown;
-    return STATUS_SUCCESS;
+    char whole[400];
+    device_name(whole, sizeof whole, volume);
+    snprintf(whole + strlen(whole), sizeof whole - strlen(whole), "/%s", path);
+    return show_name(volume, whole, options, shown);
 }
 
 /* ---- Which name. That of a file that is open is the one that it has now; before that, as its create says it, or normalized: each part that is there as that is spelt. */
@@ -138,7 +158,7 @@ static NTSTATUS note_cached(NTSTATUS status, uint8_t *cached, FLT_FILE_NAME_OPTI
 
 NTSTATUS FltGetFileNameInformation(PFLT_CALLBACK_DATA CallbackData, FLT_FILE_NAME_OPTIONS NameOptions, PFLT_FILE_NAME_INFORMATION *FileNameInformation)
 {
-    KZ_INSIDE();
+    KZ_CALL();
     *FileNameInformation = NULL;
     KzOp *op = kz_me->place.data == CallbackData && kz_me->place.op ? kz_me->place.op : kz_op_with(CallbackData);
     if (!op) {
@@ -156,15 +176,21 @@ NTSTATUS FltGetFileNameInformation(PFLT_CALLBACK_DATA CallbackData, FLT_FILE_NAM
     uint8_t *cached = cached_of(op->file, !is_opening(op));
     if (is_cache_miss(cached, NameOptions))
         return STATUS_FLT_NAME_CACHE_MISS;
-    char text[300];
-    spell(op, FltGetFileNameFormat(NameOptions), text, sizeof text);
-    return note_cached(name_of(op->volume, text, NameOptions, FileNameInformation), cached, NameOptions);
+    char text[600];
+    NTSTATUS status;
+    PFLT_INSTANCE asker = kz_me->place.instance ? kz_me->place.instance : CallbackData->Iopb->TargetInstance;
+    if (kz_ask_provider(&(KzNameAsked){asker, op->file, op, CallbackData, NameOptions}, text, sizeof text, &status))
+        return NT_SUCCESS(status) ? show_name(op->volume, text, NameOptions, FileNameInformation) : status;
+    spell(op, FltGetFileNameFormat(NameOptions), text, 300);
+    if (op->file->is_volume)
+        device_name(text, sizeof text, op->volume);
+    return note_cached(op->file->is_volume ? show_name(op->volume, text, NameOptions, FileNameInformation) : name_of(op->volume, text, NameOptions, FileNameInformation), cached, NameOptions);
 }
 
 NTSTATUS FltGetFileNameInformationUnsafe(PFILE_OBJECT FileObject, PFLT_INSTANCE Instance, FLT_FILE_NAME_OPTIONS NameOptions,
                                          PFLT_FILE_NAME_INFORMATION *FileNameInformation)
 {
-    KZ_INSIDE();
+    KZ_CALL();
     *FileNameInformation = NULL;
     if (!kz_may_use(__func__, Instance))
         return STATUS_INVALID_PARAMETER;
@@ -174,9 +200,17 @@ NTSTATUS FltGetFileNameInformationUnsafe(PFILE_OBJECT FileObject, PFLT_INSTANCE 
         return STATUS_FLT_INVALID_NAME_REQUEST;
     if (!file)
         return STATUS_INVALID_PARAMETER;
+    if (op && op->file == file && is_opening(op)) {
+        kz_tell(KZM_NOT_OPENED, __func__, "a file object that isn't open: its create isn't answered yet, or failed");
+        return STATUS_FLT_INVALID_NAME_REQUEST;
+    }
     uint8_t *cached = cached_of(file, true);
     if (is_cache_miss(cached, NameOptions))
         return STATUS_FLT_NAME_CACHE_MISS;
+    char text[600];
+    NTSTATUS status;
+    if (kz_ask_provider(&(KzNameAsked){Instance, file, NULL, NULL, NameOptions}, text, sizeof text, &status))
+        return NT_SUCCESS(status) ? show_name(file->volume, text, NameOptions, FileNameInformation) : status;
     return note_cached(name_of(file->volume, kz_name_now(file), NameOptions, FileNameInformation), cached, NameOptions);
 }
 
@@ -184,24 +218,25 @@ NTSTATUS FltGetFileNameInformationUnsafe(PFILE_OBJECT FileObject, PFLT_INSTANCE 
 NTSTATUS FltGetDestinationFileNameInformation(PFLT_INSTANCE Instance, PFILE_OBJECT FileObject, HANDLE RootDirectory, PWSTR FileName, ULONG FileNameLength,
                                               FLT_FILE_NAME_OPTIONS NameOptions, PFLT_FILE_NAME_INFORMATION *RetFileNameInformation)
 {
-    KZ_INSIDE();
-    char asked[600], text[600];
+    KZ_CALL();
+    char asked[600], text[600], whole[700];
     *RetFileNameInformation = NULL;
     KzFile *file = kz_may_use(__func__, Instance) ? kz_file_with(FileObject) : NULL;
     if (!file || !FileName || !kz_destination(file, RootDirectory, FileName, FileNameLength, asked, sizeof asked))
         return STATUS_INVALID_PARAMETER;
-    if (FltGetFileNameFormat(NameOptions) == FLT_FILE_NAME_NORMALIZED)
-        normalize(file->volume, asked, text, sizeof text);
-    else
-        memcpy(text, asked, sizeof text);
-    return name_of(file->volume, text, NameOptions, RetFileNameInformation);
+    if (FltGetFileNameFormat(NameOptions) != FLT_FILE_NAME_NORMALIZED)
+        return name_of(file->volume, asked, NameOptions, RetFileNameInformation);
+    normalize(file->volume, asked, text, sizeof text);
+    snprintf(whole, sizeof whole, "/Device/%s/%s", file->volume->name, text);
+    kz_normalize_destination(&(KzNameAsked){Instance, file, kz_me->place.op, kz_me->place.data, NameOptions}, whole, sizeof whole);
+    return show_name(file->volume, whole, NameOptions, RetFileNameInformation);
 }
 
 /* No name is a short one, so that none is tunneled. */
 NTSTATUS FltGetTunneledName(PFLT_CALLBACK_DATA CallbackData, PFLT_FILE_NAME_INFORMATION FileNameInformation,
                             PFLT_FILE_NAME_INFORMATION *RetTunneledFileNameInformation)
 {
-    KZ_INSIDE();
+    KZ_CALL();
     (void)CallbackData, (void)FileNameInformation;
     *RetTunneledFileNameInformation = NULL;
     return STATUS_SUCCESS;
@@ -210,7 +245,7 @@ NTSTATUS FltGetTunneledName(PFLT_CALLBACK_DATA CallbackData, PFLT_FILE_NAME_INFO
 static Named **find(PFLT_FILE_NAME_INFORMATION shown, const char *call)
 {
     for (Named **at = &kz.name->first; *at; at = &(*at)->next)
-        if (&(*at)->shown == shown)
+        if ((*at)->shown == shown)
             return at;
     kz_tell(KZM_NO_NAME, call, "no name information (released twice?)");
     return NULL;
@@ -218,7 +253,7 @@ static Named **find(PFLT_FILE_NAME_INFORMATION shown, const char *call)
 
 VOID FltReferenceFileNameInformation(PFLT_FILE_NAME_INFORMATION FileNameInformation)
 {
-    KZ_INSIDE();
+    KZ_CALL();
     Named **at = find(FileNameInformation, __func__);
     if (at)
         (*at)->references++;
@@ -226,7 +261,7 @@ VOID FltReferenceFileNameInformation(PFLT_FILE_NAME_INFORMATION FileNameInformat
 
 VOID FltReleaseFileNameInformation(PFLT_FILE_NAME_INFORMATION FileNameInformation)
 {
-    KZ_INSIDE();
+    KZ_CALL();
     Named **at = find(FileNameInformation, __func__);
     if (!at || --(*at)->references > 0)
         return;
@@ -289,6 +324,7 @@ NTSTATUS FltParseFileNameInformation(PFLT_FILE_NAME_INFORMATION FileNameInformat
 {
     KZ_INSIDE();
     PFLT_FILE_NAME_INFORMATION info = FileNameInformation;
+    kz_open_owned(info);
     FltParseFileName(&info->Name, &info->Extension, &info->Stream, &info->FinalComponent);
     size_t volume = info->Volume.Length / sizeof(WCHAR), start = final_start(&info->Name);
     info->ParentDir = start > volume ? part(&info->Name, volume, start) : part(&info->Name, volume, volume);
@@ -302,9 +338,8 @@ NTSTATUS FltParseFileNameInformation(PFLT_FILE_NAME_INFORMATION FileNameInformat
 static NTSTATUS put_name(const char *text, PUNICODE_STRING to, PULONG needed)
 {
     WCHAR room[128];
-    USHORT size = (USHORT)(strlen(text) * sizeof(WCHAR));
+    USHORT size = (USHORT)kz_widen(room, text);
     UNICODE_STRING name = {size, size, room};
-    kz_widen(room, text);
     if (needed)
         *needed = name.Length;
     if (!to || to->MaximumLength < name.Length)
@@ -328,8 +363,9 @@ NTSTATUS FltGetVolumeGuidName(PFLT_VOLUME Volume, PUNICODE_STRING VolumeGuidName
     KZ_INSIDE();
     if (!kz_may_use_volume(__func__, Volume))
         return STATUS_FLT_DELETING_OBJECT;
-    char text[80];
-    snprintf(text, sizeof text, "/?" "?/Volume{00000000-0000-0000-0000-%012x}", Volume->id + 1u);
+    char guid[64], text[80];
+    kz_volume_guid(Volume, guid, sizeof guid);
+    snprintf(text, sizeof text, "/?" "?/%s", guid);
     return put_name(text, VolumeGuidName, BufferSizeNeeded);
 }
 

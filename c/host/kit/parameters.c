@@ -1,9 +1,11 @@
 /* What a driver asks of its callback data: whether it is dirty, where its buffer is, and who asked for the operation. */
+#include "core/access.h"
 #include "core/client.h"
 #include "core/held.h"
 #include "core/operation.h"
 #include "core/told.h"
 #include "filesystem/fileobject.h"
+#include "manager/block.h"
 #include "manager/data.h"
 #include "manager/operation.h"
 
@@ -44,6 +46,7 @@ NTSTATUS FltLockUserBuffer(PFLT_CALLBACK_DATA CallbackData)
     PMDL made = IoAllocateMdl(*buffer, *length, FALSE, FALSE, NULL);
     if (made) {
         made->MdlFlags |= MDL_PAGES_LOCKED;
+        kz_map_pages(*buffer, true);
         kz_keep_mdl(op, made);
         *mdl = made;
         *(PMDL *)((PUCHAR)&op->shown.parameters + ((PUCHAR)mdl - (PUCHAR)op->iopb)) = made;
@@ -124,12 +127,20 @@ NTSTATUS FltGetRequestorSessionId(PFLT_CALLBACK_DATA CallbackData, PULONG Sessio
     return STATUS_SUCCESS;
 }
 
-/* No operation answers STATUS_PENDING to the filter that asked to be told, so that the routine isn't called. */
+/* Of an IRP, in its preoperation. The routine is called once the file system's call has returned: behind the postoperations, if it didn't wait. */
 NTSTATUS FltRequestOperationStatusCallback(PFLT_CALLBACK_DATA Data, PFLT_GET_OPERATION_STATUS_CALLBACK CallbackRoutine, PVOID RequesterContext)
 {
     KZ_INSIDE();
-    (void)Data, (void)CallbackRoutine, (void)RequesterContext;
-    kz_tell(KZM_STATUS_LOST, __func__, "the routine is never called");
+    KzOp *op = kz_me->place.op;
+    if (!op || op->data != Data || kz_me->place.callback != KZ_IN_PRE || !(Data->Flags & FLTFL_CALLBACK_DATA_IRP_OPERATION)) {
+        kz_tell(KZM_NOT_OWN_DATA, __func__, "of no IRP in its preoperation");
+        return STATUS_INVALID_PARAMETER;
+    }
+    if (kz_refuses(KZ_CHOICE_POOL, __func__))
+        return STATUS_INSUFFICIENT_RESOURCES;
+    KzWantsStatus *made = kz_block(op, sizeof *made);
+    *made = (KzWantsStatus){op->wants, kz_me->place.instance, (const void *)(uintptr_t)CallbackRoutine, RequesterContext, *Data->Iopb};
+    op->wants = made;
     return STATUS_SUCCESS;
 }
 
@@ -138,7 +149,12 @@ NTSTATUS FltIsDirectory(PFILE_OBJECT FileObject, PFLT_INSTANCE Instance, PBOOLEA
     KZ_INSIDE();
     (void)Instance;
     KzFile *file = kz_file_with(FileObject);
-    *IsDirectory = file && file->is_directory;
+    const KzOp *op = kz_me->place.op;
+    if (file && op && op->file == file && op->event == KZE_CREATE && !file->has_handle && !file->is_opening) {
+        kz_tell(KZM_NOT_OPENED, __func__, "a file object that isn't open: its create isn't answered yet, or failed");
+        return STATUS_INVALID_PARAMETER;
+    }
+    *IsDirectory = file && file->is_directory && !file->is_volume;
     return file ? STATUS_SUCCESS : STATUS_INVALID_PARAMETER;
 }
 

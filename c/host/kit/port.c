@@ -1,7 +1,9 @@
 /* Ports. A program's thread calls the filter's callbacks by itself, as in the kit; a message of the filter's waits until a program's thread has got it, or has answered it. */
 #include "kit/port.h"
 
+#include "core/access.h"
 #include "core/client.h"
+#include "core/held.h"
 #include "core/memory.h"
 #include "core/module.h"
 #include "core/piece.h"
@@ -36,7 +38,6 @@ struct _FLT_PORT {
 struct KzPortState {
     PFLT_PORT servers, connections;
     uint64_t last; /* message */
-    UCHAR descriptor;
 };
 
 /* Descriptors aren't looked into: whoever connects may. */
@@ -44,14 +45,18 @@ NTSTATUS FltBuildDefaultSecurityDescriptor(PSECURITY_DESCRIPTOR *SecurityDescrip
 {
     KZ_INSIDE();
     (void)DesiredAccess;
-    *SecurityDescriptor = &kz.port->descriptor;
-    return STATUS_SUCCESS;
+    *SecurityDescriptor = kz_take_memory(KZK_POOL, sizeof(ULONG), 0, KZ_DESCRIPTOR_TAG);
+    return *SecurityDescriptor ? STATUS_SUCCESS : STATUS_INSUFFICIENT_RESOURCES;
 }
 
 VOID FltFreeSecurityDescriptor(PSECURITY_DESCRIPTOR SecurityDescriptor)
 {
-    if (SecurityDescriptor != &kz.port->descriptor)
-        kz_tell(KZM_NO_FILTER_OBJECT, __func__, "no security descriptor of FltBuildDefaultSecurityDescriptor");
+    KZ_INSIDE();
+    KzPiece *piece = kz_piece_of(SecurityDescriptor);
+    if (piece && piece->kind == KZK_POOL && piece->tag == KZ_DESCRIPTOR_TAG)
+        kz_give_back(SecurityDescriptor);
+    else
+        kz_tell(KZM_NO_FILTER_OBJECT, __func__, "no security descriptor of FltBuildDefaultSecurityDescriptor (freed twice?)");
 }
 
 static PFLT_PORT server_of(const char *name)
@@ -201,6 +206,25 @@ void kz_disconnect_port(PFLT_PORT port)
     kz_scheduler->touch(port, 0, KZT_GIVES);
 }
 
+/* The program's own buffers, with an end that is seen. */
+static void *callers_copy(const void *bytes, ULONG length)
+{
+    void *made = length ? kz_take_memory(KZK_CALLER, length, 0, 0) : NULL;
+    if (!made)
+        return NULL;
+    memcpy(made, bytes, length);
+    kz_own(made, KZ_CALLERS, kz_me->process);
+    return made;
+}
+
+static void look_at_buffers(const void *in, const void *out)
+{
+    if (in)
+        kz_check_piece(kz_piece_of(in));
+    if (out)
+        kz_check_piece(kz_piece_of(out));
+}
+
 NTSTATUS kz_send_to_filter(PFLT_PORT port, void *in, ULONG in_length, void *out, ULONG out_length, PULONG returned)
 {
     KZ_CALL();
@@ -211,9 +235,18 @@ NTSTATUS kz_send_to_filter(PFLT_PORT port, void *in, ULONG in_length, void *out,
         return STATUS_NOT_SUPPORTED;
     kz_scheduler->touch(port, 0, KZT_TAKES);
     port->running++;
+    void *own_in = callers_copy(in, in_length), *own_out = callers_copy(out, out_length);
     Inside inside = go_in(port->filter, "message", (PVOID)port->message);
-    NTSTATUS status = KZ_CALL_DRIVER(port->message, port->cookie, in, in_length, out, out_length, returned);
+    NTSTATUS status = KZ_CALL_DRIVER(port->message, port->cookie, own_in, in_length, own_out, out_length, returned);
+    if (*returned > out_length)
+        kz_tell(KZM_PAST_LENGTH, "ReturnOutputBufferLength", "%u bytes, where the program's buffer has %u", *returned, out_length);
+    *returned = *returned > out_length ? out_length : *returned;
+    look_at_buffers(own_in, own_out);
     come_back(inside, "message returns");
+    if (out_length)
+        memcpy(out, own_out, out_length);
+    kz_give_back(own_in);
+    kz_give_back(own_out);
     port->running--;
     kz.changes++;
     kz_scheduler->touch(port, 0, KZT_GIVES);
@@ -316,7 +349,10 @@ NTSTATUS FltSendMessage(PFLT_FILTER Filter, PFLT_PORT *ClientPort, PVOID SenderB
         return message.status;
     if (kz_is_port_over(port))
         return STATUS_PORT_DISCONNECTED;
-    if (milliseconds < 0)
+    const char *waits = kz_waits_for_mine();
+    if (milliseconds < 0 && waits)
+        kz_tell(KZM_WAITS_FOR_EVER, __func__, "the message waits for %s, which waits for a lock that this thread holds: both would wait for ever", waits);
+    else if (milliseconds < 0)
         kz_tell(KZM_NOBODY_SETS, __func__, "no program takes or answers the message: it ends with STATUS_TIMEOUT");
     return STATUS_TIMEOUT;
 }

@@ -1,6 +1,9 @@
 /* What a driver prints: to where all is said, a piece at a time. */
 #include "core/client.h"
+#include "core/held.h"
 #include "core/said.h"
+#include "core/spell.h"
+#include "core/told.h"
 #include "lib/format.h"
 
 typedef struct {
@@ -11,12 +14,38 @@ typedef struct {
 static void put_out(void *sink, WCHAR letter)
 {
     Piece *piece = sink;
-    if (piece->length + 1 == sizeof piece->text) {
+    if (piece->length + 5 > sizeof piece->text) {
         kz_put(KZ_SAID_BY_DRIVER, piece->text);
         piece->length = 0;
     }
-    piece->text[piece->length++] = (char)(letter < 127 && letter != KZ_MARK[0] ? letter : '?');
-    piece->text[piece->length] = 0;
+    kz_put_utf8(piece->text, sizeof piece->text, &piece->length, letter != 127 && letter != KZ_MARK[0] ? letter : '?');
+}
+
+/* Whether a conversion takes wide text: the kit looks letters up in tables that can be paged out. */
+static bool has_wide_text(PCSTR format)
+{
+    for (PCSTR at = strchr(format, '%'); at; at = strchr(at, '%')) {
+        at += 1 + strspn(at + 1, "-+ #0123456789.*");
+        bool is_long = *at == 'w' || *at == 'l';
+        if (*at == 'S' || *at == 'C' || (is_long && at[1] && strchr("scZSC", at[1])))
+            return true;
+        at += *at != 0;
+    }
+    return false;
+}
+
+static void nowhere(void *sink, WCHAR letter)
+{
+    (void)sink, (void)letter;
+}
+
+/* A text without an end is told whether somebody reads what is printed or not. */
+static void look_at_wide_text(PCSTR format, va_list *arguments)
+{
+    if (kz_irql() >= DISPATCH_LEVEL)
+        kz_tell(KZM_IRQL, kz_me->place.call, "wide text is printed at IRQL %u; that may be done at PASSIVE_LEVEL (0)", kz_irql());
+    if (kz_is_quiet)
+        kz_format(nowhere, NULL, format, false, arguments);
 }
 
 ULONG vDbgPrintExWithPrefix(PCSTR Prefix, ULONG ComponentId, ULONG Level, PCSTR Format, va_list Arguments)
@@ -26,6 +55,8 @@ ULONG vDbgPrintExWithPrefix(PCSTR Prefix, ULONG ComponentId, ULONG Level, PCSTR 
     Piece piece = {0};
     va_list arguments;
     va_copy(arguments, Arguments);
+    if (kz_me->place.call && has_wide_text(Format))
+        look_at_wide_text(Format, &arguments);
     if (!kz_is_quiet) {
         for (; *Prefix; Prefix++)
             put_out(&piece, (UCHAR)*Prefix);

@@ -28,7 +28,7 @@ NTSTATUS FltCbdqInitialize(PFLT_INSTANCE Instance, PFLT_CALLBACK_DATA_QUEUE Cbdq
 /* Whether it was initialized, and its instance is there still. */
 static bool is_made(PFLT_CALLBACK_DATA_QUEUE queue, const char *call, const void *from)
 {
-    KZ_INSIDE_FROM(call, from);
+    KZ_CALL_FROM(call, from);
     if (!(queue->Flags & FLTFL_CALLBACK_DATA_QUEUE_VALID) || !queue->Acquire)
         kz_tell_of(queue, KZM_NEVER_MADE, call, "a queue that was never initialized");
     return queue->Acquire && kz_may_use(call, queue->Instance);
@@ -59,11 +59,13 @@ void kz_leave_queue(PFLT_CALLBACK_DATA data)
 
 VOID FltCbdqEnable(PFLT_CALLBACK_DATA_QUEUE Cbdq)
 {
+    KZ_CALL();
     __atomic_and_fetch(&Cbdq->Flags, ~FLTFL_CALLBACK_DATA_QUEUE_DISABLED, __ATOMIC_SEQ_CST);
 }
 
 VOID FltCbdqDisable(PFLT_CALLBACK_DATA_QUEUE Cbdq)
 {
+    KZ_CALL();
     __atomic_or_fetch(&Cbdq->Flags, FLTFL_CALLBACK_DATA_QUEUE_DISABLED, __ATOMIC_SEQ_CST);
 }
 
@@ -101,6 +103,8 @@ PFLT_CALLBACK_DATA FltCbdqRemoveNextIo(PFLT_CALLBACK_DATA_QUEUE Cbdq, PVOID Peek
 PFLT_CALLBACK_DATA FltCbdqRemoveIo(PFLT_CALLBACK_DATA_QUEUE Cbdq, PFLT_CALLBACK_DATA_QUEUE_IO_CONTEXT Context)
 {
     KIRQL irql = 0;
+    if (!is_made(Cbdq, __func__, KZ_CALLER()))
+        return NULL;
     KZ_CALL_DRIVER(Cbdq->Acquire, Cbdq, &irql);
     PFLT_CALLBACK_DATA found = Context->Cbd;
     if (found) {

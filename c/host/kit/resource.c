@@ -1,4 +1,5 @@
 /* Resources: locks that an owner may take again, and that many may read under. */
+#include "core/access.h"
 #include "core/client.h"
 #include "core/held.h"
 #include "core/made.h"
@@ -76,6 +77,7 @@ NTSTATUS ExInitializeResourceLite(PERESOURCE Resource)
 {
     KZ_INSIDE();
     memset(Resource, 0, sizeof *Resource);
+    kz_must_be_there(Resource, "a resource", __func__);
     kz_made(Resource, "a resource", __func__, "ExDeleteResourceLite");
     return STATUS_SUCCESS;
 }
@@ -90,7 +92,7 @@ NTSTATUS ExReinitializeResourceLite(PERESOURCE Resource)
 
 NTSTATUS ExDeleteResourceLite(PERESOURCE Resource)
 {
-    KZ_INSIDE();
+    KZ_CALL();
     KzForgetLock(Resource, __func__);
     if (!kz_unmade(Resource))
         kz_tell_of(Resource, KZM_STILL_MADE, __func__, "no resource (deleted twice?)");

@@ -12,6 +12,8 @@ VOID ExInitializeRundownProtection(PEX_RUNDOWN_REF RunRef)
 
 VOID ExReInitializeRundownProtection(PEX_RUNDOWN_REF RunRef)
 {
+    KZ_CALL();
+    kz_in_order_of(RunRef);
     RunRef->Count = 0;
 }
 

@@ -1,11 +1,20 @@
-/* Sections of a file for a scan: what the file holds as the section is made, read below the filter. A later write isn't in it. */
+/* Sections of a file for a scan: memory with what the file holds, read below the filter, and with what is written to it later. Whoever is about to cut the file has the filter told first. */
 #include "kit/section.h"
 
 #include "core/client.h"
+#include "core/major.h"
 #include "core/memory.h"
 #include "core/module.h"
+#include "core/operation.h"
+#include "core/place.h"
+#include "core/state.h"
 #include "core/told.h"
+#include "filesystem/fileobject.h"
 #include "filesystem/handle.h"
+#include "filesystem/tree.h"
+#include "manager/below.h"
+#include "manager/context.h"
+#include "manager/hand.h"
 #include "manager/instance.h"
 #include "manager/reference.h"
 #include "kit/information.h"
@@ -17,9 +26,11 @@ typedef struct Section {
     struct Section *next;
     PFLT_CONTEXT context; /* NULL once it was closed */
     PFLT_FILTER filter;
+    PFLT_INSTANCE instance;
     PFILE_OBJECT file;
     uint8_t *bytes;
     uint64_t size;
+    KzView view; /* the same, as the file system has it */
 } Section;
 
 struct KzSectionState {
@@ -28,7 +39,7 @@ struct KzSectionState {
 
 NTSTATUS FltRegisterForDataScan(PFLT_INSTANCE Instance)
 {
-    KZ_INSIDE();
+    KZ_CALL();
     return kz_may_use(__func__, Instance) ? STATUS_SUCCESS : STATUS_INVALID_PARAMETER;
 }
 
@@ -49,6 +60,24 @@ static NTSTATUS read_all(PFLT_INSTANCE instance, PFILE_OBJECT object, Section *m
     return kz_transfer(&(KzTransfer){instance, object, &offset, (ULONG)made->size, made->bytes, FLTFL_IO_OPERATION_DO_NOT_UPDATE_BYTE_OFFSET, &done, NULL, NULL, call, NULL}, false);
 }
 
+static void show(Section *made)
+{
+    const KzFile *file = kz_file_with(made->file);
+    KzNode *node = file && file->name ? file->name->node : NULL;
+    made->view = (KzView){node ? node->views : NULL, node, made->bytes, made->size};
+    if (node)
+        node->views = &made->view;
+}
+
+static void hide(Section *gone)
+{
+    KzView **at = gone->view.node ? &gone->view.node->views : NULL;
+    while (at && *at != &gone->view)
+        at = &(*at)->next;
+    if (at)
+        *at = gone->view.next;
+}
+
 NTSTATUS FltCreateSectionForDataScan(PFLT_INSTANCE Instance, PFILE_OBJECT FileObject, PFLT_CONTEXT SectionContext, ACCESS_MASK DesiredAccess,
                                      POBJECT_ATTRIBUTES ObjectAttributes, PLARGE_INTEGER MaximumSize, ULONG SectionPageProtection, ULONG AllocationAttributes,
                                      ULONG Flags, PHANDLE SectionHandle, PVOID *SectionObject, PLARGE_INTEGER SectionFileSize)
@@ -58,14 +87,14 @@ NTSTATUS FltCreateSectionForDataScan(PFLT_INSTANCE Instance, PFILE_OBJECT FileOb
     *SectionHandle = NULL;
     *SectionObject = NULL;
     Section *made = kz_memory(sizeof *made);
-    *made = (Section){.context = SectionContext, .filter = kz_me->place.filter, .file = FileObject};
+    *made = (Section){.context = SectionContext, .filter = kz_me->place.filter, .instance = Instance, .file = FileObject};
     NTSTATUS status = kz_refuses(KZ_CHOICE_POOL, __func__) ? STATUS_INSUFFICIENT_RESOURCES : read_all(Instance, FileObject, made, __func__);
     if (!NT_SUCCESS(status)) {
         free(made->bytes);
         free(made);
         return status;
     }
-    kz_tell(KZM_SECTION, __func__, "the section is a copy: what is written later isn't in it, and no conflict is notified");
+    show(made);
     made->next = kz.section->first;
     kz.section->first = made;
     FltReferenceContext(SectionContext); /* the section has it, until it is closed */
@@ -110,6 +139,44 @@ NTSTATUS FltGetSectionContext(PFLT_INSTANCE Instance, PFILE_OBJECT FileObject, P
     return STATUS_SUCCESS;
 }
 
+/* ---- Conflicts: the filter may close its section then. Its callback data says what the operation is, and no more. */
+static void notify(const Section *one, KzOp *op)
+{
+    PFLT_SECTION_CONFLICT_NOTIFICATION_CALLBACK function = one->filter->registration.SectionNotificationCallback;
+    PFLT_CONTEXT context = one->context;
+    FLT_IO_PARAMETER_BLOCK iopb = {.MajorFunction = kz_major_of(op), .MinorFunction = op->carried ? op->carried->minor : IRP_MN_NORMAL, .TargetInstance = one->instance, .TargetFileObject = &op->file->object};
+    FLT_CALLBACK_DATA data = {.Flags = kz_data_flags(op), .Thread = op->thread, .Iopb = &iopb, .RequestorMode = kz_requestor_of(op)};
+    uint8_t worker = kz_helper();
+    KzPlace before = kz_enter(KZ_IN_NOTIFY, worker, one->filter, one->instance, NULL, &data);
+    kz_call_at(PASSIVE_LEVEL);
+    unsigned depth = kz_let_driver("section conflict", function);
+    KZ_CALL_DRIVER(function, one->instance, context, &data);
+    kz_driver_returned(depth, "section conflict returns");
+    kz_keep_rest(NULL);
+    kz_leave(before);
+    kz_helped(worker);
+    kz_clean_up();
+}
+
+static Section *in_the_way(const void *node, uint64_t size)
+{
+    Section *one = kz.section->first;
+    while (one && !(one->context && one->view.node == node && one->size > size))
+        one = one->next;
+    return one;
+}
+
+static bool is_mapped(KzOp *op, const void *node, uint64_t size)
+{
+    Section *one = in_the_way(node, size), *last = NULL;
+    while (one && one != last && one->filter->registration.SectionNotificationCallback) {
+        notify(one, op);
+        last = one;
+        one = in_the_way(node, size);
+    }
+    return one != NULL;
+}
+
 /* ---- Views. A section's memory stays to the end of a run. */
 static Section *section_of(PVOID object)
 {
@@ -152,19 +219,9 @@ NTSTATUS ZwUnmapViewOfSection(HANDLE ProcessHandle, PVOID BaseAddress)
     return STATUS_NOT_MAPPED_VIEW;
 }
 
-/* A handle of a section, for a program. */
-NTSTATUS ObOpenObjectByPointer(PVOID Object, ULONG HandleAttributes, PVOID PassedAccessState, ACCESS_MASK DesiredAccess, POBJECT_TYPE ObjectType,
-                               KPROCESSOR_MODE AccessMode, PHANDLE Handle)
+bool kz_is_section(PVOID object)
 {
-    KZ_CALL();
-    (void)PassedAccessState, (void)DesiredAccess, (void)ObjectType, (void)AccessMode;
-    *Handle = NULL;
-    if (section_of(Object)) {
-        *Handle = kz_open_handle(Object, "a section", HandleAttributes);
-        return STATUS_SUCCESS;
-    }
-    kz_tell(KZM_SECURITY, __func__, "of what isn't a section it answers STATUS_NOT_SUPPORTED");
-    return STATUS_NOT_SUPPORTED;
+    return section_of(object) != NULL;
 }
 
 static void free_sections(void)
@@ -172,9 +229,10 @@ static void free_sections(void)
     while (kz.section->first) {
         Section *one = kz.section->first;
         kz.section->first = one->next;
+        hide(one);
         free(one->bytes);
         free(one);
     }
 }
 
-const KzModule kz_section_module = {KZ_STATE(section), .free = free_sections};
+const KzModule kz_section_module = {KZ_STATE(section), .free = free_sections, .is_mapped = is_mapped};

@@ -5,6 +5,7 @@
 #include "host.h"
 
 void *kz_section_bytes(HANDLE handle, uint64_t offset, size_t *size);
+bool kz_is_section(PVOID object);
 extern const struct KzModule kz_section_module;
 
 #endif

@@ -12,6 +12,7 @@
 #include "filesystem/handle.h"
 #include "manager/hand.h"
 #include "manager/operation.h"
+#include "kit/notify.h"
 
 #include <setjmp.h>
 #include <stdlib.h>
@@ -44,8 +45,8 @@ static void live(void *given)
     kz_driver_returned(depth, "thread ends");
     kz_keep_rest(NULL);
     kz_leave(before);
+    kz_thread_ends(kz_me->process, kz_me->thread);
     me->has_ended = true;
-    kz_end_thread_object(me->object);
 }
 
 static Own *mine(void)
@@ -79,6 +80,7 @@ NTSTATUS PsCreateSystemThread(PHANDLE ThreadHandle, ULONG DesiredAccess, POBJECT
     if (ClientId)
         *ClientId = (CLIENT_ID){ULongToHandle(4), ULongToHandle(id)};
     *ThreadHandle = kz_open_handle(made->object, "a thread", OBJ_KERNEL_HANDLE);
+    kz_thread_begins(4, id);
     return STATUS_SUCCESS;
 }
 
@@ -87,7 +89,7 @@ NTSTATUS PsTerminateSystemThread(NTSTATUS ExitStatus)
     (void)ExitStatus;
     Own *me;
     {
-        KZ_INSIDE();
+        KZ_CALL();
         me = mine();
         if (!me)
             kz_tell(KZM_NO_FILTER_OBJECT, __func__, "called by a thread that PsCreateSystemThread didn't make");

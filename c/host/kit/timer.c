@@ -2,6 +2,7 @@
 #include "kit/timer.h"
 
 #include "core/beside.h"
+#include "core/access.h"
 #include "core/client.h"
 #include "core/clock.h"
 #include "core/module.h"
@@ -40,6 +41,7 @@ VOID KeInitializeTimerEx(PKTIMER Timer, TIMER_TYPE Type)
         kz_tell_of(Timer, KZM_STILL_MADE, __func__, "a timer that is set");
         KeCancelTimer(Timer);
     }
+    kz_must_be_there(Timer, "a timer", __func__);
     *Timer = (KTIMER){.Header.Type = (UCHAR)(Type == NotificationTimer ? KZ_TIMER_KEEPS : KZ_TIMER_RESETS)};
     kz_make_dispatcher(&Timer->Header);
 }
@@ -90,7 +92,7 @@ BOOLEAN KeSetTimerEx(PKTIMER Timer, LARGE_INTEGER DueTime, LONG Period, PKDPC Dp
 
 BOOLEAN KeSetTimer(PKTIMER Timer, LARGE_INTEGER DueTime, PKDPC Dpc)
 {
-    KZ_INSIDE();
+    KZ_CALL();
     return KeSetTimerEx(Timer, DueTime, 0, Dpc);
 }
 

@@ -29,15 +29,6 @@ static void nothing(KzMessage message, const char *call)
     }
 
 /* I/O that a filter begins itself. */
-NTSTATUS FltOpenVolume(PFLT_INSTANCE Instance, PHANDLE VolumeHandle, PFILE_OBJECT *VolumeFileObject)
-{
-    KZ_INSIDE();
-    *VolumeHandle = NULL;
-    if (VolumeFileObject)
-        *VolumeFileObject = NULL;
-    return none(KZM_OWN_IO, __func__);
-}
-
 NONE(KZM_OWN_IO, FltNotifyFilterChangeDirectory, PVOID NotifySync, PLIST_ENTRY NotifyList, PVOID FsContext, PVOID FullDirectoryName, BOOLEAN WatchTree,
      BOOLEAN IgnoreBuffer, ULONG CompletionFilter, PFLT_CALLBACK_DATA NotifyCallbackData, PVOID TraverseCallback, PVOID SubjectContext, PVOID FilterCallback)
 
@@ -91,6 +82,13 @@ FLT_PREOP_CALLBACK_STATUS FltOplockFsctrl(POPLOCK Oplock, PFLT_CALLBACK_DATA Cal
     return FLT_PREOP_COMPLETE;
 }
 
+FLT_PREOP_CALLBACK_STATUS FltOplockFsctrlEx(POPLOCK Oplock, PFLT_CALLBACK_DATA CallbackData, ULONG OpenCount, ULONG Flags)
+{
+    KZ_INSIDE();
+    CallbackData->IoStatus.Status = none(KZM_OPLOCK, __func__);
+    return FLT_PREOP_COMPLETE;
+}
+
 FLT_PREOP_CALLBACK_STATUS FltCheckOplock(POPLOCK Oplock, PFLT_CALLBACK_DATA CallbackData, PVOID Context, PVOID WaitCompletionRoutine, PVOID PrePostCallback)
 {
     KZ_INSIDE();
@@ -117,27 +115,7 @@ PTXN_PARAMETER_BLOCK IoGetTransactionParameterBlock(PFILE_OBJECT FileObject)
     return NULL;
 }
 
-#define NEVER(name, ...)                                                                    NTSTATUS name(__VA_ARGS__)                                                              {                                                                                           kz_tell(KZM_NOTIFY, #name, "nothing of that happens: the routine is never called");         return STATUS_SUCCESS;                                                              }
-NEVER(PsSetCreateThreadNotifyRoutine, PCREATE_THREAD_NOTIFY_ROUTINE NotifyRoutine)
-
-NTSTATUS PsRemoveCreateThreadNotifyRoutine(PCREATE_THREAD_NOTIFY_ROUTINE NotifyRoutine)
-{
-    KZ_INSIDE();
-    return STATUS_SUCCESS;
-}
-
-/* A routine that an older filter manager lacks: whoever asks for one copes with none. */
-PVOID FltGetRoutineAddress(PCSTR FltMgrRoutineName)
-{
-    KZ_INSIDE();
-    kz_tell(KZM_NOT_MODELLED, __func__, "%s isn't found by its name: it answers NULL", FltMgrRoutineName);
-    return NULL;
-}
-
 BOOLEAN IoIs32bitProcess(PIRP Irp)
 {
     return FALSE;
 }
-
-NONE(KZM_ATTACH, FltLoadFilter, PCUNICODE_STRING FilterName)
-NONE(KZM_ATTACH, FltUnloadFilter, PCUNICODE_STRING FilterName)

@@ -79,7 +79,7 @@ NTSTATUS FltIsVolumeSnapshot(PVOID FltObject, PBOOLEAN IsSnapshotVolume)
 
 NTSTATUS FltGetDiskDeviceObject(PFLT_VOLUME Volume, PDEVICE_OBJECT *DiskDeviceObject)
 {
-    KZ_INSIDE();
+    KZ_CALL();
     if (!kz_may_use_volume(__func__, Volume))
         return STATUS_FLT_DELETING_OBJECT;
     *DiskDeviceObject = NULL;
@@ -92,7 +92,7 @@ NTSTATUS FltGetDiskDeviceObject(PFLT_VOLUME Volume, PDEVICE_OBJECT *DiskDeviceOb
 
 NTSTATUS FltGetDeviceObject(PFLT_VOLUME Volume, PDEVICE_OBJECT *DeviceObject)
 {
-    KZ_INSIDE();
+    KZ_CALL();
     if (!kz_may_use_volume(__func__, Volume))
         return STATUS_FLT_DELETING_OBJECT;
     *DeviceObject = &Volume->device;

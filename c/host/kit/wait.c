@@ -4,6 +4,7 @@
 #include "core/held.h"
 #include "core/module.h"
 #include "core/operation.h"
+#include "core/pointer.h"
 #include "core/told.h"
 #include "manager/filter.h"
 #include "manager/operation.h"
@@ -97,22 +98,58 @@ static bool is_known(const DISPATCHER_HEADER *object)
     return object->Type <= KZ_SEMAPHORE || object->Type == KZ_TIMER_KEEPS || object->Type == KZ_TIMER_RESETS || object->Type > 64;
 }
 
+/* A driver with nothing but an unload has no code that another thread could run. */
+static bool has_no_callback(const FLT_REGISTRATION *one)
+{
+    bool is_called = one->OperationRegistration && one->OperationRegistration->MajorFunction != IRP_MJ_OPERATION_END;
+    return !is_called && !one->InstanceSetupCallback && !one->InstanceQueryTeardownCallback && !one->InstanceTeardownStartCallback && !one->InstanceTeardownCompleteCallback;
+}
+
 /* Whether no other code of the driver can run: before it starts filtering, or behind its end, with nothing of its own beside. So what it waits for never comes, on Windows too. */
 static bool is_alone(PFLT_FILTER filter)
 {
     bool is_beginning = kz_me->place.callback == KZ_IN_ENTRY && !filter->is_started;
-    bool is_over = kz_me->place.callback == KZ_IN_UNLOAD && kz_filter_phase(filter) == KZP_FILTER_NOT_LOADED;
+    bool is_over = kz_me->place.callback == KZ_IN_UNLOAD && (kz_filter_phase(filter) == KZP_FILTER_NOT_LOADED || has_no_callback(&filter->registration));
     return (is_beginning || is_over) && !kz_has_any_of(filter);
 }
 
-static void tell_endless(const char *call)
+/* Whether one of these is on the thread's own stack, or in memory of its own, and nothing of the driver's leads there. */
+static bool is_unreachable(const Awaited *one)
 {
+    bool is_lonely = false;
+    for (const KzOp *op = kz.ops; op; op = op->next)
+        if (op != kz_me->place.op) /* what goes to its postoperation isn't known */
+            return false;
+    for (ULONG at = 0; at < one->count; at++) {
+        if (kz_is_pointed_to(one->objects[at]))
+            return false;
+        is_lonely = true;
+    }
+    return is_lonely && !kz_has_any_of(kz_me->place.filter);
+}
+
+static const char *endless(const Awaited *one, PFLT_FILTER filter, char *room, size_t size)
+{
+    const char *waits = kz_waits_for_mine();
+    if (waits) {
+        snprintf(room, size, "%s waits for a lock that this thread holds, and nobody else runs", waits);
+        return room;
+    }
+    if (is_alone(filter))
+        return "no other code of the driver can run, and set it";
+    return is_unreachable(one) ? "nothing of the driver's leads to it, so nobody can set it" : NULL;
+}
+
+static void tell_endless(const Awaited *one)
+{
+    char room[160];
     PFLT_FILTER filter = kz_me->place.filter;
-    if (!filter || !is_alone(filter)) {
-        kz_tell(KZM_NOBODY_SETS, call, "nobody else runs here who would set it: the wait ends with STATUS_TIMEOUT");
+    const char *why = filter ? endless(one, filter, room, sizeof room) : NULL;
+    if (!why) {
+        kz_tell(KZM_NOBODY_SETS, one->call, "nobody else runs here who would set it: the wait ends with STATUS_TIMEOUT");
         return;
     }
-    kz_tell(KZM_WAITS_FOR_EVER, call, "no other code of the driver can run, and set it: it would wait for ever");
+    kz_tell(KZM_WAITS_FOR_EVER, one->call, "%s: it would wait for ever", why);
     filter->gave_up = true; /* what it does behind it, it never does */
 }
 
@@ -131,7 +168,7 @@ static NTSTATUS wait_alone(Awaited *one, PLARGE_INTEGER timeout)
     if (timeout)
         kz_pass_units(units_of(timeout));
     else
-        tell_endless(one->call);
+        tell_endless(one);
     return STATUS_TIMEOUT;
 }
 

@@ -1,6 +1,9 @@
 /* The kit's printf: one walk over a format for all calls, whose letters go to a sink. A long is the kit's, of 32 bits. */
 #include "lib/format.h"
 
+#include "core/client.h"
+#include "core/piece.h"
+
 typedef struct {
     KzPut put;
     void *sink;
@@ -38,6 +41,8 @@ static void put_text(const Output *output, const Conversion *one, const void *te
         text = "(null)";
         is_wide = false;
     }
+    if (is_wide && one->precision < 0)
+        kz_check_text_from(text, kz_me->place.call, kz_me->place.from);
     size_t length = 0;
     while ((one->precision < 0 || length < (size_t)one->precision) && letter_at(text, is_wide, length))
         length++;

@@ -1,19 +1,43 @@
-/* Texts of ASCII as the kit has them, and the other way round: `/` is its `\\`. */
+/* Texts as the kit has them, and the other way round. */
 #include "lib/letters.h"
 
 #include "core/piece.h"
+#include "lib/upcase.h"
 
 ULONG kz_widen(WCHAR *room, const char *text)
 {
-    size_t at = 0;
-    for (; text[at]; at++)
-        room[at] = (WCHAR)(text[at] == '/' ? '\\' : text[at]);
-    return (ULONG)(at * sizeof(WCHAR));
+    size_t length = 0;
+    while (*text)
+        text += kz_take_letter(text, &room[length++]);
+    return (ULONG)(length * sizeof(WCHAR));
+}
+
+int kz_compare_texts(const char *a, const char *b, size_t most)
+{
+    for (size_t at = 0; at < most && (a[at] || b[at]);) {
+        WCHAR one, other;
+        size_t length = kz_take_letter(a + at, &one);
+        bool is_short = kz_take_letter(b + at, &other) != length;
+        int apart = kz_upcase(one) - kz_upcase(other);
+        if (apart || is_short)
+            return apart ? apart : 1;
+        at += length;
+    }
+    return 0;
+}
+
+size_t kz_letters(const char *text)
+{
+    size_t length = 0;
+    WCHAR letter;
+    for (; *text; length++)
+        text += kz_take_letter(text, &letter);
+    return length;
 }
 
 bool kz_give_name(PUNICODE_STRING to, const char *text, bool is_ended)
 {
-    USHORT size = (USHORT)(strlen(text) * sizeof(WCHAR)), whole = (USHORT)(size + is_ended * sizeof(WCHAR));
+    USHORT size = (USHORT)(kz_letters(text) * sizeof(WCHAR)), whole = (USHORT)(size + is_ended * sizeof(WCHAR));
     WCHAR *room = kz_take_memory(KZK_NAME, whole, 0, 0);
     *to = (UNICODE_STRING){size, whole, room};
     if (room)
@@ -21,12 +45,11 @@ bool kz_give_name(PUNICODE_STRING to, const char *text, bool is_ended)
     return room != NULL;
 }
 
-/* The other way round; how many letters there are. */
 size_t kz_narrow(char *room, size_t size, PCUNICODE_STRING text)
 {
-    size_t length = text ? text->Length / sizeof(WCHAR) : 0, fits = length < size ? length : size - 1;
-    for (size_t at = 0; at < fits; at++)
-        room[at] = (char)(text->Buffer[at] == '\\' ? '/' : text->Buffer[at] & 127);
-    room[fits] = 0;
-    return length;
+    size_t used = 0;
+    room[0] = 0;
+    for (size_t at = 0; text && at < text->Length / sizeof(WCHAR); at++)
+        kz_put_letter(room, size, &used, text->Buffer[at]);
+    return used;
 }

@@ -1,6 +1,9 @@
 /* Memory descriptions: the pages are always there. */
+#include "core/access.h"
 #include "core/client.h"
+#include "core/piece.h"
 #include "core/pool.h"
+#include "core/told.h"
 
 PMDL IoAllocateMdl(PVOID VirtualAddress, ULONG Length, BOOLEAN SecondaryBuffer, BOOLEAN ChargeQuota, PIRP Irp)
 {
@@ -17,6 +20,15 @@ PMDL IoAllocateMdl(PVOID VirtualAddress, ULONG Length, BOOLEAN SecondaryBuffer, 
 VOID IoFreeMdl(PMDL Mdl)
 {
     KZ_INSIDE();
+    const KzPiece *piece = kz_piece_of(Mdl);
+    if (kz_depth == 0 && piece && !piece->filter) {
+        kz_tell(KZM_NO_POOL, __func__, "an MDL that the filter manager made for the operation: it frees it");
+        return;
+    }
+    if (kz_depth == 0 && piece && Mdl->MdlFlags & MDL_PAGES_LOCKED) {
+        kz_tell(KZM_LOCKED_PAGES, "MmUnlockPages", "never called for an MDL that is freed");
+        MmUnlockPages(Mdl);
+    }
     kz_free_pool(Mdl, __func__);
 }
 
@@ -41,12 +53,14 @@ VOID MmProbeAndLockPages(PMDL MemoryDescriptorList, KPROCESSOR_MODE AccessMode, 
     KZ_INSIDE();
     (void)AccessMode, (void)Operation;
     MemoryDescriptorList->MdlFlags |= MDL_PAGES_LOCKED;
+    kz_map_pages(MmGetMdlVirtualAddress(MemoryDescriptorList), true);
 }
 
 VOID MmUnlockPages(PMDL MemoryDescriptorList)
 {
     KZ_INSIDE();
     MemoryDescriptorList->MdlFlags &= ~MDL_PAGES_LOCKED;
+    kz_map_pages(MmGetMdlVirtualAddress(MemoryDescriptorList), false);
 }
 
 PVOID MmMapLockedPagesSpecifyCache(PMDL MemoryDescriptorList, KPROCESSOR_MODE AccessMode, MEMORY_CACHING_TYPE CacheType, PVOID RequestedAddress,

@@ -1,6 +1,7 @@
-/* Counted strings: the kit's Rtl calls. Case is ASCII's. */
+/* Counted strings: the kit's Rtl calls. */
 #include "core/client.h"
 #include "core/piece.h"
+#include "lib/upcase.h"
 
 #include <ntstrsafe.h>
 
@@ -34,23 +35,23 @@ VOID RtlInitAnsiString(PANSI_STRING DestinationString, PCSZ SourceString)
 
 WCHAR RtlUpcaseUnicodeChar(WCHAR SourceCharacter)
 {
-    return KzTowupper(SourceCharacter);
+    return kz_upcase(SourceCharacter);
 }
 
 WCHAR RtlDowncaseUnicodeChar(WCHAR SourceCharacter)
 {
-    return KzTowlower(SourceCharacter);
+    return kz_downcase(SourceCharacter);
 }
 
 CHAR RtlUpperChar(CHAR Character)
 {
-    return (CHAR)KzTowupper((UCHAR)Character);
+    return (CHAR)(Character & 0x80 ? Character : kz_upcase((WCHAR)Character));
 }
 
 static LONG compare(const WCHAR *a, USHORT length1, const WCHAR *b, USHORT length2, BOOLEAN is_loose)
 {
     for (USHORT at = 0; at < length1 && at < length2; at++) {
-        LONG apart = is_loose ? KzTowupper(a[at]) - KzTowupper(b[at]) : a[at] - b[at];
+        LONG apart = is_loose ? kz_upcase(a[at]) - kz_upcase(b[at]) : a[at] - b[at];
         if (apart)
             return apart;
     }
@@ -151,13 +152,13 @@ static NTSTATUS turned(PUNICODE_STRING to, PCUNICODE_STRING from, BOOLEAN is_new
 NTSTATUS RtlUpcaseUnicodeString(PUNICODE_STRING DestinationString, PCUNICODE_STRING SourceString, BOOLEAN AllocateDestinationString)
 {
     KZ_INSIDE();
-    return turned(DestinationString, SourceString, AllocateDestinationString, KzTowupper);
+    return turned(DestinationString, SourceString, AllocateDestinationString, kz_upcase);
 }
 
 NTSTATUS RtlDowncaseUnicodeString(PUNICODE_STRING DestinationString, PCUNICODE_STRING SourceString, BOOLEAN AllocateDestinationString)
 {
     KZ_INSIDE();
-    return turned(DestinationString, SourceString, AllocateDestinationString, KzTowlower);
+    return turned(DestinationString, SourceString, AllocateDestinationString, kz_downcase);
 }
 
 NTSTATUS RtlAnsiStringToUnicodeString(PUNICODE_STRING DestinationString, PCANSI_STRING SourceString, BOOLEAN AllocateDestinationString)
@@ -261,7 +262,7 @@ NTSTATUS RtlHashUnicodeString(PCUNICODE_STRING String, BOOLEAN CaseInSensitive, 
         return STATUS_INVALID_PARAMETER;
     ULONG hash = 0;
     for (USHORT at = 0; at < String->Length / sizeof(WCHAR); at++)
-        hash = hash * 65599 + (CaseInSensitive ? KzTowupper(String->Buffer[at]) : String->Buffer[at]);
+        hash = hash * 65599 + (CaseInSensitive ? kz_upcase(String->Buffer[at]) : String->Buffer[at]);
     *HashValue = hash;
     return STATUS_SUCCESS;
 }
@@ -385,7 +386,7 @@ static bool matches(const WCHAR *expression, size_t left, const WCHAR *name, siz
         }
         if (!length)
             return false;
-        if (*expression != '?' && *expression != '>' && *expression != *name && !(is_loose && KzTowupper(*expression) == KzTowupper(*name)))
+        if (*expression != '?' && *expression != '>' && *expression != *name && !(is_loose && kz_upcase(*expression) == kz_upcase(*name)))
             return false;
         name++;
         length--;

@@ -2,6 +2,7 @@
 #include "manager/base.h"
 
 #include "core/client.h"
+#include "core/module.h"
 #include "core/operation.h"
 #include "core/state.h"
 #include "core/status.h"
@@ -9,6 +10,7 @@
 #include "filesystem/deletion.h"
 #include "filesystem/disk.h"
 #include "filesystem/name.h"
+#include "filesystem/node.h"
 #include "filesystem/sharing.h"
 #include "filesystem/ranges.h"
 #include "filesystem/tree.h"
@@ -25,6 +27,8 @@ static void answer(KzOp *op, NTSTATUS status, const uint8_t *bytes, size_t lengt
         number = KZS_DEVICE_FAULT; /* nothing is opened */
     KazdrinEvent event = {.worker = kz_worker(), .status = (uint8_t)number, .offset = length, .flag = length > 0};
     op->other = is_exact && status != STATUS_REPARSE ? STATUS_SUCCESS : status;
+    op->is_answered = true;
+    op->answered = status;
     kazdrin_based(&kz.manager, &event, length ? bytes : (const uint8_t *)"", length);
 }
 
@@ -64,9 +68,19 @@ static bool answers(KzOp *op, const KazdrinData *call, NTSTATUS *answered)
     return true;
 }
 
+/* What is written is seen where the file is mapped. */
+static void write_views(const KzOp *op, const KazdrinData *call, uint8_t worker)
+{
+    if (call->operation != KZE_WRITE || !op->file->name || !op->file->name->node->views)
+        return;
+    kazdrin_lent(&kz.manager, &(KazdrinEvent){.worker = worker}, &(KazdrinData){0}, kz_me->room, sizeof kz_me->room);
+    kz_write_views(op->file->name->node, call->offset, kz_me->room, call->length);
+}
+
 /* Of a file in memory, or below the folder. */
 static void call_bytes(KzOp *op, const KazdrinData *call, uint8_t worker)
 {
+    write_views(op, call, worker);
     if (!kz_call_in_folder(worker, op->file))
         kazdrin_base(&kz.manager, &(KazdrinEvent){.worker = worker});
     kz_note_call(op, call);
@@ -83,6 +97,10 @@ static void call_create(KzOp *op, const KazdrinData *call, uint8_t worker)
 {
     NTSTATUS status;
     bool was_there = kz_is_there(op->file->name), is_opened;
+    if (op->is_misnamed) {
+        answer(op, STATUS_OBJECT_NAME_INVALID, NULL, 0);
+        return;
+    }
     if (answers(op, call, &status)) {
         is_opened = NT_SUCCESS(status) && !op->met.point;
         if (op->met.point)
@@ -123,7 +141,10 @@ bool kz_call_base(KzOp *op)
     if (op->carried)
         return call_carried(op);
     kazdrin_lent(&kz.manager, &(KazdrinEvent){.worker = worker}, &call, &none, 0);
-    if (call.operation == KZE_CREATE && op->file->name && !op->own.is_unheard)
+    bool cuts = call.operation == KZE_SET_SIZE && !op->own.is_unheard && op->file->name;
+    if (cuts && kz_is_mapped(op, op->file->name->node, call.offset))
+        answer(op, STATUS_USER_MAPPED_FILE, NULL, 0);
+    else if (call.operation == KZE_CREATE && op->file->name && !op->own.is_unheard)
         call_create(op, &call, worker);
     else if (!answers(op, &call, &status))
         call_bytes(op, &call, worker);

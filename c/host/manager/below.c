@@ -1,7 +1,5 @@
-/* Operations that a driver begins itself: the manager's own, each by another worker, carried on inside the driver's call.
- *
- * The manager steps an operation through all instances. For those at the altitude of the one that began it, and above, the host answers FLT_PREOP_SUCCESS_NO_CALLBACK in their
- * place: so only those below hear of it. That it passes the right ones is the host's; their order, counts, contexts and drains are the manager's. */
+/* Operations that a driver begins itself, each carried on by another worker inside the driver's call. The manager begins them below the instance that asks, or at the base: who
+ * hears of one is its, as their order, counts, contexts and drains are. */
 #include "manager/below.h"
 
 #include "core/client.h"
@@ -14,11 +12,9 @@
 #include "filesystem/fileobject.h"
 #include "filesystem/name.h"
 #include "filesystem/store.h"
-#include "manager/altitude.h"
 #include "manager/base.h"
 #include "manager/carrier.h"
 #include "manager/disposition.h"
-#include "manager/filter.h"
 #include "manager/operation.h"
 #include "manager/perform.h"
 #include "manager/reparse.h"
@@ -26,16 +22,10 @@
 
 #include <stdlib.h>
 
-bool kz_is_passed(const KzOp *op, PFLT_INSTANCE instance)
-{
-    const KzOwn *own = &op->own;
-    return own->is_unheard || !kz_hears(instance->filter, op) || (own->initiator && kz_compare_altitudes(instance->altitude, own->initiator->altitude) >= 0);
-}
-
 FLT_CALLBACK_DATA_FLAGS kz_data_flags(const KzOp *op)
 {
     FLT_CALLBACK_DATA_FLAGS own = op->own.is_reissued ? FLTFL_CALLBACK_DATA_REISSUED_IO : FLTFL_CALLBACK_DATA_GENERATED_IO;
-    return FLTFL_CALLBACK_DATA_IRP_OPERATION | (op->own.initiator ? own : 0);
+    return (op->own.is_fast ? FLTFL_CALLBACK_DATA_FAST_IO_OPERATION : FLTFL_CALLBACK_DATA_IRP_OPERATION) | (op->own.initiator ? own : 0);
 }
 
 KPROCESSOR_MODE kz_requestor_of(const KzOp *op)
@@ -79,6 +69,19 @@ static void name_file(KzFile *file, const char *path, const void **bytes, size_t
     *length = strlen(file->name->node->key);
 }
 
+/* Where it begins. What an instance that is gone has left open is cleaned up and closed at the base. */
+static KzTold begin_at(const KzOwn *own, KazdrinEvent asked, const void *bytes, size_t length)
+{
+    asked.kind = own->is_unheard ? KZB_BASE : own->initiator ? KZB_BELOW : KZB_TOP;
+    asked.instance = own->initiator ? own->initiator->id : 0;
+    KzTold begun = kz_event_with(kz_worker(), asked, bytes, length);
+    bool ends = asked.event == KZE_CLEANUP || asked.event == KZE_CLOSE;
+    if (!ends || asked.kind != KZB_BELOW || (begun.status != KZS_NO_INSTANCE && begun.status != KZS_DELETING_OBJECT))
+        return begun;
+    asked.kind = KZB_BASE;
+    return kz_event_with(kz_worker(), asked, bytes, length);
+}
+
 static KzAnswer begin(const KzOwn *own, KzFile *file, KazdrinEvent asked, const void *bytes, size_t length)
 {
     KzAnswer answer = {0};
@@ -92,7 +95,7 @@ static KzAnswer begin(const KzOwn *own, KzFile *file, KazdrinEvent asked, const 
         answer.is_refused = true;
         return answer;
     }
-    KzTold begun = kz_event_with(kz_worker(), asked, bytes, length);
+    KzTold begun = begin_at(own, asked, bytes, length);
     answer.reply.status = begun.status;
     answer.is_refused = begun.status != KZS_OK;
     if (answer.is_refused) {
@@ -160,36 +163,35 @@ static KzFile *new_hidden(PFLT_VOLUME volume, const char *path, KzName *name)
     return hidden;
 }
 
-/* Of a file whose cleanup has begun the manager takes nothing any more, but the file system here does, until its close. */
-static KzAnswer reopened(const KzOwn *own, KzFile *file, KazdrinEvent asked, const void *bytes, size_t length)
+/* Of a file by a handle that goes at once: one that has none of the manager's. */
+static KzAnswer opened(const KzOwn *own, KzFile *file, KazdrinEvent asked, const void *bytes, size_t length)
 {
     const KzOwn unheard = {.is_unheard = true, .is_waited_for = true};
     KzFile *hidden = new_hidden(file->volume, file->path, file->name);
     KzAnswer answer = kz_below(&unheard, hidden, (KazdrinEvent){.event = KZE_CREATE, .volume = file->volume->id}, file->path, strlen(file->path));
     if (answer.reply.status == KZS_OK) {
-        KzOwn waited = *own;
-        waited.is_waited_for = true;
         asked.handle = hidden->handle;
-        answer = kz_below(&waited, file, asked, bytes, length);
-        uint8_t *kept = kz_memory(answer.length);
-        memcpy(kept, kz_me->room, answer.length);
+        answer = kz_below(own, file, asked, bytes, length);
         kz_below(&unheard, hidden, (KazdrinEvent){.event = KZE_CLEANUP, .handle = hidden->handle}, "", 0);
         kz_below(&unheard, hidden, (KazdrinEvent){.event = KZE_CLOSE, .handle = hidden->handle}, "", 0);
-        memcpy(kz_me->room, kept, answer.length);
-        free(kept);
-    } else if (answer.reply.status == KZS_DELETE_PENDING) {
-        answer.other = STATUS_FILE_DELETED; /* as a file system answers behind the last cleanup of a file that was marked */
     }
     kz_let_go_file(hidden);
     return answer;
+}
+
+/* Its handle's cleanup took the name, and nobody has the file open. */
+static bool is_deleted(const KzFile *file)
+{
+    return file->object.Flags & FO_CLEANUP_COMPLETE && file->name && file->name->is_gone && !file->name->node->opens;
 }
 
 KzAnswer kz_below_file(const KzOwn *own, KzFile *file, KazdrinEvent asked, const void *bytes, size_t length)
 {
     if (!kz_handle_of(file, &asked.handle))
         return (KzAnswer){.other = STATUS_INVALID_HANDLE, .reply.status = KZS_NO_HANDLE};
-    KzAnswer answer = kz_below(own, file, asked, bytes, length);
-    return answer.is_refused && answer.reply.status == KZS_NO_HANDLE ? reopened(own, file, asked, bytes, length) : answer;
+    if (is_deleted(file) && asked.event != KZE_CLOSE)
+        return (KzAnswer){.other = STATUS_FILE_DELETED, .reply.status = KZS_DELETE_PENDING};
+    return kz_below(own, file, asked, bytes, length);
 }
 
 static bool drop(KzName *name)
@@ -223,7 +225,7 @@ static NTSTATUS cut(KzFile *file, uint64_t size)
     const KazdrinEvent asked = {.event = KZE_SET_SIZE, .offset = size};
     uint64_t handle;
     bool has_handle = kz_handle_of(file, &handle);
-    return kz_status_of(has_handle ? kz_below_file(&unheard, file, asked, "", 0) : reopened(&unheard, file, asked, "", 0));
+    return kz_status_of(has_handle ? kz_below_file(&unheard, file, asked, "", 0) : opened(&unheard, file, asked, "", 0));
 }
 
 NTSTATUS kz_ask_below(PFLT_INSTANCE initiator, KzFile *file, const KzAsked *asked, void *to, uint64_t *information)

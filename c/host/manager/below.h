@@ -14,7 +14,7 @@ extern const KzStore kz_manager_store;
 /* An operation that a driver begins inside a callback, a work item or a thread of its own. Another worker carries it on, before the call returns. One that a filter holds
  * is waited for, if that is asked for; else, and where nobody lets it go on, the answer says `held`, and `done` is called once it is over. */
 KzAnswer kz_below(const KzOwn *own, KzFile *file, KazdrinEvent asked, const void *bytes, size_t length);
-/* The same on an open file, by the handle that the manager knows; one whose cleanup has begun is opened anew, unheard. */
+/* The same on an open file, by the handle that the manager knows; up to its close it may be used behind its cleanup too. */
 KzAnswer kz_below_file(const KzOwn *own, KzFile *file, KazdrinEvent asked, const void *bytes, size_t length);
 NTSTATUS kz_write_unheard(KzFile *file, uint64_t offset, const uint8_t *bytes, size_t length);
 void kz_close_below(PFLT_INSTANCE initiator, KzFile *file);
@@ -22,8 +22,6 @@ void kz_clean_up_below(KzFile *file);
 void kz_close_if_due(KzFile *file);
 void kz_end_below(KzOp *op);
 NTSTATUS kz_status_of(KzAnswer answer);
-/* Whether the instance isn't to hear of the operation: its filter, or one below it, began it. */
-bool kz_is_passed(const KzOp *op, PFLT_INSTANCE instance);
 /* What is answered to a create that a filter cancelled. */
 KzReply kz_cancelled(const KzOp *op, NTSTATUS *other);
 /* One of a driver's own. What is answered comes into `to`. */

@@ -8,16 +8,26 @@
 #include <stdlib.h>
 
 /* Memory that lives as long as its operation, between red zones. */
-void *kz_block(KzOp *op, size_t size)
+static void *take(KzOp *op, KzMemory kind, size_t size)
 {
     KzBlock *block = kz_memory(sizeof *block);
-    *block = (KzBlock){op->blocks, kz_take_memory(KZK_BUFFER, size, 0, 0)};
+    *block = (KzBlock){op->blocks, kz_take_memory(kind, size, 0, 0)};
     op->blocks = block;
     if (!block->bytes) {
         fprintf(stderr, "no memory\n");
         exit(1);
     }
     return block->bytes;
+}
+
+void *kz_block(KzOp *op, size_t size)
+{
+    return take(op, KZK_BUFFER, size);
+}
+
+void *kz_caller_block(KzOp *op, size_t size)
+{
+    return take(op, KZK_CALLER, size);
 }
 
 FLT_CALLBACK_DATA *kz_new_data(PETHREAD thread, PFLT_IO_PARAMETER_BLOCK iopb)

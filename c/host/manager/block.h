@@ -5,6 +5,8 @@
 #include "host.h"
 
 void *kz_block(KzOp *op, size_t size);
+/* What a program gave, or gets its answer in: with pages of its own. */
+void *kz_caller_block(KzOp *op, size_t size);
 FLT_CALLBACK_DATA *kz_new_data(PETHREAD thread, PFLT_IO_PARAMETER_BLOCK iopb);
 void kz_renew_data(KzOp *op);
 

@@ -5,6 +5,7 @@
  * with the callback that left it behind. */
 #include "manager/context.h"
 
+#include "core/access.h"
 #include "core/client.h"
 #include "core/memory.h"
 #include "core/module.h"
@@ -200,7 +201,10 @@ static PVOID new_body(const FLT_CONTEXT_REGISTRATION *how, SIZE_T size, POOL_TYP
 {
     if (how->ContextAllocateCallback)
         return KZ_CALL_DRIVER(how->ContextAllocateCallback, pool, size, how->ContextType);
-    return kz_take_memory(KZK_CONTEXT, size, 0xcc, how->PoolTag); /* as in the kit, it isn't zeroed */
+    PVOID made = kz_take_memory(KZK_CONTEXT, size, 0xcc, how->PoolTag); /* as in the kit, it isn't zeroed */
+    if (pool & PagedPool)
+        kz_own(made, KZ_PAGED, 0);
+    return made;
 }
 
 /* The manager gets to know a context, and the callback holds it. */
@@ -260,7 +264,7 @@ NTSTATUS FltAllocateContext(PFLT_FILTER Filter, FLT_CONTEXT_TYPE ContextType, SI
 /* ---- Counting. */
 VOID FltReferenceContext(PFLT_CONTEXT Context)
 {
-    KZ_INSIDE();
+    KZ_CALL();
     KzContext *context = kz_context_of(Context, __func__);
     if (!context)
         return;

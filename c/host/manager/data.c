@@ -1,6 +1,7 @@
 /* Callback data: what the manager lends is shown in the kit's structures, and what a callback left in them is put back. */
 #include "manager/data.h"
 
+#include "core/access.h"
 #include "core/client.h"
 #include "core/major.h"
 #include "core/memory.h"
@@ -9,6 +10,7 @@
 #include "core/state.h"
 #include "core/status.h"
 #include "core/told.h"
+#include "lib/letters.h"
 #include "filesystem/fileobject.h"
 #include "filesystem/name.h"
 #include "filesystem/query.h"
@@ -25,6 +27,18 @@ static void *copied(KzOp *op, const void *bytes, size_t length)
     void *copy = kz_block(op, length);
     memcpy(copy, bytes, length);
     return copy;
+}
+
+/* A program's buffer of a read, a write or a listing isn't copied by the system: it is memory of that process. */
+static bool is_callers_own(const KzOp *op)
+{
+    return (op->event == KZE_READ || op->event == KZE_WRITE || op->event == KZE_LIST) && kz_requestor_of(op) == UserMode;
+}
+
+static void own(KzOp *op, PVOID buffer)
+{
+    if (is_callers_own(op))
+        kz_own(buffer, KZ_CALLERS, op->process);
 }
 
 static size_t least(size_t a, size_t b)
@@ -78,6 +92,7 @@ static PMDL description_of(KzOp *op, PVOID buffer, size_t length)
     if (!made)
         return NULL;
     MmBuildMdlForNonPagedPool(made);
+    kz_piece_of(made)->filter = NULL; /* nobody's but the manager's */
     kz_keep_mdl(op, made);
     return made;
 }
@@ -170,6 +185,8 @@ static void show_buffer(KzOp *op, FLT_PARAMETERS *shown)
     ULONG *length;
     PVOID *buffer = buffer_in(op, shown, &mdl, &length);
     *buffer = op->visits->received;
+    if (op->visits->received == op->caller)
+        own(op, op->caller);
     *mdl = op->visits->received_mdl;
 }
 
@@ -185,8 +202,9 @@ static void show_parameters(KzOp *op, FLT_PARAMETERS *shown)
         show_buffer(op, shown);
         break;
     case KZE_WRITE:
-        op->shown.asked = copied(op, kz_me->room, op->lent.length);
+        op->shown.asked = memcpy(kz_caller_block(op, op->lent.length), kz_me->room, op->lent.length);
         op->shown.asked_length = op->lent.length;
+        own(op, op->shown.asked);
         shown->Write.Length = (ULONG)op->shown.asked_length;
         shown->Write.ByteOffset.QuadPart = (LONGLONG)op->lent.offset;
         shown->Write.WriteBuffer = op->shown.asked;
@@ -233,7 +251,7 @@ static void show(KzOp *op, PFLT_INSTANCE instance)
 {
     kazdrin_lent(&kz.manager, &(KazdrinEvent){.worker = kz_worker()}, &op->lent, kz_me->room, sizeof kz_me->room);
     memset(op->iopb, 0, sizeof *op->iopb);
-    op->iopb->IrpFlags = irp_flags_of(op->event) | op->own.irp_flags;
+    op->iopb->IrpFlags = op->own.is_fast ? 0 : irp_flags_of(op->event) | op->own.irp_flags;
     op->iopb->MajorFunction = kz_major_of(op);
     op->iopb->MinorFunction = op->event == KZE_LIST ? IRP_MN_QUERY_DIRECTORY : IRP_MN_NORMAL;
     op->iopb->OperationFlags = op->event == KZE_LIST ? SL_RESTART_SCAN : op->create.target ? SL_OPEN_TARGET_DIRECTORY | SL_FORCE_ACCESS_CHECK : 0;
@@ -286,6 +304,13 @@ void kz_keep_mdl(KzOp *op, PMDL mdl)
     op->mdls = kept;
 }
 
+/* Who has an MDL goes by that, and not by the buffer. */
+static void tell_old_mdl(PMDL mdl)
+{
+    if (mdl)
+        kz_tell(KZM_NO_SWAP_BUFFER, "MdlAddress", "it describes the buffer that was there before: whoever goes by it doesn't see the driver's own");
+}
+
 static void note_swap(KzOp *op, bool has_post)
 {
     KzVisit *visited = op->visits;
@@ -297,6 +322,7 @@ static void note_swap(KzOp *op, bool has_post)
         kz_keep_mdl(op, *mdl);
         visited->swapped = MmGetMdlVirtualAddress(*mdl);
     } else if (*buffer != *buffer_shown) {
+        tell_old_mdl(*mdl);
         visited->swapped = *buffer;
     }
     visited->swapped_room = *length;
@@ -309,6 +335,8 @@ static const uint8_t *written(KzOp *op)
     PMDL mdl = op->iopb->Parameters.Write.MdlAddress;
     if (!mdl)
         return op->iopb->Parameters.Write.WriteBuffer;
+    if (mdl == op->shown.parameters.Parameters.Write.MdlAddress && op->iopb->Parameters.Write.WriteBuffer != op->shown.parameters.Parameters.Write.WriteBuffer)
+        tell_old_mdl(mdl);
     kz_keep_mdl(op, mdl);
     return MmGetMdlVirtualAddress(mdl);
 }
@@ -419,17 +447,18 @@ static size_t show_names(const uint8_t *names, size_t length, uint8_t *chain, si
     for (size_t at = 0; at < length; at++) {
         if (names[at] != '\n')
             continue;
-        if (place + entry_size(at - start) > room)
+        char text[300];
+        snprintf(text, sizeof text, "%.*s", (int)(at - start), (const char *)names + start);
+        size_t size = entry_size(kz_letters(text));
+        if (place + size > room)
             break;
         PFILE_NAMES_INFORMATION entry = (PFILE_NAMES_INFORMATION)(chain + place);
-        memset(entry, 0, entry_size(at - start));
-        entry->FileNameLength = (ULONG)((at - start) * sizeof(WCHAR));
-        for (size_t letter = start; letter < at; letter++)
-            entry->FileName[letter - start] = names[letter];
+        memset(entry, 0, size);
+        entry->FileNameLength = kz_widen(entry->FileName, text);
         if (before)
             before->NextEntryOffset = (ULONG)((uint8_t *)entry - (uint8_t *)before);
         before = entry;
-        place += entry_size(at - start);
+        place += size;
         start = at + 1;
     }
     return place;
@@ -442,11 +471,11 @@ static size_t names_in(const uint8_t *chain, size_t size, uint8_t *room, size_t 
     while (place + offsetof(FILE_NAMES_INFORMATION, FileName) <= size) {
         const FILE_NAMES_INFORMATION *entry = (const FILE_NAMES_INFORMATION *)(chain + place);
         size_t letters = entry->FileNameLength / sizeof(WCHAR);
-        if (entry_size(letters) > size - place || length + letters + 1 > space)
+        const UNICODE_STRING name = {(USHORT)entry->FileNameLength, 0, (PWSTR)entry->FileName};
+        char text[300];
+        if (entry_size(letters) > size - place || length + kz_narrow(text, sizeof text, &name) + 1 > space)
             break;
-        for (size_t at = 0; at < letters; at++)
-            room[length++] = (uint8_t)entry->FileName[at];
-        room[length++] = '\n';
+        length += (size_t)snprintf((char *)room + length, space - length, "%s\n", text);
         if (!entry->NextEntryOffset)
             break;
         place += entry->NextEntryOffset;
@@ -603,6 +632,10 @@ static bool changes_answer(KzOp *op, KzServed *now)
     }
     if (op->is_cancelled && (!NT_SUCCESS(op->data->IoStatus.Status) || op->data->IoStatus.Status == STATUS_REPARSE)) {
         op->other = op->data->IoStatus.Status; /* those above see it */
+        return false;
+    }
+    if (op->event == KZE_CREATE && NT_SUCCESS(op->shown.status.Status) && !NT_SUCCESS(op->data->IoStatus.Status)) {
+        kz_tell(KZM_DENIED_OPEN, "FltCancelFileOpen", "never called for a create that its postoperation fails with 0x%08x: the file stays open", (unsigned)op->data->IoStatus.Status);
         return false;
     }
     if (op->event == KZE_CREATE || op->event == KZE_CLEANUP || op->event == KZE_CLOSE) {

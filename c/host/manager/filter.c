@@ -109,9 +109,8 @@ static NTSTATUS check_registration(const FLT_REGISTRATION *one, PFLT_FILTER filt
 
 static void tell_unmodelled(const FLT_REGISTRATION *one)
 {
-    if (one->GenerateFileNameCallback || one->NormalizeNameComponentCallback || one->NormalizeContextCleanupCallback ||
-        one->TransactionNotificationCallback || one->NormalizeNameComponentExCallback || one->SectionNotificationCallback)
-        kz_tell(KZM_CALLBACKS, "FltRegisterFilter", "callbacks of names, transactions and sections are never called");
+    if (one->TransactionNotificationCallback)
+        kz_tell(KZM_CALLBACKS, "FltRegisterFilter", "a callback of transactions is never called");
 }
 
 /* The manager's names are of letters, digits, _ and -, up to 32: others stand in for what a file's name may have beside them. */
@@ -161,7 +160,7 @@ static KzTold register_with_manager(PFLT_FILTER filter, uint8_t contexts)
 
 NTSTATUS FltRegisterFilter(PDRIVER_OBJECT Driver, CONST FLT_REGISTRATION *Registration, PFLT_FILTER *RetFilter)
 {
-    KZ_INSIDE();
+    KZ_CALL();
     (void)Driver;
     *RetFilter = NULL;
     PFLT_FILTER filter = kz_me->place.filter;
@@ -294,7 +293,9 @@ static void call_unload(PFLT_FILTER filter, FLT_FILTER_UNLOAD_FLAGS flags)
     unsigned depth = kz_let_driver("unload", filter->registration.FilterUnloadCallback);
     NTSTATUS said = KZ_CALL_DRIVER(filter->registration.FilterUnloadCallback, flags);
     kz_driver_returned(depth, "unload returns");
-    if (is_loaded(filter) && NT_SUCCESS(said)) {
+    if (is_loaded(filter) && flags & FLTFL_FILTER_UNLOAD_MANDATORY)
+        kz_tell(KZM_AGREED_REGISTERED, "FltUnregisterFilter", "never called by an unload that is mandatory: its answer doesn't count");
+    else if (is_loaded(filter) && NT_SUCCESS(said)) {
         kz_tell(KZM_AGREED_REGISTERED, "FltUnregisterFilter", "never called by an unload callback that agreed");
         FltUnregisterFilter(filter);
     } else if (!is_loaded(filter) && !NT_SUCCESS(said)) {
@@ -400,7 +401,7 @@ static bool is_in_use(const KzDriver *driver)
 }
 
 /* With an altitude it is attached by itself, as an INF file says: to each volume that is there once it starts filtering, and to each that is mounted from then on. */
-uint32_t kz_load(const char *name, const char *altitude, uint64_t *number, NTSTATUS *other)
+uint32_t kz_load_inside(const char *name, const char *altitude, uint64_t *number, NTSTATUS *other)
 {
     *other = STATUS_SUCCESS;
     const KzDriver *driver = NULL;
@@ -419,7 +420,6 @@ uint32_t kz_load(const char *name, const char *altitude, uint64_t *number, NTSTA
     filter->driver = driver;
     snprintf(filter->altitude, sizeof filter->altitude, "%s", altitude);
     uint32_t status = enter(filter, other);
-    kz_settle();
     if (!filter->is_registered) {
         kz_tell_pools(filter);
         kz_give_back(filter->object.DriverName.Buffer);
@@ -428,5 +428,13 @@ uint32_t kz_load(const char *name, const char *altitude, uint64_t *number, NTSTA
         return status;
     }
     *number = filter->id;
+    return status;
+}
+
+/* What its entry left to be done is done before the answer. */
+uint32_t kz_load(const char *name, const char *altitude, uint64_t *number, NTSTATUS *other)
+{
+    uint32_t status = kz_load_inside(name, altitude, number, other);
+    kz_settle();
     return status;
 }

@@ -6,6 +6,7 @@
 
 uint64_t kz_filter_phase(PFLT_FILTER filter);
 uint32_t kz_load(const char *name, const char *altitude, uint64_t *number, NTSTATUS *other);
+uint32_t kz_load_inside(const char *name, const char *altitude, uint64_t *number, NTSTATUS *other);
 uint32_t kz_unload(PFLT_FILTER filter);
 void kz_unload_all(void);
 const FLT_OPERATION_REGISTRATION *kz_registered(PFLT_FILTER filter, UCHAR major);

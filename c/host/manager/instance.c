@@ -3,6 +3,7 @@
 
 #include "core/client.h"
 #include "core/memory.h"
+#include "core/piece.h"
 #include "core/place.h"
 #include "core/said.h"
 #include "core/state.h"
@@ -29,7 +30,7 @@ uint64_t kz_phase(PFLT_INSTANCE instance)
 }
 
 /* ---- Attaching. */
-static bool set_up(PFLT_INSTANCE instance, FLT_INSTANCE_SETUP_FLAGS flags)
+static NTSTATUS set_up(PFLT_INSTANCE instance, FLT_INSTANCE_SETUP_FLAGS flags)
 {
     PFLT_INSTANCE_SETUP_CALLBACK callback = instance->filter->registration.InstanceSetupCallback;
     KzPlace before = kz_enter(KZ_IN_SETUP, kz_worker(), instance->filter, instance, NULL, NULL);
@@ -40,7 +41,7 @@ static bool set_up(PFLT_INSTANCE instance, FLT_INSTANCE_SETUP_FLAGS flags)
     kz_scheduler->touch(&instance->id, 0, KZT_GIVES);
     kz_keep_rest(NULL);
     kz_leave(before);
-    return NT_SUCCESS(said);
+    return said;
 }
 
 static PFLT_INSTANCE new_instance(uint16_t id, PFLT_FILTER filter, PFLT_VOLUME volume, const char *name, const char *altitude)
@@ -66,27 +67,41 @@ bool kz_is_instance(PFLT_INSTANCE instance)
     return false;
 }
 
+/* A field of what a callback was given, and kept. */
+static bool is_gone(PFLT_INSTANCE instance)
+{
+    uint8_t gone[sizeof instance];
+    memset(gone, KZ_GONE_BYTE, sizeof gone);
+    return memcmp(&instance, gone, sizeof gone) == 0;
+}
+
 bool kz_may_use(const char *call, PFLT_INSTANCE instance)
 {
     bool is_own = kz_me->place.instance == instance; /* a work item has a reference of its own */
+    if (is_gone(instance)) {
+        kz_tell(KZM_NO_FILTER_OBJECT, call, "no instance: FLT_RELATED_OBJECTS were kept, and are gone once their callback has returned");
+        return false;
+    }
     if (!instance || is_own || !kz_is_instance(instance) || kz_phase(instance) != KZP_INSTANCE_DETACHED || kz_is_referenced(instance))
         return true;
     kz_tell_of(instance, KZM_NO_FILTER_OBJECT, call, "instance %u, which was detached (FltObjectReference keeps one)", instance->id);
     return false;
 }
 
-uint32_t kz_attach(PFLT_FILTER filter, PFLT_VOLUME volume, const char *name, const char *altitude, FLT_INSTANCE_SETUP_FLAGS flags, uint64_t *number)
+uint32_t kz_attach(PFLT_FILTER filter, PFLT_VOLUME volume, const char *name, const char *altitude, FLT_INSTANCE_SETUP_FLAGS flags, uint64_t *number, NTSTATUS *said)
 {
     KazdrinEvent event = {.filter = filter->id, .volume = volume->id, .worker = kz_worker()};
     KazdrinTold told = {0};
     uint8_t none;
+    *said = STATUS_SUCCESS;
     uint32_t status = kazdrin_attach(&kz.manager, &event, (const uint8_t *)name, strlen(name), (const uint8_t *)altitude, strlen(altitude), &told, &none, 0);
     if (status != KZS_OK)
         return status;
     PFLT_INSTANCE instance = new_instance(told.instance, filter, volume, name, altitude);
     *number = instance->id;
-    bool is_accepted = set_up(instance, flags);
-    status = kz_event(kz_worker(), (KazdrinEvent){.event = KZE_SETUP_DONE, .flag = is_accepted}).status;
+    NTSTATUS answered = set_up(instance, flags);
+    *said = NT_SUCCESS(answered) ? STATUS_SUCCESS : answered;
+    status = kz_event(kz_worker(), (KazdrinEvent){.event = KZE_SETUP_DONE, .flag = NT_SUCCESS(answered)}).status;
     kz_settle();
     if (status != KZS_OK)
         kz_finish_teardown(instance);
@@ -97,14 +112,17 @@ void kz_attach_by_itself(PFLT_FILTER filter, PFLT_VOLUME volume, FLT_INSTANCE_SE
 {
     if (!*filter->altitude || kz_filter_phase(filter) != KZP_FILTER_LOADED || !filter->is_started || volume->is_dismounting)
         return;
-    char name[40];
+    char name[40], own[20] = "";
     uint64_t number = 0;
+    NTSTATUS said;
     snprintf(name, sizeof name, "%.24s-auto", filter->driver->name);
     for (char *letter = name; *letter; letter++)
         if (*letter == '.' || *letter == ' ')
             *letter = '_';
-    uint32_t status = kz_attach(filter, volume, name, filter->altitude, flags, &number);
-    kz_say(KZ_SAID_REPLY, "%s at %s on %s: status %u info %llu\n", filter->driver->name, filter->altitude, volume->name, status, (unsigned long long)(status ? 0 : number));
+    uint32_t status = kz_attach(filter, volume, name, filter->altitude, flags, &number, &said);
+    if (said)
+        snprintf(own, sizeof own, " (0x%08x)", (unsigned)said);
+    kz_say(KZ_SAID_REPLY, "%s at %s on %s: status %u%s info %llu\n", filter->driver->name, filter->altitude, volume->name, status, own, (unsigned long long)(status ? 0 : number));
 }
 
 /* ---- What a filter does for an instance outside of callbacks: in a work item, and where it completes what the instance holds. The manager has the worker in a routine. */

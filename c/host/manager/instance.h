@@ -5,7 +5,8 @@
 #include "host.h"
 
 uint64_t kz_phase(PFLT_INSTANCE instance);
-uint32_t kz_attach(PFLT_FILTER filter, PFLT_VOLUME volume, const char *name, const char *altitude, FLT_INSTANCE_SETUP_FLAGS flags, uint64_t *number);
+/* `said` is what its InstanceSetup answered where it refused, else STATUS_SUCCESS. */
+uint32_t kz_attach(PFLT_FILTER filter, PFLT_VOLUME volume, const char *name, const char *altitude, FLT_INSTANCE_SETUP_FLAGS flags, uint64_t *number, NTSTATUS *said);
 void kz_attach_by_itself(PFLT_FILTER filter, PFLT_VOLUME volume, FLT_INSTANCE_SETUP_FLAGS flags);
 uint32_t kz_detach(PFLT_INSTANCE instance);
 uint32_t kz_tear_down(PFLT_INSTANCE instance, FLT_INSTANCE_TEARDOWN_FLAGS reason);

@@ -10,9 +10,17 @@
 #include "manager/instance.h"
 #include "manager/taken.h"
 
+/* That of a create which was sent down again is another operation's. */
 static PFILE_OBJECT own_file(void)
 {
-    return kz_me->place.op ? &kz_me->place.op->file->object : NULL;
+    KzOp *op = kz_me->place.op;
+    return op && !op->is_reopened ? &op->file->object : NULL;
+}
+
+static bool is_reopened(PFILE_OBJECT object)
+{
+    KzOp *op = kz_me->place.op;
+    return op && op->is_reopened && &op->file->object == object && op->file->has_handle;
 }
 
 static bool is_own(PFLT_INSTANCE instance, PFLT_VOLUME volume, PFILE_OBJECT file)
@@ -146,6 +154,36 @@ static NTSTATUS elsewhere(const char *call, uint8_t kind, PFLT_INSTANCE instance
     return status == STATUS_NOT_SUPPORTED ? refuse(call, instance, volume, object) : status;
 }
 
+/* The callback's reference becomes the host's, the routine's, and the host's again. */
+static void keep(const char *call, PFLT_CONTEXT body)
+{
+    KzContext *context = body ? kz_context_of(body, call) : NULL;
+    if (!context || !context->is_known || !kz_holds(kz_worker(), context))
+        return;
+    kz_keep_reference(context, &kz_me->place);
+    kz_forget_taken(body);
+    kz_event(kz_worker(), (KazdrinEvent){.event = KZE_RELEASE, .slot = context->slot, .generation = context->generation});
+    kz_clean_up();
+}
+
+/* On a file that another operation opened for this one: in a routine of the instance that has it. */
+static NTSTATUS set_again(const char *call, uint8_t kind, PFLT_INSTANCE instance, FLT_SET_CONTEXT_OPERATION how, PFLT_CONTEXT body, PFLT_CONTEXT *old)
+{
+    NTSTATUS status = STATUS_NOT_SUPPORTED;
+    keep(call, body);
+    uint8_t worker = kz_helper(), before = kz_me->place.worker;
+    if (kz_enter_routine(instance, kz_me->place.op->file, worker)) {
+        kz_me->place.worker = worker;
+        status = set(call, kind, how, body, old);
+        keep(call, body);
+        keep(call, old ? *old : NULL);
+        kz_me->place.worker = before;
+        kz_leave_routine(worker);
+    }
+    kz_helped(worker);
+    return status;
+}
+
 NTSTATUS FltSetVolumeContext(PFLT_VOLUME Volume, FLT_SET_CONTEXT_OPERATION Operation, PFLT_CONTEXT NewContext, PFLT_CONTEXT *OldContext)
 {
     KZ_CALL();
@@ -168,6 +206,8 @@ NTSTATUS FltSetStreamContext(PFLT_INSTANCE Instance, PFILE_OBJECT FileObject, FL
     KZ_CALL();
     if (OldContext)
         *OldContext = NULL;
+    if (Instance == kz_me->place.instance && is_reopened(FileObject))
+        return set_again(__func__, 2, Instance, Operation, NewContext, OldContext);
     return is_own(Instance, NULL, FileObject) ? set(__func__, 2, Operation, NewContext, OldContext) : refuse(__func__, Instance, NULL, FileObject);
 }
 
@@ -177,6 +217,8 @@ NTSTATUS FltSetStreamHandleContext(PFLT_INSTANCE Instance, PFILE_OBJECT FileObje
     KZ_CALL();
     if (OldContext)
         *OldContext = NULL;
+    if (Instance == kz_me->place.instance && is_reopened(FileObject))
+        return set_again(__func__, 3, Instance, Operation, NewContext, OldContext);
     return is_own(Instance, NULL, FileObject) ? set(__func__, 3, Operation, NewContext, OldContext) : refuse(__func__, Instance, NULL, FileObject);
 }
 

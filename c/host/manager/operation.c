@@ -17,6 +17,8 @@
 #include "manager/carrier.h"
 #include "manager/context.h"
 #include "manager/data.h"
+#include "manager/filter.h"
+#include "manager/outcome.h"
 #include "manager/pend.h"
 #include "manager/perform.h"
 #include "manager/post.h"
@@ -72,7 +74,8 @@ KzOp *kz_new_op(uint64_t id, KazdrinEvent asked, KzFile *file, PFLT_VOLUME volum
     if (asked.event == KZE_CLOSE)
         kz_scheduler->touch(file, 0, KZT_TAKES); /* it comes behind all operations of the file object */
     op->caller_room = caller_room(asked);
-    op->caller = kz_block(op, op->caller_room);
+    op->process = kz_me->process;
+    op->caller = kz_caller_block(op, op->caller_room);
     op->maker = kz_me->number;
     op->request = kz_me->request;
     op->line = kz_me->line_number;
@@ -127,13 +130,18 @@ static Turn turn(KzOp *op)
     PVOID completion = (PVOID)(uintptr_t)told.number;
     switch (told.action) {
     case KZA_PRE:
-        if (kz_is_passed(op, instance))
+        if (!kz_hears(instance->filter, op)) /* it skips operations of that kind by a flag of its registration */
             kazdrin_pre_returned(&kz.manager, &(KazdrinEvent){.mode = KZV_NO_CALLBACK, .worker = kz_worker()});
         else
             kz_pre(op, instance);
         return GOES;
     case KZA_BASE:
-        return kz_call_base(op) ? GOES : HELD;
+        if (kz_call_base(op))
+            return GOES;
+        op->is_returning = true;
+        kz_tell_outcome(op, STATUS_PENDING);
+        op->is_returning = false;
+        return HELD;
     case KZA_POST:
         if (op->event == KZE_CLEANUP)
             kz_cleanup_over(op->file); /* a cleanup's turn at the file system is no call */

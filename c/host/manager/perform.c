@@ -5,8 +5,10 @@
 #include "core/module.h"
 #include "core/operation.h"
 #include "core/said.h"
+#include "core/spell.h"
 #include "core/state.h"
 #include "core/status.h"
+#include "filesystem/control.h"
 #include "filesystem/deletion.h"
 #include "filesystem/fileobject.h"
 #include "filesystem/name.h"
@@ -19,7 +21,9 @@
 #include "manager/context.h"
 #include "manager/disposition.h"
 #include "manager/filecontext.h"
+#include "manager/mount.h"
 #include "manager/operation.h"
+#include "manager/outcome.h"
 #include "manager/reference.h"
 #include "manager/reparse.h"
 #include "manager/says.h"
@@ -83,6 +87,7 @@ void kz_cleanup_over(KzFile *file)
     kz_end_notices(file, NULL);
     kz_unlock_ranges(file, NULL);
     kz_stop_sharing(file);
+    kz_unlock_volume(file);
     kz_end_cleanup(file);
 }
 
@@ -114,6 +119,7 @@ KzAnswer kz_collect(KzOp *op)
     KzAnswer answer = {.reply = {.status = told.status, .information = told.information, .operation = op->id}, .other = op->other, .length = told.length};
     if (op->served.is_there)
         put_served(op, &answer);
+    kz_tell_outcome(op, op->is_answered ? op->answered : answer.other ? answer.other : kz_ntstatus(answer.reply.status));
     if (op->carried && op->carried->target)
         kz_close_target(op->own.initiator, op->carried->target);
     if (op->carried)
@@ -121,9 +127,9 @@ KzAnswer kz_collect(KzOp *op)
     kz_scheduler->touch(op->file, 0, KZT_GIVES);
     if (op->other == STATUS_REPARSE)
         answer.other = kz_note_reparse(op);
-    if (op->is_reopened)
+    if (op->is_reopened && !op->is_cancelled)
         answer.reply = (KzReply){.status = KZS_OK, .information = op->own.is_own ? op->file->handle : op->file->number, .operation = op->id, .is_handle = 1};
-    else if (op->is_cancelled && answer.reply.status == KZS_OK)
+    else if (op->is_cancelled && (op->is_reopened || answer.reply.status == KZS_OK))
         answer.reply = kz_cancelled(op, &answer.other);
     else
         note_end(op, &answer.reply);
@@ -161,6 +167,22 @@ static KzAnswer begin_create(void *unused, KazdrinEvent asked, const char *path)
     (void)unused;
     const KzCreate create = kz_me->reparsed_create;
     return run(&(KzBegin){.event = asked, .bytes = path, .length = strlen(path), .path = path, .create = &create});
+}
+
+/* A volume whose dismount was asked for by a code goes once nobody has it open; false if none is due. */
+static bool dismount_due(void)
+{
+    PFLT_VOLUME due = NULL;
+    for (size_t at = 0; at < kz.volumes_count; at++)
+        due = kz.volumes[at]->is_to_go ? kz.volumes[at] : due;
+    for (const KzFile *file = kz.files; due && file; file = file->next)
+        if (file->volume == due && file->is_volume && file->has_handle)
+            due = NULL;
+    if (!due)
+        return false;
+    due->is_to_go = false;
+    kz_dismount(due);
+    return true;
 }
 
 /* Of an operation that nobody waits for any more. */
@@ -204,7 +226,7 @@ void kz_settle(void)
         while (kz.resumed)
             carry_resumed();
         kz_clean_up();
-    } while (kz_run_notice() || close_due() || kz_let_others() || kz.resumed);
+    } while (kz_run_notice() || close_due() || dismount_due() || kz_let_others() || kz.resumed);
 }
 
 /* The file of a client's handle, whose number isn't the manager's; a driver's own is no client's, nor is one before its create is over. */
@@ -238,6 +260,8 @@ static KzFile *new_file(const KzBegin *asked, KzName *name)
     if (is_list && asked->path)
         name = kz_take_name(made->volume, asked->path); /* of what rides on it */
     made->name = name;
+    if (!is_list && asked->create->is_volume)
+        kz_be_volume(made);
     return made;
 }
 
@@ -277,7 +301,9 @@ static KzAnswer begin(const KzBegin *begun)
     if (!file)
         file = new_file(&asked, name);
     KzOp *op = kz_new_op(told.told.operation, asked.event, file, file->volume);
-    op->own.irp_flags = asked.irp_flags;
+    bool is_data = asked.event.event == KZE_READ || asked.event.event == KZE_WRITE, is_uncached = file->object.Flags & FO_NO_INTERMEDIATE_BUFFERING;
+    op->own.irp_flags = asked.irp_flags | (is_data && is_uncached ? IRP_NOCACHE : 0);
+    op->own.is_fast = asked.is_fast;
     op->own.worker = kz_worker();
     op->own.has_worker = asked.carried && asked.carried->waits;
     if (asked.event.event == KZE_CREATE)
@@ -303,9 +329,38 @@ static KzAnswer run(const KzBegin *asked)
     return answer;
 }
 
+/* Names of a list, as a person reads them. */
+static void spell_names(KzAnswer *answer)
+{
+    char *names = (char *)kz_me->room, *copy = (char *)kz_me->bytes;
+    size_t length = answer->length < KZ_BYTES ? answer->length : KZ_BYTES - 1;
+    if (!memchr(names, '|', length))
+        return;
+    memcpy(copy, names, length);
+    copy[length] = 0;
+    kz_spell(names, sizeof kz_me->room, copy);
+    answer->length = answer->reply.information = strlen(names);
+}
+
 KzReply kz_perform_as(const KzBegin *asked)
 {
     KzAnswer answer = kz_follow(run(asked), NULL, begin_create);
+    if (asked->event.event == KZE_LIST && !asked->carried && !answer.reply.held)
+        spell_names(&answer);
+    put_answer(answer);
+    kz_settle();
+    return answer.reply;
+}
+
+/* As in the kit a file that isn't cached has each with an IRP from the first. */
+KzReply kz_perform_fast(const KzBegin *asked)
+{
+    KzBegin one = *asked;
+    const KzFile *file = kz_file_of(asked->event.handle);
+    one.is_fast = file && !(file->object.Flags & FO_NO_INTERMEDIATE_BUFFERING);
+    KzAnswer answer = run(&one);
+    if (answer.other == STATUS_FLT_DISALLOW_FAST_IO)
+        answer = run(asked);
     put_answer(answer);
     kz_settle();
     return answer.reply;

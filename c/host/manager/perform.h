@@ -13,6 +13,7 @@ typedef struct {
     const char *path;       /* of a create */
     const KzCreate *create; /* what it asks for; NULL: the usual */
     ULONG irp_flags;        /* beside its usual ones */
+    bool is_fast;           /* without an IRP */
     const KzAsked *carried; /* what rides on it */
 } KzBegin;
 
@@ -28,6 +29,8 @@ void kz_go_on(KzOp *op);
 void kz_cleanup_over(KzFile *file);
 /* A client's, by a handle, or on a volume. The reply is passed on. */
 KzReply kz_ask_file(uint64_t handle, const KzAsked *asked);
+/* A read or a write without an IRP; where a filter disallows that, once more with one. */
+KzReply kz_perform_fast(const KzBegin *asked);
 /* The file is marked to go with its last handle. */
 KzReply kz_delete_file(uint64_t handle);
 /* After a success the second one follows, whose reply isn't passed on. */

@@ -48,8 +48,9 @@ static KIRQL irql_of(KzOp *op, PFLT_INSTANCE instance)
 }
 
 /* The callback that a postoperation put off runs in the system's process, as soon as that has returned: what it returns is the postoperation's verdict. */
-static FLT_POSTOP_CALLBACK_STATUS call_when_safe(KzOp *op, const FLT_RELATED_OBJECTS *objects, FLT_POSTOP_CALLBACK_STATUS said)
+static FLT_POSTOP_CALLBACK_STATUS call_when_safe(KzOp *op, PFLT_INSTANCE instance, FLT_POSTOP_CALLBACK_STATUS said)
 {
+    FLT_RELATED_OBJECTS *objects = kz_lend_objects(kz_objects_of(instance, op));
     KzSafe safe = op->safe;
     uint64_t process = kz_me->process, thread = kz_me->thread;
     op->safe = (KzSafe){0};
@@ -64,8 +65,23 @@ static FLT_POSTOP_CALLBACK_STATUS call_when_safe(KzOp *op, const FLT_RELATED_OBJ
     unsigned depth = kz_let_driver("postoperation when safe", safe.callback);
     said = KZ_CALL_DRIVER(safe.callback, op->data, objects, safe.completion, safe.flags);
     kz_driver_returned(depth, "postoperation when safe returns");
+    kz_take_objects(objects);
     kz_me->process = process;
     kz_me->thread = thread;
+    return said;
+}
+
+static FLT_POSTOP_CALLBACK_STATUS ask_post(KzOp *op, PFLT_INSTANCE instance, PVOID completion)
+{
+    FLT_RELATED_OBJECTS *objects = kz_lend_objects(kz_objects_of(instance, op));
+    PFLT_POST_OPERATION_CALLBACK callback = kz_registered(instance->filter, kz_major_of(op))->PostOperation;
+    FILE_OBJECT before = op->file->object;
+    op->stage = KZ_IN_POSTOPERATION;
+    unsigned depth = kz_let_driver("postoperation", callback);
+    FLT_POSTOP_CALLBACK_STATUS said = KZ_CALL_DRIVER(callback, op->data, objects, completion, 0);
+    kz_driver_returned(depth, "postoperation returns");
+    kz_take_objects(objects);
+    kz_look_at_file(op, &before);
     return said;
 }
 
@@ -76,14 +92,9 @@ void kz_post(KzOp *op, PFLT_INSTANCE instance, PVOID completion)
     kz_show_post(op, instance);
     if (op->event == KZE_CREATE && op->lent.status == KZS_OK && !op->is_cancelled)
         kz_file_answered(op->file, op->lent.information);
-    FLT_RELATED_OBJECTS objects = kz_objects_of(instance, op);
-    PFLT_POST_OPERATION_CALLBACK callback = kz_registered(instance->filter, kz_major_of(op))->PostOperation;
-    op->stage = KZ_IN_POSTOPERATION;
-    unsigned depth = kz_let_driver("postoperation", callback);
-    FLT_POSTOP_CALLBACK_STATUS said = KZ_CALL_DRIVER(callback, op->data, &objects, completion, 0);
-    kz_driver_returned(depth, "postoperation returns");
+    FLT_POSTOP_CALLBACK_STATUS said = ask_post(op, instance, completion);
     if (op->safe.callback)
-        said = call_when_safe(op, &objects, said);
+        said = call_when_safe(op, instance, said);
     bool is_completed = op->stage == KZ_COMPLETED_IN_POST;
     op->stage = KZ_GOES_ON;
     if (is_completed)

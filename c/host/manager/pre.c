@@ -3,6 +3,8 @@
 
 #include "core/client.h"
 #include "core/major.h"
+#include "core/module.h"
+#include "core/piece.h"
 #include "core/place.h"
 #include "core/state.h"
 #include "core/status.h"
@@ -12,6 +14,7 @@
 #include "manager/hand.h"
 #include "manager/data.h"
 #include "manager/filter.h"
+#include "manager/newname.h"
 #include "manager/operation.h"
 
 /* A shutdown, and what is asked of a device, has no file object. */
@@ -24,6 +27,33 @@ FLT_RELATED_OBJECTS kz_objects(PFLT_INSTANCE instance, KzFile *file)
 {
     return (FLT_RELATED_OBJECTS){sizeof(FLT_RELATED_OBJECTS), 0, instance->filter, instance->volume, instance, file ? &file->object : NULL, NULL};
 }
+
+/* What a callback is given of these is gone once it has returned: they are filled then, as if others used that stack. */
+enum { LENT = 256 };
+struct KzLentState {
+    FLT_RELATED_OBJECTS all[LENT];
+    bool is_used[LENT];
+    unsigned next;
+};
+
+FLT_RELATED_OBJECTS *kz_lend_objects(FLT_RELATED_OBJECTS objects)
+{
+    struct KzLentState *lent = kz.lent;
+    while (lent->is_used[lent->next % LENT])
+        lent->next++;
+    unsigned at = lent->next++ % LENT;
+    lent->is_used[at] = true;
+    memcpy(&lent->all[at], &objects, sizeof objects); /* its fields are constants */
+    return &lent->all[at];
+}
+
+void kz_take_objects(FLT_RELATED_OBJECTS *objects)
+{
+    memset(objects, KZ_GONE_BYTE, sizeof *objects);
+    kz.lent->is_used[objects - kz.lent->all] = false;
+}
+
+const KzModule kz_lent_module = {KZ_STATE(lent)};
 
 static bool asks_for_post(FLT_PREOP_CALLBACK_STATUS said)
 {
@@ -40,6 +70,8 @@ static void complete(KzOp *op, KazdrinEvent *verdict)
         kz_tell(KZM_COMPLETED_PENDING, "FLT_PREOP_COMPLETE", "IoStatus.Status is STATUS_PENDING: it counts as STATUS_SUCCESS");
         said.Status = STATUS_SUCCESS;
     }
+    if (said.Status == STATUS_FLT_DISALLOW_FAST_IO)
+        kz_tell(KZM_COMPLETED_PENDING, "FLT_PREOP_COMPLETE", "IoStatus.Status is STATUS_FLT_DISALLOW_FAST_IO: FLT_PREOP_DISALLOW_FASTIO says that");
     verdict->status = (uint8_t)kz_number(said.Status, &is_exact);
     op->other = is_exact ? STATUS_SUCCESS : said.Status;
     if (op->event == KZE_CLEANUP || op->event == KZE_CLOSE) {
@@ -61,7 +93,7 @@ static void complete(KzOp *op, KazdrinEvent *verdict)
 
 static bool is_fast(const KzOp *op)
 {
-    return op->carried && op->carried->data_flags & FLTFL_CALLBACK_DATA_FAST_IO_OPERATION;
+    return op->own.is_fast || (op->carried && op->carried->data_flags & FLTFL_CALLBACK_DATA_FAST_IO_OPERATION);
 }
 
 KazdrinEvent kz_verdict_of(KzOp *op, PFLT_INSTANCE instance, FLT_PREOP_CALLBACK_STATUS said, PVOID completion)
@@ -78,7 +110,7 @@ KazdrinEvent kz_verdict_of(KzOp *op, PFLT_INSTANCE instance, FLT_PREOP_CALLBACK_
     case FLT_PREOP_SUCCESS_NO_CALLBACK:
         break;
     case FLT_PREOP_PENDING:
-        if (op->carried && !(op->carried->data_flags & FLTFL_CALLBACK_DATA_IRP_OPERATION))
+        if (op->own.is_fast || (op->carried && !(op->carried->data_flags & FLTFL_CALLBACK_DATA_IRP_OPERATION)))
             kz_tell(KZM_NO_VERDICT, "FLT_PREOP_PENDING", "of what is no IRP, and can't be held: it counts as FLT_PREOP_SUCCESS_NO_CALLBACK");
         else
             verdict.mode = KZV_PENDING;
@@ -99,6 +131,28 @@ KazdrinEvent kz_verdict_of(KzOp *op, PFLT_INSTANCE instance, FLT_PREOP_CALLBACK_
     return verdict;
 }
 
+void kz_look_at_file(KzOp *op, const FILE_OBJECT *before)
+{
+    FILE_OBJECT *now = &op->file->object;
+    const char *changed = now->FsContext && now->FsContext != op->file                    ? "FsContext"
+                          : now->FsContext2 && now->FsContext2 != &op->file->sections     ? "FsContext2"
+                          : now->SectionObjectPointer != before->SectionObjectPointer ? "SectionObjectPointer"
+                                                                                      : NULL;
+    if (!changed)
+        return;
+    kz_tell(KZM_NOT_OWN_MEMORY, "FILE_OBJECT", "%s was changed: it is the file system's", changed);
+    now->FsContext = before->FsContext;
+    now->FsContext2 = before->FsContext2;
+    now->SectionObjectPointer = before->SectionObjectPointer;
+}
+
+/* What lies below this frame was the callback's, and is nobody's any more. */
+static bool is_on_its_stack(const void *address)
+{
+    enum { DEEPEST = 1 << 14 };
+    return (uintptr_t)__builtin_frame_address(0) - (uintptr_t)address < DEEPEST;
+}
+
 /* A filter that registered the postoperation alone is taken past as if its preoperation had asked for it. A preoperation that pends may have been completed before it
  * returns: then that is its verdict. */
 static FLT_PREOP_CALLBACK_STATUS ask_pre(KzOp *op, PFLT_INSTANCE instance, PVOID *completion)
@@ -106,11 +160,15 @@ static FLT_PREOP_CALLBACK_STATUS ask_pre(KzOp *op, PFLT_INSTANCE instance, PVOID
     PFLT_PRE_OPERATION_CALLBACK callback = kz_registered(instance->filter, kz_major_of(op))->PreOperation;
     if (!callback)
         return FLT_PREOP_SUCCESS_WITH_CALLBACK;
-    FLT_RELATED_OBJECTS objects = kz_objects_of(instance, op);
+    FLT_RELATED_OBJECTS *objects = kz_lend_objects(kz_objects_of(instance, op));
+    FILE_OBJECT before = op->file->object;
     op->stage = KZ_IN_PREOPERATION;
     unsigned depth = kz_let_driver("preoperation", callback);
-    FLT_PREOP_CALLBACK_STATUS said = KZ_CALL_DRIVER(callback, op->data, &objects, completion);
+    FLT_PREOP_CALLBACK_STATUS said = KZ_CALL_DRIVER(callback, op->data, objects, completion);
     kz_driver_returned(depth, "preoperation returns");
+    kz_take_objects(objects);
+    if (said != FLT_PREOP_COMPLETE || op->event != KZE_CREATE) /* who completes a create is the file system of that file */
+        kz_look_at_file(op, &before);
     bool is_completed = op->stage == KZ_COMPLETED_IN_PRE;
     op->stage = KZ_GOES_ON;
     if (is_completed && said == FLT_PREOP_PENDING) {
@@ -120,6 +178,8 @@ static FLT_PREOP_CALLBACK_STATUS ask_pre(KzOp *op, PFLT_INSTANCE instance, PVOID
     } else if (is_completed) {
         kz_tell(KZM_COMPLETED_NOT_PENDED, "FltCompletePendedPreOperation", "called for an operation that the preoperation doesn't pend");
     }
+    if (asks_for_post(said) && is_on_its_stack(*completion))
+        kz_tell(KZM_STACK_CONTEXT, "CompletionContext", "it points to a local variable of the preoperation, which has returned");
     kz_take_pre(op, asks_for_post(said) || said == FLT_PREOP_PENDING, said == FLT_PREOP_COMPLETE || said == FLT_PREOP_PENDING);
     return said;
 }
@@ -167,6 +227,8 @@ void kz_pre(KzOp *op, PFLT_INSTANCE instance)
     kz_show_pre(op, instance);
     FLT_PREOP_CALLBACK_STATUS said = ask_pre(op, instance, &completion);
     kz_adopt_name(op->file);
+    if (said != FLT_PREOP_COMPLETE)
+        kz_take_new_name(op, instance);
     KazdrinEvent verdict = kz_verdict_of(op, instance, said, completion);
     if (verdict.mode == KZV_SYNCHRONIZE && kz_owed_to(op, instance))
         kz_owed_to(op, instance)->is_synchronized = true;

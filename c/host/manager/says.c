@@ -4,6 +4,7 @@
 #include "core/client.h"
 #include "core/clock.h"
 #include "core/operation.h"
+#include "core/spell.h"
 
 #include <stdarg.h>
 
@@ -24,7 +25,7 @@ __attribute__((format(printf, 2, 3))) static void add(Text *text, const char *fo
 static void add_wide(Text *text, const WCHAR *from, size_t bytes)
 {
     for (size_t at = 0; at < bytes / sizeof(WCHAR); at++)
-        add(text, "%c", from[at] == '\\' ? '/' : from[at] >= ' ' && from[at] < 127 ? (char)from[at] : '?');
+        kz_put_utf8(text->room, text->size, &text->used, from[at] == '\\' ? '/' : from[at] >= ' ' && from[at] != 127 ? from[at] : '?');
 }
 
 static unsigned long long number(LARGE_INTEGER value)

@@ -89,7 +89,7 @@ PFLT_GENERIC_WORKITEM FltAllocateGenericWorkItem(VOID)
 
 VOID FltFreeGenericWorkItem(PFLT_GENERIC_WORKITEM FltWorkItem)
 {
-    KZ_INSIDE();
+    KZ_CALL();
     free_item(FltWorkItem, __func__);
 }
 
@@ -117,7 +117,7 @@ PFLT_DEFERRED_IO_WORKITEM FltAllocateDeferredIoWorkItem(VOID)
 
 VOID FltFreeDeferredIoWorkItem(PFLT_DEFERRED_IO_WORKITEM FltWorkItem)
 {
-    KZ_INSIDE();
+    KZ_CALL();
     free_item((PFLT_GENERIC_WORKITEM)FltWorkItem, __func__);
 }
 
@@ -156,7 +156,7 @@ PIO_WORKITEM IoAllocateWorkItem(PDEVICE_OBJECT DeviceObject)
 
 VOID IoFreeWorkItem(PIO_WORKITEM IoWorkItem)
 {
-    KZ_INSIDE();
+    KZ_CALL();
     free_item((PFLT_GENERIC_WORKITEM)IoWorkItem, __func__);
 }
 

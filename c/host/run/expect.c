@@ -2,11 +2,14 @@
 #include "run/expect.h"
 
 #include "core/status.h"
+#include "run/read.h"
 #include "run/report.h"
 #include "run/seen.h"
 #include "run/statusnames.h"
 
 #include <stdlib.h>
+
+static char now[2 * KZ_BYTES + 64]; /* what there is in place of what was expected */
 
 static void say_bytes(char *room, size_t size)
 {
@@ -86,27 +89,42 @@ static bool is_kind(const char *kind)
     return false;
 }
 
-static char now[2 * KZ_BYTES + 64];
+/* Kinds with one word behind them. */
+static bool expects_one_word(const char *kind)
+{
+    return is_kind(kind) && strcmp(kind, "says") != 0 && strcmp(kind, "callbacks") != 0;
+}
+
+static void say_unmet(const char *words)
+{
+    kz_seen.unmet++;
+    kz_say(KZ_SAID_UNMET, "unmet: %.900s\n", now);
+    if (kz_seen.file)
+        fprintf(stderr, "%s:%u: expected %.*s, and there is %.900s\n", kz_seen.file, kz_seen.line, (int)strcspn(words, "\r\n"), words, now);
+}
+
 
 bool kz_expect(const char *words)
 {
     char kind[16] = "", *end;
-    size_t used = strcspn(words, " \t");
+    size_t used = strcspn(words, " \t\r\n");
     char value[2048];
     snprintf(kind, sizeof kind, "%.*s", (int)used, words);
     snprintf(value, sizeof value, "%s", words + used + strspn(words + used, " \t"));
     for (end = value + strlen(value); end > value && strchr(" \t\r\n", end[-1]); end--)
         end[-1] = 0;
     bool is_held = strncmp(words, "held", 4) == 0 && !*value;
-    if (!is_held && (!is_kind(kind) || !*value))
-        return false;
+    if (!is_held && !is_kind(kind))
+        return kz_refuse_word("`%s` is none of status, info, bytes, says, callbacks, told, held", kind);
+    if (!is_held && (!*value || (expects_one_word(kind) && strpbrk(value, " \t"))))
+        return kz_refuse_word("expect %s has %s", kind, expects_one_word(kind) ? "one word behind it, and each expectation a line of its own" : "words behind it");
+    kz_seen.expected++;
     bool is_right = is_held ? kz_seen.reply.held : is_met(kind, value, now, sizeof now);
     if (is_held)
         snprintf(now, sizeof now, "status %u", kz_seen.reply.status);
     kz_report_expectation(words, is_right ? NULL : now);
     if (is_right)
         return true;
-    kz_seen.unmet++;
-    kz_say(KZ_SAID_UNMET, "unmet: %.900s\n", now);
+    say_unmet(words);
     return true;
 }

@@ -9,18 +9,12 @@
 
 #include <stdlib.h>
 
-enum { NEAR = 2 };
-
 static const char *nearest(const char *word)
 {
-    const char *best = NULL;
-    size_t far = NEAR + 1;
-    for (size_t at = 0; kz_request_at(at); at++) {
-        size_t own = kz_letters_apart(word, kz_request_at(at)->name);
-        best = own < far ? kz_request_at(at)->name : best;
-        far = own < far ? own : far;
-    }
-    return best;
+    KzNear near = kz_near(word);
+    for (size_t at = 0; kz_request_at(at); at++)
+        kz_try_near(&near, kz_request_at(at)->name);
+    return near.best;
 }
 
 static void say_count(const KzRequest *one, char *why, size_t size)

@@ -3,6 +3,9 @@
 
 #include "core/beside.h"
 #include "core/client.h"
+#include "core/crash.h"
+#include "core/late.h"
+#include "core/place.h"
 #include "core/threads.h"
 #include "manager/perform.h"
 #include "manager/work.h"
@@ -12,6 +15,7 @@
 #include "run/runfile.h"
 
 #include <pthread.h>
+#include <signal.h>
 #include <time.h>
 #include <unistd.h>
 
@@ -146,6 +150,58 @@ static void tell_stuck(unsigned count)
             printf("  %s waits for %s\n", load.threads[at].name, load.threads[at].client.waits);
 }
 
+/* Who runs, and waits for nothing: it may come on, or its callback is said to be endless. */
+static bool does_anybody_run(unsigned count)
+{
+    KZ_INSIDE();
+    for (unsigned at = 1; at <= count + 1; at++) {
+        const KzClient *client = &load.threads[at].client;
+        if (!load.threads[at].has_ended && !client->waits[0] && client->inside == 0 && client->place.callback != KZ_IN_NOTHING)
+            return true;
+    }
+    return false;
+}
+
+/* Once no round begins any more: who stays in the same callback, and isn't through after a while. It sleeps now and then, so that the processor's clock doesn't see it. */
+static void look_for_endless(unsigned count, double late)
+{
+    static uint64_t was_in[THREADS + 1];
+    enum { LONG = 10 };
+    KZ_INSIDE();
+    for (unsigned at = 1; at <= count; at++) {
+        const KzClient *client = &load.threads[at].client;
+        bool is_in = !load.threads[at].has_ended && client->place.callback != KZ_IN_NOTHING;
+        if (late < 1)
+            was_in[at] = is_in ? client->place.number : 0;
+        else if (!is_in || was_in[at] != client->place.number)
+            was_in[at] = 0;
+        if (late < LONG || !was_in[at])
+            continue;
+        kz_me = &load.threads[at].client;
+        kz_put_place("ENDLESS", NULL, NULL);
+        fflush(stdout);
+        _exit(6);
+    }
+}
+
+/* A signal asked the program to end: where each client stands. */
+static void tell_interrupted(unsigned count)
+{
+    char text[256];
+    KZ_INSIDE();
+    for (unsigned at = 1; at <= count + 1; at++) {
+        KzClient *me = kz_me;
+        kz_me = &load.threads[at].client;
+        size_t length = kz_me->place.callback == KZ_IN_NOTHING ? 0 : kz_place_text(text, sizeof text);
+        if (length)
+            printf("INTERRUPTED: %s: %s%s%s\n", load.threads[at].name, text, kz_me->waits[0] ? ", waits for " : "", kz_me->waits);
+        kz_me = me;
+    }
+    fflush(stdout);
+    signal(kz_ending_signal(), SIG_DFL);
+    raise(kz_ending_signal());
+}
+
 /* Watches until the time is over and all have ended; false if nobody goes on any more. */
 static bool watch(unsigned count, double seconds)
 {
@@ -160,7 +216,11 @@ static bool watch(unsigned count, double seconds)
         last = moves;
         if (now() - moved > 0.5 && load.is_time)
             play_finally(count + 2);
-        if (now() - moved > STILL)
+        if (load.is_time)
+            look_for_endless(count, now() - since - seconds);
+        if (kz_ending_signal())
+            tell_interrupted(count);
+        if (now() - moved > STILL && (!does_anybody_run(count) || now() - moved > 20 * STILL))
             return false;
     }
     return true;

@@ -23,7 +23,8 @@ static int usage(const char *name, FILE *to)
             "usage: %s [WORD..] [REQUESTS..], or %s --load SCENARIO, or %s --explain KZ0000\n"
             "  what is played     REQUESTS.. or else the standard input, --folder FOLDER, --dispatch none|data|all\n"
             "  what is shown      --explain KZ0000, --quiet, --json, --junit FILE, --allow KZ0000, --strict\n"
-            "  threads            --load SCENARIO [--threads N] [--seconds S] [--seed N]\n",
+            "  threads            --load SCENARIO [--threads N] [--seconds S] [--seed N]\n"
+            "  a callback's end   --patience S: so many seconds of the processor's time it may take (3)\n",
             name, name, name);
     return to == stdout ? 0 : 2;
 }
@@ -38,6 +39,8 @@ static bool read_pair(const char *word, const char *value, Asked *asked)
         asked->seconds = strtod(value, &end);
     else if (strcmp(word, "--seed") == 0)
         asked->seed = strtoull(value, &end, 10);
+    else if (strcmp(word, "--patience") == 0)
+        kz_be_patient((unsigned)strtoul(value, &end, 10));
     else if (strcmp(word, "--load") == 0)
         asked->load = value;
     else if (strcmp(word, "--junit") == 0)

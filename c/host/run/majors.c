@@ -43,6 +43,19 @@ static KzReply ask_opendir(char **words)
     return open_directory(words, FILE_OPEN);
 }
 
+/* The volume itself. */
+static KzReply ask_open_volume(char **words)
+{
+    uint64_t volume;
+    const char *name;
+    KzCreate create = kz_usual_create(FILE_OPEN, false);
+    create.is_volume = true;
+    create.options &= ~(ULONG)FILE_NON_DIRECTORY_FILE;
+    if (!kz_read_volume(words[1], &volume) || !kz_read_create(words + 2, &create, &name))
+        return kz_wrong();
+    return kz_ask_create((uint8_t)volume, "", &create, name);
+}
+
 /* ---- Information of files, by the words for its classes. */
 typedef struct {
     const char *word;
@@ -408,6 +421,23 @@ static KzReply ask_page_in(char **words)
     return kz_perform_as(&(KzBegin){.event = {.event = KZE_READ, .handle = handle, .offset = offset, .len = (uint32_t)length}, .bytes = "", .irp_flags = IRP_PAGING_IO | IRP_NOCACHE | IRP_SYNCHRONOUS_PAGING_IO});
 }
 
+static KzReply ask_fast_read(char **words)
+{
+    uint64_t handle, offset, length;
+    if (!kz_read_handle(words[1], &handle) || !kz_read_number(words[2], UINT64_MAX, &offset) || !kz_read_number(words[3], KZ_BYTES + 1, &length))
+        return kz_wrong();
+    return kz_perform_fast(&(KzBegin){.event = {.event = KZE_READ, .handle = handle, .offset = offset, .len = (uint32_t)length}, .bytes = ""});
+}
+
+static KzReply ask_fast_write(char **words)
+{
+    uint64_t handle, offset;
+    size_t length;
+    if (!kz_read_handle(words[1], &handle) || !kz_read_number(words[2], UINT64_MAX, &offset) || !kz_read_hex(words[3], kz_me->bytes, &length))
+        return kz_wrong();
+    return kz_perform_fast(&(KzBegin){.event = {.event = KZE_WRITE, .handle = handle, .offset = offset}, .bytes = kz_me->bytes, .length = length});
+}
+
 static KzReply ask_page_out(char **words)
 {
     uint64_t handle, offset;
@@ -420,6 +450,7 @@ static KzReply ask_page_out(char **words)
 const KzRequest kz_major_requests[] = {
     {"mkdir", 3, 13, ask_mkdir, false},
     {"opendir", 3, 13, ask_opendir, false},
+    {"openvolume", 2, 12, ask_open_volume, false},
     {"query", 3, 4, ask_query, true},
     {"set", 4, 4, ask_set, true},
     {"dispose", 3, 6, ask_dispose, true},
@@ -445,6 +476,8 @@ const KzRequest kz_major_requests[] = {
     {"queryremove", 2, 2, ask_query_remove, false},
     {"networkopen", 3, 3, ask_network_open, false},
     {"map", 2, 3, ask_map, true},
+    {"fastread", 4, 4, ask_fast_read, true},
+    {"fastwrite", 4, 4, ask_fast_write, true},
     {"pagein", 4, 4, ask_page_in, true},
     {"pageout", 4, 4, ask_page_out, true},
     {NULL, 0, 0, NULL, false},

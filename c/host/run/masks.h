@@ -5,6 +5,8 @@
 #include "host.h"
 #include "core/create.h"
 
+/* That of a handle of a process or a thread. */
+bool kz_read_process_access(const char *word, ULONG *access);
 /* The disposition of a mode's word; false if it is none. */
 bool kz_read_mode(const char *word, ULONG *disposition);
 /* The pairs of words behind a path, up to NULL, and the name that the handle gets, or NULL; false if one isn't understood, or comes twice. */

@@ -3,6 +3,7 @@
 
 #include "core/client.h"
 #include "core/crash.h"
+#include "core/late.h"
 #include "core/module.h"
 #include "core/piece.h"
 #include "core/said.h"
@@ -47,6 +48,7 @@ int kz_open(const KzDriver *drivers, size_t count)
     kz_forget_fails();
     kz_new_client(kz_me, "first", 0);
     kz_watch_crashes();
+    kz_watch_time();
     if (kazdrin_open(&kz.manager) != KZS_OK)
         return 1;
     uint64_t number;

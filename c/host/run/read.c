@@ -3,17 +3,39 @@
 
 #include "core/client.h"
 
+#include <stdarg.h>
+
+static __thread char refused[200];
+
+bool kz_refuse_word(const char *format, ...)
+{
+    va_list arguments;
+    strcpy(refused, ": ");
+    va_start(arguments, format);
+    vsnprintf(refused + 2, sizeof refused - 2, format, arguments);
+    va_end(arguments);
+    return false;
+}
+
+void kz_forget_refused_word(void)
+{
+    refused[0] = 0;
+}
+
+const char *kz_refused_word(void)
+{
+    return refused;
+}
+
 bool kz_read_number(const char *word, uint64_t limit, uint64_t *number)
 {
+    const char *at = word;
     *number = 0;
-    if (!*word)
-        return false;
-    for (; *word; word++) {
-        if (*word < '0' || *word > '9' || *number > (UINT64_MAX - 9) / 10)
-            return false;
-        *number = *number * 10 + (uint64_t)(*word - '0');
-    }
-    return *number < limit;
+    for (; *at >= '0' && *at <= '9' && *number <= (UINT64_MAX - 9) / 10; at++)
+        *number = *number * 10 + (uint64_t)(*at - '0');
+    if (!*word || (*at && (*at < '0' || *at > '9')))
+        return kz_refuse_word("`%.40s` is no number", word);
+    return (!*at && *number < limit) || kz_refuse_word("%.40s is more than %llu", word, (unsigned long long)limit - 1);
 }
 
 static int digit(char letter)
@@ -24,16 +46,25 @@ static int digit(char letter)
 
 bool kz_read_hex(const char *word, uint8_t *bytes, size_t *length)
 {
-    for (*length = 0; *word; word += 2) {
-        int high = digit(word[0]), low = high < 0 ? -1 : digit(word[1]);
-        if (low < 0 || *length == KZ_BYTES)
-            return false;
+    const char *at = word;
+    for (*length = 0; *at; at += 2) {
+        int high = digit(at[0]), low = high < 0 ? -1 : digit(at[1]);
+        if (low < 0)
+            return kz_refuse_word("`%.40s` is no bytes, of two digits from 00 to ff each", word);
+        if (*length == KZ_BYTES)
+            return kz_refuse_word("there are more than %d bytes", KZ_BYTES);
         bytes[(*length)++] = (uint8_t)(high << 4 | low);
     }
     return true;
 }
 
 /* ---- Things by their numbers or their names: a filter by its driver's, a volume and an instance by their own, a handle by that which its create gave it. */
+static bool numbered(const char *word, const char *kind, uint64_t limit, uint64_t *number)
+{
+    bool is_number = *word >= '0' && *word <= '9';
+    return is_number ? kz_read_number(word, limit, number) : kz_refuse_word("no %s is named %.40s", kind, word);
+}
+
 bool kz_read_filter(const char *word, uint64_t *number)
 {
     for (size_t at = kz.filters_count; at-- > 0;)
@@ -41,7 +72,7 @@ bool kz_read_filter(const char *word, uint64_t *number)
             *number = at;
             return true;
         }
-    return kz_read_number(word, 256, number);
+    return numbered(word, "filter", 256, number);
 }
 
 bool kz_read_volume(const char *word, uint64_t *number)
@@ -51,7 +82,7 @@ bool kz_read_volume(const char *word, uint64_t *number)
             *number = at;
             return true;
         }
-    return kz_read_number(word, 256, number);
+    return numbered(word, "volume", 256, number);
 }
 
 bool kz_read_instance(const char *word, uint64_t *number)
@@ -61,7 +92,7 @@ bool kz_read_instance(const char *word, uint64_t *number)
             *number = at;
             return true;
         }
-    return kz_read_number(word, 65536, number);
+    return numbered(word, "instance", 65536, number);
 }
 
 bool kz_read_handle(const char *word, uint64_t *number)
@@ -73,7 +104,7 @@ bool kz_read_handle(const char *word, uint64_t *number)
                 *number = clients[who]->names[at].handle;
                 return true;
             }
-    return kz_read_number(word, UINT64_MAX, number);
+    return numbered(word, "handle", UINT64_MAX, number);
 }
 
 bool kz_is_name(const char *word)

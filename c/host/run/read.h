@@ -1,4 +1,4 @@
-/* Words of a request as numbers, bytes and things: false where they are none. */
+/* Words of a request as numbers, bytes and things: false where they are none, and then why is noted. */
 #ifndef KZ_RUN_READ_H
 #define KZ_RUN_READ_H
 
@@ -12,5 +12,10 @@ bool kz_read_instance(const char *word, uint64_t *number);
 bool kz_read_handle(const char *word, uint64_t *number);
 bool kz_is_name(const char *word);
 void kz_name_handle(const char *word, uint64_t handle);
+/* Notes why a word isn't understood, for the thread that reads it: false. */
+__attribute__((format(printf, 1, 2))) bool kz_refuse_word(const char *format, ...);
+void kz_forget_refused_word(void);
+/* What was noted last, with `: ` before it; empty if nothing was. */
+const char *kz_refused_word(void);
 
 #endif

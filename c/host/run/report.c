@@ -203,20 +203,27 @@ static void put_case(FILE *file, const Case *one)
     fputs("\"/></testcase>\n", file);
 }
 
-static void put_junit(const char *name)
+static void put_suite(FILE *file, const char *name)
 {
-    FILE *file = fopen(report.junit, "w");
-    if (!file) {
-        fprintf(stderr, "%s: can't be written\n", report.junit);
-        return;
-    }
     fputs("<?xml version=\"1.0\" encoding=\"UTF-8\"?>\n<testsuite name=\"", file);
     put_xml(file, name);
     fprintf(file, "\" tests=\"%u\" failures=\"%u\">\n", report.count, kz_unmet() + (kz.counts.told > 0));
     for (const Case *one = report.cases; one; one = one->next)
         put_case(file, one);
     fputs("</testsuite>\n", file);
-    fclose(file);
+}
+
+static bool is_junit_put(const char *name)
+{
+    FILE *file = fopen(report.junit, "w");
+    bool is_put = file != NULL;
+    if (file) {
+        put_suite(file, name);
+        is_put = !ferror(file) & (fclose(file) == 0);
+    }
+    if (!is_put)
+        fprintf(stderr, "%s: can't be written\n", report.junit);
+    return is_put;
 }
 
 static void free_cases(void)
@@ -249,16 +256,17 @@ static const char *verdict_of(int status)
     }
 }
 
-void kz_report_end(const char *name, int status)
+int kz_report_end(const char *name, int status)
 {
     char members[400], text[64];
     snprintf(text, sizeof text, "told %llu", (unsigned long long)kz.counts.told);
     add_case("nothing is told", kz.counts.told ? text : NULL);
+    if (report.junit && !is_junit_put(name) && status == 0)
+        status = 3;
     snprintf(members, sizeof members, "\"verdict\": \"%s\", \"born\": %llu, \"cleaned\": %llu, \"leaks\": %llu, \"told\": %llu, \"limits\": %llu, \"unmet\": %u, \"status\": %d",
              verdict_of(status), (unsigned long long)kz.counts.born, (unsigned long long)kz.counts.cleaned, (unsigned long long)kz.counts.leaked,
              (unsigned long long)kz.counts.told, (unsigned long long)kz.counts.limits, kz_unmet(), status);
     kz_report_event("End", members);
-    if (report.junit)
-        put_junit(name);
     free_cases();
+    return status;
 }

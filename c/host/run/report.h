@@ -10,7 +10,8 @@ void kz_report_event(const char *event, const char *members);
 void kz_report_told(const KzSaid *said);
 void kz_report_expectation(const char *words, const char *unmet);
 void kz_report_begin(const char *file);
-void kz_report_end(const char *file, int status);
+/* The status; 3 in place of 0 where the file of JUnit can't be written. */
+int kz_report_end(const char *file, int status);
 const char *kz_callback_name(KzCallback callback);
 void kz_json_text(char *room, size_t size, const char *text);
 

@@ -4,6 +4,7 @@
 #include "core/client.h"
 #include "core/clock.h"
 #include "core/kept.h"
+#include "core/spell.h"
 #include "core/state.h"
 #include "run/expect.h"
 #include "run/line.h"
@@ -18,7 +19,7 @@ static const KzReply bad = {.status = KZS_BAD_REQUEST};
 /* Of a file's run: what would have all that comes behind it pass for nothing. */
 static struct {
     unsigned requests;  /* how many there were */
-    bool is_refused;    /* the last one was a load, an attach or a mount, which was refused */
+    bool is_refused;    /* the last one was a load, an attach or a mount which was refused, or was of a handle that isn't there */
     unsigned line;      /* where one was that no expectation stands behind; 0 if there is none */
     char words[200];
     bool is_wrong; /* the last line isn't understood */
@@ -67,16 +68,53 @@ size_t kz_split(char *line, char **words)
     return count;
 }
 
+/* An expectation, which has a request before it. */
+static bool is_read(const char *words)
+{
+    if (is_of_file() && !seen.requests)
+        return kz_refuse_word("there is no request before it");
+    return kz_expect(words);
+}
+
+static KzReply asked_of(const KzRequest *one, char **words, size_t count)
+{
+    if (!one || count < one->least || count > one->most)
+        return kz_wrong();
+    KzReply reply = one->ask(words);
+    if (is_of_file() && !reply.held && reply.status == KZS_NO_HANDLE)
+        kz_note_refused(reply.status);
+    return reply;
+}
+
+/* Words of UTF-8 as the host has them, behind the line; those for a program stay as they are. */
+static bool are_letters(char **words, char *room)
+{
+    bool is_for_program = strcmp(words[0], "start") == 0 || strcmp(words[0], "type") == 0;
+    for (; *words && !is_for_program; words++) {
+        const char *letter = *words;
+        while (*letter && !(*letter & 0x80))
+            letter++;
+        if (!*letter)
+            continue;
+        if (!kz_unspell(room, sizeof kz_me->line - (size_t)(room - kz_me->line), *words))
+            return kz_refuse_word("`%.40s` is no UTF-8, or too long", *words);
+        *words = room;
+        room += strlen(room) + 1;
+    }
+    return true;
+}
+
 KzReply kz_request_as(const char *line, const char *asked)
 {
     char *words[KZ_WORDS + 1];
     const char *expected = line + strspn(line, " \t");
-    if (strlen(line) >= sizeof kz_me->line)
+    kz_forget_refused_word();
+    if (strlen(line) + 1 >= sizeof kz_me->line)
         return kz_wrong();
     if (strncmp(expected, "expect ", 7) == 0) {
         kz_say(KZ_SAID_REQUEST, "> %.900s%s", expected, strchr(expected, '\n') ? "" : "\n");
         seen.is_refused = false;
-        return kz_expect(expected + 7) ? (KzReply){0} : kz_wrong();
+        return is_read(expected + 7) ? (KzReply){0} : kz_wrong();
     }
     strcpy(kz_me->line, line);
     size_t count = kz_split(kz_me->line, words);
@@ -95,8 +133,7 @@ KzReply kz_request_as(const char *line, const char *asked)
     for (size_t at = 0; at < count; at++)
         kz_say(KZ_SAID_REQUEST, " %s", words[at]);
     kz_say(KZ_SAID_REQUEST, "\n");
-    const KzRequest *one = kz_request_of(words[0]);
-    return one && count >= one->least && count <= one->most ? one->ask(words) : kz_wrong();
+    return are_letters(words, kz_me->line + strlen(line) + 1) ? asked_of(kz_request_of(words[0]), words, count) : kz_wrong();
 }
 
 KzReply kz_request(const char *line)
@@ -109,11 +146,12 @@ int kz_set_up(char *const *lines, size_t count)
     for (size_t at = 0; at < count; at++) {
         bool is_expected = at + 1 < count && strncmp(lines[at + 1], "expect ", 7) == 0;
         seen.is_refused = false;
-        bool is_bad = kz_request(lines[at]).status == KZS_BAD_REQUEST;
-        if (is_expected || !(is_bad || seen.is_refused))
+        KzReply reply = kz_request(lines[at]);
+        bool is_bad = reply.status == KZS_BAD_REQUEST, is_refused = seen.is_refused || reply.status == KZS_NO_HANDLE;
+        if (is_expected || !(is_bad || is_refused))
             continue;
-        fprintf(stderr, "the set-up has a line that is %s: %s\n", seen.is_refused ? "refused" : "no request", lines[at]);
-        return seen.is_refused ? 1 : 2;
+        fprintf(stderr, "the set-up has a line that is %s: %s%s\n", is_refused ? "refused" : "no request", lines[at], is_refused ? "" : kz_refused_word());
+        return is_refused ? 1 : 2;
     }
     return 0;
 }
@@ -125,6 +163,17 @@ int kz_run(const KzDriver *drivers, size_t count, const char *const *lines, size
     for (size_t at = 0; at < length; at++)
         kz_request(lines[at]);
     return kz_close();
+}
+
+/* What is no text of UTF-8: a zero byte in the line, or the mark that UTF-16 begins with. */
+static bool is_other_text(const char *line, FILE *file, const char *name)
+{
+    bool is_cut = !strchr(line, '\n') && !feof(file) && strlen(line) + 1 < sizeof seen.text;
+    bool is_wide = kz_line() == 1 && (strncmp(line, "\xff\xfe", 2) == 0 || strncmp(line, "\xfe\xff", 2) == 0);
+    if (!is_cut && !is_wide)
+        return false;
+    fprintf(stderr, "%s:%u: %s: requests are text of UTF-8 or ASCII\n", name, kz_line(), is_wide ? "it is UTF-16" : "it has a zero byte");
+    return true;
 }
 
 /* A line that is longer than any request is none: what is left of it is passed over. */
@@ -139,8 +188,21 @@ static void request_or_bad(const char *line, FILE *file)
     say_bad();
 }
 
+/* A driver that began to filter, of which nothing was called: none of the file's requests came to it, and nothing was expected of it either. */
+static const char *idle_driver(void)
+{
+    for (size_t at = 0; at < kz.filters_count && !kz_seen.expected; at++) {
+        PFLT_FILTER filter = kz.filters[at];
+        const FLT_OPERATION_REGISTRATION *first = filter->registration.OperationRegistration;
+        bool is_asked = filter->is_started && first && first->MajorFunction != IRP_MJ_OPERATION_END;
+        if (is_asked && filter->id < 32 && !(kz_seen.called >> filter->id & 1))
+            return filter->driver->name;
+    }
+    return NULL;
+}
+
 /* A run that tried nothing, or not what was meant, is no success. */
-static int judged(int status, const char *name)
+static int judged(int status, const char *name, const char *idle)
 {
     if (status != 0)
         return status;
@@ -148,16 +210,17 @@ static int judged(int status, const char *name)
         fprintf(stderr, "%s: there is no request in it\n", name);
     else if (seen.line)
         fprintf(stderr, "%s:%u: `%s` was refused, and no `expect` behind it says so\n", name, seen.line, seen.words);
-    return !seen.requests || seen.line ? 1 : 0;
+    else if (idle)
+        fprintf(stderr, "%s: no callback of %s was called: attach it, and ask for what it registered\n", name, idle);
+    return !seen.requests || seen.line || idle ? 1 : 0;
 }
 
 /* What is wrong with a line that wasn't understood. */
 static void tell_wrong(const char *name, const char *line)
 {
-    char why[200], handle[64];
-    uint64_t number;
-    if (kz_is_request(line, why, sizeof why) && kz_takes_name(line, handle, sizeof handle) && !kz_read_handle(handle, &number))
-        snprintf(why, sizeof why, ": no handle is named %s", handle);
+    char why[200];
+    if (kz_is_request(line, why, sizeof why))
+        snprintf(why, sizeof why, "%s", kz_refused_word());
     fprintf(stderr, "%s:%u: not understood%s\n", name, kz_line(), why);
 }
 
@@ -167,17 +230,20 @@ static int run_file(const KzDriver *drivers, size_t count, FILE *file, const cha
         return 1;
     memset(&seen, 0, sizeof seen);
     kz_report_begin(name);
-    while (!seen.is_wrong && fgets(seen.text, sizeof seen.text, file)) {
+    kz_seen.file = name;
+    bool is_other = false;
+    while (!seen.is_wrong && !is_other && fgets(seen.text, sizeof seen.text, file)) {
         kz_next_line();
-        request_or_bad(seen.text, file);
+        is_other = is_other_text(seen.text, file, name);
+        if (!is_other)
+            request_or_bad(seen.text, file);
     }
     if (seen.is_wrong)
         tell_wrong(name, seen.text);
     note_unexpected();
+    const char *idle = idle_driver();
     int status = kz_close();
-    status = ferror(file) ? 3 : seen.is_wrong ? 2 : judged(status, name);
-    kz_report_end(name, status);
-    return status;
+    return kz_report_end(name, ferror(file) ? 3 : seen.is_wrong || is_other ? 2 : judged(status, name, idle));
 }
 
 int kz_run_file(const KzDriver *drivers, size_t count, FILE *file)

@@ -37,9 +37,13 @@ static bool add_requests(KzScript *one, char *text)
 
 static bool is_name(const KzScenario *scenario, const char *name)
 {
+    static const char *const others[] = {"fail", "inside", "late", "seen", "work"}; /* what else stands in a schedule */
     size_t length = strspn(name, "abcdefghijklmnopqrstuvwxyzABCDEFGHIJKLMNOPQRSTUVWXYZ0123456789_-");
-    if (!length || name[length] || length > 30 || strcmp(name, "fail") == 0 || strcmp(name, "work") == 0)
+    if (!length || name[length] || length > 30)
         return false;
+    for (size_t at = 0; at < sizeof others / sizeof others[0]; at++)
+        if (strcmp(others[at], name) == 0)
+            return false;
     for (size_t at = 0; at < scenario->clients_count; at++)
         if (strcmp(scenario->clients[at].name, name) == 0)
             return false;

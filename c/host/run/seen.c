@@ -35,7 +35,8 @@ const char *kz_command(void)
 
 void kz_forget_notes(void)
 {
-    kz_seen.line = kz_seen.request_line = kz_seen.unmet = 0;
+    kz_seen.line = kz_seen.request_line = kz_seen.unmet = kz_seen.expected = kz_seen.called = 0;
+    kz_seen.file = NULL;
     kz_seen.told_count = 0;
     kz_seen.command[0] = kz_seen.callbacks[0] = 0;
 }
@@ -62,7 +63,7 @@ void kz_note_request(const char *words)
 
 const char *kz_callback_word(KzCallback callback)
 {
-    static const char *const words[] = {"none", "entry", "setup", "pre", "post", "drain", "query", "start", "complete", "unload", "cleanup", "work", "timer", "thread", "port", "cancel", "notify", "completion", "dispatch"};
+    static const char *const words[] = {"none", "entry", "setup", "pre", "post", "drain", "query", "start", "complete", "unload", "cleanup", "work", "timer", "thread", "port", "cancel", "notify", "completion", "dispatch", "name"};
     return words[callback];
 }
 
@@ -71,6 +72,8 @@ void kz_note_callback(KzCallback callback, PFLT_FILTER filter)
     char members[256], name[128];
     if (!is_watched() || callback == KZ_IN_NOTHING || !filter)
         return;
+    if (callback != KZ_IN_ENTRY && callback != KZ_IN_UNLOAD && filter->id < 32)
+        kz_seen.called |= 1U << filter->id;
     size_t used = strlen(kz_seen.callbacks);
     snprintf(kz_seen.callbacks + used, sizeof kz_seen.callbacks - used, "%s%s:%s", used ? " " : "", kz_callback_word(callback), filter->driver->name);
     if (!kz_is_json())

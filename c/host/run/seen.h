@@ -5,7 +5,9 @@
 #include "host.h"
 
 typedef struct {
-    unsigned line, request_line, unmet;
+    const char *file; /* whose requests are played; NULL if it is none */
+    unsigned line, request_line, unmet, expected;
+    uint32_t called; /* filters of which more was called than their loading and unloading, a bit each */
     char command[256], callbacks[2048];
     KzReply reply;
     NTSTATUS other; /* of the reply: the kit's own, where it is another one */

@@ -13,7 +13,9 @@
 #include "kit/cancel.h"
 #include "kit/notify.h"
 #include "kit/registry.h"
+#include "kit/token.h"
 #include "user/program.h"
+#include "run/events.h"
 #include "run/fails.h"
 #include "run/majors.h"
 #include "run/masks.h"
@@ -80,19 +82,43 @@ static KzReply ask_volume(char **words)
     return outcome(KZS_OK, 0);
 }
 
+/* What a user's token is beside that: `elevated`, `integrity low`. */
+static bool read_token(char **words, bool *is_elevated, ULONG *integrity)
+{
+    static const char *const levels[] = {"untrusted", "low", "medium", "high", "system"};
+    *is_elevated = false;
+    for (*integrity = 0; *words; words++) {
+        if (strcmp(*words, "elevated") == 0) {
+            *is_elevated = true;
+            continue;
+        }
+        if (strcmp(*words, "integrity") != 0 || !*++words)
+            return false;
+        for (ULONG at = 1; at < sizeof levels / sizeof levels[0]; at++)
+            *integrity = strcmp(levels[at], *words) == 0 ? at * SECURITY_MANDATORY_LOW_RID : *integrity;
+        if (!*integrity)
+            return false;
+    }
+    return true;
+}
+
 /* Who asks from then on: `as process 42`, `as process 42 thread 7`, `as process 42 user S-1-5-18`. */
 static KzReply ask_as(char **words)
 {
     uint64_t process, thread;
+    bool is_elevated = false;
+    ULONG integrity = 0;
     bool has_thread = words[3] && strcmp(words[3], "thread") == 0, has_user = words[3] && strcmp(words[3], "user") == 0;
     if (strcmp(words[1], "process") != 0 || !kz_read_number(words[2], UINT32_MAX, &process) || (words[3] && (!words[4] || !(has_thread || has_user))))
+        return kz_wrong();
+    if (words[3] && words[4] && words[5] && (!has_user || !read_token(words + 5, &is_elevated, &integrity)))
         return kz_wrong();
     if ((has_user && !kz_is_sid(words[4])) || !kz_read_number(has_thread ? words[4] : "0", UINT32_MAX, &thread))
         return kz_wrong();
     kz_me->process = process;
     kz_me->thread = has_thread ? thread : process + 4;
     if (has_user)
-        kz_set_user(process, words[4]);
+        kz_set_user(process, words[4], is_elevated, integrity);
     return outcome(KZS_OK, 0);
 }
 
@@ -157,6 +183,8 @@ static KzReply ask_cancel(char **words)
 
 static KzReply ask_registry(char **words)
 {
+    if (words[2])
+        return kz_ask_key(words);
     return kz_read_registry(words[1]) ? outcome(KZS_OK, 0) : kz_wrong();
 }
 
@@ -179,9 +207,12 @@ static KzReply ask_attach(char **words)
         return outcome(KZS_NO_FILTER, 0);
     if (volume >= kz.volumes_count)
         return outcome(KZS_NO_VOLUME, 0);
-    uint32_t status = kz_attach(kz.filters[filter], kz.volumes[volume], name, altitude, FLTFL_INSTANCE_SETUP_MANUAL_ATTACHMENT, &number);
+    NTSTATUS other;
+    uint32_t status = kz_attach(kz.filters[filter], kz.volumes[volume], name, altitude, FLTFL_INSTANCE_SETUP_MANUAL_ATTACHMENT, &number, &other);
     kz_note_refused(status);
-    return outcome(status, number);
+    KzReply reply = {.status = status, .information = status == KZS_OK ? number : 0};
+    kz_print_reply(reply, other, NULL, 0);
+    return reply;
 }
 
 /* A detach, an unload or a dismount: one that is refused says what is in its way, and how many. */
@@ -310,9 +341,10 @@ static const KzRequest requests[] = {
     {"dismount", 2, 2, ask_dismount, false},   {"create", 4, 14, ask_create, false},       {"list", 2, 2, ask_list, false},
     {"read", 4, 4, ask_read, true},            {"write", 4, 4, ask_write, true},          {"setsize", 3, 3, ask_set_size, true},
     {"querysize", 2, 2, ask_query_size, true}, {"flush", 2, 2, ask_flush, true},          {"setdelete", 2, 2, ask_set_delete, true},
-    {"close", 2, 2, ask_close, true},          {"as", 3, 5, ask_as, false},               {"time", 2, 2, ask_time, false},
-    {"registry", 2, 2, ask_registry, false},   {"fail", 3, 3, ask_fail, false},           {"start", 2, KZ_WORDS, ask_start, false},
+    {"close", 2, 2, ask_close, true},          {"as", 3, 8, ask_as, false},               {"time", 2, 2, ask_time, false},
+    {"registry", 2, 5, ask_registry, false},   {"fail", 3, 3, ask_fail, false},           {"start", 2, KZ_WORDS, ask_start, false},
     {"type", 3, KZ_WORDS, ask_type, false},    {"cancel", 2, 2, ask_cancel, false},       {"process", 3, 5, ask_process, false},
+    {"thread", 3, 5, kz_ask_thread, false},    {"image", 4, 4, kz_ask_image, false},      {"open", 4, 6, kz_ask_open, false},
 };
 
 const KzRequest *kz_request_at(size_t at)

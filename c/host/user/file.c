@@ -84,6 +84,13 @@ static KzCreate create_of(const Asked *asked)
                       .share = asked->share};
 }
 
+/* `//./C:` is the volume itself. */
+static PFLT_VOLUME volume_by_letter(const char *name)
+{
+    size_t at = strncmp(name, "//./", 4) == 0 && name[4] && strcmp(name + 5, ":") == 0 ? (size_t)((name[4] & ~32) - 'C') : kz.volumes_count;
+    return at < kz.volumes_count ? kz.volumes[at] : NULL;
+}
+
 /* A path below a volume's letter, or below its device. */
 static PFLT_VOLUME split(const char *name, const char **path)
 {
@@ -112,6 +119,8 @@ static KzAnswer begin(void *given, KazdrinEvent asked, const char *path)
     const KzOwn own = {.is_waited_for = true, .is_user = true, .create = opening->create};
     file->users++;
     file->is_own = true;
+    if (opening->create->is_volume)
+        kz_be_volume(file);
     KzAnswer answer = kz_below(&own, file, asked, path, strlen(path));
     opening->file = answer.reply.status == KZS_OK && !answer.reply.held ? file : NULL;
     if (!opening->file)
@@ -119,29 +128,41 @@ static KzAnswer begin(void *given, KazdrinEvent asked, const char *path)
     return answer;
 }
 
-/* The file, or the error. */
-static uint32_t open_at(PFLT_VOLUME volume, const char *path, const KzCreate *asked, KzFile **file)
+static NTSTATUS open_at(PFLT_VOLUME volume, const char *path, const KzCreate *asked, KzFile **file)
 {
     KzCreate create = *asked;
     NTSTATUS wrong = kz_check_create(asked);
     if (!NT_SUCCESS(wrong))
-        return kz_win32_of(wrong);
+        return wrong;
     create.access = kz_map_access(asked->access);
     Opening opening = {&create, NULL};
     KazdrinEvent event = {.event = KZE_CREATE, .volume = volume->id, .mode = kz_mode_of(create.options >> 24)};
-    uint32_t error = error_of(kz_follow(begin(&opening, event, path), &opening, begin));
+    NTSTATUS status = kz_status_of(kz_follow(begin(&opening, event, path), &opening, begin));
     *file = opening.file;
-    return error;
+    return status;
+}
+
+NTSTATUS kz_open_as(const char *name, const KzCreate *create, KzFile **file)
+{
+    const char *path;
+    *file = NULL;
+    PFLT_VOLUME volume = volume_by_letter(name);
+    if (volume) {
+        KzCreate itself = *create;
+        itself.is_volume = true;
+        itself.options &= ~(ULONG)FILE_NON_DIRECTORY_FILE;
+        return open_at(volume, "", &itself, file);
+    }
+    volume = split(name, &path);
+    if (!volume || strlen(path) > 255)
+        return volume ? STATUS_OBJECT_NAME_INVALID : STATUS_OBJECT_PATH_NOT_FOUND;
+    return open_at(volume, path, create, file);
 }
 
 uint32_t kz_open_path(const char *name, const KzCreate *create, KzFile **file)
 {
-    const char *path;
-    *file = NULL;
-    PFLT_VOLUME volume = split(name, &path);
-    if (!volume || strlen(path) > 255)
-        return volume ? 123 : 3; /* ERROR_INVALID_NAME, ERROR_PATH_NOT_FOUND */
-    return open_at(volume, path, create, file);
+    NTSTATUS status = kz_open_as(name, create, file);
+    return NT_SUCCESS(status) ? 0 : kz_win32_of(status);
 }
 
 NTSTATUS kz_ask_opened(KzFile *file, const KzAsked *asked, KzAnswer *answer)
@@ -183,7 +204,7 @@ static KzObject *open_device(const char *name)
 static KzObject *open_any(const char *name, const Asked *asked)
 {
     const char *path;
-    if (strncmp(name, "//", 2) == 0 && !split(name, &path))
+    if (strncmp(name, "//", 2) == 0 && !split(name, &path) && !volume_by_letter(name))
         return open_device(name);
     KzFile *file = open_file(name, asked);
     if (!file)
@@ -276,6 +297,25 @@ static uint32_t transfer_of_device(Transfer *one)
     return NT_SUCCESS(status) ? 0 : kz_win32_of(status);
 }
 
+/* Of a file, or of a volume: codes of file systems are theirs, others a device's. */
+static int control_file(KzObject *object, uint32_t code, void *in, uint32_t in_length, void *out, uint32_t out_length, uint32_t *done, KzOverlapped *overlapped)
+{
+    KzAnswer answer = {0};
+    const KzAsked asked = {.major = code >> 16 == FILE_DEVICE_FILE_SYSTEM ? IRP_MJ_FILE_SYSTEM_CONTROL : IRP_MJ_DEVICE_CONTROL, .code = code, .input = in, .input_size = in_length, .room = out_length,
+                           .irp_flags = code & 3 ? 0 : IRP_BUFFERED_IO};
+    if (overlapped)
+        kz_begin_overlapped(object, overlapped);
+    NTSTATUS status = kz_ask_opened(object->file, &asked, &answer);
+    uint32_t length = answer.length < out_length ? (uint32_t)answer.length : out_length;
+    if (length)
+        memcpy(out, kz_me->room, length);
+    if (done)
+        *done = (uint32_t)answer.reply.information;
+    if (overlapped)
+        kz_complete(object, overlapped, (uint32_t)answer.reply.information, status);
+    return NT_SUCCESS(status) ? 1 : kz_failed(kz_win32_of(status));
+}
+
 int DeviceIoControl(void *handle, uint32_t code, void *in, uint32_t in_length, void *out, uint32_t out_length, uint32_t *done, KzOverlapped *overlapped);
 int DeviceIoControl(void *handle, uint32_t code, void *in, uint32_t in_length, void *out, uint32_t out_length, uint32_t *done, KzOverlapped *overlapped)
 {
@@ -283,7 +323,9 @@ int DeviceIoControl(void *handle, uint32_t code, void *in, uint32_t in_length, v
     {
         KZ_CALL();
         KzObject *object = kz_any_object(handle);
-        if (object && object->kind != KZU_DEVICE) {
+        if (object && object->kind == KZU_FILE) {
+            is_right = control_file(object, code, in, in_length, out, out_length, done, overlapped);
+        } else if (object && object->kind != KZU_DEVICE) {
             kz_failed(1); /* ERROR_INVALID_FUNCTION */
         } else if (object) {
             ULONG_PTR information = 0;

@@ -78,12 +78,13 @@ static bool has_come(void *port)
     return kz_is_port_over(port) || kz_next_message(port);
 }
 
-static NTSTATUS get(KzObject *object, uint8_t *room, uint32_t size)
+/* Another thread may close the handle meanwhile; the port stays. */
+static NTSTATUS get(PFLT_PORT port, uint8_t *room, uint32_t size)
 {
     uint32_t bytes;
-    if (!kz_user_waits(has_come, object->port, UINT32_MAX, "FilterGetMessage"))
+    if (!kz_user_waits(has_come, port, UINT32_MAX, "FilterGetMessage"))
         return STATUS_CANCELLED;
-    KzPortMessage *message = kz_is_port_over(object->port) ? NULL : kz_next_message(object->port);
+    KzPortMessage *message = kz_is_port_over(port) ? NULL : kz_next_message(port);
     return message ? give(message, room, size, &bytes) : STATUS_PORT_DISCONNECTED;
 }
 
@@ -147,7 +148,7 @@ int32_t FilterGetMessage(void *handle, void *message, uint32_t size, KzOverlappe
             serve(object);
             answer = HRESULT_OF(KZ_ERROR_IO_PENDING);
         } else if (object && !overlapped) {
-            answer = kz_hresult_of(get(object, message, size));
+            answer = kz_hresult_of(get(object->port, message, size));
         }
     }
     kz_go_on_or_end();

@@ -80,6 +80,8 @@ void kz_close_object(KzObject *object)
         kz_free_found(object);
     } else if (object->kind == KZU_SEARCH) {
         kz_free_search(object);
+    } else if (object->kind == KZU_KEY) {
+        ZwClose(object->system);
     } else if (object->kind == KZU_THREAD) {
         object->owner->object = NULL;
     }

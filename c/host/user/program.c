@@ -89,6 +89,8 @@ static void live(void *given)
     if (!me->start)
         end_process(me->process);
     KZ_INSIDE();
+    if (me->start)
+        kz_thread_ends(kz_me->process, kz_me->thread);
     me->has_ended = true;
     me->process->threads--;
     kz.changes++;
@@ -106,6 +108,8 @@ KzUser *kz_new_user(KzProcess *process, uint32_t (*start)(void *), void *paramet
     process->users = made;
     process->threads++;
     process->threads_made++;
+    if (start)
+        kz_thread_begins(process->id, process->id + 4 * process->threads_made);
     return made;
 }
 

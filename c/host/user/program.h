@@ -49,7 +49,7 @@ struct KzUser {
     bool has_ended;
 };
 
-typedef enum { KZU_THREAD, KZU_EVENT, KZU_SEMAPHORE, KZU_MUTEX, KZU_PORT, KZU_COMPLETION, KZU_FILE, KZU_FIND, KZU_SEARCH, KZU_DEVICE } KzObjectKind;
+typedef enum { KZU_THREAD, KZU_EVENT, KZU_SEMAPHORE, KZU_MUTEX, KZU_PORT, KZU_COMPLETION, KZU_FILE, KZU_FIND, KZU_SEARCH, KZU_DEVICE, KZU_KEY, KZU_PROCESS } KzObjectKind;
 
 /* A packet of a completion port. */
 typedef struct KzPacket {
@@ -93,6 +93,9 @@ struct KzObject {
     bool is_append;
     struct KzFound *found;
     struct KzSearch *search;
+    HANDLE system;   /* a key's, of the kernel */
+    uint64_t other;  /* a process, and what was granted of it */
+    ACCESS_MASK access;
 };
 
 extern const struct KzModule kz_program_module;

@@ -7,20 +7,19 @@ PFLT_FILTER gFilterHandle;
 static FLT_POSTOP_CALLBACK_STATUS PostCreate(PFLT_CALLBACK_DATA Data, PCFLT_RELATED_OBJECTS FltObjects, PVOID CompletionContext, FLT_POST_OPERATION_FLAGS Flags)
 {
     PFLT_CONTEXT context;
-    HANDLE handle;
     UCHAR room[16];
 
     UNREFERENCED_PARAMETER(CompletionContext);
     UNREFERENCED_PARAMETER(Flags);
-    SHOW(FltOpenVolume(FltObjects->Instance, &handle, NULL));
+    SHOW(FltFastIoMdlReadComplete(FltObjects->Instance, FltObjects->FileObject, NULL));
     SHOW(FltSetQuotaInformationFile(FltObjects->Instance, FltObjects->FileObject, room, sizeof(room)));
     SHOW(FltPrefetchFile(FltObjects->Instance, FltObjects->FileObject, NULL));
     SHOW(FltAllocateContext(gFilterHandle, FLT_TRANSACTION_CONTEXT, 8, PagedPool, &context));
     SHOW(FltGetTransactionContext(FltObjects->Instance, FltObjects->Transaction, &context));
     SHOW(FltTagFile(FltObjects->Instance, FltObjects->FileObject, IO_REPARSE_TAG_SYMLINK, NULL, NULL, 0));
     if (NT_SUCCESS(Data->IoStatus.Status)) {
-        Data->IoStatus.Status = STATUS_VIRUS_INFECTED;
-        Data->IoStatus.Information = 0;
+        Data->IoStatus.Status = STATUS_REPARSE;
+        Data->IoStatus.Information = IO_REPARSE;
     }
     return FLT_POSTOP_FINISHED_PROCESSING;
 }

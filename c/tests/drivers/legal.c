@@ -74,7 +74,7 @@ static VOID Work(PFLT_GENERIC_WORKITEM WorkItem, PVOID FltObject, PVOID Context)
         count->Reads++;
         FltReleaseContext(count);
     }
-    RtlCopyMemory(gHeld->Iopb->Parameters.Read.ReadBuffer, "worked", 6);
+    RtlCopyMemory(MmGetSystemAddressForMdlSafe(gHeld->Iopb->Parameters.Read.MdlAddress, NormalPagePriority), "worked", 6);
     gHeld->IoStatus.Status = STATUS_SUCCESS;
     gHeld->IoStatus.Information = 6;
     FltCompletePendedPreOperation(gHeld, FLT_PREOP_COMPLETE, NULL);
@@ -110,7 +110,8 @@ static FLT_PREOP_CALLBACK_STATUS PreRead(PFLT_CALLBACK_DATA Data, PCFLT_RELATED_
         FltGetInstanceContext(FltObjects->Instance, &pair->Instance);
         *CompletionContext = pair;
         return FLT_PREOP_SUCCESS_WITH_CALLBACK;
-    case 5: /* Held, and completed by a work item with bytes. */
+    case 5: /* Held, and completed by a work item with bytes, in another process. */
+        FltLockUserBuffer(Data);
         gHeld = Data;
         gWork = FltAllocateGenericWorkItem();
         FltQueueGenericWorkItem(gWork, FltObjects->Filter, Work, DelayedWorkQueue, FltObjects->Instance);

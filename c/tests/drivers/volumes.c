@@ -55,8 +55,8 @@ static NTSTATUS InstanceSetup(PCFLT_RELATED_OBJECTS FltObjects, FLT_INSTANCE_SET
 static FLT_PREOP_CALLBACK_STATUS PreCreate(PFLT_CALLBACK_DATA Data, PCFLT_RELATED_OBJECTS FltObjects, PVOID *CompletionContext)
 {
     PFLT_FILE_NAME_INFORMATION info;
-    BOOLEAN isDirectory;
 
+    UNREFERENCED_PARAMETER(FltObjects);
     UNREFERENCED_PARAMETER(CompletionContext);
     if (NT_SUCCESS(FltGetFileNameInformation(Data, FLT_FILE_NAME_NORMALIZED | FLT_FILE_NAME_QUERY_DEFAULT, &info))) {
         FltParseFileNameInformation(info);
@@ -64,16 +64,18 @@ static FLT_PREOP_CALLBACK_STATUS PreCreate(PFLT_CALLBACK_DATA Data, PCFLT_RELATE
                  &info->FinalComponent, &info->Extension, &info->Stream);
         FltReleaseFileNameInformation(info);
     }
-    FltIsDirectory(FltObjects->FileObject, FltObjects->Instance, &isDirectory);
-    SHOW(isDirectory);
     return FLT_PREOP_SUCCESS_WITH_CALLBACK;
 }
 
 static FLT_POSTOP_CALLBACK_STATUS PostCreate(PFLT_CALLBACK_DATA Data, PCFLT_RELATED_OBJECTS FltObjects, PVOID CompletionContext, FLT_POST_OPERATION_FLAGS Flags)
 {
+    BOOLEAN isDirectory;
+
     UNREFERENCED_PARAMETER(CompletionContext);
     UNREFERENCED_PARAMETER(Flags);
     if (NT_SUCCESS(Data->IoStatus.Status)) {
+        FltIsDirectory(FltObjects->FileObject, FltObjects->Instance, &isDirectory);
+        SHOW(isDirectory);
         SHOW(FltObjects->FileObject->WriteAccess && FltObjects->FileObject->FsContext != NULL);
         SHOW(FltSupportsStreamContexts(FltObjects->FileObject) && FltSupportsFileContexts(FltObjects->FileObject));
     }

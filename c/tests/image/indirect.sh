@@ -5,13 +5,13 @@
 set -eu
 cd "$(dirname "$0")/../.."
 TABLES='kz_scheduler|kz\.store|kz\.observer|kz\.modules\[count\]|\(\*one\)'
-OWN='put|give|part|turn|done|say|step|begin|can|life|sa_sigaction|on_told|sink|ask|serve'
+OWN='perform|put|give|part|turn|done|say|step|begin|can|life|sa_sigaction|on_told|sink|ask|serve'
 places=$(find "$1/host" -name '*.o' ! -path '*/user/*' -print0 | xargs -0 -n 1 objdump -dl --no-show-raw-insn |
     awk '/^[^ \t].*host\/.*:[0-9]+/ { place = $1 } /[ \t]call +[*]/ { print place }' | sed 's,.*/c/,,; s,^\./,,' | LC_ALL=C sort -u)
 status=0
 [ "$(echo "$places" | wc -l)" -gt 100 ] || { echo "indirect.sh: there are no calls through pointers in $1: has the compiler another way to say where they are?"; exit 1; }
 for place in $places; do
     line=$(sed -n "${place##*:}p" "${place%:*}")
-    echo "$line" | grep -qE "($TABLES)->|KZ_CALL_DRIVER|kz_binaries\.|\b($OWN)\(" || { echo "$place calls through a pointer that nobody knows: $line"; status=1; }
+    echo "$line" | grep -qE "($TABLES)->|\bdigest->(begin|add|end)\)|\bcrypto\.|KZ_CALL_DRIVER|kz_binaries\.|\b($OWN)\(" || { echo "$place calls through a pointer that nobody knows: $line"; status=1; }
 done
 exit "$status"

@@ -5,9 +5,17 @@ static PFLT_FILTER gFilter;
 
 static VOID Scan(_In_ PFLT_DEFERRED_IO_WORKITEM FltWorkItem, _In_ PFLT_CALLBACK_DATA Data, _In_opt_ PVOID Context)
 {
-    UCHAR *bytes = Data->Iopb->Parameters.Read.ReadBuffer;
+    UCHAR *bytes = NULL;
 
     UNREFERENCED_PARAMETER(Context);
+    /* It is another process that asked: only its pages are there. */
+    if (NT_SUCCESS(FltLockUserBuffer(Data)) && Data->Iopb->Parameters.Read.MdlAddress != NULL) {
+        bytes = MmGetSystemAddressForMdlSafe(Data->Iopb->Parameters.Read.MdlAddress, NormalPagePriority);
+    }
+    if (bytes == NULL && Data->IoStatus.Information > 0) {
+        Data->IoStatus.Status = STATUS_INSUFFICIENT_RESOURCES;
+        Data->IoStatus.Information = 0;
+    }
     if (Data->IoStatus.Information > 0 && bytes[0] == 'x') {
         Data->IoStatus.Status = STATUS_ACCESS_DENIED;
         Data->IoStatus.Information = 0;

@@ -122,7 +122,7 @@ static FLT_PREOP_CALLBACK_STATUS Answers(LONGLONG Which, PFLT_CALLBACK_DATA Data
     case 34: /* More bytes than were asked for: the postoperation says so. */
     case 35: /* And writes so many. */
         *CompletionContext = (PVOID)(ULONG_PTR)Which;
-        return FLT_PREOP_SUCCESS_WITH_CALLBACK;
+        return FLT_PREOP_SYNCHRONIZE;
     case 36: /* A name is released twice. */
         FltGetFileNameInformation(Data, FLT_FILE_NAME_OPENED, &name);
         FltReleaseFileNameInformation(name);

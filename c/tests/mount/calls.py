@@ -196,7 +196,7 @@ def lock_twice(path):
     file = os.open(path, RDWR)
     fcntl.lockf(file, fcntl.LOCK_EX)
     script = f"import fcntl, os; fcntl.lockf(os.open({path!r}, os.O_RDWR), fcntl.LOCK_EX | fcntl.LOCK_NB)"
-    status = subprocess.run([sys.executable, "-c", script], capture_output=True, timeout=20).returncode
+    status = subprocess.run([sys.executable, "-c", script], capture_output=True, timeout=120).returncode
     os.close(file)
     return status
 
@@ -364,7 +364,7 @@ def optional(tally, tools):
 def run_program(path):
     """A program that lies in the mount."""
     put(path, whole("/bin/true"))
-    return subprocess.run([path], timeout=20).returncode
+    return subprocess.run([path], timeout=120).returncode
 
 
 def run(tally, tools):

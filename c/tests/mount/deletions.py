@@ -4,7 +4,7 @@ import os
 import threading
 import time
 
-from ground import Ground
+from ground import Ground, until
 
 COUNT = 1000
 SECONDS = 15
@@ -55,5 +55,4 @@ def run(tally, tools):
             looker.join()
         bad = {errno.errorcode[outcome]: outcomes.count(outcome) for outcome in set(outcomes) if outcome}
         tally.note("deletions that failed or came back", bad, {})
-        time.sleep(0.2)
-        tally.note("what is there at the end", (os.listdir(ground.mount), os.listdir(ground.host)), ([], []))
+        tally.note("nothing is left at the end", until(lambda: (os.listdir(ground.mount), os.listdir(ground.host)) == ([], [])), True)

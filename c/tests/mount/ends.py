@@ -5,9 +5,9 @@ import tempfile
 import threading
 import time
 
-from ground import Ground, put, shifted, until, whole
+from ground import Ground, put, shifted, until, wait_for_reads, whole
 
-SOON = 3
+SOON = 10
 WRITERS = 6
 
 
@@ -157,7 +157,7 @@ def death(tally, tools):
         put(ground.at("x"), b"hello")
         file = os.open(ground.at("x"), os.O_RDWR)
         held = subprocess.Popen(["head", "-c", "5", ground.at("x")], stdout=subprocess.PIPE, stderr=subprocess.PIPE)
-        time.sleep(0.3)
+        wait_for_reads(ground.at("x"), f"/proc/{held.pid}")
         ground.kill_server()
         tally.note("the held reader ends", b"Input/output error" in held.communicate(timeout=SOON)[1], True)
         gone(tally, ground, file, "after a kill")
@@ -189,7 +189,7 @@ def crowd(tally, tools):
 def start(tools, *words):
     """A mount that is to be refused: its exit status, and what it says."""
     with tempfile.TemporaryDirectory() as place:
-        done = subprocess.run(tools.mount + [*words, place, "-f"], capture_output=True, text=True, timeout=30)
+        done = subprocess.run(tools.mount + [*words, place, "-f"], capture_output=True, text=True, timeout=120)
         subprocess.run(["fusermount3", "-u", place], capture_output=True)
         return done.returncode, done.stderr
 
@@ -201,11 +201,11 @@ def refused(tally, tools):
     for option in ("connections=3", "connections=32", "volume=256", "attr=-1", "mode=1777", "nosuchoption"):
         with Ground(tally, tools) as ground:
             tally.note(f"option {option}", start(tools, "-o", option, ground.socket)[0], 2)
-    done = subprocess.run(tools.mount + ["/nowhere/s", "/nowhere/m"], capture_output=True, text=True, timeout=30)
+    done = subprocess.run(tools.mount + ["/nowhere/s", "/nowhere/m"], capture_output=True, text=True, timeout=120)
     tally.note("no mount point", (done.returncode, done.stderr), (3, "fltmount: /nowhere/m: No such file or directory\n"))
-    done = subprocess.run(tools.mount, capture_output=True, text=True, timeout=30)
+    done = subprocess.run(tools.mount, capture_output=True, text=True, timeout=120)
     tally.note("no words", (done.returncode, "usage" in done.stderr), (2, True))
-    done = subprocess.run(tools.mount + ["--help"], capture_output=True, text=True, timeout=30)
+    done = subprocess.run(tools.mount + ["--help"], capture_output=True, text=True, timeout=120)
     tally.note("help", (done.returncode, "usage" in done.stdout), (0, True))
 
 

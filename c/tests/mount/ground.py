@@ -47,7 +47,7 @@ def outcome(function, *words):
         return errno.errorcode.get(error.errno, str(error))
 
 
-def until(condition, seconds=10):
+def until(condition, seconds=60):
     """Waits until it is so, at most so long: whether it is."""
     end = time.monotonic() + seconds
     while not condition():
@@ -55,6 +55,28 @@ def until(condition, seconds=10):
             return False
         time.sleep(0.01)
     return True
+
+
+# The calls that read a file that is open, by their numbers here.
+READS = {"x86_64": ("0", "17"), "aarch64": ("63", "67")}.get(os.uname().machine, ())
+
+
+def is_reading(path, task):
+    """Whether a thread, a folder of /proc, is inside of a call that reads that file."""
+    try:
+        with open(f"{task}/syscall", encoding="ascii") as file:
+            words = file.read().split()
+        return words[0] in READS and os.readlink(f"{task}/fd/{int(words[1], 16)}") == path
+    except (OSError, ValueError, IndexError):
+        return False
+
+
+def wait_for_reads(path, *tasks):
+    """Each of them reads, and has had time to come to the server: where reads can't be seen, time is all."""
+    if READS and os.path.exists("/proc/self/syscall"):
+        real = os.path.realpath(path)
+        until(lambda: all(is_reading(real, task) for task in tasks))
+    time.sleep(0.3)
 
 
 class Ground:
@@ -86,15 +108,20 @@ class Ground:
             os.remove(self.socket)
         self.server_output = open(os.path.join(self.room, "server.out"), "w")
         self.server = subprocess.Popen(self.server_command + [self.host, self.socket], stdout=self.server_output, stderr=subprocess.STDOUT)
-        if not until(lambda: os.path.exists(self.socket)):
-            raise RuntimeError("the server makes no socket")
+        if not until(self.is_served):
+            raise RuntimeError("the server takes no connections")
+
+    def is_served(self):
+        """Whether the server has said that it takes connections: its socket is there before that."""
+        with open(self.server_output.name, "rb") as said:
+            return b"ready" in said.read().split()
 
     def start_mount(self):
         """A mount, which is there once this is done."""
         options = ["-o", ",".join(self.options).format(host=self.host)] if self.options else []
         self.mount_errors = open(os.path.join(self.room, "mount.err"), "w+")
         self.mounted = subprocess.Popen(self.tools.mount + [self.socket, self.mount, "-f"] + options, stdout=self.mount_errors, stderr=subprocess.STDOUT)
-        if not until(lambda: self.is_mounted() or self.mounted.poll() is not None, 30) or self.mounted.poll() is not None:
+        if not until(lambda: self.is_mounted() or self.mounted.poll() is not None) or self.mounted.poll() is not None:
             raise RuntimeError(f"no mount: {open(self.mount_errors.name).read()}")
 
     def kill(self):
@@ -117,11 +144,11 @@ class Ground:
         """Ends the mount, and looks how it ended."""
         if self.mounted is None:
             return
-        if not until(lambda: not self.is_mounted() or subprocess.run(["fusermount3", "-u", self.mount], capture_output=True).returncode == 0, 5):
+        if not until(lambda: not self.is_mounted() or subprocess.run(["fusermount3", "-u", self.mount], capture_output=True).returncode == 0, 20):
             subprocess.run(["fusermount3", "-u", "-z", self.mount], capture_output=True)
             self.tally.note("unmount", "busy", "done")
         try:
-            status = self.mounted.wait(20)
+            status = self.mounted.wait(60)
         except subprocess.TimeoutExpired:
             self.mounted.kill()
             status = "hangs"
@@ -147,7 +174,7 @@ class Ground:
         """The path of a name in the server's folder."""
         return os.path.join(self.host, name)
 
-    def client(self, timeout=10):
+    def client(self, timeout=60):
         """A connection of its own with the server."""
         return kazdrin.Client(self.socket, timeout)
 

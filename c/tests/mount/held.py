@@ -5,10 +5,10 @@ import subprocess
 import threading
 import time
 
-from ground import Ground, put, shifted, until, whole
+from ground import Ground, put, shifted, until, wait_for_reads, whole
 
 READERS = 40
-SOON = 3
+SOON = 20
 
 
 def read(path):
@@ -40,7 +40,7 @@ def timed(function, *words):
 def one(tally, ground):
     """One reader is held; others go on, and a flush lets it go."""
     reader = read(ground.at("x"))
-    time.sleep(0.3)
+    wait_for_reads(ground.at("x"), f"/proc/{reader.pid}")
     tally.note("held", reader.poll(), None)
     tally.note("a list then", timed(os.listdir, ground.mount), True)
     tally.note("a look then", timed(os.stat, ground.at("x")), True)
@@ -68,7 +68,7 @@ def same_file(tally, ground):
     got = []
     reader = threading.Thread(target=lambda: got.append(os.pread(file, 5, 0)))
     reader.start()
-    time.sleep(0.3)
+    wait_for_reads(ground.at("x"), f"/proc/self/task/{reader.native_id}")
     tally.note("a sync by the handle that waits", timed(os.fsync, file), True)
     reader.join(SOON)
     tally.note("what its own sync let go", got, [b"hello"])
@@ -78,7 +78,7 @@ def same_file(tally, ground):
 def many(tally, ground, instance):
     """More readers than connections; a detach lets all of them go."""
     readers = [read(ground.at("x")) for _ in range(READERS)]
-    time.sleep(1)
+    time.sleep(1) # some wait for a connection, and don't read
     tally.note("all are held", sum(reader.poll() is None for reader in readers), READERS)
     tally.note("a list beside many", timed(os.listdir, ground.mount), True)
     tally.note("a look beside many", timed(os.stat, ground.at("x")), True)
@@ -90,7 +90,7 @@ def deleted(tally, ground):
     """A file is deleted while its reader is held, and gone once that is closed."""
     put(ground.at("d"), b"hello")
     reader = read(ground.at("d"))
-    time.sleep(0.3)
+    wait_for_reads(ground.at("d"), f"/proc/{reader.pid}")
     tally.note("a deletion then", timed(os.unlink, ground.at("d")), True)
     tally.note("its name then", os.path.exists(ground.at("d")), False)
     tally.note("a flush of another file", ground.flush("x"), 0)
@@ -104,9 +104,9 @@ def unmounted(tally, tools):
         ground.attach(hold=400)
         put(ground.at("x"), b"hello")
         readers = [read(ground.at("x")) for _ in range(3)]
-        time.sleep(0.3)
+        wait_for_reads(ground.at("x"), *(f"/proc/{reader.pid}" for reader in readers))
         ground.mounted.terminate()
-        tally.note("readers end", [ended(reader, 10) for reader in readers], [True] * 3)
+        tally.note("readers end", [ended(reader) for reader in readers], [True] * 3)
         for reader in readers:
             reader.stdout.close()
 

@@ -9,7 +9,7 @@ import time
 
 from ground import Ground, put, until, whole
 
-SOON = 3
+SOON = 20
 # Each name has more programs that are killed while its create is held than the mount has connections, and both together more than the server has.
 KILLS = (signal.SIGKILL, signal.SIGINT, signal.SIGTERM) * 6
 OTHERS = 20

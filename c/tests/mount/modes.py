@@ -168,7 +168,7 @@ def syncs(tally, tools):
         tally.call("it is the folder's own room", os.statvfs(ground.host).f_blocks, lambda: os.statvfs(ground.mount).f_blocks)
         tally.call("the largest name then", 255, lambda: os.statvfs(ground.mount).f_namemax)
         with tempfile.TemporaryDirectory() as place:
-            done = subprocess.run(tools.mount + ["-o", "below=/nowhere", ground.socket, place, "-f"], capture_output=True, text=True, timeout=30)
+            done = subprocess.run(tools.mount + ["-o", "below=/nowhere", ground.socket, place, "-f"], capture_output=True, text=True, timeout=120)
             tally.note("a folder that isn't there", (done.returncode, "/nowhere: No such file" in done.stderr), (3, True))
 
 

@@ -1,16 +1,19 @@
-/* Random requests through the drivers that are linked with it: fuzz COUNT SEED [waits]. With the last word drivers may wait for one another: where a wait was given up, which is a
- * limit, contexts may be left. Each session of up to 400 requests has a manager of its own.
+/* Random requests through the drivers that are linked with it: samples COUNT SEED waits, or samples COUNT SEED [DRIVER ..], which leaves out all others. With the word `waits` drivers may wait
+ * for one another: where a wait was given up, which is a limit, contexts may be left. Each session of up to 400 requests has a manager of its own.
  * It loads, attaches, detaches and unloads drivers, mounts and dismounts volumes, and reads and writes files meanwhile. At its end nothing may have been told, and all
  * contexts are cleaned up. */
 #include "kzflt.h"
 
 #include <stdlib.h>
+#include <string.h>
 
 extern const KzDriver kz_drivers[];
 extern const size_t kz_drivers_count;
 
 enum { SESSION = 400, FILES = 12, LINE = 600 };
 
+static KzDriver drivers[100];
+static size_t drivers_count;
 static uint64_t state;
 static uint64_t handles[64];
 static size_t handles_count;
@@ -69,7 +72,7 @@ static void manager_words(char *line)
 {
     switch (below(10)) {
     case 0:
-        snprintf(line, LINE, "load %s", kz_drivers[below((unsigned)kz_drivers_count)].name);
+        snprintf(line, LINE, "load %s", drivers[below((unsigned)drivers_count)].name);
         break;
     case 1:
     case 2:
@@ -135,8 +138,8 @@ static void begin(void)
     handles_count = 0;
     filters = instances = 0;
     volumes = 1;
-    for (unsigned at = 0; at < kz_drivers_count; at++) {
-        snprintf(line, LINE, "load %s", kz_drivers[at].name);
+    for (unsigned at = 0; at < drivers_count; at++) {
+        snprintf(line, LINE, "load %s", drivers[at].name);
         note(line, kz_request(line));
         snprintf(line, LINE, "attach %u 0 first%u %u", at, at, below(400));
         note(line, kz_request(line));
@@ -159,22 +162,34 @@ static void session(unsigned length)
     }
 }
 
+static bool is_meant(const char *name, int count, char **words)
+{
+    bool is_one = count == 0;
+    for (int at = 0; at < count; at++)
+        is_one |= strcmp(words[at], name) == 0;
+    return is_one;
+}
+
 int main(int count, char **words)
 {
+    bool may_wait = count > 3 && strcmp(words[3], "waits") == 0;
+    for (size_t at = 0; at < kz_drivers_count && drivers_count < sizeof drivers / sizeof drivers[0]; at++)
+        if (is_meant(kz_drivers[at].name, count > 3 && !may_wait ? count - 3 : 0, words + 3))
+            drivers[drivers_count++] = kz_drivers[at];
     unsigned long all = count > 1 ? strtoul(words[1], NULL, 10) : 1000, made = 0;
     state = (count > 2 ? strtoul(words[2], NULL, 10) : 1) * 0x9e3779b97f4a7c15u + 1;
     kz_is_quiet = 1;
     uint64_t born = 0;
     while (made < all) {
         unsigned length = all - made < SESSION ? (unsigned)(all - made) : SESSION;
-        if (kz_open(kz_drivers, kz_drivers_count) != 0)
+        if (kz_open(drivers, drivers_count) != 0)
             return 1;
         session(length);
         made += length;
         int status = kz_close();
         KzCounts counts = kz_counts();
         born += counts.born;
-        bool is_left = counts.born != counts.cleaned && !(count > 3 && counts.limits);
+        bool is_left = counts.born != counts.cleaned && !(may_wait && counts.limits);
         if (status != 0 || is_left) {
             printf("request %lu: told %llu, born %llu, cleaned %llu\n", made, (unsigned long long)counts.told, (unsigned long long)counts.born,
                    (unsigned long long)counts.cleaned);

@@ -16,6 +16,7 @@
 #   serve     the server of drivers: the same frames as fltd, and the mount above it
 #
 # Each part says 'PART: N passed, M failed', and 'C: ..' the sum. The exit status says whether any failed. Without a C compiler it says so and tries nothing.
+# Where all has to be tried (KAZDRIN_WHOLE, which .ci/run sets) a part with fewer tests than it has fails: so a list that came out empty isn't well.
 # KAZDRIN_LIB is the manager's archive, as for c/build.sh; FLTD the server for mount and serve (else that of crates/fltd/out, or one without proofs).
 set -u
 case ${1:-} in -h | --help) sed -n '2,/^[^#]/s/^#\( \|$\)//p' "$0"; exit ;; esac
@@ -35,6 +36,26 @@ fi
 [ $# -gt 0 ] || set -- host legal misuse explore spread threads names programs order image mount serve
 passed=0
 failed=0
+
+# How many tests a part has at least where each tool is there.
+least() {
+    case $1 in
+        host) echo 125 ;;
+        legal) echo 105 ;;
+        explore) echo 170 ;;
+        headers) echo 10000 ;;
+        image) echo 60 ;; # with one of the toolchains
+        misuse) echo 16 ;;
+        names) echo 28 ;;
+        order) echo 14 ;;
+        mount) echo 650 ;;
+        programs) echo 35 ;;
+        serve) echo 520 ;;
+        spread) echo 22 ;;
+        threads) echo 7 ;;
+        *) echo 1 ;;
+    esac
+}
 report=$(mktemp)
 trap 'rm -f "$report"' EXIT
 for part in "$@"; do
@@ -46,10 +67,16 @@ for part in "$@"; do
     "$here/$part.sh" > "$report" 2>&1 || [ $? = 1 ] || echo "$part: 0 passed, 1 failed" >> "$report"
     cat "$report"
     echo "$part: $((SECONDS - begun)) s"
+    tried=0
     while read -r more less; do
         passed=$((passed + more))
         failed=$((failed + less))
+        tried=$((tried + more + less))
     done < <(sed -n 's/^[a-z]*: \([0-9]*\) passed, \([0-9]*\) failed.*/\1 \2/p' "$report")
+    if [ -n "${KAZDRIN_WHOLE:-}" ] && [ "$tried" -lt "$(least "$part")" ] && ! grep -q "^$part: not tried" "$report"; then
+        echo "$part: $tried tests, and it has $(least "$part") at least"
+        failed=$((failed + 1))
+    fi
 done
 echo "C: $passed passed, $failed failed"
 [ "$failed" = 0 ]

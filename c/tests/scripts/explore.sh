@@ -20,12 +20,12 @@ other_words_of() {
     words_of "$1" | sed -E 's/--bound [0-9]+//; s/--fail-each//; s/--ends//'
 }
 
-# search PROGRAM SCENARIO WORDS..: one of the programs searches it; some of the words are several in one.
+# search SCENARIO WORDS..: the program searches it; some of the words are several in one.
 search() {
-    local program=$1 scenario=$2 all
-    shift 2
+    local scenario=$1 all
+    shift
     read -r -a all <<< "$*"
-    "$room/$program" "${all[@]}" "$scenario"
+    "$program" "${all[@]}" "$scenario"
 }
 
 # Plays each schedule that is named in a report again: it ends as the search did, and shows the same.
@@ -33,10 +33,10 @@ play() {
     local schedule all count=0
     while read -r schedule; do
         read -r -a all <<< "$(other_words_of "$scenarios/$1.txt")"
-        "$room/$1" "${all[@]}" --trace --replay "$schedule" "$scenarios/$1.txt" > "$room/played" 2>&1
+        "$program" "${all[@]}" --trace --replay "$schedule" "$scenarios/$1.txt" > "$room/played" 2>&1
         [ $? = "$2" ] || { echo "$1: '$schedule' ends otherwise"; return 1; }
         count=$((count + 1))
-    done < <(awk -v q="'" '/ schedules:$/ { getline; limit = /^    LIMIT/ } /^  --replay/ && !limit { split($0, parts, q); print parts[2] }' "$room/$1.out")
+    done < <(awk -v q="'" '/ schedules:$/ { getline; limit = /^    LIMIT/ } /^  --replay/ && !limit { split($0, parts, q); print parts[2] }' "$built/$1.out")
     [ "$count" -gt 0 ]
 }
 # What a search found, each kind in a line, without the numbers and names in which two schedules differ.
@@ -47,96 +47,106 @@ kinds() {
 
 # Known states are left out soundly: a program finds the kinds of ends in "$room/kinds" without them, too.
 reduce() {
-    local program=$1 words=$2 scenario=$3 way
-    shift 3
+    local words=$1 scenario=$2 way
+    shift 2
     [ -s "$room/kinds" ] || return 1
     for way in "$@"; do
-        search "$program" "$scenario" --ends "$words" "$way" > "$room/reduced"
+        search "$scenario" --ends "$words" "$way" > "$room/reduced"
         kinds "$room/reduced" | diff "$room/kinds" - || return 1
         grep -q "^[a-z 0-9]*: .* [1-9][0-9]* given up, [1-9][0-9]* states" "$room/reduced" || return 1
     done
 }
-for scenario in "$scenarios"/*.txt; do
-    name=$(basename "$scenario" .txt)
-    [ -f "$schedules/$name.c" ] || continue
+searched() {
+    local name=$1 scenario=$scenarios/$1.txt status ended finds words ways
     status=$(cat "$tests/expected/explore-$name.status" 2> /dev/null || sed -n 's/^# status: //p' "$scenario" | grep . || echo 0)
-    build "$name" --explore "$room/$name" "$schedules/$name.c"
-    search "$name" "$scenario" "$(words_of "$scenario")" > "$room/$name.whole"
+    search "$scenario" "$(words_of "$scenario")" > "$room/whole"
     ended=$?
-    timeless < "$room/$name.whole" > "$room/$name.out"
+    timeless < "$room/whole" > "$built/$name.out"
     # Where nothing is stored, the scenario says what is found.
     if [ -f "$tests/expected/explore-$name.out" ]; then
-        [ $ended = "$status" ] && diff "$tests/expected/explore-$name.out" "$room/$name.out"
+        [ $ended = "$status" ] && diff "$tests/expected/explore-$name.out" "$built/$name.out"
     else
         finds=$(sed -n 's/^# finds: //p' "$scenario")
         if [ "$finds" = nothing ]; then
-            [ $ended = "$status" ] && ! grep -q "schedules:" "$room/$name.out"
+            [ $ended = "$status" ] && ! grep -q "schedules:" "$built/$name.out"
         else
-            [ $ended = "$status" ] && grep -q "^    $finds" "$room/$name.out"
-        fi || { cat "$room/$name.out"; false; }
+            [ $ended = "$status" ] && grep -q "^    $finds" "$built/$name.out"
+        fi || { cat "$built/$name.out"; false; }
     fi
     tell $? "$name"
-    [ "$status" != 4 ] || continue
+    [ "$status" != 4 ] && [ "$name" != barriers ] || return # that one has many schedules, and a row of its own
     case "$name" in polls | settwice) ways=(--reduce) ;; teardowns) ways=(--states) ;; *) ways=(--reduce --states) ;; esac
     words="--bound 3 $(other_words_of "$scenario") $(words_of "$scenario" | grep -q -e --fail-each && echo --fails 1)"
-    search "$name" "$scenario" --ends "$words" > "$room/plain"
+    search "$scenario" --ends "$words" > "$room/plain"
     kinds "$room/plain" > "$room/kinds"
-    reduce "$name" "$words" "$scenario" "${ways[@]}"
+    reduce "$words" "$scenario" "${ways[@]}"
     tell $? "$name with known states left out"
-    grep -q -e --replay "$room/$name.out" || continue
+    grep -q -e --replay "$built/$name.out" || return
     play "$name" "$status"
     tell $? "$name, played again,"
     # The points at memory find more, and nothing less.
-    grep -q -e --coarse "$scenario" || continue
+    grep -q -e --coarse "$scenario" || return
     words=$(words_of "$scenario" | sed 's/--coarse//')
-    search "$name" "$scenario" "$words" > "$room/fine"
+    search "$scenario" "$words" > "$room/fine"
     kinds "$room/fine" > "$room/fine.kinds"
-    kinds "$room/$name.out" | comm -23 - "$room/fine.kinds" | grep . && false
+    kinds "$built/$name.out" | comm -23 - "$room/fine.kinds" | grep . && false
     [ $? = 1 ]
     tell $? "$name with points at memory"
+}
+names=()
+drivers=()
+for driver in "$schedules"/*.c; do
+    name=$(basename "$driver" .c)
+    drivers+=("$driver")
+    [ ! -f "$scenarios/$name.txt" ] || names+=("$name")
 done
-
 # Whatever a driver prints: what happened is no text. The same ends are found under each of these words, and nothing is told.
+cp "$schedules/small.h" "$room"
+prints=('stream: > %d' 'contexts born %d' 'TOLD KZ0999 %d' 'LIMIT KZ0212 %d' ' info %d bytes ' 'CRASH %d')
+for at in "${!prints[@]}"; do
+    sed "s/a stream had %d creates/${prints[at]}/" "$schedules/settwice.c" > "$room/says$at.c"
+    drivers+=("$room/says$at.c")
+done
+program=$room/schedules
+build schedules --explore "$program" "${drivers[@]}" $tests/drivers/left.c $tests/misuse/forever.c
+rows searched "${names[@]}"
 schedules_of() {
     sed -n 's/^\([0-9]*\) schedules:$/\1/p' "$1" | sort -n
 }
-schedules_of "$room/settwice.out" > "$room/counts"
-cp "$schedules/small.h" "$room"
-sed "s/settwice/says/" $scenarios/settwice.txt > "$room/says.txt"
-for words in 'stream: > %d' 'contexts born %d' 'TOLD KZ0999 %d' 'LIMIT KZ0212 %d' ' info %d bytes ' 'CRASH %d'; do
-    sed "s/a stream had %d creates/$words/" "$schedules/settwice.c" > "$room/says.c"
-    build "a driver that prints '$words'" --explore "$room/says" "$room/says.c"
-    "$room/says" --coarse --ends "$room/says.txt" > "$room/says.out" && [ "$(grep -c "^    END" "$room/says.out")" = 5 ] && schedules_of "$room/says.out" | diff "$room/counts" - &&
-        diff <(grep '^bound' "$room/settwice.out") <(timeless < "$room/says.out" | grep '^bound')
-    tell $? "a driver that prints '$words'"
-done
+said() {
+    sed "s/settwice/says$1/" $scenarios/settwice.txt > "$room/says.txt"
+    search "$room/says.txt" --coarse --ends > "$room/says.out" && [ "$(grep -c "^    END" "$room/says.out")" = 5 ] && schedules_of "$room/says.out" | diff <(schedules_of "$built/settwice.out") - &&
+        diff <(grep '^bound' "$built/settwice.out") <(timeless < "$room/says.out" | grep '^bound')
+    tell $? "a driver that prints '${prints[$1]}'"
+}
+rows said "${!prints[@]}"
 
 # A schedule as a reader sees it.
-"$room/stuckdetach" --trace --replay 'r*3 d*9 r*4 finally*4' $scenarios/stuckdetach.txt > "$room/trace.out"
+"$program" --trace --replay 'r*3 d*9 r*4 finally*4' $scenarios/stuckdetach.txt > "$room/trace.out"
 [ $? = 6 ] && diff $tests/expected/explore-trace.out "$room/trace.out"
 tell $? "trace"
 
 # The same as a page: a lane for each client, the lines of the driver, the locks that are held, both sides of a race.
-"$room/lockorder" --page "$room/page.html" $scenarios/lockorder.txt > "$room/out"
+"$program" --page "$room/page.html" $scenarios/lockorder.txt > "$room/out"
 [ $? = 6 ] && grep -q '<th>r</th><th>f</th>' "$room/page.html" && grep -q 'holds gFirst' "$room/page.html" && grep -q 'holds gSecond' "$room/page.html" &&
     grep -q 'lockorder.c:26</span> <code>ExAcquireFastMutex(&amp;gFirst);</code>' "$room/page.html" && grep -q 'preempts' "$room/page.html"
 tell $? "page"
-"$room/counter" --replay 'a*7 b*7' --page "$room/page.html" $scenarios/counter.txt > "$room/out"
+"$program" --replay 'a*7 b*7' --page "$room/page.html" $scenarios/counter.txt > "$room/out"
 [ $? = 5 ] && [ "$(grep -c 'tr class="side"' "$room/page.html")" = 2 ] && grep -q 'writes gReads' "$room/page.html"
 tell $? "page of a race"
-"$room/counter" --trace --replay 'a*7 b*7' $scenarios/counter.txt > "$room/out"
+"$program" --trace --replay 'a*7 b*7' $scenarios/counter.txt > "$room/out"
 [ $? = 5 ] && [ "$(grep -c '^        reads gReads, writes gReads$' "$room/out")" = 2 ]
 tell $? "trace of what is touched"
 
 # What a seed finds is shown by less: with one preemption, and without the requests that aren't needed.
-"$room/stuckdetach" --seed 1 --runs 500 --pct 2 --shrink $scenarios/stuckdetach-long.txt > "$room/out"
+"$program" --seed 1 --runs 500 --pct 2 --shrink $scenarios/stuckdetach-long.txt > "$room/out"
 [ $? = 6 ] && grep -q '^  the shortest: 1 preemptions' "$room/out" && grep -A 2 '^    STUCK' "$room/out" | grep -q '^    client r: read 0 0 8$' && grep -q '^    client d: detach 0$' "$room/out"
 tell $? "shrunk"
 
 # What can't be searched says why.
 refuses() {
     printf %b "$3" > "$room/refused.txt"
-    "$room/counter" "$room/refused.txt" > "$room/out" 2>&1
+    "$program" "$room/refused.txt" > "$room/out" 2>&1
     [ $? = "$1" ] && grep -q "$2" "$room/out"
 }
 refuses 2 'refused.txt:3: not understood: there is no request raed; the nearest is read$' 'load counter\nattach 0 0 c 100\nclient r: raed 0 0 1\n'
@@ -145,17 +155,63 @@ refuses 2 'not understood: read g 0 1: no create is `as g`$' 'load counter\natta
 tell $? "a handle that no create gives"
 refuses 1 'the set-up has a line that is refused: load none$' 'load none\nclient r: list 0\n'
 tell $? "a set-up that is refused"
-refuses 2 'the set-up has a line that is no request: create x new a$' 'load counter\ncreate x new a\nclient r: list 0\n'
+refuses 2 'the set-up has a line that is no request: create x new a: no volume is named x$' 'load counter\ncreate x new a\nclient r: list 0\n'
 tell $? "a set-up that isn't understood"
 
+# The word that is wrong is named.
+word() {
+    local sentence=$1
+    shift
+    "$program" "$@" "$scenarios/counter.txt" > "$room/out" 2>&1
+    [ $? = 2 ] && [ "$(cat "$room/out")" = "$sentence" ]
+    tell $? "the word that is wrong: $*"
+}
+word 'there is no word --boundd; the nearest is --bound (--help shows all)' --boundd 2
+word 'there is no word --everything (--help shows all)' --everything
+word '--bound x: behind --bound stands a number from 0 to 63' --bound x
+word '--shard 4/4: behind --shard stands a part, as 0/4 is the first of four' --shard 4/4
+word "$scenarios/counter.txt: the scenario is other.txt, and there is one" other.txt
+
+# A request that is refused in each schedule is shown, and a client of which nothing else is left: a handle that isn't there, a volume that is attached to already. One that a driver denies isn't.
+sed '/^client/d' $scenarios/counter.txt > "$room/refused.txt"
+printf 'client r: read 7 0 8; attach 0 0 c 100\nclient s: read 0 0 8; read 7 0 8\n' >> "$room/refused.txt"
+"$program" --bound 1 "$room/refused.txt" > "$room/out"
+[ $? = 0 ] && [ "$(grep -c '^client r: refused in each schedule, with status [0-9]*: ' "$room/out")" = 2 ] &&
+    [ "$(grep 'so nothing of it was tried$' "$room/out")" = 'client r: each of its requests is refused in each schedule, so nothing of it was tried' ] &&
+    [ "$(grep -c '^client s: ' "$room/out")" = 1 ] && grep -q '^client s: refused .*: read 7 0 8$' "$room/out"
+tell $? "requests that are refused in each schedule"
+
+# Which calls of the kit are points.
+$tests/scripts/points.py
+tell $? "points"
+
+# Others see a write later, where no barrier stands behind it: only so is the mistake of closing there. Where barriers stand nothing is found; with two preemptions, without them, something is.
+"$program" --late 0 --bound 2 $scenarios/closing.txt > "$room/out" && "$program" --bound 1 $scenarios/closing.txt | grep -q -e "^  --replay '[^']* late "
+tell $? "a write that is seen later"
+if [ "$WHOLE" = --whole ]; then
+    "$program" --bound 2 $scenarios/barriers.txt > "$room/out"
+    tell $? "barriers"
+    sed 's/    KeMemoryBarrier();//' $schedules/barriers.c > "$room/nobarriers.c"
+    sed 's/load barriers/load nobarriers/' $scenarios/barriers.txt > "$room/nobarriers.txt"
+    build nobarriers --explore "$room/nobarriers" "$room/nobarriers.c"
+    "$room/nobarriers" --bound 2 "$room/nobarriers.txt" > "$room/out"
+    [ $? = 5 ] && grep -q '^    TOLD KZ0191' "$room/out"
+    tell $? "barriers that aren't there"
+fi
+
 # A limit counts where that is asked for.
-build left --explore "$room/left" $tests/drivers/left.c
 printf 'load left\nattach 0 0 l 100\nclient r: create 0 new a\n' > "$room/left.txt"
-"$room/left" "$room/left.txt" > "$room/out" && grep -q '^    LIMIT' "$room/out"
+"$program" "$room/left.txt" > "$room/out" && grep -q '^    LIMIT' "$room/out"
 tell $? "limits"
-"$room/left" --strict "$room/left.txt" > "$room/out"
+"$program" --strict "$room/left.txt" > "$room/out"
 [ $? = 5 ] && grep -q '^    LIMIT' "$room/out"
 tell $? "limits that count"
+
+# Code that comes to no call ends a schedule within a second of the processor's.
+printf 'load forever\nattach 0 0 f 100\ncreate 0 new a\nclient r: read 0 0 5\n' > "$room/forever.txt"
+timeout 600 "$program" --bound 1 "$room/forever.txt" > "$room/out"
+[ $? = 6 ] && grep -q "^    ENDLESS: the driver's code comes to no call at forever.c:1[45]" "$room/out"
+tell $? "code without an end"
 
 # What is expected once all have ended.
 {
@@ -164,63 +220,67 @@ tell $? "limits that count"
     echo 'client b: setsize 0 0'
     echo 'finally: querysize 0; expect status 0; expect info 1'
 } > "$room/last.txt"
-"$room/counter" --bound 0 "$room/last.txt" > "$room/out"
+"$program" --bound 0 "$room/last.txt" > "$room/out"
 [ $? = 5 ] && grep -q '^    unmet: info 0$' "$room/out" && grep -q '^bound 0: 2 schedules.*; told 1,' "$room/out"
 tell $? "an expectation at the end"
 
 # A debugger stops at the last step of a schedule.
 if command -v gdb > /dev/null; then
-    KAZDRIN_GDB=$(printf 'bt\nkill\nquit') "$room/lockorder" --replay 'r*4 f*5 r' --gdb $scenarios/lockorder.txt < /dev/null > "$room/out" 2>&1
+    KAZDRIN_GDB=$(printf 'bt\nkill\nquit') "$program" --replay 'r*4 f*5 r' --gdb $scenarios/lockorder.txt < /dev/null > "$room/out" 2>&1
     grep -q 'SIGTRAP' "$room/out" && grep -q ' choose (' "$room/out"
     tell $? "gdb"
 fi
 
 # Stored ends: none differs; and where one is left out or made up, it is new or gone.
-"$room/settwice" --learn "$room/ends" $scenarios/settwice.txt > "$room/learned" && "$room/settwice" --expect-ends "$room/ends" $scenarios/settwice.txt > "$room/ended"
+"$program" --learn "$room/ends" $scenarios/settwice.txt > "$room/learned" && "$program" --expect-ends "$room/ends" $scenarios/settwice.txt > "$room/ended"
 [ $? = 0 ] && grep -q "^5 ends" "$room/learned" && ! grep -q "new\|gone" "$room/ended"
 tell $? "stored ends"
 sed 's/a stream had 2 creates/a stream had 3 creates/' "$room/ends" > "$room/other"
-"$room/settwice" --expect-ends "$room/other" $scenarios/settwice.txt > "$room/ended"
+"$program" --expect-ends "$room/other" $scenarios/settwice.txt > "$room/ended"
 [ $? = 1 ] && [ "$(grep -c "^new:" "$room/ended")" = 2 ] && [ "$(grep -c "^gone:" "$room/ended")" = 2 ] && grep -q -e --replay "$room/ended"
 tell $? "stored ends that differ"
 
 # A search by states ends of itself; one whose memory is full says so.
-"$room/lostrelease" --states $scenarios/lostrelease.txt > "$room/states.out"
+"$program" --states $scenarios/lostrelease.txt > "$room/states.out"
 [ $? = 5 ] && grep -q "^no bound: .*; told [1-9]" "$room/states.out"
 tell $? "states"
-"$room/settwice" --states --memory 0 --coarse $scenarios/settwice.txt > "$room/full.out"
+"$program" --states --memory 0 --coarse $scenarios/settwice.txt > "$room/full.out"
 [ $? = 4 ] && grep -q "isn't whole" "$room/full.out"
 tell $? "a full memory"
 
 # Seeds, by a coin and by priorities: the same words find the same, and the seed that is shown repeats its schedule alone.
 draw() {
-    local program=$1 scenario=$2 seed
-    shift 2
-    "$room/$program" "$@" "$scenario" | timeless > "$room/seed.1"
-    "$room/$program" "$@" "$scenario" | timeless | cmp - "$room/seed.1" || return 1
+    local scenario=$1 seed
+    shift
+    "$program" "$@" "$scenario" | timeless > "$room/seed.1"
+    "$program" "$@" "$scenario" | timeless | cmp - "$room/seed.1" || return 1
     seed=$(sed -n 's/^  \(--seed .*\)/\1/p' "$room/seed.1" | head -n 1)
     [ -n "$seed" ] || return 1
-    search "$program" "$scenario" "$seed" > "$room/seed.2"
+    search "$scenario" "$seed" > "$room/seed.2"
     grep -q "^1 schedules" "$room/seed.2" && [ "$(sed -n 's/^  --replay//p' "$room/seed.1" | head -n 1)" = "$(sed -n 's/^  --replay//p' "$room/seed.2" | head -n 1)" ]
 }
-draw lostrelease $scenarios/lostrelease.txt --seed 7 --runs 200 && grep -q "TOLD KZ0101" "$room/seed.1"
+draw $scenarios/lostrelease.txt --seed 7 --runs 200 && grep -q "TOLD KZ0101" "$room/seed.1"
 tell $? "seed"
-draw stuckdetach $scenarios/stuckdetach-long.txt --seed 1 --runs 500 --pct 2 && grep -q STUCK "$room/seed.1"
+draw $scenarios/stuckdetach-long.txt --seed 1 --runs 500 --pct 2 && grep -q STUCK "$room/seed.1"
 tell $? "seed with priorities"
 
 # All samples with four clients: nothing is found.
-for driver in c/samples/*.c; do
-    name=$(basename "$driver" .c)
-    build "$name" --explore "$room/$name" "$driver"
-    sed "s/DRIVER/$name/" $scenarios/four-clients.txt > "$room/$name.txt"
-    "$room/$name" --ends --bound "$bound" "$room/$name.txt" > "$room/plain"
+sampled() {
+    local name=$1
+    sed "s/DRIVER/$name/" $scenarios/four-clients.txt > "$room/scenario"
+    "$program" --ends --bound "$bound" "$room/scenario" > "$room/plain"
     tell $? "$name under every schedule"
     [ "$bound" = 1 ] || grep '^bound' "$room/plain"
     kinds "$room/plain" > "$room/kinds"
-    reduce "$name" "--bound $bound" "$room/$name.txt" --reduce
+    reduce "--bound $bound" "$room/scenario" --reduce
     tell $? "$name with known states left out"
-    sed "s/DRIVER/$name/" $scenarios/refusals.txt > "$room/$name.txt"
-    "$room/$name" --fail-each "$room/$name.txt" > "$room/$name.out"
+    sed "s/DRIVER/$name/" $scenarios/refusals.txt > "$room/scenario"
+    "$program" --fail-each "$room/scenario" > "$room/out"
     tell $? "$name with each refusal"
-done
+}
+program=$room/samples
+build samples --explore "$program" c/samples/*.c
+names=(c/samples/*.c)
+names=("${names[@]##*/}")
+rows sampled "${names[@]%.c}"
 finish

@@ -1,10 +1,13 @@
 #!/usr/bin/env bash
 # The host's tests: the program of the archive's calls, stored requests through the drivers of c/samples and c/tests, each also under valgrind, main programs, reports, a folder,
-# CMake, and random requests.
+# CMake, and random requests: 40,000, with --whole 160,000.
 set -u
+WHOLE=${1:-}
 . "$(dirname "$0")/tally.sh" host
+many=5000 # random requests under the address sanitizer
+[ "$WHOLE" != --whole ] || many=20000
 
-make -s -C c libraries
+c/libraries.sh > /dev/null
 tell $? "the host's libraries, as they were built,"
 support=$(c/archive.sh --support)
 ${CC:-cc} -std=c11 -O1 -g -Wall -Wextra -Werror -Ic/include -o "$room/calls" $tests/programs/calls.c "$KAZDRIN_LIB" "$support/libos_c.a" "$support/liblibc_c.a"
@@ -21,7 +24,10 @@ done
 build drivers "$room/drivers" "${drivers[@]}"
 for requests in "$tests"/requests/*.txt; do
     name=$(basename "$requests" .txt)
-    case $name in plus | blocks) command -v "${CXX:-c++}" > /dev/null || continue ;; esac
+    case $name in
+    plus | blocks) command -v "${CXX:-c++}" > /dev/null || continue ;;
+    digests | keys | guardian | vault) ldconfig -p | grep -q 'libcrypto\.so\.3' || continue ;;
+    esac
     # Where nothing is stored, its own expectations are all.
     if [ -f "$tests/expected/$name.out" ]; then
         try "$name" "$room/drivers" "$requests"
@@ -30,14 +36,43 @@ for requests in "$tests"/requests/*.txt; do
         tell $? "$name"
     fi
 done
-look "all requests" "$room/drivers" $tests/requests/*.txt
 
 build run --main $tests/programs/run.c "$room/run" c/samples/passthrough.c
 try run "$room/run"
+[ -z "${KAZDRIN_QUICK:-}" ] || {
+    finish
+    exit
+}
 
 # A crash says where it was, and ends the program as it would have.
 printf 'load crash\nattach 0 0 c 100\ncreate 0 new a\nread 0 0 1\n' > "$room/crash.txt"
 try crash "$room/drivers" "$room/crash.txt" 2> /dev/null
+
+# A callback that doesn't come to an end is said with its line: one without a call, one that waits again and again, a timer's; by threads; and where a signal ends the program.
+endless() {
+    local wanted=$1
+    shift
+    timeout 600 "$room/drivers" --patience 1 "$@" > "$room/endless.out" 2> "$room/endless.err"
+    [ $? = 6 ] && grep -q "^ENDLESS: filter forever, .*at forever\.c:$wanted" "$room/endless.out" || { cat "$room/endless.out"; false; }
+    tell $? "a callback without an end, $*"
+}
+for request in 'read a 0 5' 'write a 0 61' 'flush a'; do
+    printf 'load forever\nattach 0 0 f 100\ncreate 0 new a as a\n%s\n' "$request" > "$room/forever.txt"
+    case $request in
+    read*) wanted='1[45], ' ;;
+    write*) wanted='29, ' ;;
+    *) wanted='4[01], line 4: flush a$' ;;
+    esac
+    endless "$wanted" "$room/forever.txt"
+done
+printf 'load forever\nattach 0 0 f 100\ncreate 0 new a\nclient r: read 0 0 5\n' > "$room/forever.txt"
+endless '1[45], ' --load "$room/forever.txt" --threads 2 --seconds 1
+for seconds in 2 10 60; do # a loaded machine may not have come there yet
+    timeout -s INT $seconds "$room/drivers" --patience 600 --load "$room/forever.txt" --threads 1 > "$room/endless.out" 2>&1
+    ! grep -q '^INTERRUPTED: r-1: filter forever, instance 0, preoperation' "$room/endless.out" || break
+done
+grep -q '^INTERRUPTED: r-1: filter forever, instance 0, preoperation' "$room/endless.out"
+tell $? "a load that is interrupted"
 
 # Much of everything: records, contexts and locks by the thousand, in a time that grows no faster than they do.
 {
@@ -45,7 +80,7 @@ try crash "$room/drivers" "$room/crash.txt" 2> /dev/null
     for at in $(seq 20000); do echo "read 0 0 5"; done
     for at in $(seq 3000); do echo "create 0 new f$at"; done
 } > "$room/many.txt"
-timeout 20 "$room/drivers" --quiet "$room/many.txt" > "$room/many.out" && [ ! -s "$room/many.out" ]
+(ulimit -t 20 && "$room/drivers" --quiet "$room/many.txt") > "$room/many.out" && [ ! -s "$room/many.out" ]
 tell $? "much of everything"
 
 # Limits count if they are to, and what is allowed isn't told.
@@ -53,18 +88,59 @@ tell $? "much of everything"
 [ $? = 5 ] && tail -n 1 "$room/strict.out" | grep -q "told 7, limits 7"
 tell $? "strict"
 "$room/drivers" --allow KZ0130 $tests/requests/answers.txt > "$room/allow.out"
-[ $? = 5 ] && ! grep -q KZ0130 "$room/allow.out" && tail -n 1 "$room/allow.out" | grep -q "told 7, limits 3"
+[ $? = 5 ] && ! grep -q KZ0130 "$room/allow.out" && tail -n 1 "$room/allow.out" | grep -q "told 8, limits 2"
 tell $? "allow"
 
-# Words of a create that say nothing are refused where they stand.
+# A word that says nothing is refused where it stands, with the reason.
 wrong=0
-for words in 'newer y' 'new y share' 'new y share 1 share 2' 'new y access GENERIC_READ|' 'new y options 0x1000000' 'new y attributes FILE_SHARE_READ' 'new y as'; do
-    printf 'load opens\ncreate 0 %s\n' "$words" > "$room/wrong.txt"
+while IFS='#' read -r words why; do
+    printf 'load opens\n%s\n' "$words" > "$room/wrong.txt"
     "$room/drivers" --quiet "$room/wrong.txt" > /dev/null 2> "$room/wrong.out"
-    [ $? = 2 ] && grep -q 'wrong.txt:2: not understood$' "$room/wrong.out" || wrong=$((wrong + 1))
-done
+    [ $? = 2 ] && grep -qxF "$room/wrong.txt:2: not understood: $why" "$room/wrong.out" || {
+        wrong=$((wrong + 1))
+        cat "$room/wrong.out"
+    }
+done <<'WORDS'
+create 0 nwe a#there is no `nwe`; the nearest is new
+create 0 newly a#there is no `newly`; the nearest is new
+create 0 sometimes a#there is no `sometimes`
+create 0 new y share#nothing stands behind `share`
+create 0 new y share 1 share 2#`share` stands there twice
+create 0 new y access GENERIC_READ|#there is no ``
+create 0 new y access GENERIC_REED#there is no `GENERIC_REED`; the nearest is GENERIC_READ
+create 0 new y options 0x1000000#`0x1000000` isn't within FILE_VALID_OPTION_FLAGS
+create 0 new y options 0x1000000000#`0x1000000000` is no number of 32 bits
+create 0 new y attributes FILE_SHARE_READ#there is no `FILE_SHARE_READ`
+create 0 new y as#nothing stands behind `as`
+create 0 new y as 9#`9` is no name: it is too long, or begins with a digit
+create 0 new y shrae 1#`shrae` is none of access, share, options, attributes, as
+create v7 new y#no volume is named v7
+read a 0 5#no handle is named a
+write 0 0 6#`6` is no bytes, of two digits from 00 to ff each
+write 0 0 6g#`6g` is no bytes, of two digits from 00 to ff each
+read 0 0 99999999#99999999 is more than 32768
+read 0 x 1#`x` is no number
+detach upper#no instance is named upper
+unload lower#no filter is named lower
+expect stauts 0#`stauts` is none of status, info, bytes, says, callbacks, told, held
+expect status#expect status has one word behind it, and each expectation a line of its own
+WORDS
 [ "$wrong" = 0 ]
-tell $? "words of creates"
+tell $? "words that aren't understood"
+
+# What would pass for nothing doesn't: an expectation before any request, a request of a handle that isn't there, a report that can't be written.
+printf 'expect status 0\nload opens\n' > "$room/early.txt"
+"$room/drivers" --quiet "$room/early.txt" > /dev/null 2> "$room/early.out"
+[ $? = 2 ] && grep -qxF "$room/early.txt:1: not understood: there is no request before it" "$room/early.out"
+tell $? "an expectation before any request"
+printf 'load opens\nattach 0 0 o 100\ncreate 0 new y\nread 7 0 1\nexpect status 14\n' > "$room/absent.txt"
+"$room/drivers" --quiet "$room/absent.txt" > /dev/null && sed -i '$d' "$room/absent.txt" && ! "$room/drivers" --quiet "$room/absent.txt" > /dev/null 2> "$room/absent.out" &&
+    grep -qxF "$room/absent.txt:4: \`read 7 0 1\` was refused, and no \`expect\` behind it says so" "$room/absent.out"
+tell $? "a request of a handle that isn't there"
+sed -i '$d' "$room/absent.txt"
+"$room/drivers" --quiet --junit "$room/nowhere/report.xml" "$room/absent.txt" > /dev/null 2> "$room/absent.out"
+[ $? = 3 ] && grep -qxF "$room/nowhere/report.xml: can't be written" "$room/absent.out"
+tell $? "a report that can't be written"
 
 # One line a place: what comes up again is counted.
 {
@@ -73,7 +149,7 @@ tell $? "words of creates"
 } > "$room/again.txt"
 "$room/drivers" "$room/again.txt" > "$room/again.out"
 [ $? = 5 ] && [ "$(grep -c '^TOLD KZ0130' "$room/again.out")" = 2 ] && grep -q "^TOLD KZ0130 FLT_IO_PARAMETER_BLOCK: told 999 more times: .*, in answers.c:" "$room/again.out" &&
-    tail -n 1 "$room/again.out" | grep -q "told 1001, "
+    tail -n 1 "$room/again.out" | grep -q "told 1002, "
 tell $? "one line a place"
 
 # Each routine that isn't modelled links, and tells its limit; what is modelled beside them answers as the kit does.
@@ -94,6 +170,8 @@ printf 'load ctx\nexpect status 7\nexpect callbacks entry:ctx\n' > "$room/unmet.
 "$room/drivers" --quiet --junit "$room/unmet.xml" "$room/unmet.txt" > "$room/unmet.out"
 [ $? = 1 ] && [ ! -s "$room/unmet.out" ]
 tell $? "an expectation that isn't met"
+"$room/drivers" --quiet "$room/unmet.txt" 2>&1 > /dev/null | diff - <(printf '%s:2: expected status 7, and there is status 0\n' "$room/unmet.txt")
+tell $? "what was expected, and what there is"
 printf 'load ctx\nlaod ctx\nunload 0\n' > "$room/wrong.txt"
 "$room/drivers" "$room/wrong.txt" > "$room/wrong.out" 2> "$room/wrong.err"
 [ $? = 2 ] && grep -q "wrong.txt:2: not understood: there is no request laod; the nearest is load$" "$room/wrong.err"
@@ -121,6 +199,24 @@ tell $? "an attach that is refused"
 printf 'load none\n# it is none\n\nexpect status 6\n' > "$room/green.txt"
 "$room/drivers" "$room/green.txt" > "$room/green.out" 2> "$room/green.err" && [ ! -s "$room/green.err" ]
 tell $? "a load that is to be refused"
+printf 'load ctx\nunload 0\n' > "$room/green.txt"
+says 1 'green.txt: no callback of ctx was called: attach it, and ask for what it registered' "$room/green.txt"
+tell $? "a driver of which nothing is called"
+printf 'load ctx\nexpect status 0\nunload 0\n' > "$room/green.txt"
+"$room/drivers" "$room/green.txt" > "$room/green.out" 2> "$room/green.err" && [ ! -s "$room/green.err" ]
+tell $? "a driver of which the loading is expected"
+printf 'load ctx\nexpect status 0 info 0\n' > "$room/green.txt"
+says 2 'green.txt:2: not understood: expect status has one word behind it, and each expectation a line of its own' "$room/green.txt"
+tell $? "two expectations in a line"
+printf 'load ctx\nattach 0\0 0 c 100\n' > "$room/green.txt"
+says 2 'green.txt:2: it has a zero byte: requests are text of UTF-8 or ASCII' "$room/green.txt"
+tell $? "a zero byte in requests"
+printf '\377\376l\0o\0a\0d\0' > "$room/green.txt"
+says 2 'green.txt:1: it is UTF-16: requests are text of UTF-8 or ASCII' "$room/green.txt"
+tell $? "requests in UTF-16"
+printf 'load ctx\r\nattach 0 0 c 100\r\ncreate 0 new a as h\r\nexpect status 0\r\nclose h\r\n' > "$room/green.txt"
+"$room/drivers" "$room/green.txt" > "$room/green.out" 2> "$room/green.err" && [ ! -s "$room/green.err" ]
+tell $? "lines that end as those of DOS"
 printf '# no request\n\n' > "$room/green.txt"
 says 1 'there is no request in it' "$room/green.txt"
 tell $? "a file with no request"
@@ -175,17 +271,32 @@ tell $? "names in a folder"
 tell $? "a folder that isn't there"
 
 # An installed tree, in a folder with spaces and without the kit: a driver is built by CMake, and tested by ctest; and by the installed script, though the tree can't be written.
-mkdir "$room/a fresh folder"
-cp $tests/cmake/CMakeLists.txt c/samples/ctx.c $tests/requests/ctx.txt "$room/a fresh folder/"
+mkdir -p "$room/a fresh folder/include"
+cp $tests/cmake/CMakeLists.txt c/samples/ctx.c c/samples/spy.c $tests/requests/ctx.txt $tests/requests/spy.txt "$room/a fresh folder/"
+cp c/samples/spy.h "$room/a fresh folder/include/"
+sed 's|"../spy.h"|"spy.h"|' c/samples/user/spylog.c > "$room/a fresh folder/spylog.c"
 sed "s/DRIVER/ctx/" $tests/scenarios/four-clients.txt > "$room/a fresh folder/four-clients.txt"
 c/install.sh "$room/an installed tree" > "$room/install.log" 2>&1 || { cat "$room/install.log"; false; }
 tell $? "install"
 if command -v cmake > /dev/null; then
     (
         unset KAZDRIN_LIB
-        cd "$room/a fresh folder" && cmake -S . -B build -DCMAKE_PREFIX_PATH="$room/an installed tree" && cmake --build build && cd build && ctest --output-on-failure
+        cd "$room/a fresh folder" && cmake -S . -B build -DCMAKE_EXPORT_COMPILE_COMMANDS=ON -DCMAKE_PREFIX_PATH="$room/an installed tree" && cmake --build build && cd build && ctest --output-on-failure
     ) > "$room/cmake.log" 2>&1 || { cat "$room/cmake.log"; false; }
     tell $? "CMake"
+    # A header that changes has the program built again: here it can't be.
+    echo '#error changed' >> "$room/a fresh folder/include/spy.h"
+    ! env -u KAZDRIN_LIB cmake --build "$room/a fresh folder/build" > "$room/cmake.log" 2>&1 && grep -q '#error changed' "$room/cmake.log"
+    tell $? "a header that changes"
+    sed -i '$d' "$room/a fresh folder/include/spy.h"
+    env -u KAZDRIN_LIB cmake --build "$room/a fresh folder/build" > "$room/cmake.log" 2>&1 && grep -q testcase "$room/a fresh folder/build/spy-run.spy.xml"
+    tell $? "a report for each file of requests"
+    # By what it says of the sources an editor's server finds no error in them.
+    if command -v clangd > /dev/null; then
+        (cd "$room/a fresh folder" && clangd --check=spy.c --compile-commands-dir=build && clangd --check=spylog.c --compile-commands-dir=build) > "$room/clangd.log" 2>&1 ||
+            { grep -E '^E' "$room/clangd.log"; false; }
+        tell $? "an editor's server"
+    fi
 fi
 (
     unset KAZDRIN_LIB
@@ -198,6 +309,14 @@ build fuzzer --fuzz "$room/fuzzer" $tests/misuse/schedules/refusal.c
 "$room/fuzzer" 50 2 "$room/failure.txt" > "$room/fuzzer.out"
 [ $? = 139 ] && [ "$(wc -l < "$room/failure.txt")" -le 6 ]
 tell $? "random requests"
+"$room/fuzzer" 0 2 > /dev/null 2>&1
+[ $? = 2 ] && { "$room/fuzzer" some > /dev/null 2>&1; [ $? = 2 ]; }
+tell $? "no session"
+printf '#include <fltKernel.h>\nNTSTATUS DriverEntry(PDRIVER_OBJECT DriverObject, PUNICODE_STRING RegistryPath)\n{\n    return STATUS_UNSUCCESSFUL;\n}\n' > "$room/absent.c"
+build absent --fuzz "$room/absent" "$room/absent.c"
+"$room/absent" 3 > /dev/null 2> "$room/absent.out"
+[ $? = 1 ] && grep -q '^no callback of a driver was called in 3 sessions' "$room/absent.out"
+tell $? "random requests to a driver that isn't loaded"
 build refused "$room/refused" $tests/misuse/schedules/refusal.c
 { "$room/refused" "$room/failure.txt" > "$room/refused.out"; } 2> /dev/null
 [ $? = 139 ]
@@ -207,28 +326,38 @@ tell $? "random requests, played again,"
 mkdir "$room/odd folder"
 cp c/samples/ctx.c "$room/odd folder/2my.odd name.c"
 build names "$room/names" "$room/odd folder/2my.odd name.c" --driver $tests/drivers/two-files/main.c $tests/drivers/two-files/count.c
-printf 'load main\nunload 0\n' | "$room/names" > "$room/names.out" && tail -n 1 "$room/names.out" | grep -q "told 0, limits 0"
+printf 'load main\nattach 0 0 m 100\ncreate 0 new a\nflush 0\nunload 0\n' | "$room/names" > "$room/names.out" && tail -n 1 "$room/names.out" | grep -q "told 0, limits 0"
 tell $? "names"
 CFLAGS=-flto c/build.sh "$room/lto" c/samples/ctx.c 2> "$room/lto.err"
 [ $? = 2 ] && grep -q "can't be had" "$room/lto.err"
 tell $? "a link-time optimizer"
+printf '#include <stdlib.h>\n' | cat - c/samples/nullfilter.c | sed 's/    status = FltRegisterFilter/    exit(RegistryPath == NULL);\n&/' > "$room/foreign.c"
+c/build.sh "$room/foreign" "$room/foreign.c" > /dev/null 2> "$room/foreign.err"
+[ $? = 1 ] && grep -q "foreign calls what the kit's libraries don't have: exit" "$room/foreign.err"
+tell $? "calls that no kernel has"
 c/build.sh "$room/empty" "$room/a fresh folder/build/none" 2> /dev/null
 [ $? != 0 ] && [ ! -e "$room/empty" ]
 tell $? "a driver that isn't there"
 
-# Drivers whose own threads and requests wait for what other drivers hold play apart from those that never do.
+# Random requests through all samples. Those whose own threads and requests wait for what other drivers hold play apart from those that never do.
 never=()
 for driver in c/samples/*.c; do
-    grep -q 'FltReadFile\|PsCreateSystemThread\|FltSendMessage' "$driver" || never+=("$driver")
+    grep -q 'FltReadFile\|PsCreateSystemThread\|FltSendMessage' "$driver" || never+=("$(basename "$driver" .c)")
 done
-build fuzz --main $tests/programs/samples.c "$room/fuzz" "${never[@]}"
-try fuzz "$room/fuzz" 100000 1
-look fuzz "$room/fuzz" 1000 2
-build waits --main $tests/programs/samples.c "$room/waits" c/samples/*.c
-"$room/waits" 40000 1 waits > "$room/waits.out" || { cat "$room/waits.out"; false; }
-tell $? "random requests through drivers that wait for one another"
-if has_sanitizers address,undefined; then
-    build fuzz.asan --sanitize=address,undefined --main $tests/programs/samples.c "$room/fuzz.asan" c/samples/*.c
-    try fuzz.asan "$room/fuzz.asan" 20000 3 waits
-fi
+build "all samples" --main $tests/programs/samples.c "$room/samples" c/samples/*.c
+! has_sanitizers address,undefined || build "all samples for the address sanitizer" --sanitize=address,undefined --main $tests/programs/samples.c "$room/address" c/samples/*.c
+random() {
+    "$built/$1" "$2" "$3" "${@:4}" > "$room/out" 2>&1 && grep -qx "$2 requests: many contexts, all cleaned up, nothing told" "$room/out" || { cat "$room/out"; false; }
+    tell $? "$2 random requests by $1"
+}
+long() {
+    case $1 in
+    requests) look "all requests" "$built/drivers" $tests/requests/*.txt ;;
+    valgrind) look "random requests" "$built/samples" 1000 2 "${never[@]}" ;;
+    never) random samples $((many * 5)) 1 "${never[@]}" ;;
+    waits) random samples $((many * 2)) 1 waits ;;
+    address) [ ! -x "$built/address" ] || random address "$many" 3 waits ;;
+    esac
+}
+rows long requests valgrind never waits address
 finish

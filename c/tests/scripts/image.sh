@@ -1,6 +1,7 @@
 #!/usr/bin/env bash
-# Binaries of drivers: each sample made a .sys by both toolchains that are here, run, and compared with what is stored of its source; exceptions, what compiled kernel code does by itself,
-# a driver in C++; the drivers of the explorer's tests, and the decoder by which it sees what a binary reads and writes; files that can't run; changed files under sanitizers. SECONDS_OF_FUZZ is how long these are tried.
+# image.sh [msvc] [mingw] : binaries of drivers, by the toolchains that are here, or by one of them. Each sample is made a .sys, run, and compared with what is stored of its source; exceptions, what
+# compiled kernel code does by itself, a driver in C++; the drivers of the explorer's tests, and the decoder by which it sees what a binary reads and writes; files that can't run; changed files under
+# sanitizers. SECONDS_OF_FUZZ is how long these are tried.
 set -u
 . "$(dirname "$0")/tally.sh" image
 
@@ -22,7 +23,7 @@ build serve --serve --image "$room/serve"
 build levels --image --main $tests/image/levels.c "$room/levels"
 
 # Each place where the host calls a driver's function does so by the convention of who it is.
-$tests/image/indirect.sh "$PWD/out/c/$(make -s --no-print-directory -C c where LIBRARIES=host)"
+$tests/image/indirect.sh "$(c/libraries.sh host)"
 tell $? "calls through pointers"
 
 # The reader: changed files, in all of the ways that a seed gives, and what it refuses.
@@ -62,13 +63,59 @@ rust_of_windows() {
     return 1
 }
 
-# play NAME DRIVER..: its requests, beside what is stored of the driver's source.
-play() {
+# What is here is a row for each word (tally.sh), or is called by itself: then all lies in one room.
+built=$room
+
+# A driver's binary of its source. Of the samples that leave a block gcc makes none: it has no blocks for exceptions in C.
+made() {
+    local source=$1 name
+    name=$(basename "$source")
+    name=${name%.*}
+    case $kind-$name in
+    *-reader | *-decode | *-levels | msvc-rust | mingw-minispy | mingw-wordscanner | mingw-raises) return ;;
+    mingw-rust) RUSTC=$(rust_of_windows) && export RUSTC || { echo "image: no driver in Rust is tried, since no rustc here builds for x86_64-pc-windows-gnu"; return; } ;;
+    mingw-classes) command -v x86_64-w64-mingw32-g++ > /dev/null || { echo "image: no driver in C++ is tried by mingw, since there is no x86_64-w64-mingw32-g++ here"; return; } ;;
+    esac
+    $tests/image/sys.sh "$kind" "$built/kit-$kind" "$built/$kind/$name.sys" "$source" > "$room/$name.log" 2>&1 || { head -n 5 "$room/$name.log"; tell 1 "$name, as it was built by $kind,"; }
+}
+
+# The requests of a driver, beside what is stored of its source.
+played() {
     local name=$1
-    shift
-    "$RUN" "$@" "$tests/requests/$name.txt" > "$room/$name.out" 2> "$room/$name.err"
+    "$RUN" "$built/$kind"/*.sys "$tests/requests/$name.txt" > "$room/$name.out" 2> "$room/$name.err"
     [ $? = "$(cat "$tests/expected/$name.status" 2> /dev/null || echo 0)" ] && diff "$tests/expected/$name.out" "$room/$name.out"
     tell $? "$name by $kind"
+}
+
+# The requests of a driver in c/tests/image. Where an endless stack ends, in the probe or behind it, is a matter of what else lies on it.
+asked() {
+    local name=$1 driver
+    driver=$built/$kind/$(sed -n 's/^load //p' "$tests/image/$name.txt" | head -n 1).sys
+    [ -f "$driver" ] || return
+    { "$RUN" "$driver" "$tests/image/$name.txt"; echo "status $?"; } 2> "$room/$name.err" | sed '/^CRASH SIGSEGV: filter sections/s/sections\.c:[0-9]*/sections.c:57/' > "$room/$name.out"
+    diff "$tests/image/$name.out" "$room/$name.out"
+    tell $? "$name by $kind"
+}
+
+# Nothing is told of a sample, as of its source.
+silent() {
+    local name=$1 bound=0
+    [ "$name" != swapbuffers ] || bound=1
+    [ -f "$built/$kind/$name.sys" ] || return
+    sed "s/DRIVER/$name/" $tests/scenarios/four-clients.txt > "$room/four.txt"
+    "$EXPLORE" --bound $bound "$built/$kind/$name.sys" "$room/four.txt" > "$room/out" 2>&1 && grep -q "^bound $bound: .*told 0, races 0, stuck 0, crashed 0" "$room/out" || { cat "$room/out"; false; }
+    tell $? "$name with four clients by $kind"
+}
+
+# What may not be touched there is told in each schedule, also behind one that a crash ended.
+touched() {
+    local asked=$1 bound number schedules wanted
+    printf 'load sections\nattach sections v0 first 300\ncreate v0 new a as a\nwrite a 0 3132333435363738393031\nclient x: read a %s 1; read a %s 1\nclient y: read a 0 1\n' "$asked" "$asked" > "$room/asked.txt"
+    "$EXPLORE" --bound 1 "$built/$kind/sections.sys" "$room/asked.txt" > "$room/out" 2>&1
+    read -r bound number schedules <<< "$(sed -n 's/^bound \(1\): \([0-9]*\) \(schedules\).*/\1 \2 \3/p' "$room/out")"
+    case $asked in 0) wanted='told 0, races 0, stuck 0, crashed 0' ;; 10) wanted="told 0, races 0, stuck 0, crashed $number" ;; *) wanted="told $number, races 0, stuck 0, crashed 0" ;; esac
+    [ "$bound$schedules" = 1schedules ] && grep -q "^bound 1: .*; $wanted\$" "$room/out" || { cat "$room/out"; false; }
+    tell $? "sections under the explorer by $kind, of $asked,"
 }
 
 # explored NAME: a driver of c/tests/misuse/schedules as a binary, under its scenario. It ends as its source does, and the same is found; where no access of its code is a point, to the letter. What
@@ -79,8 +126,8 @@ explored() {
     finds=$(sed -n 's/^# finds: //p' "$scenario")
     [ "$name" != counter ] || finds=RACE
     read -r -a words <<< "$(sed -n 's/^# words: //p' "$scenario")"
-    "$tests/image/sys.sh" "$kind" "$room/kit-$kind" "$room/$name.sys" "$tests/misuse/schedules/$name.c" > "$room/$name.log" 2>&1
-    "$EXPLORE" "$room/$name.sys" "${words[@]}" "$scenario" > "$room/$name.out" 2>&1
+    "$tests/image/sys.sh" "$kind" "$built/kit-$kind" "$built/$name.sys" "$tests/misuse/schedules/$name.c" > "$room/$name.log" 2>&1
+    "$EXPLORE" "$built/$name.sys" "${words[@]}" "$scenario" > "$room/$name.out" 2>&1
     [ $? = "$status" ] && case ${finds:-stored} in
     nothing) ! grep -q 'schedules:$' "$room/$name.out" ;;
     stored)
@@ -94,37 +141,29 @@ explored() {
     tell $? "$name under the explorer by $kind"
 }
 
-# Of the samples that leave a block gcc makes none: it has no blocks for exceptions in C.
-for kind in msvc mingw; do
+samples=(c/samples/*.c)
+samples=("${samples[@]##*/}")
+samples=("${samples[@]%.c}")
+[ $# -gt 0 ] || set -- msvc mingw
+for kind in "$@"; do
     case $kind in
     msvc) has python3 clang lld-link llvm-dlltool llvm-addr2line || continue ;;
     mingw) has python3 x86_64-w64-mingw32-gcc x86_64-w64-mingw32-dlltool || continue ;;
     esac
     mkdir -p "$room/$kind"
-    for source in c/samples/*.c "$tests"/drivers/majors.c "$tests"/misuse/first.c "$tests"/image/*.c "$tests"/image/*.cpp "$tests"/image/*.rs; do
-        name=$(basename "$source")
-        name=${name%.*}
-        case $kind-$name in
-        *-reader | *-decode | *-levels | msvc-rust | mingw-minispy | mingw-wordscanner | mingw-raises) continue ;;
-        mingw-rust) RUSTC=$(rust_of_windows) && export RUSTC || { echo "image: no driver in Rust is tried, since no rustc here builds for x86_64-pc-windows-gnu"; continue; } ;;
-        mingw-classes) command -v x86_64-w64-mingw32-g++ > /dev/null || { echo "image: no driver in C++ is tried by mingw, since there is no x86_64-w64-mingw32-g++ here"; continue; } ;;
-        esac
-        $tests/image/sys.sh $kind "$room/kit-$kind" "$room/$kind/$name.sys" "$source" > "$room/$name.log" 2>&1 || { head -n 5 "$room/$name.log"; tell 1 "$name, as it was built by $kind,"; }
+    # The first one makes the headers and the libraries of all.
+    made c/samples/nullfilter.c
+    rows made c/samples/*.c "$tests"/drivers/{majors,asker}.c "$tests"/misuse/first.c "$tests"/image/*.c "$tests"/image/*.cpp "$tests"/image/*.rs
+    names=()
+    for name in "${samples[@]}" first; do
+        [ ! -f "$room/$kind/$name.sys" ] || names+=("$name")
     done
-    for source in c/samples/*.c "$tests"/misuse/first.c; do
-        name=$(basename "$source" .c)
-        [ ! -f "$room/$kind/$name.sys" ] || play "$name" "$room/$kind"/*.sys
-    done
+    rows played "${names[@]}"
+    names=()
     for requests in "$tests"/image/*.txt; do
-        name=$(basename "$requests" .txt)
-        [ "$name" != jumps ] || continue
-        driver=$room/$kind/$(sed -n 's/^load //p' "$requests" | head -n 1).sys
-        [ -f "$driver" ] || continue
-        # Where an endless stack ends, in the probe or behind it, is a matter of what else lies on it.
-        { "$RUN" "$driver" "$requests"; echo "status $?"; } 2> "$room/$name.err" | sed '/^CRASH SIGSEGV: filter sections/s/sections\.c:[0-9]*/sections.c:57/' > "$room/$name.out"
-        diff "$tests/image/$name.out" "$room/$name.out"
-        tell $? "$name by $kind"
+        [[ $requests = */jumps.txt ]] || names+=("$(basename "$requests" .txt)")
     done
+    rows asked "${names[@]}"
     # The loader under sanitizers, and under valgrind.
     if [ -x "$room/sanitized" ]; then
         for name in inlines sections; do
@@ -139,7 +178,7 @@ for kind in msvc mingw; do
     # The decoder, over code of each kind.
     if command -v llvm-objdump > /dev/null; then
         for source in c/samples/swapbuffers.c c/samples/passthrough.c c/samples/ctx.c; do
-            LEVEL=-O2 $tests/image/sys.sh $kind "$room/kit-$kind" "$room/$kind/$(basename "$source" .c).fast" "$source" > "$room/fast.log" 2>&1
+            LEVEL=-O2 $tests/image/sys.sh "$kind" "$room/kit-$kind" "$room/$kind/$(basename "$source" .c).fast" "$source" > "$room/fast.log" 2>&1
         done
         $tests/image/decode.sh "$room/decode" "$room/$kind"/*.sys "$room/$kind"/*.fast
         tell $? "instructions by $kind"
@@ -148,28 +187,15 @@ for kind in msvc mingw; do
     sed 's/DRIVER/ctx/' $tests/scenarios/load.txt > "$room/load.txt"
     "$RUN" "$room/$kind/ctx.sys" --load "$room/load.txt" --threads 4 --seconds 2 > "$room/load.out" 2>&1 && tail -n 1 "$room/load.out" | grep -q 'leaked references 0, told 0, limits 0$'
     tell $? "a load by $kind"
+    # Where a scenario says `# source: WHY` its driver is tried as a source alone.
+    names=()
     for source in "$tests"/misuse/schedules/*.c; do
-        explored "$(basename "$source" .c)"
-    done
-    # Nothing is told of a sample, as of its source.
-    for source in c/samples/*.c; do
         name=$(basename "$source" .c)
-        bound=0
-        [ "$name" != swapbuffers ] || bound=1
-        [ -f "$room/$kind/$name.sys" ] || continue
-        sed "s/DRIVER/$name/" $tests/scenarios/four-clients.txt > "$room/four.txt"
-        "$EXPLORE" --bound $bound "$room/$kind/$name.sys" "$room/four.txt" > "$room/out" 2>&1 && grep -q "^bound $bound: .*told 0, races 0, stuck 0, crashed 0" "$room/out" || { cat "$room/out"; false; }
-        tell $? "$name with four clients by $kind"
+        grep -q '^# source: ' "$tests/scenarios/$name.txt" || names+=("$name")
     done
-    # What may not be touched there is told in each schedule, also behind one that a crash ended.
-    for asked in 0 1 2 3 4 8 9 10; do
-        printf 'load sections\nattach sections v0 first 300\ncreate v0 new a as a\nwrite a 0 3132333435363738393031\nclient x: read a %s 1; read a %s 1\nclient y: read a 0 1\n' $asked $asked > "$room/asked.txt"
-        "$EXPLORE" --bound 1 "$room/$kind/sections.sys" "$room/asked.txt" > "$room/out" 2>&1
-        read -r bound number schedules <<< "$(sed -n 's/^bound \(1\): \([0-9]*\) \(schedules\).*/\1 \2 \3/p' "$room/out")"
-        case $asked in 0) wanted='told 0, races 0, stuck 0, crashed 0' ;; 10) wanted="told 0, races 0, stuck 0, crashed $number" ;; *) wanted="told $number, races 0, stuck 0, crashed 0" ;; esac
-        [ "$bound$schedules" = 1schedules ] && grep -q "^bound 1: .*; $wanted\$" "$room/out" || { cat "$room/out"; false; }
-        tell $? "sections under the explorer by $kind, of $asked,"
-    done
+    rows explored "${names[@]}"
+    rows silent "${samples[@]}"
+    rows touched 0 1 2 3 4 8 9 10
     # An update that is one instruction is a read and a write; and what was found is found again.
     LEVEL=-O2 explored lostupdate
     LEVEL=-O2 explored counter

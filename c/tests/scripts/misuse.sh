@@ -9,15 +9,33 @@ found() {
 wanted() {
     sed -n "s/^# $1: //p" "$2"
 }
-for scenario in "$tests"/misuse/*.scenario; do
-    name=$(basename "$scenario" .scenario)
-    build "$name" "$room/$name" "$tests/misuse/$name.c"
-    "$room/$name" --load "$scenario" --threads 1 --seconds 0.2 > "$room/out" 2>&1
-    [ $? = 5 ] && [ "$(found "$room/out")" = "$(wanted threads "$scenario")" ] && ! grep '^TOLD' "$room/out" | grep -vq " $name\.c:[0-9]" || { cat "$room/out"; false; }
+# Who runs first is the system's: what one load didn't come to another one does.
+loaded() {
+    local name=$1 scenario=$2 wanted
+    wanted=$(wanted threads "$scenario")
+    for _ in 1 2 3 4 5; do
+        "$built/misuse" --load "$scenario" --threads 1 --seconds 0.2 >> "$room/out" 2>&1
+        [ $? = 5 ] || return 1
+        [ "$(found "$room/out")" != "$wanted" ] || break
+    done
+    [ "$(found "$room/out")" = "$wanted" ] && ! grep '^TOLD' "$room/out" | grep -vq " $name\.c:[0-9]"
+}
+told() {
+    local name=$1 scenario=$tests/misuse/$1.scenario
+    loaded "$name" "$scenario" || { cat "$room/out"; false; }
     tell $? "$name by threads"
-    build "$name" --explore "$room/$name.explore" "$tests/misuse/$name.c"
-    "$room/$name.explore" --bound 0 "$scenario" > "$room/out" 2>&1
+    "$built/explore" --bound 0 "$scenario" > "$room/out" 2>&1
     [ $? = 5 ] && [ "$(found "$room/out")" = "$(wanted explored "$scenario")" ] && ! grep '^    TOLD' "$room/out" | grep -vq " $name\.c:[0-9]" || { cat "$room/out"; false; }
     tell $? "$name under its schedules"
+}
+names=()
+drivers=()
+for scenario in "$tests"/misuse/*.scenario; do
+    name=$(basename "$scenario" .scenario)
+    names+=("$name")
+    drivers+=("$tests/misuse/$name.c")
 done
+build "all of them" "$room/misuse" "${drivers[@]}"
+build "all of them for the explorer" --explore "$room/explore" "${drivers[@]}"
+rows told "${names[@]}"
 finish

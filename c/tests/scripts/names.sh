@@ -16,35 +16,36 @@ if command -v python3 > /dev/null; then
     $tests/scripts/names.py "$room/model" 1 "$sessions" > "$room/model.out" || { cat "$room/model.out"; false; }
     tell $? "$sessions sessions beside the model"
 fi
-# of DRIVER FILE SCENARIO WORD..: nothing is found.
+# of DRIVER SCENARIO WORD..: nothing is found.
 of() {
     local driver=$1 scenario=$2
     shift 2
-    sed "s/DRIVER/$driver/" "$scenarios/$scenario.txt" > "$room/$scenario.txt"
-    "$room/$driver" "$@" "$room/$scenario.txt" > "$room/$driver.out" 2>&1 && grep -q "told 0, races 0, stuck 0, crashed 0" "$room/$driver.out" || { cat "$room/$driver.out"; false; }
+    sed "s/DRIVER/$driver/" "$scenarios/$scenario.txt" > "$room/scenario"
+    "$built/explore" "$@" "$room/scenario" > "$room/out" 2>&1 && grep -q "told 0, races 0, stuck 0, crashed 0" "$room/out" || { cat "$room/out"; false; }
     tell $? "$driver: $scenario"
 }
-for file in c/samples/ctx.c c/samples/trail.c c/samples/cipher.c c/samples/sectionguard.c $tests/drivers/majors.c; do
-    driver=$(basename "$file" .c)
-    build "$driver" --explore "$room/$driver" "$file"
-    of "$driver" names --bound 1
-    of "$driver" notices --bound 1
-    of "$driver" names-refusals --fail-each
-done
-# What a filter asks by itself and what it pends: each schedule with no preemption, and each call refused; and a destination that one filter changed, while another one holds the rename and
-# the first is detached.
-build owner --explore "$room/owner" $tests/drivers/owner.c
-of owner names --bound 0
-of owner names-refusals --fail-each
-build "trail and owner" --explore "$room/both" c/samples/trail.c $tests/drivers/owner.c
-"$room/both" --bound 1 $scenarios/held-rename.txt > "$room/both.out" 2>&1 && grep -q "told 0, races 0, stuck 0, crashed 0" "$room/both.out" || { cat "$room/both.out"; false; }
-tell $? "a rename that is held below a filter that goes"
+searched() {
+    case $1 in
+    # What a filter asks by itself and what it pends: each schedule with no preemption, and each call refused.
+    owner) of owner names --bound 0 ;;
+    # A destination that one filter changed, while another one holds the rename and the first is detached.
+    held) of "trail and owner" held-rename --bound 1 ;;
+    *)
+        of "$1" names --bound 1
+        of "$1" notices --bound 1
+        ;;
+    esac
+    [ "$1" = held ] || of "$1" names-refusals --fail-each
+}
+loaded() {
+    sed "s/DRIVER/$1/" $scenarios/names-load.txt > "$room/load.txt"
+    "$built/threads" --load "$room/load.txt" --threads 8 --seconds "$seconds" > "$room/out" 2>&1 || { cat "$room/out"; false; }
+    tell $? "$1 by threads"
+}
+build "all of them for the explorer" --explore "$room/explore" c/samples/{ctx,trail,cipher,sectionguard}.c $tests/drivers/{majors,outcomes,owner}.c
+rows searched ctx trail cipher sectionguard majors outcomes owner held
 if has_sanitizers thread; then
-    for driver in trail cipher sectionguard; do
-        build "$driver for a load" --sanitize=thread "$room/load" "c/samples/$driver.c"
-        sed "s/DRIVER/$driver/" $scenarios/names-load.txt > "$room/load.txt"
-        "$room/load" --load "$room/load.txt" --threads 8 --seconds "$seconds" > "$room/load.out" 2>&1 || { cat "$room/load.out"; false; }
-        tell $? "$driver by threads"
-    done
+    build "all of them for a load" --sanitize=thread "$room/threads" c/samples/{trail,cipher,sectionguard}.c
+    rows loaded trail cipher sectionguard
 fi
 finish

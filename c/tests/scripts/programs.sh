@@ -17,23 +17,31 @@ for user in c/samples/user/*.c; do
     users+=("$user" --user)
 done
 unset 'users[-1]'
-for scenario in "$scenarios"/*-load.txt; do
-    name=$(basename "$scenario" -load.txt)
-    build "$name" --explore "$room/$name" "c/samples/$name.c" "${users[@]}"
-    "$room/$name" --bound "$bound" "$scenarios/$name.txt" > "$room/$name.out" || { cat "$room/$name.out"; false; }
+played() {
+    local name=$1
+    "$built/explore" --bound "$bound" "$scenarios/$name.txt" > "$room/out" || { cat "$room/out"; false; }
     tell $? "$name under every schedule"
-    [ "$bound" = 1 ] || grep '^bound' "$room/$name.out"
-    "$room/$name" --fail-each "$scenarios/$name-refusals.txt" > "$room/$name.out" || { cat "$room/$name.out"; false; }
+    [ "$bound" = 1 ] || grep '^bound' "$room/out"
+    "$built/explore" --fail-each "$scenarios/$name-refusals.txt" > "$room/out" || { cat "$room/out"; false; }
     tell $? "$name with each refusal"
-    if has_sanitizers address,undefined; then
-        build "$name" --sanitize=address,undefined "$room/$name" "c/samples/$name.c" c/samples/passthrough.c "${users[@]}"
-        "$room/$name" --quiet "$tests/requests/$name.txt" > "$room/$name.out" 2>&1 && [ ! -s "$room/$name.out" ] || { cat "$room/$name.out"; false; }
+    if [ -x "$built/address" ]; then
+        "$built/address" --quiet "$tests/requests/$name.txt" > "$room/out" 2>&1 && [ ! -s "$room/out" ] || { cat "$room/out"; false; }
         tell $? "$name under the address sanitizer"
     fi
-    if has_sanitizers thread; then
-        build "$name" --sanitize=thread "$room/$name" "c/samples/$name.c" "${users[@]}"
-        "$room/$name" --load "$scenario" --threads 8 --seconds "$seconds" > "$room/$name.out" 2>&1 || { tail -n 60 "$room/$name.out"; false; }
+    if [ -x "$built/threads" ]; then
+        "$built/threads" --load "$scenarios/$name-load.txt" --threads 8 --seconds "$seconds" > "$room/out" 2>&1 || { tail -n 60 "$room/out"; false; }
         tell $? "$name with threads"
     fi
+}
+names=()
+drivers=()
+for scenario in "$scenarios"/*-load.txt; do
+    name=$(basename "$scenario" -load.txt)
+    names+=("$name")
+    drivers+=("c/samples/$name.c")
 done
+build "all of them for the explorer" --explore "$room/explore" "${drivers[@]}" "${users[@]}"
+! has_sanitizers address,undefined || build "all of them for the address sanitizer" --sanitize=address,undefined "$room/address" "${drivers[@]}" c/samples/passthrough.c "${users[@]}"
+! has_sanitizers thread || build "all of them for the thread sanitizer" --sanitize=thread "$room/threads" "${drivers[@]}" "${users[@]}"
+rows played "${names[@]}"
 finish

@@ -48,6 +48,12 @@ as_user 'a command of checkouts is refused' 's=0; flt prepare 2> said || s=$?; [
 as_user 'a new driver' 'flt new driver "my folder/counter" && cd "my folder/counter" && kazdrin-build run counter.c && ./run requests.txt > /dev/null'
 as_user 'its schedules' 'cd "my folder/counter" && kazdrin-build --explore explored counter.c && ./explored --bound 1 schedules.txt | grep -q "told 0, races 0, stuck 0, crashed 0"'
 as_user 'its tests by CMake' 'cd "my folder/counter" && KAZDRIN=/usr ./ci.sh | grep -q "100% tests passed"'
+# The files for a CI service: their commands, but for what installs packages of the system.
+commands() { sed -n 's/^ *- run: //p; /apt-get/d; s/^    - \(mkdir\|KAZDRIN\)/\1/p' "/tmp/$1"; }
+for service in github gitlab; do
+    commands $service.yml > /tmp/$service.sh
+    as_user "the file for $service" "cp -R 'my folder/counter' $service && cd $service && rm -rf build && export RUNNER_TEMP=\$PWD KAZDRIN_TAR=file:///tmp/kazdrin.tar.gz && [ \$(wc -l < /tmp/$service.sh) = 2 ] && . /tmp/$service.sh && ls build/*.xml"
+done
 as_user 'random requests' 'cd "my folder/counter" && kazdrin-fuzz counter.c -- 50 7 | grep -q "50 sessions"'
 as_user 'a mistake is told' 's=0; kazdrin-build first /tmp/first.c && ./first /tmp/first.txt > out || s=$?; [ $s = 5 ] && grep -q "TOLD KZ0151 .*first.c:12" out'
 if [ -f /tmp/first.sys ]; then
@@ -93,6 +99,8 @@ unshare -m bash -c '
     mount -t tmpfs none "$root/tmp"
     chmod 1777 "$root/tmp"
     cp "$4"/kazdrin_*.deb "$root/tmp/kazdrin.deb"
+    cp "$4"/kazdrin-*.tar.gz "$root/tmp/kazdrin.tar.gz"
+    cp docs/ci/*.yml "$root/tmp/"
     [ ! -f "$1/first.sys" ] || cp "$1/first.sys" "$1/first.pdb" "$root/tmp/"
     cp "$5"/misuse/first.c "$5"/requests/first.txt "$1/script" "$root/tmp/"
     chmod 644 "$root"/tmp/*.*

@@ -50,6 +50,46 @@ tell $? "a shard that is there twice"
 [ $? = 3 ] && grep -q "another search" "$room/out"
 tell $? "a shard of another search"
 
+# A part of another driver's program, whose places are other lines.
+"$room/lockorder" --merge "$room"/part.? > "$room/out" 2>&1
+[ $? = 3 ] && grep -q "another search, by another program" "$room/out"
+tell $? "parts of another program"
+
+# What can't be written is told, and what was found is shown all the same.
+cannot() {
+    "$room/lockorder" "$@" "$room/lockorder.txt" > "$room/out" 2>&1
+    [ $? = 3 ] && grep -q "^/dev/full: can't be written$" "$room/out" && { [ "$1" = --learn ] || grep -q '^    STUCK' "$room/out"; }
+    tell $? "$* can't be written"
+}
+if [ -c /dev/full ]; then
+    cannot --save /dev/full
+    cannot --learn /dev/full
+    cannot --page /dev/full
+    "$room/lockorder" "$room/lockorder.txt" 2> "$room/out" > /dev/full
+    [ $? = 3 ] && grep -q "can't be written" "$room/out" && [ -c /dev/full ]
+    tell $? "standard output that can't be written"
+fi
+
+# A part that is killed is told, and Ctrl-C stops the others: what was found is shown, and that it isn't whole.
+build kitfreed --explore "$room/kitfreed" "$schedules/kitfreed.c"
+"$room/kitfreed" --bound 9 --jobs 2 "$scenarios/kitfreed.txt" > "$room/out" 2>&1 &
+search=$!
+for _ in $(seq 100); do
+    parts=$(cat "/proc/$search/task/$search/children")
+    [ "$(wc -w <<< "$parts")" != 2 ] || break
+    sleep 0.2
+done
+sleep 2
+kill -KILL "${parts%% *}"
+kill -INT $search
+wait $search
+[ $? = 5 ] && grep -q '^part 0/2 was ended by signal 9: what it found is lost$' "$room/out" && grep -q "^part 0/2 isn't there$" "$room/out" && grep -q "part 1/2 isn't whole$" "$room/out" &&
+    grep -q '^    USE AFTER FREE' "$room/out" && ! grep -q '^0 schedules' "$room/out"
+tell $? "a part that is killed, and Ctrl-C"
+timeout -s INT 2 "$room/kitfreed" --bound 9 "$scenarios/kitfreed.txt" > "$room/out" 2>&1
+[ $? = 124 ] && grep -q "^interrupted: the search isn't whole" "$room/out" && grep -q '^    USE AFTER FREE' "$room/out" && ! grep -q '^0 schedules' "$room/out"
+tell $? "Ctrl-C"
+
 # GNU parallel, by the line of docs/EXPLORE.md.
 if command -v parallel > /dev/null && parallel --version 2> /dev/null | grep -q '^GNU parallel'; then
     line=$(sed -n 's/^`\(parallel .*\)`.*/\1/p' docs/EXPLORE.md | head -n 1)

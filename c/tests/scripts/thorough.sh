@@ -1,12 +1,14 @@
 #!/usr/bin/env bash
 # c/tests/scripts/thorough.sh [PART ..] (make -C c thorough PART='..') : the long tests of the C half.
 #
+#   host        160,000 random requests through all samples, with the part host
 #   explore     each sample with four clients, under every schedule with at most two preemptions
 #   lines       lines of drivers by gcc and clang at several optimizations, and the headers beside those of mingw-w64
 #   threads     each sample for ten seconds with eight threads
 #   names       3,000 random sessions of names beside a model of their own
 #   programs    samples with programs of their own, as both
 #   image       a minute of changed binaries under the sanitizers, with the part image
+#   binaries    all samples as binaries in the words beside plain requests, and below a mount; the binaries of Wine, where they are here: ten minutes
 #   libfuzzer   libFuzzer over a driver with a mistake, which it must find, and over one without
 #   real        some seventy real programs above the mount of each server: four filters of fltd, the filter of own_server, which denies deletions, and four drivers in C: ten minutes
 #   release     a release, installed in a room where neither this checkout nor the kit is: a driver is built, explored and tested there
@@ -18,6 +20,11 @@ case ${1:-} in -h | --help) sed -n '2,/^[^#]/s/^#\( \|$\)//p' "$0"; exit ;; esac
 here=$(cd "$(dirname "$0")" && pwd)
 . "$here/tally.sh" thorough
 export KAZDRIN_LIB=${KAZDRIN_LIB:-$(c/archive.sh --unproved)}
+
+host() {
+    "$here/host.sh" --whole
+    tell $? host
+}
 
 explore() {
     "$here/explore.sh" --whole
@@ -55,6 +62,11 @@ programs() {
 image() {
     SECONDS_OF_FUZZ=60 "$here/image.sh"
     tell $? image
+}
+
+binaries() {
+    "$here/binaries.sh"
+    tell $? binaries
 }
 
 libfuzzer() {
@@ -113,10 +125,10 @@ mount() {
     fi
 }
 
-[ $# -gt 0 ] || set -- explore lines threads names programs image libfuzzer real release mount
+[ $# -gt 0 ] || set -- host explore lines threads names programs image binaries libfuzzer real release mount
 for part in "$@"; do
     case $part in
-    explore | lines | threads | names | programs | image | libfuzzer | real | release | mount) "$part" ;;
+    host | explore | lines | threads | names | programs | image | binaries | libfuzzer | real | release | mount) "$part" ;;
     *)
         echo "there is no part $part" >&2
         exit 2

@@ -14,15 +14,18 @@ if [ "$WHOLE" = --whole ]; then
     samples=(c/samples/*.c)
     seconds=10
 fi
+loaded() {
+    sed "s/DRIVER/$1/" $tests/scenarios/load.txt > "$room/load.txt"
+    "$built/threads" --load "$room/load.txt" --threads 8 --seconds "$seconds" > "$room/out" 2>&1 || { cat "$room/out"; false; }
+    tell $? "$1"
+}
+names=()
 for sample in "${samples[@]}"; do
-    name=$(basename "$sample" .c)
-    build "$name" --sanitize=thread "$room/$name" "$sample"
-    sed "s/DRIVER/$name/" $tests/scenarios/load.txt > "$room/$name.txt"
-    "$room/$name" --load "$room/$name.txt" --threads 8 --seconds "$seconds" > "$room/$name.out" 2>&1 || { cat "$room/$name.out"; false; }
-    tell $? "$name"
+    names+=("$(basename "$sample" .c)")
 done
-build counter --sanitize=thread "$room/counter" $tests/misuse/schedules/counter.c
-"$room/counter" --load $tests/scenarios/counter.txt --threads 2 --seconds 1 > "$room/counter.out" 2>&1
+build "all of them" --sanitize=thread "$room/threads" "${samples[@]}" $tests/misuse/schedules/counter.c
+rows loaded "${names[@]}"
+"$room/threads" --load $tests/scenarios/counter.txt --threads 2 --seconds 1 > "$room/counter.out" 2>&1
 [ $? = 66 ] && grep -q "data race .*counter.c:11 in PreRead" "$room/counter.out"
 tell $? "a counter without a lock"
 

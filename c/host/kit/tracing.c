@@ -1,26 +1,6 @@
-/* What a driver registers with others than the filter manager: it is taken, and never called. Nobody looks at its events. */
+/* Event tracing: as in the kit where no session listens, each provider is there, and nothing is enabled. */
 #include "core/client.h"
 
-USHORT ObGetFilterVersion(VOID)
-{
-    return OB_FLT_REGISTRATION_VERSION;
-}
-
-NTSTATUS CmRegisterCallback(PEX_CALLBACK_FUNCTION Function, PVOID Context, PLARGE_INTEGER Cookie)
-{
-    KZ_INSIDE();
-    return CmRegisterCallbackEx(Function, NULL, NULL, Context, Cookie, NULL);
-}
-
-VOID CmGetCallbackVersion(PULONG Major, PULONG Minor)
-{
-    if (Major)
-        *Major = 1;
-    if (Minor)
-        *Minor = 0;
-}
-
-/* ---- Event tracing: as in the kit where no session listens, each provider is there, and nothing is enabled. */
 NTSTATUS EtwRegister(LPCGUID ProviderId, PETWENABLECALLBACK EnableCallback, PVOID CallbackContext, PREGHANDLE RegHandle)
 {
     (void)ProviderId, (void)EnableCallback, (void)CallbackContext;

@@ -1,0 +1,29 @@
+/* Memory that isn't everybody's: what can be paged out, a caller's own buffer, what the manager hands out. */
+#ifndef KZ_CORE_ACCESS_H
+#define KZ_CORE_ACCESS_H
+
+#include "core/piece.h"
+
+/* Its memory is of that kind from now on; a caller's is of that process. */
+void kz_own(void *memory, KzOwner owner, uint64_t process);
+/* It is given back: whoever looks at it then may. */
+void kz_disown(KzPiece *piece);
+/* An MDL describes pages that are locked, or not any more: they are there at any IRQL, and in each process. */
+void kz_map_pages(const void *address, bool is_locked);
+/* The manager writes what it has handed out. */
+void kz_open_owned(void *memory);
+/* A driver's code goes on, or has returned: pages that it may not touch are shut meanwhile. */
+void kz_shut_owned(void);
+void kz_open_all_owned(void);
+/* Whether the driver's variables there can be paged out. */
+bool kz_is_paged(const void *address);
+/* What the kernel itself waits for or spins on may not be paged out: that it can be is told. */
+void kz_must_be_there(const void *object, const char *kind, const char *call);
+/* A touch of shut pages: whether they are one of these. Where it may not be, that is told, and the pages are open until the IRQL or the process is another one. */
+bool kz_touched_owned(const void *address, const void *code, const void *caller, bool is_written);
+/* The explorer has no such pages: each access of a driver's code is looked at. */
+void kz_look_at_code(const void *code);
+void kz_look_at_owned(const void *address, size_t size, const void *from, bool is_written);
+extern const struct KzModule kz_access_module;
+
+#endif

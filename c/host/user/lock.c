@@ -1,0 +1,133 @@
+/* Slim locks of a program's threads, and locks of bytes in its files. */
+#include "core/client.h"
+#include "core/operation.h"
+#include "user/error.h"
+#include "user/file.h"
+#include "user/object.h"
+#include "user/program.h"
+
+/* ---- Slim locks: how many read under it, -1 where one writes. */
+typedef struct {
+    intptr_t held;
+} Slim;
+
+static bool is_free(void *slim)
+{
+    return ((Slim *)slim)->held == 0;
+}
+
+static bool is_shared(void *slim)
+{
+    return ((Slim *)slim)->held >= 0;
+}
+
+static unsigned char take(Slim *slim, bool shares, uint32_t milliseconds, const char *call)
+{
+    KZ_CALL_OF(call);
+    if (!kz_user_waits(shares ? is_shared : is_free, slim, milliseconds, call))
+        return 0;
+    slim->held = shares ? slim->held + 1 : -1;
+    kz_scheduler->touch(slim, 0, KZT_TAKES);
+    return 1;
+}
+
+static void give(Slim *slim, const char *call)
+{
+    KZ_CALL_OF(call);
+    kz_scheduler->touch(slim, 0, KZT_GIVES);
+    if (slim->held)
+        slim->held = slim->held > 0 ? slim->held - 1 : 0;
+    kz.changes++;
+}
+
+void InitializeSRWLock(Slim *slim);
+void InitializeSRWLock(Slim *slim)
+{
+    *slim = (Slim){0};
+}
+
+void AcquireSRWLockExclusive(Slim *slim);
+void AcquireSRWLockExclusive(Slim *slim)
+{
+    take(slim, false, UINT32_MAX, __func__);
+    kz_go_on_or_end();
+}
+
+void AcquireSRWLockShared(Slim *slim);
+void AcquireSRWLockShared(Slim *slim)
+{
+    take(slim, true, UINT32_MAX, __func__);
+    kz_go_on_or_end();
+}
+
+unsigned char TryAcquireSRWLockExclusive(Slim *slim);
+unsigned char TryAcquireSRWLockExclusive(Slim *slim)
+{
+    return take(slim, false, 0, __func__);
+}
+
+unsigned char TryAcquireSRWLockShared(Slim *slim);
+unsigned char TryAcquireSRWLockShared(Slim *slim)
+{
+    return take(slim, true, 0, __func__);
+}
+
+void ReleaseSRWLockExclusive(Slim *slim);
+void ReleaseSRWLockExclusive(Slim *slim)
+{
+    give(slim, __func__);
+}
+
+void ReleaseSRWLockShared(Slim *slim);
+void ReleaseSRWLockShared(Slim *slim)
+{
+    give(slim, __func__);
+}
+
+/* ---- Bytes. One that is locked already fails at once, also where it would be waited for: nothing is told then, since the file system here never waits. */
+static int lock(void *handle, uint8_t minor, uint8_t flags, uint64_t from, uint64_t length, const char *call)
+{
+    int is_right = 0;
+    {
+        KZ_CALL_OF(call);
+        KzObject *object = kz_object(handle, KZU_FILE);
+        KzAnswer answer;
+        const KzAsked asked = {.major = IRP_MJ_LOCK_CONTROL, .minor = minor, .flags = flags, .from = from, .length = length};
+        NTSTATUS status = object ? kz_ask_opened(object->file, &asked, &answer) : STATUS_INVALID_HANDLE;
+        is_right = NT_SUCCESS(status) ? 1 : kz_failed(kz_win32_of(status));
+    }
+    kz_go_on_or_end();
+    return is_right;
+}
+
+static uint64_t whole(uint32_t low, uint32_t high)
+{
+    return (uint64_t)high << 32 | low;
+}
+
+int LockFileEx(void *handle, uint32_t flags, uint32_t reserved, uint32_t low, uint32_t high, KzOverlapped *overlapped);
+int LockFileEx(void *handle, uint32_t flags, uint32_t reserved, uint32_t low, uint32_t high, KzOverlapped *overlapped)
+{
+    (void)reserved;
+    uint8_t asked = (uint8_t)(SL_FAIL_IMMEDIATELY | (flags & 2 ? SL_EXCLUSIVE_LOCK : 0)); /* LOCKFILE_EXCLUSIVE_LOCK */
+    return lock(handle, IRP_MN_LOCK, asked, overlapped->offset, whole(low, high), __func__);
+}
+
+int UnlockFileEx(void *handle, uint32_t reserved, uint32_t low, uint32_t high, KzOverlapped *overlapped);
+int UnlockFileEx(void *handle, uint32_t reserved, uint32_t low, uint32_t high, KzOverlapped *overlapped)
+{
+    (void)reserved;
+    return lock(handle, IRP_MN_UNLOCK_SINGLE, 0, overlapped->offset, whole(low, high), __func__);
+}
+
+int LockFile(void *handle, uint32_t from_low, uint32_t from_high, uint32_t low, uint32_t high);
+int LockFile(void *handle, uint32_t from_low, uint32_t from_high, uint32_t low, uint32_t high)
+{
+    return lock(handle, IRP_MN_LOCK, SL_FAIL_IMMEDIATELY | SL_EXCLUSIVE_LOCK, whole(from_low, from_high), whole(low, high), __func__);
+}
+
+int UnlockFile(void *handle, uint32_t from_low, uint32_t from_high, uint32_t low, uint32_t high);
+int UnlockFile(void *handle, uint32_t from_low, uint32_t from_high, uint32_t low, uint32_t high)
+{
+    return lock(handle, IRP_MN_UNLOCK_SINGLE, 0, whole(from_low, from_high), whole(low, high), __func__);
+}

@@ -1,0 +1,88 @@
+#!/usr/bin/env python3
+"""c/tests/points.txt beside the headers and the host: points.py. Each routine that c/include declares and the host has, or that a routine table has (kz*routines.h), stands once in that file: under
+`seen` where it changes or reads what another client can tell, under `own` where nobody else can. Each under `seen` that is modelled is a point, at which another client may go on first (KZ_CALL), and
+none under `own` is. It ends with 1 where something differs, and says each difference in a sentence. `points.py --print` prints what the host has."""
+import glob
+import re
+import subprocess
+import sys
+
+HOST = sorted(glob.glob("c/host/*/*.c"))
+ROUTINE = re.compile(r"^(?:[A-Za-z_][\w \*]*?[ \*])(\w+)\(([^;{}]*)\)\n\{\n(.*?)^\}", re.M | re.S)
+DEPTH = 3
+
+
+def read(path):
+    """The text of a file."""
+    with open(path, encoding="utf-8") as file:
+        return file.read()
+
+
+def tabled():
+    """The routines that are declared and aren't modelled."""
+    texts = [read(path) for path in glob.glob("c/include/kz*routines.h")]
+    return {name for text in texts for name in re.findall(r"^KZ_ROUTINE\([^,]*, [^,]*, \w+, (\w+)", text, re.M)}
+
+
+def declared():
+    """The names in front of a parenthesis in what the headers declare."""
+    found = set()
+    for path in glob.glob("c/include/*.h"):
+        found |= set(re.findall(r"\b([A-Z]\w+)\(", re.sub(r"^[ \t]*#(?:\\\n|.)*$", "", read(path), flags=re.M)))
+    return found
+
+
+def modelled():
+    """What the host defines, by its objects."""
+    folder = subprocess.run(["c/libraries.sh", "host"], check=True, capture_output=True, text=True).stdout.strip()
+    said = subprocess.run(["nm", "--defined-only", *glob.glob(f"{folder}/host/*/*.o")], check=True, capture_output=True, text=True).stdout
+    return set(re.findall(r" T ([A-Z]\w+)$", said, re.M))
+
+
+def bodies():
+    """Each function of the host with its body."""
+    return {name: body for path in HOST for name, _, body in ROUTINE.findall(read(path))}
+
+
+def is_point(name, all_bodies, depth=DEPTH):
+    """Whether another client may go on first where it is called: it says so, or goes straight on to one that does."""
+    body = all_bodies.get(name, "")
+    if re.search(r"\bKZ_CALL(_OF|_FROM)?\(", body):
+        return True
+    if "KZ_INSIDE" in body or not depth:
+        return False
+    return any(is_point(called, all_bodies, depth - 1) for called in re.findall(r"\b(\w+)\(", body) if called != name and called in all_bodies)
+
+
+def classes():
+    """The classes of the file, each a list of names."""
+    found, name = {"seen": [], "own": []}, None
+    for line in read("c/tests/points.txt").split("\n"):
+        words = line.partition("#")[0].split()
+        if words and words[0].endswith(":"):
+            name = words.pop(0)[:-1]
+        for word in words:
+            found[name].append(word)
+    return found
+
+
+def main():
+    """Compares."""
+    table, all_bodies = tabled(), bodies()
+    unmodelled = set(re.findall(r"\b([A-Z]\w+)\(", read("c/host/kit/unmodelled.c"))) | table
+    wanted = (modelled() & declared()) | table
+    points = {name for name in wanted - unmodelled if is_point(name, all_bodies)}
+    if sys.argv[1:] == ["--print"]:
+        print("\n".join(f"{name} {'unmodelled' if name in unmodelled else 'point' if name in points else 'none'}" for name in sorted(wanted)))
+        return 0
+    found = classes()
+    said = [f"{name} stands in no class" for name in sorted(wanted - set(found["seen"]) - set(found["own"]))]
+    said += [f"{name} is no routine of the headers" for name in sorted((set(found["seen"]) | set(found["own"])) - wanted)]
+    said += [f"{name} stands there twice" for name in sorted(wanted) if found["seen"].count(name) + found["own"].count(name) > 1]
+    said += [f"{name} is seen by others, and no point" for name in sorted(set(found["seen"]) & wanted - unmodelled - points)]
+    said += [f"{name} is seen by nobody else, and a point" for name in sorted(set(found["own"]) & points)]
+    print("".join(f"c/tests/points.txt: {sentence}\n" for sentence in said), end="")
+    return 1 if said else 0
+
+
+sys.exit(main())

@@ -1,0 +1,32 @@
+/* A program that says what the event of an overlapped structure is once a message is asked for, and which errors two creates leave. */
+#include <windows.h>
+#include <fltUser.h>
+#include <stdio.h>
+
+int main(void)
+{
+    struct {
+        FILTER_MESSAGE_HEADER header;
+        ULONG body;
+    } message;
+    OVERLAPPED overlapped = {0};
+    HANDLE port, file;
+    HRESULT result;
+
+    if (FAILED(FilterConnectCommunicationPort(L"\\Statements", 0, NULL, 0, NULL, &port))) {
+        return 1;
+    }
+    overlapped.hEvent = CreateEventW(NULL, TRUE, TRUE, NULL);
+    result = FilterGetMessage(port, &message.header, sizeof message, &overlapped);
+    printf("13 a message is asked for with an event that is set: %08lx, the event is %s\n", (unsigned long)result, WaitForSingleObject(overlapped.hEvent, 0) == WAIT_TIMEOUT ? "reset" : "set");
+    CancelIo(port);
+    file = CreateFileA("C:\\busy", GENERIC_READ, 0, NULL, OPEN_EXISTING, 0, NULL);
+    printf("14 STATUS_DEVICE_BUSY: %s, error %lu\n", file == INVALID_HANDLE_VALUE ? "not opened" : "opened", GetLastError());
+    CloseHandle(CreateFileA("C:\\kept", GENERIC_WRITE, 0, NULL, CREATE_NEW, 0, NULL));
+    file = CreateFileA("C:\\kept", GENERIC_WRITE, 0, NULL, CREATE_ALWAYS, 0, NULL);
+    printf("15 CREATE_ALWAYS of a file that is there: %s, error %lu\n", file == INVALID_HANDLE_VALUE ? "not opened" : "opened", GetLastError());
+    CloseHandle(file);
+    CloseHandle(overlapped.hEvent);
+    CloseHandle(port);
+    return 0;
+}

@@ -1,21 +1,18 @@
 //! Reads that their clients leave behind, until the server has room for little else.
 
 use crate::lines::comes;
-use crate::peer::{exchange, follow, is_done, send};
+use crate::peer::{exchange, follow, is_done, leave, send, taken};
 use crate::steps::{FULL, KEEPS};
 use fm_cli::Front;
 use std::alloc::Global;
 use std::net::{Net, TcpListener, TcpStream};
 use std::os::unix::net::UnixStream;
-use std::thread;
-use std::time::{Clock, Duration};
+use std::time::Clock;
 
-/// How many clients leave a read behind at once, how often they do so at most, and how many milliseconds later their places are free.
+/// How many clients leave a read behind at once, and how often they do so at most.
 const CLIENTS: usize = 28;
 
 const ROUNDS: u32 = 40;
-
-const REST: u64 = 300;
 
 /// What the list of the files is then: x and z.
 const LISTED: &str = "status 0 info 4 bytes 780a7a0a\n";
@@ -31,18 +28,21 @@ fn ask_to_read(alloc: Global, stream: &UnixStream) -> Option<bool> {
     Some(true)
 }
 
-// Clients that leave a read behind each. False if one of them was refused.
+// Clients that leave a read behind each, and whose connections have ended. False if one of them was refused.
 fn leave_reads<R>(rt: &R, alloc: Global, at: &Front) -> Option<bool>
 where
-    R: Net<Listener = TcpListener, Stream = TcpStream>,
+    R: Net<Listener = TcpListener, Stream = TcpStream> + Clock,
 {
     let mut streams = Vec::new(alloc);
     for _ in 0..CLIENTS {
-        let stream = UnixStream::connect(rt, at.socket).ok()?;
+        let stream = taken(rt, alloc, at)?;
         if !ask_to_read(alloc, &stream)? {
             return Some(false);
         }
         streams.push(stream).ok()?;
+    }
+    for stream in &streams {
+        leave(stream)?;
     }
     Some(true)
 }
@@ -56,7 +56,6 @@ where
         if !leave_reads(rt, alloc, at)? {
             return Some(true);
         }
-        thread::sleep(rt, Duration::from_millis(REST));
     }
     Some(false)
 }
@@ -67,7 +66,7 @@ where
     R: Net<Listener = TcpListener, Stream = TcpStream> + Clock,
 {
     let mut streams = Vec::new(alloc);
-    streams.push(UnixStream::connect(rt, at.socket).ok()?).ok()?;
+    streams.push(taken(rt, alloc, at)?).ok()?;
     let is_well = follow(alloc, streams.as_slice(), &KEEPS)
         && fill(rt, alloc, at)?
         && follow(alloc, streams.as_slice(), &FULL)

@@ -1,7 +1,7 @@
 //! A create whose client is gone before a filter lets it go: the handle that it opens is closed by whoever takes its answer. That is seen by another client, who
 //! marks the file for deletion: it goes with its last handle.
 
-use crate::peer::{Step, exchange, follow, is_done, send};
+use crate::peer::{Step, exchange, follow, is_done, leave, send, taken};
 use crate::server::{Filters, goes_well};
 use fm_cli::Front;
 use std::alloc::Global;
@@ -9,9 +9,6 @@ use std::net::{Net, TcpListener, TcpStream};
 use std::os::unix::net::UnixStream;
 use std::thread;
 use std::time::{Clock, Duration};
-
-/// How many milliseconds the server has to see that a client is gone, and to end its connection.
-const REST: u64 = 500;
 
 /// How often something is looked for, ten milliseconds apart.
 const ASKS: usize = 500;
@@ -38,11 +35,9 @@ fn leave_create<R>(rt: &R, alloc: Global, at: &Front, name: &str) -> Option<()>
 where
     R: Net<Listener = TcpListener, Stream = TcpStream> + Clock,
 {
-    let stream = UnixStream::connect(rt, at.socket).ok()?;
+    let stream = taken(rt, alloc, at)?;
     send(alloc, &stream, &["create", "0", "new", name])?;
-    drop(stream);
-    thread::sleep(rt, Duration::from_millis(REST));
-    Some(())
+    leave(&stream)
 }
 
 // Whether the file of that name is there. Its name is one letter.
@@ -91,7 +86,7 @@ where
     R: Net<Listener = TcpListener, Stream = TcpStream> + Clock,
 {
     for _ in 0..ASKS {
-        let other = UnixStream::connect(rt, at.socket).ok()?;
+        let other = taken(rt, alloc, at)?;
         if !is_there(alloc, &other, name)? {
             return Some(true);
         }
@@ -107,7 +102,7 @@ where
     R: Net<Listener = TcpListener, Stream = TcpStream> + Clock,
 {
     let mut streams = Vec::new(alloc);
-    streams.push(UnixStream::connect(rt, at.socket).ok()?).ok()?;
+    streams.push(taken(rt, alloc, at)?).ok()?;
     let is_begun = follow(alloc, streams.as_slice(), &FLUSHED);
     leave_create(rt, alloc, at, "x")?;
     let stream = streams.first()?;
@@ -125,7 +120,7 @@ where
     R: Net<Listener = TcpListener, Stream = TcpStream> + Clock,
 {
     let mut streams = Vec::new(alloc);
-    streams.push(UnixStream::connect(rt, at.socket).ok()?).ok()?;
+    streams.push(taken(rt, alloc, at)?).ok()?;
     let is_begun = follow(alloc, streams.as_slice(), &FLUSHED);
     leave_create(rt, alloc, at, "x")?;
     let stream = streams.first()?;
@@ -144,16 +139,15 @@ where
     R: Net<Listener = TcpListener, Stream = TcpStream> + Clock,
 {
     let mut streams = Vec::new(alloc);
-    streams.push(UnixStream::connect(rt, at.socket).ok()?).ok()?;
+    streams.push(taken(rt, alloc, at)?).ok()?;
     let is_begun = follow(alloc, streams.as_slice(), &CLEANED_UP);
     let stream = streams.first()?;
     for name in ["p", "q", "r", "s", "t"] {
-        let other = UnixStream::connect(rt, at.socket).ok()?;
+        let other = taken(rt, alloc, at)?;
         exchange(alloc, &other, &["create", "0", "always", "a"])?;
         exchange(alloc, &other, &["create", "0", "always", "b"])?;
         leave_create(rt, alloc, at, name)?;
-        drop(other);
-        thread::sleep(rt, Duration::from_millis(REST));
+        leave(&other)?;
         if delete(rt, alloc, stream, name)? && !is_there(alloc, stream, name)? {
             return Some(is_begun);
         }

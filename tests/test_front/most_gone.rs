@@ -1,7 +1,7 @@
 //! As many reads as may be there of clients that are gone, by the number. One client stays, and hears by its own connection alone what has become of them: at the
 //! end of another one the server would look at them too.
 
-use crate::peer::{Step, exchange, follow, is_done, send};
+use crate::peer::{Step, exchange, follow, is_done, leave, send, taken};
 use crate::server::{Filters, goes_well};
 use fm_cli::Front;
 use std::alloc::Global;
@@ -29,15 +29,18 @@ const STAYS: [Step; 4] = [
 // Clients that leave a read behind each: the file's handle is the server's to close, and the read is the filter's to let go.
 fn leave_reads<R>(rt: &R, alloc: Global, at: &Front) -> Option<()>
 where
-    R: Net<Listener = TcpListener, Stream = TcpStream>,
+    R: Net<Listener = TcpListener, Stream = TcpStream> + Clock,
 {
     let mut streams = Vec::new(alloc);
     for _ in 0..CLIENTS {
-        let stream = UnixStream::connect(rt, at.socket).ok()?;
+        let stream = taken(rt, alloc, at)?;
         let (_, handle, _) = exchange(alloc, &stream, &["create", "0", "always", "z"])?;
         let handle = format!(in alloc; "{}", handle).ok()?;
         send(alloc, &stream, &["read", handle.as_str(), "0", "1"])?;
         streams.push(stream).ok()?;
+    }
+    for stream in &streams {
+        leave(stream)?;
     }
     Some(())
 }
@@ -59,11 +62,10 @@ where
     R: Net<Listener = TcpListener, Stream = TcpStream> + Clock,
 {
     let mut streams = Vec::new(alloc);
-    streams.push(UnixStream::connect(rt, at.socket).ok()?).ok()?;
+    streams.push(taken(rt, alloc, at)?).ok()?;
     let is_begun = follow(alloc, streams.as_slice(), &STAYS);
     for _ in 0..ROUNDS {
         leave_reads(rt, alloc, at)?;
-        thread::sleep(rt, Duration::from_millis(300));
     }
     let stream = streams.first()?;
     Some(

@@ -1,10 +1,14 @@
 //! A connection that is kept, and what it asks step by step.
 
-use fm_cli::request_of;
+use crate::lines::LOOKS;
+use fm_cli::{Front, request_of};
 use fm_wire::encode;
 use std::alloc::Global;
 use std::io::{Read, Write};
+use std::net::{Net, Shutdown, TcpListener, TcpStream};
 use std::os::unix::net::UnixStream;
+use std::thread;
+use std::time::{Clock, Duration};
 
 /// Which connection asks, the words of its request, and the reply: its status, what it says beside it, and its bytes.
 pub type Step = (usize, &'static [&'static str], u8, u64, &'static [u8]);
@@ -43,6 +47,33 @@ pub fn take(alloc: Global, stream: &UnixStream) -> Option<(u8, u64, Vec<u8>)> {
 pub fn exchange(alloc: Global, stream: &UnixStream, words: &[&str]) -> Option<(u8, u64, Vec<u8>)> {
     send(alloc, stream, words)?;
     take(alloc, stream)
+}
+
+/// A connection that the server has taken: it is tried until it is answered, since one that has just ended may still count.
+pub fn taken<R>(rt: &R, alloc: Global, at: &Front) -> Option<UnixStream>
+where
+    R: Net<Listener = TcpListener, Stream = TcpStream> + Clock,
+{
+    for _ in 0..LOOKS {
+        let stream = UnixStream::connect(rt, at.socket).ok()?;
+        if exchange(alloc, &stream, &["list", "0"]).is_some() {
+            return Some(stream);
+        }
+        thread::sleep(rt, Duration::from_millis(1));
+    }
+    None
+}
+
+/// Sends no more, and waits until the server has ended the connection.
+pub fn leave(stream: &UnixStream) -> Option<()> {
+    stream.shutdown(Shutdown::Write).ok()?;
+    let mut reader = stream;
+    while let Ok(count) = reader.read(&mut [0; 64]) {
+        if count == 0 {
+            break;
+        }
+    }
+    Some(())
 }
 
 /// Whether a request is done, and its reply says no more.

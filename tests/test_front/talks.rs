@@ -1,8 +1,8 @@
 //! What clients do with a server until it ends.
 
 use crate::abandoned::abandoned;
-use crate::lines::{DONE, LOOKS, Line, ask, ask_all, comes, wait_for_server};
-use crate::peer::{exchange, follow, is_done, send, take};
+use crate::lines::{DONE, Line, ask, ask_all, comes, wait_for_server};
+use crate::peer::{exchange, follow, is_done, send, take, taken};
 use crate::steps::{BEGINS, CLOSES, ENDS, HOLDS, OWN, REFUSED, SHARES, WRITES};
 use fm_cli::Front;
 use std::alloc::{AllocError, Global};
@@ -11,7 +11,7 @@ use std::net::{Net, Shutdown, TcpListener, TcpStream};
 use std::os::unix::net::UnixStream;
 use std::rt::Files;
 use std::time::{Clock, Duration};
-use std::{fs, thread};
+use std::fs;
 
 /// How many milliseconds a reply is waited for that may not come, and how often a file is flushed then.
 const PATIENCE: u64 = 30;
@@ -47,21 +47,6 @@ pub enum Talk {
     Abandoned(&'static [&'static str]),
 }
 
-// A connection that the server has taken: it is tried until it is answered, since one that has just ended may still count.
-fn taken<R>(rt: &R, alloc: Global, at: &Front) -> Option<UnixStream>
-where
-    R: Net<Listener = TcpListener, Stream = TcpStream> + Clock,
-{
-    for _ in 0..LOOKS {
-        let stream = UnixStream::connect(rt, at.socket).ok()?;
-        if exchange(alloc, &stream, &["list", "0"]).is_some() {
-            return Some(stream);
-        }
-        thread::sleep(rt, Duration::from_millis(1));
-    }
-    None
-}
-
 // So many connections.
 fn connect<R>(rt: &R, alloc: Global, at: &Front, count: usize) -> Option<Vec<UnixStream>>
 where
@@ -94,7 +79,7 @@ fn cut<R>(rt: &R, alloc: Global, at: &Front) -> Option<bool>
 where
     R: Net<Listener = TcpListener, Stream = TcpStream> + Clock,
 {
-    let stream = UnixStream::connect(rt, at.socket).ok()?;
+    let stream = taken(rt, alloc, at)?;
     exchange(alloc, &stream, &["create", "0", "always", "x"])?;
     exchange(alloc, &stream, &["setdelete", "0"])?;
     let (_, listed) = ask(rt, alloc, at, &["list", "0"]);
@@ -111,9 +96,9 @@ where
 // A client that sends no more sees the end of its connection once its handles are closed: the file that was to go with one is gone then.
 fn is_closed_at_its_end<R>(rt: &R, alloc: Global, at: &Front) -> Option<bool>
 where
-    R: Net<Listener = TcpListener, Stream = TcpStream>,
+    R: Net<Listener = TcpListener, Stream = TcpStream> + Clock,
 {
-    let stream = UnixStream::connect(rt, at.socket).ok()?;
+    let stream = taken(rt, alloc, at)?;
     exchange(alloc, &stream, &["create", "0", "always", "y"])?;
     exchange(alloc, &stream, &["setdelete", "1"])?;
     stream.shutdown(Shutdown::Write).ok()?;
@@ -189,9 +174,9 @@ where
 // A Stop, once nothing leads to the server any more.
 fn removed<R>(rt: &R, alloc: Global, at: &Front) -> Option<bool>
 where
-    R: Files + Net<Listener = TcpListener, Stream = TcpStream>,
+    R: Files + Net<Listener = TcpListener, Stream = TcpStream> + Clock,
 {
-    let stream = UnixStream::connect(rt, at.socket).ok()?;
+    let stream = taken(rt, alloc, at)?;
     fs::remove_file(rt, at.socket).ok()?;
     Some(is_done(alloc, &stream, &["stop"]))
 }

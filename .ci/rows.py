@@ -21,8 +21,8 @@ TOP = pathlib.Path(__file__).resolve().parent.parent
 # Which crates are asked first, of those whose tests stand above the crate: what is nearest shows most.
 FIRST = {
     "fm_base": ["test_leaves", "test_local"],
-    "fm_data": ["test_local", "test_core"],
-    "fm_exec": ["test_server"],
+    "fm_callback_data": ["test_local", "test_core"],
+    "fm_local_exec": ["test_server"],
     "fm_local": ["test_local"],
     "fm_samples": ["test_local", "test_worker"],
     "fm_script": ["test_script", "examples"],

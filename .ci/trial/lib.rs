@@ -3,7 +3,7 @@
 
 ghost use Rattle.std.specs.Prelude.{◌≡◌};
 
-use fm_data::{CallbackData, Completion, Params, PostVerdict, PreVerdict};
+use fm_callback_data::{CallbackData, Completion, Params, PostVerdict, PreVerdict};
 use fm_filter::{Agreeable, Port};
 use fm_types::{Bytes, ContextKind, ContextMask, CtxId, Name, OpMask, Registration, Status};
 use std::alloc::Global;

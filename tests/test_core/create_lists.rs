@@ -8,7 +8,7 @@ use crate::lines::{
 };
 use crate::told::Told;
 use fm_ctx::Count;
-use fm_data::PostVerdict;
+use fm_callback_data::PostVerdict;
 use fm_types::{ContextKind, Operation, Status};
 
 const DONE: PostVerdict = PostVerdict::Finished;

@@ -2,14 +2,14 @@
 //! one volume, and of one file there with its first handle.
 
 ghost use Rattle.std.specs.Prelude.{◌≡◌, IfOk};
-ghost use Rattle.fm_data.specs.Data.{fresh_data};
+ghost use Rattle.fm_callback_data.specs.Data.{fresh_data};
 
 use fm_altitude::Altitude;
 use fm_ctx::SetMode;
-use fm_data::{
+use fm_callback_data::{
     Answer, BaseCall, CallbackData, FileRequest, Params, PostVerdict, PreVerdict, Request,
 };
-use fm_flow::Hold;
+use fm_operations::Hold;
 use fm_types::{
     Bytes, ContextKind, ContextMask, CreateMode, CtxId, FilterId, HandleId, InstanceId, Name, OpId,
     OpMask, Operation, Registration, RelPath, SharedPath, Status, VolumeId, WorkerId,

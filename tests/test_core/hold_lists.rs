@@ -7,8 +7,8 @@ use crate::lines::{
     SECOND, THIRD, WITH, WITH_CONTEXT,
 };
 use crate::told::Told;
-use fm_data::{Completion, PostVerdict, PreVerdict};
-use fm_flow::Hold;
+use fm_callback_data::{Completion, PostVerdict, PreVerdict};
+use fm_operations::Hold;
 use fm_types::{ContextKind, CtxId, OpId, Operation, Status, WorkerId};
 
 const FOURTH: OpId = OpId(3);

@@ -4,7 +4,7 @@ use crate::events::{CONTEXT, Event, WORKER, step_of};
 use crate::told::{Told, told_by};
 use fm_core::State;
 use fm_ctx::Count;
-use fm_data::{Completion, PreVerdict};
+use fm_callback_data::{Completion, PreVerdict};
 use fm_stack::{FilterPhase, Phase};
 use fm_types::{FilterId, InstanceId, OpId, Operation, Status, WorkerId};
 use fm_world::Step;

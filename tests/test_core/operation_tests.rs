@@ -6,7 +6,7 @@ use crate::lines::{FILTER, MOUNTED, REGISTERED, go_through};
 use fm_altitude::Altitude;
 use fm_base::{Base, MemoryBase};
 use fm_core::{Action, State};
-use fm_data::{
+use fm_callback_data::{
     Answer, BaseCall, CallbackData, Completion, FileRequest, Params, PostVerdict, PreVerdict,
     Request,
 };

@@ -7,7 +7,7 @@ use crate::lines::{
 };
 use crate::told::Told;
 use fm_core::{Action, State};
-use fm_data::{Answer, BaseCall, CallbackData, Params, PostVerdict, PreVerdict};
+use fm_callback_data::{Answer, BaseCall, CallbackData, Params, PostVerdict, PreVerdict};
 use fm_types::{Bytes, Operation, Status};
 use std::alloc::Global;
 use std::process::Abort;

@@ -6,7 +6,7 @@ use crate::lines::{
     ATTACHED, BAD, FILTER, FIRST, IDLE, Line, List, NOBODY, OTHER, REGISTERED, WITH_CONTEXT,
 };
 use crate::told::Told;
-use fm_data::PostVerdict;
+use fm_callback_data::PostVerdict;
 use fm_stack::{FilterPhase, Phase};
 use fm_types::{ContextKind, FilterId, InstanceId, Operation, Status, WorkerId};
 

@@ -1,8 +1,8 @@
 //! What a reply tells, as a value that can be compared.
 
 use fm_ctx::Due;
-use fm_data::Answer;
-use fm_flow::FlowAction;
+use fm_callback_data::Answer;
+use fm_operations::FlowAction;
 use fm_types::{CtxId, HandleId, OpId, Status};
 use fm_world::{SetAnswer, StepReply};
 

@@ -2,9 +2,9 @@
 
 ghost use Rattle.std.specs.Prelude.{◌≡◌};
 
-use fm_data::{CallbackData, Completion, Params, PostVerdict, PreVerdict};
+use fm_callback_data::{CallbackData, Completion, Params, PostVerdict, PreVerdict};
 use fm_filter::{Agreeable, Port};
-use fm_flow::Hold;
+use fm_operations::Hold;
 use fm_types::{ContextKind, ContextMask, CreateMode, Name, OpMask, Registration, Status};
 use std::alloc::Global;
 

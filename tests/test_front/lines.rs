@@ -1,7 +1,7 @@
 //! Requests that each are a connection of their own, as the client program makes them.
 
 use fm_cli::Front;
-use fm_front::client;
+use fm_socket::client;
 use std::alloc::Global;
 use std::net::{Net, TcpListener, TcpStream};
 use std::thread;

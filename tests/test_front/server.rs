@@ -3,7 +3,7 @@
 use crate::holder::holders;
 use crate::lines::{DONE, comes, wait_for_server};
 use fm_cli::Front;
-use fm_front::{front, front_with, prepare};
+use fm_socket::{front, front_with, prepare};
 use std::alloc::{AllocError, Global};
 use std::net::{Net, TcpListener, TcpStream};
 use std::rt::Files;

@@ -3,7 +3,7 @@
 use crate::lines::{DISMOUNT, FILTERS, LOADED, ROUND};
 use crate::talks::{Talk, converse};
 use fm_cli::{Fault, Front};
-use fm_front::{Endpoint, Folder, front, front_with, prepare};
+use fm_socket::{Endpoint, Folder, front, front_with, prepare};
 use own_filter::filters;
 use std::alloc::{AllocError, Global};
 use std::net::{Net, TcpListener, TcpStream};

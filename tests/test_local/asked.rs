@@ -1,6 +1,6 @@
 //! Requests as data, and what they are answered.
 
-use fm_data::{FileRequest, Reply, Request};
+use fm_callback_data::{FileRequest, Reply, Request};
 use fm_types::{Bytes, CreateMode, HandleId, RelPath, SharedPath, Status, VolumeId};
 use std::alloc::Global;
 use std::process::Abort;

@@ -1,6 +1,6 @@
 //! A filter that asks for its postoperations, of any worker or of its own.
 
-use fm_data::{CallbackData, Completion, PostVerdict, PreVerdict};
+use fm_callback_data::{CallbackData, Completion, PostVerdict, PreVerdict};
 use fm_filter::{Agreeable, Port};
 use fm_types::{ContextKind, ContextMask, OpMask, Registration};
 

@@ -3,7 +3,7 @@
 ghost use Rattle.std.specs.Prelude.{◌≡◌};
 
 use fm_core::{Hold, SetMode};
-use fm_data::{CallbackData, Completion, Params, PostVerdict, PreVerdict};
+use fm_callback_data::{CallbackData, Completion, Params, PostVerdict, PreVerdict};
 use fm_filter::{Minifilter, Port};
 use fm_types::{Bytes, ContextKind, ContextMask, CtxId, OpMask, Registration};
 use std::alloc::Global;

@@ -1,6 +1,6 @@
 //! A filter that declines what it is asked.
 
-use fm_data::{CallbackData, Completion, PostVerdict, PreVerdict};
+use fm_callback_data::{CallbackData, Completion, PostVerdict, PreVerdict};
 use fm_filter::{Minifilter, Port};
 use fm_types::{ContextKind, ContextMask, OpMask, Registration};
 

@@ -1,7 +1,7 @@
 //! What filters see of the one-thread manager, by the lists that all managers are held to.
 
 use fm_base::MemoryBase;
-use fm_data::Reply;
+use fm_callback_data::Reply;
 use fm_local::LocalManager;
 use fm_types::limits::OPERATIONS;
 use fm_types::{Name, Status};

@@ -2,7 +2,7 @@
 
 use fm_altitude::Altitude;
 use fm_base::{Base, MemoryBase};
-use fm_data::{FileRequest, Reply, Request};
+use fm_callback_data::{FileRequest, Reply, Request};
 use fm_filter::Either;
 use fm_host::HostBase;
 use fm_local::LocalManager;

@@ -3,7 +3,7 @@
 ghost use Rattle.std.specs.Prelude.{◌≡◌};
 
 use fm_core::{About, AboutOperation};
-use fm_data::{CallbackData, Completion, PostVerdict, PreVerdict};
+use fm_callback_data::{CallbackData, Completion, PostVerdict, PreVerdict};
 use fm_filter::{Agreeable, Port};
 use fm_types::{Bytes, ContextKind, ContextMask, OpMask, Operation, Registration, Status};
 use std::alloc::{AllocError, Global};

@@ -1,6 +1,6 @@
 //! The sample that counts, with a report that tells reads and writes apart.
 
-use fm_data::{CallbackData, Completion, PostVerdict, PreVerdict};
+use fm_callback_data::{CallbackData, Completion, PostVerdict, PreVerdict};
 use fm_filter::{Agreeable, Port};
 use fm_samples::Meter;
 use fm_types::{ContextKind, Registration};

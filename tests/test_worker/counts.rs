@@ -7,7 +7,7 @@ use crate::fixture::{
     LOOKS, MemoryWorker, Numbers, Workers, attach, begin, collect, create, end, folder, hands_of,
     make_workers, mounted, on_file, read,
 };
-use fm_data::FileRequest;
+use fm_callback_data::FileRequest;
 use fm_lock::Manager;
 use fm_queue::JobQueue;
 use fm_samples::{Meter, Sample};

@@ -10,7 +10,7 @@ use crate::fixture::{
 };
 use crate::same_worker::{Tied, Watch, filters};
 use crate::ties::Ties;
-use fm_data::{Answer, FileRequest};
+use fm_callback_data::{Answer, FileRequest};
 use fm_lock::Manager;
 use fm_queue::JobQueue;
 use fm_types::limits::PARTS;

@@ -6,7 +6,7 @@ ghost use Rattle.fm_lock.specs.Blanks.{IsBlankOf};
 
 use fm_altitude::Altitude;
 use fm_base::MemoryBase;
-use fm_data::{Answer, FileRequest, Request};
+use fm_callback_data::{Answer, FileRequest, Request};
 use fm_device::{Bases, Device};
 use fm_filter::Minifilter;
 use fm_lock::{Hand, Manager};

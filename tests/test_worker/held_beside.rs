@@ -6,8 +6,8 @@ ghost use Rattle.fm_lock.specs.Blanks.{IsBlankOf};
 use crate::fixture::{
     MemoryWorker, attach, carried, collect, create, mounted, new_worker, read, work_off,
 };
-use fm_data::PreVerdict;
-use fm_flow::FlowAction;
+use fm_callback_data::PreVerdict;
+use fm_operations::FlowAction;
 use fm_lock::Manager;
 use fm_queue::JobQueue;
 use fm_samples::{Hold, Sample};

@@ -7,7 +7,7 @@ use crate::fixture::{
     MemoryWorker, Numbers, Workers, attach, begin, carried, collect, create, end, folder, hands_of,
     make_workers, mounted, on_file, read, work_off,
 };
-use fm_data::FileRequest;
+use fm_callback_data::FileRequest;
 use fm_lock::Manager;
 use fm_queue::JobQueue;
 use fm_samples::{Hold, Sample};

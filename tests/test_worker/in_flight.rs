@@ -7,8 +7,8 @@ ghost use Rattle.fm_lock.specs.Blanks.{IsBlankOf};
 use crate::fixture::{
     MemoryWorker, VOLUME, alone, attach, create, mounted, new_worker, shift, write,
 };
-use fm_data::{CallbackData, PreVerdict};
-use fm_flow::FlowAction;
+use fm_callback_data::{CallbackData, PreVerdict};
+use fm_operations::FlowAction;
 use fm_lock::{Hand, Manager};
 use fm_queue::JobQueue;
 use fm_rundown::{GateSeat, RundownGate};

@@ -9,7 +9,7 @@ use crate::fixture::{
 };
 use crate::same_worker::{Watch, filters};
 use crate::ties::Ties;
-use fm_data::FileRequest;
+use fm_callback_data::FileRequest;
 use fm_lock::Manager;
 use fm_queue::JobQueue;
 use fm_types::limits::PARTS;

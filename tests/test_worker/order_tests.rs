@@ -6,7 +6,7 @@ ghost use Rattle.fm_rundown.specs.Seats.{IsSeatOf};
 ghost use Rattle.fm_lock.specs.Blanks.{IsBlankOf};
 
 use crate::fixture::{MemoryWorker, mounted, new_worker, work_off};
-use fm_data::{FileRequest, Request};
+use fm_callback_data::{FileRequest, Request};
 use fm_lock::Manager;
 use fm_queue::JobQueue;
 use fm_rundown::{GateSeat, RundownGate};

@@ -9,9 +9,9 @@ use crate::fixture::{
 };
 use crate::same_worker::{Tied, Watch, filters};
 use crate::ties::Ties;
-use fm_data::{Answer, BaseCall, Completion, FileRequest, Params, PostVerdict, PreVerdict};
+use fm_callback_data::{Answer, BaseCall, Completion, FileRequest, Params, PostVerdict, PreVerdict};
 use fm_device::Device;
-use fm_flow::FlowAction;
+use fm_operations::FlowAction;
 use fm_lock::{Hand, Manager};
 use fm_queue::{Job, JobPass, JobQueue};
 use fm_types::limits::PARTS;

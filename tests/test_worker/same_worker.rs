@@ -7,9 +7,9 @@ use crate::fixture::{
     Workers, attach, begin, collect, create, folder, make_workers, mounted, on_file, read, work_off,
 };
 use crate::ties::Ties;
-use fm_data::FileRequest;
+use fm_callback_data::FileRequest;
 use fm_device::Device;
-use fm_flow::FlowAction;
+use fm_operations::FlowAction;
 use fm_lock::Manager;
 use fm_queue::JobQueue;
 use fm_types::limits::PARTS;

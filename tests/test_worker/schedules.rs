@@ -8,7 +8,7 @@ use crate::fixture::{
     hands_of, make_workers, mounted, on_file, read,
 };
 use crate::unlocked::Unlocked;
-use fm_data::FileRequest;
+use fm_callback_data::FileRequest;
 use fm_lock::{Hand, Manager};
 use fm_queue::JobQueue;
 use test_schedule::{Choice, Chooser, Schedule, ScheduleHook, next_path};

@@ -8,7 +8,7 @@ use crate::fixture::{
     read, shift, write,
 };
 use fm_base::Base;
-use fm_data::Answer;
+use fm_callback_data::Answer;
 use fm_lock::Manager;
 use fm_queue::JobQueue;
 use fm_samples::Sample;

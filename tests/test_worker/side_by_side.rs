@@ -7,8 +7,8 @@ use crate::fixture::{
     Folder, MemoryWorker, Workers, attach, begin, collect, create, folder, make_workers, mounted,
     read, shift, write,
 };
-use fm_data::Params;
-use fm_flow::FlowAction;
+use fm_callback_data::Params;
+use fm_operations::FlowAction;
 use fm_lock::Manager;
 use fm_queue::JobQueue;
 use fm_samples::Sample;

@@ -9,7 +9,7 @@ use crate::fixture::{
     new_worker,
 };
 use fm_altitude::Altitude;
-use fm_data::{FileRequest, Request};
+use fm_callback_data::{FileRequest, Request};
 use fm_lock::{Hand, Manager};
 use fm_queue::JobQueue;
 use fm_samples::{Carry, Guard, Hold, Meter, Sample, Shift, Stay};

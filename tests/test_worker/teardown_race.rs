@@ -7,7 +7,7 @@ use crate::fixture::{
     Folder, MemoryWorker, Numbers, Workers, alone, attach, begin, create, end, folder, hands_of,
     make_workers, mounted, on_file, read,
 };
-use fm_data::FileRequest;
+use fm_callback_data::FileRequest;
 use fm_lock::{Hand, Manager};
 use fm_queue::JobQueue;
 use fm_samples::{Carry, Meter, Sample};

@@ -8,7 +8,7 @@ use crate::fixture::{
     on_file, read,
 };
 use crate::teardown_race::{begin_reads, filters, leave, open};
-use fm_data::FileRequest;
+use fm_callback_data::FileRequest;
 use fm_lock::{Hand, Manager};
 use fm_queue::JobQueue;
 use fm_samples::Sample;

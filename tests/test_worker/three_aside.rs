@@ -10,8 +10,8 @@ use crate::fixture::{
 };
 use crate::same_worker::{Watch, filters};
 use crate::ties::Ties;
-use fm_data::{Completion, PreVerdict};
-use fm_flow::FlowAction;
+use fm_callback_data::{Completion, PreVerdict};
+use fm_operations::FlowAction;
 use fm_lock::{Hand, Manager};
 use fm_queue::{Job, JobPass, JobQueue};
 use fm_types::limits::PARTS;

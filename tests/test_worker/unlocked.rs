@@ -2,7 +2,7 @@
 
 ghost use Rattle.std.specs.Prelude.{◌≡◌};
 
-use fm_data::{CallbackData, Completion, PostVerdict, PreVerdict};
+use fm_callback_data::{CallbackData, Completion, PostVerdict, PreVerdict};
 use fm_filter::{Agreeable, Port};
 use fm_types::{ContextKind, ContextMask, OpMask, Registration};
 use std::sync::Arc;

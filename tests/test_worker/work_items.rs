@@ -7,9 +7,9 @@ use crate::fixture::{
     FILE, MemoryWorker, Numbers, Workers, attach, begin, carried, collect, create, end, folder,
     hands_of, make_workers, mounted, on_file, read, work_off,
 };
-use fm_data::{FileRequest, PreVerdict};
+use fm_callback_data::{FileRequest, PreVerdict};
 use fm_filter::{Port, WorkItem};
-use fm_flow::Hold as Held;
+use fm_operations::Hold as Held;
 use fm_lock::Manager;
 use fm_queue::JobQueue;
 use fm_samples::{Hold, Sample};

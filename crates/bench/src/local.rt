@@ -4,7 +4,7 @@
 use crate::a_second;
 use fm_altitude::Altitude;
 use fm_base::{Base, MemoryBase};
-use fm_data::{FileRequest, Reply, Request};
+use fm_callback_data::{FileRequest, Reply, Request};
 use fm_local::LocalManager;
 use fm_samples::{Sample, Shift};
 use fm_types::{

@@ -5,8 +5,8 @@ ghost use Rattle.std.specs.Prelude.{◌≡◌};
 ghost use Rattle.fm_lock.specs.Blanks.{IsBlankOf};
 
 use crate::a_second;
+use fm_callback_data::{Answer, Request};
 use fm_core::{Action, State};
-use fm_data::{Answer, Request};
 use fm_lock::{Hand, Manager};
 use fm_types::limits::PARTS;
 use fm_types::{Bytes, Name, Status, VolumeId, WorkerId};

@@ -1,6 +1,6 @@
 //! Frames: encodes writes of 4,096 bytes, and decodes a stream of such frames that comes in pieces of 65,536 bytes, for so many times 256 frames.
 
-use fm_data::{FileRequest, Request};
+use fm_callback_data::{FileRequest, Request};
 use fm_types::{Bytes, HandleId, Status};
 use fm_wire::{Body, Decoder, Frame, encode};
 use std::alloc::Global;

@@ -8,7 +8,7 @@ use crate::a_second;
 use crate::works::Works;
 use fm_altitude::Altitude;
 use fm_base::MemoryBase;
-use fm_data::{FileRequest, Request};
+use fm_callback_data::{FileRequest, Request};
 use fm_device::Bases;
 use fm_filter::Minifilter;
 use fm_lock::Manager;

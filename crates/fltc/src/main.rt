@@ -2,7 +2,7 @@
 //! memory, with 2 if the words stand for no request, with 3 if the socket fails or the answer is no reply, and with 4 if the reply's status isn't 0.
 #![tactic(auto)]
 
-use fm_front::{CLIENT_USAGE, client, show_usage, texts, words_of};
+use fm_socket::{CLIENT_USAGE, client, show_usage, texts, words_of};
 use std::io;
 use std::process::ExitCode;
 

@@ -2,7 +2,7 @@
 //! no memory or something couldn't be closed, with 2 if the words are none of its own, and with 3 if the folder, the socket or a write fails.
 #![tactic(auto)]
 
-use fm_front::{Invocation, endpoint_of, front};
+use fm_socket::{Invocation, endpoint_of, front};
 use std::io;
 use std::process::ExitCode;
 

@@ -1,12 +1,12 @@
 -- Which words name which request.
 use Rattle.std.specs.Prelude.{◌≡◌, ℕ, cond, nat_lt, List, [], ◌∷◌, length, Option, Some, None, codes, bytes_eq, find}
-use Rattle.fm_data.specs.declared.request.FileRequest.{FileRequest}
-use Rattle.fm_data.specs.declared.request.FileRequest.TheVariants as file
-use Rattle.fm_data.specs.declared.request.Request.TheVariants as request
+use Rattle.fm_callback_data.specs.declared.request.FileRequest.{FileRequest}
+use Rattle.fm_callback_data.specs.declared.request.FileRequest.TheVariants as file
+use Rattle.fm_callback_data.specs.declared.request.Request.TheVariants as request
 use Rattle.fm_wire.specs.declared.frame.Control.TheVariants as control
 use Rattle.fm_wire.specs.declared.frame.Body.{Body}
 use Rattle.fm_wire.specs.declared.frame.Body.TheVariants as body
-use Rattle.fm_text.specs.Numbers.{number_read}
+use Rattle.fm_words.specs.Numbers.{number_read}
 use Rattle.fm_cli.specs.Values.{◌>>=◌, ReadsAltitude, ReadsBytes, ReadsName, ReadsPath, mode_read, number_below}
 use Rattle.fm_cli.specs.declared.verb.Verb.{Verb}
 use Rattle.fm_cli.specs.declared.verb.Verb.TheVariants as verb

@@ -5,8 +5,8 @@ use Rattle.fm_types.specs.Paths.{IsPath}
 use Rattle.fm_types.specs.declared.operation.CreateMode.{CreateMode}
 use Rattle.fm_types.specs.declared.operation.CreateMode.TheVariants.{Existing, New, Always}
 use Rattle.fm_altitude.specs.Grammar.{IsAltitude, canonical}
-use Rattle.fm_text.specs.Hexadecimal.{IsNoHexadecimal, hex_of}
-use Rattle.fm_text.specs.Numbers.{number_read}
+use Rattle.fm_words.specs.Hexadecimal.{IsNoHexadecimal, hex_of}
+use Rattle.fm_words.specs.Numbers.{number_read}
 
 -- what comes next, if there is something
 infixl 10 ◌>>=◌

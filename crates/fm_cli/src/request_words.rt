@@ -10,11 +10,11 @@ use crate::values::{
 };
 use crate::verb::Verb;
 use fm_altitude::Altitude;
-use fm_data::{FileRequest, Request};
-use fm_text::read_number;
+use fm_callback_data::{FileRequest, Request};
 use fm_types::limits::TRANSFER;
 use fm_types::{Bytes, FilterId, HandleId, InstanceId, Name, SharedPath, VolumeId};
 use fm_wire::{Body, Control};
+use fm_words::read_number;
 use std::alloc::{AllocError, Global};
 
 /// What the words after the first one ask for, if they are its words. It fails if there is no memory for a path or for bytes.

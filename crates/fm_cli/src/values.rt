@@ -1,12 +1,12 @@
 //! The values of single words.
 
 ghost use Rattle.std.specs.Prelude.{◌≡◌, ◌<◌, IfOk, MatchOption};
-ghost use Rattle.fm_text.specs.Numbers.{number_read};
+ghost use Rattle.fm_words.specs.Numbers.{number_read};
 ghost use Rattle.fm_cli.specs.Values.{ReadsAltitude, ReadsBytes, ReadsName, ReadsPath, mode_read, number_below};
 
 use fm_altitude::Altitude;
-use fm_text::{read_hex, read_number};
 use fm_types::{Bytes, CreateMode, Name, RelPath, SharedPath};
+use fm_words::{read_hex, read_number};
 use std::alloc::{AllocError, Global};
 
 /// A number below `limit`.

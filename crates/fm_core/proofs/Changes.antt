@@ -1,7 +1,7 @@
 -- Changes of one operation of the table.
 use Rattle.fm_core.proofs.Words.{Bool, List, Some, [], ap, arith, cond, inl, inr, refl, sym, ◌∷◌, ◌∙◌, ◌≡◌, FlowRecord, find}
 use Rattle.std.proofs.lemmas.Bool.{cases_Bool}
-use Rattle.fm_flow.specs.Table.{change_first}
+use Rattle.fm_operations.specs.Table.{change_first}
 
 -- two changes that agree on the operation that is found, and one that leaves it as it is
 pub change_agrees : (test : FlowRecord → Bool) (f g : FlowRecord → FlowRecord) (rs : List FlowRecord) → ((r : FlowRecord) → find test rs ≡ Some r → f r ≡ g r)

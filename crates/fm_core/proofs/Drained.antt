@@ -3,9 +3,9 @@ use Rattle.fm_core.proofs.Words.{IsState, IsTied, MayBring, kept_brought, drains
 use Rattle.fm_core.proofs.Words.{empty_hand, Place, Bool, None, Ok, Option, Some, [], ap, arith, refl, subst, sym, true, ◌+◌, ◌<◌, ◌∙◌, ◌∷◌, ◌≡◌, hand_of}
 use Rattle.fm_core.proofs.Words.{Leaves, ContextTable, carried_in, FlowTable, carried, operation_at, Instance, CtxId, InstanceId, OpId, WorkerId, Status}
 use Rattle.fm_core.proofs.Words.{is_gone_at, is_idle, worker_at, World, length, slice_get_within}
-use Rattle.fm_data.specs.declared.verdict.Completion.{Completion}
-use Rattle.fm_flow.specs.Drains.{RunsEarly, drain_done_of}
-use Rattle.fm_flow.proofs.Drains.{early_carried, drain_done_carried}
+use Rattle.fm_callback_data.specs.declared.verdict.Completion.{Completion}
+use Rattle.fm_operations.specs.Drains.{RunsEarly, drain_done_of}
+use Rattle.fm_operations.proofs.Drains.{early_carried, drain_done_carried}
 use Rattle.fm_core.proofs.Cleaned.{phase_in}
 use Rattle.fm_world.specs.EarlyDrains.{is_stopping_at}
 use Rattle.fm_world.proofs.Draining.{early_there}

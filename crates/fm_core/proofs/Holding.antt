@@ -13,11 +13,11 @@ use Rattle.fm_ctx.specs.Table.{count_in}
 use Rattle.fm_ctx.proofs.Carried.{carried_one_more, carried_one_fewer}
 use Rattle.fm_ctx.proofs.Counts.{count_held}
 use Rattle.fm_ctx.proofs.Slots.{none_from}
-use Rattle.fm_flow.specs.Table.{under_way}
+use Rattle.fm_operations.specs.Table.{under_way}
 use Rattle.fm_world.proofs.Requests.{done_owes}
 use Rattle.fm_world.proofs.Runs.{empty_sound, nothing_carried}
 use Rattle.fm_core.specs.Fields.{world_of}
-use Rattle.fm_flow.specs.Sound as flow
+use Rattle.fm_operations.specs.Sound as flow
 
 -- ---- contexts that are there
 

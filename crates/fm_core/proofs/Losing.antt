@@ -15,7 +15,7 @@ use Rattle.fm_world.specs.Files.{marked}
 use Rattle.fm_world.proofs.Belonging.{AllPass}
 use Rattle.fm_world.proofs.Losing.{found_before, found_changed}
 use Rattle.fm_types.specs.declared.operation.Operation.TheVariants as kind
-use Rattle.fm_flow.specs.declared.entry.PreState.TheVariants as state
+use Rattle.fm_operations.specs.declared.entry.PreState.TheVariants as state
 
 -- ---- sweeps
 

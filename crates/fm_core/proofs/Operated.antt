@@ -17,7 +17,7 @@ use Rattle.fm_world.proofs.Words.{NextsAt, PostReturns, PostReturnsAt, PreReturn
 use Rattle.fm_world.proofs.Words.{carries_after, filed_next, filed_record, has_post, of_hand, or_else, pre_step, returned, AtBase, AtDrain, AtPost, AtPre, Spot}
 use Rattle.fm_world.proofs.Words.{is_in_at, is_spot, spot_at, IsAmong, unwrap_or, and_from, eq-eqb, or_parts}
 use Rattle.std.proofs.Common.{nat_eq}
-use Rattle.fm_flow.specs.Table.{MayLieBelowOf}
+use Rattle.fm_operations.specs.Table.{MayLieBelowOf}
 use Rattle.fm_world.specs.Events.{PreReturnsOver, ReturnsFrom, filed_base, refused_at_by, refused_on_at, begun_at}
 use Rattle.fm_world.specs.declared.begins_from.BeginsFrom.{BeginsFrom}
 use Rattle.fm_core.proofs.Words.{StackWorld}
@@ -30,14 +30,14 @@ use Rattle.fm_world.proofs.Ties.{tied_there, spot_pre, spot_base, spot_post, spo
 use Rattle.fm_world.proofs.Turns.{may_visit, unchanged_flow, next_balance, was_known}
 use Rattle.fm_world.proofs.Requests.{full_from, none_else, asked_within, total_push, collect_balance, asked_sound}
 use Rattle.fm_world.proofs.Returns.{pre_balance, post_balance, drain_balance}
-use Rattle.fm_flow.proofs.Returns.{base_returned_carries}
-use Rattle.fm_flow.proofs.Flows.{total_changed}
+use Rattle.fm_operations.proofs.Returns.{base_returned_carries}
+use Rattle.fm_operations.proofs.Flows.{total_changed}
 use Rattle.fm_core.proofs.Holding.{ends_leaves, tied_ends, next_table, brought_slots, sent_slots, may_bring, tied_brought, handed_balance, may_send, tied_sent}
 use Rattle.fm_core.proofs.Losing.{loses, answer_gone, verdict_gone}
 use Rattle.fm_core.specs.Descent.{IsDownOrCall}
-use Rattle.fm_data.specs.declared.request.FileRequest.{FileRequest}
+use Rattle.fm_callback_data.specs.declared.request.FileRequest.{FileRequest}
 use Rattle.fm_world.specs.Files.{stream_at}
-use Rattle.fm_data.specs.Requests.{params_of}
+use Rattle.fm_callback_data.specs.Requests.{params_of}
 use Rattle.fm_world.proofs.Filing.{room_for}
 use Rattle.fm_core.specs.Targets.{HasRoom}
 use Rattle.fm_core.specs.Begun.{Asks}

@@ -10,20 +10,20 @@ use Rattle.fm_core.proofs.Words.{All-weaker, same_Some, slice_get_within}
 use Rattle.fm_world.proofs.Words.{Turned, ascend, call_post, call_pre, done_at, give_post, is_done, next_at, turn, with_visit, Ascending, Descending}
 use Rattle.fm_world.proofs.Words.{find_changed, slice_get-set_same, OnlyHandOf, nat_le}
 use Rattle.std.proofs.Common.{zero}
-use Rattle.fm_data.specs.Data.{answered_data, fresh_data}
-use Rattle.fm_data.specs.Params.{fit}
-use Rattle.fm_flow.specs.Steps.{lent_answer, passed_up, stands, unwound}
-use Rattle.fm_flow.proofs.Next.{Unwinds, next_stays, unwinds}
-use Rattle.fm_flow.proofs.Passing.{down_whole, up_whole, undone}
-use Rattle.fm_flow.proofs.Soundness.{at_stage}
+use Rattle.fm_callback_data.specs.Data.{answered_data, fresh_data}
+use Rattle.fm_callback_data.specs.Params.{fit}
+use Rattle.fm_operations.specs.Steps.{lent_answer, passed_up, stands, unwound}
+use Rattle.fm_operations.proofs.Next.{Unwinds, next_stays, unwinds}
+use Rattle.fm_operations.proofs.Passing.{down_whole, up_whole, undone}
+use Rattle.fm_operations.proofs.Soundness.{at_stage}
 use Rattle.fm_world.specs.Events.{is_stopping_ask}
 use Rattle.fm_core.specs.Passing.{PassesDown, PassesUp, numbered}
 use Rattle.fm_core.proofs.Changes.{change_twice}
 use Rattle.fm_core.proofs.Holding.{tied_ends}
 use Rattle.fm_core.proofs.Losing.{Agrees, sweeps_none}
 use Rattle.fm_core.proofs.Operated.{Goes, next_leads, next_tied, post_returns, post_tied, pre_returns, pre_tied}
-use Rattle.fm_data.specs.declared.verdict.PostVerdict.TheVariants as over
-use Rattle.fm_flow.specs.Sound as flow
+use Rattle.fm_callback_data.specs.declared.verdict.PostVerdict.TheVariants as over
+use Rattle.fm_operations.specs.Sound as flow
 
 -- ---- workers
 

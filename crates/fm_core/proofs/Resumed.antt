@@ -5,15 +5,15 @@ use Rattle.fm_core.proofs.Words.{hand_of, holds, IsLawful, ContextTable, PreVerd
 use Rattle.fm_core.proofs.Words.{operation_at, PreState, found_holds, first_of, CtxId, InstanceId, OpId, WorkerId, Status, filed_pre, is_created_on, sent}
 use Rattle.fm_core.proofs.Words.{sent_in, state_at, FileTable, after_pre, LosesLinks, place_in, worker_at, World, carries, length}
 use Rattle.fm_world.proofs.Words.{post_settled, PostHeld, PreHeld, ResumesPre, ResumesPreAt, is_held_by, lets_go, pre_resumed}
-use Rattle.fm_flow.specs.declared.hold.Hold.{Hold}
-use Rattle.fm_flow.specs.Holds.{is_held}
-use Rattle.fm_flow.proofs.Holds.{held_pre, held_post}
+use Rattle.fm_operations.specs.declared.hold.Hold.{Hold}
+use Rattle.fm_operations.specs.Holds.{is_held}
+use Rattle.fm_operations.proofs.Holds.{held_pre, held_post}
 use Rattle.fm_world.proofs.Resumes.{post_resumed_balance, resumed_balance}
 use Rattle.fm_core.proofs.Holding.{sent_slots, tied_sent}
 use Rattle.fm_core.proofs.Losing.{loses, verdict_gone}
-use Rattle.fm_flow.specs.declared.hold.Hold.TheVariants as hold
-use Rattle.fm_flow.specs.declared.entry.PostState.TheVariants as post
-use Rattle.fm_flow.specs.Sound as flow
+use Rattle.fm_operations.specs.declared.hold.Hold.TheVariants as hold
+use Rattle.fm_operations.specs.declared.entry.PostState.TheVariants as post
+use Rattle.fm_operations.specs.Sound as flow
 
 -- ---- the operation that is held
 

@@ -18,9 +18,9 @@ pub use Rattle.fm_ctx.proofs.Slots.{there_changed}
 pub use Rattle.fm_ctx.specs.Births.{new_context}
 pub use Rattle.fm_ctx.specs.Kept.{ContextsKept, carried_of}
 pub use Rattle.fm_ctx.specs.Settling.{is_linked_to}
-pub use Rattle.fm_flow.specs.Drains.{DrainTaken}
-pub use Rattle.fm_flow.specs.Steps.{base_after}
-pub use Rattle.fm_flow.specs.Table.{StandsAt}
+pub use Rattle.fm_operations.specs.Drains.{DrainTaken}
+pub use Rattle.fm_operations.specs.Steps.{base_after}
+pub use Rattle.fm_operations.specs.Table.{StandsAt}
 pub use Rattle.fm_types.proofs.Firsts.{absent, found_read, stands_there, without_none}
 pub use Rattle.fm_types.proofs.Rising.{found_rising, stands_rising}
 pub use Rattle.fm_types.specs.Refusals.{IsRefusalOrMemory}

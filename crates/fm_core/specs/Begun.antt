@@ -6,7 +6,7 @@ use Rattle.fm_types.specs.declared.ids.OpId.{OpId}
 use Rattle.fm_types.specs.declared.ids.VolumeId.{VolumeId}
 use Rattle.fm_types.specs.declared.status.Status.{Status}
 use Rattle.fm_types.specs.declared.status.Status.TheVariants as status
-use Rattle.fm_data.specs.declared.params.Params.{Params}
+use Rattle.fm_callback_data.specs.declared.params.Params.{Params}
 use Rattle.fm_stack.specs.declared.volume.VolumePhase.{VolumePhase}
 use Rattle.fm_stack.specs.Events.{is_mounted_phase}
 use Rattle.fm_world.specs.declared.file.FileHandle.{FileHandle}
@@ -15,9 +15,9 @@ use Rattle.fm_world.specs.Files.{stream_at, handle_at}
 use Rattle.fm_world.specs.Events.{asked_refused_at, asked_begun}
 use Rattle.fm_world.specs.World.{World}
 use Rattle.fm_types.specs.declared.ids.InstanceId.{InstanceId}
-use Rattle.fm_flow.specs.Record.{FlowRecord}
-use Rattle.fm_flow.specs.Table.{operation_at}
-use Rattle.fm_flow.specs.declared.stage.Stage.TheVariants.{Descending}
+use Rattle.fm_operations.specs.Record.{FlowRecord}
+use Rattle.fm_operations.specs.Table.{operation_at}
+use Rattle.fm_operations.specs.declared.stage.Stage.TheVariants.{Descending}
 use Rattle.fm_world.specs.Owners.{is_left_by, row_at}
 use Rattle.fm_world.specs.declared.begins_from.BeginsFrom.{BeginsFrom}
 use Rattle.fm_world.specs.declared.begins_from.BeginsFrom.TheVariants as from

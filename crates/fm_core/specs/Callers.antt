@@ -5,7 +5,7 @@ use Rattle.fm_types.specs.declared.context_kind.ContextKind.TheVariants as kind
 use Rattle.fm_types.specs.declared.ids.FilterId.{FilterId}
 use Rattle.fm_types.specs.declared.ids.OpId.{OpId}
 use Rattle.fm_types.specs.declared.ids.WorkerId.{WorkerId}
-use Rattle.fm_data.specs.declared.verdict.PreVerdict.{PreVerdict}
+use Rattle.fm_callback_data.specs.declared.verdict.PreVerdict.{PreVerdict}
 use Rattle.fm_types.specs.declared.status.Status.{Status}
 use Rattle.fm_types.specs.declared.status.Status.TheVariants as status
 use Rattle.fm_stack.specs.declared.instance.Instance.{Instance}
@@ -16,7 +16,7 @@ use Rattle.fm_ctx.specs.declared.object.Object.{Object}
 use Rattle.fm_ctx.specs.declared.object.Object.TheVariants as object
 use Rattle.fm_ctx.specs.declared.owner.Owner.{Owner}
 use Rattle.fm_ctx.specs.declared.owner.Owner.TheVariants as owner
-use Rattle.fm_flow.specs.Table.{FlowTable}
+use Rattle.fm_operations.specs.Table.{FlowTable}
 use Rattle.fm_world.specs.About.{about_operation}
 use Rattle.fm_world.specs.Hands.{taken_by_resume}
 use Rattle.fm_world.specs.Owners.{has_kind, is_closing, filter_by, place_in}

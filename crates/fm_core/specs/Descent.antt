@@ -1,11 +1,11 @@
 -- What an operation finds below it, on its way down.
 use Rattle.std.specs.Prelude.{◌≡◌, ◌⊎◌}
 use Rattle.fm_stack.specs.StackWorld.{StackWorld}
-use Rattle.fm_flow.specs.declared.action.Below.{Below}
-use Rattle.fm_flow.specs.declared.action.Below.TheVariants.{Call}
-use Rattle.fm_flow.specs.declared.stage.Stage.TheVariants.{Descending}
-use Rattle.fm_flow.specs.Record.{FlowRecord}
-use Rattle.fm_flow.specs.Table.{FlowTable}
+use Rattle.fm_operations.specs.declared.action.Below.{Below}
+use Rattle.fm_operations.specs.declared.action.Below.TheVariants.{Call}
+use Rattle.fm_operations.specs.declared.stage.Stage.TheVariants.{Descending}
+use Rattle.fm_operations.specs.Record.{FlowRecord}
+use Rattle.fm_operations.specs.Table.{FlowTable}
 use Rattle.fm_world.specs.Files.{FileTable}
 use Rattle.fm_world.specs.Events.{LiesBelow, AnswersBelow}
 

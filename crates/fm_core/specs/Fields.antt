@@ -3,7 +3,7 @@ use Rattle.std.specs.Prelude.{◌≡◌, ℕ, List}
 use Rattle.fm_types.specs.declared.ids.CtxId.{CtxId}
 use Rattle.fm_stack.specs.StackWorld.{StackWorld}
 use Rattle.fm_ctx.specs.Kept.{ContextsKept, carried_of}
-use Rattle.fm_flow.specs.Table.{FlowTable, carried}
+use Rattle.fm_operations.specs.Table.{FlowTable, carried}
 use Rattle.fm_world.specs.declared.place.Place.{Place}
 use Rattle.fm_world.specs.World.{World}
 use Rattle.fm_world.specs.Sound.{IsSound}

@@ -10,8 +10,8 @@ use Rattle.fm_ctx.specs.References.{grabbed, handed_on}
 use Rattle.fm_ctx.specs.Settling.{Leaves, is_linked_of}
 use Rattle.fm_ctx.specs.Table.{Context}
 use Rattle.fm_core.specs.Lost.{Sweeping}
-use Rattle.fm_flow.specs.declared.action.FlowAction.{FlowAction}
-use Rattle.fm_flow.specs.declared.action.FlowAction.TheVariants as action
+use Rattle.fm_operations.specs.declared.action.FlowAction.{FlowAction}
+use Rattle.fm_operations.specs.declared.action.FlowAction.TheVariants as action
 
 -- the context that a postoperation or a drain brings back
 abbrev pub back_in : FlowAction → Option CtxId

@@ -3,19 +3,19 @@ use Rattle.std.specs.Prelude.{◌≡◌, ℕ, List, Option, true, false, Some, N
 use Rattle.fm_types.specs.declared.ids.InstanceId.{InstanceId}
 use Rattle.fm_types.specs.declared.ids.OpId.{OpId}
 use Rattle.fm_types.specs.declared.ids.WorkerId.{WorkerId}
-use Rattle.fm_data.specs.Data.{Data}
-use Rattle.fm_data.specs.declared.verdict.Completion.{Completion}
-use Rattle.fm_data.specs.declared.verdict.PreVerdict.{PreVerdict}
-use Rattle.fm_data.specs.declared.verdict.PreVerdict.TheVariants.{WithCallback}
-use Rattle.fm_data.specs.declared.verdict.PostVerdict.TheVariants.{Finished}
-use Rattle.fm_flow.specs.declared.action.Below.TheVariants as below
-use Rattle.fm_flow.specs.declared.action.FlowAction.TheVariants as action
-use Rattle.fm_flow.specs.declared.entry.Ask.{Ask}
-use Rattle.fm_flow.specs.declared.stage.Stage.TheVariants.{Ascending, Descending}
-use Rattle.fm_flow.specs.Entries.{owed}
-use Rattle.fm_flow.specs.Record.{FlowRecord}
-use Rattle.fm_flow.specs.Steps.{may_take}
-use Rattle.fm_flow.specs.Table.{operation_at}
+use Rattle.fm_callback_data.specs.Data.{Data}
+use Rattle.fm_callback_data.specs.declared.verdict.Completion.{Completion}
+use Rattle.fm_callback_data.specs.declared.verdict.PreVerdict.{PreVerdict}
+use Rattle.fm_callback_data.specs.declared.verdict.PreVerdict.TheVariants.{WithCallback}
+use Rattle.fm_callback_data.specs.declared.verdict.PostVerdict.TheVariants.{Finished}
+use Rattle.fm_operations.specs.declared.action.Below.TheVariants as below
+use Rattle.fm_operations.specs.declared.action.FlowAction.TheVariants as action
+use Rattle.fm_operations.specs.declared.entry.Ask.{Ask}
+use Rattle.fm_operations.specs.declared.stage.Stage.TheVariants.{Ascending, Descending}
+use Rattle.fm_operations.specs.Entries.{owed}
+use Rattle.fm_operations.specs.Record.{FlowRecord}
+use Rattle.fm_operations.specs.Steps.{may_take}
+use Rattle.fm_operations.specs.Table.{operation_at}
 use Rattle.fm_stack.specs.StackWorld.{StackWorld}
 use Rattle.fm_world.specs.Events.{LiesBelow, Nexts, PostReturns, PreReturns, has_post, is_stopping_ask}
 use Rattle.fm_world.specs.Workers.{is_idle, worker_at}

@@ -2,17 +2,17 @@
 use Rattle.std.specs.Prelude.{◌≡◌, ◌<◌, ◌-◌, ◌^◌, Bool, true, false, ◌&&◌, length, Option, Some, None}
 use Rattle.fm_types.specs.declared.operation.Operation.{Operation}
 use Rattle.fm_types.specs.declared.operation.Operation.TheVariants as kind
-use Rattle.fm_flow.specs.declared.action.Below.{Below}
-use Rattle.fm_flow.specs.declared.action.Below.TheVariants as below
-use Rattle.fm_flow.specs.declared.action.FlowAction.{FlowAction}
-use Rattle.fm_flow.specs.declared.action.FlowAction.TheVariants as action
-use Rattle.fm_flow.specs.declared.entry.PreState.TheVariants as state
+use Rattle.fm_operations.specs.declared.action.Below.{Below}
+use Rattle.fm_operations.specs.declared.action.Below.TheVariants as below
+use Rattle.fm_operations.specs.declared.action.FlowAction.{FlowAction}
+use Rattle.fm_operations.specs.declared.action.FlowAction.TheVariants as action
+use Rattle.fm_operations.specs.declared.entry.PreState.TheVariants as state
 use Rattle.fm_types.specs.declared.status.Status.{Status}
-use Rattle.fm_flow.specs.Answered.{is_success}
-use Rattle.fm_flow.specs.Creates.{is_create}
-use Rattle.fm_flow.specs.Record.{FlowRecord}
-use Rattle.fm_flow.specs.Table.{FlowTable}
-use Rattle.fm_flow.specs.declared.entry.PreState.{PreState}
+use Rattle.fm_operations.specs.Answered.{is_success}
+use Rattle.fm_operations.specs.Creates.{is_create}
+use Rattle.fm_operations.specs.Record.{FlowRecord}
+use Rattle.fm_operations.specs.Table.{FlowTable}
+use Rattle.fm_operations.specs.declared.entry.PreState.{PreState}
 use Rattle.fm_world.specs.declared.file.FileHandle.{FileHandle}
 use Rattle.fm_world.specs.Files.{FileTable, after_base, after_pre}
 use Rattle.fm_world.specs.Events.{is_created_on}

@@ -10,7 +10,7 @@ ghost use Rattle.fm_core.specs.Callers.{caller_of, owner_for, object_for, has_ki
 use crate::files::Files;
 use crate::state::State;
 use fm_ctx::{Object, Owner};
-use fm_flow::Flow;
+use fm_operations::Flow;
 use fm_stack::{Phase, Stack, VolumePhase};
 use fm_types::{ContextKind, FilterId, HandleId, InstanceId, OpId, StreamId, VolumeId, WorkerId};
 use fm_world::{FileObject, Place};

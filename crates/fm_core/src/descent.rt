@@ -1,14 +1,14 @@
 //! What an operation finds on its way: the next instance below it or the base, which callbacks an instance has, and whether an instance that asked is drained.
 
 ghost use Rattle.std.specs.Prelude.{◌≡◌, option_map, slice_get};
-ghost use Rattle.fm_flow.specs.Entries.{visited};
+ghost use Rattle.fm_operations.specs.Entries.{visited};
 ghost use Rattle.fm_world.specs.Descent.{cursor_of};
 ghost use Rattle.fm_core.specs.Descent.{FindsAt, IsDownOrCall};
-ghost use Rattle.fm_flow.specs.Creates.{is_create};
+ghost use Rattle.fm_operations.specs.Creates.{is_create};
 ghost use Rattle.fm_world.specs.Events.{LiesBelow, AnswersBelow, base_known, known_create, known_at, known_on, unlinks, has_pre, has_post, drains_next, is_stopping_ask};
 
 use crate::files::Files;
-use fm_flow::{Ask, Below, Flow, OperationRecord, Stage};
+use fm_operations::{Ask, Below, Flow, OperationRecord, Stage};
 use fm_stack::{Phase, Stack};
 use fm_types::{HandleId, InstanceId, Operation, Role, Status, StreamId};
 

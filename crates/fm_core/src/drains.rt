@@ -8,7 +8,7 @@ ghost use Rattle.fm_core.specs.Places.{drains_in};
 use crate::references::bring;
 use crate::state::State;
 use crate::workers::{early_drain_of, put};
-use fm_data::Completion;
+use fm_callback_data::Completion;
 use fm_stack::Phase;
 use fm_types::{InstanceId, OpId, Status, WorkerId};
 use fm_world::Place;

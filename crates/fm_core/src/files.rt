@@ -6,7 +6,7 @@ ghost use Rattle.fm_types.specs.Lists.{change_first, without_first};
 ghost use Rattle.fm_world.specs.Files.{empty_files, is_handle, is_stream, is_on, with_phase, with_mark, stream_at, handle_at, has_handle_on, has_other_handle, is_marked, created, phased, marked, opened, closed, torn_down, left, after_base};
 ghost use Rattle.fm_world.specs.Dismounts.{is_of, handles_on, lowest_on};
 ghost use Rattle.fm_types.specs.declared.operation.Operation.TheVariants as kind;
-ghost use Rattle.fm_flow.specs.Answered.{is_success};
+ghost use Rattle.fm_operations.specs.Answered.{is_success};
 ghost use Rattle.fm_core.specs.FilesKept.{paths_of, found_at, stream_or, IsBefore, IsOlder, AreCounted, changed_at, without_at, is_own};
 ghost use Rattle.fm_core.specs.Targets.{opens};
 

@@ -1,8 +1,8 @@
 //! Held operations: a callback of the instance that holds one lets it go on, or asks for the first.
 
 ghost use Rattle.std.specs.Prelude.{◌≡◌, true, false, IfNone, IfSome, Some, None};
-ghost use Rattle.fm_flow.specs.Table.{operation_at, told};
-ghost use Rattle.fm_flow.specs.Holds.{is_held};
+ghost use Rattle.fm_operations.specs.Table.{operation_at, told};
+ghost use Rattle.fm_operations.specs.Holds.{is_held};
 ghost use Rattle.fm_world.specs.Events.{ResumesPre, ResumesPost, FindsHeld, lets_go, sync_worker};
 ghost use Rattle.fm_world.specs.Hands.{OnlyHandOf, KeepsHands, HoldsFewer};
 ghost use Rattle.fm_core.specs.Callers.{taken_at};
@@ -11,8 +11,8 @@ use crate::descent::{drains_next, has_post};
 use crate::references::{of_hand, send, sent_in};
 use crate::state::State;
 use crate::target::{note_verdict, target_of};
-use fm_data::PreVerdict;
-use fm_flow::{Flow, Hold, OperationRecord, counted};
+use fm_callback_data::PreVerdict;
+use fm_operations::{Flow, Hold, OperationRecord, counted};
 use fm_types::{InstanceId, OpId, Status, WorkerId};
 
 /// Whether the operation goes on by that verdict.

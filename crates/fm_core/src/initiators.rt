@@ -9,7 +9,7 @@ ghost use Rattle.fm_world.specs.Owners.{keeps_links_by, row_at};
 
 use crate::routines::volume_by;
 use crate::state::State;
-use fm_data::Request;
+use fm_callback_data::Request;
 use fm_stack::Phase;
 use fm_types::{InstanceId, OpId, Status, VolumeId};
 use fm_world::BeginsFrom;

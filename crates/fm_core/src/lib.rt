@@ -36,7 +36,7 @@ pub use crate::passing::Passed;
 pub use crate::runs::run;
 pub use crate::state::State;
 pub use fm_ctx::{Count, Due, Object, Owner, SetMode};
-pub use fm_flow::{
+pub use fm_operations::{
     Ask, DrainVisit, Entry, FlowAction as Action, Hold, PostState, PostVisit, PreState, PreVisit,
     Stage,
 };

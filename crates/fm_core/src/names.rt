@@ -4,8 +4,8 @@ ghost use Rattle.std.specs.Prelude.{◌≡◌, slice_get, option_map, option_and
 ghost use Rattle.fm_stack.specs.declared.filter.Filter.{Filter};
 ghost use Rattle.fm_stack.specs.declared.instance.Instance.{Instance};
 ghost use Rattle.fm_stack.specs.declared.volume.Volume.{Volume};
-ghost use Rattle.fm_flow.specs.Record.{FlowRecord};
-ghost use Rattle.fm_flow.specs.Table.{operation_at};
+ghost use Rattle.fm_operations.specs.Record.{FlowRecord};
+ghost use Rattle.fm_operations.specs.Table.{operation_at};
 
 use crate::state::State;
 use fm_altitude::Altitude;

@@ -12,8 +12,8 @@ use crate::references::{bring_back, end_callback, of_hand, sent_in};
 use crate::state::State;
 use crate::target::{known_in, note_answer, note_verdict, target_of};
 use crate::workers::{base_of, drain_of, note_next, post_of, pre_of, put};
-use fm_data::{Answer, BaseCall, CallbackData, PostVerdict, PreVerdict};
-use fm_flow::{FlowAction, counted};
+use fm_callback_data::{Answer, BaseCall, CallbackData, PostVerdict, PreVerdict};
+use fm_operations::{FlowAction, counted};
 use fm_types::{HandleId, InstanceId, OpId, Status, WorkerId};
 use fm_world::{Place, Refused};
 

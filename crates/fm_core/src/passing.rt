@@ -8,8 +8,8 @@ ghost use Rattle.fm_core.specs.Passing.{ComesDown, ComesUp, IsComing, LiesNext, 
 use crate::descent::{cursor, has_post, has_pre, is_stopping};
 use crate::references::end_callback;
 use crate::state::State;
-use fm_data::{Completion, PreVerdict};
-use fm_flow::{Ask, OperationRecord, Stage, may_take};
+use fm_callback_data::{Completion, PreVerdict};
+use fm_operations::{Ask, OperationRecord, Stage, may_take};
 use fm_stack::Stack;
 use fm_types::{InstanceId, OpId, WorkerId};
 

@@ -11,13 +11,13 @@ ghost use Rattle.fm_core.specs.Places.{may_hold};
 ghost use Rattle.fm_stack.specs.declared.filter.Filter.{Filter};
 ghost use Rattle.fm_stack.specs.declared.instance.Instance.{Instance};
 ghost use Rattle.fm_stack.specs.declared.volume.Volume.{Volume};
-ghost use Rattle.fm_flow.specs.Record.{FlowRecord};
-ghost use Rattle.fm_flow.specs.Steps.{is_done};
-ghost use Rattle.fm_flow.specs.Table.{operation_at, in_flight};
+ghost use Rattle.fm_operations.specs.Record.{FlowRecord};
+ghost use Rattle.fm_operations.specs.Steps.{is_done};
+ghost use Rattle.fm_operations.specs.Table.{operation_at, in_flight};
 
 use crate::state::State;
 use fm_ctx::Count;
-use fm_flow::Entry;
+use fm_operations::Entry;
 use fm_stack::{FilterPhase, Phase, VolumePhase};
 use fm_types::limits::WORKERS;
 use fm_types::{ContextKind, CtxId, FilterId, HandleId, InstanceId, OpId, VolumeId, WorkerId};

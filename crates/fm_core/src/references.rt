@@ -2,16 +2,16 @@
 
 ghost use Rattle.std.specs.Prelude.{◌≡◌, ◌<◌};
 ghost use Rattle.fm_ctx.specs.Bags.{hand_of};
-ghost use Rattle.fm_flow.specs.declared.entry.PreState.{PreState as CountedState};
+ghost use Rattle.fm_operations.specs.declared.entry.PreState.{PreState as CountedState};
 ghost use Rattle.fm_world.specs.ContextEvents.{References, Releases, ReadsBody, WritesBody, Bumps};
 ghost use Rattle.fm_world.specs.Events.{of_hand, held_context, sent_in};
 ghost use Rattle.fm_world.specs.Hands.{OnlyHandOf, KeepsHands, HoldsFewer, HoldsMore};
 ghost use Rattle.fm_core.specs.Hands.{back_in, MayBring, kept_brought, MaySend, kept_sent, Ends, SweepsUnless};
 
 use crate::state::State;
+use fm_callback_data::{Completion, PreVerdict};
 use fm_ctx::{Contexts, Owner};
-use fm_data::{Completion, PreVerdict};
-use fm_flow::{FlowAction, PreState};
+use fm_operations::{FlowAction, PreState};
 use fm_types::{Bytes, CtxId, InstanceId, Status, WorkerId};
 
 // A completion's context, where the worker holds it.

@@ -3,9 +3,9 @@
 ghost use Rattle.std.specs.Prelude.{◌≡◌, ◌<◌, All, ◌||◌, ◌∷◌, false, cond, Some, None, OnErr, length};
 ghost use Rattle.fm_types.specs.Refusals.{first_of};
 ghost use Rattle.fm_stack.specs.Events.{is_mounted_phase};
-ghost use Rattle.fm_data.specs.Params.{operation_of};
-ghost use Rattle.fm_flow.specs.Creates.{is_create};
-ghost use Rattle.fm_flow.specs.Table.{is_full};
+ghost use Rattle.fm_callback_data.specs.Params.{operation_of};
+ghost use Rattle.fm_operations.specs.Creates.{is_create};
+ghost use Rattle.fm_operations.specs.Table.{is_full};
 ghost use Rattle.fm_world.specs.Requests.{is_late_use, is_use, phase_refusal, phase_refusal_at};
 ghost use Rattle.fm_world.specs.Files.{created, has_handle_on};
 ghost use Rattle.fm_world.specs.declared.file.FileStream.{FileStream};
@@ -17,8 +17,8 @@ ghost use Rattle.fm_core.specs.Begun.{Asks, IsAsked, IsAskedOr, refusal_by};
 use crate::file_name::FileName;
 use crate::files::Files;
 use crate::state::State;
-use fm_data::{Params, Request};
-use fm_flow::Flow;
+use fm_callback_data::{Params, Request};
+use fm_operations::Flow;
 use fm_stack::VolumePhase;
 use fm_types::limits::HANDLES;
 use fm_types::{

@@ -10,7 +10,7 @@ ghost use Rattle.fm_world.specs.Hands.{HoldsNone, KeepsHands, OnlyHandOf};
 ghost use Rattle.fm_world.specs.StepHands.{HandsAfter, worker_of};
 
 use crate::state::State;
-use fm_data::{Answer, BaseCall, CallbackData, PostVerdict, PreVerdict};
+use fm_callback_data::{Answer, BaseCall, CallbackData, PostVerdict, PreVerdict};
 use fm_types::{Status, WorkerId};
 use fm_world::{Refused, Step, StepReply};
 use std::alloc::Global;

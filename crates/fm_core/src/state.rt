@@ -8,7 +8,7 @@ ghost use Rattle.fm_world.specs.Sound.{IsSound};
 
 use crate::files::Files;
 use fm_ctx::Contexts;
-use fm_flow::Flow;
+use fm_operations::Flow;
 use fm_stack::Stack;
 use fm_types::limits::{FILTERS, WORKERS};
 use fm_types::{Status, WorkerId};

@@ -9,7 +9,7 @@ ghost use Rattle.fm_core.specs.Targets.{HasRoom, answered, decided, known_in, ta
 use crate::caller::is_there;
 use crate::files::Files;
 use fm_ctx::{Contexts, Object};
-use fm_flow::{Below, Flow, FlowAction, OperationRecord, PreState};
+use fm_operations::{Below, Flow, FlowAction, OperationRecord, PreState};
 use fm_types::{HandleId, Operation, Role, Status, StreamId};
 
 /// What an operation is, and which stream and handle it is on (`FLT_RELATED_OBJECTS`).

@@ -7,7 +7,7 @@ ghost use Rattle.fm_world.specs.Workers.{put, after_attach, after_entering, afte
 ghost use Rattle.fm_core.specs.Places.{setup_of, pre_of, base_of, post_of, drain_of, early_drain_of, query_of, start_of, complete_of, is_routine, unload_of};
 
 use fm_ctx::Due;
-use fm_flow::FlowAction;
+use fm_operations::FlowAction;
 use fm_types::{CtxId, FilterId, InstanceId, OpId, Status, WorkerId};
 use fm_world::Place;
 

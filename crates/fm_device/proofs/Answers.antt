@@ -3,7 +3,7 @@ use Rattle.std.specs.Prelude.{◌≡◌, ℕ, Bool, true, false, List, Option, S
 use Rattle.std.proofs.Common.{sym, ap, ◌∙◌}
 use Rattle.fm_types.specs.declared.status.Status.{Status}
 use Rattle.fm_types.specs.declared.status.Status.TheVariants.{Success, NoMemory, DeviceFault}
-use Rattle.fm_data.specs.declared.answer.Answer.{Answer}
+use Rattle.fm_callback_data.specs.declared.answer.Answer.{Answer}
 use Rattle.fm_base.specs.Folders.{Folder}
 use Rattle.fm_base.specs.Answers.{Makes, MakesKnown, Tells, TellsKnown, faults_after}
 use Rattle.fm_device.specs.Devices.{bare, faults_told, done_as, told_as, sized_as, made_as, made_of, AnswersAs, KnownAs}

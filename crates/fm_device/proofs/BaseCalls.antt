@@ -7,8 +7,8 @@ use Rattle.std.proofs.lemmas.Bool.{cases_eq}
 use Rattle.std.proofs.lemmas.Option.{get_or_from_slice_get, slice_get-get_or, slice_get_cases, slice_get_past, slice_get_read, slice_get_within, unwrap_or-slice_get}
 use Rattle.fm_types.proofs.Lists.{slice_get-set_same, slice_get-set_other}
 use Rattle.fm_types.specs.declared.status.Status.TheVariants.{NoVolume, DeviceFault}
-use Rattle.fm_data.specs.Calls.{BaseCall}
-use Rattle.fm_data.specs.declared.answer.Answer.{Answer}
+use Rattle.fm_callback_data.specs.Calls.{BaseCall}
+use Rattle.fm_callback_data.specs.declared.answer.Answer.{Answer}
 use Rattle.fm_base.specs.Folders.{Folder}
 use Rattle.fm_device.specs.Devices.{bare, faults_told, CarriesAny, CarriesCall, KnownAs}
 use Rattle.fm_device.specs.Bases.{BaseCarries, BasesCarry}

@@ -1,8 +1,8 @@
 -- The bases of volumes as one device.
 use Rattle.std.specs.Prelude.{◌≡◌, ◌≤◌, List, Option, Some, length, slice_get, ℕ, ◌≢◌}
 use Rattle.fm_base.specs.Folders.{Folder}
-use Rattle.fm_data.specs.Calls.{BaseCall}
-use Rattle.fm_data.specs.declared.answer.Answer.{Answer}
+use Rattle.fm_callback_data.specs.Calls.{BaseCall}
+use Rattle.fm_callback_data.specs.declared.answer.Answer.{Answer}
 use Rattle.fm_types.specs.declared.status.Status.TheVariants.{NoVolume}
 use Rattle.fm_device.specs.Devices.{bare, faults_told, CarriesAny, KnownAs}
 

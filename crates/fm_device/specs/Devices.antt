@@ -3,11 +3,11 @@ use Rattle.std.specs.Prelude.{◌≡◌, ◌≢◌, ℕ, ◌+◌, ◌-◌, ◌^�
 use Rattle.std.specs.FinMap.{empty}
 use Rattle.fm_types.specs.declared.status.Status.{Status}
 use Rattle.fm_types.specs.declared.status.Status.TheVariants.{Success, NoMemory, NoVolume, DeviceFault, BadRequest}
-use Rattle.fm_data.specs.declared.answer.Answer.{Answer}
-use Rattle.fm_data.specs.Calls.{BaseCall}
-use Rattle.fm_data.specs.declared.params.Params.{Params}
-use Rattle.fm_data.specs.declared.params.Params.TheVariants as params
-use Rattle.fm_data.specs.Params.{is_within_limits}
+use Rattle.fm_callback_data.specs.declared.answer.Answer.{Answer}
+use Rattle.fm_callback_data.specs.Calls.{BaseCall}
+use Rattle.fm_callback_data.specs.declared.params.Params.{Params}
+use Rattle.fm_callback_data.specs.declared.params.Params.TheVariants as params
+use Rattle.fm_callback_data.specs.Params.{is_within_limits}
 use Rattle.fm_types.specs.ByteLists.{resized, written}
 use Rattle.fm_base.specs.Answers.{ChangesOnly}
 use Rattle.fm_base.specs.Folders.{Folder, created, changed, unlinked, told, bytes_from, size_of, presence_of, listed}

@@ -9,7 +9,7 @@ ghost use Rattle.fm_device.specs.Lending.{LendsBase};
 use crate::calls::{call_base, refused};
 use crate::device::Device;
 use fm_base::Base;
-use fm_data::{Answer, BaseCall};
+use fm_callback_data::{Answer, BaseCall};
 use fm_types::limits::VOLUMES;
 use fm_types::{Status, VolumeId};
 use std::alloc::{AllocError, Global};

@@ -1,11 +1,11 @@
 //! The call of a base, of whatever kind it is.
 
 ghost use Rattle.std.specs.Prelude.{◌≡◌, ◌≤◌, length};
-ghost use Rattle.fm_data.specs.Params.{is_within_limits};
+ghost use Rattle.fm_callback_data.specs.Params.{is_within_limits};
 ghost use Rattle.fm_device.specs.Devices.{bare, faults_told, done_as, told_as, sized_as, is_listing, KnownAs, CarriesWithin, CarriesAny};
 
 use fm_base::Base;
-use fm_data::{Answer, BaseCall, Params};
+use fm_callback_data::{Answer, BaseCall, Params};
 use fm_types::{Bytes, RelPath, SharedPath, Status};
 use std::alloc::Global;
 

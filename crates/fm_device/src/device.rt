@@ -1,15 +1,15 @@
 //! The trait of what carries out the calls of the base.
 
 ghost use Rattle.std.specs.Prelude.{ℕ, ◌≤◌, length};
-ghost use Rattle.fm_data.specs.Calls.{BaseCall};
-ghost use Rattle.fm_data.specs.declared.answer.Answer.{Answer};
+ghost use Rattle.fm_callback_data.specs.Calls.{BaseCall};
+ghost use Rattle.fm_callback_data.specs.declared.answer.Answer.{Answer};
 
-use fm_data::{Answer, BaseCall};
+use fm_callback_data::{Answer, BaseCall};
 
 /// What lies below the lowest instances of all volumes (the file system drivers and disks of the kit).
 pub trait Device: Drop {
-    ghost use Rattle.fm_data.specs.Calls.{BaseCall};
-    ghost use Rattle.fm_data.specs.declared.answer.Answer.{Answer};
+    ghost use Rattle.fm_callback_data.specs.Calls.{BaseCall};
+    ghost use Rattle.fm_callback_data.specs.declared.answer.Answer.{Answer};
 
     /// How it may answer a call, and what the call may make of it.
     ghost carries: { Self → BaseCall → Answer → Self → Type 0 };

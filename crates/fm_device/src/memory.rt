@@ -7,7 +7,7 @@ ghost use Rattle.fm_device.specs.Devices.{CarriesCall};
 use crate::bases::Bases;
 use crate::device::Device;
 use fm_base::MemoryBase;
-use fm_data::{Answer, BaseCall};
+use fm_callback_data::{Answer, BaseCall};
 use fm_types::limits::VOLUMES;
 use std::alloc::{AllocError, Global};
 use std::marker::Model;

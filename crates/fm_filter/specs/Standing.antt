@@ -1,8 +1,8 @@
 -- What stands while a callback runs, whatever it calls: the instances, where workers are, and what the operations under way are on.
 use Rattle.std.specs.Prelude.{ℕ, List, map, Option, Some, None}
 use Rattle.std.specs.List.{filter_map}
-use Rattle.fm_flow.specs.declared.entry.Entry.{Entry}
-use Rattle.fm_flow.specs.declared.entry.Entry.TheVariants.{Drain}
+use Rattle.fm_operations.specs.declared.entry.Entry.{Entry}
+use Rattle.fm_operations.specs.declared.entry.Entry.TheVariants.{Drain}
 use Rattle.fm_world.specs.Words.{FlowRecord, OpId, Operation, StackWorld, WorkerId}
 use Rattle.fm_world.specs.World.{World}
 use Rattle.fm_world.specs.declared.place.Place.{Place}

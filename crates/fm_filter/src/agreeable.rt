@@ -4,7 +4,7 @@ ghost use Rattle.std.specs.Prelude.{◌≡◌, true};
 
 use crate::minifilter::Minifilter;
 use crate::port::Port;
-use fm_data::{CallbackData, Completion, PostVerdict, PreVerdict};
+use fm_callback_data::{CallbackData, Completion, PostVerdict, PreVerdict};
 use fm_types::{ContextKind, Registration};
 
 /// A minifilter that agrees to each attach, detach and unload (`STATUS_SUCCESS`): each is a `Minifilter`, whose query and unload agree. The callbacks have
@@ -13,10 +13,10 @@ pub trait Agreeable: Send + Sync + Drop {
     ghost use Rattle.std.specs.Prelude.{ℕ, List};
     ghost use Rattle.fm_types.specs.declared.context_kind.ContextKind.{ContextKind};
     ghost use Rattle.fm_types.specs.declared.registration.Registration.{Registration};
-    ghost use Rattle.fm_data.specs.Data.{Data};
-    ghost use Rattle.fm_data.specs.declared.verdict.Completion.{Completion};
-    ghost use Rattle.fm_data.specs.declared.verdict.PreVerdict.{PreVerdict};
-    ghost use Rattle.fm_data.specs.declared.verdict.PostVerdict.{PostVerdict};
+    ghost use Rattle.fm_callback_data.specs.Data.{Data};
+    ghost use Rattle.fm_callback_data.specs.declared.verdict.Completion.{Completion};
+    ghost use Rattle.fm_callback_data.specs.declared.verdict.PreVerdict.{PreVerdict};
+    ghost use Rattle.fm_callback_data.specs.declared.verdict.PostVerdict.{PostVerdict};
 
     /// What it registers for.
     ghost registers: { Self → Registration };

@@ -5,7 +5,7 @@ ghost use Rattle.fm_filter.specs.Absent.{SkipsPre, SkipsPost};
 
 use crate::callbacks::Callbacks;
 use crate::port::Port;
-use fm_data::{CallbackData, Completion, PostVerdict, PreVerdict};
+use fm_callback_data::{CallbackData, Completion, PostVerdict, PreVerdict};
 
 /// Asks a filter whether it agrees to a new instance. Without a filter nobody agrees.
 pub fn ask_setup<P: Port, F: Callbacks>(filter: Option<&F>, port: &mut P) -> bool

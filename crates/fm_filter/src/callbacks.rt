@@ -4,7 +4,7 @@ ghost use Rattle.std.specs.Prelude.{◌≡◌};
 
 use crate::minifilter::Minifilter;
 use crate::port::Port;
-use fm_data::{CallbackData, Completion, PostVerdict, PreVerdict};
+use fm_callback_data::{CallbackData, Completion, PostVerdict, PreVerdict};
 use fm_types::{ContextKind, Registration};
 
 /// The callbacks of a minifilter and their relations, without a word of threads. Each `Minifilter` has them, and nobody else should: a filter is written as
@@ -13,10 +13,10 @@ pub trait Callbacks: Drop {
     ghost use Rattle.std.specs.Prelude.{ℕ, Bool, List};
     ghost use Rattle.fm_types.specs.declared.context_kind.ContextKind.{ContextKind};
     ghost use Rattle.fm_types.specs.declared.registration.Registration.{Registration};
-    ghost use Rattle.fm_data.specs.Data.{Data};
-    ghost use Rattle.fm_data.specs.declared.verdict.Completion.{Completion};
-    ghost use Rattle.fm_data.specs.declared.verdict.PreVerdict.{PreVerdict};
-    ghost use Rattle.fm_data.specs.declared.verdict.PostVerdict.{PostVerdict};
+    ghost use Rattle.fm_callback_data.specs.Data.{Data};
+    ghost use Rattle.fm_callback_data.specs.declared.verdict.Completion.{Completion};
+    ghost use Rattle.fm_callback_data.specs.declared.verdict.PreVerdict.{PreVerdict};
+    ghost use Rattle.fm_callback_data.specs.declared.verdict.PostVerdict.{PostVerdict};
 
     /// As `Minifilter::registers`.
     ghost registers: { Self → Registration };

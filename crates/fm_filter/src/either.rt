@@ -4,7 +4,7 @@ ghost use Rattle.std.specs.Prelude.{◌≡◌};
 
 use crate::minifilter::Minifilter;
 use crate::port::Port;
-use fm_data::{CallbackData, Completion, PostVerdict, PreVerdict};
+use fm_callback_data::{CallbackData, Completion, PostVerdict, PreVerdict};
 use fm_types::{ContextKind, Registration};
 
 /// One of two filters, so that a manager, which has filters of one type, can have filters of both. Each callback is that of the filter, with its contract.

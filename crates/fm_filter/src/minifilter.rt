@@ -3,7 +3,7 @@
 ghost use Rattle.std.specs.Prelude.{◌≡◌};
 
 use crate::port::Port;
-use fm_data::{CallbackData, Completion, PostVerdict, PreVerdict};
+use fm_callback_data::{CallbackData, Completion, PostVerdict, PreVerdict};
 use fm_types::{ContextKind, Registration};
 
 /// A minifilter: what it registers for, and its callbacks (`FLT_REGISTRATION`). The manager calls them
@@ -19,10 +19,10 @@ pub trait Minifilter: Send + Sync + Drop {
     ghost use Rattle.std.specs.Prelude.{ℕ, Bool, List};
     ghost use Rattle.fm_types.specs.declared.context_kind.ContextKind.{ContextKind};
     ghost use Rattle.fm_types.specs.declared.registration.Registration.{Registration};
-    ghost use Rattle.fm_data.specs.Data.{Data};
-    ghost use Rattle.fm_data.specs.declared.verdict.Completion.{Completion};
-    ghost use Rattle.fm_data.specs.declared.verdict.PreVerdict.{PreVerdict};
-    ghost use Rattle.fm_data.specs.declared.verdict.PostVerdict.{PostVerdict};
+    ghost use Rattle.fm_callback_data.specs.Data.{Data};
+    ghost use Rattle.fm_callback_data.specs.declared.verdict.Completion.{Completion};
+    ghost use Rattle.fm_callback_data.specs.declared.verdict.PreVerdict.{PreVerdict};
+    ghost use Rattle.fm_callback_data.specs.declared.verdict.PostVerdict.{PostVerdict};
 
     /// What it registers for.
     ghost registers: { Self → Registration };

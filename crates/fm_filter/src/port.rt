@@ -3,9 +3,9 @@
 ghost use Rattle.std.specs.Prelude.{◌≡◌, ◌%◌, ◌^◌, ◌-◌};
 ghost use Rattle.fm_filter.specs.Hands.{Gains, GainsOld, GainsSame, GainsSet, Loses, LosesSent, sent_by};
 
+use fm_callback_data::PreVerdict;
 use fm_ctx::SetMode;
-use fm_data::PreVerdict;
-use fm_flow::Hold;
+use fm_operations::Hold;
 use fm_types::{Bytes, ContextKind, CtxId, OpId, Status};
 use fm_world::{About, SetAnswer};
 
@@ -22,9 +22,9 @@ pub trait Port {
     ghost use Rattle.fm_types.specs.declared.ids.CtxId.{CtxId};
     ghost use Rattle.fm_types.specs.declared.ids.OpId.{OpId};
     ghost use Rattle.fm_types.specs.declared.status.Status.{Status};
-    ghost use Rattle.fm_data.specs.declared.verdict.PreVerdict.{PreVerdict};
+    ghost use Rattle.fm_callback_data.specs.declared.verdict.PreVerdict.{PreVerdict};
     ghost use Rattle.fm_ctx.specs.declared.set_reply.SetMode.{SetMode};
-    ghost use Rattle.fm_flow.specs.declared.hold.Hold.{Hold};
+    ghost use Rattle.fm_operations.specs.declared.hold.Hold.{Hold};
     ghost use Rattle.fm_world.specs.declared.set_answer.SetAnswer.{SetAnswer};
     ghost use Rattle.fm_world.specs.declared.about.About.{About};
     ghost use Rattle.fm_filter.specs.Hands.{InHand};

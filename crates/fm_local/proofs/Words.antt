@@ -13,23 +13,23 @@ pub use Rattle.std.proofs.lemmas.Result.{err_from_is_err_and}
 pub use Rattle.std.specs.List.{list_any}
 pub use Rattle.fm_types.specs.declared.registration.Registration.{Registration}
 pub use Rattle.fm_types.specs.declared.status.Status.TheVariants.{Success}
-pub use Rattle.fm_data.specs.Data.{answered_data, data_fits, fresh_data}
-pub use Rattle.fm_data.specs.Params.{call_fits, fit, is_within_limits}
-pub use Rattle.fm_data.specs.Requests.{params_of}
-pub use Rattle.fm_data.specs.declared.request.FileRequest.{FileRequest}
-pub use Rattle.fm_data.specs.declared.request.Reply.{Reply}
-pub use Rattle.fm_data.specs.declared.request.Request.{Request}
+pub use Rattle.fm_callback_data.specs.Data.{answered_data, data_fits, fresh_data}
+pub use Rattle.fm_callback_data.specs.Params.{call_fits, fit, is_within_limits}
+pub use Rattle.fm_callback_data.specs.Requests.{params_of}
+pub use Rattle.fm_callback_data.specs.declared.request.FileRequest.{FileRequest}
+pub use Rattle.fm_callback_data.specs.declared.request.Reply.{Reply}
+pub use Rattle.fm_callback_data.specs.declared.request.Request.{Request}
 pub use Rattle.fm_stack.specs.declared.instance.StartMark.{StartMark}
-pub use Rattle.fm_flow.specs.Answered.{base_counted}
-pub use Rattle.fm_flow.specs.Entries.{times}
-pub use Rattle.fm_flow.specs.Seen.{sees}
-pub use Rattle.fm_flow.specs.Sound.{IsCourse}
-pub use Rattle.fm_flow.specs.Steps.{ascend, base_fits, base_returned_of, call_base, call_of, call_post, call_pre, descend, give_post, lent_answer}
-pub use Rattle.fm_flow.specs.Steps.{may_take, next_at, next_of, post_returned_of, pre_returned_of, returned_answer, turn, unwound}
-pub use Rattle.fm_flow.specs.Table.{is_number}
-pub use Rattle.fm_flow.specs.Verdict.{verdict_counted}
-pub use Rattle.fm_flow.specs.declared.action.Below.{Below}
-pub use Rattle.fm_flow.specs.declared.stage.Stage.TheVariants.{Ascending}
+pub use Rattle.fm_operations.specs.Answered.{base_counted}
+pub use Rattle.fm_operations.specs.Entries.{times}
+pub use Rattle.fm_operations.specs.Seen.{sees}
+pub use Rattle.fm_operations.specs.Sound.{IsCourse}
+pub use Rattle.fm_operations.specs.Steps.{ascend, base_fits, base_returned_of, call_base, call_of, call_post, call_pre, descend, give_post, lent_answer}
+pub use Rattle.fm_operations.specs.Steps.{may_take, next_at, next_of, post_returned_of, pre_returned_of, returned_answer, turn, unwound}
+pub use Rattle.fm_operations.specs.Table.{is_number}
+pub use Rattle.fm_operations.specs.Verdict.{verdict_counted}
+pub use Rattle.fm_operations.specs.declared.action.Below.{Below}
+pub use Rattle.fm_operations.specs.declared.stage.Stage.TheVariants.{Ascending}
 unfoldable pub use Rattle.fm_ctx.specs.Table.{context_at}
 pub use Rattle.fm_world.proofs.Events.{idle_by}
 pub use Rattle.fm_world.proofs.Runs.{step_keeps}

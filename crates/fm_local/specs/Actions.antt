@@ -9,9 +9,9 @@ use Rattle.fm_local.specs.Words.{Status, VolumeId, WorkerId, World, Parts}
 use Rattle.std.specs.VecDeque.{deque_capacity}
 use Rattle.fm_types.specs.declared.context_kind.ContextKind.{ContextKind}
 use Rattle.fm_types.specs.declared.ids.HandleId.{HandleId}
-use Rattle.fm_data.specs.declared.request.Reply.{Reply}
-use Rattle.fm_data.specs.declared.request.Request.{Request}
-use Rattle.fm_data.specs.declared.request.FileRequest.{FileRequest}
+use Rattle.fm_callback_data.specs.declared.request.Reply.{Reply}
+use Rattle.fm_callback_data.specs.declared.request.Request.{Request}
+use Rattle.fm_callback_data.specs.declared.request.FileRequest.{FileRequest}
 use Rattle.fm_world.specs.Events.{Nexts, Begins, Collects, PreReturns, PostReturns, begin_refused, is_stopping_row}
 use Rattle.fm_world.specs.Sound.{IsSound}
 use Rattle.fm_world.specs.Teardowns.{CompleteReturns}

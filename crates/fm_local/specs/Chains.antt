@@ -4,11 +4,11 @@ use Rattle.fm_local.specs.Words.{BaseCall, Data, Completion, PostVerdict, Finish
 use Rattle.fm_local.specs.Words.{Params, StackWorld, Status, VolumeId}
 use Rattle.fm_types.specs.declared.ids.HandleId.{HandleId}
 use Rattle.fm_types.specs.declared.ids.StreamId.{StreamId}
-use Rattle.fm_data.specs.declared.verdict.PreVerdict.TheVariants.{NoCallback}
-use Rattle.fm_flow.specs.declared.entry.PreState.TheVariants.{Completed}
-use Rattle.fm_flow.specs.Answered.{base_counted}
-use Rattle.fm_flow.specs.Creates.{is_create}
-use Rattle.fm_flow.specs.Table.{empty_table}
+use Rattle.fm_callback_data.specs.declared.verdict.PreVerdict.TheVariants.{NoCallback}
+use Rattle.fm_operations.specs.declared.entry.PreState.TheVariants.{Completed}
+use Rattle.fm_operations.specs.Answered.{base_counted}
+use Rattle.fm_operations.specs.Creates.{is_create}
+use Rattle.fm_operations.specs.Table.{empty_table}
 use Rattle.fm_world.specs.Events.{has_pre, has_post, known_create, known_at}
 use Rattle.fm_world.specs.Files.{FileTable, after_base, after_pre}
 use Rattle.fm_local.specs.Folds.{Chain}

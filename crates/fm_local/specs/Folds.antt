@@ -2,10 +2,10 @@
 -- up through the postoperations that were asked for, in the reverse order.
 use Rattle.std.specs.Prelude.{[], ◌∷◌, ◌≡◌, Bool, List, None, false, true, ℕ}
 use Rattle.fm_local.specs.Words.{Data, Completion, PostVerdict, Finished, PreVerdict, bare_answer, Answer, Operation, Params, Status}
-use Rattle.fm_data.specs.Data.{current_of, fresh_data, answered_data}
-use Rattle.fm_flow.specs.declared.entry.PreState.{PreState}
-use Rattle.fm_flow.specs.Steps.{lent_answer, returned_answer}
-use Rattle.fm_flow.specs.Verdict.{verdict_counted}
+use Rattle.fm_callback_data.specs.Data.{current_of, fresh_data, answered_data}
+use Rattle.fm_operations.specs.declared.entry.PreState.{PreState}
+use Rattle.fm_operations.specs.Steps.{lent_answer, returned_answer}
+use Rattle.fm_operations.specs.Verdict.{verdict_counted}
 
 -- what an operation meets on its way: its kind, which instances have callbacks for it and what these may answer, what the base may answer, and what a filter
 -- that completes the operation makes of what lies below

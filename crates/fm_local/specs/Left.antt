@@ -1,11 +1,11 @@
 -- What is left of a fold, of an operation that is on its way.
 use Rattle.std.specs.Prelude.{[], ⊤, ◌∷◌, ◌≡◌, ◌≤◌, List, None, Option, Some, ℕ, take}
 use Rattle.fm_local.specs.Words.{Answer, FlowRecord, Params, WorkerId}
-use Rattle.fm_flow.specs.declared.entry.Ask.{Ask}
-use Rattle.fm_flow.specs.declared.stage.Stage.{Stage}
-use Rattle.fm_flow.specs.declared.stage.Stage.TheVariants.{Descending, Ascending}
-use Rattle.fm_flow.specs.Entries.{owed, last_visited}
-use Rattle.fm_flow.specs.Seen.{sees}
+use Rattle.fm_operations.specs.declared.entry.Ask.{Ask}
+use Rattle.fm_operations.specs.declared.stage.Stage.{Stage}
+use Rattle.fm_operations.specs.declared.stage.Stage.TheVariants.{Descending, Ascending}
+use Rattle.fm_operations.specs.Entries.{owed, last_visited}
+use Rattle.fm_operations.specs.Seen.{sees}
 use Rattle.fm_local.specs.Folds.{Chain, Asker, asker, Rises, Descends}
 
 -- those that are owed their postoperations, as the fold sees them: each with what its preoperation received

@@ -2,8 +2,8 @@
 use Rattle.std.specs.Prelude.{[], ◌≡◌, ◌+◌, ◌-◌, ◌^◌, List, Option, Result, min, ℕ}
 use Rattle.std.specs.Global.{Vec}
 use Rattle.fm_local.specs.Words.{FilterId, InstanceId, OpId, Status, VolumeId, World, Parts}
-use Rattle.fm_data.specs.declared.request.Reply.{Reply}
-use Rattle.fm_data.specs.declared.request.Request.{Request}
+use Rattle.fm_callback_data.specs.declared.request.Reply.{Reply}
+use Rattle.fm_callback_data.specs.declared.request.Request.{Request}
 use Rattle.fm_filter.specs.declared.minifilter.Minifilter as filter
 use Rattle.fm_base.specs.declared.base.Base as base
 use Rattle.fm_local.specs.declared.bounded.Bounded.{Bounded}

@@ -1,8 +1,8 @@
 -- Where the worker is: inside a callback while that runs, whatever it calls, and idle once it has returned.
 use Rattle.std.specs.Prelude.{◌≡◌, Bool, Ok, Result, Some, false, true}
 use Rattle.fm_local.specs.Words.{FlowAction, OpId, Params, Status, WorkerId, worker_at, World}
-use Rattle.fm_data.specs.Params.{call_fits, fit}
-use Rattle.fm_flow.specs.Table.{told}
+use Rattle.fm_callback_data.specs.Params.{call_fits, fit}
+use Rattle.fm_operations.specs.Table.{told}
 use Rattle.fm_world.specs.declared.place.Place.{Place}
 use Rattle.fm_filter.specs.Standing.{standing_of}
 

@@ -3,8 +3,8 @@ use Rattle.std.specs.Prelude.{[], ◌∷◌, ◌++◌, ◌<◌, ◌≡◌, ◌�
 use Rattle.std.specs.VecDeque.{deque_capacity}
 use Rattle.fm_local.specs.Words.{Answer, BaseCall, Data, Completion, Finished, FilterId, FlowAction, InstanceId, OpId, PreVerdict, PostVerdict, Status, VolumeId}
 use Rattle.fm_local.specs.Words.{Parts}
-use Rattle.fm_data.specs.declared.request.Reply.{Reply}
-use Rattle.fm_data.specs.declared.request.Request.{Request}
+use Rattle.fm_callback_data.specs.declared.request.Reply.{Reply}
+use Rattle.fm_callback_data.specs.declared.request.Request.{Request}
 use Rattle.fm_types.specs.declared.ids.HandleId.{HandleId}
 use Rattle.fm_base.specs.declared.base.Base as base
 use Rattle.fm_device.specs.Bases.{BasesCarry}

@@ -2,8 +2,8 @@
 use Rattle.std.specs.Prelude.{[], ◌∷◌, ◌≡◌, ◌⊎◌, Err, List, None, Ok, Option, Result, Some, false, slice_get, ℕ, ◌+◌}
 use Rattle.fm_local.specs.Words.{BaseCall, Data, Completion, PostVerdict, PreVerdict, bare_answer, Answer, FlowRecord, Instance, OpId, Params}
 use Rattle.fm_local.specs.Words.{StackWorld, Status, WorkerId, worker_at, World}
-use Rattle.fm_data.specs.declared.request.Request.{Request}
-use Rattle.fm_data.specs.declared.request.FileRequest.{FileRequest}
+use Rattle.fm_callback_data.specs.declared.request.Request.{Request}
+use Rattle.fm_callback_data.specs.declared.request.FileRequest.{FileRequest}
 use Rattle.fm_world.specs.Events.{begin_refused, after_begin, is_stopping_phase, Begins, Collects}
 use Rattle.fm_world.specs.Sound.{IsSound}
 use Rattle.fm_world.specs.Steps.{Run}

@@ -1,7 +1,7 @@
 -- How an operation is carried from its beginning to its end: turn after turn, by one worker.
 use Rattle.std.specs.Prelude.{◌≡◌, ◌≤◌, Ok, Option, Result, Some, length, suc, zero, ℕ}
 use Rattle.fm_local.specs.Words.{BaseCall, Data, Completion, PostVerdict, PreVerdict, Answer, FlowAction, OpId, Status, WorkerId, World}
-use Rattle.fm_data.specs.Data.{IsData}
+use Rattle.fm_callback_data.specs.Data.{IsData}
 use Rattle.fm_world.specs.Events.{Nexts, PreReturns, BaseReturns, PostReturns}
 use Rattle.fm_local.specs.Chains.{PreMay, PostMay, filter_in}
 

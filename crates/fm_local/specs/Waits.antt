@@ -3,16 +3,16 @@ use Rattle.std.specs.Prelude.{[], ⊤, ◌∷◌, ◌≡◌, ◌==◌, ◌&&◌,
 use Rattle.std.specs.List.{list_any}
 use Rattle.fm_local.specs.Words.{Answer, FlowAction, FlowRecord, Parts, OpId, Operation, Status, WorkerId, World}
 use Rattle.fm_filter.specs.Standing.{Shape, Standing, shape_of}
-use Rattle.fm_flow.specs.declared.stage.Stage.{Stage}
-use Rattle.fm_flow.specs.declared.stage.Stage.TheVariants.{Ascending, Descending}
-use Rattle.fm_flow.specs.Table.{FlowTable, is_collectable, told}
+use Rattle.fm_operations.specs.declared.stage.Stage.{Stage}
+use Rattle.fm_operations.specs.declared.stage.Stage.TheVariants.{Ascending, Descending}
+use Rattle.fm_operations.specs.Table.{FlowTable, is_collectable, told}
 use Rattle.fm_world.specs.Sound.{IsSound}
 use Rattle.fm_world.specs.Steps.{Steps}
 use Rattle.fm_world.specs.declared.step.Step.{Step}
 use Rattle.fm_world.specs.declared.step.Step.TheVariants as step
 use Rattle.fm_world.specs.declared.step.StepReply.{StepReply}
 use Rattle.fm_world.specs.declared.place.Place.{Place}
-use Rattle.fm_data.specs.declared.request.Reply.{Reply}
+use Rattle.fm_callback_data.specs.declared.request.Reply.{Reply}
 use Rattle.fm_world.specs.Events.{Collects}
 use Rattle.fm_local.specs.Actions.{replied}
 use Rattle.fm_local.specs.Places.{IsIn}

@@ -3,7 +3,7 @@
 
 ghost use Rattle.std.specs.Prelude.{◌≡◌, Ok};
 ghost use Rattle.fm_filter.specs.Standing.{standing_of};
-ghost use Rattle.fm_flow.specs.declared.action.FlowAction.TheVariants as step;
+ghost use Rattle.fm_operations.specs.declared.action.FlowAction.TheVariants as step;
 ghost use Rattle.fm_world.specs.declared.place.Place.TheVariants as place;
 ghost use Rattle.fm_local.specs.Actions.{CallsBack, OnlyState, filter_at};
 ghost use Rattle.fm_local.specs.Callbacks.{CallsOnly, consents, was_told};
@@ -20,8 +20,8 @@ use crate::local_port::Work;
 use crate::parts::{Parts, WORKER};
 use crate::trace::{PostAnswer, PreAnswer, Traced, Visit};
 use fm_base::Base;
+use fm_callback_data::{CallbackData, Completion, PostVerdict, PreVerdict};
 use fm_core::{Entry, Place, PreState, State};
-use fm_data::{CallbackData, Completion, PostVerdict, PreVerdict};
 use fm_filter::{
     Filters, Minifilter, ask_post, ask_pre, ask_query, ask_setup, let_go, tell_complete, tell_start,
 };

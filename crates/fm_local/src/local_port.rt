@@ -8,8 +8,8 @@ ghost use Rattle.fm_local.specs.Waits.{standing_with};
 use crate::bounded::Bounded;
 use crate::parts::WORKER;
 use crate::refusal::{PortCall, Refusal};
+use fm_callback_data::PreVerdict;
 use fm_core::{About, Hold, Place, SetAnswer, SetMode, State};
-use fm_data::PreVerdict;
 use fm_filter::Port;
 use fm_types::{Bytes, ContextKind, CtxId, OpId, Status};
 

@@ -1,10 +1,10 @@
 //! Requests, each carried from its first callback to its reply.
 
 ghost use Rattle.std.specs.Prelude.{◌≡◌, Ok, false};
-ghost use Rattle.fm_data.specs.declared.request.FileRequest.TheVariants as asked;
-ghost use Rattle.fm_data.specs.declared.request.Request.TheVariants as client;
-ghost use Rattle.fm_flow.specs.Answered.{bare_answer};
-ghost use Rattle.fm_flow.specs.declared.action.FlowAction.TheVariants as step;
+ghost use Rattle.fm_callback_data.specs.declared.request.FileRequest.TheVariants as asked;
+ghost use Rattle.fm_callback_data.specs.declared.request.Request.TheVariants as client;
+ghost use Rattle.fm_operations.specs.Answered.{bare_answer};
+ghost use Rattle.fm_operations.specs.declared.action.FlowAction.TheVariants as step;
 ghost use Rattle.fm_local.specs.Actions.{CarriesIn, CarriesOn, CarriesOnAll, ClosesAfter, ClosesRefused, ClosesThen, GivesFinished, OnlyState, PerformsAlone, RefusesIn, RefusesOne, RepliesWith, RequestsOne, RunsAlone, RunsOn, Settles, TakesDone, closed_handle, ends_turn, goes_on, is_over, replied};
 ghost use Rattle.fm_local.specs.Between.{StaysBetween};
 ghost use Rattle.fm_local.specs.Offered.{AnswersAny, AnswersReady, HasNoneDue, SameAround, SameFilters, StaysOut};
@@ -14,8 +14,8 @@ ghost use Rattle.fm_local.specs.Waits.{HandsOut, StaysApart, StaysWaiting, Waiti
 use crate::parts::{Parts, WORKER};
 use crate::trace::Visit;
 use fm_base::Base;
+use fm_callback_data::{Answer, BaseCall, FileRequest, Reply, Request};
 use fm_core::Action;
-use fm_data::{Answer, BaseCall, FileRequest, Reply, Request};
 use fm_device::Device;
 use fm_filter::Minifilter;
 use fm_types::limits::{OPERATIONS, TURNS};

@@ -1,7 +1,7 @@
 //! What the manager notes of each operation.
 
+use fm_callback_data::{PostVerdict, PreVerdict};
 use fm_core::PreState;
-use fm_data::{PostVerdict, PreVerdict};
 use fm_types::{InstanceId, OpId, Status};
 use std::fmt;
 

@@ -2,7 +2,7 @@
 use Rattle.fm_lock.specs.Events.{HandAfter, Holding}
 use Rattle.fm_lock.specs.Replies.{context_in, done_in, drained_in, old_in, set_in}
 use Rattle.fm_lock.specs.Views.{HandView}
-use Rattle.fm_data.specs.declared.verdict.Completion.{Completion}
+use Rattle.fm_callback_data.specs.declared.verdict.Completion.{Completion}
 use Rattle.fm_types.specs.declared.ids.CtxId.{CtxId}
 use Rattle.fm_types.specs.declared.ids.OpId.{OpId}
 use Rattle.fm_types.specs.declared.status.Status.{Status}

@@ -3,8 +3,8 @@ use Rattle.fm_lock.specs.Events.{EventAlone, EventBy, HandAfter, IsRefused, Made
 use Rattle.fm_lock.specs.Views.{HandView, LockedView}
 use Rattle.fm_world.specs.Hands.{hand_len}
 use Rattle.fm_world.specs.StepHands.{worker_of}
-use Rattle.fm_flow.specs.Table.{collect_reply, operation_at}
-use Rattle.fm_flow.specs.Record.{FlowRecord}
+use Rattle.fm_operations.specs.Table.{collect_reply, operation_at}
+use Rattle.fm_operations.specs.Record.{FlowRecord}
 use Rattle.fm_world.specs.Events.{Collects}
 use Rattle.fm_world.specs.Words.{Answer, OpId}
 use Rattle.fm_world.specs.World.{World}

@@ -2,10 +2,10 @@
 -- WrongStep, with nothing changed and the data handed back.
 use Rattle.std.specs.Prelude.{ℕ, List, Option, Result, Err}
 use Rattle.fm_core.specs.Returned.{status_of}
-use Rattle.fm_data.specs.Calls.{BaseCall}
-use Rattle.fm_data.specs.Data.{Data}
-use Rattle.fm_data.specs.declared.verdict.PostVerdict.{PostVerdict}
-use Rattle.fm_data.specs.declared.verdict.PreVerdict.{PreVerdict}
+use Rattle.fm_callback_data.specs.Calls.{BaseCall}
+use Rattle.fm_callback_data.specs.Data.{Data}
+use Rattle.fm_callback_data.specs.declared.verdict.PostVerdict.{PostVerdict}
+use Rattle.fm_callback_data.specs.declared.verdict.PreVerdict.{PreVerdict}
 use Rattle.fm_lock.specs.Events.{EventOr}
 use Rattle.fm_lock.specs.Views.{HandView, LockedView}
 use Rattle.fm_types.specs.declared.status.Status.TheVariants as status

@@ -1,6 +1,6 @@
 -- An answer of a kind, read off a reply; what isn't of that kind, and what was refused first of all, is WrongStep.
 use Rattle.std.specs.Prelude.{ℕ, List, Option, Result, Ok, Err}
-use Rattle.fm_data.specs.declared.verdict.Completion.{Completion}
+use Rattle.fm_callback_data.specs.declared.verdict.Completion.{Completion}
 use Rattle.fm_types.specs.declared.status.Status.TheVariants as status
 use Rattle.fm_world.specs.Words.{VolumeId, InstanceId, OpId, HandleId, CtxId, Status, Due}
 use Rattle.fm_world.specs.declared.refused.Refused.{Refused}

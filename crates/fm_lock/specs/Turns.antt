@@ -1,6 +1,6 @@
 -- Which filter an operation's next turn calls.
 use Rattle.std.specs.Prelude.{ℕ, Option, Some, None, Result, Ok, option_and_then, option_map, slice_get, slice_index_or}
-use Rattle.fm_flow.specs.declared.action.FlowAction.TheVariants as action
+use Rattle.fm_operations.specs.declared.action.FlowAction.TheVariants as action
 use Rattle.fm_stack.specs.declared.instance.Instance.{Instance}
 use Rattle.fm_types.specs.declared.ids.FilterId.{FilterId}
 use Rattle.fm_types.specs.declared.ids.InstanceId.{InstanceId}

@@ -12,9 +12,9 @@ use crate::replies::{
     old_in, operation_in, set_in, volume_in,
 };
 use fm_altitude::Altitude;
+use fm_callback_data::{Completion, PreVerdict, Request};
 use fm_ctx::{Due, SetMode};
-use fm_data::{Completion, PreVerdict, Request};
-use fm_flow::Hold;
+use fm_operations::Hold;
 use fm_rundown::Seen;
 use fm_types::{
     Bytes, ContextKind, CtxId, FilterId, HandleId, InstanceId, Name, OpId, Status, VolumeId,

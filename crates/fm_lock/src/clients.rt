@@ -4,7 +4,7 @@ ghost use Rattle.std.specs.Prelude.{◌≡◌, IfErr};
 
 use crate::hand::Hand;
 use crate::manager::Manager;
-use fm_data::Answer;
+use fm_callback_data::Answer;
 use fm_types::{OpId, Status, WorkerId};
 use std::sync::ledger::Ledger;
 use std::sync::{CondvarTimeouts, Wait};

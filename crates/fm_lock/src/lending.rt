@@ -8,8 +8,8 @@ ghost use Rattle.fm_lock.specs.Events.{Holding};
 
 use crate::hand::Hand;
 use crate::manager::Manager;
-use fm_data::{Answer, BaseCall, CallbackData, PostVerdict, PreVerdict};
-use fm_flow::FlowAction;
+use fm_callback_data::{Answer, BaseCall, CallbackData, PostVerdict, PreVerdict};
+use fm_operations::FlowAction;
 use fm_types::{CtxId, OpId, Status};
 use fm_world::Refused;
 use std::sync::Wait;

@@ -1,8 +1,8 @@
 //! What stands behind the lock: the state, the book of all hands' references, and which hands are out.
 
 ghost use Rattle.std.specs.Prelude.{◌≡◌, ◌↔◌, false, Some, None, IsTrue, IfOk, IfErr, MatchResult, option_map, replicate, slice_set};
-ghost use Rattle.fm_flow.specs.Steps.{is_done};
-ghost use Rattle.fm_flow.specs.Table.{operation_at};
+ghost use Rattle.fm_operations.specs.Steps.{is_done};
+ghost use Rattle.fm_operations.specs.Table.{operation_at};
 ghost use Rattle.fm_world.specs.World.{empty_world};
 ghost use Rattle.fm_world.specs.Dismounts.{StartsDismount};
 ghost use Rattle.fm_world.specs.Events.{Collects, Registers, sync_worker};
@@ -12,8 +12,8 @@ ghost use Rattle.fm_lock.specs.Views.{HandView};
 ghost use Rattle.fm_lock.specs.Blanks.{IsBlankOf};
 
 use crate::hand::Hand;
+use fm_callback_data::Answer;
 use fm_core::State;
-use fm_data::Answer;
 use fm_rundown::Seen;
 use fm_types::limits::{FILTERS, WORKERS};
 use fm_types::{FilterId, Name, OpId, Registration, Status, WorkerId};

@@ -15,7 +15,7 @@ use crate::locked::Locked;
 use crate::report::Report;
 use crate::waiting::Waiting;
 use fm_filter::Callbacks;
-use fm_flow::FlowAction;
+use fm_operations::FlowAction;
 use fm_types::{FilterId, InstanceId, Name, OpId, Status};
 use fm_world::{Refused, Step, StepReply};
 use std::alloc::Global;

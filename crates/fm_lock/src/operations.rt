@@ -9,8 +9,8 @@ ghost use Rattle.fm_lock.specs.Lending.{BaseReturnsBy, NextsBy, PostReturnsBy, P
 
 use crate::hand::Hand;
 use crate::locked::Locked;
-use fm_data::{Answer, BaseCall, CallbackData, PostVerdict, PreVerdict};
-use fm_flow::FlowAction;
+use fm_callback_data::{Answer, BaseCall, CallbackData, PostVerdict, PreVerdict};
+use fm_operations::FlowAction;
 use fm_types::{CtxId, OpId, Status};
 use fm_world::Refused;
 use std::sync::ledger::Ledger;

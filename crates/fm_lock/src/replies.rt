@@ -3,8 +3,8 @@
 ghost use Rattle.std.specs.Prelude.{◌≡◌, Err};
 ghost use Rattle.fm_lock.specs.Replies.{body_in, context_in, done_in, drained_in, dropped_in, due_in, held_in, instance_in, number_in, old_in, operation_in, set_in, volume_in};
 
+use fm_callback_data::Completion;
 use fm_ctx::Due;
-use fm_data::Completion;
 use fm_types::{Bytes, CtxId, HandleId, InstanceId, OpId, Status, VolumeId};
 use fm_world::{Refused, SetAnswer, Step, StepReply};
 

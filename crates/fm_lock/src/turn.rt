@@ -11,7 +11,7 @@ ghost use Rattle.fm_lock.specs.Turns.{called_by, place_called_by, place_of_insta
 use crate::hand::Hand;
 use crate::locked::Locked;
 use crate::manager::{Manager, is_done};
-use fm_flow::FlowAction;
+use fm_operations::FlowAction;
 use fm_types::{InstanceId, OpId, Status, WorkerId};
 use std::sync::Wait;
 use std::sync::ledger::Ledger;

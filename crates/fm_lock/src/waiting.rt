@@ -2,7 +2,7 @@
 
 ghost use Rattle.std.specs.Prelude.{◌<◌};
 
-use fm_look::Looks;
+use fm_spin::Looks;
 use fm_types::{OpId, WorkerId};
 use std::array;
 use std::sync::Condvar;

@@ -1,9 +1,9 @@
 -- Which mistake is told of what a callback did.
 use Rattle.std.specs.Prelude.{Option, Some, None, Bool, ℕ, true, false, nat_eq, ◌&&◌, ◌||◌, List, [], ◌∷◌, bytes_eq, codes, find}
-use Rattle.fm_data.specs.declared.verdict.PreVerdict.{PreVerdict}
-use Rattle.fm_data.specs.declared.verdict.PreVerdict.TheVariants as verdict
-use Rattle.fm_flow.specs.declared.entry.PreState.{PreState}
-use Rattle.fm_flow.specs.declared.entry.PreState.TheVariants as state
+use Rattle.fm_callback_data.specs.declared.verdict.PreVerdict.{PreVerdict}
+use Rattle.fm_callback_data.specs.declared.verdict.PreVerdict.TheVariants as verdict
+use Rattle.fm_operations.specs.declared.entry.PreState.{PreState}
+use Rattle.fm_operations.specs.declared.entry.PreState.TheVariants as state
 use Rattle.fm_types.specs.Statuses as statuses
 use Rattle.fm_local.specs.declared.refusal.PortCall.{PortCall}
 use Rattle.fm_local.specs.declared.refusal.PortCall.TheVariants as call

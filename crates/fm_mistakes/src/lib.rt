@@ -2,6 +2,8 @@
 //!
 //! `findings` reads the three lists of a manager: the steps of operations, the references that callbacks left behind, and the calls that were refused. An
 //! `Account` keeps what was told of each request, what was expected, and says how a trial ends.
+//!
+//! Only fm_trial uses it. It is a crate of its own so that both are proved in parallel.
 #![tactic(auto)]
 
 mod account;

@@ -3,8 +3,8 @@
 ghost use Rattle.std.specs.Prelude.{◌≡◌, bytes_eq, find};
 ghost use Rattle.fm_mistakes.specs.Mistakes.{id_of, is_leak, is_limit, is_misuse, is_same_status, mistake_of, mistake_read, number_of, post_mistake, pre_mistake, unless};
 
+use fm_callback_data::PreVerdict;
 use fm_core::PreState;
-use fm_data::PreVerdict;
 use fm_local::{PortCall, PostAnswer, PreAnswer, Refusal};
 use fm_types::Status;
 use std::fmt;

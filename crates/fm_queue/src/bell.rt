@@ -1,6 +1,6 @@
 //! Whom a put wakes: one thread that sleeps until a job is put, or nobody if one looks for it already.
 
-use fm_look::Looks;
+use fm_spin::Looks;
 use std::sync::Wait;
 use std::sync::atomic::{AtomicU64, Ordering};
 

@@ -1,7 +1,7 @@
 //! What the manager's records tell of an operation: who holds it, and which verdicts count.
 
+use fm_callback_data::PreVerdict;
 use fm_core::{Entry, Hold, PostState, PreState, State};
-use fm_data::PreVerdict;
 use fm_types::{InstanceId, OpId};
 
 // Who holds an operation by an entry of its record.

@@ -2,8 +2,8 @@
 
 use crate::facts::Facts;
 use crate::kind::Kind;
+use fm_callback_data::PreVerdict;
 use fm_core::Place;
-use fm_data::PreVerdict;
 use fm_types::{InstanceId, OpId, Status};
 
 /// A worker's visit of an instance for an operation.

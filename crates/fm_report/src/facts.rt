@@ -1,7 +1,7 @@
 //! What an event has: the ids that it names, its status, its number. The words, the objects and the pictures read these, whatever happened.
 
+use fm_callback_data::PreVerdict;
 use fm_core::Phase;
-use fm_data::PreVerdict;
 use fm_types::{ContextKind, Status};
 
 /// What an event has, where there is such a thing. Ids stand by their numbers, contexts in the order of their allocation.

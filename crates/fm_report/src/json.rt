@@ -8,8 +8,8 @@ use crate::notes::{Change, LeakNote, Notes, What};
 use crate::object::JsonObject;
 use crate::tally::Summary;
 use crate::text::Text;
+use fm_callback_data::PreVerdict;
 use fm_core::{Phase, Place};
-use fm_data::PreVerdict;
 use fm_types::Status;
 use std::alloc::Global;
 

@@ -3,8 +3,8 @@
 use crate::event::Event;
 use crate::kind::Kind;
 use fm_altitude::Altitude;
+use fm_callback_data::{FileRequest, Request};
 use fm_core::{FilterPhase, Phase, Place, State, VolumePhase};
-use fm_data::{FileRequest, Request};
 use fm_types::limits::SCRIPT_WORKERS;
 use fm_types::{
     ContextKind, CreateMode, FilterId, InstanceId, Name, SharedPath, Status, VolumeId, WorkerId,

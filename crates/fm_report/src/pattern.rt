@@ -7,8 +7,8 @@ use crate::named::{
 use crate::notes::{Notes, What};
 use crate::push::{push_ascii, push_count, push_hex, push_id, push_number, push_status};
 use crate::text::Text;
+use fm_callback_data::PreVerdict;
 use fm_core::Phase;
-use fm_data::PreVerdict;
 use fm_types::{ContextKind, Status};
 
 /// How many bytes of a body or of a reply are shown.

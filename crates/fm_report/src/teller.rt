@@ -15,8 +15,8 @@ use crate::status::sentence;
 use crate::tally::Summary;
 use crate::text::Text;
 use crate::words::say_detail;
+use fm_callback_data::{FileRequest, Request};
 use fm_core::{Phase, Place, State};
-use fm_data::{FileRequest, Request};
 use fm_types::{ContextKind, CtxId, FilterId, InstanceId, Name, Status, VolumeId};
 use std::alloc::{AllocError, Global};
 

@@ -4,10 +4,10 @@ use Rattle.fm_types.specs.declared.context_kind.ContextKind.{ContextKind}
 use Rattle.fm_types.specs.declared.ids.CtxId.{CtxId}
 use Rattle.fm_types.specs.declared.ids.OpId.{OpId}
 use Rattle.fm_types.specs.declared.status.Status.{Status}
-use Rattle.fm_data.specs.declared.verdict.PreVerdict.TheVariants.{NoCallback}
+use Rattle.fm_callback_data.specs.declared.verdict.PreVerdict.TheVariants.{NoCallback}
 use Rattle.fm_ctx.specs.declared.set_reply.SetMode.TheVariants.{Keep}
-use Rattle.fm_flow.specs.declared.hold.Hold.{Hold}
-use Rattle.fm_flow.specs.declared.hold.Hold.TheVariants as callback
+use Rattle.fm_operations.specs.declared.hold.Hold.{Hold}
+use Rattle.fm_operations.specs.declared.hold.Hold.TheVariants as callback
 use Rattle.fm_world.specs.declared.set_answer.SetAnswer.{SetAnswer}
 use Rattle.fm_world.specs.declared.set_answer.SetAnswer.TheVariants.{Linked, AlreadyDefined, Refused}
 use Rattle.fm_filter.specs.declared.port.Port as port

@@ -5,11 +5,11 @@ use Rattle.fm_types.specs.declared.ids.CtxId.{CtxId}
 use Rattle.fm_types.specs.declared.status.Status.{Status}
 use Rattle.fm_types.specs.declared.status.Status.TheVariants.{NoContext}
 use Rattle.fm_types.specs.declared.registration.Registration.{Registration}
-use Rattle.fm_data.specs.declared.params.Params.{Params}
-use Rattle.fm_data.specs.declared.params.Params.TheVariants as params
-use Rattle.fm_data.specs.declared.verdict.PreVerdict.{PreVerdict}
-use Rattle.fm_data.specs.declared.verdict.PreVerdict.TheVariants.{NoCallback, WithCallback}
-use Rattle.fm_data.specs.Data.{Data, current_of}
+use Rattle.fm_callback_data.specs.declared.params.Params.{Params}
+use Rattle.fm_callback_data.specs.declared.params.Params.TheVariants as params
+use Rattle.fm_callback_data.specs.declared.verdict.PreVerdict.{PreVerdict}
+use Rattle.fm_callback_data.specs.declared.verdict.PreVerdict.TheVariants.{NoCallback, WithCallback}
+use Rattle.fm_callback_data.specs.Data.{Data, current_of}
 use Rattle.fm_filter.specs.declared.port.Port as port
 use Rattle.fm_samples.specs.Calls.{SetsUnlessThere}
 

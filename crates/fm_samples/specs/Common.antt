@@ -1,12 +1,12 @@
 -- What the sample filters have in common.
 use Rattle.std.specs.Prelude.{◌≡◌, ℕ, List, None}
 use Rattle.fm_types.specs.declared.context_kind.ContextKind.{ContextKind}
-use Rattle.fm_data.specs.Data.{Data}
-use Rattle.fm_data.specs.declared.verdict.Completion.{Completion}
-use Rattle.fm_data.specs.declared.verdict.PreVerdict.{PreVerdict}
-use Rattle.fm_data.specs.declared.verdict.PreVerdict.TheVariants.{NoCallback}
-use Rattle.fm_data.specs.declared.verdict.PostVerdict.{PostVerdict}
-use Rattle.fm_data.specs.declared.verdict.PostVerdict.TheVariants.{Finished}
+use Rattle.fm_callback_data.specs.Data.{Data}
+use Rattle.fm_callback_data.specs.declared.verdict.Completion.{Completion}
+use Rattle.fm_callback_data.specs.declared.verdict.PreVerdict.{PreVerdict}
+use Rattle.fm_callback_data.specs.declared.verdict.PreVerdict.TheVariants.{NoCallback}
+use Rattle.fm_callback_data.specs.declared.verdict.PostVerdict.{PostVerdict}
+use Rattle.fm_callback_data.specs.declared.verdict.PostVerdict.TheVariants.{Finished}
 
 -- a postoperation that leaves the data as it is, and lets it go on
 abbrev pub IsBarePost : Data → Completion → PostVerdict → Data → Type 0

@@ -5,8 +5,8 @@ use Rattle.fm_types.specs.declared.context_kind.ContextKind.TheVariants.{Stream}
 use Rattle.fm_types.specs.declared.ids.CtxId.{CtxId}
 use Rattle.fm_types.specs.declared.status.Status.{Status}
 use Rattle.fm_types.specs.declared.registration.Registration.{Registration}
-use Rattle.fm_data.specs.declared.params.Params.{Params}
-use Rattle.fm_data.specs.declared.params.Params.TheVariants as params
+use Rattle.fm_callback_data.specs.declared.params.Params.{Params}
+use Rattle.fm_callback_data.specs.declared.params.Params.TheVariants as params
 use Rattle.fm_ctx.specs.Bodies.{number_at}
 use Rattle.fm_filter.specs.declared.port.Port as port
 use Rattle.fm_samples.specs.Calls.{Releases, SetsUnlessThere}

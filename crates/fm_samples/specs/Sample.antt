@@ -2,12 +2,12 @@
 use Rattle.std.specs.Prelude.{◌≡◌, ℕ, List, ⊤}
 use Rattle.fm_types.specs.declared.context_kind.ContextKind.{ContextKind}
 use Rattle.fm_types.specs.declared.registration.Registration.{Registration}
-use Rattle.fm_data.specs.Data.{Data}
-use Rattle.fm_data.specs.declared.params.Params.{Params}
-use Rattle.fm_data.specs.declared.verdict.Completion.{Completion}
-use Rattle.fm_data.specs.declared.verdict.PreVerdict.{PreVerdict}
-use Rattle.fm_data.specs.declared.verdict.PostVerdict.{PostVerdict}
-use Rattle.fm_flow.specs.declared.hold.Hold.TheVariants as callback
+use Rattle.fm_callback_data.specs.Data.{Data}
+use Rattle.fm_callback_data.specs.declared.params.Params.{Params}
+use Rattle.fm_callback_data.specs.declared.verdict.Completion.{Completion}
+use Rattle.fm_callback_data.specs.declared.verdict.PreVerdict.{PreVerdict}
+use Rattle.fm_callback_data.specs.declared.verdict.PostVerdict.{PostVerdict}
+use Rattle.fm_operations.specs.declared.hold.Hold.TheVariants as callback
 use Rattle.fm_filter.specs.declared.port.Port as port
 use Rattle.fm_samples.specs.declared.sample.Sample.{Sample}
 use Rattle.fm_samples.specs.declared.sample.Sample.TheVariants.{Guard, Meter, Shift, Hold, Carry, Stay}

@@ -2,14 +2,14 @@
 use Rattle.std.specs.Prelude.{◌≡◌, ◌⊎◌, ℕ, ◌+◌, ◌%◌, true, List, map, Some}
 use Rattle.fm_types.specs.declared.registration.Registration.{Registration}
 use Rattle.fm_types.specs.declared.status.Status.TheVariants as status
-use Rattle.fm_data.specs.declared.params.Params.{Params}
-use Rattle.fm_data.specs.declared.params.Params.TheVariants as params
-use Rattle.fm_data.specs.declared.verdict.Completion.{Completion}
-use Rattle.fm_data.specs.declared.verdict.PreVerdict.{PreVerdict}
-use Rattle.fm_data.specs.declared.verdict.PreVerdict.TheVariants as verdict
-use Rattle.fm_data.specs.declared.verdict.PostVerdict.{PostVerdict}
-use Rattle.fm_data.specs.declared.verdict.PostVerdict.TheVariants.{Finished}
-use Rattle.fm_data.specs.Data.{Data, current_of}
+use Rattle.fm_callback_data.specs.declared.params.Params.{Params}
+use Rattle.fm_callback_data.specs.declared.params.Params.TheVariants as params
+use Rattle.fm_callback_data.specs.declared.verdict.Completion.{Completion}
+use Rattle.fm_callback_data.specs.declared.verdict.PreVerdict.{PreVerdict}
+use Rattle.fm_callback_data.specs.declared.verdict.PreVerdict.TheVariants as verdict
+use Rattle.fm_callback_data.specs.declared.verdict.PostVerdict.{PostVerdict}
+use Rattle.fm_callback_data.specs.declared.verdict.PostVerdict.TheVariants.{Finished}
+use Rattle.fm_callback_data.specs.Data.{Data, current_of}
 use Rattle.fm_samples.specs.Common.{plain_completion}
 
 -- it has preoperations of reads and writes, and a postoperation of reads

@@ -1,15 +1,15 @@
 -- The filter that holds the answers of reads until a flush.
 use Rattle.std.specs.Prelude.{◌≡◌, true, false}
 use Rattle.fm_types.specs.declared.registration.Registration.{Registration}
-use Rattle.fm_data.specs.declared.params.Params.{Params}
-use Rattle.fm_data.specs.declared.params.Params.TheVariants as params
-use Rattle.fm_data.specs.declared.verdict.Completion.{Completion}
-use Rattle.fm_data.specs.declared.verdict.PreVerdict.{PreVerdict}
-use Rattle.fm_data.specs.declared.verdict.PreVerdict.TheVariants.{NoCallback, WithCallback}
-use Rattle.fm_data.specs.declared.verdict.PostVerdict.{PostVerdict}
-use Rattle.fm_data.specs.declared.verdict.PostVerdict.TheVariants.{MoreProcessing}
-use Rattle.fm_data.specs.Data.{Data, current_of}
-use Rattle.fm_flow.specs.declared.hold.Hold.TheVariants.{Post}
+use Rattle.fm_callback_data.specs.declared.params.Params.{Params}
+use Rattle.fm_callback_data.specs.declared.params.Params.TheVariants as params
+use Rattle.fm_callback_data.specs.declared.verdict.Completion.{Completion}
+use Rattle.fm_callback_data.specs.declared.verdict.PreVerdict.{PreVerdict}
+use Rattle.fm_callback_data.specs.declared.verdict.PreVerdict.TheVariants.{NoCallback, WithCallback}
+use Rattle.fm_callback_data.specs.declared.verdict.PostVerdict.{PostVerdict}
+use Rattle.fm_callback_data.specs.declared.verdict.PostVerdict.TheVariants.{MoreProcessing}
+use Rattle.fm_callback_data.specs.Data.{Data, current_of}
+use Rattle.fm_operations.specs.declared.hold.Hold.TheVariants.{Post}
 use Rattle.fm_filter.specs.declared.port.Port as port
 use Rattle.fm_samples.specs.Calls.{ResumesAll}
 use Rattle.fm_samples.specs.Common.{plain_completion}

@@ -1,14 +1,14 @@
 //! A filter whose reads take a context along.
 
 ghost use Rattle.std.specs.Prelude.{◌≡◌, ◌∷◌, [], IfOk, IfErr};
-ghost use Rattle.fm_data.specs.Data.{current_of};
+ghost use Rattle.fm_callback_data.specs.Data.{current_of};
 ghost use Rattle.fm_samples.specs.Calls.{ReleasesSent};
 ghost use Rattle.fm_samples.specs.Carry.{CarriesPre, CarriesCalls, FindsOwn, MakesOwn};
 ghost use Rattle.fm_samples.specs.Common.{IsBarePost};
 
 use crate::common::set_unless_there;
 use crate::memory::Memory;
-use fm_data::{CallbackData, Completion, Params, PostVerdict, PreVerdict};
+use fm_callback_data::{CallbackData, Completion, Params, PostVerdict, PreVerdict};
 use fm_filter::{Agreeable, Port};
 use fm_types::{Bytes, ContextKind, ContextMask, CtxId, OpMask, Registration, Status};
 use std::alloc::{AllocError, Global};

@@ -4,10 +4,10 @@ ghost use Rattle.std.specs.Prelude.{◌≡◌};
 ghost use Rattle.fm_samples.specs.Calls.{Resumes, ResumesAll, ResumesOne, SetsUnlessThere};
 ghost use Rattle.fm_samples.specs.Common.{plain_completion};
 
+use fm_callback_data::{Completion, PreVerdict};
 use fm_ctx::SetMode;
-use fm_data::{Completion, PreVerdict};
 use fm_filter::Port;
-use fm_flow::Hold;
+use fm_operations::Hold;
 use fm_types::limits::OPERATIONS;
 use fm_types::{Bytes, ContextKind, CtxId, OpId, Status};
 use fm_world::SetAnswer;

@@ -1,15 +1,15 @@
 //! A filter that holds reads until a flush.
 
 ghost use Rattle.std.specs.Prelude.{◌≡◌};
-ghost use Rattle.fm_data.specs.Data.{current_of};
+ghost use Rattle.fm_callback_data.specs.Data.{current_of};
 ghost use Rattle.fm_samples.specs.Calls.{ResumesAll};
 ghost use Rattle.fm_samples.specs.Common.{IsBarePost};
 ghost use Rattle.fm_samples.specs.Hold.{HoldsPre, HoldsCalls};
 
 use crate::common::resume_all;
-use fm_data::{CallbackData, Completion, Params, PostVerdict, PreVerdict};
+use fm_callback_data::{CallbackData, Completion, Params, PostVerdict, PreVerdict};
 use fm_filter::{Agreeable, Port};
-use fm_flow::Hold as Held;
+use fm_operations::Hold as Held;
 use fm_types::{ContextKind, ContextMask, OpMask, Registration};
 
 /// Holds each read in its preoperation, until a flush comes to the instance or its teardown starts (what a

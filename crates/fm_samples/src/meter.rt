@@ -1,13 +1,13 @@
 //! A filter that counts what is read and written.
 
 ghost use Rattle.std.specs.Prelude.{◌≡◌, IfOk, IfErr, replicate};
-ghost use Rattle.fm_data.specs.Data.{current_of};
+ghost use Rattle.fm_callback_data.specs.Data.{current_of};
 ghost use Rattle.fm_samples.specs.Common.{IsBarePre, IsBarePost};
 ghost use Rattle.fm_samples.specs.Meter.{Counts, MayCount, MetersCalls, counted_in};
 
 use crate::common::set_unless_there;
 use crate::memory::Memory;
-use fm_data::{CallbackData, Completion, Params, PostVerdict, PreVerdict};
+use fm_callback_data::{CallbackData, Completion, Params, PostVerdict, PreVerdict};
 use fm_filter::{Agreeable, Port};
 use fm_types::{Bytes, ContextKind, ContextMask, OpMask, Registration};
 use std::alloc::{AllocError, Global};

@@ -1,7 +1,7 @@
 //! The sample filters as one type.
 
 ghost use Rattle.std.specs.Prelude.{◌≡◌};
-ghost use Rattle.fm_data.specs.Data.{current_of};
+ghost use Rattle.fm_callback_data.specs.Data.{current_of};
 ghost use Rattle.fm_samples.specs.Sample.{IsQuietSample, SamplesCalls, SamplesLetGo, SamplesPre, SamplesPost, SamplesStart};
 
 use crate::carry::Carry;
@@ -10,7 +10,7 @@ use crate::hold::Hold;
 use crate::meter::Meter;
 use crate::shift::Shift;
 use crate::stay::Stay;
-use fm_data::{CallbackData, Completion, PostVerdict, PreVerdict};
+use fm_callback_data::{CallbackData, Completion, PostVerdict, PreVerdict};
 use fm_filter::{Agreeable, Port};
 use fm_types::{ContextKind, Registration};
 

@@ -4,7 +4,7 @@ ghost use Rattle.std.specs.Prelude.{◌≡◌, IfOk};
 ghost use Rattle.fm_samples.specs.Shift.{raised, lowered, ShiftsPre};
 
 use crate::common::plain_completion;
-use fm_data::{CallbackData, Completion, Params, PostVerdict, PreVerdict};
+use fm_callback_data::{CallbackData, Completion, Params, PostVerdict, PreVerdict};
 use fm_filter::{Agreeable, Port};
 use fm_types::{Bytes, ContextKind, ContextMask, OpMask, Registration, Status};
 use std::alloc::{AllocError, Global};

@@ -1,14 +1,14 @@
 //! A filter that holds the answers of reads until a flush.
 
 ghost use Rattle.std.specs.Prelude.{◌≡◌};
-ghost use Rattle.fm_data.specs.Data.{current_of};
+ghost use Rattle.fm_callback_data.specs.Data.{current_of};
 ghost use Rattle.fm_samples.specs.Calls.{ResumesAll};
 ghost use Rattle.fm_samples.specs.Stay.{StaysPre, StaysPost, StaysCalls};
 
 use crate::common::{plain_completion, resume_all};
-use fm_data::{CallbackData, Completion, Params, PostVerdict, PreVerdict};
+use fm_callback_data::{CallbackData, Completion, Params, PostVerdict, PreVerdict};
 use fm_filter::{Agreeable, Port};
-use fm_flow::Hold as Held;
+use fm_operations::Hold as Held;
 use fm_types::{ContextKind, ContextMask, OpMask, Registration};
 
 /// Holds each read in its postoperation, until a flush comes to the instance or its teardown starts. It

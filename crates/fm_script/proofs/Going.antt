@@ -1,9 +1,9 @@
 -- The turns of a `go`, one after the other.
 use Rattle.std.proofs.Common.{◌≡◌, List, [], ◌∷◌, ◌++◌, Result, Ok, Option, Some, None, refl, sym, subst}
 use Rattle.fm_script.specs.Words.{InstanceId, Completion, OpId, WorkerId, Status, Answer, PreVerdict, Given, Task}
-use Rattle.fm_data.specs.declared.verdict.PreVerdict.TheVariants.{WithCallback}
+use Rattle.fm_callback_data.specs.declared.verdict.PreVerdict.TheVariants.{WithCallback}
 use Rattle.fm_session.specs.declared.lent.Given.TheVariants as given
-use Rattle.fm_data.specs.declared.verdict.PostVerdict.TheVariants.{Finished}
+use Rattle.fm_callback_data.specs.declared.verdict.PostVerdict.TheVariants.{Finished}
 use Rattle.fm_core.specs.Passing.{numbered}
 use Rattle.fm_core.specs.declared.passing.Passed.{Passed}
 use Rattle.fm_core.specs.declared.passing.Passed.TheVariants as passed

@@ -5,7 +5,7 @@ use Rattle.std.proofs.lemmas.Grind.{common_steps}
 use Rattle.std.proofs.lemmas.List.{length-reverse, reverse-append, take-append-drop}
 use Rattle.std.proofs.lemmas.List.Folds.{prefix_len-append}
 use Rattle.std.specs.List.{position, position_or_len}
-use Rattle.fm_text.proofs.Rows.{none_passes}
+use Rattle.fm_words.proofs.Rows.{none_passes}
 
 some_within : (n len k : ℕ) → cond (nat_lt n len) (Some n) None ≡ Some k → (n ≡ k) × (n < len)
 some_within n len k h = grind (arith, nat_tests, common_steps)

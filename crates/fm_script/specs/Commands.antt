@@ -8,7 +8,7 @@ use Rattle.fm_types.specs.declared.status.Status.TheVariants.{BadAltitude, BadNa
 use Rattle.fm_types.specs.Paths.{IsPath}
 use Rattle.fm_types.specs.Names.{IsName}
 use Rattle.fm_altitude.specs.Grammar.{IsAltitude, canonical}
-use Rattle.fm_data.specs.declared.request.Request.TheVariants as request
+use Rattle.fm_callback_data.specs.declared.request.Request.TheVariants as request
 use Rattle.fm_world.specs.declared.begins_from.BeginsFrom.{BeginsFrom}
 use Rattle.fm_world.specs.declared.begins_from.BeginsFrom.TheVariants as begins
 use Rattle.fm_world.specs.declared.step.Step.TheVariants as step

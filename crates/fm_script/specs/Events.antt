@@ -3,7 +3,7 @@
 use Rattle.std.specs.Prelude.{◌≡◌, ◌⊎◌, true, List, Option, Result}
 use Rattle.std.specs.List.{AllByRecursion}
 use Rattle.fm_script.specs.Words.{WorkerId, Data, Answer, BaseCall, PreVerdict, Step, StepReply, Task}
-use Rattle.fm_data.specs.declared.verdict.PostVerdict.TheVariants.{Finished}
+use Rattle.fm_callback_data.specs.declared.verdict.PostVerdict.TheVariants.{Finished}
 use Rattle.fm_world.specs.Steps.{Run}
 use Rattle.fm_world.specs.declared.step.Step.TheVariants as step
 use Rattle.fm_script.specs.Printing.{Printed}

@@ -1,9 +1,9 @@
 -- What the commands on files and on the device stand for.
 use Rattle.std.specs.Prelude.{ℕ, min, ◌^◌, ◌-◌, List, [], ◌∷◌, Result, Ok, Err}
 use Rattle.fm_script.specs.Words.{HandleId, Status, BadRequest, World, Keyword, Task, number_read, ◌>>=◌}
-use Rattle.fm_data.specs.declared.request.FileRequest.{FileRequest}
-use Rattle.fm_data.specs.declared.request.FileRequest.TheVariants as file
-use Rattle.fm_data.specs.declared.request.Request.TheVariants as request
+use Rattle.fm_callback_data.specs.declared.request.FileRequest.{FileRequest}
+use Rattle.fm_callback_data.specs.declared.request.FileRequest.TheVariants as file
+use Rattle.fm_callback_data.specs.declared.request.Request.TheVariants as request
 use Rattle.fm_world.specs.declared.step.Step.TheVariants as step
 use Rattle.fm_script.specs.declared.keyword.Keyword.TheVariants as keyword
 use Rattle.fm_script.specs.declared.task.Task.TheVariants as task

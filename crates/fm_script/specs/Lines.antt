@@ -2,7 +2,7 @@
 use Rattle.std.specs.Prelude.{◌≡◌, ◌⊎◌, ℕ, ◌==◌, Bool, true, nat_lt, List, [], ◌∷◌, length, Option, Some, None, Result, Ok, Err}
 use Rattle.fm_script.specs.Words.{Status, BadRequest, ◌>>=◌, Either, words_of, Keyword, Task}
 use Rattle.fm_script.specs.Commands.{Creates, ReadsAs, is_create, keyword_read, takes_bytes, with_bytes_read}
-use Rattle.fm_text.specs.Hexadecimal.{hex_of, IsNoHexadecimal}
+use Rattle.fm_words.specs.Hexadecimal.{hex_of, IsNoHexadecimal}
 use Rattle.fm_script.specs.Printing.{Printed}
 use Rattle.fm_script.specs.Runs.{PerformsRead, Refuses, TellsRead, Wants}
 use Rattle.fm_script.specs.declared.interpreter.Interpreter.{Interpreter}

@@ -1,7 +1,7 @@
 -- The lines for an instance that an operation passes.
 use Rattle.std.specs.Prelude.{◌≡◌, ◌<◌, ℕ, List, [], None, length, slice_index_or}
 use Rattle.fm_core.specs.Passing.{numbered}
-use Rattle.fm_data.specs.declared.verdict.PreVerdict.TheVariants as verdict
+use Rattle.fm_callback_data.specs.declared.verdict.PreVerdict.TheVariants as verdict
 use Rattle.fm_script.specs.Sayings.{text_with}
 use Rattle.fm_script.specs.declared.passed_lines.PassedLine.{PassedLine}
 use Rattle.fm_script.specs.declared.said.Said.{Said}

@@ -2,14 +2,14 @@
 -- change by the calls alone that a `next` gave.
 use Rattle.std.specs.Prelude.{◌≡◌, ◌⊎◌, ℕ, ◌==◌, ◌++◌, Bool, true, false, List, [], ◌∷◌, Option, option_map, Some, Result, Ok, Err, MatchResult, cond, nat_lt, slice_get, slice_index_or}
 use Rattle.fm_script.specs.Words.{CtxId, FilterId, VolumeId, InstanceId, OpId, WorkerId, Status, PreVerdict, World, Step, StepReply, Given, Task}
-use Rattle.fm_data.specs.declared.verdict.PostVerdict.TheVariants.{Finished}
+use Rattle.fm_callback_data.specs.declared.verdict.PostVerdict.TheVariants.{Finished}
 use Rattle.fm_world.specs.Events.{Attaches, SetsUp}
 use Rattle.fm_world.specs.Steps.{Steps}
 use Rattle.fm_world.specs.declared.step.Step.TheVariants as step
 use Rattle.fm_world.specs.declared.step.StepReply.TheVariants as reply
 use Rattle.fm_world.specs.World.{carries}
 use Rattle.fm_ctx.specs.Counting.{count_reply}
-use Rattle.fm_flow.specs.Table.{in_flight}
+use Rattle.fm_operations.specs.Table.{in_flight}
 use Rattle.fm_stack.specs.declared.instance.Instance.{Instance}
 use Rattle.fm_stack.specs.declared.instance.Phase.{Phase}
 use Rattle.fm_session.specs.Sessions.{LendsNext, LentPreReturns, LentPostReturns, LentBaseReturns}

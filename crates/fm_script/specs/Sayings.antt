@@ -3,7 +3,7 @@ use Rattle.std.specs.Prelude.{ℕ, ◌++◌, List, [], ◌∷◌, Option, Some, 
 use Rattle.fm_script.specs.Words.{CtxId, HandleId, OpId, Status, Answer, Completion, PreVerdict, StepReply, Given}
 use Rattle.fm_types.specs.declared.status.Status.TheVariants.{Busy, NotHeld, AlreadyDefined, NoInstance}
 use Rattle.fm_types.specs.Statuses.{number_of}
-use Rattle.fm_data.specs.declared.verdict.PreVerdict.TheVariants as verdict
+use Rattle.fm_callback_data.specs.declared.verdict.PreVerdict.TheVariants as verdict
 use Rattle.fm_stack.specs.declared.instance.Phase.{Phase}
 use Rattle.fm_stack.specs.declared.instance.Phase.TheVariants as phase
 use Rattle.fm_ctx.specs.declared.due.Due.{Due}
@@ -19,7 +19,7 @@ use Rattle.fm_script.specs.declared.said.Word.TheVariants as word
 use Rattle.fm_script.specs.declared.said.Said.{Said}
 use Rattle.fm_script.specs.declared.said.Said.TheVariants.{Plain, Id, Number, Refused, Defined, Told, Replied, Answered, Based}
 use Rattle.fm_script.specs.ContextLists.{number_in}
-use Rattle.fm_text.specs.Hexadecimal.{hex_of}
+use Rattle.fm_words.specs.Hexadecimal.{hex_of}
 
 -- ---- which line
 

@@ -2,8 +2,8 @@
 use Rattle.std.specs.Prelude.{◌≡◌, ℕ, ◌<◌, ◌≤◌, Bool, false, List, [], ◌∷◌, Option, Some, None, Result, Ok, Err, MatchOption, MatchResult, codes, bytes_eq, cond}
 use Rattle.fm_script.specs.Words.{CtxId, Status, BadRequest, PreVerdict, PostVerdict, World, Task, number_read, ◌>>=◌, Either}
 use Rattle.fm_types.specs.Statuses.{number_of}
-use Rattle.fm_data.specs.declared.verdict.PreVerdict.TheVariants as verdict
-use Rattle.fm_data.specs.declared.verdict.PostVerdict.TheVariants as post
+use Rattle.fm_callback_data.specs.declared.verdict.PreVerdict.TheVariants as verdict
+use Rattle.fm_callback_data.specs.declared.verdict.PostVerdict.TheVariants as post
 use Rattle.fm_world.specs.declared.step.Step.TheVariants as step
 use Rattle.fm_script.specs.declared.task.Task.TheVariants as task
 use Rattle.fm_script.specs.Ids.{instance_in, worker_in}

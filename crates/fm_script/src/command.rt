@@ -4,7 +4,7 @@
 
 ghost use Rattle.std.specs.Prelude.{◌≡◌, IfOk, map};
 ghost use Rattle.fm_script.specs.Commands.{at_base_read, begun_from, below_read, request_read, Attaches, Creates, Loads, Mounts, ReadsAs, ReadsCreate, ReadsPlace, SetsUp, attach_at, base_read, collect_read, create_at, create_ids, create_mode_read, go_read, is_create, is_of_contexts, is_of_teardowns, list_read, next_read, option_read, phase_read, registration_read, resume_post_read, setup_at, setup_done_read, setup_ids, takes_bytes, turn_read, with_bytes_read};
-ghost use Rattle.fm_text.specs.Numbers.{id_read, number_read};
+ghost use Rattle.fm_words.specs.Numbers.{id_read, number_read};
 ghost use Rattle.fm_script.specs.Tasks.{answered_read, ids_read, numbers_read, one_id, only_instance, only_volume, only_worker, or_bad, turn_in, with_worker, yes_or_no};
 
 use crate::context_command::{read_allocate, read_context_command, read_write_body};
@@ -15,13 +15,13 @@ use crate::task::Task;
 use crate::teardown_command::read_teardown_command;
 use crate::verdict_command::{read_plan, read_post, read_pre, read_resume};
 use fm_altitude::Altitude;
+use fm_callback_data::Request;
 use fm_core::{BeginsFrom, State, Step};
-use fm_data::Request;
-use fm_text::{read_id, read_number};
 use fm_types::{
     Bytes, ContextMask, CreateMode, CtxId, InstanceId, Name, OpId, OpMask, Registration, RelPath,
     SharedPath, Status, VolumeId, WorkerId,
 };
+use fm_words::{read_id, read_number};
 use std::alloc::{AllocError, Global};
 
 /// Whether the command's last word is bytes.

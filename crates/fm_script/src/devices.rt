@@ -5,7 +5,7 @@ ghost use Rattle.std.specs.Prelude.{◌≡◌, ◌≤◌, ◌++◌, ◌∷◌, [
 ghost use Rattle.std.specs.FinMap.{empty};
 ghost use Rattle.fm_script.specs.Devices.{AreFresh, Calls, CallsOrFails, failing_with, is_failing};
 
-use fm_data::{Answer, BaseCall};
+use fm_callback_data::{Answer, BaseCall};
 use fm_device::{Device, MemoryDevices};
 use fm_types::{Bytes, Status};
 use std::alloc::{AllocError, Global};

@@ -7,8 +7,8 @@ use crate::command::{id, number, numbers};
 use crate::ids::handle_in;
 use crate::keyword::Keyword;
 use crate::task::Task;
+use fm_callback_data::{FileRequest, Request};
 use fm_core::{State, Step};
-use fm_data::{FileRequest, Request};
 use fm_types::{Bytes, HandleId, Status};
 
 /// What the words behind the keyword of a command on a handle or on the device stand for.

@@ -37,6 +37,6 @@ pub use crate::said::{
 pub use crate::script_end::ScriptEnd;
 pub use crate::sink::Sink;
 pub use crate::task::Task;
-pub use fm_text::{
+pub use fm_words::{
     read_hex, read_id, read_number, read_status, split_at_byte, split_words, write_hex,
 };

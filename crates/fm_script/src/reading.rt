@@ -3,8 +3,8 @@
 use crate::line::Line;
 use crate::runner::Runner;
 use crate::script_end::ScriptEnd;
-use fm_text::split_at_byte;
 use fm_types::limits::LINES;
+use fm_words::split_at_byte;
 use std::alloc::Global;
 use std::io::{ErrorKind, Read, Write};
 

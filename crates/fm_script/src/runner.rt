@@ -4,7 +4,7 @@ ghost use Rattle.std.specs.Prelude.{◌≡◌, IfOk};
 ghost use Rattle.fm_script.specs.Lines.{ReadsTask, RunsLine, is_silent};
 ghost use Rattle.fm_script.specs.Printing.{printed};
 ghost use Rattle.fm_script.specs.Runs.{Goes, PerformsOr, Refuses};
-ghost use Rattle.fm_text.specs.Words.{words_of};
+ghost use Rattle.fm_words.specs.Words.{words_of};
 
 use crate::interpreter::Interpreter;
 use crate::output::Output;

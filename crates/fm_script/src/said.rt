@@ -8,11 +8,11 @@ ghost use Rattle.fm_script.specs.declared.said.Word.TheVariants as WordOf;
 ghost use Rattle.fm_session.specs.Sessions.{given_after_next};
 
 use crate::context_list::ContextList;
+use fm_callback_data::{Answer, Completion, PreVerdict};
 use fm_core::{Action, Count, Due, Phase, SetAnswer, StepReply};
-use fm_data::{Answer, Completion, PreVerdict};
 use fm_session::Given;
-use fm_text::write_hex;
 use fm_types::{Bytes, CtxId, HandleId, InstanceId, OpId, Status};
+use fm_words::write_hex;
 use std::alloc::AllocError;
 
 /// The words that lines begin with.

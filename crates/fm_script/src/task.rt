@@ -1,8 +1,8 @@
 //! What a line has to be done.
 
 use fm_altitude::Altitude;
+use fm_callback_data::{PostVerdict, PreVerdict};
 use fm_core::Step;
-use fm_data::{PostVerdict, PreVerdict};
 use fm_types::{CtxId, FilterId, InstanceId, Name, OpId, VolumeId, WorkerId};
 
 /// What a line has the manager, a worker or the script itself do.

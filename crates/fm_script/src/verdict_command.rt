@@ -7,10 +7,10 @@ use crate::command::{id, turn_in, two_ids, with_worker};
 use crate::context_command::held_by;
 use crate::ids::{instance_in, worker_in};
 use crate::task::Task;
+use fm_callback_data::{Completion, PostVerdict, PreVerdict};
 use fm_core::{State, Step};
-use fm_data::{Completion, PostVerdict, PreVerdict};
-use fm_text::read_status;
 use fm_types::{CtxId, Status};
+use fm_words::read_status;
 
 /// The verdict `with`: a script's completions carry the number 0, and no context that the line doesn't name.
 pub const WITH: PreVerdict = PreVerdict::WithCallback(Completion {

@@ -2,8 +2,8 @@
 use Rattle.std.specs.Prelude.{◌≡◌, ◌≢◌, ◌⊎◌, ℕ, true, false, nat_lt, Result, Ok, Err}
 use Rattle.fm_types.specs.declared.status.Status.{Status}
 use Rattle.fm_types.specs.declared.status.Status.TheVariants.{NoVolume, Success}
-use Rattle.fm_data.specs.declared.request.Request.{Request}
-use Rattle.fm_data.specs.declared.request.Reply.{Reply}
+use Rattle.fm_callback_data.specs.declared.request.Request.{Request}
+use Rattle.fm_callback_data.specs.declared.request.Reply.{Reply}
 use Rattle.fm_rundown.specs.declared.gate.RundownGate.{RundownGate}
 use Rattle.fm_rundown.specs.declared.view.SeatView.{SeatView}
 use Rattle.fm_rundown.specs.Seats.{volumes_of}

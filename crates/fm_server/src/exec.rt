@@ -1,13 +1,13 @@
 //! What answers requests.
 
-use fm_data::{Reply, Request};
+use fm_callback_data::{Reply, Request};
 use fm_wire::Control;
 
 /// Answers one request after the other. `serve` opens each frame: it asks what operations and controls ask for, answers by itself what a frame refuses and what
 /// only a server says, and sends each reply under its request's number. A reply that has no spelling goes out as 32.
 pub trait Exec {
-    ghost use Rattle.fm_data.specs.declared.request.Request.{Request};
-    ghost use Rattle.fm_data.specs.declared.request.Reply.{Reply};
+    ghost use Rattle.fm_callback_data.specs.declared.request.Request.{Request};
+    ghost use Rattle.fm_callback_data.specs.declared.request.Reply.{Reply};
     ghost use Rattle.fm_wire.specs.declared.frame.Control.{Control};
 
     /// From the first state an operation may be answered so, which leaves the second state.

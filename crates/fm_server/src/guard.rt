@@ -5,7 +5,7 @@ ghost use Rattle.fm_server.specs.Guards.{Guarded, KeepsPasses};
 
 use crate::exec::Exec;
 use crate::replies::status_reply;
-use fm_data::{Reply, Request};
+use fm_callback_data::{Reply, Request};
 use fm_rundown::{GateSeat, RundownGate};
 use fm_types::VolumeId;
 use std::alloc::Global;

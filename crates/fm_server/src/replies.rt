@@ -4,7 +4,7 @@ ghost use Rattle.std.specs.Prelude.{◌≡◌, MatchResult};
 ghost use Rattle.fm_server.specs.Replies.{Sends, bare_reply, is_stop, replied, status_reply};
 
 use crate::serve_end::ServeEnd;
-use fm_data::Reply;
+use fm_callback_data::Reply;
 use fm_types::{Bytes, Status};
 use fm_wire::{Body, Control, Frame, encode};
 use std::alloc::Global;

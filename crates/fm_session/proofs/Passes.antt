@@ -4,12 +4,12 @@ use Rattle.std.proofs.lemmas.List.{set-set, get_or-set_same}
 use Rattle.fm_types.specs.declared.ids.InstanceId.{InstanceId}
 use Rattle.fm_types.specs.declared.ids.OpId.{OpId}
 use Rattle.fm_types.specs.declared.ids.WorkerId.{WorkerId}
-use Rattle.fm_data.specs.declared.verdict.Completion.{Completion}
-use Rattle.fm_data.specs.declared.verdict.PreVerdict.TheVariants.{WithCallback}
-use Rattle.fm_data.specs.declared.verdict.PostVerdict.TheVariants.{Finished}
-use Rattle.fm_flow.specs.declared.action.FlowAction.TheVariants as action
+use Rattle.fm_callback_data.specs.declared.verdict.Completion.{Completion}
+use Rattle.fm_callback_data.specs.declared.verdict.PreVerdict.TheVariants.{WithCallback}
+use Rattle.fm_callback_data.specs.declared.verdict.PostVerdict.TheVariants.{Finished}
+use Rattle.fm_operations.specs.declared.action.FlowAction.TheVariants as action
 use Rattle.fm_world.specs.World.{World}
-use Rattle.fm_data.specs.declared.verdict.PreVerdict.{PreVerdict}
+use Rattle.fm_callback_data.specs.declared.verdict.PreVerdict.{PreVerdict}
 use Rattle.fm_core.specs.Passing.{Passes, PassesDown, PassesUp, numbered}
 use Rattle.fm_core.specs.declared.passing.Passed.{Passed}
 use Rattle.fm_core.specs.declared.passing.Passed.TheVariants as passed

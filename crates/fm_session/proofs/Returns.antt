@@ -3,8 +3,8 @@ use Rattle.std.proofs.Common.{◌≡◌, List, Option, Some, None, Result, Ok, E
 use Rattle.std.proofs.lemmas.List.{set-set, set-get_or}
 use Rattle.fm_types.specs.declared.ids.WorkerId.{WorkerId}
 use Rattle.fm_types.specs.declared.status.Status.{Status}
-use Rattle.fm_data.specs.Data.{Data}
-use Rattle.fm_data.specs.Calls.{BaseCall}
+use Rattle.fm_callback_data.specs.Data.{Data}
+use Rattle.fm_callback_data.specs.Calls.{BaseCall}
 use Rattle.fm_session.specs.declared.lent.Lent.{Lent}
 use Rattle.fm_session.specs.declared.lent.Lent.TheVariants as lent
 use Rattle.fm_session.specs.Sessions.{lent_to, lend, lent_back, lent_after_return, pre_in, post_in, base_in, post_lent}

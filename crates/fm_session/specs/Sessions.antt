@@ -6,18 +6,18 @@ use Rattle.fm_types.specs.declared.ids.WorkerId.{WorkerId}
 use Rattle.fm_types.specs.declared.status.Status.{Status}
 use Rattle.fm_types.specs.declared.status.Status.TheVariants.{BadRequest, WrongStep}
 use Rattle.fm_types.specs.Refusals.{Answers}
-use Rattle.fm_data.specs.declared.params.Params.{Params}
-use Rattle.fm_data.specs.Params.{may_replace}
-use Rattle.fm_data.specs.Data.{Data}
-use Rattle.fm_data.specs.declared.answer.Answer.{Answer}
-use Rattle.fm_data.specs.Calls.{BaseCall}
-use Rattle.fm_data.specs.declared.verdict.PreVerdict.{PreVerdict}
-use Rattle.fm_data.specs.declared.verdict.PreVerdict.TheVariants.{WithCallback}
-use Rattle.fm_data.specs.declared.verdict.PostVerdict.{PostVerdict}
-use Rattle.fm_data.specs.declared.verdict.PostVerdict.TheVariants.{Finished}
-use Rattle.fm_data.specs.declared.verdict.Completion.{Completion}
-use Rattle.fm_flow.specs.declared.action.FlowAction.{FlowAction}
-use Rattle.fm_flow.specs.declared.action.FlowAction.TheVariants as action
+use Rattle.fm_callback_data.specs.declared.params.Params.{Params}
+use Rattle.fm_callback_data.specs.Params.{may_replace}
+use Rattle.fm_callback_data.specs.Data.{Data}
+use Rattle.fm_callback_data.specs.declared.answer.Answer.{Answer}
+use Rattle.fm_callback_data.specs.Calls.{BaseCall}
+use Rattle.fm_callback_data.specs.declared.verdict.PreVerdict.{PreVerdict}
+use Rattle.fm_callback_data.specs.declared.verdict.PreVerdict.TheVariants.{WithCallback}
+use Rattle.fm_callback_data.specs.declared.verdict.PostVerdict.{PostVerdict}
+use Rattle.fm_callback_data.specs.declared.verdict.PostVerdict.TheVariants.{Finished}
+use Rattle.fm_callback_data.specs.declared.verdict.Completion.{Completion}
+use Rattle.fm_operations.specs.declared.action.FlowAction.{FlowAction}
+use Rattle.fm_operations.specs.declared.action.FlowAction.TheVariants as action
 use Rattle.fm_core.specs.Passing.{answered_by, numbered}
 use Rattle.fm_core.specs.declared.passing.Passed.{Passed}
 use Rattle.fm_core.specs.declared.passing.Passed.TheVariants as passed

@@ -4,8 +4,8 @@ ghost use Rattle.std.specs.Prelude.{◌≡◌};
 ghost use Rattle.fm_types.specs.Refusals.{Answers};
 ghost use Rattle.fm_session.specs.Sessions.{answer_refused, answered_in, change_refused, changed_in, given_by, lent_by, out_refused, params_refused, put_in, with_params};
 
-use fm_data::{BaseCall, CallbackData, Completion, Params};
-use fm_flow::FlowAction;
+use fm_callback_data::{BaseCall, CallbackData, Completion, Params};
+use fm_operations::FlowAction;
 use fm_types::{Bytes, InstanceId, Status};
 
 /// What a worker was lent, and hasn't given back.

@@ -10,10 +10,10 @@ ghost use Rattle.fm_session.specs.declared.lent.Lent.TheVariants as lent;
 
 use crate::lent::{Given, Lent};
 use fm_altitude::Altitude;
+use fm_callback_data::{Answer, BaseCall, CallbackData, Params, PostVerdict, PreVerdict};
 use fm_core::{Passed, Refused, State, Step, StepReply};
-use fm_data::{Answer, BaseCall, CallbackData, Params, PostVerdict, PreVerdict};
 use fm_device::Device;
-use fm_flow::FlowAction;
+use fm_operations::FlowAction;
 use fm_types::limits::WORKERS;
 use fm_types::{Bytes, FilterId, InstanceId, Name, OpId, Status, VolumeId, WorkerId};
 use std::alloc::Global;

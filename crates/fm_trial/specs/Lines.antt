@@ -5,10 +5,10 @@ use Rattle.std.specs.Iterator.{Drains}
 use Rattle.std.specs.List.{slice_split}
 use Rattle.std.specs.Str.Iter.{split_ascii_whitespace_steps, split_ascii_whitespace_text}
 use Rattle.fm_types.specs.Statuses.{number_of}
-use Rattle.fm_data.specs.declared.request.Reply.{Reply}
-use Rattle.fm_data.specs.declared.request.Reply.TheVariants as reply
-use Rattle.fm_text.specs.Hexadecimal.{hex_of}
-use Rattle.fm_text.specs.Numbers.{number_read}
+use Rattle.fm_callback_data.specs.declared.request.Reply.{Reply}
+use Rattle.fm_callback_data.specs.declared.request.Reply.TheVariants as reply
+use Rattle.fm_words.specs.Hexadecimal.{hex_of}
+use Rattle.fm_words.specs.Numbers.{number_read}
 use Rattle.fm_cli.specs.Requests.{Names}
 use Rattle.fm_mistakes.specs.Mistakes.{mistake_read}
 use Rattle.fm_trial.specs.declared.expectation.Expectation.{Expectation}

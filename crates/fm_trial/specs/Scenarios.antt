@@ -5,16 +5,16 @@ use Rattle.fm_types.specs.declared.ids.OpId.{OpId}
 use Rattle.fm_types.specs.declared.ids.VolumeId.{VolumeId}
 use Rattle.fm_types.specs.declared.status.Status.TheVariants.{BadRequest}
 use Rattle.fm_types.specs.Statuses.{number_of}
-use Rattle.fm_data.specs.declared.request.Reply.{Reply}
-use Rattle.fm_data.specs.declared.request.Reply.TheVariants as reply
+use Rattle.fm_callback_data.specs.declared.request.Reply.{Reply}
+use Rattle.fm_callback_data.specs.declared.request.Reply.TheVariants as reply
 use Rattle.fm_wire.specs.declared.frame.Body.{Body}
 use Rattle.fm_wire.specs.declared.frame.Body.TheVariants as body
 use Rattle.fm_wire.specs.declared.frame.Control.TheVariants as control
 use Rattle.fm_filter.specs.declared.minifilter.Minifilter as filter
 use Rattle.fm_base.specs.contracts.memory_base.MemoryBaseBase.TheImpl as memory
 use Rattle.fm_base.specs.Folders.{Folder}
-use Rattle.fm_exec.specs.Locals.{Answers, AnswersControl}
-use Rattle.fm_exec.specs.Said.{status_reply}
+use Rattle.fm_local_exec.specs.Locals.{Answers, AnswersControl}
+use Rattle.fm_local_exec.specs.Said.{status_reply}
 use Rattle.fm_local.specs.declared.parts.Parts.{Parts}
 use Rattle.fm_local.specs.Offered.{ForgetsReport, HandsOutFirst, HasNoReport, SameAround, dropped_count, leaks, refused_calls, steps, world}
 use Rattle.fm_world.specs.Events.{Mounts}

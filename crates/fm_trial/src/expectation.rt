@@ -3,9 +3,9 @@
 ghost use Rattle.std.specs.Prelude.{◌≡◌, IfOk, IfSome, map};
 ghost use Rattle.fm_trial.specs.Lines.{IsSpelled, reply_meets};
 
-use fm_data::Reply;
+use fm_callback_data::Reply;
 use fm_mistakes::Mistake;
-use fm_text::{read_hex, read_number};
+use fm_words::{read_hex, read_number};
 use std::alloc::{AllocError, Global};
 
 /// What the last request must have come to.

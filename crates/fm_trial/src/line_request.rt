@@ -1,6 +1,6 @@
 //! What a line asked for, once its request is gone.
 
-use fm_data::Request;
+use fm_callback_data::Request;
 use fm_report::Facts;
 use fm_wire::{Body, Control};
 

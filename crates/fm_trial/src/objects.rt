@@ -2,7 +2,7 @@
 
 use crate::line_request::LineRequest;
 use crate::report::TrialManager;
-use fm_data::{PostVerdict, PreVerdict, Reply};
+use fm_callback_data::{PostVerdict, PreVerdict, Reply};
 use fm_filter::Minifilter;
 use fm_local::{PostAnswer, PreAnswer, Traced, Visit};
 use fm_report::{Detail, Event, Facts, InstanceVisit, Kind, Teller, counted_for};

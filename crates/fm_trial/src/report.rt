@@ -1,8 +1,8 @@
 //! What is printed of a scenario.
 
 use fm_base::MemoryBase;
+use fm_callback_data::Reply;
 use fm_core::{Hold, Phase, Place};
-use fm_data::Reply;
 use fm_filter::Minifilter;
 use fm_local::{Leak, LocalManager, Refusal};
 use fm_mistakes::{Finding, Mistake};

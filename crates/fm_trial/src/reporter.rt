@@ -3,8 +3,8 @@
 use crate::line_request::LineRequest;
 use crate::objects::{say_reply, say_request};
 use crate::report::{TrialManager, write_reply, write_steps};
+use fm_callback_data::Reply;
 use fm_core::Place;
-use fm_data::Reply;
 use fm_filter::Minifilter;
 use fm_local::Leak;
 use fm_mistakes::Mistake;

@@ -14,11 +14,11 @@ use crate::report::{
 };
 use crate::reporter::Reporter;
 use fm_base::MemoryBase;
+use fm_callback_data::Reply;
 use fm_core::Place;
-use fm_data::Reply;
-use fm_exec::LocalExec;
 use fm_filter::Minifilter;
 use fm_local::PortCall;
+use fm_local_exec::LocalExec;
 use fm_mistakes::{Account, Finding, Mistake, findings};
 use fm_report::Summary;
 use fm_server::status_reply;

@@ -4,7 +4,7 @@
 ghost use Rattle.std.specs.Prelude.{◌≡◌};
 ghost use Rattle.fm_view.specs.Ends.{status_met};
 
-use fm_text::read_number;
+use fm_words::read_number;
 use std::alloc::Global;
 
 /// What an expectation begins with, and no other line.

@@ -1,7 +1,7 @@
 //! What an answer says that happened, by what its command asked for and what was so before.
 
+use fm_callback_data::{PostVerdict, PreVerdict};
 use fm_core::{Entry, Place, PreState, State, Step};
-use fm_data::{PostVerdict, PreVerdict};
 use fm_report::{Event, Facts, InstanceVisit, Kind, held_at, instance_in, operation_in, stands_at};
 use fm_script::{ContextList, Said, Task, Word};
 use fm_types::{ContextKind, CtxId, InstanceId, OpId, Status, WorkerId};

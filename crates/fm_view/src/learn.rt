@@ -1,8 +1,8 @@
 //! What the lines of a script name, noted.
 
 use crate::subject::context_kind;
+use fm_callback_data::{FileRequest, Request};
 use fm_core::{Phase, Place, State, Step};
-use fm_data::{FileRequest, Request};
 use fm_report::{Event, Kind, Notes, instance_in, what_of};
 use fm_script::Task;
 use fm_types::WorkerId;

@@ -12,9 +12,9 @@ use fm_report::{
     push_instance, push_operation, push_those, push_verb, sentence,
 };
 use fm_script::{ContextList, Keyword, Task, split_at_byte};
-use fm_text::read_id;
 use fm_types::limits::{LINE, SCRIPT_WORKERS, WORKERS};
 use fm_types::{ContextKind, FilterId, InstanceId, OpId, Status, WorkerId};
+use fm_words::read_id;
 use std::alloc::{AllocError, Global};
 use strsim::osa_distance;
 

@@ -1,7 +1,7 @@
 //! What a line is about, as far as its task names it or the callback is for it that its worker is in.
 
+use fm_callback_data::Request;
 use fm_core::{BeginsFrom, Place, Step};
-use fm_data::Request;
 use fm_report::{Facts, instance_in, operation_in};
 use fm_script::Task;
 use fm_types::{ContextKind, FilterId, OpId, VolumeId, WorkerId};

@@ -2,7 +2,7 @@
 
 use fm_report::{Text, push_ascii};
 use fm_script::Keyword;
-use fm_text::{read_id, read_number, read_status};
+use fm_words::{read_id, read_number, read_status};
 
 /// The words that stand after a command's first word.
 pub fn usage(keyword: Keyword) -> &'static str {

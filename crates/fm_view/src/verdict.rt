@@ -4,8 +4,8 @@ ghost use Rattle.std.specs.Prelude.{◌≡◌};
 ghost use Rattle.fm_view.specs.Ends.{status_of};
 
 use crate::expect::Expectations;
+use fm_callback_data::PreVerdict;
 use fm_core::{Hold, Phase, Place, State};
-use fm_data::PreVerdict;
 use fm_report::{
     Event, Facts, Kind, Notes, RunFault, Text, counted_for, fill, held_at, push_count,
     push_instance, push_place, say_leak, stands_at,

@@ -12,8 +12,8 @@ use crate::verdict::{
     counted_at, exit_status, fault_of, held, say_end, say_expectations, say_fault, say_held,
     say_leaks,
 };
+use fm_callback_data::PreVerdict;
 use fm_core::{Place, State, Step};
-use fm_data::PreVerdict;
 use fm_page::{Inert, Label, PAGE_BEGIN, PAGE_END};
 use fm_report::{
     Detail, Event, Facts, Kind, Moment, Notes, ObjectDetail, Summary, Text, push_ascii,

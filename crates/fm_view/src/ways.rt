@@ -2,7 +2,7 @@
 
 use crate::lanes::{LaneOwner, ROW, y_of};
 use crate::picture::{NAME, Picture};
-use fm_data::PreVerdict;
+use fm_callback_data::PreVerdict;
 use fm_report::{Event, Facts, Kind};
 use fm_types::Status;
 

@@ -2,7 +2,7 @@
 use Rattle.fm_wire.proofs.Words.{ℕ, List, [], length, Result, Ok, Err, refl, sym, ap, arith, inl, inr, length-append, append_assoc}
 use Rattle.fm_wire.proofs.Words.{append-nil, Status, Body, Frame, bytes_of_u32, framed, IsPartial, IsFault, Begins}
 use Rattle.std.proofs.Common.{◌≡◌, ◌+◌, ◌⊎◌, ◌∷◌, ◌++◌, ◌∙◌}
-use Rattle.fm_data.specs.declared.request.Request.TheVariants as request
+use Rattle.fm_callback_data.specs.declared.request.Request.TheVariants as request
 use Rattle.fm_wire.specs.declared.frame.Control.TheVariants as control
 use Rattle.fm_wire.specs.declared.frame.Body.TheVariants as body
 use Rattle.fm_wire.specs.Grammar.{HasTexts, RefusesText, Reading, canonical_body, outcome_of, IsBody, IsFrame}

@@ -12,11 +12,11 @@ use Rattle.fm_types.specs.declared.status.Status.TheVariants.{DoNotDetach, Delet
 use Rattle.fm_types.specs.declared.status.Status.TheVariants.{DeviceFault, FileNotFound, AlreadyExists, NotRegistered, AlreadyDefined}
 use Rattle.fm_types.specs.declared.status.Status.TheVariants.{AlreadyLinked, NoContext, NotHeld, HandFull, NoObject, NotPended, TooMany}
 use Rattle.fm_types.specs.declared.status.Status.TheVariants.{WrongStep, EndOfFile, BadRequest, Dismounting, Busy}
-use Rattle.fm_data.specs.declared.request.FileRequest.{FileRequest}
-use Rattle.fm_data.specs.declared.request.FileRequest.TheVariants as file
-use Rattle.fm_data.specs.declared.request.Request.TheVariants as request
-use Rattle.fm_data.specs.declared.request.Reply.{Reply}
-use Rattle.fm_data.specs.declared.request.Reply.TheVariants as reply
+use Rattle.fm_callback_data.specs.declared.request.FileRequest.{FileRequest}
+use Rattle.fm_callback_data.specs.declared.request.FileRequest.TheVariants as file
+use Rattle.fm_callback_data.specs.declared.request.Request.TheVariants as request
+use Rattle.fm_callback_data.specs.declared.request.Reply.{Reply}
+use Rattle.fm_callback_data.specs.declared.request.Reply.TheVariants as reply
 use Rattle.fm_wire.specs.declared.frame.Control.{Control}
 use Rattle.fm_wire.specs.declared.frame.Control.TheVariants as control
 use Rattle.fm_wire.specs.declared.frame.Body.TheVariants as body

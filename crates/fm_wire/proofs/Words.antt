@@ -1,5 +1,5 @@
 -- The words that the proofs share.
-pub use Rattle.fm_data.specs.declared.request.Request.{Request}
+pub use Rattle.fm_callback_data.specs.declared.request.Request.{Request}
 pub use Rattle.fm_types.specs.Statuses.{information_of, number_of}
 pub use Rattle.fm_types.specs.declared.operation.CreateMode.{CreateMode}
 pub use Rattle.fm_types.specs.declared.operation.CreateMode.TheVariants.{Always, Existing, New}

@@ -6,12 +6,12 @@ use Rattle.fm_types.specs.Statuses.{number_of, information_of}
 use Rattle.fm_types.specs.declared.status.Status.{Status}
 use Rattle.fm_types.specs.declared.status.Status.TheVariants.{BadAltitude, BadName, BadPath, BadRequest}
 use Rattle.fm_altitude.specs.Grammar.{IsAltitude, canonical}
-use Rattle.fm_data.specs.declared.request.FileRequest.{FileRequest}
-use Rattle.fm_data.specs.declared.request.FileRequest.TheVariants as file
-use Rattle.fm_data.specs.declared.request.Request.{Request}
-use Rattle.fm_data.specs.declared.request.Request.TheVariants as request
-use Rattle.fm_data.specs.declared.request.Reply.{Reply}
-use Rattle.fm_data.specs.declared.request.Reply.TheVariants as reply
+use Rattle.fm_callback_data.specs.declared.request.FileRequest.{FileRequest}
+use Rattle.fm_callback_data.specs.declared.request.FileRequest.TheVariants as file
+use Rattle.fm_callback_data.specs.declared.request.Request.{Request}
+use Rattle.fm_callback_data.specs.declared.request.Request.TheVariants as request
+use Rattle.fm_callback_data.specs.declared.request.Reply.{Reply}
+use Rattle.fm_callback_data.specs.declared.request.Reply.TheVariants as reply
 use Rattle.fm_wire.specs.declared.frame.Control.{Control}
 use Rattle.fm_wire.specs.declared.frame.Control.TheVariants as control
 use Rattle.fm_wire.specs.declared.frame.Body.{Body}

@@ -1,7 +1,7 @@
 //! What a client and a server tell each other, one frame at a time.
 
 use fm_altitude::Altitude;
-use fm_data::{Reply, Request};
+use fm_callback_data::{Reply, Request};
 use fm_types::{FilterId, InstanceId, Name, Status, VolumeId};
 
 /// One message: a client's request, or a server's answer to it under the same number.

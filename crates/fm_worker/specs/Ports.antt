@@ -1,7 +1,7 @@
 -- What a callback's calls may make of its thread's grip. Other threads make events between two of them, so nothing is said of the state.
 use Rattle.std.specs.Prelude.{◌≡◌, ◌&&◌, Bool, List, not, Result, Err, MatchBool, MatchResult, length, nat_le}
 use Rattle.std.specs.List.{list_any}
-use Rattle.fm_data.specs.declared.verdict.PreVerdict.{PreVerdict}
+use Rattle.fm_callback_data.specs.declared.verdict.PreVerdict.{PreVerdict}
 use Rattle.fm_lock.specs.Events.{Holding}
 use Rattle.fm_lock.specs.Views.{HandView}
 use Rattle.fm_types.specs.declared.ids.OpId.{OpId}

@@ -7,7 +7,7 @@ ghost use Rattle.fm_worker.specs.Between.{IsFree};
 use crate::hook::CallbackHook;
 use crate::own::Own;
 use crate::shared::WorkerShared;
-use fm_data::{CallbackData, Completion, PostVerdict};
+use fm_callback_data::{CallbackData, Completion, PostVerdict};
 use fm_device::Device;
 use fm_filter::{
     Callbacks, WorkItem, ask_post, ask_pre, ask_query, ask_setup, let_go, tell_complete, tell_start,

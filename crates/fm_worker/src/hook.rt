@@ -1,6 +1,6 @@
 //! A hook before callbacks.
 
-use fm_flow::FlowAction;
+use fm_operations::FlowAction;
 use fm_types::WorkerId;
 
 /// What happens before each callback that is made for an operation, with no lock held. It lets tests hold callbacks back.

@@ -4,11 +4,11 @@ ghost use Rattle.std.specs.Prelude.{◌≡◌};
 ghost use Rattle.fm_worker.specs.Ports.{lacks_room};
 
 use crate::op_queue::OpQueue;
+use fm_callback_data::PreVerdict;
 use fm_ctx::SetMode;
-use fm_data::PreVerdict;
 use fm_filter::Port;
-use fm_flow::Hold;
 use fm_lock::{Hand, Manager};
+use fm_operations::Hold;
 use fm_types::{Bytes, ContextKind, CtxId, OpId, Status};
 use fm_world::{About, SetAnswer};
 use std::sync::Wait;

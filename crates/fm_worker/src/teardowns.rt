@@ -7,7 +7,7 @@ use crate::hook::CallbackHook;
 use crate::worker::Worker;
 use fm_device::Device;
 use fm_filter::Callbacks;
-use fm_flow::FlowAction;
+use fm_operations::FlowAction;
 use fm_stack::Phase;
 use fm_types::{InstanceId, Status};
 use std::sync::Wait;

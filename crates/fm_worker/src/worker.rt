@@ -8,7 +8,7 @@ use crate::hook::CallbackHook;
 use crate::op_queue::OpQueue;
 use crate::own::Own;
 use crate::shared::WorkerShared;
-use fm_data::{Answer, Request};
+use fm_callback_data::{Answer, Request};
 use fm_device::Device;
 use fm_filter::Callbacks;
 use fm_lock::{Hand, Manager, Waited};

@@ -6,7 +6,7 @@ use Rattle.fm_world.proofs.Words.{is_candidate, is_to_visit, last_posted, last_v
 use Rattle.fm_world.proofs.Words.{count_by, false, filter_map, length, map, option_and_then, refl, subst, sym, true, ℕ, ◌++◌, ◌<◌, ◌||◌, ◌∙◌, ◌∷◌, ◌≡◌, ◌≤◌}
 use Rattle.fm_world.proofs.Words.{append-nil, All-head, All-push, All-tail, All-weaker, filter_map-append, list_any-append, none-some, same_Some}
 use Rattle.fm_world.proofs.Words.{slice_get_within, cons_option}
-use Rattle.fm_flow.specs.declared.entry.DrainVisit.{DrainVisit}
+use Rattle.fm_operations.specs.declared.entry.DrainVisit.{DrainVisit}
 use Rattle.fm_world.proofs.Descents.{descent_begins, descent_follows, descent_reaches, descent_visits, last_of-cons, last_of-push, none_follows, room_below}
 use Rattle.fm_world.proofs.Descents.{room_follows, room_visits, trail_push}
 

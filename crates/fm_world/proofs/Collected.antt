@@ -6,7 +6,7 @@ use Rattle.fm_world.proofs.Words.{◌<◌, ◌==◌, ◌∷◌, ◌≡◌, ◌�
 use Rattle.std.proofs.lemmas.List.Sums.{count_by-le-length}
 use Rattle.fm_types.proofs.Firsts.{stands_there}
 use Rattle.fm_types.proofs.Rising.{stands_rising}
-use Rattle.fm_flow.specs.Counts.{drain_opens_at}
+use Rattle.fm_operations.specs.Counts.{drain_opens_at}
 
 -- the operation that a worker is in a drain of
 abbrev drain_number : Place → Option ℕ

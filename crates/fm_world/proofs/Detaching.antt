@@ -7,7 +7,7 @@ use Rattle.fm_world.proofs.Words.{InstanceCallback, routines_at, unfinished_at, 
 use Rattle.fm_world.proofs.Words.{after_entering, cleanup_in, is_at, is_queried, put, worker_at, World, carries, Place, Bool, Err, List, None, Ok, Option}
 use Rattle.fm_world.proofs.Words.{Result, Some, ap, arith, count_by, false, inr, length, not, refl, slice_get, subst, sym, true, ℕ, ◌&&◌, ◌+◌, ◌∙◌, ◌≡◌, eq-eqb}
 use Rattle.fm_world.proofs.Words.{ltb-false, or_parts, true≢false}
-use Rattle.fm_flow.specs.Initiators.{begun_by}
+use Rattle.fm_operations.specs.Initiators.{begun_by}
 use Rattle.fm_stack.proofs.GoingOn.{passes_row}
 use Rattle.fm_stack.proofs.Teardowns.{completing_goes_on, emptying_goes_on, started_goes_on, starting_goes_on, stopped_goes_on}
 use Rattle.fm_stack.specs.Instances.{passes}

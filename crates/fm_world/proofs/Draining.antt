@@ -7,11 +7,11 @@ use Rattle.fm_world.proofs.Words.{Status, WorkerId, changed, last_posted, last_v
 use Rattle.fm_world.proofs.Words.{Err, List, None, Ok, Option, Result, Some, [], ap, arith, cond, count_by, false, option_map, refl, slice_get, subst, suc, sym}
 use Rattle.fm_world.proofs.Words.{true, unwrap_or, zero, ℕ, ◌+◌, ◌<◌, ◌==◌, ◌∙◌, ◌∷◌, ◌≡◌, ◌≤◌, same_Some, slice_get_within, list_any}
 use Rattle.fm_ctx.proofs.Alike.{leaves_alike}
-use Rattle.fm_flow.specs.Drains.{DrainTaken, RunsEarly, drain_done_of, drained_early, early_over, owed_to}
-use Rattle.fm_flow.proofs.Drains.{carries_early, carries_over, done_carries, drain_done_by, drains_early, drains_over, early_uncreated, flies_early, flies_over}
-use Rattle.fm_flow.proofs.Drains.{goes_after, handed_early, over_uncreated, owed_over, owed_so, owes_early, owing_there, flow_over, needed_early, sound_early}
-use Rattle.fm_flow.proofs.Drains.{stays_early, stays_over}
-use Rattle.fm_flow.proofs.Counting.{flight_few}
+use Rattle.fm_operations.specs.Drains.{DrainTaken, RunsEarly, drain_done_of, drained_early, early_over, owed_to}
+use Rattle.fm_operations.proofs.Drains.{carries_early, carries_over, done_carries, drain_done_by, drains_early, drains_over, early_uncreated, flies_early, flies_over}
+use Rattle.fm_operations.proofs.Drains.{goes_after, handed_early, over_uncreated, owed_over, owed_so, owes_early, owing_there, flow_over, needed_early, sound_early}
+use Rattle.fm_operations.proofs.Drains.{stays_early, stays_over}
+use Rattle.fm_operations.proofs.Counting.{flight_few}
 use Rattle.fm_world.specs.EarlyDrains.{DrainReturns, DrainReturnsAt, DrainsWhere, GivesDrain, TakesDrain, is_stopping_at}
 use Rattle.fm_world.specs.Hands.{given_by_drain}
 use Rattle.fm_world.proofs.Amongs.{among_drain, among_over, drain_unseen, over_unseen}
@@ -22,14 +22,14 @@ use Rattle.fm_world.proofs.Filed.{file_step}
 use Rattle.fm_world.proofs.Flowing.{asks_of, carried_changed, quieter}
 use Rattle.fm_world.proofs.Keeps.{worker_below}
 use Rattle.fm_world.proofs.Operations.{AreInStep, both_same, step_keeps, step_moves, with_laws}
-use Rattle.fm_flow.proofs.Requests.{flow_removed}
-use Rattle.fm_flow.specs.Table.{IsFlow}
+use Rattle.fm_operations.proofs.Requests.{flow_removed}
+use Rattle.fm_operations.specs.Table.{IsFlow}
 use Rattle.fm_world.proofs.Requests.{file_gone, goes_keeps, goes_owned, total_without}
 use Rattle.fm_world.proofs.Returns.{AreKept, returned_kept}
 use Rattle.fm_world.proofs.Staying.{Does, Gives, TableStays, hand_emptied, hand_given, makes, nothing, table_same}
 use Rattle.fm_world.proofs.Ties.{BalancesSpots, InDrains, at_none, drained_there, drains_balance, in_no_drain, standing}
 use Rattle.fm_world.proofs.Turns.{brought_owned}
-use Rattle.fm_flow.specs.Sound as flow
+use Rattle.fm_operations.specs.Sound as flow
 
 -- ---- spots: a worker in such a drain is at none, and the operation's stays where it was
 

@@ -3,7 +3,7 @@ use Rattle.fm_world.proofs.Words.{leave_keeps, carried_by, flight, is_number, al
 use Rattle.fm_world.proofs.Words.{is_flown_by, place_in, row_at, IsOwned, ContextTable, CtxId, FlowRecord, FlowTable, InstanceId, IsLawful, Leaves, OpId, Slot}
 use Rattle.fm_world.proofs.Words.{StackWorld, WorkerId, carried, changed, in_flight, operation_at, owed, cleanup_in, put, worker_at, World, Place, All, List}
 use Rattle.fm_world.proofs.Words.{None, Some, [], arith, false, refl, slice_set, subst, sym, ℕ, ◌+◌, ◌<◌, ◌∙◌, ◌≡◌, ◌≤◌, All-nil, same_Some}
-use Rattle.fm_flow.proofs.Flows.{total_changed}
+use Rattle.fm_operations.proofs.Flows.{total_changed}
 use Rattle.fm_world.proofs.Belonging.{AllCarry, AllFit, filters_same, owners_same}
 use Rattle.fm_world.proofs.Owning.{cleaning_stays, owned_moves}
 

@@ -7,10 +7,10 @@ use Rattle.fm_world.proofs.Words.{is_creating, is_number, operation_at, owed, sl
 use Rattle.fm_world.proofs.Words.{All, Bool, List, None, Option, Result, Some, [], ap, arith, cond, false, find, length, refl}
 use Rattle.fm_world.proofs.Words.{subst, sym, true, ℕ, ◌++◌, ◌<◌, ◌==◌, ◌∙◌, ◌∷◌, ◌≡◌, ◌≤◌, All-head, All-tail, All-nil}
 use Rattle.fm_world.proofs.Words.{eq-eqb, ne_eqb, same_Some}
-use Rattle.fm_flow.specs.Sound as flow
-use Rattle.fm_flow.specs.Table.{is_spent, placed}
-use Rattle.fm_flow.proofs.Flows.{flow_changes}
-use Rattle.fm_flow.proofs.Requests.{sound_placed}
+use Rattle.fm_operations.specs.Sound as flow
+use Rattle.fm_operations.specs.Table.{is_spent, placed}
+use Rattle.fm_operations.proofs.Flows.{flow_changes}
+use Rattle.fm_operations.proofs.Requests.{sound_placed}
 use Rattle.fm_stack.proofs.Visits.{is_to_visit_few}
 use Rattle.fm_world.specs.Sound.{IsAmongAt}
 use Rattle.fm_world.proofs.Amongs.{among_placed}

@@ -5,10 +5,10 @@ use Rattle.fm_world.proofs.Words.{IsAmong, HasWorkers, IsUnderWay, FlowRecord, F
 use Rattle.fm_world.proofs.Words.{StackWorld, Stage, WorkerId, changed, last_posted, last_visited, operation_at, owed, told, InstanceCallback, is_at, put, worker_at, World}
 use Rattle.fm_world.proofs.Words.{Place, All, AllPairs, List, Some, ap, arith, count_by, false, length, length-set, option_map, refl, slice_get, subst, sym}
 use Rattle.fm_world.proofs.Words.{true, unwrap_or, ℕ, ◌&&◌, ◌+◌, ◌<◌, ◌==◌, ◌∙◌, ◌≡◌, and_from, eq-eqb, false≢true, same_Some}
-use Rattle.fm_flow.proofs.Flows.{still_ascends}
+use Rattle.fm_operations.proofs.Flows.{still_ascends}
 use Rattle.fm_world.proofs.Ties.{InNoCallback, at_none, workers_still, BalancesDrains, BalancesSpots, InDrains, Matches, drains_balance, in_no_drain, is_running}
 use Rattle.fm_world.proofs.Ties.{matches_idle, spot_base, spot_drain, spot_post, spot_pre, spots_balance, standing, tied_moves, tied_there}
-use Rattle.fm_flow.specs.Sound as flow
+use Rattle.fm_operations.specs.Sound as flow
 
 -- ---- one operation changes
 

@@ -12,7 +12,7 @@ use Rattle.fm_world.proofs.Words.{nat_le, option_map, refl, subst, suc, sym, tru
 use Rattle.fm_world.proofs.Words.{cases_eq, eq-eqb, eqb-true, ne_eqb, or_parts, or_right, common_steps, All-head, All-nil, All-push, All-tail, sum_by_push}
 use Rattle.fm_world.proofs.Words.{none-some, same_Some, list_any}
 use Rattle.std.proofs.Common.{◌-◌, ◌^◌}
-use Rattle.fm_flow.proofs.Requests.{flow_begins, flow_collects}
+use Rattle.fm_operations.proofs.Requests.{flow_begins, flow_collects}
 use Rattle.fm_stack.proofs.Visits.{is_to_visit_few}
 use Rattle.std.specs.Cmp.Lexicographic.{bytes_decides}
 use Rattle.fm_world.proofs.Amongs.{among_begins}

@@ -9,10 +9,10 @@ use Rattle.fm_world.proofs.Words.{CarriesIn, HoldsIn, place_in, IsAmong, IsFileS
 use Rattle.fm_world.proofs.Words.{PreState, Status, WorkerId, changed, cleaning_of, hand_of, operation_at, owed, worker_at, World, carries, All, Err, List}
 use Rattle.fm_world.proofs.Words.{None, Ok, Option, Result, Some, [], ap, arith, cond, false, length, not, option_map, refl, slice_get, slice_set, subst, sym}
 use Rattle.fm_world.proofs.Words.{true, unwrap_or, ℕ, ◌+◌, ◌<◌, ◌∙◌, ◌∷◌, ◌≡◌, none-some, same_Some}
-use Rattle.fm_flow.specs.declared.hold.Hold.{Hold}
-use Rattle.fm_flow.specs.Holds.{is_held}
-use Rattle.fm_flow.proofs.Holds.{held_pre, held_post}
-use Rattle.fm_flow.proofs.Resumes.{sound_pre_resumed, pre_resumed_carries, pre_resumed_flies, sound_post_resumed, post_resumed_carries, post_resumed_flies}
+use Rattle.fm_operations.specs.declared.hold.Hold.{Hold}
+use Rattle.fm_operations.specs.Holds.{is_held}
+use Rattle.fm_operations.proofs.Holds.{held_pre, held_post}
+use Rattle.fm_operations.proofs.Resumes.{sound_pre_resumed, pre_resumed_carries, pre_resumed_flies, sound_post_resumed, post_resumed_carries, post_resumed_flies}
 use Rattle.fm_world.proofs.Amongs.{among_settles, settle_post_keeps, settle_pre_keeps}
 use Rattle.fm_world.proofs.Belonging.{AllCarry, AllFit, all_without, belongs_still, filters_same, owners_same}
 use Rattle.fm_world.proofs.Callbacks.{not_false, owned_with, same_hands}
@@ -25,8 +25,8 @@ use Rattle.fm_world.proofs.Operations.{not_base_of, told_there, undone_at}
 use Rattle.fm_world.proofs.Returns.{asked_carries, counted_from, counted_quiet, file_decided, sent_is_held, sent_lawful, sent_owned, sent_rests, taken_sent}
 use Rattle.fm_world.proofs.Staying.{Does, hand_written, loses_lasts, makes, nothing, still, table_same, unchanged}
 use Rattle.fm_world.proofs.Ties.{is_running, quiet_is_none, standing, told_same}
-use Rattle.fm_flow.specs.declared.entry.PostState.TheVariants as post
-use Rattle.fm_flow.specs.Sound as flow
+use Rattle.fm_operations.specs.declared.entry.PostState.TheVariants as post
+use Rattle.fm_operations.specs.Sound as flow
 
 -- ---- the operation that is held
 

@@ -13,10 +13,10 @@ use Rattle.fm_world.proofs.Words.{operation_at, owed, told, cleanup_in, worker_a
 use Rattle.fm_world.proofs.Words.{[], ap, arith, cond, false, option_map, refl, slice_get, slice_set, subst, sym, true, ℕ, ◌++◌, ◌+◌, ◌<◌, ◌==◌, ◌∙◌, ◌≡◌, ◌≤◌}
 use Rattle.fm_world.proofs.Words.{and_from, common_steps, set-set, All-nil, same_Some}
 use Rattle.std.proofs.Common.{option_to_list}
-use Rattle.fm_flow.proofs.Returns.{base_returned_carries, base_returned_flies, drain_returned_carries, drain_returned_flies, post_returned_carries}
-use Rattle.fm_flow.proofs.Returns.{post_returned_flies, pre_returned_carries, pre_returned_flies, sound_base, sound_drain_returned, sound_post_returned}
-use Rattle.fm_flow.proofs.Returns.{sound_pre_returned}
-use Rattle.fm_flow.proofs.Owed.{owed_push_none}
+use Rattle.fm_operations.proofs.Returns.{base_returned_carries, base_returned_flies, drain_returned_carries, drain_returned_flies, post_returned_carries}
+use Rattle.fm_operations.proofs.Returns.{post_returned_flies, pre_returned_carries, pre_returned_flies, sound_base, sound_drain_returned, sound_post_returned}
+use Rattle.fm_operations.proofs.Returns.{sound_pre_returned}
+use Rattle.fm_operations.proofs.Owed.{owed_push_none}
 use Rattle.fm_world.specs.Events.{ReturnsFrom}
 use Rattle.fm_world.proofs.Amongs.{among_base, among_settles, is_up, no_base, settle_drain_keeps, settle_post_keeps, settle_pre_keeps}
 use Rattle.fm_world.proofs.Belonging.{AllPass, held_has}
@@ -33,7 +33,7 @@ use Rattle.fm_world.proofs.Owning.{empty_hand}
 use Rattle.fm_world.proofs.Staying.{Does, hand_emptied, loses_lasts, nothing, still, table_same, unchanged}
 use Rattle.fm_world.proofs.Streams.{Stands, none_out}
 use Rattle.fm_world.proofs.Ties.{at_none, Matches, in_a_drain, in_no_drain, is_running, matches_base, matches_drain, matches_post, matches_pre}
-use Rattle.fm_flow.specs.Sound as flow
+use Rattle.fm_operations.specs.Sound as flow
 
 -- ---- a preoperation: the verdict that counts
 

@@ -4,9 +4,9 @@ use Rattle.fm_world.proofs.Words.{RoutineReturnsAt, file_by, routine_refusals, H
 use Rattle.fm_world.proofs.Words.{is_at, put, worker_at, World, FileObject, Place, Bool, Option, Result, Some, ap, arith, cond, count_by, not, refl, slice_get, true, ℕ}
 use Rattle.fm_world.proofs.Words.{◌&&◌, ◌+◌, ◌∷◌, ◌≡◌, ◌≤◌, eq-eqb, flight, total, count-cons, FlowRecord, All, List, [], All-head, All-tail, unfinished_at}
 use Rattle.std.proofs.lemmas.List.Sums.{count_by-le-length}
-use Rattle.fm_flow.proofs.Counting.{flight_few}
-use Rattle.fm_flow.specs.Initiators.{is_begun_by, is_below}
-use Rattle.fm_flow.specs.Sound as flow
+use Rattle.fm_operations.proofs.Counting.{flight_few}
+use Rattle.fm_operations.specs.Initiators.{is_begun_by, is_below}
+use Rattle.fm_operations.specs.Sound as flow
 use Rattle.fm_world.specs.Workers.{is_in_routine}
 use Rattle.fm_world.proofs.Callbacks.{not_false}
 use Rattle.fm_world.proofs.Collected.{collected_few}

@@ -30,7 +30,7 @@ use Rattle.fm_world.proofs.Routines.{enter_routine_does, routine_returned_does}
 use Rattle.fm_world.proofs.Staying.{Does}
 use Rattle.fm_world.proofs.Turns.{next_does}
 use Rattle.fm_world.proofs.Unloading.{ask_unload_does, empty_filter_does, finish_filter_does, force_unload_does, unload_does}
-use Rattle.fm_flow.specs.Sound as flow
+use Rattle.fm_operations.specs.Sound as flow
 
 -- ---- whose it is
 

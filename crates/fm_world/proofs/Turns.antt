@@ -12,7 +12,7 @@ use Rattle.fm_world.proofs.Words.{is_creating, one, operation_at, owed, visited,
 use Rattle.fm_world.proofs.Words.{All, Bool, Err, List, None, Ok, Option, Result, Some, [], ap, arith, cond, false, find, length, option_map, refl, slice_get}
 use Rattle.fm_world.proofs.Words.{slice_set, subst, sym, take, true, unwrap_or, ℕ, ◌&&◌, ◌++◌, ◌+◌, ◌<◌, ◌==◌, ◌∙◌, ◌∷◌, ◌≡◌, false≢true, set-get_or, All-cons}
 use Rattle.fm_world.proofs.Words.{All-nil, get_or_from_slice_get, none-some, slice_get_within}
-use Rattle.fm_flow.proofs.Next.{next_carries, next_enters, next_flies, next_needed, next_stays, sound_next, MayAsk, WasOwed, next_owes}
+use Rattle.fm_operations.proofs.Next.{next_carries, next_enters, next_flies, next_needed, next_stays, sound_next, MayAsk, WasOwed, next_owes}
 use Rattle.fm_world.proofs.Amongs.{among_base, among_other, among_visits, is_up, no_base, post_last, visit_last}
 use Rattle.fm_world.proofs.Callbacks.{same_hands}
 use Rattle.fm_world.proofs.Cases.{by_option}
@@ -27,7 +27,7 @@ use Rattle.fm_world.proofs.Owning.{empty_hand}
 use Rattle.fm_world.proofs.Staying.{Does, Gives, HandMore, hand_given, loses_lasts, nothing, table_same}
 use Rattle.fm_world.proofs.Ties.{InNoCallback, at_none, BalancesSpots, InDrains, Matches, drains_balance, in_a_drain, in_no_drain, is_running, matches_drain}
 use Rattle.fm_world.proofs.Ties.{matches_idle, matches_post, matches_pre, quiet_is_nowhere, spots_balance, standing}
-use Rattle.fm_flow.specs.Sound as flow
+use Rattle.fm_operations.specs.Sound as flow
 
 -- ---- what it makes of an operation, decided once
 

@@ -20,35 +20,35 @@ pub use Rattle.fm_ctx.specs.Table.{change_context, changed_slot, context_in, lin
 unfoldable pub use Rattle.fm_ctx.specs.Table.{context_at}
 pub use Rattle.fm_ctx.specs.declared.set_reply.SetMode.{SetMode}
 pub use Rattle.fm_ctx.specs.declared.set_reply.SetReply.{SetReply}
-pub use Rattle.fm_data.specs.Calls.{BaseCall}
-pub use Rattle.fm_data.specs.Data.{Data, data_fits}
-pub use Rattle.fm_data.specs.Params.{are_on, is_within_limits, operation_of}
-pub use Rattle.fm_data.specs.declared.request.Request.{Request}
-pub use Rattle.fm_data.specs.declared.verdict.Completion.{Completion}
-pub use Rattle.fm_data.specs.declared.verdict.PostVerdict.{PostVerdict}
-pub use Rattle.fm_data.specs.declared.verdict.PreVerdict.{PreVerdict}
-pub use Rattle.fm_flow.proofs.Counting.{drains_drain_settled, drains_open, drains_post_settled, drains_pre_settled, flight_post_settled, flight_pre_settled}
-pub use Rattle.fm_flow.proofs.Counting.{none_running, one_of_and, owed_drain_settled, owed_post_settled, owed_pre_settled, same_either}
-pub use Rattle.fm_flow.proofs.Course.{drains_push}
-pub use Rattle.fm_flow.proofs.Flows.{flow_changes}
-pub use Rattle.fm_flow.proofs.Next.{drains_given, next_drains}
-pub use Rattle.fm_flow.proofs.Soundness.{Stays, unspent}
-pub use Rattle.fm_flow.specs.Answered.{bare_answer, base_counted, is_success}
-pub use Rattle.fm_flow.specs.Counts.{carried_among, carried_by, carried_in, drain_opens, flight, handed, is_running_drain, leaves_at, taken_by}
-pub use Rattle.fm_flow.specs.Creates.{is_unanswered}
-pub use Rattle.fm_flow.specs.Entries.{ask_in, is_base, post_of, settle_drain, settle_post, settle_pre, times, visit_of}
-pub use Rattle.fm_flow.specs.Sound.{IsCourse, after, if_down, walk, way_of}
-pub use Rattle.fm_flow.specs.Steps.{MayLieBelow, Turned, ascend, bare_ask, base_fits, base_returned_of, call_base, call_post, call_pre, descend, done_at}
-pub use Rattle.fm_flow.specs.Steps.{drain_returned_of, give_post, is_done, may_take, next_at, next_of, post_leads, post_returned_of, post_settled, post_state}
-pub use Rattle.fm_flow.specs.Steps.{pre_leads, pre_returned_of, pre_settled, turn, unwound_to, with_base, with_drain, with_visit}
-pub use Rattle.fm_flow.specs.Table.{begun_record, collected_in, is_number, is_spent, marked, removed, total}
-pub use Rattle.fm_flow.specs.Verdict.{is_counted, verdict_counted}
-pub use Rattle.fm_flow.specs.declared.action.Below.{Below}
-pub use Rattle.fm_flow.specs.declared.entry.Entry.TheVariants.{Base, Drain, Post, Pre}
-pub use Rattle.fm_flow.specs.declared.entry.PostState.{PostState}
-pub use Rattle.fm_flow.specs.declared.entry.PostVisit.{PostVisit}
-pub use Rattle.fm_flow.specs.declared.entry.PreVisit.{PreVisit}
-pub use Rattle.fm_flow.specs.declared.stage.Stage.TheVariants.{Ascending, PostHeld, PreHeld}
+pub use Rattle.fm_callback_data.specs.Calls.{BaseCall}
+pub use Rattle.fm_callback_data.specs.Data.{Data, data_fits}
+pub use Rattle.fm_callback_data.specs.Params.{are_on, is_within_limits, operation_of}
+pub use Rattle.fm_callback_data.specs.declared.request.Request.{Request}
+pub use Rattle.fm_callback_data.specs.declared.verdict.Completion.{Completion}
+pub use Rattle.fm_callback_data.specs.declared.verdict.PostVerdict.{PostVerdict}
+pub use Rattle.fm_callback_data.specs.declared.verdict.PreVerdict.{PreVerdict}
+pub use Rattle.fm_operations.proofs.Counting.{drains_drain_settled, drains_open, drains_post_settled, drains_pre_settled, flight_post_settled, flight_pre_settled}
+pub use Rattle.fm_operations.proofs.Counting.{none_running, one_of_and, owed_drain_settled, owed_post_settled, owed_pre_settled, same_either}
+pub use Rattle.fm_operations.proofs.Course.{drains_push}
+pub use Rattle.fm_operations.proofs.Flows.{flow_changes}
+pub use Rattle.fm_operations.proofs.Next.{drains_given, next_drains}
+pub use Rattle.fm_operations.proofs.Soundness.{Stays, unspent}
+pub use Rattle.fm_operations.specs.Answered.{bare_answer, base_counted, is_success}
+pub use Rattle.fm_operations.specs.Counts.{carried_among, carried_by, carried_in, drain_opens, flight, handed, is_running_drain, leaves_at, taken_by}
+pub use Rattle.fm_operations.specs.Creates.{is_unanswered}
+pub use Rattle.fm_operations.specs.Entries.{ask_in, is_base, post_of, settle_drain, settle_post, settle_pre, times, visit_of}
+pub use Rattle.fm_operations.specs.Sound.{IsCourse, after, if_down, walk, way_of}
+pub use Rattle.fm_operations.specs.Steps.{MayLieBelow, Turned, ascend, bare_ask, base_fits, base_returned_of, call_base, call_post, call_pre, descend, done_at}
+pub use Rattle.fm_operations.specs.Steps.{drain_returned_of, give_post, is_done, may_take, next_at, next_of, post_leads, post_returned_of, post_settled, post_state}
+pub use Rattle.fm_operations.specs.Steps.{pre_leads, pre_returned_of, pre_settled, turn, unwound_to, with_base, with_drain, with_visit}
+pub use Rattle.fm_operations.specs.Table.{begun_record, collected_in, is_number, is_spent, marked, removed, total}
+pub use Rattle.fm_operations.specs.Verdict.{is_counted, verdict_counted}
+pub use Rattle.fm_operations.specs.declared.action.Below.{Below}
+pub use Rattle.fm_operations.specs.declared.entry.Entry.TheVariants.{Base, Drain, Post, Pre}
+pub use Rattle.fm_operations.specs.declared.entry.PostState.{PostState}
+pub use Rattle.fm_operations.specs.declared.entry.PostVisit.{PostVisit}
+pub use Rattle.fm_operations.specs.declared.entry.PreVisit.{PreVisit}
+pub use Rattle.fm_operations.specs.declared.stage.Stage.TheVariants.{Ascending, PostHeld, PreHeld}
 pub use Rattle.fm_stack.proofs.GoingOn.{goes_on_follows, goes_on_keeps}
 pub use Rattle.fm_stack.specs.Events.{accept_row, finish_row, refuse_row}
 pub use Rattle.fm_stack.specs.Follows.{Follows}

@@ -3,7 +3,7 @@
 use Rattle.std.specs.Prelude.{◌≡◌, ℕ, ◌==◌, Bool, false, count_by, find, Option, Some, None, Result}
 use Rattle.fm_world.specs.Words.{HandleId, VolumeId, Status, first_of, Answers, has_create_on}
 use Rattle.fm_stack.specs.Dismounting as volumes
-use Rattle.fm_flow.specs.OnVolumes as operations
+use Rattle.fm_operations.specs.OnVolumes as operations
 use Rattle.fm_ctx.specs.Counting.{open_on}
 use Rattle.fm_ctx.specs.Settling.{is_linked_to}
 use Rattle.fm_ctx.specs.declared.object.Object.TheVariants as object

@@ -2,8 +2,8 @@
 use Rattle.std.specs.Prelude.{◌≡◌, Bool, true, false, List, [], ◌∷◌, Option, Some, None, Result, Ok, Err}
 use Rattle.fm_world.specs.Words.{InstanceId, OpId, WorkerId, Status, StackWorld, Instance, first_of, Answers, Leaves, is_stopping}
 use Rattle.fm_types.specs.declared.status.Status.TheVariants as status
-use Rattle.fm_data.specs.declared.verdict.Completion.{Completion}
-use Rattle.fm_flow.specs.Drains.{DrainTaken, drain_done_of}
+use Rattle.fm_callback_data.specs.declared.verdict.Completion.{Completion}
+use Rattle.fm_operations.specs.Drains.{DrainTaken, drain_done_of}
 use Rattle.fm_world.specs.declared.place.Place.{Place}
 use Rattle.fm_world.specs.declared.place.Place.TheVariants as place
 use Rattle.fm_world.specs.World.{World, carries}

@@ -7,39 +7,39 @@ use Rattle.fm_world.specs.Words.{Params, Answer, Instance, Phase, StackWorld, Is
 use Rattle.fm_world.specs.Words.{handed_on, Leaves, Sweeps, is_linked_of, FlowAction, Ask, PreState, Descending, FlowRecord, owed, visited, creates}
 use Rattle.fm_world.specs.Words.{has_create_on, is_create, FlowTable, carried, operation_at, changed, told, begun, is_full, collect_reply, collected_of}
 use Rattle.fm_types.specs.declared.registration.Registration.{Registration}
-use Rattle.fm_data.specs.Calls.{BaseCall}
-use Rattle.fm_data.specs.declared.verdict.PreVerdict.{PreVerdict}
-use Rattle.fm_data.specs.declared.verdict.PostVerdict.{PostVerdict}
-use Rattle.fm_data.specs.declared.verdict.Completion.{Completion}
-use Rattle.fm_data.specs.Data.{Data, data_fits}
-use Rattle.fm_data.specs.Params.{is_within_limits, operation_of}
-use Rattle.fm_flow.specs.declared.action.Below.{Below}
-use Rattle.fm_flow.specs.declared.entry.PreState.TheVariants.{Passed}
-use Rattle.fm_flow.specs.Steps.{next_of, pre_returned_of, pre_settled, base_returned_of, post_returned_of, post_settled, drain_returned_of, base_fits}
-use Rattle.fm_flow.specs.Holds.{is_held, IsFirstHeld, sync_of}
-use Rattle.fm_flow.specs.declared.hold.Hold.{Hold}
-use Rattle.fm_flow.specs.declared.hold.Hold.TheVariants as hold
-use Rattle.fm_flow.specs.declared.entry.PostState.TheVariants as post
-use Rattle.fm_flow.specs.Verdict.{verdict_counted}
+use Rattle.fm_callback_data.specs.Calls.{BaseCall}
+use Rattle.fm_callback_data.specs.declared.verdict.PreVerdict.{PreVerdict}
+use Rattle.fm_callback_data.specs.declared.verdict.PostVerdict.{PostVerdict}
+use Rattle.fm_callback_data.specs.declared.verdict.Completion.{Completion}
+use Rattle.fm_callback_data.specs.Data.{Data, data_fits}
+use Rattle.fm_callback_data.specs.Params.{is_within_limits, operation_of}
+use Rattle.fm_operations.specs.declared.action.Below.{Below}
+use Rattle.fm_operations.specs.declared.entry.PreState.TheVariants.{Passed}
+use Rattle.fm_operations.specs.Steps.{next_of, pre_returned_of, pre_settled, base_returned_of, post_returned_of, post_settled, drain_returned_of, base_fits}
+use Rattle.fm_operations.specs.Holds.{is_held, IsFirstHeld, sync_of}
+use Rattle.fm_operations.specs.declared.hold.Hold.{Hold}
+use Rattle.fm_operations.specs.declared.hold.Hold.TheVariants as hold
+use Rattle.fm_operations.specs.declared.entry.PostState.TheVariants as post
+use Rattle.fm_operations.specs.Verdict.{verdict_counted}
 use Rattle.fm_types.specs.declared.operation.CreateMode.{CreateMode}
 use Rattle.fm_types.specs.declared.status.Status.TheVariants as status
 use Rattle.fm_types.specs.declared.operation.Operation.TheVariants as kind
-use Rattle.fm_data.specs.declared.params.Params.TheVariants as params
-use Rattle.fm_data.specs.declared.verdict.PreVerdict.TheVariants as verdict
+use Rattle.fm_callback_data.specs.declared.params.Params.TheVariants as params
+use Rattle.fm_callback_data.specs.declared.verdict.PreVerdict.TheVariants as verdict
 use Rattle.fm_stack.specs.declared.instance.Phase.TheVariants as stage
 use Rattle.fm_stack.specs.Events as stack
-use Rattle.fm_flow.specs.declared.action.Below.TheVariants as below
-use Rattle.fm_flow.specs.declared.action.FlowAction.TheVariants as action
-use Rattle.fm_flow.specs.declared.entry.PreState.TheVariants as state
+use Rattle.fm_operations.specs.declared.action.Below.TheVariants as below
+use Rattle.fm_operations.specs.declared.action.FlowAction.TheVariants as action
+use Rattle.fm_operations.specs.declared.entry.PreState.TheVariants as state
 use Rattle.fm_ctx.specs.declared.owner.Owner.TheVariants as owner
-use Rattle.fm_data.specs.declared.request.Request.{Request}
-use Rattle.fm_data.specs.declared.request.Request.TheVariants as request
+use Rattle.fm_callback_data.specs.declared.request.Request.{Request}
+use Rattle.fm_callback_data.specs.declared.request.Request.TheVariants as request
 use Rattle.fm_world.specs.declared.place.Place.{Place}
 use Rattle.fm_world.specs.declared.place.Place.TheVariants as place
 use Rattle.fm_world.specs.Descent.{cursor_of}
 use Rattle.fm_world.specs.Links.{LosesLinks}
 use Rattle.fm_world.specs.World.{World, carries}
-use Rattle.fm_data.specs.Requests.{params_of}
+use Rattle.fm_callback_data.specs.Requests.{params_of}
 use Rattle.fm_world.specs.Requests.{phase_refusal_at}
 use Rattle.fm_world.specs.Files.{FileTable, stream_at, handle_at, stream_for, created, phased, has_other_handle, is_marked, after_base, after_pre}
 use Rattle.fm_world.specs.declared.file.FileHandle.{FileHandle}

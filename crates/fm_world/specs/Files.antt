@@ -3,9 +3,9 @@ use Rattle.std.specs.Prelude.{ℕ, ◌+◌, ◌==◌, ◌&&◌, ◌||◌, Bool, 
 use Rattle.std.specs.List.{list_any}
 use Rattle.std.specs.Cmp.Lexicographic.{pointwise}
 use Rattle.fm_world.specs.Words.{change_first, without_first, HandleId, StreamId, VolumeId, Status, Operation, PreState}
-use Rattle.fm_flow.specs.Answered.{is_success}
+use Rattle.fm_operations.specs.Answered.{is_success}
 use Rattle.fm_types.specs.declared.operation.Operation.TheVariants as kind
-use Rattle.fm_flow.specs.declared.entry.PreState.TheVariants as state
+use Rattle.fm_operations.specs.declared.entry.PreState.TheVariants as state
 use Rattle.fm_world.specs.declared.file.FileStream.{FileStream}
 use Rattle.fm_world.specs.declared.file.FileHandle.{FileHandle}
 use Rattle.fm_world.specs.declared.file.HandlePhase.{HandlePhase}

@@ -1,10 +1,10 @@
 -- What workers hold, counted: what a lock above the state rests on, which keeps a book of all hands without looking at any but its own.
 use Rattle.std.specs.Prelude.{◌≡◌, ℕ, ◌+◌, List, length, sum_by, Option, Some, None, is_some, Result, Ok, Err}
 use Rattle.fm_world.specs.Words.{CtxId, InstanceId, OpId, WorkerId, Status, one, hand_of, FlowAction}
-use Rattle.fm_data.specs.declared.verdict.Completion.{Completion}
-use Rattle.fm_data.specs.declared.verdict.PreVerdict.{PreVerdict}
+use Rattle.fm_callback_data.specs.declared.verdict.Completion.{Completion}
+use Rattle.fm_callback_data.specs.declared.verdict.PreVerdict.{PreVerdict}
 use Rattle.fm_world.specs.Events.{sent_in, state_at}
-use Rattle.fm_flow.specs.declared.action.FlowAction.TheVariants as action
+use Rattle.fm_operations.specs.declared.action.FlowAction.TheVariants as action
 use Rattle.fm_world.specs.declared.set_answer.SetAnswer.{SetAnswer}
 use Rattle.fm_world.specs.declared.set_answer.SetAnswer.TheVariants as answer
 use Rattle.fm_world.specs.declared.place.Place.{Place}

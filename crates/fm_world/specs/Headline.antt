@@ -3,9 +3,9 @@ use Rattle.std.specs.Prelude.{◌≡◌, ℕ, ◌≤◌, ◌++◌, Bool, true, f
 use Rattle.fm_world.specs.Words.{CtxId, InstanceId, OpId, WorkerId, StackWorld, clashes, Object, Owner, one, places, cleaning_of, hand_of, open_of, has_link}
 use Rattle.fm_world.specs.Words.{is_waiting, Slot, context_at, owner_at, Stage, Descending, PreRunning, InBase, PostRunning, InDrain, FlowRecord, Entry}
 use Rattle.fm_world.specs.Words.{visited, last_visited, last_posted, has_base, posted, owed, undrained, instances, FlowTable, told, in_flight}
-use Rattle.fm_flow.specs.Counts.{drain_opens}
-use Rattle.fm_flow.specs.Entries.{asked}
-use Rattle.fm_flow.specs.Sound.{walk, way_of, MadeAsAsked}
+use Rattle.fm_operations.specs.Counts.{drain_opens}
+use Rattle.fm_operations.specs.Entries.{asked}
+use Rattle.fm_operations.specs.Sound.{walk, way_of, MadeAsAsked}
 use Rattle.fm_ctx.specs.declared.owner.Owner.TheVariants as owner
 use Rattle.fm_world.specs.declared.step.Step.{Step}
 use Rattle.fm_world.specs.declared.step.StepReply.{StepReply}

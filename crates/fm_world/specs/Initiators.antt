@@ -2,9 +2,9 @@
 use Rattle.std.specs.Prelude.{◌≡◌, ℕ, ◌==◌, Bool, true, false, not, List, [], ◌∷◌, Option, Some, None, Result}
 use Rattle.fm_world.specs.Words.{Instance, OpId, Status, VolumeId, FlowRecord, changed, first_of, AnswersOrMemory}
 use Rattle.fm_types.specs.declared.status.Status.TheVariants as status
-use Rattle.fm_data.specs.declared.request.Request.{Request}
-use Rattle.fm_data.specs.declared.request.Request.TheVariants as request
-use Rattle.fm_flow.specs.Table.{placed}
+use Rattle.fm_callback_data.specs.declared.request.Request.{Request}
+use Rattle.fm_callback_data.specs.declared.request.Request.TheVariants as request
+use Rattle.fm_operations.specs.Table.{placed}
 use Rattle.fm_world.specs.declared.begins_from.BeginsFrom.{BeginsFrom}
 use Rattle.fm_world.specs.declared.begins_from.BeginsFrom.TheVariants as from
 use Rattle.fm_world.specs.World.{World}

@@ -1,8 +1,8 @@
 -- Which worker an event names, and what the event makes of the number of references that this worker holds: for a lock above the state, which counts hands and
 -- sees no World.
 use Rattle.std.specs.Prelude.{◌≡◌, ℕ, ◌+◌, ◌≤◌, Option, Some, None, Result, Ok, Err}
-use Rattle.fm_data.specs.declared.verdict.PreVerdict.{PreVerdict}
-use Rattle.fm_data.specs.declared.verdict.PreVerdict.TheVariants as verdict
+use Rattle.fm_callback_data.specs.declared.verdict.PreVerdict.{PreVerdict}
+use Rattle.fm_callback_data.specs.declared.verdict.PreVerdict.TheVariants as verdict
 use Rattle.fm_types.specs.declared.status.Status.TheVariants as status
 use Rattle.fm_world.specs.Words.{CtxId, WorkerId, Status}
 use Rattle.fm_world.specs.World.{World}

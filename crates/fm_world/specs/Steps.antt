@@ -1,6 +1,6 @@
 -- An event as a value, with its answer; and lists of them.
 use Rattle.std.specs.Prelude.{◌≡◌, ℕ, Option, List, [], ◌∷◌, Result}
-use Rattle.fm_data.specs.declared.verdict.Completion.{Completion}
+use Rattle.fm_callback_data.specs.declared.verdict.Completion.{Completion}
 use Rattle.fm_world.specs.Words.{FilterId, VolumeId, InstanceId, OpId, HandleId, CtxId, Status, Answer, Due, FlowAction}
 use Rattle.fm_world.specs.declared.set_answer.SetAnswer.{SetAnswer}
 use Rattle.fm_world.specs.declared.step.Step.{Step}

@@ -5,7 +5,7 @@ use Rattle.std.specs.Prelude.{◌≡◌, ◌+◌, ℕ, Bool, Option, Some, Resul
 use Rattle.fm_world.specs.Words.{FilterId, InstanceId, WorkerId, Status, first_of, Answers, Context, ContextTable, Leaves, Sweeps, is_linked_of, open_of, in_flight}
 use Rattle.fm_types.specs.declared.status.Status.TheVariants as status
 use Rattle.fm_ctx.specs.declared.owner.Owner.TheVariants as owner
-use Rattle.fm_flow.specs.Initiators.{begun_by}
+use Rattle.fm_operations.specs.Initiators.{begun_by}
 use Rattle.fm_stack.specs.Detaching as stack
 use Rattle.fm_stack.specs.Unloading as filters
 use Rattle.fm_world.specs.declared.place.Place.{Place}

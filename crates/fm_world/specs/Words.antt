@@ -12,8 +12,8 @@ pub use Rattle.fm_types.specs.declared.ids.VolumeId.{VolumeId}
 pub use Rattle.fm_types.specs.declared.ids.WorkerId.{WorkerId}
 pub use Rattle.fm_types.specs.declared.operation.Operation.{Operation}
 pub use Rattle.fm_types.specs.declared.status.Status.{Status}
-pub use Rattle.fm_data.specs.declared.answer.Answer.{Answer}
-pub use Rattle.fm_data.specs.declared.params.Params.{Params}
+pub use Rattle.fm_callback_data.specs.declared.answer.Answer.{Answer}
+pub use Rattle.fm_callback_data.specs.declared.params.Params.{Params}
 pub use Rattle.fm_stack.specs.Events.{is_emptying_at, finished, is_mounted}
 pub use Rattle.fm_stack.specs.Instances.{is_detached, is_lower_at, clashes, is_setup, is_attached, is_stopping, is_completing}
 pub use Rattle.fm_stack.specs.Next.{is_to_visit, is_below_cursor, is_candidate, IsNextInstance, has_pre_in, has_post_in, NonePasses}
@@ -29,14 +29,14 @@ pub use Rattle.fm_ctx.specs.Table.{Context, ContextTable, context_at, link_at, S
 pub use Rattle.fm_ctx.specs.declared.due.Due.{Due}
 pub use Rattle.fm_ctx.specs.declared.object.Object.{Object}
 pub use Rattle.fm_ctx.specs.declared.owner.Owner.{Owner}
-pub use Rattle.fm_flow.specs.Creates.{creates, has_create_on, is_create, is_creating, is_on_stream, is_over}
-pub use Rattle.fm_flow.specs.Entries.{owed, last_visited, visited, last_posted, has_base, posted, undrained, instances}
-pub use Rattle.fm_flow.specs.Record.{FlowRecord}
-pub use Rattle.fm_flow.specs.Table.{FlowTable, carried, operation_at, changed, told, begun, is_full, collect_reply, collected_of, in_flight, IsFlow}
-pub use Rattle.fm_flow.specs.Table.{empty_table}
-pub use Rattle.fm_flow.specs.declared.action.FlowAction.{FlowAction}
-pub use Rattle.fm_flow.specs.declared.entry.Ask.{Ask}
-pub use Rattle.fm_flow.specs.declared.entry.Entry.{Entry}
-pub use Rattle.fm_flow.specs.declared.entry.PreState.{PreState}
-pub use Rattle.fm_flow.specs.declared.stage.Stage.{Stage}
-pub use Rattle.fm_flow.specs.declared.stage.Stage.TheVariants.{Descending, PreRunning, InBase, PostRunning, InDrain}
+pub use Rattle.fm_operations.specs.Creates.{creates, has_create_on, is_create, is_creating, is_on_stream, is_over}
+pub use Rattle.fm_operations.specs.Entries.{owed, last_visited, visited, last_posted, has_base, posted, undrained, instances}
+pub use Rattle.fm_operations.specs.Record.{FlowRecord}
+pub use Rattle.fm_operations.specs.Table.{FlowTable, carried, operation_at, changed, told, begun, is_full, collect_reply, collected_of, in_flight, IsFlow}
+pub use Rattle.fm_operations.specs.Table.{empty_table}
+pub use Rattle.fm_operations.specs.declared.action.FlowAction.{FlowAction}
+pub use Rattle.fm_operations.specs.declared.entry.Ask.{Ask}
+pub use Rattle.fm_operations.specs.declared.entry.Entry.{Entry}
+pub use Rattle.fm_operations.specs.declared.entry.PreState.{PreState}
+pub use Rattle.fm_operations.specs.declared.stage.Stage.{Stage}
+pub use Rattle.fm_operations.specs.declared.stage.Stage.TheVariants.{Descending, PreRunning, InBase, PostRunning, InDrain}

@@ -2,7 +2,7 @@
 use Rattle.std.specs.Prelude.{ℕ, ◌==◌, Bool, true, false, List, count_by, Option, Some, None, slice_get, slice_set, Result, Ok, Err}
 use Rattle.std.specs.List.{list_any}
 use Rattle.fm_world.specs.Words.{WorkerId, CtxId, OpId, InstanceId, FilterId, Status, FlowAction}
-use Rattle.fm_flow.specs.declared.action.FlowAction.TheVariants as action
+use Rattle.fm_operations.specs.declared.action.FlowAction.TheVariants as action
 use Rattle.fm_world.specs.declared.place.Place.{Place}
 use Rattle.fm_world.specs.declared.place.Place.TheVariants as place
 

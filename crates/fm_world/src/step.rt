@@ -6,9 +6,11 @@ ghost use Rattle.fm_world.specs.StepHands.{worker_of};
 use crate::begins_from::BeginsFrom;
 use crate::set_answer::SetAnswer;
 use fm_altitude::Altitude;
+use fm_callback_data::{
+    Answer, BaseCall, CallbackData, Completion, PostVerdict, PreVerdict, Request,
+};
 use fm_ctx::{Due, SetMode};
-use fm_data::{Answer, BaseCall, CallbackData, Completion, PostVerdict, PreVerdict, Request};
-use fm_flow::{FlowAction, Hold};
+use fm_operations::{FlowAction, Hold};
 use fm_types::{
     Bytes, ContextKind, CtxId, FilterId, HandleId, InstanceId, Name, OpId, Registration, Status,
     VolumeId, WorkerId,

@@ -8,13 +8,13 @@ use Rattle.fm_world.specs.World.{World}
 use Rattle.kazdrin_c.specs.declared.event.KazdrinEvent.{KazdrinEvent}
 use Rattle.kazdrin_c.specs.declared.told.KazdrinTold.{KazdrinTold}
 use Rattle.kazdrin_c.specs.declared.host.SessionHost.{SessionHost}
-use Rattle.fm_data.specs.declared.verdict.PreVerdict.{PreVerdict}
-use Rattle.fm_data.specs.declared.verdict.PostVerdict.{PostVerdict}
+use Rattle.fm_callback_data.specs.declared.verdict.PreVerdict.{PreVerdict}
+use Rattle.fm_callback_data.specs.declared.verdict.PostVerdict.{PostVerdict}
 use Rattle.fm_device.specs.Devices.{CarriesCall}
 use Rattle.fm_session.specs.declared.lent.Given.{Given}
 use Rattle.fm_session.specs.Sessions.{LendsNext, LentAnswers, LentBaseAnswered, LentBaseReturns, LentChanges, LentPostReturns, LentPreReturns}
 use Rattle.fm_types.specs.Statuses.{number_of}
-use Rattle.fm_data.specs.declared.params.Params.{Params}
+use Rattle.fm_callback_data.specs.declared.params.Params.{Params}
 use Rattle.fm_session.specs.declared.lent.Lent.{Lent}
 use Rattle.kazdrin_c.specs.declared.data.KazdrinData.{KazdrinData}
 use Rattle.kazdrin_c.specs.Data.{lent_bytes, lent_told, params_named}

@@ -3,10 +3,10 @@ use Rattle.std.specs.Prelude.{ℕ, Bool, true, false, List, [], Option, Some, No
 use Rattle.fm_types.specs.declared.operation.CreateMode.{CreateMode}
 use Rattle.fm_types.specs.declared.operation.CreateMode.TheVariants as create
 use Rattle.fm_types.specs.Statuses.{number_of, information_of}
-use Rattle.fm_data.specs.declared.params.Params.{Params}
-use Rattle.fm_data.specs.declared.params.Params.TheVariants as params
-use Rattle.fm_data.specs.Calls.{BaseCall}
-use Rattle.fm_data.specs.Data.{Data, current_of}
+use Rattle.fm_callback_data.specs.declared.params.Params.{Params}
+use Rattle.fm_callback_data.specs.declared.params.Params.TheVariants as params
+use Rattle.fm_callback_data.specs.Calls.{BaseCall}
+use Rattle.fm_callback_data.specs.Data.{Data, current_of}
 use Rattle.fm_session.specs.declared.lent.Lent.{Lent}
 use Rattle.fm_session.specs.declared.lent.Lent.TheVariants as lent
 use Rattle.kazdrin_c.specs.declared.event.KazdrinEvent.{KazdrinEvent}

@@ -15,20 +15,20 @@ use Rattle.fm_altitude.specs.Grammar.{canonical}
 use Rattle.fm_types.specs.declared.registration.Registration.{Registration}
 use Rattle.fm_types.specs.declared.status.Status.{Status}
 use Rattle.fm_types.specs.declared.status.Status.TheVariants.{Success, NoMemory, BadAltitude, BadName, NameCollision, AltitudeCollision, NoFilter, NoVolume, NoInstance, NotLoaded, AlreadyLoaded, DoNotAttach, DoNotDetach, DeletingObject, NoHandle, BadPath, DeletePending, AccessDenied, DeviceFault, FileNotFound, AlreadyExists, NotRegistered, AlreadyDefined, AlreadyLinked, NoContext, NotHeld, HandFull, NoObject, NotPended, TooMany, WrongStep, EndOfFile, BadRequest, Dismounting, Busy}
-use Rattle.fm_data.specs.declared.request.FileRequest.{FileRequest}
-use Rattle.fm_data.specs.declared.request.FileRequest.TheVariants as file
-use Rattle.fm_data.specs.declared.request.Request.{Request}
-use Rattle.fm_data.specs.declared.request.Request.TheVariants as request
+use Rattle.fm_callback_data.specs.declared.request.FileRequest.{FileRequest}
+use Rattle.fm_callback_data.specs.declared.request.FileRequest.TheVariants as file
+use Rattle.fm_callback_data.specs.declared.request.Request.{Request}
+use Rattle.fm_callback_data.specs.declared.request.Request.TheVariants as request
 use Rattle.fm_world.specs.declared.begins_from.BeginsFrom.TheVariants as from
-use Rattle.fm_data.specs.declared.verdict.Completion.{Completion}
-use Rattle.fm_data.specs.declared.verdict.PreVerdict.{PreVerdict}
-use Rattle.fm_data.specs.declared.verdict.PreVerdict.TheVariants as verdict
-use Rattle.fm_data.specs.declared.verdict.PostVerdict.{PostVerdict}
-use Rattle.fm_data.specs.declared.verdict.PostVerdict.TheVariants as post
+use Rattle.fm_callback_data.specs.declared.verdict.Completion.{Completion}
+use Rattle.fm_callback_data.specs.declared.verdict.PreVerdict.{PreVerdict}
+use Rattle.fm_callback_data.specs.declared.verdict.PreVerdict.TheVariants as verdict
+use Rattle.fm_callback_data.specs.declared.verdict.PostVerdict.{PostVerdict}
+use Rattle.fm_callback_data.specs.declared.verdict.PostVerdict.TheVariants as post
 use Rattle.fm_ctx.specs.declared.set_reply.SetMode.{SetMode}
 use Rattle.fm_ctx.specs.declared.set_reply.SetMode.TheVariants as set
-use Rattle.fm_flow.specs.declared.hold.Hold.{Hold}
-use Rattle.fm_flow.specs.declared.hold.Hold.TheVariants as hold
+use Rattle.fm_operations.specs.declared.hold.Hold.{Hold}
+use Rattle.fm_operations.specs.declared.hold.Hold.TheVariants as hold
 use Rattle.fm_world.specs.declared.step.Step.{Step}
 use Rattle.fm_world.specs.declared.step.Step.TheVariants as step
 use Rattle.kazdrin_c.specs.declared.event.KazdrinEvent.{KazdrinEvent}

@@ -5,7 +5,7 @@ use Rattle.fm_types.specs.declared.context_kind.ContextKind.{ContextKind}
 use Rattle.fm_types.specs.declared.context_kind.ContextKind.TheVariants as kind
 use Rattle.fm_types.specs.declared.status.Status.{Status}
 use Rattle.fm_types.specs.Statuses.{number_of, information_of}
-use Rattle.fm_data.specs.declared.verdict.Completion.{Completion}
+use Rattle.fm_callback_data.specs.declared.verdict.Completion.{Completion}
 use Rattle.fm_world.specs.declared.set_answer.SetAnswer.TheVariants as set
 use Rattle.fm_world.specs.declared.step.StepReply.{StepReply}
 use Rattle.fm_world.specs.declared.step.StepReply.TheVariants as reply

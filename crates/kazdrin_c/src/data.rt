@@ -7,7 +7,7 @@ ghost use Rattle.kazdrin_c.specs.Calls.{bytes_given};
 ghost use Rattle.kazdrin_c.specs.Named.{flag_in, status_at};
 
 use crate::event::{KazdrinEvent, create_mode_of, named, status_of};
-use fm_data::{BaseCall, CallbackData, Params};
+use fm_callback_data::{BaseCall, CallbackData, Params};
 use fm_session::Lent;
 use fm_types::{Bytes, CreateMode, RelPath, SharedPath, Status};
 use std::alloc::Global;

@@ -5,8 +5,8 @@ ghost use Rattle.kazdrin_c.specs.Named.{attach_named, begun_named, completion_in
 ghost use Rattle.kazdrin_c.specs.Refusals.{Unnamed, Unread, UnreadTexts, takes_memory};
 
 use fm_altitude::Altitude;
+use fm_callback_data::{Completion, FileRequest, PostVerdict, PreVerdict, Request};
 use fm_core::{BeginsFrom, Hold, SetMode, Step};
-use fm_data::{Completion, FileRequest, PostVerdict, PreVerdict, Request};
 use fm_types::{
     Bytes, ContextKind, ContextMask, CreateMode, CtxId, FilterId, HandleId, InstanceId, Name, OpId,
     OpMask, Registration, RelPath, SharedPath, Status, VolumeId, WorkerId,

@@ -3,8 +3,8 @@
 ghost use Rattle.std.specs.Prelude.{◌≡◌, ◌++◌, length, min, take, drop};
 ghost use Rattle.kazdrin_c.specs.Told.{bytes_in, code_of, completion_told, context_told, copied, due_code, given_told, nothing_told, old_told, outcome_of, refusal_told, reply_outcome, told_of};
 
+use fm_callback_data::Completion;
 use fm_core::{SetAnswer, StepReply};
-use fm_data::Completion;
 use fm_session::Given;
 use fm_types::{ContextKind, CtxId, Status};
 

@@ -2,7 +2,7 @@
 //! samples, and ends as it does.
 #![tactic(auto)]
 
-use fm_front::{Invocation, endpoint_of, front_with};
+use fm_socket::{Invocation, endpoint_of, front_with};
 use own_filter::filters;
 use std::io;
 use std::process::ExitCode;

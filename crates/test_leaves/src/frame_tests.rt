@@ -1,7 +1,7 @@
 //! Frames with their bytes, written by hand from the table.
 
 use fm_altitude::Altitude;
-use fm_data::{FileRequest, Reply, Request};
+use fm_callback_data::{FileRequest, Reply, Request};
 use fm_types::{
     Bytes, CreateMode, FilterId, HandleId, InstanceId, Name, OpId, RelPath, SharedPath, Status,
     VolumeId,

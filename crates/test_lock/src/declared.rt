@@ -1,6 +1,6 @@
 //! Filters of a script: what each registers for is in the line that loads it, and what its callbacks answer is in lines further on.
 
-use fm_data::{CallbackData, Completion, PostVerdict, PreVerdict};
+use fm_callback_data::{CallbackData, Completion, PostVerdict, PreVerdict};
 use fm_filter::{Agreeable, Port};
 use fm_types::{ContextKind, Registration};
 
@@ -13,8 +13,8 @@ pub struct Declared {
 
 impl Agreeable for Declared {
     ghost use Rattle.std.specs.Prelude.{◌≡◌, ⊤};
-    ghost use Rattle.fm_data.specs.declared.verdict.PostVerdict.{PostVerdict};
-    ghost use Rattle.fm_data.specs.declared.verdict.PreVerdict.{PreVerdict};
+    ghost use Rattle.fm_callback_data.specs.declared.verdict.PostVerdict.{PostVerdict};
+    ghost use Rattle.fm_callback_data.specs.declared.verdict.PreVerdict.{PreVerdict};
 
     ghost registers = { λ filter. filter.registration };
 

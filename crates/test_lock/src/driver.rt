@@ -6,8 +6,8 @@ ghost use Rattle.fm_rundown.specs.Seats.{IsSeatOf};
 
 use crate::declared::Declared;
 use fm_altitude::Altitude;
+use fm_callback_data::{PostVerdict, PreVerdict};
 use fm_core::{Action, Entry, State, Step, StepReply};
-use fm_data::{PostVerdict, PreVerdict};
 use fm_device::Device;
 use fm_lock::{Hand, Manager};
 use fm_rundown::{GateSeat, Look, RundownGate, Seen};

@@ -3,9 +3,9 @@
 ghost use Rattle.std.specs.Prelude.{◌≡◌};
 ghost use Rattle.fm_lock.specs.Blanks.{IsBlankOf};
 
-use fm_data::{Answer, Request};
-use fm_flow::FlowAction;
+use fm_callback_data::{Answer, Request};
 use fm_lock::{Hand, Manager};
+use fm_operations::FlowAction;
 use fm_types::limits::PARTS;
 use fm_types::{Bytes, Name, OpId, Status, VolumeId};
 use std::alloc::Global;

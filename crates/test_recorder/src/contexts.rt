@@ -3,10 +3,10 @@
 ghost use Rattle.std.specs.Prelude.{◌≡◌};
 
 use crate::plan::Plan;
+use fm_callback_data::PreVerdict;
 use fm_ctx::SetMode;
-use fm_data::PreVerdict;
 use fm_filter::Port;
-use fm_flow::Hold;
+use fm_operations::Hold;
 use fm_types::{Bytes, ContextKind, CtxId};
 use fm_world::SetAnswer;
 use std::alloc::Global;

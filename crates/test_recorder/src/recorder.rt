@@ -5,7 +5,7 @@ ghost use Rattle.std.specs.Prelude.{◌≡◌, ⊤};
 use crate::contexts::{let_all_go, let_first_go, set_and_release, set_once};
 use crate::log::{Callback, For, Log, Seen};
 use crate::plan::Plan;
-use fm_data::{CallbackData, Completion, Params, PostVerdict, PreVerdict};
+use fm_callback_data::{CallbackData, Completion, Params, PostVerdict, PreVerdict};
 use fm_filter::{Minifilter, Port};
 use fm_types::{ContextKind, ContextMask, Name, OpMask, Registration, Status};
 use fm_world::About;

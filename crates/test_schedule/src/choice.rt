@@ -3,7 +3,7 @@
 ghost use Rattle.std.specs.Prelude.{◌≡◌};
 ghost use Rattle.test_schedule.specs.Schedules.{is_repeatable};
 
-use fm_flow::FlowAction;
+use fm_operations::FlowAction;
 use fm_types::{InstanceId, WorkerId};
 
 /// What a thread stands before, and does once it is let go.

@@ -3,7 +3,7 @@
 use crate::board::ThreadBoard;
 use crate::choice::{Next, Schedule};
 use crate::chooser::Chooser;
-use fm_flow::FlowAction;
+use fm_operations::FlowAction;
 use fm_types::WorkerId;
 use fm_worker::CallbackHook;
 use std::alloc::Global;

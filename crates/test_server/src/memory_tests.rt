@@ -1,8 +1,8 @@
 //! What the server and the readers of words make of refused memory.
 
 use crate::pipes::{BYTE_BY_BYTE, Pieces, Taken};
+use fm_callback_data::{Reply, Request};
 use fm_cli::{front_of, request_of};
-use fm_data::{Reply, Request};
 use fm_server::{Exec, ReaderSource, ServeEnd, WriterSink, serve, status_reply};
 use fm_types::Status;
 use fm_wire::{Control, encode};

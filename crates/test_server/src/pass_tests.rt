@@ -3,7 +3,7 @@
 ghost use Rattle.std.specs.Prelude.{All, IfSome};
 ghost use Rattle.fm_rundown.specs.Seats.{IsSeatOf};
 
-use fm_data::{Reply, Request};
+use fm_callback_data::{Reply, Request};
 use fm_rundown::{GateSeat, Look, RundownGate};
 use fm_server::{Exec, guarded, status_reply};
 use fm_types::{Status, VolumeId};

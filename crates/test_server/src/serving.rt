@@ -2,8 +2,8 @@
 
 use crate::pipes::{Pace, Pieces, Taken};
 use fm_base::MemoryBase;
-use fm_exec::LocalExec;
 use fm_local::LocalManager;
+use fm_local_exec::LocalExec;
 use fm_samples::{Guard, Sample};
 use fm_server::{Exec, ReaderSource, ServeEnd, WriterSink, serve};
 use fm_types::Name;

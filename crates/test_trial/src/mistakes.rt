@@ -2,8 +2,8 @@
 
 ghost use Rattle.std.specs.Prelude.{◌≡◌};
 
+use fm_callback_data::{CallbackData, Completion, Params, PostVerdict, PreVerdict};
 use fm_core::SetMode;
-use fm_data::{CallbackData, Completion, Params, PostVerdict, PreVerdict};
 use fm_filter::{Agreeable, Port};
 use fm_types::{Bytes, ContextKind, ContextMask, CtxId, OpId, OpMask, Registration, Status};
 use std::alloc::Global;

@@ -9,10 +9,10 @@ use Rattle.fm_local.proofs.Words.{IsAtRest, Tidies}
 use Rattle.fm_types.specs.Refusals.{first_of}
 use Rattle.fm_stack.specs.Detaching as stack
 use Rattle.fm_stack.specs.Instances.{is_completing, is_detached, is_gone_at, is_setup, is_stopping, passes}
-use Rattle.fm_flow.specs.Table.{in_flight, total}
-use Rattle.fm_flow.specs.Initiators.{begun_by, is_begun_by}
-use Rattle.fm_flow.specs.Counts.{flight}
-use Rattle.fm_flow.specs.Drains.{owed_to}
+use Rattle.fm_operations.specs.Table.{in_flight, total}
+use Rattle.fm_operations.specs.Initiators.{begun_by, is_begun_by}
+use Rattle.fm_operations.specs.Counts.{flight}
+use Rattle.fm_operations.specs.Drains.{owed_to}
 use Rattle.fm_world.specs.Sound.{HasWorkers, is_made, least_at}
 use Rattle.fm_world.specs.Teardowns.{QueryReturnsAt, StartReturnsAt, CompleteReturnsAt, QueryReturns}
 use Rattle.fm_world.specs.Words.{one}

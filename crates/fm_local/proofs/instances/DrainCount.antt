@@ -7,10 +7,10 @@ use Rattle.std.proofs.lemmas.Bool.{eqb-true, or_parts}
 use Rattle.std.proofs.lemmas.List.Elements.{All-cons, All-nil, filter_map-append}
 use Rattle.fm_types.specs.Lists.{change_first}
 use Rattle.fm_types.proofs.Firsts.{count-cons, count_changed, count_without, found_holds, found_passes}
-use Rattle.fm_flow.specs.declared.entry.Entry.TheVariants.{Drain, Post}
-use Rattle.fm_flow.specs.Drains.{IsDrainedEarly, drain_done_in, drain_done_of, drained_early, early_over, is_of, owed_to}
-use Rattle.fm_flow.specs.Entries.{answers, asked, is_answered, settle_drain}
-use Rattle.fm_flow.specs.Table.{FlowTable, is_spent, operation_at, removed, changed}
+use Rattle.fm_operations.specs.declared.entry.Entry.TheVariants.{Drain, Post}
+use Rattle.fm_operations.specs.Drains.{IsDrainedEarly, drain_done_in, drain_done_of, drained_early, early_over, is_of, owed_to}
+use Rattle.fm_operations.specs.Entries.{answers, asked, is_answered, settle_drain}
+use Rattle.fm_operations.specs.Table.{FlowTable, is_spent, operation_at, removed, changed}
 use Rattle.fm_world.specs.EarlyDrains.{DrainReturns, DrainReturnsAt}
 use Rattle.fm_filter.specs.Standing.{Shape, drain_of, shape_of}
 use Rattle.fm_local.specs.Drains.{left_to_drain}

@@ -4,13 +4,13 @@ use Rattle.fm_local.proofs.Words.{suc, zero, ℕ, ◌++◌, ◌∙◌, ap, ap₂
 use Rattle.fm_local.proofs.Words.{same_Some, times, sees, IsCourse, Ask, Descending, Entry, PreState, Stage, last_visited, owed, visited, asker}
 use Rattle.fm_local.proofs.Words.{ArePlain, Bool, may_take, not, ◌==◌, ◌||◌, true, eq-eqb}
 use Rattle.std.specs.Prelude.{reverse}
-use Rattle.fm_flow.specs.declared.entry.Entry.TheVariants.{Pre}
-use Rattle.fm_flow.specs.Entries.{ask_in, visit_of, answers}
-use Rattle.fm_flow.specs.Sound.{walk, answer_count}
-use Rattle.fm_flow.specs.Steps.{kept_of}
-use Rattle.fm_flow.proofs.Owed.{filter_map-push, owed_push_none, left_push_ask, unanswered}
-use Rattle.fm_flow.proofs.Course.{unvisited}
-use Rattle.fm_flow.proofs.Walks.{Settling, is_callback, walk_parts, drains_follow, opens_after, last_with}
+use Rattle.fm_operations.specs.declared.entry.Entry.TheVariants.{Pre}
+use Rattle.fm_operations.specs.Entries.{ask_in, visit_of, answers}
+use Rattle.fm_operations.specs.Sound.{walk, answer_count}
+use Rattle.fm_operations.specs.Steps.{kept_of}
+use Rattle.fm_operations.proofs.Owed.{filter_map-push, owed_push_none, left_push_ask, unanswered}
+use Rattle.fm_operations.proofs.Course.{unvisited}
+use Rattle.fm_operations.proofs.Walks.{Settling, is_callback, walk_parts, drains_follow, opens_after, last_with}
 use Rattle.fm_local.specs.Left.{askers}
 
 -- entries that lead from no callback to none are all closed

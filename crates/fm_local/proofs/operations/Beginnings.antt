@@ -3,7 +3,7 @@ use Rattle.fm_local.proofs.Words.{[], ◌∷◌, ◌≡◌, Bool, FlowRecord, Li
 use Rattle.fm_local.proofs.Words.{false, true, worker_at, ℕ, ◌++◌, ◌+◌, ◌∙◌, ap, cond, eq-eqb, refl, subst, sym, is_within_limits, params_of, Request}
 use Rattle.fm_local.proofs.Words.{after_begin, begin_refused, begun_at, begun_on, Begins, handle_at, stream_at, HandleId, StreamId, FileHandle}
 use Rattle.fm_local.proofs.Words.{FileStream, subject_of, IsAtRest}
-use Rattle.fm_flow.specs.Table.{begun_record}
+use Rattle.fm_operations.specs.Table.{begun_record}
 use Rattle.fm_world.specs.Events.{refused_at_by, refused_on_at}
 use Rattle.fm_world.specs.Files.{stream_for}
 use Rattle.fm_local.proofs.operations.TurnFolds.{IsGoing}

@@ -7,7 +7,7 @@ use Rattle.fm_local.proofs.Words.{base_returned, drains_at, has_post, state_at, 
 use Rattle.fm_local.proofs.Words.{CtxId, Descending, FlowTable, PreState, changed, is_create, after_next, is_idle, put, Place}
 use Rattle.std.proofs.lemmas.Option.{slice_get_within}
 use Rattle.fm_types.proofs.Lists.{slice_get-set_same}
-use Rattle.fm_flow.proofs.Next.{next_stays}
+use Rattle.fm_operations.proofs.Next.{next_stays}
 use Rattle.fm_ctx.specs.Bags.{hand_of}
 use Rattle.fm_world.specs.Events.{FindsBelow, LiesBelow, AnswersBelow, LosesByKnown, drains_next, flow_after_next, filed_next, filed_record, of_hand}
 use Rattle.fm_world.specs.Events.{held_context, state_given, base_step, is_created_on}

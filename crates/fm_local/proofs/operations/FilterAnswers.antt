@@ -2,8 +2,8 @@
 use Rattle.fm_local.proofs.Words.{◌≡◌, ⊤, Bool, Completion, Data, None, Option, PostVerdict, PreVerdict, Some, false, subst, sym}
 use Rattle.std.specs.Borrow.{Bor}
 use Rattle.std.specs.Prelude.{MatchOption}
-use Rattle.fm_data.specs.declared.verdict.PreVerdict.TheVariants.{NoCallback}
-use Rattle.fm_data.specs.declared.verdict.PostVerdict.TheVariants.{Finished}
+use Rattle.fm_callback_data.specs.declared.verdict.PreVerdict.TheVariants.{NoCallback}
+use Rattle.fm_callback_data.specs.declared.verdict.PostVerdict.TheVariants.{Finished}
 use Rattle.fm_local.specs.Calls.{MayAgree}
 use Rattle.fm_local.specs.Chains.{PostMay, PreMay}
 use Rattle.fm_local.specs.Drains.{WasCalled}

@@ -5,8 +5,8 @@ use Rattle.std.specs.Prelude.{nat_le}
 use Rattle.std.specs.Cmp.Lexicographic.{bytes_decides}
 use Rattle.std.proofs.lemmas.Bool.{and_from, and_parts, eqb-true}
 use Rattle.fm_types.specs.Masks.{operation_bit}
-use Rattle.fm_data.specs.Data.{IsData, change_passes}
-use Rattle.fm_data.specs.Params.{operation_of, path_of, same_operation, same_path, are_on, are_for, may_replace}
+use Rattle.fm_callback_data.specs.Data.{IsData, change_passes}
+use Rattle.fm_callback_data.specs.Params.{operation_of, path_of, same_operation, same_path, are_on, are_for, may_replace}
 
 -- a create in place of another one is on the same path
 on_same : (path : Option (List ℕ)) (p q : Params) → are_on path p ≡ true → are_on (path_of p) q ≡ true → are_on path q ≡ true

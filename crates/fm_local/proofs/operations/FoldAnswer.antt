@@ -5,7 +5,7 @@ use Rattle.fm_local.proofs.Words.{false, slice_get, suc, true, worker_at, zero, 
 use Rattle.fm_local.proofs.Words.{call_pre, descend, give_post, may_take, next_at, next_of, turn, unwound, Below, Ascending, step_keeps, Nexts}
 use Rattle.fm_local.proofs.Words.{IsSound, Ask, Descending, Stage, owed, Step, StepReply, Place, IsPlainFilter, Subject, Under, chain_of, NoneStops}
 use Rattle.fm_local.proofs.Words.{under, Carries, Does, Turns, Visits}
-use Rattle.fm_flow.specs.Steps.{Turned as Turn}
+use Rattle.fm_operations.specs.Steps.{Turned as Turn}
 use Rattle.fm_local.specs.Left.{LeftOf}
 use Rattle.fm_local.proofs.operations.Single.{Alone}
 use Rattle.fm_local.proofs.operations.TurnFolds.{IsGoing, is_between, turn_leaves, has_params, calm_here}

@@ -5,7 +5,7 @@ use Rattle.fm_local.proofs.Words.{[], ◌≡◌, Answer, BaseCall, Completion, D
 use Rattle.fm_local.proofs.Words.{PreVerdict, Result, Status, WorkerId, World, bare_answer, ℕ, ◌∙◌, ap, cond, refl, subst, sym, Reply, Request}
 use Rattle.fm_local.proofs.Words.{step_keeps, Begins, Collects, IsSound, Step, StepReply, ArePlainFilters, IsBegun, IsReady, replied, BasesCarry}
 use Rattle.fm_local.proofs.Words.{subject_of, numbered, Tidies, Carries, Turn}
-use Rattle.fm_flow.specs.Table.{collect_reply}
+use Rattle.fm_operations.specs.Table.{collect_reply}
 use Rattle.fm_local.specs.Actions.{CarriesIn, ResumesNone, RunsIn, reply_of, PerformsIn}
 use Rattle.fm_local.proofs.operations.Single.{told_alone}
 use Rattle.fm_local.proofs.operations.FoldAnswer.{carried}

@@ -7,9 +7,9 @@ use Rattle.fm_local.proofs.Words.{after_next, is_idle, Place}
 use Rattle.std.specs.Prelude.{IfSome}
 use Rattle.fm_types.proofs.Firsts.{find_changed, found_holds}
 use Rattle.fm_types.proofs.Lists.{all_at}
-use Rattle.fm_flow.proofs.Next.{next_stays}
-use Rattle.fm_flow.specs.Sound as flow
-use Rattle.fm_flow.specs.Steps.{unwound_to}
+use Rattle.fm_operations.proofs.Next.{next_stays}
+use Rattle.fm_operations.specs.Sound as flow
+use Rattle.fm_operations.specs.Steps.{unwound_to}
 use Rattle.fm_local.specs.Places.{IsLent, IsOut}
 use Rattle.fm_local.proofs.operations.Events.{lost, placed}
 use Rattle.fm_local.proofs.operations.Fits.{call_fitting}

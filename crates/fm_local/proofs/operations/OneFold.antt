@@ -2,7 +2,7 @@
 use Rattle.fm_local.proofs.Words.{[], ◌∷◌, ◌≡◌, Answer, BaseCall, Bool, Completion, Data, Finished, List, Params, PostVerdict, PreVerdict}
 use Rattle.fm_local.proofs.Words.{bare_answer, false, true, ℕ, ◌∙◌, subst, sym, answered_data, fresh_data, lent_answer, returned_answer}
 use Rattle.fm_local.proofs.Words.{verdict_counted, PreState, chain_of, Asker, Chain, Descends, Leads, Rises, Visit, asker}
-use Rattle.fm_data.specs.Data.{current_of}
+use Rattle.fm_callback_data.specs.Data.{current_of}
 use Rattle.fm_local.specs.Folds.{bare_completion}
 use Rattle.fm_local.specs.Functions.{IsFunctional, OneFold}
 

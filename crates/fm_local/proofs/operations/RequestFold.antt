@@ -8,10 +8,10 @@ use Rattle.fm_local.proofs.Words.{FileStream, Step, StepReply, Place, IsPlainFil
 use Rattle.std.proofs.lemmas.Bool.{cases_eq}
 use Rattle.fm_types.proofs.Firsts.{count-cons}
 use Rattle.fm_types.specs.Refusals.{IsRefusalOrMemory}
-use Rattle.fm_flow.specs.Counts.{drain_opens, is_running_drain}
-use Rattle.fm_flow.specs.Steps.{done_at}
-use Rattle.fm_flow.specs.Table.{collect_reply, collected_of, collected_in, is_collectable, removed, marked, without_first}
-use Rattle.fm_flow.specs.declared.entry.Entry.TheVariants.{Pre, Base, Post, Drain}
+use Rattle.fm_operations.specs.Counts.{drain_opens, is_running_drain}
+use Rattle.fm_operations.specs.Steps.{done_at}
+use Rattle.fm_operations.specs.Table.{collect_reply, collected_of, collected_in, is_collectable, removed, marked, without_first}
+use Rattle.fm_operations.specs.declared.entry.Entry.TheVariants.{Pre, Base, Post, Drain}
 use Rattle.fm_world.specs.Headline.{is_in_drain}
 use Rattle.fm_local.specs.Requests.{at_rest, FoldsAlone, PerformsBy, DoesBegun, IsAnswered, CarriedIsFold}
 use Rattle.fm_local.proofs.operations.Single.{Alone, found_alone, told_alone}

@@ -3,8 +3,8 @@ use Rattle.fm_local.proofs.Words.{[], ◌∷◌, ◌≡◌, Bool, FlowRecord, No
 use Rattle.fm_local.proofs.Words.{find, not, option_map, refl, unwrap_or, list_any, is_number, FileTable, handle_at, FlowTable, HandleId, StreamId}
 use Rattle.fm_local.proofs.Words.{changed, is_create, operation_at, told, known_answer, subject_of}
 use Rattle.std.specs.Prelude.{is_none}
-use Rattle.fm_flow.specs.Creates.{is_creating, is_unanswered, is_on_stream, has_create_on}
-use Rattle.fm_flow.specs.Table.{empty_table, change_first}
+use Rattle.fm_operations.specs.Creates.{is_creating, is_unanswered, is_on_stream, has_create_on}
+use Rattle.fm_operations.specs.Table.{empty_table, change_first}
 use Rattle.fm_world.specs.Events.{base_known, known_at, known_on, known_create, is_created_on}
 use Rattle.fm_world.specs.Files.{is_marked, has_other_handle}
 

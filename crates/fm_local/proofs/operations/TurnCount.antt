@@ -5,7 +5,7 @@ use Rattle.fm_local.proofs.Words.{ℕ, ◌+◌, ◌∙◌, ap, arith, cond, refl
 use Rattle.fm_local.proofs.Words.{give_post, next_at, next_of, turn, unwound, Below, Ascending, step_keeps, Nexts, IsSound, Ask, Descending}
 use Rattle.fm_local.proofs.Words.{Stage, owed, Step, StepReply, ArePlainFilters, IsBegun, Subject, subject_of, ArePlain, NoneStops, Carries, Turns}
 use Rattle.fm_local.proofs.Words.{Turn}
-use Rattle.fm_flow.specs.Steps.{Turned as Turning}
+use Rattle.fm_operations.specs.Steps.{Turned as Turning}
 use Rattle.fm_local.specs.Actions.{Acts, TurnsAs, HasTurned}
 use Rattle.fm_local.proofs.operations.Beginnings.{start, first, going}
 use Rattle.fm_local.proofs.operations.FoldAnswer.{turn_sound}

@@ -12,12 +12,12 @@ use Rattle.std.specs.Prelude.{IfSome}
 use Rattle.std.proofs.lemmas.List.{length-map}
 use Rattle.fm_types.proofs.Firsts.{found_holds}
 use Rattle.fm_types.proofs.Lists.{all_at}
-use Rattle.fm_flow.proofs.Soundness.{at_stage}
-use Rattle.fm_flow.specs.Entries.{settle_pre, settle_post}
-use Rattle.fm_flow.specs.Sound as flow
-use Rattle.fm_flow.specs.Steps.{pre_entry, post_entry, with_visit, with_base, bare_ask, Turned as Turn}
-use Rattle.fm_flow.specs.Verdict.{completed_as}
-use Rattle.fm_flow.specs.declared.entry.PostState.{PostState}
+use Rattle.fm_operations.proofs.Soundness.{at_stage}
+use Rattle.fm_operations.specs.Entries.{settle_pre, settle_post}
+use Rattle.fm_operations.specs.Sound as flow
+use Rattle.fm_operations.specs.Steps.{pre_entry, post_entry, with_visit, with_base, bare_ask, Turned as Turn}
+use Rattle.fm_operations.specs.Verdict.{completed_as}
+use Rattle.fm_operations.specs.declared.entry.PostState.{PostState}
 use Rattle.fm_stack.specs.Next.{is_candidate, IsHighest, IsNextInstance}
 use Rattle.fm_world.proofs.Descents.{last_of-push, room_visits}
 use Rattle.fm_world.specs.Descent.{HasRoom, cursor_of}

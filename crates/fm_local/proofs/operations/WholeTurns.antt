@@ -7,14 +7,14 @@ use Rattle.fm_local.proofs.Words.{lent_answer, post_returned_of, pre_returned_of
 use Rattle.fm_local.proofs.Words.{Descending, Entry, HandleId, PreState, Stage, last_visited, owed, visited, Asker, Chain, Descends, Leads, Rises}
 use Rattle.fm_local.proofs.Words.{Visit, asker, ArePlain}
 use Rattle.std.proofs.lemmas.List.{map-append, length-take}
-use Rattle.fm_data.specs.Data.{current_of}
-use Rattle.fm_flow.specs.declared.entry.Entry.TheVariants.{Base}
-use Rattle.fm_flow.specs.Entries.{ask_in, settle_pre, settle_post}
-use Rattle.fm_flow.specs.Steps.{unwound_to, with_visit, with_base, bare_ask, post_entry, pre_leads, answer_after, kept_of, stands, left_answer}
-use Rattle.fm_flow.proofs.Course.{bare_ask_of, owed_answered}
-use Rattle.fm_flow.proofs.Owed.{owed_push_none}
-use Rattle.fm_flow.proofs.Walks.{settling_pre, settling_post}
-use Rattle.fm_flow.specs.declared.entry.PostState.{PostState}
+use Rattle.fm_callback_data.specs.Data.{current_of}
+use Rattle.fm_operations.specs.declared.entry.Entry.TheVariants.{Base}
+use Rattle.fm_operations.specs.Entries.{ask_in, settle_pre, settle_post}
+use Rattle.fm_operations.specs.Steps.{unwound_to, with_visit, with_base, bare_ask, post_entry, pre_leads, answer_after, kept_of, stands, left_answer}
+use Rattle.fm_operations.proofs.Course.{bare_ask_of, owed_answered}
+use Rattle.fm_operations.proofs.Owed.{owed_push_none}
+use Rattle.fm_operations.proofs.Walks.{settling_pre, settling_post}
+use Rattle.fm_operations.specs.declared.entry.PostState.{PostState}
 use Rattle.fm_local.specs.Folds.{bare_completion}
 use Rattle.fm_local.specs.Left.{askers, LeftAt, LeftIn, LeftOf}
 use Rattle.fm_local.proofs.operations.Askers.{closed_stay, askers_above, none_at_end, asker_now, entry_of, last_is, owed_asks, owed_goes}

@@ -2,7 +2,7 @@
 use Rattle.fm_local.proofs.Words.{[], ◌∷◌, ◌≡◌, Answer, Bool, Err, FlowRecord, Parts, List, None, Ok, OpId, Option, Some, Status, World, cond, false, not, option_map, refl, subst, sym, true, unwrap_or, ◌&&◌, ◌++◌, ap, arith, operation_at, Collects, Reply}
 use Rattle.std.specs.Prelude.{All}
 use Rattle.std.proofs.lemmas.List.Elements.{All-head, All-tail}
-use Rattle.fm_flow.specs.Table.{collect_reply, is_collectable}
+use Rattle.fm_operations.specs.Table.{collect_reply, is_collectable}
 use Rattle.fm_local.specs.Actions.{GivesFinished, HasNoAnswer, TakesDone}
 use Rattle.fm_local.specs.Waits.{HandsOut, IsEnded, Wait, Waiting, are_apart, is_among}
 use Rattle.fm_local.proofs.queues.ManagerWaits.{collects_wait}

@@ -3,7 +3,7 @@ use Rattle.fm_local.proofs.Words.{[], ◌∷◌, ◌≡◌, ◌++◌, ◌∙◌,
 use Rattle.std.specs.Prelude.{All, option_map, unwrap_or}
 use Rattle.std.proofs.Common.{append_assoc, append-nil}
 use Rattle.std.proofs.lemmas.List.Elements.{All-append, All-cons, All-nil}
-use Rattle.fm_flow.specs.Table.{collect_reply, collected_in, is_collectable, operation_at}
+use Rattle.fm_operations.specs.Table.{collect_reply, collected_in, is_collectable, operation_at}
 use Rattle.fm_local.specs.Actions.{HasNoAnswer}
 use Rattle.fm_local.specs.declared.bounded.Bounded.{Bounded}
 use Rattle.fm_local.proofs.operations.AnyTurns.{head, none_left}

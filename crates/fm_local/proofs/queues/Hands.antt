@@ -6,7 +6,7 @@ use Rattle.fm_local.proofs.Words.{row_at, operation_at, LosesLinks, verdict_coun
 use Rattle.std.specs.Prelude.{slice_set}
 use Rattle.std.proofs.lemmas.List.{get_or-set_same}
 use Rattle.fm_types.specs.Refusals.{Answers, first_of}
-use Rattle.fm_flow.specs.declared.hold.Hold.{Hold}
+use Rattle.fm_operations.specs.declared.hold.Hold.{Hold}
 use Rattle.fm_ctx.specs.Bags.{hand_of, holds, is_hand_full, without}
 use Rattle.fm_ctx.specs.Births.{allocated}
 use Rattle.fm_ctx.specs.Links.{delete_after, delete_reply, holder, set_after, set_mode_after, set_mode_reply, set_reply, wanted}

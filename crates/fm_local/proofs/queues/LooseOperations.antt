@@ -6,14 +6,14 @@ use Rattle.fm_local.proofs.Words.{◌&&◌, ◌==◌, ◌∙◌, ap, arith, chan
 use Rattle.fm_local.proofs.Words.{BaseReturns, BaseReturnsAt, Begins, Collects, DrainsWhere, LosesLinks, Nexts, PostReturns, PostReturnsAt, PreReturns, PreReturnsAt, TakesDrain}
 use Rattle.fm_local.proofs.Words.{after_begin, ascend, begun_at, begun_on, drains_at, handle_at, is_stopping_at, next_at, next_of, params_of, row_at, state_at, stream_at, turn, IsSound, PreReturnsOver, ReturnsFrom, base_returned, post_returned_of}
 use Rattle.fm_types.specs.Refusals.{first_of}
-use Rattle.fm_flow.proofs.Drains.{owed_over, owing_there}
-use Rattle.fm_flow.proofs.Holds.{held_post, held_pre}
-use Rattle.fm_flow.proofs.Next.{next_stays}
-use Rattle.fm_flow.specs.Drains.{DrainTaken, drain_done_in, drained_early, early_over, is_of, owed_to}
-use Rattle.fm_flow.specs.Steps.{done_at}
-use Rattle.fm_flow.specs.Table.{collected_in, is_collectable, is_number, is_spent, marked, removed}
-use Rattle.fm_flow.specs.Counts.{is_running_drain}
-use Rattle.fm_flow.specs.declared.hold.Hold.{Hold}
+use Rattle.fm_operations.proofs.Drains.{owed_over, owing_there}
+use Rattle.fm_operations.proofs.Holds.{held_post, held_pre}
+use Rattle.fm_operations.proofs.Next.{next_stays}
+use Rattle.fm_operations.specs.Drains.{DrainTaken, drain_done_in, drained_early, early_over, is_of, owed_to}
+use Rattle.fm_operations.specs.Steps.{done_at}
+use Rattle.fm_operations.specs.Table.{collected_in, is_collectable, is_number, is_spent, marked, removed}
+use Rattle.fm_operations.specs.Counts.{is_running_drain}
+use Rattle.fm_operations.specs.declared.hold.Hold.{Hold}
 use Rattle.std.specs.List.{list_any}
 use Rattle.fm_world.proofs.Cases.{by_bool}
 use Rattle.fm_world.proofs.Events.{answers_by, idle_by, memory_by, refused_by, unless_by}

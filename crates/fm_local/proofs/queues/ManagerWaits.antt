@@ -2,8 +2,8 @@
 use Rattle.fm_local.proofs.Words.{[], ◌∷◌, ◌≡◌, ◌⊎◌, Answer, Ask, Below, Bool, Err, FlowAction, FlowRecord, FlowTable, InstanceId, List, None, Ok, OpId, Option, Params, Request, Result, Some}
 use Rattle.fm_local.proofs.Words.{Stage, Status, Turn, Place, WorkerId, World, ap, ascend, call_post, cond, drop, false, give_post, inl, inr, may_take, next_at, next_of, not, operation_at, option_map}
 use Rattle.fm_local.proofs.Words.{owed, refl, same_Some, slice_get, subst, sym, told, true, turn, unwound, unwrap_or, ◌&&◌, ◌++◌, ◌∙◌, Begins, Collects, IsSound, Nexts, NextsAt, drains_at, idle_by, is_idle, worker_at, Unless}
-use Rattle.fm_flow.specs.Steps.{done_at}
-use Rattle.fm_flow.specs.Table.{is_collectable}
+use Rattle.fm_operations.specs.Steps.{done_at}
+use Rattle.fm_operations.specs.Table.{is_collectable}
 use Rattle.fm_filter.specs.Standing.{Kept}
 use Rattle.fm_world.proofs.Events.{idle_there}
 use Rattle.fm_world.proofs.Operations.{inside_drain, inside_post, inside_pre}

@@ -4,8 +4,8 @@ use Rattle.fm_local.proofs.Words.{changed, find, inl, inr, is_number, operation_
 use Rattle.std.specs.Option.{option_or}
 use Rattle.std.proofs.lemmas.List.Folds.{find-append}
 use Rattle.fm_types.proofs.Firsts.{find_unchanged, find_without, find_changed}
-use Rattle.fm_flow.specs.Steps.{done_at}
-use Rattle.fm_flow.specs.Table.{is_collectable, removed}
+use Rattle.fm_operations.specs.Steps.{done_at}
+use Rattle.fm_operations.specs.Table.{is_collectable, removed}
 use Rattle.fm_local.specs.Waits.{IsEnded, IsLoose, is_between, is_loose}
 
 -- what ended is with nobody

@@ -6,7 +6,7 @@ use Rattle.fm_ctx.specs.declared.due.Due.{Due}
 use Rattle.fm_ctx.specs.declared.object.Object.{Object}
 use Rattle.fm_ctx.specs.declared.set_reply.SetMode.{SetMode}
 use Rattle.fm_ctx.specs.Table.{Context}
-use Rattle.fm_flow.specs.declared.hold.Hold.{Hold}
+use Rattle.fm_operations.specs.declared.hold.Hold.{Hold}
 use Rattle.fm_world.proofs.Events.{answers_by, asked_by, idle_by, taken_by}
 use Rattle.fm_world.specs.ContextEvents.{Allocates, Bumps, Callback, Cleans, CleansAt, Deletes, Gets, ReadsBody, References, Releases, Sets, SetsIn, SetsOn, SetsUnless, TakesDue, WritesBody}
 use Rattle.fm_world.specs.ContextEvents.{callback_of, object_for, set_refused}

@@ -3,9 +3,9 @@ use Rattle.fm_local.proofs.Words.{[], ◌∷◌, ◌≡◌, Bool, Err, FlowRecor
 use Rattle.fm_local.proofs.Words.{WorkerId, World, worker_at, ℕ, ◌∙◌, ap, inl, inr, map, refl, cases_Bool, is_number, context_at, state_at}
 use Rattle.fm_local.proofs.Words.{ContextKind, CtxId, PreState}
 use Rattle.fm_types.specs.Lists.{change_first}
-use Rattle.fm_flow.specs.declared.entry.PostState.TheVariants.{Finished}
-use Rattle.fm_flow.specs.declared.hold.Hold.{Hold}
-use Rattle.fm_flow.specs.Steps.{pre_settled, post_settled}
+use Rattle.fm_operations.specs.declared.entry.PostState.TheVariants.{Finished}
+use Rattle.fm_operations.specs.declared.hold.Hold.{Hold}
+use Rattle.fm_operations.specs.Steps.{pre_settled, post_settled}
 use Rattle.fm_ctx.specs.declared.object.Object.{Object}
 use Rattle.fm_ctx.specs.declared.set_reply.SetMode.{SetMode}
 use Rattle.fm_ctx.specs.Table.{Context}
@@ -17,14 +17,14 @@ use Rattle.fm_world.specs.Owners.{place_in}
 use Rattle.fm_world.specs.declared.set_answer.SetAnswer.{SetAnswer}
 use Rattle.fm_filter.specs.Standing.{drain_of, shape_of}
 use Rattle.std.specs.List.{cons_option, filter_map}
-use Rattle.fm_flow.specs.Entries.{settle_pre, settle_post}
-use Rattle.fm_flow.specs.declared.entry.Entry.TheVariants.{Pre, Post}
+use Rattle.fm_operations.specs.Entries.{settle_pre, settle_post}
+use Rattle.fm_operations.specs.declared.entry.Entry.TheVariants.{Pre, Post}
 use Rattle.fm_local.proofs.Words.{Entry, FileTable, IsSound, Operation, Stage, ap₂, arith, changed, false, has_post, operation_at, owed, slice_get, subst, sym, true, true≢false, verdict_counted, ◌&&◌, ◌++◌}
 use Rattle.fm_ctx.specs.Bags.{hand_of}
 use Rattle.fm_ctx.specs.Table.{ContextTable}
-use Rattle.fm_flow.proofs.Holds.{held_post, held_pre}
-use Rattle.fm_flow.specs.Sound as flow
-use Rattle.fm_flow.specs.Steps.{done_at, pre_leads}
+use Rattle.fm_operations.proofs.Holds.{held_post, held_pre}
+use Rattle.fm_operations.specs.Sound as flow
+use Rattle.fm_operations.specs.Steps.{done_at, pre_leads}
 use Rattle.fm_world.proofs.Operations.{told_there}
 use Rattle.fm_world.proofs.Resumes.{held_by}
 use Rattle.fm_world.specs.Events.{filed_pre, is_held_by, lets_go, of_hand, state_given}

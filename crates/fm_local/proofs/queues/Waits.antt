@@ -7,7 +7,7 @@ use Rattle.std.proofs.lemmas.List.Folds.{list_any-append}
 use Rattle.std.proofs.Common.{get_or}
 use Rattle.fm_types.specs.Lists.{change_first}
 use Rattle.fm_types.proofs.Firsts.{find_changed, found_holds, found_passes}
-use Rattle.fm_flow.specs.Table.{IsFlow, is_collectable}
+use Rattle.fm_operations.specs.Table.{IsFlow, is_collectable}
 use Rattle.fm_filter.specs.Standing.{Shape, Standing, standing_of}
 use Rattle.fm_local.specs.Waits.{IsEnded, IsLoose, Wait, are_apart, are_loose, go_on_once, is_among, is_left, is_loose, shape_of_waiting, standing_with}
 use Rattle.fm_local.proofs.queues.OtherRecords.{Stays, by_number, same_number, ended_loose, others_changed}

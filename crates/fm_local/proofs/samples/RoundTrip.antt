@@ -12,8 +12,8 @@ use Rattle.fm_types.specs.declared.status.Status.TheVariants.{NoHandle, FileNotF
 use Rattle.fm_base.specs.Folders.{changed, change_at, told, tell_at, bytes_from}
 use Rattle.fm_base.proofs.Writes.{read_back}
 use Rattle.fm_device.specs.Devices.{made_as, made_of, told_as}
-use Rattle.fm_flow.specs.Answered.{success_of, is_success}
-use Rattle.fm_flow.specs.Table.{empty_table}
+use Rattle.fm_operations.specs.Answered.{success_of, is_success}
+use Rattle.fm_operations.specs.Table.{empty_table}
 use Rattle.fm_world.specs.Events.{known_at}
 use Rattle.fm_samples.specs.Common.{plain_completion}
 use Rattle.fm_samples.specs.Shift.{raised, raised_byte}

@@ -5,7 +5,7 @@ use Rattle.fm_local.proofs.Words.{is_within_limits, base_counted, HandleId, Base
 use Rattle.std.specs.Prelude.{IsSome}
 use Rattle.fm_types.specs.declared.status.Status.TheVariants.{NoMemory, NoHandle, BadRequest, DeviceFault}
 use Rattle.fm_device.specs.Devices.{KnownAs, CarriesAny, CarriesOn, CarriesWithin, answer_to, made_by, made_of, is_listing}
-use Rattle.fm_flow.specs.Answered.{is_success, success_of}
+use Rattle.fm_operations.specs.Answered.{is_success, success_of}
 use Rattle.fm_local.specs.Shifts.{folder_of}
 use Rattle.fm_local.specs.Chains.{BaseMayBy, call_on}
 

@@ -13,8 +13,8 @@ use crate::said::{
 use crate::script_end::ScriptEnd;
 use crate::task::Task;
 use fm_altitude::Altitude;
+use fm_callback_data::{PostVerdict, PreVerdict};
 use fm_core::Step;
-use fm_data::{PostVerdict, PreVerdict};
 use fm_types::limits::LINE;
 use fm_types::{CtxId, FilterId, InstanceId, Name, OpId, Status, VolumeId, WorkerId};
 use std::alloc::{AllocError, Global};

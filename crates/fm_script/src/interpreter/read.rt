@@ -2,14 +2,14 @@
 
 ghost use Rattle.std.specs.Prelude.{◌≡◌, IfOk, map};
 ghost use Rattle.fm_script.specs.Lines.{ReadsBehind, ReadsBytes, ReadsTask, Spells};
-ghost use Rattle.fm_text.specs.Words.{words_of};
+ghost use Rattle.fm_words.specs.Words.{words_of};
 
 use super::Interpreter;
 use crate::command::{is_create, read_command, read_create, read_with_bytes, takes_bytes};
 use crate::keyword::Keyword;
 use crate::task::Task;
-use fm_text::{read_hex, split_words};
 use fm_types::{Bytes, Status};
+use fm_words::{read_hex, split_words};
 use smallvec::SmallVec;
 use std::alloc::{AllocError, Global};
 

@@ -5,7 +5,7 @@ ghost use Rattle.fm_wire.specs.Spelling as spelling;
 ghost use Rattle.fm_wire.specs.Grammar.{FitsReply, HasCount, KeepsReplyLimits};
 
 use crate::encoding::numbers::put_u64;
-use fm_data::Reply;
+use fm_callback_data::Reply;
 use fm_types::Status;
 use std::alloc::AllocError;
 

@@ -5,7 +5,7 @@ ghost use Rattle.fm_wire.specs.Spelling as spelling;
 ghost use Rattle.fm_wire.specs.Grammar.{FitsFile, FitsRequest, HasRequestTexts, KeepsFileLimits, KeepsRequestLimits};
 
 use crate::encoding::numbers::{put_u32, put_u64};
-use fm_data::{FileRequest, Request};
+use fm_callback_data::{FileRequest, Request};
 use fm_types::CreateMode;
 use fm_types::limits::TRANSFER;
 use std::alloc::AllocError;

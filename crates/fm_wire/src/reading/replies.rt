@@ -5,7 +5,7 @@ ghost use Rattle.fm_wire.specs.Grammar.{Reading};
 
 use crate::frame::Body;
 use crate::numbers::{split_u8, split_u64};
-use fm_data::Reply;
+use fm_callback_data::Reply;
 use fm_types::{Bytes, Status};
 use std::alloc::Global;
 

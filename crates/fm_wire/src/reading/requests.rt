@@ -6,7 +6,7 @@ ghost use Rattle.fm_wire.specs.Grammar.{Reading};
 
 use crate::frame::Body;
 use crate::numbers::{split_u8, split_u32, split_u64};
-use fm_data::{FileRequest, Request};
+use fm_callback_data::{FileRequest, Request};
 use fm_types::limits::TRANSFER;
 use fm_types::{Bytes, CreateMode, HandleId, RelPath, SharedPath, Status, VolumeId};
 use std::alloc::Global;

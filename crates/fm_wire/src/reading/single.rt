@@ -6,7 +6,7 @@ ghost use Rattle.fm_wire.specs.Grammar.{Reading, Says, HasTexts, canonical_body}
 
 use crate::frame::{Body, Control};
 use crate::numbers::{read_byte, read_u64};
-use fm_data::{FileRequest, Reply, Request};
+use fm_callback_data::{FileRequest, Reply, Request};
 use fm_types::{FilterId, HandleId, OpId, Status, VolumeId};
 
 fn on_handle(number: u64, request: FileRequest) -> Body

@@ -3,7 +3,7 @@ use Rattle.std.proofs.lemmas.List.{length-drop, length-reverse}
 use Rattle.std.specs.List.{position_or_len}
 use Rattle.fm_script.specs.ContextLists.{is_context}
 use Rattle.fm_script.proofs.Rows.{in_row, past_row}
-use Rattle.fm_text.proofs.Rows.{none_passes}
+use Rattle.fm_words.proofs.Rows.{none_passes}
 use Rattle.fm_script.proofs.context_list.newer_than.Goals as goal
 
 pub returns-in-Some-newer_in_row : goal.returns-in-Some-newer_in_row

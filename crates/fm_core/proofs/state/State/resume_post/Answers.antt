@@ -2,7 +2,7 @@ use Rattle.fm_core.proofs.Words.{the_view, [], ap, not, refl, subst, sym, ◌∷
 use Rattle.fm_world.proofs.Words.{ResumesPost}
 use Rattle.fm_world.proofs.Resumes.{resume_post_does}
 use Rattle.fm_core.proofs.Resumed.{by_that, placed_so, post_resume_tied, stands_post_held}
-use Rattle.fm_flow.specs.declared.hold.Hold.TheVariants as hold
+use Rattle.fm_operations.specs.declared.hold.Hold.TheVariants as hold
 use Rattle.fm_core.proofs.state.State.resume_post.Goals as goal
 
 pub resume_post-requires : goal.resume_post-requires

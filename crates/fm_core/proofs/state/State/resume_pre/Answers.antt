@@ -5,7 +5,7 @@ use Rattle.fm_core.proofs.Losing.{sweeping_tied}
 use Rattle.fm_core.proofs.Operated.{pre_state, sends_held}
 use Rattle.fm_core.proofs.Resumed.{by_that, placed_so, pre_resumes, resume_tied, stands_pre_held}
 use Rattle.fm_core.proofs.state.State.resume_pre.Goals.{In-Some, After-counted-state, After-sent_in}
-use Rattle.fm_flow.specs.declared.hold.Hold.TheVariants as hold
+use Rattle.fm_operations.specs.declared.hold.Hold.TheVariants as hold
 use Rattle.fm_core.proofs.state.State.resume_pre.Goals as goal
 
 at : (c : In-Some) → place_in (worker_at (the_view c.self.inside).workers c.args.worker) ≡ Some c.in-Some.instance

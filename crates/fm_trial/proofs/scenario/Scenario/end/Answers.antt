@@ -1,6 +1,6 @@
 use Rattle.std.proofs.Common.{◌≡◌, ◌∙◌, List, Option, ap, is_some, nat_eq, subst}
 use Rattle.fm_types.specs.declared.ids.OpId.{OpId}
-use Rattle.fm_data.specs.declared.request.Reply.{Reply}
+use Rattle.fm_callback_data.specs.declared.request.Reply.{Reply}
 use Rattle.fm_trial.specs.declared.scenario.Scenario.{Scenario}
 use Rattle.fm_local.specs.Offered.{world}
 use Rattle.fm_mistakes.specs.Accounts.{told_leaks}

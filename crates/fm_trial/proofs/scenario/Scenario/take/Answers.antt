@@ -1,5 +1,5 @@
 use Rattle.std.proofs.Common.{◌≡◌, Option, ap, refl, subst}
-use Rattle.fm_data.specs.declared.request.Reply.{Reply}
+use Rattle.fm_callback_data.specs.declared.request.Reply.{Reply}
 use Rattle.fm_mistakes.specs.declared.account.Account.{Account}
 use Rattle.fm_trial.specs.declared.line.ScenarioLine.{ScenarioLine}
 use Rattle.fm_trial.specs.declared.line.ScenarioLine.TheVariants as line

@@ -1,6 +1,6 @@
 use Rattle.fm_wire.proofs.Words.{length, refl, sym, arith, inl, inr, Reply, length-append, bytes_of_u64}
 use Rattle.std.proofs.Common.{◌≡◌, ◌+◌, ◌∙◌}
-use Rattle.fm_data.specs.declared.request.Reply.TheVariants as reply
+use Rattle.fm_callback_data.specs.declared.request.Reply.TheVariants as reply
 use Rattle.fm_wire.proofs.Forms.{no_reply}
 use Rattle.fm_wire.proofs.Bytes.{length-u64}
 use Rattle.fm_wire.proofs.Parts.{count_of_busy}

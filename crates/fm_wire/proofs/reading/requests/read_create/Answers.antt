@@ -1,5 +1,5 @@
 use Rattle.fm_wire.proofs.Words.{refl, sym, inr, Operation}
-use Rattle.fm_data.specs.declared.request.Request.TheVariants as request
+use Rattle.fm_callback_data.specs.declared.request.Request.TheVariants as request
 use Rattle.fm_wire.proofs.Parts.{refuted}
 use Rattle.fm_wire.proofs.reading.requests.read_create.Goals as goal
 

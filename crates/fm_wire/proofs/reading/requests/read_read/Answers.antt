@@ -1,6 +1,6 @@
 use Rattle.fm_wire.proofs.Words.{refl, arith, inl, Operation}
-use Rattle.fm_data.specs.declared.request.FileRequest.TheVariants as file
-use Rattle.fm_data.specs.declared.request.Request.TheVariants as request
+use Rattle.fm_callback_data.specs.declared.request.FileRequest.TheVariants as file
+use Rattle.fm_callback_data.specs.declared.request.Request.TheVariants as request
 use Rattle.fm_wire.proofs.Parts.{joined_three, same_length}
 use Rattle.fm_wire.proofs.Forms.{request_of_wrong_size, no_read}
 use Rattle.fm_wire.proofs.reading.requests.read_read.Goals as goal

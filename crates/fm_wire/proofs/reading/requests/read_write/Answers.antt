@@ -1,6 +1,6 @@
 use Rattle.fm_wire.proofs.Words.{refl, sym, arith, inl, inr, Operation}
-use Rattle.fm_data.specs.declared.request.FileRequest.TheVariants as file
-use Rattle.fm_data.specs.declared.request.Request.TheVariants as request
+use Rattle.fm_callback_data.specs.declared.request.FileRequest.TheVariants as file
+use Rattle.fm_callback_data.specs.declared.request.Request.TheVariants as request
 use Rattle.fm_wire.proofs.Forms.{no_write}
 use Rattle.fm_wire.proofs.reading.requests.read_write.Goals.{then-fields-lt16-via-then-fields-lt16}
 use Rattle.fm_wire.proofs.reading.requests.read_write.Goals.{then-fields-lt16-via-else-fields-lt16+then-fields}

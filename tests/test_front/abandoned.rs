@@ -1,7 +1,7 @@
 //! Reads that their clients leave behind, until the server has room for little else.
 
 use crate::lines::comes;
-use crate::peer::{exchange, follow, is_done, leave, send, taken};
+use crate::peer::{exchange, follow, is_done, send, taken};
 use crate::steps::{FULL, KEEPS};
 use fm_cli::Front;
 use std::alloc::Global;
@@ -28,7 +28,7 @@ fn ask_to_read(alloc: Global, stream: &UnixStream) -> Option<bool> {
     Some(true)
 }
 
-// Clients that leave a read behind each, and whose connections have ended. False if one of them was refused.
+// Clients that leave a read behind each. False if one of them was refused.
 fn leave_reads<R>(rt: &R, alloc: Global, at: &Front) -> Option<bool>
 where
     R: Net<Listener = TcpListener, Stream = TcpStream> + Clock,
@@ -40,9 +40,6 @@ where
             return Some(false);
         }
         streams.push(stream).ok()?;
-    }
-    for stream in &streams {
-        leave(stream)?;
     }
     Some(true)
 }

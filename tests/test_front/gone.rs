@@ -1,7 +1,7 @@
 //! A create whose client is gone before a filter lets it go: the handle that it opens is closed by whoever takes its answer. That is seen by another client, who
 //! marks the file for deletion: it goes with its last handle.
 
-use crate::peer::{Step, exchange, follow, is_done, leave, send, taken};
+use crate::peer::{Step, exchange, follow, is_done, send, taken};
 use crate::server::{Filters, goes_well};
 use fm_cli::Front;
 use std::alloc::Global;
@@ -10,8 +10,11 @@ use std::os::unix::net::UnixStream;
 use std::thread;
 use std::time::{Clock, Duration};
 
+/// How many milliseconds the server has to see that a client is gone, and to end its connection. Where it takes longer, its answer is taken in another way.
+const REST: u64 = 500;
+
 /// How often something is looked for, ten milliseconds apart.
-const ASKS: usize = 500;
+const ASKS: usize = 1_000;
 
 /// Filters that hold creates of new files. The client that stays has a file open.
 const FLUSHED: [Step; 3] = [
@@ -30,14 +33,16 @@ fn word(alloc: Global, number: u64) -> Option<String> {
     format!(in alloc; "{}", number).ok()
 }
 
-// A client asks for a new file of that name, and is gone. The server has ended its connection once this ends.
+// A client asks for a new file of that name, and is gone.
 fn leave_create<R>(rt: &R, alloc: Global, at: &Front, name: &str) -> Option<()>
 where
     R: Net<Listener = TcpListener, Stream = TcpStream> + Clock,
 {
     let stream = taken(rt, alloc, at)?;
     send(alloc, &stream, &["create", "0", "new", name])?;
-    leave(&stream)
+    drop(stream);
+    thread::sleep(rt, Duration::from_millis(REST));
+    Some(())
 }
 
 // Whether the file of that name is there. Its name is one letter.
@@ -46,8 +51,14 @@ fn is_there(alloc: Global, stream: &UnixStream, name: &str) -> Option<bool> {
     Some(listed.as_slice().iter().any(|byte| name.as_bytes().first() == Some(byte)))
 }
 
-// Waits until the file is there, opens it, marks it for deletion, and closes it.
-fn delete<R: Clock>(rt: &R, alloc: Global, stream: &UnixStream, name: &str) -> Option<bool> {
+// Asks with these words until the file is there, which may not even have been held yet. Opens it, marks it for deletion, and closes it.
+fn delete<R: Clock>(
+    rt: &R,
+    alloc: Global,
+    stream: &UnixStream,
+    name: &str,
+    words: &[&str],
+) -> Option<bool> {
     for _ in 0..ASKS {
         if is_there(alloc, stream, name)? {
             let (_, handle, _) = exchange(alloc, stream, &["create", "0", "existing", name])?;
@@ -57,6 +68,7 @@ fn delete<R: Clock>(rt: &R, alloc: Global, stream: &UnixStream, name: &str) -> O
                     && is_done(alloc, stream, &["close", handle.as_str()]),
             );
         }
+        exchange(alloc, stream, words)?;
         thread::sleep(rt, Duration::from_millis(10));
     }
     Some(false)
@@ -109,7 +121,7 @@ where
     Some(
         is_begun
             && is_done(alloc, stream, &["flush", "0"])
-            && delete(rt, alloc, stream, "x")?
+            && delete(rt, alloc, stream, "x", &["flush", "0"])?
             && goes_with_others(rt, alloc, at, "x")?,
     )
 }
@@ -127,7 +139,7 @@ where
     exchange(alloc, stream, &["detach", "0"])?;
     Some(
         is_begun
-            && delete(rt, alloc, stream, "x")?
+            && delete(rt, alloc, stream, "x", &["detach", "0"])?
             && goes(rt, alloc, stream, "x", &["detach", "0"])?,
     )
 }
@@ -147,8 +159,9 @@ where
         exchange(alloc, &other, &["create", "0", "always", "a"])?;
         exchange(alloc, &other, &["create", "0", "always", "b"])?;
         leave_create(rt, alloc, at, name)?;
-        leave(&other)?;
-        if delete(rt, alloc, stream, name)? && !is_there(alloc, stream, name)? {
+        drop(other);
+        thread::sleep(rt, Duration::from_millis(REST));
+        if delete(rt, alloc, stream, name, &["list", "0"])? && !is_there(alloc, stream, name)? {
             return Some(is_begun);
         }
         goes_with_others(rt, alloc, at, name)?;

@@ -1,7 +1,7 @@
 //! As many reads as may be there of clients that are gone, by the number. One client stays, and hears by its own connection alone what has become of them: at the
 //! end of another one the server would look at them too.
 
-use crate::peer::{Step, exchange, follow, is_done, leave, send, taken};
+use crate::peer::{Step, exchange, follow, is_done, send, taken};
 use crate::server::{Filters, goes_well};
 use fm_cli::Front;
 use std::alloc::Global;
@@ -38,9 +38,6 @@ where
         let handle = format!(in alloc; "{}", handle).ok()?;
         send(alloc, &stream, &["read", handle.as_str(), "0", "1"])?;
         streams.push(stream).ok()?;
-    }
-    for stream in &streams {
-        leave(stream)?;
     }
     Some(())
 }

@@ -5,7 +5,7 @@ use fm_cli::{Front, request_of};
 use fm_wire::encode;
 use std::alloc::Global;
 use std::io::{Read, Write};
-use std::net::{Net, Shutdown, TcpListener, TcpStream};
+use std::net::{Net, TcpListener, TcpStream};
 use std::os::unix::net::UnixStream;
 use std::thread;
 use std::time::{Clock, Duration};
@@ -62,18 +62,6 @@ where
         thread::sleep(rt, Duration::from_millis(1));
     }
     None
-}
-
-/// Sends no more, and waits until the server has ended the connection.
-pub fn leave(stream: &UnixStream) -> Option<()> {
-    stream.shutdown(Shutdown::Write).ok()?;
-    let mut reader = stream;
-    while let Ok(count) = reader.read(&mut [0; 64]) {
-        if count == 0 {
-            break;
-        }
-    }
-    Some(())
 }
 
 /// Whether a request is done, and its reply says no more.

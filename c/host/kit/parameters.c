@@ -6,7 +6,7 @@
 #include "core/told.h"
 #include "filesystem/fileobject.h"
 #include "manager/block.h"
-#include "manager/data.h"
+#include "manager/buffer.h"
 #include "manager/operation.h"
 
 VOID FltSetCallbackDataDirty(PFLT_CALLBACK_DATA Data)

@@ -52,3 +52,10 @@ void kz_renew_data(KzOp *op)
     op->iopb = iopb;
     op->data = data;
 }
+
+void *kz_block_of(KzOp *op, const void *bytes, size_t length)
+{
+    void *copy = kz_block(op, length);
+    memcpy(copy, bytes, length);
+    return copy;
+}

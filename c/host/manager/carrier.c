@@ -4,7 +4,6 @@
 
 #include "core/client.h"
 #include "core/memory.h"
-#include "core/operation.h"
 #include "core/piece.h"
 #include "core/state.h"
 #include "core/status.h"
@@ -16,10 +15,10 @@
 #include "filesystem/volumes.h"
 #include "manager/below.h"
 #include "manager/block.h"
+#include "manager/buffer.h"
 #include "manager/data.h"
 #include "manager/fill.h"
 
-#include <stdlib.h>
 
 void kz_begin_carried(KzOp *op, const KzAsked *asked)
 {

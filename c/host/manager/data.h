@@ -4,15 +4,11 @@
 
 #include "host.h"
 
+void kz_show_data(KzOp *op, PFLT_INSTANCE instance);
+void kz_check_target(KzOp *op, bool is_dirty);
 void kz_show_pre(KzOp *op, PFLT_INSTANCE instance);
-void kz_show_post(KzOp *op, PFLT_INSTANCE instance);
 void kz_take_pre(KzOp *op, bool has_post, bool is_completed);
-void kz_take_post(KzOp *op);
-void kz_take_held(KzOp *op);
-void kz_serve(KzOp *op);
 bool kz_is_touched(KzOp *op);
-void kz_forget_swap(KzOp *op, PFLT_INSTANCE instance);
 void kz_free_data(KzOp *op);
-void kz_keep_mdl(KzOp *op, PMDL mdl);
 
 #endif

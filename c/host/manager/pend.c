@@ -2,9 +2,9 @@
 #include "manager/pend.h"
 
 #include "core/client.h"
-#include "core/operation.h"
 #include "core/state.h"
 #include "core/told.h"
+#include "manager/answer.h"
 #include "manager/block.h"
 #include "manager/data.h"
 #include "manager/instance.h"

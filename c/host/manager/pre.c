@@ -10,10 +10,11 @@
 #include "core/status.h"
 #include "core/told.h"
 #include "filesystem/fileobject.h"
+#include "manager/answer.h"
 #include "manager/context.h"
-#include "manager/hand.h"
 #include "manager/data.h"
 #include "manager/filter.h"
+#include "manager/hand.h"
 #include "manager/newname.h"
 #include "manager/operation.h"
 

@@ -2,6 +2,7 @@
  * in order, of which one writes, are a race. Memory that was given back isn't to be touched at all. */
 #include "explore.h"
 #include "core/access.h"
+#include "core/edge.h"
 
 #include <sys/mman.h>
 
@@ -256,6 +257,10 @@ static void note(const void *address, size_t size, unsigned how, const void *fro
         ex_trace_access(address, is_write, is_atomic, from);
     look_at_freed(start, from, word_of(false, is_write, false));
     kz_look_at_owned(address, size, from, is_write);
+    ex_hooked = from;
+    if (!is_write && size)
+        kz_look_past(address, size, from);
+    ex_hooked = NULL;
     for (uintptr_t tag = start >> 3; tag << 3 < end; tag++) {
         uintptr_t first = tag << 3 < start ? start - (tag << 3) : 0, last = (tag << 3) + 8 > end ? end - (tag << 3) : 8;
         uint8_t bytes = (uint8_t)((0xff << first) & (0xff >> (8 - last)));

@@ -158,6 +158,7 @@ typedef struct {
     ULONG uuids;      /* that were made */
     /* What each module keeps of a run: a structure that its own file knows, made as the run begins and zero. */
     struct KzAccessState *access;
+    struct KzEdgeState *edge;
     struct KzContextState *context;
     struct KzDeviceState *device;
     struct KzDpcState *dpc;

@@ -208,7 +208,7 @@ static bool is_in_drivers_place(void)
 }
 
 /* The driver's own code, or a copy that it called. */
-static const void *drivers_code(const void *code, const void *caller)
+const void *kz_drivers_code(const void *code, const void *caller)
 {
     char line[100];
     if (kz_find_source(kz_in_file(code) + 1, line, sizeof line))
@@ -257,9 +257,9 @@ bool kz_touched_owned(const void *address, const void *code, const void *caller,
         return piece != NULL; /* another thread has opened it since */
     bool is_hosts = kz_depth > 0 && !is_in_drivers_place(), is_past = is_written && !lies_in(address, piece);
     if (is_past && !is_hosts)
-        kz_tell_past(piece, (const uint8_t *)address >= piece->body, kz_depth > 0 ? NULL : drivers_code(code, caller));
+        kz_tell_past(piece, (const uint8_t *)address >= piece->body, true, kz_depth > 0 ? NULL : kz_drivers_code(code, caller));
     else if (!is_hosts && !may_touch(piece, kz_irql() >= DISPATCH_LEVEL, kz_me->process, is_written))
-        tell_at(piece, kz_depth > 0 ? NULL : drivers_code(code, caller), is_written);
+        tell_at(piece, kz_depth > 0 ? NULL : kz_drivers_code(code, caller), is_written);
     piece->is_let = !is_hosts;
     kz.access->is_any_open = true;
     give_rights(piece, OPEN);

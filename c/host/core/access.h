@@ -19,6 +19,8 @@ void kz_open_all_owned(void);
 bool kz_is_paged(const void *address);
 /* What the kernel itself waits for or spins on may not be paged out: that it can be is told. */
 void kz_must_be_there(const void *object, const char *kind, const char *call);
+/* Where the driver's own code stands there, or makes the call of the C library that does; NULL if neither. */
+const void *kz_drivers_code(const void *code, const void *caller);
 /* A touch of shut pages: whether they are one of these. Where it may not be, that is told, and the pages are open until the IRQL or the process is another one. */
 bool kz_touched_owned(const void *address, const void *code, const void *caller, bool is_written);
 /* The explorer has no such pages: each access of a driver's code is looked at. */

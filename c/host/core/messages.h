@@ -42,6 +42,7 @@ enum {
     KZM_STACK_CONTEXT = 136,
     KZM_NO_BYTES = 137,
     KZM_PROGRAMS_HANDLE = 138,
+    KZM_READ_PAST = 139,
     /* Memory. */
     KZM_POOL_LEAK = 141,
     KZM_NO_POOL = 142,

@@ -6,6 +6,7 @@
 
 #include "core/access.h"
 #include "core/client.h"
+#include "core/edge.h"
 #include "core/module.h"
 #include "core/operation.h"
 #include "core/place.h"
@@ -19,10 +20,11 @@
 /* There under the address sanitizer alone. */
 extern void __asan_poison_memory_region(const volatile void *start, size_t size) __attribute__((weak));
 extern void __asan_unpoison_memory_region(const volatile void *start, size_t size) __attribute__((weak));
+extern void __ubsan_handle_type_mismatch_v1(void *data, uintptr_t value) __attribute__((weak));
 
 /* What may hold a structure that the processor's caches are counted by lies at their boundary, as in the kit. */
 enum { LINE = 64 };
-enum { ZONE = 32, ZONE_BYTE = 0xfd };
+enum { ZONE = 32 };
 /* How much of what was given back is kept, to see whether it is written. */
 enum { KEPT = 64, KEPT_BYTES = 32768 };
 
@@ -124,6 +126,24 @@ static uint8_t *at_boundary(uint8_t *start, size_t size)
     return (uint8_t *)(((uintptr_t)start + ZONE + boundary - 1) & ~(boundary - 1));
 }
 
+bool kz_ends_with_page(KzMemory kind)
+{
+    return kind == KZK_NAME || kind == KZK_CALLER || kind == KZK_INPUT;
+}
+
+/* The sanitizer of undefined behaviour looks at what isn't aligned: there it is as the kit has it. */
+static uint8_t *before_edge(uint8_t *edge, size_t size)
+{
+    uint8_t *body = edge - size;
+    return __ubsan_handle_type_mismatch_v1 ? (uint8_t *)((uintptr_t)body & ~(uintptr_t)15) : body;
+}
+
+static uint8_t *take_pages(size_t size)
+{
+    void *pages = mmap(NULL, size, PROT_READ | PROT_WRITE, MAP_PRIVATE | MAP_ANONYMOUS, -1, 0);
+    return pages == MAP_FAILED ? NULL : pages;
+}
+
 /* A piece with its zones; NULL if there is no memory. */
 static KzPiece *allocate(KzMemory kind, size_t size)
 {
@@ -135,13 +155,14 @@ static KzPiece *allocate(KzMemory kind, size_t size)
         return piece;
     }
     KzPiece *piece = malloc(sizeof *piece);
-    size_t pages = (whole + PAGE - 1) & ~(size_t)(PAGE - 1);
-    void *start = piece ? mmap(NULL, pages, PROT_READ | PROT_WRITE, MAP_PRIVATE | MAP_ANONYMOUS, -1, 0) : MAP_FAILED;
-    if (start == MAP_FAILED) {
+    bool has_edge = kz_ends_with_page(kind);
+    size_t pages = ((has_edge ? ZONE + size : whole) + PAGE - 1) & ~(size_t)(PAGE - 1);
+    uint8_t *start = !piece ? NULL : has_edge ? kz_take_edge(pages) : take_pages(pages);
+    if (!start) {
         free(piece);
         return NULL;
     }
-    *piece = (KzPiece){.pages = start, .pages_size = pages, .body = at_boundary(start, size)};
+    *piece = (KzPiece){.pages = start, .pages_size = pages, .has_edge = has_edge, .body = has_edge ? before_edge(start + pages, size) : at_boundary(start, size)};
     kz.piece->guarded++;
     return piece;
 }
@@ -150,10 +171,11 @@ static void let_go(KzPiece *piece)
 {
     if (!piece)
         return;
-    if (piece->pages) {
+    if (piece->has_edge)
+        kz_give_edge(piece->pages, piece->pages_size, piece->is_edge_open);
+    else if (piece->pages)
         munmap(piece->pages, piece->pages_size);
-        kz.piece->guarded--;
-    }
+    kz.piece->guarded -= piece->pages != NULL;
     free(piece);
 }
 
@@ -174,10 +196,12 @@ void *kz_take_memory(KzMemory kind, size_t size, int fill, ULONG tag)
         (*first)->before = piece;
     *first = piece;
     enter_table(piece);
-    memset(body_of(piece) - ZONE, ZONE_BYTE, ZONE);
+    memset(body_of(piece) - ZONE, KZ_ZONE_BYTE, ZONE);
     memset(body_of(piece), fill, size);
-    memset(body_of(piece) + size, ZONE_BYTE, ZONE);
-    memset(body_of(piece) + size + ZONE, 0, sizeof(WCHAR)); /* who reads a text past its end comes to one here */
+    if (!piece->has_edge) {
+        memset(body_of(piece) + size, KZ_ZONE_BYTE, ZONE);
+        memset(body_of(piece) + size + ZONE, 0, sizeof(WCHAR)); /* who reads a text past its end comes to one here */
+    }
     shut(piece);
     return body_of(piece);
 }
@@ -203,7 +227,7 @@ static bool is_filled(const uint8_t *bytes, size_t size, uint8_t byte)
 
 static bool is_zone(const uint8_t *bytes)
 {
-    static const uint8_t zone[ZONE] = {[0 ... ZONE - 1] = ZONE_BYTE};
+    static const uint8_t zone[ZONE] = {[0 ... ZONE - 1] = KZ_ZONE_BYTE};
     return memcmp(bytes, zone, ZONE) == 0;
 }
 
@@ -221,37 +245,48 @@ void kz_check_piece(KzPiece *piece)
 {
     if (__asan_poison_memory_region || piece->is_told)
         return;
-    bool is_before = !is_zone(body_of(piece) - ZONE), is_behind = !is_zone(body_of(piece) + piece->size);
+    bool is_before = !is_zone(body_of(piece) - ZONE), is_behind = !piece->has_edge && !is_zone(body_of(piece) + piece->size);
     if (is_before || is_behind)
-        kz_tell_past(piece, is_behind, NULL);
+        kz_tell_past(piece, is_behind, true, NULL);
 }
 
-/* Where it is written is known where its pages are shut. */
-void kz_tell_past(KzPiece *piece, bool is_behind, const void *from)
+static const char *subject_of(const KzPiece *piece)
 {
     static const char *const calls[] = {[KZK_POOL] = "ExAllocatePoolWithTag", [KZK_CONTEXT] = "FltAllocateContext", [KZK_NAME] = "UNICODE_STRING", [KZK_BUFFER] = "FLT_CALLBACK_DATA",
-                                        [KZK_CALLER] = "FLT_CALLBACK_DATA", [KZK_DATA] = "FLT_CALLBACK_DATA"};
-    const char *call = calls[piece->kind], *where = is_behind ? "past" : "before";
+                                        [KZK_CALLER] = "FLT_CALLBACK_DATA", [KZK_INPUT] = "FLT_CALLBACK_DATA", [KZK_DATA] = "FLT_CALLBACK_DATA"};
+    return piece->subject ? piece->subject : calls[piece->kind];
+}
+
+static void tell_past(const KzPiece *piece, const char *where, bool is_written)
+{
     char tag[8], taken[40] = "";
+    const char *call = subject_of(piece), *how = is_written ? "was written" : "was read";
     unsigned long long size = piece->size;
-    KzPlace before = kz_me->place;
-    if (piece->is_told)
-        return;
-    piece->is_told = true;
-    if (from) {
-        kz_me->place.call = call;
-        kz_me->place.from = from;
-    }
     if (piece->place.from)
         snprintf(taken, sizeof taken, ", taken at @%lx,", (unsigned long)kz_in_file(piece->place.from));
     if (piece->kind == KZK_POOL)
-        kz_tell(KZM_PAST_POOL, call, "memory %s the %llu bytes of a pool with the tag '%s'%s was written", where, size, kz_tag(piece->tag, tag), taken);
+        kz_tell(KZM_PAST_POOL, call, "memory %s the %llu bytes of a pool with the tag '%s'%s %s", where, size, kz_tag(piece->tag, tag), taken, how);
     else if (piece->kind == KZK_CONTEXT)
-        kz_tell(KZM_PAST_CONTEXT, call, "memory %s the %llu bytes of a context%s was written", where, size, taken);
+        kz_tell(KZM_PAST_CONTEXT, call, "memory %s the %llu bytes of a context%s %s", where, size, taken, how);
     else if (piece->kind == KZK_NAME)
-        kz_tell(KZM_PAST_BUFFER, call, "memory %s the %llu bytes of a name was written", where, size);
+        kz_tell(is_written ? KZM_PAST_BUFFER : KZM_READ_PAST, call, "memory %s the %llu bytes of a name %s", where, size, how);
     else
-        kz_tell(KZM_PAST_BUFFER, call, "memory %s a buffer of %llu bytes was written", where, size);
+        kz_tell(is_written ? KZM_PAST_BUFFER : KZM_READ_PAST, call, "memory %s a buffer of %llu bytes %s", where, size, how);
+}
+
+/* Where it is touched is known where its pages are shut. */
+void kz_tell_past(KzPiece *piece, bool is_behind, bool is_written, const void *from)
+{
+    KzPlace before = kz_me->place;
+    bool *is_told = is_written ? &piece->is_told : &piece->is_read_told;
+    if (*is_told)
+        return;
+    *is_told = true;
+    if (from) {
+        kz_me->place.call = subject_of(piece);
+        kz_me->place.from = from;
+    }
+    tell_past(piece, is_behind ? "past" : "before", is_written);
     kz_me->place = before;
 }
 
@@ -340,7 +375,7 @@ static void look_at(KzPiece *piece)
                 kz_tag(piece->tag, tag));
     else if (piece->kind == KZK_DATA)
         kz_tell(KZM_WRITTEN_DATA, "FltCompletePendedPreOperation", "callback data was written after the operation was completed");
-    else if (piece->kind == KZK_CALLER)
+    else if (piece->kind == KZK_CALLER || piece->kind == KZK_INPUT)
         kz_tell(KZM_WRITTEN_DATA, "FltCompletePendedPreOperation", "a caller's buffer was written after the operation was over");
     else
         kz_tell(KZM_WRITTEN_CONTEXT, "FltReleaseContext", "%llu bytes were written after they were cleaned up%s", (unsigned long long)piece->size, where);
@@ -401,7 +436,7 @@ static KzPiece *shut_piece_at(const void *address)
 {
     for (size_t at = 0; at < (size_t)LISTS * KEPT; at++) {
         KzPiece *piece = kz.piece->gone[at / KEPT].pieces[at % KEPT];
-        if (piece && piece->is_shut && (uintptr_t)address - (uintptr_t)piece->pages < piece->pages_size)
+        if (piece && piece->is_shut && (uintptr_t)address - (uintptr_t)piece->pages < piece->pages_size + (piece->has_edge ? PAGE : 0))
             return piece;
     }
     return NULL;
@@ -409,13 +444,14 @@ static KzPiece *shut_piece_at(const void *address)
 
 static const char *giving_back(const KzPiece *piece)
 {
-    static const char *const calls[] = {[KZK_POOL] = "ExFreePoolWithTag", [KZK_CONTEXT] = "FltReleaseContext", [KZK_NAME] = "FltReleaseFileNameInformation", [KZK_CALLER] = "FLT_CALLBACK_DATA"};
-    return calls[piece->kind];
+    static const char *const calls[] = {[KZK_POOL] = "ExFreePoolWithTag", [KZK_CONTEXT] = "FltReleaseContext", [KZK_NAME] = "FltReleaseFileNameInformation", [KZK_CALLER] = "FLT_CALLBACK_DATA",
+                                        [KZK_INPUT] = "FLT_CALLBACK_DATA"};
+    return piece->subject ? piece->subject : calls[piece->kind];
 }
 
 static void tell_touch(const KzPiece *piece, bool is_written)
 {
-    static const char *const kinds[] = {[KZK_POOL] = "a pool", [KZK_CONTEXT] = "a context", [KZK_NAME] = "a name", [KZK_CALLER] = "a caller's buffer"};
+    static const char *const kinds[] = {[KZK_POOL] = "a pool", [KZK_CONTEXT] = "a context", [KZK_NAME] = "a name", [KZK_CALLER] = "a caller's buffer", [KZK_INPUT] = "a caller's buffer"};
     char where[32] = "";
     if (piece->place.from)
         snprintf(where, sizeof where, " at @%lx", (unsigned long)kz_in_file(piece->place.from));
@@ -428,13 +464,14 @@ static void tell_touch(const KzPiece *piece, bool is_written)
 bool kz_touched(const void *address, const void *code, const void *caller, bool is_written)
 {
     char line[100];
-    if (kz_touched_owned(address, code, caller, is_written))
+    if (kz_touched_owned(address, code, caller, is_written) || kz_touched_edge(address, code, caller, is_written))
         return true;
     KZ_INSIDE_UNSAID();
     KzPiece *piece = shut_piece_at(address);
     if (!piece)
         return false;
-    mprotect(piece->pages, piece->pages_size, PROT_READ | PROT_WRITE);
+    mprotect(piece->pages, piece->pages_size + (piece->has_edge ? PAGE : 0), PROT_READ | PROT_WRITE);
+    piece->is_edge_open = true;
     piece->is_shut = false;
     piece->is_touched = true;
     KzPlace before = kz_me->place;

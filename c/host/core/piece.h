@@ -4,13 +4,16 @@
 
 #include "host.h"
 
-typedef enum { KZK_POOL, KZK_CONTEXT, KZK_NAME, KZK_BUFFER, KZK_CALLER, KZK_DATA } KzMemory;
+/* An input is what the system has copied of a program's. */
+typedef enum { KZK_POOL, KZK_CONTEXT, KZK_NAME, KZK_BUFFER, KZK_CALLER, KZK_INPUT, KZK_DATA } KzMemory;
 
 /* Of a security descriptor, which lies in a pool. */
 #define KZ_DESCRIPTOR_TAG 'dsMF'
 
 /* What memory that was given back is filled with. */
 enum { KZ_GONE_BYTE = 0xdd };
+/* And the zones before and behind it. */
+enum { KZ_ZONE_BYTE = 0xfd };
 
 /* Who may touch it (core/access.h): a caller's is the buffer of the program that asked. */
 typedef enum { KZ_EVERYBODYS, KZ_PAGED, KZ_CALLERS, KZ_MANAGERS } KzOwner;
@@ -22,6 +25,8 @@ typedef struct KzPiece {
     void *start;          /* what was allocated, if it has no pages of its own */
     uint8_t *pages;       /* else these */
     size_t size, pages_size;
+    bool has_edge, is_edge_open; /* its end is that of its pages, and a shut one lies behind them, which is open once it was touched */
+    const char *subject;         /* what is told of it is told of this */
     bool is_shut; /* its pages can't be touched: it was given back */
     PFLT_FILTER filter;
     KzPlace place; /* where it was taken */
@@ -54,8 +59,10 @@ size_t kz_there(const void *memory, size_t size, const char *what);
 void kz_check_text_from(const void *text, const char *call, const void *from);
 const char *kz_tag(ULONG tag, char *room);
 void kz_check_piece(KzPiece *piece);
-/* Memory before or behind it is written: that is told, once. */
-void kz_tell_past(KzPiece *piece, bool is_behind, const void *from);
+/* Whether memory of that kind is looked at where it ends, byte by byte. */
+bool kz_ends_with_page(KzMemory kind);
+/* Memory before or behind it is written, or read: that is told, once. */
+void kz_tell_past(KzPiece *piece, bool is_behind, bool is_written, const void *from);
 void kz_check_memory(PFLT_FILTER filter);
 void kz_check_all_memory(PFLT_FILTER filter);
 void kz_check_blocks(const KzOp *op);

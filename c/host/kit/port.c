@@ -148,6 +148,16 @@ static void come_back(Inside one, const char *name)
     kz_clean_up();
 }
 
+/* What a program gives with its connection, and its own buffers: with an end that is seen. */
+static void *captured_of(const void *context, USHORT size)
+{
+    void *made = size ? kz_take_memory(KZK_INPUT, size, 0, 0) : NULL;
+    if (!made)
+        return NULL;
+    kz_piece_of(made)->subject = "ConnectionContext";
+    return memcpy(made, context, size);
+}
+
 NTSTATUS kz_connect_port(const char *name, const void *context, USHORT size, void (*serve)(PFLT_PORT port), PFLT_PORT *port)
 {
     KZ_CALL();
@@ -160,9 +170,7 @@ NTSTATUS kz_connect_port(const char *name, const void *context, USHORT size, voi
     *made = (struct _FLT_PORT){.next = kz.port->connections, .filter = server->filter, .server = server, .disconnect = server->disconnect, .message = server->message, .serve = serve};
     kz.port->connections = made;
     server->connections++;
-    void *captured = size ? kz_take_memory(KZK_BUFFER, size, 0, 0) : NULL;
-    if (captured)
-        memcpy(captured, context, size);
+    void *captured = captured_of(context, size);
     kz_scheduler->touch(server, 0, KZT_TAKES);
     PFLT_CONNECT_NOTIFY connect = server->connect;
     PVOID cookie = server->cookie;
@@ -206,13 +214,13 @@ void kz_disconnect_port(PFLT_PORT port)
     kz_scheduler->touch(port, 0, KZT_GIVES);
 }
 
-/* The program's own buffers, with an end that is seen. */
-static void *callers_copy(const void *bytes, ULONG length)
+static void *callers_copy(const char *subject, const void *bytes, ULONG length)
 {
     void *made = length ? kz_take_memory(KZK_CALLER, length, 0, 0) : NULL;
     if (!made)
         return NULL;
     memcpy(made, bytes, length);
+    kz_piece_of(made)->subject = subject;
     kz_own(made, KZ_CALLERS, kz_me->process);
     return made;
 }
@@ -235,7 +243,7 @@ NTSTATUS kz_send_to_filter(PFLT_PORT port, void *in, ULONG in_length, void *out,
         return STATUS_NOT_SUPPORTED;
     kz_scheduler->touch(port, 0, KZT_TAKES);
     port->running++;
-    void *own_in = callers_copy(in, in_length), *own_out = callers_copy(out, out_length);
+    void *own_in = callers_copy("InputBuffer", in, in_length), *own_out = callers_copy("OutputBuffer", out, out_length);
     Inside inside = go_in(port->filter, "message", (PVOID)port->message);
     NTSTATUS status = KZ_CALL_DRIVER(port->message, port->cookie, own_in, in_length, own_out, out_length, returned);
     if (*returned > out_length)

@@ -30,6 +30,11 @@ void *kz_caller_block(KzOp *op, size_t size)
     return take(op, KZK_CALLER, size);
 }
 
+void *kz_input_block(KzOp *op, size_t size)
+{
+    return take(op, KZK_INPUT, size);
+}
+
 FLT_CALLBACK_DATA *kz_new_data(PETHREAD thread, PFLT_IO_PARAMETER_BLOCK iopb)
 {
     FLT_CALLBACK_DATA fresh = {.Flags = FLTFL_CALLBACK_DATA_IRP_OPERATION, .Thread = thread, .Iopb = iopb, .RequestorMode = UserMode};

@@ -49,7 +49,7 @@ void kz_free_data(KzOp *op)
 static void show_information(KzOp *op, FLT_PARAMETERS *shown)
 {
     FILE_END_OF_FILE_INFORMATION end = {.EndOfFile.QuadPart = (LONGLONG)op->lent.offset};
-    op->shown.asked = kz_block_of(op, &end, sizeof end);
+    op->shown.asked = memcpy(kz_input_block(op, sizeof end), &end, sizeof end);
     op->shown.asked_length = sizeof end;
     shown->SetFileInformation.FileInformationClass = FileEndOfFileInformation;
     shown->SetFileInformation.Length = (ULONG)op->shown.asked_length;

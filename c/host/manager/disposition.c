@@ -67,7 +67,7 @@ void kz_begin_create(KzOp *op, const KzCreate *asked)
         kz_tell(KZM_OPLOCK, asked->options & FILE_RESERVE_OPFILTER ? "FILE_RESERVE_OPFILTER" : "FILE_OPEN_REQUIRING_OPLOCK", "no oplock comes with the create: it is opened as others are");
     if (!asked->ea_length)
         return;
-    op->create.ea = kz_block(op, asked->ea_length);
+    op->create.ea = kz_input_block(op, asked->ea_length);
     memcpy(op->create.ea, asked->ea, asked->ea_length);
 }
 

@@ -9,7 +9,7 @@ static void *input(KzOp *op, const KzAsked *asked)
 {
     if (!asked->input_size)
         return NULL;
-    return memcpy(kz_block(op, asked->input_size), asked->input, asked->input_size);
+    return memcpy(kz_input_block(op, asked->input_size), asked->input, asked->input_size);
 }
 
 static void *output(KzOp *op, const KzAsked *asked)
@@ -31,7 +31,7 @@ static PUNICODE_STRING pattern(KzOp *op, const char *text)
 static void fill_control(KzOp *op, const KzAsked *asked, FLT_PARAMETERS *now)
 {
     size_t room = asked->input_size > asked->room ? asked->input_size : asked->room;
-    uint8_t *buffer = room ? kz_block(op, room) : NULL;
+    uint8_t *buffer = room ? kz_input_block(op, room) : NULL;
     if (asked->input_size)
         memcpy(buffer, asked->input, asked->input_size);
     now->FileSystemControl.Buffered.InputBufferLength = (ULONG)asked->input_size;

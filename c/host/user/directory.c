@@ -97,7 +97,7 @@ static uint32_t move(const char *from, const char *to, uint32_t flags)
     said->ReplaceIfExists = flags & 1; /* MOVEFILE_REPLACE_EXISTING */
     said->FileNameLength = (ULONG)kz_widen(said->FileName, whole);
     const KzCreate create = opening(DELETE | FILE_READ_ATTRIBUTES, FILE_OPEN, FILE_OPEN_REPARSE_POINT);
-    const KzAsked asked = set(FileRenameInformation, said, offsetof(FILE_RENAME_INFORMATION, FileName) + said->FileNameLength);
+    const KzAsked asked = set(FileRenameInformation, said, sizeof *said + said->FileNameLength);
     return ask_by_path(from, &create, &asked, NULL);
 }
 

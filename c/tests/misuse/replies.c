@@ -1,10 +1,11 @@
-/* A message is sent under a lock, which the program that is to answer it wants first. To a program's own message it answers more than the program's buffer takes. */
+/* A message is sent under a lock, which the program that is to answer it wants first. Of a program's own message more is read than it has, and the answer is more than the program's buffer takes. */
 #include <fltKernel.h>
 
 static PFLT_FILTER gFilter;
 static PFLT_PORT gPort, gClient;
 static FAST_MUTEX gLock;
 static ULONG gMessages;
+static volatile ULONG gWord;
 
 static FLT_PREOP_CALLBACK_STATUS PreFlush(PFLT_CALLBACK_DATA Data, PCFLT_RELATED_OBJECTS FltObjects, PVOID *CompletionContext)
 {
@@ -38,13 +39,13 @@ static VOID Disconnect(PVOID ConnectionCookie)
 static NTSTATUS Message(PVOID PortCookie, PVOID InputBuffer, ULONG InputBufferLength, PVOID OutputBuffer, ULONG OutputBufferLength, PULONG ReturnOutputBufferLength)
 {
     UNREFERENCED_PARAMETER(PortCookie);
-    UNREFERENCED_PARAMETER(InputBuffer);
     UNREFERENCED_PARAMETER(InputBufferLength);
     ExAcquireFastMutex(&gLock);
     gMessages++;
     ExReleaseFastMutex(&gLock);
     *ReturnOutputBufferLength = 0;
     if (OutputBufferLength == 8) {
+        gWord = ((PULONG)InputBuffer)[1];
         RtlFillMemory(OutputBuffer, 16, 'x');
         *ReturnOutputBufferLength = 16;
     }

@@ -93,13 +93,13 @@ def words_of(cell):
 def schema():
     """What each member is; for each event what it has and may have, and whether a printed line is told by it; and the events that come in trials alone."""
     members, upper, lower, trial, driver = tables((TOP / "docs" / "JSON.md").read_text())
-    kinds = {words_of(row[0])[0]: row[1] for row in members}
+    kinds = {name: row[1] for row in members for name in words_of(row[0])}
     events = {}
     for rows, more, is_printed in ((upper, ["command", "words"], True), (lower + trial, [], False)):
-        for name, has, may, _ in rows:
-            events[words_of(name)[0]] = (set(words_of(has)) | {"line", "event", *more}, set(words_of(may)), is_printed)
-    drivers = {words_of(name)[0]: (set(words_of(has)) | {"line", "event"}, set(words_of(may)), False) for name, has, may, _ in driver}
-    return kinds, events, {words_of(row[0])[0] for row in trial}, drivers
+        for names, has, may, _ in rows:
+            events.update({name: (set(words_of(has)) | {"line", "event", *more}, set(words_of(may)), is_printed) for name in words_of(names)})
+    drivers = {name: (set(words_of(has)) | {"line", "event"}, set(words_of(may)), False) for names, has, may, _ in driver for name in words_of(names)}
+    return kinds, events, {name for row in trial for name in words_of(row[0])}, drivers
 
 
 def is_text(value, may_end=False):

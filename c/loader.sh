@@ -8,21 +8,36 @@ kind=${1:-}
 library=${KAZDRIN_LIB:-$here/../crates/kazdrin_c/out/libkazdrin_c.a}
 [ -f "$library" ] || library=$("$here/archive.sh" --unproved)
 host=$("$here/libraries.sh")
-program=$host/kazdrin-image${kind:+-$kind}
+folder=$host
+program=$folder/kazdrin-image${kind:+-$kind}
 
-# Of an archive without proofs the path has its sources' checksum; it is written anew, faster, under the same one.
+# An archive without proofs is written anew, faster, under the same name, and another user has a copy of it: it is known by its content.
 is_made() {
     local part
-    [ -x "$program" ] && [ "$(cat "$program.archive" 2> /dev/null)" = "$library" ] || return
-    for part in "$host"/*.a "$library" "$here/build.sh"; do
+    [ -x "$program" ] && [ "$(cat "$program.archive" 2> /dev/null)" = "$(cksum < "$library")" ] || return
+    for part in "$host"/*.a "$here/build.sh"; do
         [ ! "$part" -nt "$program" ] || return
     done
 }
-exec 9> "$host/.lock-image"
+is_made && {
+    echo "$program"
+    exit
+}
+# A tree that can't be written has it in the user's cache.
+if [ ! -w "$folder" ]; then
+    base=${XDG_CACHE_HOME:-${HOME:+$HOME/.cache}}
+    folder=${base:-/tmp/kazdrin-$(id -u)}/kazdrin/loaders/$(echo "$host" | sha256sum | cut -c1-12)
+    mkdir -p "$folder" 2> /dev/null || {
+        echo "c/loader.sh: nothing can be written to $host, nor to $folder" >&2
+        exit 3
+    }
+    program=$folder/kazdrin-image${kind:+-$kind}
+fi
+exec 9> "$folder/.lock-image"
 flock 9
 if ! is_made; then
     KAZDRIN_LIB=$library "$here/build.sh" ${kind:+"--$kind"} --image "$program.new" 9>&- >&2
     mv "$program.new" "$program"
-    echo "$library" > "$program.archive"
+    cksum < "$library" > "$program.archive"
 fi
 echo "$program"

@@ -9,6 +9,7 @@
 #   threads   drivers under real threads
 #   names     names, and the majors that ride on the manager's operations: beside a model, under schedules and refusals, by threads
 #   programs  samples with programs, threads, processes: schedules, refusals, threads
+#   cache     what is built without proofs, and who takes it from where: by stand-ins of the kit
 #   order     the lists that all managers are held to
 #   image     binaries of drivers, by the toolchains that are here: each sample beside what its source prints, exceptions, files that can't run, changed files
 #   headers   constants, structures and prototypes beside those of mingw-w64, where its headers are there: by its name alone, and in thorough.sh
@@ -33,7 +34,7 @@ if [ -z "${KAZDRIN_LIB:-}" ]; then
     [ -f "$KAZDRIN_LIB" ] || KAZDRIN_LIB=$("$here/../../archive.sh" --unproved) || exit 1
     export KAZDRIN_LIB
 fi
-[ $# -gt 0 ] || set -- host legal misuse explore spread threads names programs order image mount serve
+[ $# -gt 0 ] || set -- host legal misuse explore spread threads names programs cache order image mount serve
 passed=0
 failed=0
 
@@ -45,6 +46,7 @@ least() {
         explore) echo 170 ;;
         headers) echo 10000 ;;
         image) echo 60 ;; # with one of the toolchains
+        cache) echo 20 ;;
         misuse) echo 16 ;;
         names) echo 28 ;;
         order) echo 14 ;;

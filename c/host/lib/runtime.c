@@ -108,43 +108,6 @@ NTSTATUS RtlCharToInteger(PCSZ String, ULONG Base, PULONG Value)
     return STATUS_SUCCESS;
 }
 
-/* One letter as bytes of UTF-8, from one or two of the text's. */
-static ULONG to_utf8(const WCHAR *from, ULONG left, UCHAR *bytes, ULONG *used)
-{
-    ULONG letter = from[0];
-    *used = 1;
-    if (letter >= 0xd800 && letter < 0xdc00 && left > 1 && from[1] >= 0xdc00 && from[1] < 0xe000) {
-        letter = 0x10000 + ((letter - 0xd800) << 10) + (from[1] - 0xdc00u);
-        *used = 2;
-    } else if (letter >= 0xd800 && letter < 0xe000) {
-        letter = 0xfffd;
-    }
-    ULONG count = letter < 0x80 ? 1 : letter < 0x800 ? 2 : letter < 0x10000 ? 3 : 4;
-    for (ULONG at = count; at-- > 1; letter >>= 6)
-        bytes[at] = (UCHAR)(0x80 | (letter & 0x3f));
-    bytes[0] = (UCHAR)(count == 1 ? letter : (0xf0u << (4 - count) & 0xff) | letter);
-    return count;
-}
-
-/* With no destination only the count is told. */
-NTSTATUS RtlUnicodeToUTF8N(PCHAR UTF8StringDestination, ULONG UTF8StringMaxByteCount, PULONG UTF8StringActualByteCount, PCWCH UnicodeStringSource, ULONG UnicodeStringByteCount)
-{
-    UCHAR bytes[4];
-    ULONG written = 0, used = 0, length = UnicodeStringByteCount / (ULONG)sizeof(WCHAR);
-    for (ULONG at = 0; at < length; at += used) {
-        ULONG count = to_utf8(UnicodeStringSource + at, length - at, bytes, &used);
-        if (UTF8StringDestination && written + count > UTF8StringMaxByteCount) {
-            *UTF8StringActualByteCount = written;
-            return STATUS_BUFFER_TOO_SMALL;
-        }
-        if (UTF8StringDestination)
-            memcpy(UTF8StringDestination + written, bytes, count);
-        written += count;
-    }
-    *UTF8StringActualByteCount = written;
-    return STATUS_SUCCESS;
-}
-
 BOOLEAN RtlIsNameInExpression(PCUNICODE_STRING Expression, PCUNICODE_STRING Name, BOOLEAN IgnoreCase, PWCH UpcaseTable)
 {
     return FsRtlIsNameInExpression((PUNICODE_STRING)Expression, (PUNICODE_STRING)Name, IgnoreCase, UpcaseTable);

@@ -1,6 +1,7 @@
 /* Counted strings: the kit's Rtl calls. */
 #include "core/client.h"
 #include "core/piece.h"
+#include "lib/encoding.h"
 #include "lib/upcase.h"
 
 #include <ntstrsafe.h>
@@ -168,14 +169,9 @@ NTSTATUS RtlAnsiStringToUnicodeString(PUNICODE_STRING DestinationString, PCANSI_
     if (status != STATUS_SUCCESS)
         return status;
     for (USHORT at = 0; at < SourceString->Length; at++)
-        DestinationString->Buffer[at] = (UCHAR)SourceString->Buffer[at];
+        DestinationString->Buffer[at] = kz_from_code_page(SourceString->Buffer[at]);
     end(DestinationString);
     return STATUS_SUCCESS;
-}
-
-static CHAR narrow(WCHAR letter)
-{
-    return letter < 256 ? (CHAR)letter : '?';
 }
 
 NTSTATUS RtlUnicodeStringToAnsiString(PANSI_STRING DestinationString, PCUNICODE_STRING SourceString, BOOLEAN AllocateDestinationString)
@@ -192,31 +188,48 @@ NTSTATUS RtlUnicodeStringToAnsiString(PANSI_STRING DestinationString, PCUNICODE_
     if (status != STATUS_SUCCESS)
         length = DestinationString->MaximumLength ? DestinationString->MaximumLength - 1 : 0;
     for (USHORT at = 0; at < length; at++)
-        DestinationString->Buffer[at] = narrow(SourceString->Buffer[at]);
+        DestinationString->Buffer[at] = kz_to_code_page(SourceString->Buffer[at]);
     if (DestinationString->MaximumLength)
         DestinationString->Buffer[length] = 0;
     DestinationString->Length = length;
     return status;
 }
 
-NTSTATUS RtlUnicodeToMultiByteN(PCHAR MultiByteString, ULONG MaxBytes, PULONG BytesWritten, PCWCH UnicodeString, ULONG BytesInUnicodeString)
+/* ---- In UTF-8. */
+NTSTATUS RtlUnicodeStringToUTF8String(PUTF8_STRING DestinationString, PCUNICODE_STRING SourceString, BOOLEAN AllocateDestinationString)
 {
-    ULONG length = BytesInUnicodeString / sizeof(WCHAR) < MaxBytes ? BytesInUnicodeString / sizeof(WCHAR) : MaxBytes;
-    for (ULONG at = 0; at < length; at++)
-        MultiByteString[at] = narrow(UnicodeString[at]);
-    if (BytesWritten)
-        *BytesWritten = length;
-    return STATUS_SUCCESS;
+    KZ_INSIDE();
+    ULONG length;
+    NTSTATUS status = RtlUnicodeToUTF8N(NULL, 0, &length, SourceString->Buffer, SourceString->Length);
+    if (!NT_SUCCESS(status) || length >= 0xffff)
+        return NT_SUCCESS(status) ? STATUS_INVALID_PARAMETER_2 : status;
+    if (AllocateDestinationString) {
+        DestinationString->Buffer = ExAllocatePoolWithTag(PagedPool, length + 1, TEXT_TAG);
+        DestinationString->MaximumLength = (USHORT)(length + 1);
+        if (!DestinationString->Buffer)
+            return STATUS_NO_MEMORY;
+    }
+    if (DestinationString->MaximumLength <= length)
+        return STATUS_BUFFER_OVERFLOW;
+    status = RtlUnicodeToUTF8N(DestinationString->Buffer, length, &length, SourceString->Buffer, SourceString->Length);
+    DestinationString->Buffer[length] = 0;
+    DestinationString->Length = (USHORT)length;
+    return status;
 }
 
-NTSTATUS RtlMultiByteToUnicodeN(PWCH UnicodeString, ULONG MaxBytes, PULONG BytesWritten, const CHAR *MultiByteString, ULONG BytesInMultiByteString)
+NTSTATUS RtlUTF8StringToUnicodeString(PUNICODE_STRING DestinationString, PUTF8_STRING SourceString, BOOLEAN AllocateDestinationString)
 {
-    ULONG length = BytesInMultiByteString < MaxBytes / sizeof(WCHAR) ? BytesInMultiByteString : MaxBytes / sizeof(WCHAR);
-    for (ULONG at = 0; at < length; at++)
-        UnicodeString[at] = (UCHAR)MultiByteString[at];
-    if (BytesWritten)
-        *BytesWritten = length * sizeof(WCHAR);
-    return STATUS_SUCCESS;
+    KZ_INSIDE();
+    ULONG length;
+    NTSTATUS status = RtlUTF8ToUnicodeN(NULL, 0, &length, SourceString->Buffer, SourceString->Length);
+    if (!NT_SUCCESS(status) || length > UNICODE_STRING_MAX_BYTES - sizeof(WCHAR))
+        return NT_SUCCESS(status) ? STATUS_INVALID_PARAMETER_2 : status;
+    NTSTATUS room = make_room(DestinationString, (USHORT)length, AllocateDestinationString);
+    if (room != STATUS_SUCCESS)
+        return room;
+    status = RtlUTF8ToUnicodeN(DestinationString->Buffer, length, &length, SourceString->Buffer, SourceString->Length);
+    end(DestinationString);
+    return status;
 }
 
 VOID RtlFreeUnicodeString(PUNICODE_STRING UnicodeString)
@@ -233,6 +246,11 @@ VOID RtlFreeAnsiString(PANSI_STRING AnsiString)
     if (AnsiString->Buffer)
         ExFreePool(AnsiString->Buffer);
     *AnsiString = (ANSI_STRING){0};
+}
+
+VOID RtlFreeUTF8String(PUTF8_STRING Utf8String)
+{
+    RtlFreeAnsiString(Utf8String);
 }
 
 NTSTATUS RtlDuplicateUnicodeString(ULONG Flags, PCUNICODE_STRING StringIn, PUNICODE_STRING StringOut)
@@ -322,7 +340,7 @@ NTSTATUS RtlGUIDFromString(PCUNICODE_STRING GuidString, GUID *Guid)
     unsigned bytes[11];
     char text[40] = {0};
     for (USHORT at = 0; at < GuidString->Length / sizeof(WCHAR) && at < 38; at++)
-        text[at] = narrow(GuidString->Buffer[at]);
+        text[at] = kz_to_code_page(GuidString->Buffer[at]);
     if (sscanf(text, "{%8x-%4x-%4x-%2x%2x-%2x%2x%2x%2x%2x%2x}", &bytes[0], &bytes[1], &bytes[2], &bytes[3], &bytes[4], &bytes[5], &bytes[6], &bytes[7],
                &bytes[8], &bytes[9], &bytes[10]) != 11)
         return STATUS_INVALID_PARAMETER;

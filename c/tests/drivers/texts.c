@@ -81,6 +81,39 @@ static VOID Counted(VOID)
     SHOW(RtlStringCchCatW(room, 8, L"x") == STATUS_BUFFER_OVERFLOW);
 }
 
+/* Letters as bytes: a pair, one that is cut off, too little room; and the code page. */
+static VOID Encoded(VOID)
+{
+    static const CHAR bytes[] = "\xe2\x82\xac" "A" "\xf0\x9f\x98\x80" "\xc3";
+    WCHAR wide[8];
+    UNICODE_STRING text, back;
+    UTF8_STRING utf8;
+    ANSI_STRING narrow;
+    ULONG count = 0;
+
+    SHOW(RtlUTF8ToUnicodeN(wide, sizeof(wide), &count, bytes, sizeof(bytes) - 1) == STATUS_SOME_NOT_MAPPED);
+    DbgPrint("%u: %04x %04x %04x %04x %04x\n", count, wide[0], wide[1], wide[2], wide[3], wide[4]);
+    SHOW(RtlUTF8ToUnicodeN(wide, 3 * sizeof(WCHAR), &count, bytes, sizeof(bytes) - 1) == STATUS_BUFFER_TOO_SMALL);
+    SHOW(count);
+    SHOW(RtlUTF8ToUnicodeN(NULL, 0, &count, bytes, 4));
+    SHOW(count);
+    RtlInitUnicodeString(&text, L"\x20ac\x00e9");
+    SHOW(RtlUnicodeStringToUTF8String(&utf8, &text, TRUE));
+    DbgPrint("%u: %02x %02x %02x %02x %02x\n", utf8.Length, (UCHAR)utf8.Buffer[0], (UCHAR)utf8.Buffer[1], (UCHAR)utf8.Buffer[2], (UCHAR)utf8.Buffer[3], (UCHAR)utf8.Buffer[4]);
+    SHOW(RtlUTF8StringToUnicodeString(&back, &utf8, TRUE));
+    SHOW(RtlEqualUnicodeString(&text, &back, FALSE));
+    RtlFreeUnicodeString(&back);
+    RtlFreeUTF8String(&utf8);
+    SHOW(RtlUnicodeStringToAnsiString(&narrow, &text, TRUE));
+    DbgPrint("%u: %02x %02x\n", narrow.Length, (UCHAR)narrow.Buffer[0], (UCHAR)narrow.Buffer[1]);
+    SHOW(RtlAnsiStringToUnicodeString(&back, &narrow, TRUE));
+    SHOW(RtlEqualUnicodeString(&text, &back, FALSE));
+    RtlFreeUnicodeString(&back);
+    RtlFreeAnsiString(&narrow);
+    SHOW(RtlUnicodeToMultiByteN((PCHAR)wide, 1, &count, L"\x0416", sizeof(WCHAR)));
+    SHOW(*(PCHAR)wide == '?');
+}
+
 /* Structured exceptions: leave comes behind the block, and nothing is caught. */
 static int Blocks(int Where)
 {
@@ -123,6 +156,7 @@ NTSTATUS DriverEntry(PDRIVER_OBJECT DriverObject, PUNICODE_STRING RegistryPath)
     Wide();
     Output();
     Counted();
+    Encoded();
     SHOW(Blocks(0));
     SHOW(Blocks(1));
     SHOW(Blocks(2));

@@ -1,6 +1,7 @@
 /* What the file system makes of the other operations: extended attributes, security, quotas, locks of bytes, control codes, sections, and what has no file. */
 #include "filesystem/control.h"
 
+#include "core/memory.h"
 #include "core/operation.h"
 #include "core/told.h"
 #include "filesystem/fsctl.h"
@@ -11,6 +12,7 @@
 #include "filesystem/ranges.h"
 #include "filesystem/tag.h"
 #include "filesystem/tree.h"
+#include "lib/descriptor.h"
 
 /* ---- Extended attributes: a chain, as it was set. */
 static bool is_chain(const uint8_t *bytes, size_t length, size_t *wrong)
@@ -55,15 +57,17 @@ static NTSTATUS query_ea(KzOp *op, const FLT_PARAMETERS *now)
 }
 
 /* ---- Security: a descriptor that stands in one piece, as it was set; where none was, one of nobody's, with no lists. */
-static const uint8_t no_descriptor[20] = {1, 0, 0, 0x80};
-
 static NTSTATUS set_security(KzOp *op, const FLT_PARAMETERS *now)
 {
     size_t length = op->carried->input_size;
-    const uint8_t *bytes = now->SetSecurity.SecurityDescriptor;
-    if (length < sizeof no_descriptor || bytes[0] != 1 || !(bytes[3] & 0x80))
+    KzBytes *kept = &op->file->name->node->security;
+    SECURITY_INFORMATION what = now->SetSecurity.SecurityInformation;
+    if (!kz_is_descriptor(now->SetSecurity.SecurityDescriptor, length))
         return STATUS_INVALID_SECURITY_DESCR;
-    kz_keep_bytes(&op->file->name->node->security, bytes, length);
+    uint8_t *made = kz_memory(length + kept->length + sizeof KZ_NO_DESCRIPTOR);
+    length = kz_join_descriptors(now->SetSecurity.SecurityDescriptor, what, kept->length ? kept->bytes : KZ_NO_DESCRIPTOR, ~what, made);
+    kz_keep_bytes(kept, made, length);
+    free(made);
     kz_notify(op->file->name, FILE_NOTIFY_CHANGE_SECURITY, FILE_ACTION_MODIFIED);
     return STATUS_SUCCESS;
 }
@@ -71,14 +75,14 @@ static NTSTATUS set_security(KzOp *op, const FLT_PARAMETERS *now)
 static NTSTATUS query_security(KzOp *op, const FLT_PARAMETERS *now)
 {
     const KzBytes *kept = &op->file->name->node->security;
-    const KzBytes none = {(uint8_t *)no_descriptor, sizeof no_descriptor};
-    if (!kept->length)
-        kept = &none;
-    op->carried->information = kept->length; /* also of what has no room */
-    if (now->QuerySecurity.Length < kept->length)
-        return STATUS_BUFFER_OVERFLOW;
-    memcpy(now->QuerySecurity.SecurityBuffer, kept->bytes, kept->length);
-    return STATUS_SUCCESS;
+    uint8_t *made = kz_memory(kept->length + sizeof KZ_NO_DESCRIPTOR);
+    size_t length = kz_join_descriptors(kept->length ? kept->bytes : KZ_NO_DESCRIPTOR, now->QuerySecurity.SecurityInformation, NULL, 0, made);
+    bool has_room = now->QuerySecurity.Length >= length;
+    op->carried->information = length; /* also of what has no room */
+    if (has_room)
+        memcpy(now->QuerySecurity.SecurityBuffer, made, length);
+    free(made);
+    return has_room ? STATUS_SUCCESS : STATUS_BUFFER_OVERFLOW;
 }
 
 /* ---- Locks of bytes. */

@@ -6,6 +6,7 @@
 #include "core/memory.h"
 #include "core/piece.h"
 #include "core/told.h"
+#include "lib/descriptor.h"
 #include "lib/letters.h"
 #include "kit/create.h"
 #include "kit/keyevent.h"
@@ -42,12 +43,23 @@ typedef struct {
     PVOID opened;
 } Opening;
 
+/* A key is made directly below one that is there. */
+static bool has_parent(const char *name)
+{
+    const char *last = strrchr(name, '/');
+    char parent[KZ_KEY_NAME];
+    snprintf(parent, sizeof parent, "%.*s", last ? (int)(last - name) : 0, name);
+    return kz_key_itself(parent) != NULL;
+}
+
 static NTSTATUS perform_open(void *given)
 {
     Opening *opening = given;
     KzValue *itself = kz_key_itself(opening->name);
     opening->was_there = itself != NULL;
     if (!opening->is_made && !itself)
+        return STATUS_OBJECT_NAME_NOT_FOUND;
+    if (!itself && !has_parent(opening->name))
         return STATUS_OBJECT_NAME_NOT_FOUND;
     if (!itself)
         itself = kz_add_key(opening->name);
@@ -96,6 +108,23 @@ NTSTATUS ZwCreateKey(PHANDLE KeyHandle, ACCESS_MASK DesiredAccess, POBJECT_ATTRI
     (void)TitleIndex, (void)Class, (void)CreateOptions;
     ULONG disposition;
     return open_key(KeyHandle, DesiredAccess, ObjectAttributes, Disposition ? Disposition : &disposition, __func__);
+}
+
+NTSTATUS kz_make_key(PHANDLE key, ACCESS_MASK access, POBJECT_ATTRIBUTES attributes, PULONG disposition)
+{
+    const UNICODE_STRING whole = *attributes->ObjectName;
+    UNICODE_STRING part = whole;
+    OBJECT_ATTRIBUTES leads = *attributes;
+    leads.ObjectName = &part;
+    NTSTATUS status = ZwCreateKey(key, access, attributes, 0, NULL, 0, disposition);
+    if (status != STATUS_OBJECT_NAME_NOT_FOUND)
+        return status;
+    for (part.Length = sizeof(WCHAR); part.Length < whole.Length; part.Length += sizeof(WCHAR)) {
+        HANDLE parent;
+        if (whole.Buffer[part.Length / sizeof(WCHAR)] == L'\\' && NT_SUCCESS(ZwCreateKey(&parent, KEY_CREATE_SUB_KEY, &leads, 0, NULL, 0, NULL)))
+            ZwClose(parent);
+    }
+    return ZwCreateKey(key, access, attributes, 0, NULL, 0, disposition);
 }
 
 /* ---- Closing: what callbacks keep beside it is given back to them last. */
@@ -200,9 +229,7 @@ NTSTATUS ZwDeleteKey(HANDLE KeyHandle)
     return kz_touch_key(&(KzKeyEvent){RegNtPreDeleteKey, RegNtPostDeleteKey, &asked, &asked.CallContext, &asked.ObjectContext, asked.Object, &asked.Object}, perform_delete, &asked);
 }
 
-/* ---- Security: a descriptor that stands in one piece, as it was set; where none was, one of nobody's, with no lists. */
-static const uint8_t no_descriptor[20] = {1, 0, 0, 0x80};
-
+/* ---- Security: the parts that were set; where none were, nobody's. */
 static NTSTATUS perform_query_security(void *given)
 {
     const REG_QUERY_KEY_SECURITY_INFORMATION *asked = given;
@@ -210,12 +237,14 @@ static NTSTATUS perform_query_security(void *given)
     const KzValue *itself = kz_key_itself(key->name);
     if (key->is_deleted || !itself)
         return STATUS_KEY_DELETED;
-    ULONG room = *asked->Length, length = itself->length ? itself->length : sizeof no_descriptor;
+    uint8_t *made = kz_memory(itself->length + sizeof KZ_NO_DESCRIPTOR);
+    ULONG length = (ULONG)kz_join_descriptors(itself->length ? itself->data : KZ_NO_DESCRIPTOR, *asked->SecurityInformation, NULL, 0, made);
+    bool has_room = *asked->Length >= length;
     *asked->Length = length;
-    if (room < length)
-        return STATUS_BUFFER_TOO_SMALL;
-    memcpy(asked->SecurityDescriptor, itself->length ? itself->data : no_descriptor, length);
-    return STATUS_SUCCESS;
+    if (has_room)
+        memcpy(asked->SecurityDescriptor, made, length);
+    free(made);
+    return has_room ? STATUS_SUCCESS : STATUS_BUFFER_TOO_SMALL;
 }
 
 NTSTATUS kz_key_security(HANDLE handle, SECURITY_INFORMATION what, PSECURITY_DESCRIPTOR descriptor, ULONG length, PULONG needed)
@@ -233,15 +262,16 @@ static NTSTATUS perform_set_security(void *given)
     const REG_SET_KEY_SECURITY_INFORMATION *asked = given;
     const KzKey *key = asked->Object;
     KzValue *itself = kz_key_itself(key->name);
-    const uint8_t *bytes = asked->SecurityDescriptor;
     ULONG length = RtlLengthSecurityDescriptor(asked->SecurityDescriptor);
+    SECURITY_INFORMATION what = *asked->SecurityInformation;
     if (key->is_deleted || !itself)
         return STATUS_KEY_DELETED;
-    if (bytes[0] != 1 || !(bytes[3] & 0x80))
+    if (!kz_is_descriptor(asked->SecurityDescriptor, length))
         return STATUS_INVALID_SECURITY_DESCR;
+    uint8_t *made = kz_memory(length + itself->length + sizeof KZ_NO_DESCRIPTOR);
+    itself->length = (ULONG)kz_join_descriptors(asked->SecurityDescriptor, what, itself->length ? itself->data : KZ_NO_DESCRIPTOR, ~what, made);
     free(itself->data);
-    itself->data = memcpy(kz_memory(length), bytes, length);
-    itself->length = length;
+    itself->data = made;
     return STATUS_SUCCESS;
 }
 

@@ -22,11 +22,20 @@ struct KzRegistryState {
 };
 
 /* ---- What is there. */
+static const char *const always[] = {"/REGISTRY/MACHINE/HARDWARE",
+                                     "/REGISTRY/MACHINE/SOFTWARE/Microsoft/Windows NT/CurrentVersion",
+                                     "/REGISTRY/MACHINE/SOFTWARE/Microsoft/Windows/CurrentVersion",
+                                     "/REGISTRY/MACHINE/SOFTWARE/Policies",
+                                     "/REGISTRY/MACHINE/SYSTEM/ControlSet001/Control",
+                                     KZ_SERVICES,
+                                     "/REGISTRY/USER/.DEFAULT"};
+
 KzValue *kz_first_value(void)
 {
     if (!kz.registry->has_drivers) {
         kz.registry->has_drivers = true;
-        kz_add_key(KZ_SERVICES);
+        for (size_t at = 0; at < sizeof always / sizeof always[0]; at++)
+            kz_add_key(always[at]);
         for (size_t at = 0; at < kz.drivers_count; at++) {
             char name[KZ_KEY_NAME];
             snprintf(name, sizeof name, "%s/%.200s", KZ_SERVICES, kz.drivers[at].name);

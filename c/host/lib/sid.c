@@ -77,36 +77,3 @@ NTSTATUS RtlConvertSidToUnicodeString(PUNICODE_STRING UnicodeString, PSID Sid, B
         UnicodeString->Buffer[used] = 0;
     return STATUS_SUCCESS;
 }
-
-/* ---- Descriptors, each in one piece: where its owner, its group and its two lists are, behind its first four bytes. */
-typedef struct {
-    UCHAR revision, sbz;
-    USHORT control;
-    ULONG owner, group, sacl, dacl;
-} Descriptor;
-
-static ULONG end_of_sid(const uint8_t *from, ULONG place)
-{
-    return place ? place + 8u + 4u * from[place + 1] : 0;
-}
-
-static ULONG end_of_list(const uint8_t *from, ULONG place)
-{
-    USHORT size;
-    if (!place)
-        return 0;
-    memcpy(&size, from + place + 2, sizeof size);
-    return place + size;
-}
-
-ULONG RtlLengthSecurityDescriptor(PSECURITY_DESCRIPTOR SecurityDescriptor)
-{
-    KZ_INSIDE();
-    Descriptor head;
-    memcpy(&head, SecurityDescriptor, sizeof head);
-    ULONG ends[] = {sizeof head, end_of_sid(SecurityDescriptor, head.owner), end_of_sid(SecurityDescriptor, head.group), end_of_list(SecurityDescriptor, head.sacl), end_of_list(SecurityDescriptor, head.dacl)};
-    ULONG length = 0;
-    for (size_t at = 0; at < sizeof ends / sizeof ends[0]; at++)
-        length = ends[at] > length ? ends[at] : length;
-    return length;
-}

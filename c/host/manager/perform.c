@@ -274,6 +274,14 @@ static KzAnswer carry_on(KzOp *op)
     return kz_collect(op);
 }
 
+/* What isn't cached goes by whole sectors. */
+static bool is_unaligned(const KzFile *file, const KzBegin *asked)
+{
+    bool is_write = asked->event.event == KZE_WRITE, is_data = is_write || asked->event.event == KZE_READ;
+    uint64_t length = is_write ? asked->length : asked->event.len;
+    return is_data && file->object.Flags & FO_NO_INTERMEDIATE_BUFFERING && (asked->event.offset % file->volume->sector || length % file->volume->sector);
+}
+
 /* Begins an operation and carries it on. Refused, it has no reply but the status. */
 static KzAnswer begin(const KzBegin *begun)
 {
@@ -284,6 +292,8 @@ static KzAnswer begin(const KzBegin *begun)
         return refused(KZS_NO_HANDLE);
     if (file && !kz_is_granted(file, &asked.event, asked.carried)) /* the system refuses it, before any filter hears of it */
         return refused(KZS_ACCESS_DENIED);
+    if (file && is_unaligned(file, &asked)) /* this too */
+        return kz_refused(STATUS_INVALID_PARAMETER);
     if (!asked.create)
         asked.create = &usual;
     KzAsked renames;

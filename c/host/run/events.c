@@ -235,7 +235,7 @@ KzReply kz_ask_key(char **words)
         return kz_wrong();
     read_key(&asked, words[2], words[3] ? words[3] : "");
     bool makes = strcmp(words[1], "set") == 0 || strcmp(words[1], "create") == 0;
-    NTSTATUS status = makes ? ZwCreateKey(&key, KEY_ALL_ACCESS, &asked.attributes, 0, NULL, 0, NULL) : ZwOpenKey(&key, KEY_ALL_ACCESS, &asked.attributes);
+    NTSTATUS status = makes ? kz_make_key(&key, KEY_ALL_ACCESS, &asked.attributes, NULL) : ZwOpenKey(&key, KEY_ALL_ACCESS, &asked.attributes);
     if (!NT_SUCCESS(status) || !key)
         return answer(status, 0, NULL, 0);
     status = touch(words[1], key, &asked, words[4], &length);

@@ -5,6 +5,7 @@
 #include "lib/letters.h"
 #include "kit/handleevent.h"
 #include "kit/notify.h"
+#include "kit/registry.h"
 #include "user/error.h"
 #include "user/object.h"
 #include "user/program.h"
@@ -40,7 +41,7 @@ static uint32_t open_key(void *root, const WCHAR *below, uint32_t access, bool i
     *made = NULL;
     if (!read_name(&name, root, below))
         return KZ_ERROR_INVALID_HANDLE;
-    NTSTATUS status = is_made ? ZwCreateKey(&key, access, &name.attributes, 0, NULL, 0, disposition) : ZwOpenKey(&key, access, &name.attributes);
+    NTSTATUS status = is_made ? kz_make_key(&key, access, &name.attributes, disposition) : ZwOpenKey(&key, access, &name.attributes);
     if (!NT_SUCCESS(status))
         return kz_win32_of(status);
     KzObject *object = kz_new_object(KZU_KEY);

@@ -83,7 +83,11 @@ static VOID Change(_In_ HANDLE Key)
 {
     UNICODE_STRING beta = RTL_CONSTANT_STRING(L"Beta"), alpha = RTL_CONSTANT_STRING(L"ALPHA"), level = RTL_CONSTANT_STRING(L"level");
     UCHAR room[64];
-    SECURITY_DESCRIPTOR_RELATIVE descriptor = {.Revision = 1, .Control = SE_SELF_RELATIVE | SE_DACL_PRESENT};
+    SECURITY_DESCRIPTOR_RELATIVE descriptor = {.Revision = 1, .Control = SE_SELF_RELATIVE | SE_DACL_PRESENT}, *said = (SECURITY_DESCRIPTOR_RELATIVE *)room;
+    struct {
+        SECURITY_DESCRIPTOR_RELATIVE head;
+        UCHAR system[12];
+    } owned = {{.Revision = 1, .Control = SE_SELF_RELATIVE, .Owner = sizeof(SECURITY_DESCRIPTOR_RELATIVE)}, {1, 1, 0, 0, 0, 0, 0, 5, 18}};
     HANDLE gamma = OpenBelow(Key, L"gamma", FALSE), deep;
     ULONG length = 0;
 
@@ -94,7 +98,15 @@ static VOID Change(_In_ HANDLE Key)
     DbgPrint("little room: %08x, ", ZwQuerySecurityObject(gamma, DACL_SECURITY_INFORMATION, room, 4, &length));
     DbgPrint("%u bytes\n", length);
     DbgPrint("its security: %08x, ", ZwQuerySecurityObject(gamma, DACL_SECURITY_INFORMATION, room, sizeof(room), &length));
-    DbgPrint("%u bytes, control %04x\n", length, ((SECURITY_DESCRIPTOR_RELATIVE *)room)->Control);
+    DbgPrint("%u bytes, control %04x\n", length, said->Control);
+    DbgPrint("owned: %08x\n", ZwSetSecurityObject(gamma, OWNER_SECURITY_INFORMATION, &owned));
+    DbgPrint("its owner: %08x, ", ZwQuerySecurityObject(gamma, OWNER_SECURITY_INFORMATION, room, sizeof(room), &length));
+    DbgPrint("%u bytes, control %04x, at %u\n", length, said->Control, said->Owner);
+    DbgPrint("its list: %08x, ", ZwQuerySecurityObject(gamma, DACL_SECURITY_INFORMATION, room, sizeof(room), &length));
+    DbgPrint("%u bytes, control %04x, at %u\n", length, said->Control, said->Owner);
+    DbgPrint("both: %08x, ", ZwQuerySecurityObject(gamma, OWNER_SECURITY_INFORMATION | DACL_SECURITY_INFORMATION, room, sizeof(room), &length));
+    DbgPrint("%u bytes, control %04x, at %u\n", length, said->Control, said->Owner);
+    OpenBelow(gamma, L"none\\below", TRUE);
     DbgPrint("one with keys below it: %08x\n", ZwDeleteKey(gamma));
     DbgPrint("deleted: %08x\n", ZwDeleteKey(deep));
     DbgPrint("used then: %08x\n", ZwQueryValueKey(deep, &level, KeyValuePartialInformation, room, sizeof(room), &length));

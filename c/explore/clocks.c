@@ -6,7 +6,7 @@
 
 #include <sys/mman.h>
 
-enum { CELLS = 1 << 16, OBJECTS = 1 << 12, FREED = 4096, LEARNED = 1 << 14 };
+enum { CELLS = 1 << 16, OBJECTS = 1 << 12, FREED = 4096, LEARNED = 1 << 14, GAVE = 1024 };
 
 /* What a client did with eight bytes: which of them, when, and where from. */
 typedef struct {
@@ -39,6 +39,11 @@ static struct {
         int client;
     } freed[FREED];
     size_t freed_count;
+    struct {
+        unsigned step;
+        const char *call;
+        const void *from;
+    } gave[RUNNERS + 1][GAVE]; /* for the trace: what a client's clock stood at */
     uintptr_t least, most;
     uint64_t hash; /* of what the cells and the objects of this run say */
     uintptr_t learned[LEARNED]; /* cells that are met by interlocked or volatile accesses */
@@ -138,6 +143,23 @@ static const char *word_of(bool is_atomic, bool is_write, bool is_update)
     return is_update ? "an update without lock" : words[is_atomic][is_write];
 }
 
+/* Why nothing orders them: up to where the one that is here comes behind the other. */
+static void tell_why(int client)
+{
+    char text[TEXT], place[40] = "";
+    uint32_t known = shadow->clock[kz_me->number][client];
+    if (known >= GAVE)
+        return;
+    if (known && shadow->gave[client][known].from)
+        snprintf(place, sizeof place, " at @%lx", (unsigned long)(uintptr_t)shadow->gave[client][known].from);
+    if (!known)
+        snprintf(text, sizeof text, "  %s comes behind nothing that %s did\n", kz_me->name, ex_runners[client].name);
+    else
+        snprintf(text, sizeof text, "  %s comes behind what %s did up to step %u, %s%s, and behind nothing since\n", kz_me->name, ex_runners[client].name, shadow->gave[client][known].step,
+                 shadow->gave[client][known].call, place);
+    ex_trace_found(text);
+}
+
 static void tell(const Access *before, bool was_write, int client, const void *from, const char *now)
 {
     char text[TEXT], place[32] = "the end of its operation";
@@ -146,7 +168,8 @@ static void tell(const Access *before, bool was_write, int client, const void *f
         snprintf(place, sizeof place, "@%lx", (unsigned long)(uintptr_t)from);
     snprintf(text, sizeof text, "RACE: %s at %s (" KZ_MARK "%s" KZ_MARK "), and %s at @%lx (" KZ_MARK "%s" KZ_MARK "), and nothing orders them", now, place, kz_me->name,
              word_of(before->is_atomic, was_write, before->is_update), (unsigned long)before->from, other->name);
-    ex_found_race(text, (uintptr_t)from, before->from);
+    if (ex_found_race(text, (uintptr_t)from, before->from) && ex->search.is_traced)
+        tell_why(client);
 }
 
 /* A plain read beside an interlocked write is what drivers do on purpose. */
@@ -254,7 +277,7 @@ static void note(const void *address, size_t size, unsigned how, const void *fro
     uintptr_t start = (uintptr_t)address, end = start + size;
     bool is_write = how & IS_WRITE, is_atomic = how & IS_ATOMIC, is_update = how & IS_UPDATE;
     if (ex->search.is_traced)
-        ex_trace_access(address, is_write, is_atomic, from);
+        ex_trace_access(address, size, is_write, is_atomic, from);
     look_at_freed(start, from, word_of(false, is_write, false));
     kz_look_at_owned(address, size, from, is_write);
     ex_hooked = from;
@@ -351,6 +374,11 @@ static void give(Object *one)
 {
     unsigned me = kz_me->number;
     uint32_t *mine = shadow->clock[me];
+    if (ex->search.is_traced && mine[me] < GAVE) {
+        shadow->gave[me][mine[me]].step = ex->run.steps;
+        shadow->gave[me][mine[me]].call = kz_me->place.call ? kz_me->place.call : ex_runners[me].at;
+        shadow->gave[me][mine[me]].from = kz_me->place.call ? kz_me->place.from : NULL;
+    }
     shadow->hash -= vector_hash(one->clock, (uintptr_t)one->object);
     for (int client = 1; client <= ex->run.runners_count; client++)
         if (mine[client] > one->clock[client])

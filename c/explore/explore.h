@@ -118,6 +118,8 @@ typedef struct {
     unsigned client, step;
     const char *text;
     const void *from;
+    const void *written; /* whose value is known at the next step */
+    size_t size;
     const void *object; /* that is taken or given */
     const char *name;   /* of it, in the text */
     bool is_lock;       /* it is one, which the client holds from now on, or no more */
@@ -348,7 +350,7 @@ void ex_stop_at(const char *unknown, const char *why);
 /* The first line of it, or all of its lines; of a race, between these two places of the driver's code. */
 void ex_found(KindOf of, const char *text);
 void ex_found_lines(KindOf of, const char *text);
-void ex_found_race(const char *text, uintptr_t now, uintptr_t before);
+bool ex_found_race(const char *text, uintptr_t now, uintptr_t before);
 void ex_say(const KzSaid *said);
 void ex_keep_found(void);
 void ex_report_kind(const Kind *kind);
@@ -390,8 +392,9 @@ const char *ex_source_text(unsigned long address);
 void ex_trace_step(const Runner *runner, bool is_preemption);
 void ex_trace_text(const char *text);
 void ex_trace_found(const char *text);
-void ex_trace_access(const void *address, bool is_write, bool is_atomic, const void *from);
+void ex_trace_access(const void *address, size_t size, bool is_write, bool is_atomic, const void *from);
 void ex_trace_object(const void *object, bool is_taken, const char *call);
+void ex_put_touches(void);
 void ex_trace_end(void);
 
 /* page.c: 0, or 3 if it can't be written. */

@@ -29,17 +29,18 @@ void ex_found_lines(KindOf of, const char *text)
     add(of, text);
 }
 
-void ex_found_race(const char *text, uintptr_t now, uintptr_t before)
+bool ex_found_race(const char *text, uintptr_t now, uintptr_t before)
 {
     char line[TEXT + 8];
     Found *one = add(RACE, text);
     if (!one)
-        return;
+        return false;
     one->sides[0] = now;
     one->sides[1] = before;
     snprintf(line, sizeof line, "  %s\n", text);
     if (ex->search.is_traced)
         ex_trace_found(line);
+    return true;
 }
 
 /* What is said, each line with its client's name. */

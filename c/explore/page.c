@@ -22,7 +22,7 @@ static const char style[] =
     "td.on { background: var(--panel); border-left: 4px solid var(--edge); }\n"
     "td.held { border-left: 4px solid var(--hold); }\n"
     "tr.side td.on { background: var(--pick); border-left-color: var(--bad); }\n"
-    ".at { font-weight: 600; } .place { color: var(--quiet); } code { font: 12px ui-monospace, monospace; white-space: nowrap; }\n"
+    ".at { font-weight: 600; } .place { color: var(--quiet); } code { font: 12px ui-monospace, monospace; white-space: pre-wrap; overflow-wrap: anywhere; }\n"
     ".touch, .said { color: var(--quiet); font-size: 12px; } .preempts { color: var(--hold); font-weight: 600; } .bad { color: var(--bad); font-weight: 600; }\n"
     ".lock { color: var(--hold); font-size: 12px; }\n";
 
@@ -209,6 +209,7 @@ int ex_put_page(const char *path)
 {
     FILE *to = fopen(path, "w");
     Holds *holds = ex_map(sizeof *holds);
+    ex_put_touches();
     if (to) {
         put_head(to);
         fputs("<table>\n<thead><tr><th></th>", to);

@@ -1,7 +1,11 @@
 /* One schedule, step by step: who goes on, where it stands, what it touches and what is said. */
+#define _GNU_SOURCE
 #include "explore.h"
 #include "core/piece.h"
 #include "core/said.h"
+
+#include <sys/uio.h>
+#include <unistd.h>
 
 static void append(const char *text)
 {
@@ -62,12 +66,48 @@ static void describe(const void *address, char *room, size_t size)
         snprintf(room, size, "byte %zu of %s", (size_t)((const uint8_t *)address - piece->body), kinds[piece->kind]);
 }
 
-void ex_trace_access(const void *address, bool is_write, bool is_atomic, const void *from)
+/* What is there as the client sees it, which may have a write in its buffer that memory hasn't. False if it can't be read, or isn't a value. */
+static bool read_value(unsigned client, const void *address, size_t size, uint64_t *value)
+{
+    const Buffer *buffer = &ex->run.buffers[client];
+    struct iovec to = {value, size}, from = {(void *)address, size};
+    *value = 0;
+    for (unsigned at = buffer->count; at-- > 0 && client != kz_me->number;)
+        if (buffer->writes[at].at == address && buffer->writes[at].size == size) {
+            memcpy(value, &buffer->writes[at].other, size);
+            return true;
+        }
+    return size && size <= sizeof *value && process_vm_readv(getpid(), &to, 1, &from, 1, 0) == (ssize_t)size;
+}
+
+/* A small number is one, of either sign; an address is what lies there; the rest are bits. */
+static void append_value(char *text, size_t room, unsigned client, const void *address, size_t size)
+{
+    uint64_t value;
+    char name[96];
+    size_t used = strlen(text);
+    if (!read_value(client, address, size, &value))
+        return;
+    int64_t number = (int64_t)(value << (64 - 8 * size)) >> (64 - 8 * size);
+    const void *object = (const void *)(uintptr_t)value;
+    if (number > -0x10000 && number < 0x10000) {
+        snprintf(text + used, room - used, " = %lld", (long long)number);
+    } else if (size == sizeof object && (ex_is_program(object) || piece_with(object))) {
+        describe(object, name, sizeof name);
+        snprintf(text + used, room - used, ex_is_program(object) ? " = &%s" : " = %s", name);
+    } else {
+        snprintf(text + used, room - used, " = 0x%llx", (unsigned long long)value);
+    }
+}
+
+void ex_trace_access(const void *address, size_t size, bool is_write, bool is_atomic, const void *from)
 {
     char name[96], text[160];
     static const char *const words[2][2] = {{"reads", "writes"}, {"reads in order", "writes in order"}};
     describe(address, name, sizeof name);
     snprintf(text, sizeof text, "%s %s", words[is_atomic][is_write], name);
+    if (!is_write)
+        append_value(text, sizeof text, kz_me->number, address, size);
     for (size_t at = ex->trace.touches_from; at < ex->trace.count; at++)
         if (ex->trace.events[at].kind == EVENT_TOUCH && strcmp(ex->trace.events[at].text, text) == 0)
             return;
@@ -75,7 +115,20 @@ void ex_trace_access(const void *address, bool is_write, bool is_atomic, const v
     if (one) {
         one->text = ex_kept(text);
         one->from = from;
+        one->written = is_write ? address : NULL;
+        one->size = size;
     }
+}
+
+/* What was written is there by now. */
+static void settle(Event *one)
+{
+    char text[160];
+    if (!one->written)
+        return;
+    snprintf(text, sizeof text, "%s", one->text);
+    append_value(text, sizeof text, one->client, one->written, one->size);
+    one->text = ex_kept(text);
 }
 
 /* Whether the client took the object as a lock before. */
@@ -104,13 +157,15 @@ void ex_trace_object(const void *object, bool is_taken, const char *call)
     }
 }
 
-static void put_touches(void)
+void ex_put_touches(void)
 {
     char line[TEXT];
     size_t used = 0;
     for (size_t at = ex->trace.touches_from; at < ex->trace.count; at++)
-        if (ex->trace.events[at].kind == EVENT_TOUCH && used + 200 < sizeof line)
+        if (ex->trace.events[at].kind == EVENT_TOUCH && used + 200 < sizeof line) {
+            settle(&ex->trace.events[at]);
             used += (size_t)snprintf(line + used, sizeof line - used, "%s%s", used ? ", " : "        ", ex->trace.events[at].text);
+        }
     if (used) {
         append(line);
         append("\n");
@@ -134,7 +189,7 @@ void ex_trace_found(const char *text)
 void ex_trace_step(const Runner *runner, bool is_preemption)
 {
     char text[TEXT];
-    put_touches();
+    ex_put_touches();
     if ((int)runner->client->number != ex->run.current || !ex->trace.length) {
         snprintf(text, sizeof text, "---- %s%s\n", runner->name, is_preemption ? " (preempts)" : "");
         append(text);
@@ -152,7 +207,7 @@ void ex_trace_step(const Runner *runner, bool is_preemption)
 void ex_trace_end(void)
 {
     char text[TEXT];
-    put_touches();
+    ex_put_touches();
     ex_put_lines(stdout, ex->trace.text);
     for (int at = 0; at < ex->kinds.count; at++) {
         if (ex->kinds.all[at].of == END || ex->kinds.all[at].of == LIMITED)

@@ -28,6 +28,11 @@ const CLEANED_UP: [Step; 2] = [
     (0, &["attach", "0", "0", "h", "100"], 0, 0, b""),
 ];
 
+/// The files that the other connection has open, and the new ones, one a try.
+const FILES: [&str; 12] = ["a", "b", "c", "d", "e", "f", "g", "h", "i", "j", "k", "l"];
+
+const NAMES: [&str; 8] = ["p", "q", "r", "s", "t", "u", "v", "w"];
+
 // The number as a word.
 fn word(alloc: Global, number: u64) -> Option<String> {
     format!(in alloc; "{}", number).ok()
@@ -144,8 +149,8 @@ where
     )
 }
 
-// The end of another connection lets it go, as its first handle is closed, and takes its answer, as the second one is closed: one worker carries all. On a machine
-// that is slow the answer may come too late for that, so there is more than one try.
+// The end of another connection lets it go, as its first handle is closed, and takes its answer, as a later one is closed. On a machine that is slow the answer may
+// come too late for that, so there are many handles, and there is more than one try.
 fn cleaned_up<R>(rt: &R, alloc: Global, at: &Front) -> Option<bool>
 where
     R: Net<Listener = TcpListener, Stream = TcpStream> + Clock,
@@ -154,10 +159,11 @@ where
     streams.push(taken(rt, alloc, at)?).ok()?;
     let is_begun = follow(alloc, streams.as_slice(), &CLEANED_UP);
     let stream = streams.first()?;
-    for name in ["p", "q", "r", "s", "t"] {
+    for name in NAMES {
         let other = taken(rt, alloc, at)?;
-        exchange(alloc, &other, &["create", "0", "always", "a"])?;
-        exchange(alloc, &other, &["create", "0", "always", "b"])?;
+        for file in FILES {
+            exchange(alloc, &other, &["create", "0", "always", file])?;
+        }
         leave_create(rt, alloc, at, name)?;
         drop(other);
         thread::sleep(rt, Duration::from_millis(REST));

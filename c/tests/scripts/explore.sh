@@ -135,8 +135,14 @@ tell $? "page"
 [ $? = 5 ] && [ "$(grep -c 'tr class="side"' "$room/page.html")" = 2 ] && grep -q 'writes gReads' "$room/page.html"
 tell $? "page of a race"
 "$program" --trace --replay 'a*7 b*7' $scenarios/counter.txt > "$room/out"
-[ $? = 5 ] && [ "$(grep -c '^        reads gReads, writes gReads$' "$room/out")" = 2 ]
-tell $? "trace of what is touched"
+[ $? = 5 ] && [ "$(grep '^        reads gReads' "$room/out")" = $'        reads gReads = 0, writes gReads = 1\n        reads gReads = 1, writes gReads = 2' ] && grep -q '^  b comes behind nothing that a did$' "$room/out"
+tell $? "trace of what is touched, and why it is a race"
+"$program" --trace --replay 'a*5 b*10 a*5 finally*6' $scenarios/lostupdate.txt > "$room/out"
+[ $? = 5 ] && [ "$(grep -o 'order gReads = .' "$room/out" | tr -d '\n')" = 'order gReads = 0order gReads = 0order gReads = 1order gReads = 1order gReads = 1' ]
+tell $? "trace of a lost update"
+"$program" --trace --coarse --replay 'r*9 f*4' $scenarios/lastrelease.txt > "$room/out"
+[ $? = 5 ] && grep -q '^  f comes behind what r did up to step [0-9]*, FltReleaseContext at lastrelease.c:29 ' "$room/out"
+tell $? "trace of what is in order still"
 
 # What a seed finds is shown by less: with one preemption, and without the requests that aren't needed.
 "$program" --seed 1 --runs 500 --pct 2 --shrink $scenarios/stuckdetach-long.txt > "$room/out"

@@ -105,7 +105,7 @@ esac
 includes=(-I"$here/include" "${own[@]}")
 read -r -d '' -a host_words <<< "$host_cflags" || true
 read -r -d '' -a api <<< "${KZAPI:-}" || true
-common=(-fshort-wchar -fno-strict-aliasing -O1 -g "${host_words[@]}")
+common=(-fshort-wchar -fno-strict-aliasing -fno-omit-frame-pointer -O1 -g "${host_words[@]}")
 machine=(-D_WIN64=1 -D_M_AMD64=100 -D_M_X64=100 -D_AMD64_=1 -D_WIN32_WINNT=0x0A00 -DWINVER=0x0A00 -DNTDDI_VERSION=0x0A000002)
 driver=(-fwrapv -fms-extensions "${common[@]}" "${machine[@]}" -DDBG=1 -D_KERNEL_MODE=1 -DKZ_DRIVER=1 -include ntdef.h "${api[@]}")
 user=(-fwrapv -fms-extensions "${common[@]}" "-I$here/user" "-I$here/include" "${own[@]}" "${machine[@]}" -D_WIN32=1 -fno-builtin -include windows.h)
@@ -169,6 +169,10 @@ for pair in "${renames[@]}" wcslen:KzWcslen wcsnlen:KzWcsnlen wcscmp:KzWcscmp wc
     wmemset:KzWmemset wcstol:KzWcstol wcstoul:KzWcstoul swprintf:KzSwprintfRoom vswprintf:KzVsnwprintf towupper:KzTowupper towlower:KzTowlower; do
     changes+=(--redefine-sym "${pair%:*}=${pair#*:}")
 done
+# The drivers' code is in a section of its own: who calls whom there is looked for by it.
+code_of() {
+    objdump -h "$1" | awk '$2 ~ /^\.text(\.|$)/ { print "--rename-section=" $2 "=kz_text" }'
+}
 # The drivers' variables are in sections of their own. What leads to memory is looked for in these alone; and libFuzzer, which plays all sessions in one process, puts them back before each.
 variables_of() {
     objdump -h "$1" | awk '$2 ~ /^\.data(\.|$)/ && $2 !~ /^\.data\.rel\.ro/ { print "--rename-section=" $2 "=kz_data,alloc,load,data,contents" } $2 ~ /^\.bss(\.|$)/ { print "--rename-section=" $2 "=kz_bss,alloc" }'
@@ -258,7 +262,7 @@ add_object() {
         say "$name calls what the kit's libraries don't have: $foreign"
         exit 1
     fi
-    mapfile -t variables < <(variables_of "$room/driver_$number.o")
+    mapfile -t variables < <(variables_of "$room/driver_$number.o" && code_of "$room/driver_$number.o")
     objcopy --keep-global-symbol="$entry" "${changes[@]}" "${variables[@]}" "$room/driver_$number.o"
 }
 add() {

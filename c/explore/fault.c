@@ -2,6 +2,7 @@
 #define _GNU_SOURCE
 #include "explore.h"
 #include "core/crash.h"
+#include "core/frame.h"
 #include "core/place.h"
 
 #include <signal.h>
@@ -24,6 +25,15 @@ static bool is_carried_on(int signal, siginfo_t *information, void *context)
     return kz_binaries.carry_out && (kz_binaries.carry_out(signal, information, context) || kz_binaries.raise(signal, information, context));
 }
 
+/* The driver's own, that which it called there, or none of its. */
+static const void *code_of(const ucontext_t *machine)
+{
+    const void *at = (const void *)machine->uc_mcontext.gregs[REG_RIP], *call = NULL;
+    if (!kz_is_drivers_code(at) && !kz_is_binary(at))
+        call = kz_me->place.from ? kz_me->place.from : kz_drivers_call((const void *)machine->uc_mcontext.gregs[REG_RSP]);
+    return call ? call : (const char *)at + 1;
+}
+
 static void handle(int signal, siginfo_t *information, void *context)
 {
     const ucontext_t *machine = context;
@@ -37,7 +47,7 @@ static void handle(int signal, siginfo_t *information, void *context)
         return;
     }
     snprintf(what, sizeof what, "CRASH %s", kz_signal_name(signal));
-    leave_run(CRASH, what, ex_hooked ? ex_hooked : (const char *)machine->uc_mcontext.gregs[REG_RIP] + 1);
+    leave_run(CRASH, what, ex_hooked ? ex_hooked : code_of(machine));
 }
 
 /* Each tenth of a second of the processor's: a run that stays where it was for some of them is endless. */

@@ -143,15 +143,19 @@ static void put_place(FILE *to, unsigned long address, bool with_text)
 static void put(FILE *to, const char *text, bool with_text)
 {
     while (*text) {
-        size_t length = strcspn(text, "@" EX_VARIABLE);
+        size_t length = strcspn(text, "@" EX_VARIABLE KZ_FROM);
         bool is_variable = text[length] == EX_VARIABLE[0];
         unsigned long address;
+        char callers[200];
         int used = 0;
         fwrite(text, 1, length, to);
         text += length;
         if (!*text)
             return;
-        if (sscanf(text + 1, "%lx%n", &address, &used) == 1 && address > 4096) {
+        if (*text == KZ_FROM[0]) {
+            text += kz_read_callers(text, callers, sizeof callers);
+            fputs(callers, to);
+        } else if (sscanf(text + 1, "%lx%n", &address, &used) == 1 && address > 4096) {
             if (is_variable)
                 put_variable(to, address);
             else

@@ -65,6 +65,7 @@ typedef struct KzPlace {
     /* The call of the kit that it makes, and where; none while its own code runs. Its function, and what was asked for. */
     const char *call;
     const void *from, *function;
+    const void *callers[2];     /* and in the driver's functions around that */
     const char *request, *path; /* of the client that began the operation, or that asks; NULL if there is none */
     unsigned line;              /* of the request in its file; 0 if it has none */
     UCHAR major;                /* of the operation */

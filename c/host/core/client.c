@@ -4,6 +4,7 @@
 #include "core/access.h"
 #include "core/beside.h"
 #include "core/clock.h"
+#include "core/frame.h"
 #include "core/irql.h"
 #include "core/late.h"
 #include "core/module.h"
@@ -56,6 +57,7 @@ unsigned kz_go_inside(const char *name, const void *from)
         return depth;
     kz_me->place.call = name;
     kz_me->place.from = from;
+    kz_note_callers(kz_me->place.callers, __builtin_frame_address(0), from);
     kz_check_irql(name);
     return 0;
 }
@@ -88,7 +90,7 @@ void kz_end_call(unsigned *depth)
 {
     if (*depth == 0) {
         kz_look_at_time();
-        kz_me->place.call = kz_me->place.from = NULL;
+        kz_me->place.call = kz_me->place.from = kz_me->place.callers[0] = NULL;
     }
     kz_end_inside(depth);
 }

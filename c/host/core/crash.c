@@ -3,6 +3,7 @@
 #include "core/crash.h"
 
 #include "core/client.h"
+#include "core/frame.h"
 #include "core/piece.h"
 #include "core/place.h"
 #include "core/said.h"
@@ -30,10 +31,23 @@ static void put(const char *text)
 }
 
 /* Where it was: in the driver's own code there, or in a call of it. */
-static bool find(const void *at, char *line, size_t size)
+static void put_source(const void *at)
 {
     const KzPlace *place = &kz_me->place;
-    return (at && kz_find_source(kz_in_file(at) + 1, line, size)) || (place->from && kz_find_source(kz_in_file(place->from), line, size));
+    const void *code = at ? (const uint8_t *)at + 1 : NULL;
+    char line[100], marked[80], callers[200];
+    int used;
+    if (!code || !kz_find_source(kz_in_file(code), line, sizeof line))
+        code = place->from && kz_find_source(kz_in_file(place->from), line, sizeof line) ? place->from : NULL;
+    if (!code)
+        return;
+    put(", at ");
+    put(line);
+    used = snprintf(marked, sizeof marked, KZ_FROM "%lx", (unsigned long)kz_in_file(code));
+    for (unsigned caller = 0; caller < 2 && place->callers[0] && place->callers[caller]; caller++)
+        used += snprintf(marked + used, sizeof marked - (size_t)used, KZ_FROM "%lx", (unsigned long)kz_in_file(place->callers[caller]));
+    kz_read_callers(marked, callers, sizeof callers);
+    put(callers);
 }
 
 /* The request, with its line in the file. */
@@ -52,7 +66,7 @@ static void put_request(const KzPlace *place)
 
 void kz_put_place(const char *head, const char *what, const void *at)
 {
-    char marked[256], place[256], line[100];
+    char marked[256], place[256];
     if (crash.was_told)
         return;
     crash.was_told = 1;
@@ -65,10 +79,7 @@ void kz_put_place(const char *head, const char *what, const void *at)
     kz_place_text(marked, sizeof marked);
     kz_unmark(place, sizeof place, marked);
     put(place);
-    if (find(at, line, sizeof line)) {
-        put(", at ");
-        put(line);
-    }
+    put_source(at);
     if (kz_me->place.path) {
         put(", \\");
         put(kz_me->place.path);
@@ -106,19 +117,54 @@ const void *kz_code_at(const void *context)
 #endif
 }
 
+/* The stack there; NULL if that is used up. */
+static const void *stack_of(const siginfo_t *information, const void *context)
+{
+#ifdef __x86_64__
+    uintptr_t stack = (uintptr_t)((const ucontext_t *)context)->uc_mcontext.gregs[REG_RSP];
+    return information && (uintptr_t)information->si_addr - stack + NEAR < 2 * NEAR ? NULL : (const void *)stack;
+#else
+    (void)information, (void)context;
+    return NULL;
+#endif
+}
+
+/* Who called the driver's function that the code is in, or that called what isn't a driver's. */
+static void note_callers(const void *context, const void *stack)
+{
+#ifdef __x86_64__
+    if (stack && kz_me->inside == 0)
+        kz_note_callers_of(kz_me->place.callers, (const void *)((const ucontext_t *)context)->uc_mcontext.gregs[REG_RBP], stack);
+#else
+    (void)context, (void)stack;
+#endif
+}
+
+static const void *driver_at(const void *context, const void *stack)
+{
+    const void *at = kz_caller(kz_code_at(context)), *call = NULL;
+    if (stack && kz_me->inside == 0 && !kz_is_binary(at) && !kz_is_drivers_code(at))
+        call = kz_drivers_call(stack);
+    note_callers(context, stack);
+    return call ? (const uint8_t *)call - 1 : at;
+}
+
+const void *kz_driver_at(const void *context)
+{
+    return driver_at(context, stack_of(NULL, context));
+}
+
 /* Memory that was given back was touched: that is told, and the program goes on. */
 static bool is_touch(int signal, const siginfo_t *information, const void *context)
 {
+    const void *stack = stack_of(information, context);
+    const void *caller = stack ? *(const void *const *)stack : NULL; /* of a copy, which keeps nothing there */
 #ifdef __x86_64__
-    const greg_t *registers = ((const ucontext_t *)context)->uc_mcontext.gregs;
-    bool is_written = registers[REG_ERR] & 2;
-    uintptr_t stack = (uintptr_t)registers[REG_RSP];
-    bool is_stack = (uintptr_t)information->si_addr - stack + NEAR < 2 * NEAR;
-    const void *caller = is_stack || !stack ? NULL : *(const void *const *)stack; /* of a copy, which keeps nothing there */
+    bool is_written = ((const ucontext_t *)context)->uc_mcontext.gregs[REG_ERR] & 2;
 #else
     bool is_written = false;
-    const void *caller = NULL;
 #endif
+    note_callers(context, stack);
     return signal == SIGSEGV && kz_touched(information->si_addr, kz_code_at(context), caller, is_written);
 }
 
@@ -135,7 +181,7 @@ static void handle(int signal, siginfo_t *information, void *context)
 {
     if (is_carried_on(signal, information, context))
         return;
-    kz_put_place("CRASH", kz_signal_name(signal), kz_caller(kz_code_at(context)));
+    kz_put_place("CRASH", kz_signal_name(signal), driver_at(context, stack_of(information, context)));
     for (size_t at = 0; at < sizeof signals / sizeof signals[0]; at++) {
         if (signals[at] != signal)
             continue;

@@ -76,7 +76,7 @@ static void tick(int signal, siginfo_t *information, void *context)
     if (kz_me->inside > 0 || (!seen.is_late && !has_line(kz_code_at(context))))
         seen.is_late = true;
     else
-        end(kz_code_at(context));
+        end(kz_driver_at(context));
 }
 
 static void ask_to_end(int signal, siginfo_t *information, void *context)
@@ -86,7 +86,7 @@ static void ask_to_end(int signal, siginfo_t *information, void *context)
     if (kz_me->place.callback == KZ_IN_NOTHING && kz_scheduler->has_others)
         return; /* a load ends itself */
     if (kz_me->place.callback != KZ_IN_NOTHING)
-        kz_put_place("INTERRUPTED", NULL, kz_me->inside ? NULL : kz_code_at(context));
+        kz_put_place("INTERRUPTED", NULL, kz_me->inside ? NULL : kz_driver_at(context));
     sigaction(signal, &(struct sigaction){.sa_handler = SIG_DFL}, NULL);
     raise(signal);
 }

@@ -89,6 +89,14 @@ size_t kz_place_text(char *room, size_t size)
     return used;
 }
 
+/* Where the code there was put into another function, and where that was called. */
+static void add_callers(char *room, size_t size, size_t *used, const KzPlace *place)
+{
+    add(room, size, used, KZ_FROM "%lx", (unsigned long)kz_in_file(place->from));
+    for (unsigned at = 0; at < 2 && place->callers[0] && place->callers[at]; at++)
+        add(room, size, used, KZ_FROM "%lx", (unsigned long)kz_in_file(place->callers[at]));
+}
+
 size_t kz_source_text(char *room, size_t size, const char *call)
 {
     const KzPlace *place = &kz_me->place;
@@ -104,6 +112,8 @@ size_t kz_source_text(char *room, size_t size, const char *call)
         add(room, size, &used, ", at @%lx", (unsigned long)kz_in_file(place->from));
     else if (place->function)
         add(room, size, &used, ", in @%lx", (unsigned long)kz_in_file(place->function) + 1);
+    if (place->from && place->filter)
+        add_callers(room, size, &used, place);
     if (place->path)
         add(room, size, &used, KZ_MARK ", \\%s" KZ_MARK, path);
     if (place->request && place->line)

@@ -9,11 +9,12 @@
 
 extern const Elf64_Ehdr __ehdr_start __attribute__((visibility("hidden")));
 
-enum { KNOWN = 256, LONGEST = 80 };
+enum { KNOWN = 256, LONGEST = 80, CALLERS = 2 };
 
 static struct {
     uintptr_t address;
-    char line[LONGEST]; /* empty if there is none */
+    char line[LONGEST];             /* empty if there is none */
+    char outer[CALLERS][LONGEST]; /* which its code was put into */
 } known[KNOWN];
 
 uintptr_t kz_in_file(const void *address)
@@ -86,44 +87,94 @@ bool kz_is_left_out(const char *path)
     return path[0] == '?';
 }
 
-/* The innermost one that isn't left out. */
+/* The next one that isn't left out, the innermost first; what is behind it. */
+static char *take_line(char *all, char *line, size_t size)
+{
+    line[0] = 0;
+    while (*all && !*line) {
+        char *end = all + strcspn(all, "\n");
+        end += *end == '\n';
+        end[-1] = 0;
+        const char *name = all + strlen(all);
+        while (name > all && name[-1] != '/' && name[-1] != '\\')
+            name--;
+        size_t length = strcspn(name, " ");
+        if (!kz_is_left_out(all) && length && length < size && name[length - 1] != '?')
+            ((char *)memcpy(line, name, length))[length] = 0;
+        all = end;
+    }
+    return all;
+}
+
 bool kz_ask_line(const char *reader, const char *program, uintptr_t address, char *line, size_t size)
 {
     char all[4096];
     ask(reader, program, address, all, sizeof all);
-    line[0] = 0;
-    for (char *at = all, *end; *at && !*line; at = end) {
-        end = at + strcspn(at, "\n");
-        end += *end == '\n';
-        end[-1] = 0;
-        const char *name = at + strlen(at);
-        while (name > at && name[-1] != '/' && name[-1] != '\\')
-            name--;
-        size_t length = strcspn(name, " ");
-        if (!kz_is_left_out(at) && length && length < size && name[length - 1] != '?')
-            ((char *)memcpy(line, name, length))[length] = 0;
-    }
+    take_line(all, line, size);
     return line[0];
 }
 
-static void find(uintptr_t address, char *line)
+static void find(uintptr_t address, size_t at)
 {
-    char program[512];
+    char program[512], all[4096], *rest = all;
     ssize_t length = readlink("/proc/self/exe", program, sizeof program - 1);
     program[length > 0 ? length : 0] = 0;
-    kz_ask_line("addr2line", program, address, line, LONGEST);
+    ask("addr2line", program, address, all, sizeof all);
+    rest = take_line(rest, known[at].line, LONGEST);
+    for (unsigned outer = 0; outer < CALLERS; outer++)
+        rest = take_line(rest, known[at].outer[outer], LONGEST);
+}
+
+static size_t look_up(uintptr_t address)
+{
+    size_t at = (address >> 1) % KNOWN;
+    if (known[at].address == address)
+        return at;
+    memset(known[at].outer, 0, sizeof known[at].outer);
+    if (!kz_is_binary((const void *)address) || !kz_binaries.find_line(address - 1, known[at].line, LONGEST))
+        find(address - 1, at);
+    known[at].address = address;
+    return at;
 }
 
 bool kz_find_source(uintptr_t address, char *room, size_t size)
 {
-    size_t at = (address >> 1) % KNOWN;
-    if (known[at].address != address) {
-        if (!kz_is_binary((const void *)address) || !kz_binaries.find_line(address - 1, known[at].line, LONGEST))
-            find(address - 1, known[at].line);
-        known[at].address = address;
-    }
+    size_t at = look_up(address);
     snprintf(room, size, "%s", known[at].line);
     return known[at].line[0];
+}
+
+/* ---- Who called it. */
+typedef struct {
+    char *room;
+    size_t size, used;
+    unsigned count;
+} Callers;
+
+static void add_caller(Callers *to, const char *line)
+{
+    if (!*line || to->count == CALLERS)
+        return;
+    int put = snprintf(to->room + to->used, to->size - to->used, ", from %s", line);
+    to->used += (size_t)put < to->size - to->used ? (size_t)put : 0;
+    to->count++;
+}
+
+size_t kz_read_callers(const char *text, char *room, size_t size)
+{
+    Callers to = {.room = room, .size = size};
+    const char *at = text;
+    unsigned long address;
+    int length;
+    room[0] = 0;
+    for (; *at == KZ_FROM[0] && sscanf(at + 1, "%lx%n", &address, &length) == 1; at += 1 + length) {
+        size_t place = look_up(address);
+        if (at != text)
+            add_caller(&to, known[place].line);
+        for (unsigned outer = 0; outer < CALLERS; outer++)
+            add_caller(&to, known[place].outer[outer]);
+    }
+    return (size_t)(at - text);
 }
 
 /* An address stands behind an @, with a space in front. */
@@ -139,6 +190,9 @@ void kz_readable(char *room, size_t size, const char *text)
             int put = is_found ? snprintf(room + used, size - used, " %s", line) : snprintf(room + used, size - used, " 0x%lx", address);
             used += (size_t)put < size - used ? (size_t)put : size - used - 1;
             text += 2 + length;
+        } else if (*text == KZ_FROM[0]) {
+            text += kz_read_callers(text, room + used, size - used);
+            used += strlen(room + used);
         } else if (*text == KZ_MARK[0]) {
             text++;
         } else {

@@ -47,6 +47,13 @@ try run "$room/run"
 # A crash says where it was, and ends the program as it would have.
 printf 'load crash\nattach 0 0 c 100\ncreate 0 new a\nread 0 0 1\n' > "$room/crash.txt"
 try crash "$room/drivers" "$room/crash.txt" 2> /dev/null
+# In a call that the driver makes, too: of nothing, of a copy, of the kit.
+for row in '0 15' '1 18' '2 22'; do
+    read -r which line <<< "$row"
+    printf 'load crashes\nattach 0 0 c 100\ncreate 0 new a\nread 0 %s 1\n' "$which" > "$room/crashes.txt"
+    "$room/drivers" "$room/crashes.txt" 2> /dev/null | grep -q "^CRASH SIGSEGV: filter crashes, instance 0, preoperation, .*, at crashes\.c:$line, from crashes\.c:31, "
+    tell $? "a crash in a call, $which"
+done
 
 # A callback that doesn't come to an end is said with its line: one without a call, one that waits again and again, a timer's; by threads; and where a signal ends the program.
 endless() {

@@ -64,12 +64,11 @@ static void put_request(const KzPlace *place)
         put(place->request);
 }
 
-void kz_put_place(const char *head, const char *what, const void *at)
+bool kz_put_place(const char *head, const char *what, const void *at)
 {
     char marked[256], place[256];
-    if (crash.was_told)
-        return;
-    crash.was_told = 1;
+    if (__atomic_exchange_n(&crash.was_told, 1, __ATOMIC_SEQ_CST))
+        return false;
     put(head);
     if (what) {
         put(" ");
@@ -86,6 +85,7 @@ void kz_put_place(const char *head, const char *what, const void *at)
     }
     put_request(&kz_me->place);
     put("\n");
+    return true;
 }
 
 const char *kz_signal_name(int signal)

@@ -11,6 +11,6 @@ const void *kz_code_at(const void *context);
 /* The same where it was a driver's own code, else where that made a call; who called it is kept in the client's place. */
 const void *kz_driver_at(const void *context);
 /* A line that begins so, and says where the client is; once. Safe in a signal's handler. */
-void kz_put_place(const char *head, const char *what, const void *at);
+bool kz_put_place(const char *head, const char *what, const void *at);
 
 #endif

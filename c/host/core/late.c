@@ -39,7 +39,8 @@ int kz_ending_signal(void)
 
 static void end(const void *at)
 {
-    kz_put_place("ENDLESS", NULL, at);
+    if (!kz_put_place("ENDLESS", NULL, at))
+        sleep(5); /* another thread says so, and ends the program */
     _exit(ENDLESS);
 }
 

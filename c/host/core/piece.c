@@ -20,7 +20,7 @@
 /* There under the address sanitizer alone. */
 extern void __asan_poison_memory_region(const volatile void *start, size_t size) __attribute__((weak));
 extern void __asan_unpoison_memory_region(const volatile void *start, size_t size) __attribute__((weak));
-extern void __ubsan_handle_type_mismatch_v1(void *data, uintptr_t value) __attribute__((weak));
+extern void __ubsan_handle_type_mismatch_v1(void *data, void *value) __attribute__((weak));
 
 /* What may hold a structure that the processor's caches are counted by lies at their boundary, as in the kit. */
 enum { LINE = 64 };

@@ -11,11 +11,13 @@ extern const Elf64_Ehdr __ehdr_start __attribute__((visibility("hidden")));
 
 enum { KNOWN = 256, LONGEST = 80, CALLERS = 2 };
 
-static struct {
+typedef struct {
     uintptr_t address;
     char line[LONGEST];             /* empty if there is none */
     char outer[CALLERS][LONGEST]; /* which its code was put into */
-} known[KNOWN];
+} Known;
+
+static Known known[KNOWN];
 
 uintptr_t kz_in_file(const void *address)
 {
@@ -114,34 +116,35 @@ bool kz_ask_line(const char *reader, const char *program, uintptr_t address, cha
     return line[0];
 }
 
-static void find(uintptr_t address, size_t at)
+static void find(uintptr_t address, Known *one)
 {
     char program[512], all[4096], *rest = all;
     ssize_t length = readlink("/proc/self/exe", program, sizeof program - 1);
     program[length > 0 ? length : 0] = 0;
     ask("addr2line", program, address, all, sizeof all);
-    rest = take_line(rest, known[at].line, LONGEST);
+    rest = take_line(rest, one->line, LONGEST);
     for (unsigned outer = 0; outer < CALLERS; outer++)
-        rest = take_line(rest, known[at].outer[outer], LONGEST);
+        rest = take_line(rest, one->outer[outer], LONGEST);
 }
 
-static size_t look_up(uintptr_t address)
+/* Threads may look for the same at once: what is kept is whole before its address says so. */
+static Known look_up(uintptr_t address)
 {
-    size_t at = (address >> 1) % KNOWN;
-    if (known[at].address == address)
-        return at;
-    memset(known[at].outer, 0, sizeof known[at].outer);
-    if (!kz_is_binary((const void *)address) || !kz_binaries.find_line(address - 1, known[at].line, LONGEST))
-        find(address - 1, at);
-    known[at].address = address;
-    return at;
+    Known *kept = &known[(address >> 1) % KNOWN], one = {0};
+    if (__atomic_load_n(&kept->address, __ATOMIC_ACQUIRE) == address)
+        return *kept;
+    if (!kz_is_binary((const void *)address) || !kz_binaries.find_line(address - 1, one.line, LONGEST))
+        find(address - 1, &one);
+    *kept = one;
+    __atomic_store_n(&kept->address, address, __ATOMIC_RELEASE);
+    return one;
 }
 
 bool kz_find_source(uintptr_t address, char *room, size_t size)
 {
-    size_t at = look_up(address);
-    snprintf(room, size, "%s", known[at].line);
-    return known[at].line[0];
+    Known one = look_up(address);
+    snprintf(room, size, "%s", one.line);
+    return one.line[0];
 }
 
 /* ---- Who called it. */
@@ -168,11 +171,11 @@ size_t kz_read_callers(const char *text, char *room, size_t size)
     int length;
     room[0] = 0;
     for (; *at == KZ_FROM[0] && sscanf(at + 1, "%lx%n", &address, &length) == 1; at += 1 + length) {
-        size_t place = look_up(address);
+        const Known one = look_up(address);
         if (at != text)
-            add_caller(&to, known[place].line);
+            add_caller(&to, one.line);
         for (unsigned outer = 0; outer < CALLERS; outer++)
-            add_caller(&to, known[place].outer[outer]);
+            add_caller(&to, one.outer[outer]);
     }
     return (size_t)(at - text);
 }

@@ -162,20 +162,33 @@ static bool does_anybody_run(unsigned count)
     return false;
 }
 
-/* Once no round begins any more: who stays in the same callback, and isn't through after a while. It sleeps now and then, so that the processor's clock doesn't see it. */
+/* How many seconds of a processor a thread has taken. */
+static double taken_by(const Thread *one)
+{
+    clockid_t clock;
+    struct timespec taken = {0};
+    if (pthread_getcpuclockid(one->thread, &clock) == 0)
+        clock_gettime(clock, &taken);
+    return (double)taken.tv_sec + (double)taken.tv_nsec / 1e9;
+}
+
+/* Once no round begins any more: who stays in the same callback, and isn't through after a while. It sleeps now and then, so that the processor's clock doesn't see it; one that runs all the
+ * time is seen by that, with its line, however little of a processor it gets. */
 static void look_for_endless(unsigned count, double late)
 {
     static uint64_t was_in[THREADS + 1];
-    enum { LONG = 10 };
+    static double had_taken[THREADS + 1];
+    enum { LONG = 10, LONGEST = 200 };
     KZ_INSIDE();
     for (unsigned at = 1; at <= count; at++) {
         const KzClient *client = &load.threads[at].client;
         bool is_in = !load.threads[at].has_ended && client->place.callback != KZ_IN_NOTHING;
-        if (late < 1)
+        if (late < 1) {
             was_in[at] = is_in ? client->place.number : 0;
-        else if (!is_in || was_in[at] != client->place.number)
+            had_taken[at] = is_in ? taken_by(&load.threads[at]) : 0;
+        } else if (!is_in || was_in[at] != client->place.number)
             was_in[at] = 0;
-        if (late < LONG || !was_in[at])
+        if (late < LONG || !was_in[at] || (late < LONGEST && taken_by(&load.threads[at]) - had_taken[at] > late / 25))
             continue;
         kz_me = &load.threads[at].client;
         kz_put_place("ENDLESS", NULL, NULL);

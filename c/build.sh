@@ -91,7 +91,7 @@ is_clang() {
 }
 case " $cflags ${KZAPI:-} " in
 *" -flto"*)
-    say "-flto can't be had: names in a driver's object are changed behind the compiler, and a link-time optimizer would see them as they were"
+    say "-flto isn't available: names in a driver's object are changed behind the compiler, and a link-time optimizer would see them as they were"
     exit 2
     ;;
 esac
@@ -281,7 +281,7 @@ name_of() {
     name=$(basename "$1")
     echo "${name%.*}"
 }
-# A program beside the drivers: its console, its end and its streams are the host's.
+# A driver's program: its console, its end and its streams are the host's.
 programs=0
 streams=()
 for name in printf vprintf fprintf puts fputs putchar fputc fflush fopen fgets fgetc getchar exit; do

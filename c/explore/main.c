@@ -121,7 +121,7 @@ static void put_counts(const Counted *one)
     printf("%.2f s, longest %u; told %llu, races %llu, stuck %llu, crashed %llu\n", one->seconds, one->longest, (unsigned long long)one->counts[TOLD], (unsigned long long)one->counts[RACE],
            (unsigned long long)one->counts[STUCK], (unsigned long long)one->counts[CRASH]);
     if (ex->total.unknown)
-        printf("the search ends here, since %s: what is after it can't be told\n", ex->total.unknown);
+        printf("the search ends here, since %s: what is after it can't be judged\n", ex->total.unknown);
     if (ex->total.full)
         printf("the memory for %s is full: the search ends here, and isn't whole (--memory)\n", ex->total.full);
 }

@@ -145,7 +145,7 @@ static uint64_t find_import(void *given, const char *module, const char *name)
     const void *found = kz_find_export(name);
     if (!found) {
         const char *near = kz_is_known(name) ? NULL : kz_nearest_known(name);
-        fprintf(stderr, "%s: %s of %s %s%s%s: a call of it is told, and answers STATUS_NOT_SUPPORTED\n", image->path, name, module,
+        fprintf(stderr, "%s: %s of %s %s%s%s: a call of it is reported, and answers STATUS_NOT_SUPPORTED\n", image->path, name, module,
                 kz_is_known(name) ? "isn't in this kit" : "is exported by no Windows that is known here", near ? "; the nearest is " : "", near ? near : "");
         found = kz_missing_call(name);
     }

@@ -19,7 +19,7 @@ static bool is_wait(const char *call)
 static void tell(KzMessage message, const char *call, const char *answer)
 {
     if (is_wait(call) && kz_has_others())
-        kz_tell(KZM_UNKNOWN_WAIT, call, "isn't modelled, and others may go on where it waits: what comes after it isn't told rightly");
+        kz_tell(KZM_UNKNOWN_WAIT, call, "isn't modelled, and others may go on while it waits: what comes after it can't be judged");
     if (*answer)
         kz_tell(message, call, "isn't modelled: it answers %s", answer);
     else

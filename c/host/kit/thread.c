@@ -72,7 +72,7 @@ NTSTATUS PsCreateSystemThread(PHANDLE ThreadHandle, ULONG DesiredAccess, POBJECT
     made->thread = kz_new_thread("thread", 4, id, live, made);
     if (!made->thread) {
         free(made);
-        kz_tell(KZM_THREAD, __func__, "more than %u threads run beside the requests: it answers STATUS_INSUFFICIENT_RESOURCES", KZ_THREADS);
+        kz_tell(KZM_THREAD, __func__, "more than %u threads run next to the requests: it answers STATUS_INSUFFICIENT_RESOURCES", KZ_THREADS);
         return STATUS_INSUFFICIENT_RESOURCES;
     }
     kz.thread->last += 4;

@@ -89,7 +89,7 @@ static int explain(const char *id)
 {
     if (kz_explain(id))
         return 0;
-    fprintf(stderr, "%s: no number of what is told, as KZ0101 is one\n", id);
+    fprintf(stderr, "%s: no number of a report, as KZ0101 is one\n", id);
     return 2;
 }
 

@@ -260,7 +260,7 @@ int kz_report_end(const char *name, int status)
 {
     char members[400], text[64];
     snprintf(text, sizeof text, "told %llu", (unsigned long long)kz.counts.told);
-    add_case("nothing is told", kz.counts.told ? text : NULL);
+    add_case("nothing is reported", kz.counts.told ? text : NULL);
     if (report.junit && !is_junit_put(name) && status == 0)
         status = 3;
     snprintf(members, sizeof members, "\"verdict\": \"%s\", \"born\": %llu, \"cleaned\": %llu, \"leaks\": %llu, \"told\": %llu, \"limits\": %llu, \"unmet\": %u, \"status\": %d",

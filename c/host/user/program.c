@@ -163,7 +163,7 @@ uint32_t kz_start_program(const char *name, char **words, uint64_t *process, NTS
     for (; *words; words++)
         add_word(made, *words);
     if (!kz_new_user(made, NULL, NULL)) {
-        kz_tell(KZM_THREAD, "start", "more than %u threads run beside the requests: the program isn't started", KZ_THREADS);
+        kz_tell(KZM_THREAD, "start", "more than %u threads run next to the requests: the program isn't started", KZ_THREADS);
         kz_end_process(made->id);
         free_process(made);
         return KZS_TOO_MANY;

@@ -281,7 +281,7 @@ void *CreateThread(const void *attributes, size_t stack, uint32_t (*start)(void 
     KZ_CALL();
     KzUser *made = kz_new_user(kz_user()->process, start, parameter);
     if (!made) {
-        kz_tell(KZM_THREAD, __func__, "more than %u threads run beside the requests: it fails", KZ_THREADS);
+        kz_tell(KZM_THREAD, __func__, "more than %u threads run next to the requests: it fails", KZ_THREADS);
         kz_failed(8);
         return NULL;
     }

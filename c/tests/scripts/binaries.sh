@@ -108,7 +108,7 @@ laid_out() {
     ! grep -E 'Sanitizer|runtime error' "$room/err" || return 1
     case $status in
     3) [ "$(grep -c "can't be loaded: it is a program or a library of user mode" "$room/err")" = 1 ] ;;
-    1) sed -n "s/.*\.sys: \([^ ]*\) of .*: a call of it is told, and answers STATUS_NOT_SUPPORTED\$/\1/p" "$room/err" | sort -u | diff <(imports "$2" | grep -vxFf "$room/here") - ;;
+    1) sed -n "s/.*\.sys: \([^ ]*\) of .*: a call of it is reported, and answers STATUS_NOT_SUPPORTED\$/\1/p" "$room/err" | sort -u | diff <(imports "$2" | grep -vxFf "$room/here") - ;;
     *) false ;;
     esac
 }

@@ -2,17 +2,17 @@
 # c/tests/scripts/check.sh [PART ..] (make -C c check PART='..') : the tests of the C half, all or those of some parts:
 #
 #   host      the host: stored requests through drivers, expectations, reports, CMake, random requests
-#   legal     right drivers, of which nothing is told: in order, under every schedule, by threads
+#   legal     right drivers, of which nothing is reported: in order, under every schedule, by threads
 #   misuse    drivers with mistakes, under threads and schedules
 #   explore   schedules
 #   spread    a search in parts, by jobs, by GNU parallel and by shards, and one that is interrupted
 #   threads   drivers under real threads
-#   names     names, and the majors that ride on the manager's operations: beside a model, under schedules and refusals, by threads
+#   names     names, and the majors that ride on the manager's operations: compared with a model, under schedules and refusals, by threads
 #   programs  samples with programs, threads, processes: schedules, refusals, threads
 #   cache     what is built without proofs, and who takes it from where: by stand-ins of the kit
 #   order     the lists that all managers are held to
-#   image     binaries of drivers, by the toolchains that are here: each sample beside what its source prints, exceptions, files that can't run, changed files
-#   headers   constants, structures and prototypes beside those of mingw-w64, where its headers are there: by its name alone, and in thorough.sh
+#   image     binaries of drivers, by the toolchains that are here: each sample compared with what its source prints, exceptions, files that can't run, changed files
+#   headers   constants, structures and prototypes compared with those of mingw-w64, if its headers are there: by its name alone, and in thorough.sh
 #   mount     the mount above fltd
 #   serve     the server of drivers: the same frames as fltd, and the mount above it
 #

@@ -233,8 +233,8 @@ for kind in "$@"; do
     tell $? "jumps to the kit by $kind"
     # What isn't here is said as the driver is loaded.
     "$RUN" "$room/$kind/inlines.sys" $tests/image/inlines.txt 2>&1 > "$room/out" | sed 's/.*inlines.sys: //' | LC_ALL=C sort > "$room/missing"
-    printf '%s\n' "HeadlessDispatch of ntoskrnl.exe isn't in this kit: a call of it is told, and answers STATUS_NOT_SUPPORTED" \
-        'RtlInitUnicodeStrings of ntoskrnl.exe is exported by no Windows that is known here; the nearest is RtlInitUnicodeString: a call of it is told, and answers STATUS_NOT_SUPPORTED' |
+    printf '%s\n' "HeadlessDispatch of ntoskrnl.exe isn't in this kit: a call of it is reported, and answers STATUS_NOT_SUPPORTED" \
+        'RtlInitUnicodeStrings of ntoskrnl.exe is exported by no Windows that is known here; the nearest is RtlInitUnicodeString: a call of it is reported, and answers STATUS_NOT_SUPPORTED' |
         diff - "$room/missing"
     tell $? "imports that aren't here by $kind"
     # The IRQL is read and set without a trap, where there is room for a jump: at all places but one.

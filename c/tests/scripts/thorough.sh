@@ -3,12 +3,12 @@
 #
 #   host        160,000 random requests through all samples, with the part host
 #   explore     each sample with four clients, under every schedule with at most two preemptions
-#   lines       lines of drivers by gcc and clang at several optimizations, and the headers beside those of mingw-w64
+#   lines       lines of drivers by gcc and clang at several optimizations, and the headers compared with those of mingw-w64
 #   threads     each sample for ten seconds with eight threads
-#   names       3,000 random sessions of names beside a model of their own
+#   names       3,000 random sessions of names, compared with a model of their own
 #   programs    samples with programs of their own, as both
 #   image       a minute of changed binaries under the sanitizers, with the part image
-#   binaries    all samples as binaries in the words beside plain requests, and below a mount; the binaries of Wine, where they are here: ten minutes
+#   binaries    all samples as binaries in all words, and below a mount; the binaries of Wine, if they are here: ten minutes
 #   libfuzzer   libFuzzer over a driver with a mistake, which it must find, and over one without
 #   real        some seventy real programs above the mount of each server: four filters of fltd, the filter of own_server, which denies deletions, and four drivers in C: ten minutes
 #   release     a release, installed in a room where neither this checkout nor the kit is: a driver is built, explored and tested there

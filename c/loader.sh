@@ -33,7 +33,7 @@ if [ ! -w "$folder" ]; then
     }
     program=$folder/kazdrin-image${kind:+-$kind}
 fi
-exec 9> "$folder/.lock-image"
+exec 9> "$folder/.lock-image$kind"
 flock 9
 if ! is_made; then
     KAZDRIN_LIB=$library "$here/build.sh" ${kind:+"--$kind"} --image "$program.new" 9>&- >&2

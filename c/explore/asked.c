@@ -34,21 +34,46 @@ void ex_put_refused(void)
     }
 }
 
+/* Nothing of any client was tried, or one names a handle that isn't there: such a search is no success. */
+bool ex_is_idle(void)
+{
+    bool is_idle = true, is_absent = false;
+    for (size_t at = 0; at < ex->scenario.clients_count; at++) {
+        uint64_t refused = ex->asked[at + 1].made & ~ex->asked[at + 1].done;
+        for (size_t request = 0; request < ex->scenario.clients[at].count; request++)
+            is_absent |= (refused >> request & 1) && ex->asked[at + 1].status[request] == KZS_NO_HANDLE;
+        is_idle &= refused && !ex->asked[at + 1].done;
+    }
+    return is_absent || (is_idle && ex->scenario.clients_count);
+}
+
+/* Of each client what was made and done, and the status of each request that wasn't. */
 void ex_write_asked(FILE *to)
 {
-    for (unsigned client = 1; client <= RUNNERS; client++)
-        if (ex->asked[client].made)
-            fprintf(to, "asked %u %llx %llx\n", client, (unsigned long long)ex->asked[client].made, (unsigned long long)ex->asked[client].done);
+    for (unsigned client = 1; client <= RUNNERS; client++) {
+        uint64_t refused = ex->asked[client].made & ~ex->asked[client].done;
+        if (!ex->asked[client].made)
+            continue;
+        fprintf(to, "asked %u %llx %llx", client, (unsigned long long)ex->asked[client].made, (unsigned long long)ex->asked[client].done);
+        for (unsigned request = 0; request < 64; request++)
+            if (refused >> request & 1)
+                fprintf(to, " %u:%u", request, ex->asked[client].status[request]);
+        fprintf(to, "\n");
+    }
 }
 
 /* Parts are added up. */
 bool ex_read_asked(const char *line)
 {
-    unsigned client;
+    unsigned client, request;
+    uint32_t refused;
     unsigned long long made, done;
-    if (sscanf(line, "asked %u %llx %llx", &client, &made, &done) != 3 || client > RUNNERS)
+    int used;
+    if (sscanf(line, "asked %u %llx %llx%n", &client, &made, &done, &used) != 3 || client > RUNNERS)
         return false;
     ex->asked[client].made |= made;
     ex->asked[client].done |= done;
+    for (line += used; sscanf(line, " %u:%u%n", &request, &refused, &used) == 2 && request < 64; line += used)
+        ex->asked[client].status[request] = refused;
     return true;
 }

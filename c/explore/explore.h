@@ -363,6 +363,7 @@ void ex_add_kind(const Kind *more);
 /* asked.c: requests that are refused in each schedule, of which nothing is tried. */
 void ex_note_answer(size_t request, uint32_t status, bool is_done);
 void ex_put_refused(void);
+bool ex_is_idle(void);
 void ex_write_asked(FILE *to);
 bool ex_read_asked(const char *line);
 

@@ -296,6 +296,13 @@ static int status(void)
     return ex->total.full || ex->total.unknown || !ex->total.is_whole ? 4 : 0;
 }
 
+/* Where nothing was found it may be that nothing was tried. */
+static int status_of_search(void)
+{
+    int found = status();
+    return found ? found : ex_is_idle();
+}
+
 static int play(const Asked *asked)
 {
     ex->search.replay = asked->replay;
@@ -348,7 +355,7 @@ static int end_search(const Asked *asked)
         ex_shrink();
     ex_report();
     ex_put_refused();
-    return asked->page ? put_page_of_first(asked->page) : status();
+    return asked->page ? put_page_of_first(asked->page) : status_of_search();
 }
 
 /* What was merged is shown as if it were searched here. */
@@ -389,7 +396,7 @@ static int merge(const Asked *asked)
     put_merged();
     ex_report();
     ex_put_refused();
-    return ended ? ended : status();
+    return ended ? ended : status_of_search();
 }
 
 /* The search stops at its next run. A second time the program itself does. */

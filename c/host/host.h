@@ -82,6 +82,7 @@ struct _FLT_FILTER {
     char altitude[68]; /* where it is attached by itself; empty if it isn't */
     DRIVER_OBJECT object;
     UNICODE_STRING registry_path;
+    PFLT_FILTER refused; /* the next of those that were never registered: what is told of them needs their names */
 };
 
 struct _FLT_VOLUME {
@@ -145,7 +146,7 @@ typedef struct {
     const KzDriver *drivers;
     size_t drivers_count;
     uint32_t helpers; /* a bit for each that is busy */
-    PFLT_FILTER filters[16];
+    PFLT_FILTER filters[16], refused;
     PFLT_VOLUME volumes[8];
     PFLT_INSTANCE *instances;
     size_t filters_count, volumes_count, instances_count;

@@ -424,7 +424,8 @@ uint32_t kz_load_inside(const char *name, const char *altitude, uint64_t *number
         kz_tell_pools(filter);
         kz_give_back(filter->object.DriverName.Buffer);
         kz_give_back(filter->registry_path.Buffer);
-        free(filter);
+        filter->refused = kz.refused;
+        kz.refused = filter;
         return status;
     }
     *number = filter->id;

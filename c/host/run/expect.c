@@ -119,6 +119,7 @@ bool kz_expect(const char *words)
     if (!is_held && (!*value || (expects_one_word(kind) && strpbrk(value, " \t"))))
         return kz_refuse_word("expect %s has %s", kind, expects_one_word(kind) ? "one word behind it, and each expectation a line of its own" : "words behind it");
     kz_seen.expected++;
+    kz_seen.looked_for += strcmp(kind, "callbacks") == 0;
     bool is_right = is_held ? kz_seen.reply.held : is_met(kind, value, now, sizeof now);
     if (is_held)
         snprintf(now, sizeof now, "status %u", kz_seen.reply.status);

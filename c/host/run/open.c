@@ -60,6 +60,11 @@ static void free_all(void)
     kz_free_modules();
     for (size_t at = 0; at < kz.filters_count; at++)
         free(kz.filters[at]);
+    while (kz.refused) {
+        PFLT_FILTER next = kz.refused->refused;
+        free(kz.refused);
+        kz.refused = next;
+    }
     for (size_t at = 0; at < kz.volumes_count; at++)
         free(kz.volumes[at]);
     for (size_t at = 0; at < kz.instances_count; at++)

@@ -19,6 +19,7 @@ static const KzReply bad = {.status = KZS_BAD_REQUEST};
 /* Of a file's run: what would have all that comes behind it pass for nothing. */
 static struct {
     unsigned requests;  /* how many there were */
+    unsigned of_files;  /* of these */
     bool is_refused;    /* the last one was a load, an attach or a mount which was refused, or was of a handle that isn't there */
     unsigned line;      /* where one was that no expectation stands behind; 0 if there is none */
     char words[200];
@@ -81,6 +82,7 @@ static KzReply asked_of(const KzRequest *one, char **words, size_t count)
     if (!one || count < one->least || count > one->most)
         return kz_wrong();
     KzReply reply = one->ask(words);
+    seen.of_files += one->takes_handle || strcmp(one->name, "create") == 0;
     if (is_of_file() && !reply.held && reply.status == KZS_NO_HANDLE)
         kz_note_refused(reply.status);
     return reply;
@@ -188,21 +190,30 @@ static void request_or_bad(const char *line, FILE *file)
     say_bad();
 }
 
-/* A driver that began to filter, of which nothing was called: none of the file's requests came to it, and nothing was expected of it either. */
-static const char *idle_driver(void)
+/* A driver that began to filter, of which nothing was called: none of the file's requests came to it. It is meant so where they are of no file and something of
+ * them is expected, or where it is expected which callbacks there are. Where they are of files, that its instances were set up isn't enough. */
+static PFLT_FILTER idle_filter(void)
 {
-    for (size_t at = 0; at < kz.filters_count && !kz_seen.expected; at++) {
+    bool is_meant = kz_seen.expected && (!seen.of_files || kz_seen.looked_for);
+    uint32_t called = kz_seen.called | (seen.of_files ? 0 : kz_seen.set_up);
+    for (size_t at = 0; at < kz.filters_count && !is_meant; at++) {
         PFLT_FILTER filter = kz.filters[at];
         const FLT_OPERATION_REGISTRATION *first = filter->registration.OperationRegistration;
         bool is_asked = filter->is_started && first && first->MajorFunction != IRP_MJ_OPERATION_END;
-        if (is_asked && filter->id < 32 && !(kz_seen.called >> filter->id & 1))
-            return filter->driver->name;
+        if (is_asked && filter->id < 32 && !(called >> filter->id & 1))
+            return filter;
     }
     return NULL;
 }
 
+static void tell_idle(const char *name, const char *driver, bool was_set_up)
+{
+    const char *but = was_set_up ? " but those of its instances: see whether they were attached" : ": attach it";
+    fprintf(stderr, "%s: no callback of %s was called%s, and ask for what it registered\n", name, driver, but);
+}
+
 /* A run that tried nothing, or not what was meant, is no success. */
-static int judged(int status, const char *name, const char *idle)
+static int judged(int status, const char *name, const char *idle, bool was_set_up)
 {
     if (status != 0)
         return status;
@@ -211,7 +222,7 @@ static int judged(int status, const char *name, const char *idle)
     else if (seen.line)
         fprintf(stderr, "%s:%u: `%s` was refused, and no `expect` behind it says so\n", name, seen.line, seen.words);
     else if (idle)
-        fprintf(stderr, "%s: no callback of %s was called: attach it, and ask for what it registered\n", name, idle);
+        tell_idle(name, idle, was_set_up);
     return !seen.requests || seen.line || idle ? 1 : 0;
 }
 
@@ -235,15 +246,18 @@ static int run_file(const KzDriver *drivers, size_t count, FILE *file, const cha
     while (!seen.is_wrong && !is_other && fgets(seen.text, sizeof seen.text, file)) {
         kz_next_line();
         is_other = is_other_text(seen.text, file, name);
+        bool is_marked = kz_line() == 1 && strncmp(seen.text, "\xef\xbb\xbf", 3) == 0; /* as some editors begin a text of UTF-8 */
         if (!is_other)
-            request_or_bad(seen.text, file);
+            request_or_bad(seen.text + (is_marked ? 3 : 0), file);
     }
     if (seen.is_wrong)
         tell_wrong(name, seen.text);
     note_unexpected();
-    const char *idle = idle_driver();
+    PFLT_FILTER filter = idle_filter();
+    const char *idle = filter ? filter->driver->name : NULL;
+    bool was_set_up = filter && kz_seen.set_up >> filter->id & 1;
     int status = kz_close();
-    return kz_report_end(name, ferror(file) ? 3 : seen.is_wrong || is_other ? 2 : judged(status, name, idle));
+    return kz_report_end(name, ferror(file) ? 3 : seen.is_wrong || is_other ? 2 : judged(status, name, idle, was_set_up));
 }
 
 int kz_run_file(const KzDriver *drivers, size_t count, FILE *file)

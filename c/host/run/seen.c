@@ -35,7 +35,7 @@ const char *kz_command(void)
 
 void kz_forget_notes(void)
 {
-    kz_seen.line = kz_seen.request_line = kz_seen.unmet = kz_seen.expected = kz_seen.called = 0;
+    kz_seen.line = kz_seen.request_line = kz_seen.unmet = kz_seen.expected = kz_seen.looked_for = kz_seen.called = kz_seen.set_up = 0;
     kz_seen.file = NULL;
     kz_seen.told_count = 0;
     kz_seen.command[0] = kz_seen.callbacks[0] = 0;
@@ -67,13 +67,30 @@ const char *kz_callback_word(KzCallback callback)
     return words[callback];
 }
 
+static void note_called(KzCallback callback, uint32_t filter)
+{
+    switch (callback) {
+    case KZ_IN_ENTRY:
+    case KZ_IN_UNLOAD:
+        break;
+    case KZ_IN_SETUP:
+    case KZ_IN_QUERY:
+    case KZ_IN_START:
+    case KZ_IN_COMPLETE:
+        kz_seen.set_up |= filter;
+        break;
+    default:
+        kz_seen.called |= filter;
+    }
+}
+
 void kz_note_callback(KzCallback callback, PFLT_FILTER filter)
 {
     char members[256], name[128];
     if (!is_watched() || callback == KZ_IN_NOTHING || !filter)
         return;
-    if (callback != KZ_IN_ENTRY && callback != KZ_IN_UNLOAD && filter->id < 32)
-        kz_seen.called |= 1U << filter->id;
+    if (filter->id < 32)
+        note_called(callback, 1U << filter->id);
     size_t used = strlen(kz_seen.callbacks);
     snprintf(kz_seen.callbacks + used, sizeof kz_seen.callbacks - used, "%s%s:%s", used ? " " : "", kz_callback_word(callback), filter->driver->name);
     if (!kz_is_json())

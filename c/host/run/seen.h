@@ -6,8 +6,9 @@
 
 typedef struct {
     const char *file; /* whose requests are played; NULL if it is none */
-    unsigned line, request_line, unmet, expected;
-    uint32_t called; /* filters of which more was called than their loading and unloading, a bit each */
+    unsigned line, request_line, unmet, expected, looked_for; /* of the expectations those of callbacks */
+    uint32_t called; /* filters of which more was called than their loading and unloading, and the making and the end of their instances; a bit each */
+    uint32_t set_up; /* those of which these callbacks of instances were called */
     char command[256], callbacks[2048];
     KzReply reply;
     NTSTATUS other; /* of the reply: the kit's own, where it is another one */

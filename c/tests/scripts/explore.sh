@@ -182,10 +182,20 @@ word "$scenarios/counter.txt: the scenario is other.txt, and there is one" other
 sed '/^client/d' $scenarios/counter.txt > "$room/refused.txt"
 printf 'client r: read 7 0 8; attach 0 0 c 100\nclient s: read 0 0 8; read 7 0 8\n' >> "$room/refused.txt"
 "$program" --bound 1 "$room/refused.txt" > "$room/out"
-[ $? = 0 ] && [ "$(grep -c '^client r: refused in each schedule, with status [0-9]*: ' "$room/out")" = 2 ] &&
+[ $? = 1 ] && [ "$(grep -c '^client r: refused in each schedule, with status [0-9]*: ' "$room/out")" = 2 ] &&
     [ "$(grep 'so nothing of it was tried$' "$room/out")" = 'client r: each of its requests is refused in each schedule, so nothing of it was tried' ] &&
     [ "$(grep -c '^client s: ' "$room/out")" = 1 ] && grep -q '^client s: refused .*: read 7 0 8$' "$room/out"
 tell $? "requests that are refused in each schedule"
+"$program" --bound 1 --jobs 2 "$room/refused.txt" | grep '^client ' | diff - <(grep '^client ' "$room/out")
+tell $? "requests that are refused in each schedule, by jobs"
+# Where only some are refused, for another reason, something was tried: that is right. Where each of each client is, nothing was.
+sed -i -e 's/^client r: .*/client r: attach 0 0 c 100/' -e 's/^client s: .*/client s: read 0 0 8/' "$room/refused.txt"
+"$program" --bound 1 "$room/refused.txt" > "$room/out" && grep -q '^client r: each of its requests is refused' "$room/out"
+tell $? "a client of which nothing is tried beside one"
+sed -i -e 's/^client s: .*/client s: attach 0 0 c 100/' "$room/refused.txt"
+"$program" --bound 1 "$room/refused.txt" > "$room/out"
+[ $? = 1 ] && [ "$(grep -c 'so nothing of it was tried$' "$room/out")" = 2 ]
+tell $? "a search that tries nothing"
 
 # Which calls of the kit are points.
 $tests/scripts/points.py

@@ -212,6 +212,16 @@ tell $? "a driver of which nothing is called"
 printf 'load ctx\nexpect status 0\nunload 0\n' > "$room/green.txt"
 "$room/drivers" "$room/green.txt" > "$room/green.out" 2> "$room/green.err" && [ ! -s "$room/green.err" ]
 tell $? "a driver of which the loading is expected"
+# Nor is one whose requests for files no driver hears of, whatever is expected of their answers; that no callback was called can be expected.
+printf 'load ctx\ncreate 0 new a\nwrite 0 0 61\nexpect status 0\n' > "$room/green.txt"
+says 1 'green.txt: no callback of ctx was called: attach it, and ask for what it registered' "$room/green.txt"
+tell $? "requests that no driver hears of"
+printf 'load ctx\ncreate 0 new a\nexpect callbacks none\n' > "$room/green.txt"
+"$room/drivers" "$room/green.txt" > "$room/green.out" 2> "$room/green.err" && [ ! -s "$room/green.err" ]
+tell $? "callbacks that are to be none"
+printf 'mount u fs=FAT\nload quota\nattach quota u q 200\nexpect status 11\ncreate u new a\nexpect status 0\n' > "$room/green.txt"
+says 1 'green.txt: no callback of quota was called but those of its instances: ' "$room/green.txt"
+tell $? "an instance that its driver refused"
 printf 'load ctx\nexpect status 0 info 0\n' > "$room/green.txt"
 says 2 'green.txt:2: not understood: expect status has one word behind it, and each expectation a line of its own' "$room/green.txt"
 tell $? "two expectations in a line"
@@ -224,6 +234,9 @@ tell $? "requests in UTF-16"
 printf 'load ctx\r\nattach 0 0 c 100\r\ncreate 0 new a as h\r\nexpect status 0\r\nclose h\r\n' > "$room/green.txt"
 "$room/drivers" "$room/green.txt" > "$room/green.out" 2> "$room/green.err" && [ ! -s "$room/green.err" ]
 tell $? "lines that end as those of DOS"
+printf '\357\273\277load ctx\nattach 0 0 c 100\ncreate 0 new a as h\nexpect status 0\nclose h\n' > "$room/green.txt"
+"$room/drivers" "$room/green.txt" > "$room/green.out" 2> "$room/green.err" && [ ! -s "$room/green.err" ]
+tell $? "requests behind the mark of UTF-8"
 printf '# no request\n\n' > "$room/green.txt"
 says 1 'there is no request in it' "$room/green.txt"
 tell $? "a file with no request"
@@ -345,6 +358,21 @@ tell $? "calls that no kernel has"
 c/build.sh "$room/empty" "$room/a fresh folder/build/none" 2> /dev/null
 [ $? != 0 ] && [ ! -e "$room/empty" ]
 tell $? "a driver that isn't there"
+
+# A tool or a file that isn't there is named in one sentence.
+missing() {
+    "${@:2}" > /dev/null 2> "$room/missing.err"
+    [ $? = 2 ] && [ "$(wc -l < "$room/missing.err")" = 1 ] && grep -q ": there is no $1" "$room/missing.err" || { cat "$room/missing.err"; false; }
+    tell $? "no $1"
+}
+mkdir "$room/few"
+for tool in ar awk basename bash cat cc dirname env find grep head id ld mkdir mktemp nm nproc objcopy readlink rm sed sh sha256sum touch tr uname xargs; do
+    ln -s "$(command -v $tool)" "$room/few/"
+done
+missing no-cc env CC=no-cc c/build.sh "$room/none" c/samples/ctx.c
+missing make env -u CC PATH="$room/few" c/build.sh "$room/none" c/samples/ctx.c
+missing nosuch.c c/build.sh "$room/none" nosuch.c
+missing "folder $room/nofolder" c/build.sh "$room/nofolder/none" c/samples/ctx.c
 
 # Random requests through all samples. Those whose own threads and requests wait for what other drivers hold play apart from those that never do.
 never=()

@@ -42,6 +42,7 @@ try 'it is installed' dpkg -i /tmp/kazdrin.deb
 as_user 'its version' 'flt --version | grep -q "^Kazdrin [0-9]"'
 as_user 'an example' 'flt example three_altitudes --explain | grep -q "asks for its postoperation"'
 as_user 'a filter in Rattle' 'flt example own_filter | grep -q "^contexts born 1, cleaned 1, leaked references 0"'
+as_user 'the usage of its programs' 'for name in fltc fltd own_server; do flt run $name --help | grep -q "^usage: $name " || exit 1; done; flt run fltscript --help | grep -q "flt script"'
 as_user 'its own tests' 'flt test | grep -q "a sample is built"'
 as_user 'an exploration of a script' 's=0; flt explore /usr/share/kazdrin/tools/scenarios/hold_detach.txt > found.flt || s=$?; [ $s = 5 ] && grep -q stuck found.flt'
 as_user 'a command of checkouts is refused' 's=0; flt prepare 2> said || s=$?; [ $s = 2 ] && grep -q "needs a checkout" said'

@@ -26,6 +26,11 @@ build levels --image --main $tests/image/levels.c "$room/levels"
 $tests/image/indirect.sh "$(c/libraries.sh host)"
 tell $? "calls through pointers"
 
+# What a binary and the host share, and mingw-w64's headers haven't.
+mapfile -t words < <(c/build.sh --flags)
+${CC:-cc} "${words[@]}" -fsyntax-only $tests/image/layouts.c
+tell $? "structures of the filter manager"
+
 # The reader: changed files, in all of the ways that a seed gives, and what it refuses.
 if has_sanitizers address,undefined; then
     ${CC:-cc} -std=gnu11 -fshort-wchar -O1 -g -Wall -Wextra -Werror -fsanitize=address,undefined -fno-sanitize-recover=undefined -Ic -Ic/include -o "$room/reader" \

@@ -26,6 +26,8 @@ int kz_run(const KzDriver *drivers, size_t count, const char *const *requests, s
  * file can't be read. */
 int kz_run_file(const KzDriver *drivers, size_t count, FILE *requests);
 int kz_run_path(const KzDriver *drivers, size_t count, const char *path);
+/* It is run under two fills of memory that nobody wrote: what differs is told, and then the answer is 5. */
+int kz_run_filled(const KzDriver *drivers, size_t count, const char *path);
 
 /* A load: so many threads carry out the clients of a scenario, each again and again, for so many seconds, and say what is told meanwhile. The answer is that of kz_run, or
  * 6 where nobody could go on any more. */

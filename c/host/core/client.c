@@ -9,6 +9,7 @@
 #include "core/late.h"
 #include "core/module.h"
 #include "core/said.h"
+#include "core/unwritten.h"
 
 #include <stdarg.h>
 
@@ -84,6 +85,7 @@ void kz_end_inside(unsigned *depth)
         return;
     let_code_go_on();
     kz_scheduler->unlock();
+    kz_fill_stack();
 }
 
 void kz_end_call(unsigned *depth)
@@ -110,7 +112,9 @@ unsigned kz_let_function(const char *name, const void *function)
     kz_me->place.function = function;
     if (!kz_scheduler->has_pages)
         kz_look_at_code((const uint8_t *)function + 1);
-    return step_out(name);
+    unsigned depth = step_out(name);
+    kz_fill_stack();
+    return depth;
 }
 
 void kz_driver_returned(unsigned depth, const char *name)

@@ -43,6 +43,7 @@ enum {
     KZM_NO_BYTES = 137,
     KZM_PROGRAMS_HANDLE = 138,
     KZM_READ_PAST = 139,
+    KZM_UNWRITTEN = 140,
     /* Memory. */
     KZM_POOL_LEAK = 141,
     KZM_NO_POOL = 142,

@@ -6,6 +6,7 @@
 #include "core/irql.h"
 #include "core/piece.h"
 #include "core/told.h"
+#include "core/unwritten.h"
 
 /* Paged memory isn't for DISPATCH_LEVEL. */
 static PVOID take_pool(const char *call, bool is_paged, SIZE_T size, int fill, ULONG tag)
@@ -23,7 +24,7 @@ static PVOID take_pool(const char *call, bool is_paged, SIZE_T size, int fill, U
 PVOID ExAllocatePoolWithTag(POOL_TYPE PoolType, SIZE_T NumberOfBytes, ULONG Tag)
 {
     KZ_INSIDE();
-    return take_pool(__func__, PoolType & PagedPool, NumberOfBytes, 0xcd, Tag);
+    return take_pool(__func__, PoolType & PagedPool, NumberOfBytes, kz_unwritten(0xcd), Tag);
 }
 
 PVOID ExAllocatePool(POOL_TYPE PoolType, SIZE_T NumberOfBytes)
@@ -53,7 +54,7 @@ PVOID ExAllocatePoolZero(POOL_TYPE PoolType, SIZE_T NumberOfBytes, ULONG Tag)
 PVOID ExAllocatePool2(POOL_FLAGS Flags, SIZE_T NumberOfBytes, ULONG Tag)
 {
     KZ_INSIDE();
-    return take_pool(__func__, Flags & POOL_FLAG_PAGED, NumberOfBytes, Flags & POOL_FLAG_UNINITIALIZED ? 0xcd : 0, Tag);
+    return take_pool(__func__, Flags & POOL_FLAG_PAGED, NumberOfBytes, Flags & POOL_FLAG_UNINITIALIZED ? kz_unwritten(0xcd) : 0, Tag);
 }
 
 /* Only what a file object's name lies in may be freed by a driver as well. */

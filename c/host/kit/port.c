@@ -10,6 +10,7 @@
 #include "core/place.h"
 #include "core/state.h"
 #include "core/told.h"
+#include "core/unwritten.h"
 #include "lib/letters.h"
 #include "manager/context.h"
 #include "manager/hand.h"
@@ -253,6 +254,7 @@ NTSTATUS kz_send_to_filter(PFLT_PORT port, void *in, ULONG in_length, void *out,
     come_back(inside, "message returns");
     if (out_length)
         memcpy(out, own_out, out_length);
+    kz_say_given("OutputBuffer", own_out, *returned);
     kz_give_back(own_in);
     kz_give_back(own_out);
     port->running--;
@@ -347,6 +349,7 @@ NTSTATUS FltSendMessage(PFLT_FILTER Filter, PFLT_PORT *ClientPort, PVOID SenderB
     kz_scheduler->touch(port, 0, KZT_TAKES);
     KzPortMessage message = {.port = port, .id = ++kz.port->last, .bytes = SenderBuffer, .length = SenderBufferLength, .reply = ReplyBuffer, .room = ReplyBuffer && ReplyLength ? *ReplyLength : 0};
     int64_t milliseconds = milliseconds_of(Timeout);
+    kz_say_given("FltSendMessage", SenderBuffer, SenderBufferLength);
     add(&message);
     kz_wait_for(is_over, &message, milliseconds, ReplyBuffer ? "FltSendMessage, which is to be answered" : "FltSendMessage");
     take_out(&message);

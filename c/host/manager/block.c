@@ -4,14 +4,15 @@
 #include "core/memory.h"
 #include "core/operation.h"
 #include "core/piece.h"
+#include "core/unwritten.h"
 
 #include <stdlib.h>
 
 /* Memory that lives as long as its operation, between red zones. */
-static void *take(KzOp *op, KzMemory kind, size_t size)
+static void *take(KzOp *op, KzMemory kind, size_t size, int fill)
 {
     KzBlock *block = kz_memory(sizeof *block);
-    *block = (KzBlock){op->blocks, kz_take_memory(kind, size, 0, 0)};
+    *block = (KzBlock){op->blocks, kz_take_memory(kind, size, fill, 0)};
     op->blocks = block;
     if (!block->bytes) {
         fprintf(stderr, "no memory\n");
@@ -22,17 +23,22 @@ static void *take(KzOp *op, KzMemory kind, size_t size)
 
 void *kz_block(KzOp *op, size_t size)
 {
-    return take(op, KZK_BUFFER, size);
+    return take(op, KZK_BUFFER, size, 0);
+}
+
+void *kz_output_block(KzOp *op, size_t size)
+{
+    return take(op, KZK_BUFFER, size, kz_unwritten(0));
 }
 
 void *kz_caller_block(KzOp *op, size_t size)
 {
-    return take(op, KZK_CALLER, size);
+    return take(op, KZK_CALLER, size, kz_unwritten(0));
 }
 
 void *kz_input_block(KzOp *op, size_t size)
 {
-    return take(op, KZK_INPUT, size);
+    return take(op, KZK_INPUT, size, kz_unwritten(0));
 }
 
 FLT_CALLBACK_DATA *kz_new_data(PETHREAD thread, PFLT_IO_PARAMETER_BLOCK iopb)

@@ -5,6 +5,8 @@
 #include "host.h"
 
 void *kz_block(KzOp *op, size_t size);
+/* What an answer comes into. */
+void *kz_output_block(KzOp *op, size_t size);
 /* What a program gave, or gets its answer in: with pages of its own. */
 void *kz_caller_block(KzOp *op, size_t size);
 /* Room for what the system copies of it. */

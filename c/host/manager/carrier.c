@@ -8,6 +8,7 @@
 #include "core/state.h"
 #include "core/status.h"
 #include "core/told.h"
+#include "core/unwritten.h"
 #include "filesystem/control.h"
 #include "filesystem/entries.h"
 #include "filesystem/rename.h"
@@ -242,10 +243,21 @@ void kz_forget_carried_swap(KzOp *op, PFLT_INSTANCE instance)
     op->shown.parameters = *op->iopb;
 }
 
-/* ---- The file system's answer. */
+/* ---- The file system's answer. What lies between its entries isn't the driver's: it is zeros where a run looks for what nobody wrote. */
+static void write_room(const KzOp *op)
+{
+    bool is_query = op->carried->output && (op->carried->major == IRP_MJ_QUERY_INFORMATION || op->carried->major == IRP_MJ_DIRECTORY_CONTROL);
+    ULONG length = 0;
+    PVOID room = kz_unwritten(0) && is_query ? buffer_of(op, &op->carried->now, &length) : NULL;
+    const KzPiece *piece = room ? kz_piece_of(room) : NULL;
+    if (piece && piece->size >= length)
+        memset(room, 0, length);
+}
+
 NTSTATUS kz_answer_carried(KzOp *op)
 {
     op->carried->information = 0;
+    write_room(op);
     switch (op->carried->major) {
     case IRP_MJ_QUERY_INFORMATION:
         return kz_answer_query(op, &op->carried->now);

@@ -14,6 +14,7 @@
 #include "core/state.h"
 #include "core/status.h"
 #include "core/told.h"
+#include "core/unwritten.h"
 #include "manager/registration.h"
 #include "manager/taken.h"
 
@@ -201,7 +202,7 @@ static PVOID new_body(const FLT_CONTEXT_REGISTRATION *how, SIZE_T size, POOL_TYP
 {
     if (how->ContextAllocateCallback)
         return KZ_CALL_DRIVER(how->ContextAllocateCallback, pool, size, how->ContextType);
-    PVOID made = kz_take_memory(KZK_CONTEXT, size, 0xcc, how->PoolTag); /* as in the kit, it isn't zeroed */
+    PVOID made = kz_take_memory(KZK_CONTEXT, size, kz_unwritten(0xcc), how->PoolTag); /* as in the kit, it isn't zeroed */
     if (pool & PagedPool)
         kz_own(made, KZ_PAGED, 0);
     return made;

@@ -15,7 +15,7 @@ static void *input(KzOp *op, const KzAsked *asked)
 static void *output(KzOp *op, const KzAsked *asked)
 {
     op->carried->output_size = asked->room;
-    return op->carried->output = kz_block(op, asked->room);
+    return op->carried->output = kz_output_block(op, asked->room);
 }
 
 static PUNICODE_STRING pattern(KzOp *op, const char *text)
@@ -39,7 +39,7 @@ static void fill_control(KzOp *op, const KzAsked *asked, FLT_PARAMETERS *now)
     now->FileSystemControl.Buffered.FsControlCode = asked->code;
     now->FileSystemControl.Buffered.SystemBuffer = buffer;
     if (METHOD_FROM_CTL_CODE(asked->code) == METHOD_NEITHER)
-        now->FileSystemControl.Neither.OutputBuffer = buffer = asked->room ? kz_block(op, asked->room) : NULL;
+        now->FileSystemControl.Neither.OutputBuffer = buffer = asked->room ? kz_output_block(op, asked->room) : NULL;
     op->carried->output = asked->room ? buffer : NULL;
     op->carried->output_size = asked->room;
 }

@@ -13,6 +13,7 @@ typedef struct {
     double seconds;
     unsigned long long seed;
     const char *load, *folder, *junit;
+    bool is_filled;
     char **files;
     int files_count;
 } Asked;
@@ -22,6 +23,7 @@ static int usage(const char *name, FILE *to)
     fprintf(to,
             "usage: %s [WORD..] [REQUESTS..], or %s --load SCENARIO, or %s --explain KZ0000\n"
             "  what is played     REQUESTS.. or else the standard input, --folder FOLDER, --dispatch none|data|all\n"
+            "                     --fill: under two fills of memory that nobody wrote, and what differs is told\n"
             "  what is shown      --explain KZ0000, --quiet, --json, --junit FILE, --allow KZ0000, --strict\n"
             "  threads            --load SCENARIO [--threads N] [--seconds S] [--seed N]\n"
             "  a callback's end   --patience S: so many seconds of the processor's time it may take (3)\n",
@@ -61,6 +63,8 @@ static bool read_words(int count, char **words, Asked *asked)
             kz_be_strict(true);
         else if (strcmp(words[at], "--quiet") == 0)
             kz_is_quiet = 1;
+        else if (strcmp(words[at], "--fill") == 0)
+            asked->is_filled = true;
         else if (strcmp(words[at], "--json") == 0)
             kz_use_json(true);
         else if (strncmp(words[at], "--", 2) != 0)
@@ -70,7 +74,9 @@ static bool read_words(int count, char **words, Asked *asked)
         else
             at++;
     }
-    /* A file of JUnit is one run's. */
+    /* A fill is of requests whose replies are read, and that change no folder. A file of JUnit is one run's. */
+    if (asked->is_filled && (!asked->files_count || asked->load || asked->folder || asked->junit || kz_is_quiet))
+        return false;
     return asked->files_count == 0 || (!asked->load && !(asked->junit && asked->files_count > 1));
 }
 
@@ -79,7 +85,7 @@ static int run_files(const Asked *asked)
 {
     int status = 0;
     for (int at = 0; at < asked->files_count; at++) {
-        int own = kz_run_path(kz_drivers, kz_drivers_count, asked->files[at]);
+        int own = (asked->is_filled ? kz_run_filled : kz_run_path)(kz_drivers, kz_drivers_count, asked->files[at]);
         status = status ? status : own;
     }
     return status;

@@ -55,6 +55,16 @@ for row in '0 15' '1 18' '2 22'; do
     tell $? "a crash in a call, $which"
 done
 
+# What memory that nobody wrote decides is found by two fills of it: in what is said, in an answer, in a status. Of right drivers nothing is.
+printf 'load unwritten\nattach 0 0 u 100\ncreate 0 new a as a\nflush a\nread a 0 4\nwrite a 0 6162\n' > "$room/unwritten.txt"
+"$room/drivers" --fill "$room/unwritten.txt" > "$room/unwritten.out" 2>&1
+[ $? = 5 ] && grep '^TOLD' "$room/unwritten.out" | diff - "$tests/expected/unwritten.txt"
+tell $? "memory that nobody wrote"
+for name in directories swapbuffers contentscan cipher; do
+    "$room/drivers" --fill "$tests/requests/$name.txt" > "$room/filled.out" 2>&1 || { cat "$room/filled.out"; false; }
+    tell $? "$name under two fills"
+done
+
 # A callback that doesn't come to an end is said with its line: one without a call, one that waits again and again, a timer's; by threads; and where a signal ends the program.
 endless() {
     local wanted=$1

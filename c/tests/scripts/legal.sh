@@ -22,6 +22,8 @@ silent() {
     [ ! -f "$tests/legal/$name.scenario" ] || cp "$room/scenario" "$room/load"
     "$built/legal" "$built/$name.requests" > "$room/out" || { cat "$room/out"; false; }
     tell $? "$name in order"
+    "$built/legal" --fill "$built/$name.requests" > "$room/out" || { cat "$room/out"; false; }
+    tell $? "$name under two fills"
     "$built/legal" --load "$room/load" --threads 4 --seconds 1 > "$room/out" 2>&1 || { cat "$room/out"; false; }
     tell $? "$name by threads"
     search "$name" --bound 1

@@ -12,6 +12,9 @@
 
 enum { PAGE = 4096, KEPT = 64, FEW = 16 };
 
+/* There under the thread sanitizer alone. It takes pages that are used again for memory that two threads share, and forgets those that are unmapped. */
+extern void __tsan_acquire(void *at) __attribute__((weak));
+
 struct KzEdgeState {
     void *kept[KEPT]; /* each one page, and a shut one behind it */
     unsigned count;
@@ -33,7 +36,7 @@ void *kz_take_edge(size_t size)
 
 void kz_give_edge(void *pages, size_t size, bool is_open)
 {
-    if (size == PAGE && !is_open && kz.edge->count < KEPT)
+    if (size == PAGE && !is_open && !__tsan_acquire && kz.edge->count < KEPT)
         kz.edge->kept[kz.edge->count++] = pages;
     else
         munmap(pages, size + PAGE);

@@ -352,14 +352,14 @@ build refused "$room/refused" $tests/misuse/schedules/refusal.c
 [ $? = 139 ]
 tell $? "random requests, played again,"
 
-# Names of files that are none of C, and a driver of files that are named one by one; words that can't be had are refused with a sentence.
+# Names of files that are none of C, and a driver of files that are named one by one; words that aren't available are refused with a sentence.
 mkdir "$room/odd folder"
 cp c/samples/ctx.c "$room/odd folder/2my.odd name.c"
 build names "$room/names" "$room/odd folder/2my.odd name.c" --driver $tests/drivers/two-files/main.c $tests/drivers/two-files/count.c
 printf 'load main\nattach 0 0 m 100\ncreate 0 new a\nflush 0\nunload 0\n' | "$room/names" > "$room/names.out" && tail -n 1 "$room/names.out" | grep -q "told 0, limits 0"
 tell $? "names"
 CFLAGS=-flto c/build.sh "$room/lto" c/samples/ctx.c 2> "$room/lto.err"
-[ $? = 2 ] && grep -q "can't be had" "$room/lto.err"
+[ $? = 2 ] && grep -q "isn't available" "$room/lto.err"
 tell $? "a link-time optimizer"
 printf '#include <stdlib.h>\n' | cat - c/samples/nullfilter.c | sed 's/    status = FltRegisterFilter/    exit(RegistryPath == NULL);\n&/' > "$room/foreign.c"
 c/build.sh "$room/foreign" "$room/foreign.c" > /dev/null 2> "$room/foreign.err"

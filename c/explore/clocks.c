@@ -281,7 +281,7 @@ static void note(const void *address, size_t size, unsigned how, const void *fro
     look_at_freed(start, from, word_of(false, is_write, false));
     kz_look_at_owned(address, size, from, is_write);
     ex_hooked = from;
-    if (!is_write && size)
+    if (!is_write && size && ex_is_heap(address))
         kz_look_past(address, size, from);
     ex_hooked = NULL;
     for (uintptr_t tag = start >> 3; tag << 3 < end; tag++) {

@@ -85,7 +85,8 @@ static int run_files(const Asked *asked)
 {
     int status = 0;
     for (int at = 0; at < asked->files_count; at++) {
-        int own = (asked->is_filled ? kz_run_filled : kz_run_path)(kz_drivers, kz_drivers_count, asked->files[at]);
+        const char *path = asked->files[at];
+        int own = asked->is_filled ? kz_run_filled(kz_drivers, kz_drivers_count, path) : kz_run_path(kz_drivers, kz_drivers_count, path);
         status = status ? status : own;
     }
     return status;

@@ -28,7 +28,7 @@ tell $? "calls through pointers"
 
 # What a binary and the host share, and mingw-w64's headers haven't.
 mapfile -t words < <(c/build.sh --flags)
-${CC:-cc} "${words[@]}" -fsyntax-only $tests/image/layouts.c
+${CC:-cc} "${words[@]}" -fsyntax-only $tests/layouts.c
 tell $? "structures of the filter manager"
 
 # The reader: changed files, in all of the ways that a seed gives, and what it refuses.

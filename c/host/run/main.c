@@ -23,7 +23,7 @@ static int usage(const char *name, FILE *to)
     fprintf(to,
             "usage: %s [WORD..] [REQUESTS..], or %s --load SCENARIO, or %s --explain KZ0000\n"
             "  what is played     REQUESTS.. or else the standard input, --folder FOLDER, --dispatch none|data|all\n"
-            "                     --fill: under two fills of memory that nobody wrote, and what differs is told\n"
+            "                     --fill: under two fills of memory that nobody wrote, and what differs is reported\n"
             "  what is shown      --explain KZ0000, --quiet, --json, --junit FILE, --allow KZ0000, --strict\n"
             "  threads            --load SCENARIO [--threads N] [--seconds S] [--seed N]\n"
             "  a callback's end   --patience S: so many seconds of the processor's time it may take (3)\n",

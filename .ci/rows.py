@@ -2,10 +2,13 @@
 """Has the tests try each wrong body of crates/NAME/wrong, without a proof: one of them must fail.
 
     .ci/rows.py [CRATE ..]     the wrong bodies of all crates, or of these
+    .ci/rows.py --drawn N      so many, drawn by the sources: each change of a crate draws others
 
 It works on a copy. For each wrong body it says which crate's tests or program showed it. It ends with 1 where nothing showed one."""
 
+import hashlib
 import pathlib
+import random
 import subprocess
 import sys
 import tempfile
@@ -97,13 +100,26 @@ def shown_by(edit, crate):
     return None
 
 
+def drawn(edits, count):
+    """So many of them, as the sources of all crates say."""
+    sources = hashlib.sha256()
+    for path in sorted((TOP / "crates").glob("*/src/**/*.rt")):
+        sources.update(path.read_bytes())
+    return random.Random(sources.digest()).sample(edits, min(count, len(edits)))
+
+
+def wanted(words):
+    """The wrong bodies that the words name."""
+    edits = sorted((TOP / "crates").glob("*/wrong/*.edit"))
+    if words[:1] == ["--drawn"]:
+        return drawn(edits, int(words[1]))
+    return [edit for edit in edits if not words or edit.parent.parent.name in words]
+
+
 def main():
-    wanted = sys.argv[1:]
     missed = 0
-    for edit in sorted((TOP / "crates").glob("*/wrong/*.edit")):
+    for edit in wanted(sys.argv[1:]):
         crate = edit.parent.parent.name
-        if wanted and crate not in wanted:
-            continue
         try:
             name = shown_by(edit, crate)
         except ValueError as error:

@@ -5,7 +5,8 @@ use fm_altitude::Altitude;
 use fm_base::{Base, MemoryBase};
 use fm_filter::Minifilter;
 use fm_local::{Leak, LocalManager};
-use fm_types::{FilterId, InstanceId, Name, OpId, RelPath, Status, VolumeId};
+use fm_samples::Cancel;
+use fm_types::{FilterId, HandleId, InstanceId, Name, OpId, RelPath, Status, VolumeId};
 use std::alloc::Global;
 use std::process::Abort;
 
@@ -37,6 +38,8 @@ pub enum Step<'a> {
     FinishesNone,
     /// The filter of that name is loaded, and declines to be attached.
     Declines(&'a [u8]),
+    /// A work item of the first instance, on the file of that handle if one is named, cancels what it holds.
+    Cancels(Option<HandleId>, Result<(), Status>),
     /// The first instance is detached.
     Detaches(Result<(), Status>),
     /// The first filter is unloaded.
@@ -167,6 +170,12 @@ fn take<F: Minifilter>(rt: &impl Abort, alloc: Global, manager: &mut Manager<F>,
         }
         Step::FinishesNone => assert!(rt; manager.finished().is_none()),
         Step::Declines(name) => see_declined(rt, manager, named(rt, name)),
+        Step::Cancels(handle, wanted) => {
+            let item = Cancel {
+                status: Status::AccessDenied,
+            };
+            assert!(rt; manager.run_work(INSTANCE, handle, &item) == wanted);
+        }
         Step::Detaches(wanted) => assert!(rt; manager.detach(INSTANCE) == wanted),
         Step::Unloads(wanted) => assert!(rt; manager.unload(FILTER) == wanted),
         Step::Holds(path, wanted) => see_file(rt, manager, path, wanted),

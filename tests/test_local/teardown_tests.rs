@@ -4,7 +4,7 @@ use crate::asked::{Ask, DONE, Told};
 use crate::declines::Declines;
 use crate::samples::{Kind, run_samples};
 use crate::steps::{Count, Row, Step, named, run};
-use fm_types::{Name, Status};
+use fm_types::{HandleId, Name, Status};
 use std::alloc::Global;
 use std::process::Abort;
 
@@ -71,6 +71,41 @@ const DETACHED: [Step; 5] = [
 #[test]
 fn detach_of_a_hold(rt: HostRuntime) {
     run_samples(&rt, rt.alloc(), &HOLD, &DETACHED);
+}
+
+const SHIFT_ABOVE_HOLD: [Row<Kind>; 2] = [
+    (b"hold", Kind::Hold, b"100"),
+    (b"shift", Kind::Shift, b"200"),
+];
+
+const NO_HANDLE: HandleId = HandleId(7);
+
+// What is held is cancelled by a work item: each read ends there with its status, in the order in which they began, and goes up. A detach is no more in its way
+// then, and behind that there is no instance that could work.
+const CANCELLED: [Step; 14] = [
+    Step::Asks(Ask::Create(b"x"), DONE),
+    Step::Asks(
+        Ask::Write(0, 0, b"abc"),
+        Told::Done(Status::Success, 3, b""),
+    ),
+    Step::Cancels(None, Ok(())),
+    Step::FinishesNone,
+    Step::Asks(Ask::Read(0, 0, 3), Told::Held(2)),
+    Step::Asks(Ask::Read(0, 1, 1), Told::Held(3)),
+    Step::Counts(Count::InFlight, 2),
+    Step::Cancels(Some(NO_HANDLE), Err(Status::NoHandle)),
+    Step::Cancels(Some(HandleId(0)), Ok(())),
+    Step::Counts(Count::InFlight, 0),
+    Step::Finishes(2, Told::Done(Status::AccessDenied, 0, b"")),
+    Step::Finishes(3, Told::Done(Status::AccessDenied, 0, b"")),
+    Step::Detaches(Ok(())),
+    Step::Cancels(None, Err(Status::NoInstance)),
+];
+
+#[test]
+fn cancel_of_what_is_held(rt: HostRuntime) {
+    run_samples(&rt, rt.alloc(), &SHIFT_ABOVE_HOLD, &CANCELLED);
+    run_samples(&rt, rt.alloc(), &HOLD, &CANCELLED);
 }
 
 const CARRY_ABOVE_HOLD: [Row<Kind>; 2] = [

@@ -1,8 +1,9 @@
-//! Asks a server for one thing, and prints its reply: `fltc SOCKET WORDS`. Without words it prints how it is used. It ends with status 0, with 1 if there is no
-//! memory, with 2 if the words stand for no request, with 3 if the socket fails or the answer is no reply, and with 4 if the reply's status isn't 0.
+//! Asks a server for one thing, and prints its reply: `fltc SOCKET WORDS`. Without words, and for `--help`, it prints how it is used. It ends with status 0,
+//! with 1 if there is no memory, with 2 if the words stand for no request, with 3 if the socket fails or the answer is no reply, and with 4 if the reply's
+//! status isn't 0.
 #![tactic(auto)]
 
-use fm_socket::{CLIENT_USAGE, client, show_usage, texts, words_of};
+use fm_socket::{CLIENT_USAGE, asks_usage, client, show_usage, texts, words_of};
 use std::io;
 use std::process::ExitCode;
 
@@ -12,6 +13,9 @@ fn main(rt: HostRuntime) -> io::Result<ExitCode> {
     let Some(words) = words_of(&rt)? else {
         return Ok(ExitCode::from(show_usage(CLIENT_USAGE, 2, &mut out)));
     };
+    if asks_usage(words.as_slice()) {
+        return Ok(ExitCode::from(show_usage(CLIENT_USAGE, 0, &mut out)));
+    }
     let Some((socket, rest)) = words.split_first() else {
         return Ok(ExitCode::from(show_usage(CLIENT_USAGE, 0, &mut out)));
     };

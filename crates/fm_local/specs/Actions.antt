@@ -13,6 +13,7 @@ use Rattle.fm_callback_data.specs.declared.request.Reply.{Reply}
 use Rattle.fm_callback_data.specs.declared.request.Request.{Request}
 use Rattle.fm_callback_data.specs.declared.request.FileRequest.{FileRequest}
 use Rattle.fm_world.specs.Events.{Nexts, Begins, Collects, PreReturns, PostReturns, begin_refused, is_stopping_row}
+use Rattle.fm_world.specs.Routines.{EntersRoutine, RoutineReturns}
 use Rattle.fm_world.specs.Sound.{IsSound}
 use Rattle.fm_world.specs.Teardowns.{CompleteReturns}
 use Rattle.fm_filter.specs.Plain.{IsPlainFilter}
@@ -279,6 +280,14 @@ module _ {F B : Type 0} (own : filter.Ghosts F) (below : base.Ghosts B) (k : Wor
         ⊎ ((asked : World) × (told : Parts F B) × AsksDetach old.work.state k i (Ok tt) asked
         × EndsFrom asked (λ before. QueriesWith (AgreesAt own.query_may old.filters asked i) k before result told.work.state)
         × CallsBack old told × Settles most limit told new)
+
+    -- a work item runs in a routine of an instance, unless that is refused; then what was resumed is carried on
+    abbrev pub WorksThenSettles : InstanceId → Option HandleId → Parts F B → Result (Unit {0}) Status → Parts F B → Type 0
+    WorksThenSettles i h old result new =
+        (IsErr result × EntersRoutine old.work.state k i h result new.work.state × OnlyState old new)
+        ⊎ ((entered : World) × (told : Parts F B) × EntersRoutine old.work.state k i h (Ok tt) entered
+        × EndsFrom entered (λ before. RoutineReturns before k (Ok tt) told.work.state)
+        × CallsBack old told × Settles most limit told new × (result ≡ Ok tt))
 
     -- the end of a teardown, where it is stopping: that is refused, or the filter is told, and then what was resumed is carried on
     abbrev pub TellsThenSettles : Bool → InstanceId → Parts F B → Result (Unit {0}) Status → Parts F B → Type 0

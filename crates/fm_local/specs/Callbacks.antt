@@ -19,8 +19,16 @@ was_told started completed drained News.Start f = started f
 was_told started completed drained News.Complete f = completed f
 was_told started completed drained (News.Drain completion) f = drained f completion
 
+-- the instances and the workers stand
+abbrev pub LeavesStanding : Work → Work → Type 0
+LeavesStanding old new = standing_of new.state ≡ standing_of old.state
+
+-- those that wait do so still
+abbrev pub KeepsWaiting : Work → Work → Type 0
+KeepsWaiting old new = (ended : List OpId) → Wait old.state.flow old.resumed.items.items ended → Wait new.state.flow new.resumed.items.items ended
+
 -- a quiet filter leaves all, and any one where the instances and the workers stand; and those that wait do so still
 pub record CallsOnly {F : Type 0} (is_quiet : F → Type 0) (filter : Option F) (old new : Work) : Type 0 where
   pub quiet : IsQuietIn is_quiet filter → new ≡ old
-  pub far : standing_of new.state ≡ standing_of old.state
-  pub waits : (ended : List OpId) → Wait old.state.flow old.resumed.items.items ended → Wait new.state.flow new.resumed.items.items ended
+  pub far : LeavesStanding old new
+  pub waits : KeepsWaiting old new

@@ -2,6 +2,7 @@
 use Rattle.std.specs.Prelude.{[], ◌≡◌, ◌+◌, ◌-◌, ◌^◌, List, Option, Result, min, ℕ}
 use Rattle.std.specs.Global.{Vec}
 use Rattle.fm_local.specs.Words.{FilterId, InstanceId, OpId, Status, VolumeId, World, Parts}
+use Rattle.fm_types.specs.declared.ids.HandleId.{HandleId}
 use Rattle.fm_callback_data.specs.declared.request.Reply.{Reply}
 use Rattle.fm_callback_data.specs.declared.request.Request.{Request}
 use Rattle.fm_filter.specs.declared.minifilter.Minifilter as filter
@@ -10,7 +11,7 @@ use Rattle.fm_local.specs.declared.bounded.Bounded.{Bounded}
 use Rattle.fm_local.specs.declared.parts.TheConstants.{WORKER}
 use Rattle.fm_local.specs.declared.requests.TheConstants.{RESUMPTIONS}
 use Rattle.fm_types.specs.declared.limits.TheConstants.{TURNS}
-use Rattle.fm_local.specs.Actions.{AnswersIn, ArePlainFilters, AttachesThenSettles, DetachesThenSettles, IsReady, Requests, UnloadsThenSettles}
+use Rattle.fm_local.specs.Actions.{AnswersIn, ArePlainFilters, AttachesThenSettles, DetachesThenSettles, IsReady, Requests, UnloadsThenSettles, WorksThenSettles}
 use Rattle.fm_local.specs.Calls as calls
 use Rattle.fm_local.specs.Calls.{AgreesAt, MayAgree, is_leaving, is_unloading, placed}
 use Rattle.fm_local.specs.Cleanups as cleanups
@@ -180,3 +181,8 @@ module _ {F B : Type 0} (f : filter.Ghosts F) (b : base.Ghosts B) where
   abbrev pub UnloadsAny : FilterId → Parts F B → Result (Unit {0}) Status → Parts F B → Type 0
   UnloadsAny i old result new =
       UnloadsThenSettles f b WORKER TURNS RESUMPTIONS i (is_unloading old.work.state i) old result new
+
+  -- ---- a work item
+
+  abbrev pub WorksAny : InstanceId → Option HandleId → Parts F B → Result (Unit {0}) Status → Parts F B → Type 0
+  WorksAny i h old result new = WorksThenSettles f b WORKER TURNS RESUMPTIONS i h old result new

@@ -14,7 +14,9 @@ use Rattle.fm_filter.specs.declared.filters.Filters.{Filters}
 use Rattle.fm_filter.specs.declared.minifilter.Minifilter as filter
 use Rattle.fm_world.specs.EarlyDrains as drains
 use Rattle.fm_world.specs.Events as events
+use Rattle.fm_world.specs.Routines as routines
 use Rattle.fm_world.specs.Teardowns as teardowns
+use Rattle.fm_world.specs.declared.file.FileObject.{FileObject}
 use Rattle.fm_world.specs.declared.place.Place.{Place}
 use Rattle.fm_local.specs.Actions as actions
 use Rattle.fm_local.specs.Actions.{filter_at}
@@ -151,6 +153,11 @@ module _ {F B : Type 0} where
   abbrev pub EndsComplete : InstanceId → Parts F B → Parts F B → Type 0
   EndsComplete i old new =
       IsIn WORKER (Place.Complete i) (world old) → EndsFrom (world old) (λ before. teardowns.CompleteReturns before WORKER (Ok tt) (world new))
+
+  abbrev pub EndsRoutine : Parts F B → Parts F B → Type 0
+  EndsRoutine old new =
+      (i : InstanceId) (file : Option FileObject) → IsIn WORKER (Place.Routine i file) (world old)
+      → EndsFrom (world old) (λ before. routines.RoutineReturns before WORKER (Ok tt) (world new))
 
   -- ---- teardowns
 

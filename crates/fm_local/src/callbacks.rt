@@ -296,8 +296,8 @@ impl<F: Minifilter, B: Base> Parts<F, B> {
         self.work.state.unload_returned(WORKER, allows)
     }
 
-    // Notes which references a callback that returned left behind, where there are more than before.
-    fn note_left(&mut self, before: u64, callback: Place)
+    /// Notes which references a callback that returned left behind, where there are more than before.
+    pub(crate) fn note_left(&mut self, before: u64, callback: Place)
         ensures { self.new ≡ record self.old { leaks = self.new.leaks } }
     {
         if self.work.state.leaks() > before {

@@ -11,6 +11,7 @@ mod manager;
 mod parts;
 mod refusal;
 mod requests;
+mod routines;
 mod teardowns;
 mod trace;
 

@@ -7,7 +7,7 @@ ghost use Rattle.fm_local.specs.Actions.{GivesFinished, RefusesIn};
 ghost use Rattle.fm_local.specs.Between.{IsBetween};
 ghost use Rattle.fm_local.specs.Lending.{LendsBase};
 ghost use Rattle.fm_local.specs.Managers.{HasRooms};
-ghost use Rattle.fm_local.specs.Offered.{AnswersAny, AnswersReady, AttachesAny, AttachesAs, AttachesReady, DetachesAny, DetachesAs, DetachesReady, ForgetsReport, HandsOutFirst, HasNoReport, IsNew, LoadsAs, MountsAs, Numbers, Places, Ready, SameAround, SameFilters, SameHanded, StaysReady, StaysReadyAlike, StaysReadyIfPlain, UnloadsAny, UnloadsAs, UnloadsReady, dropped_count, file_systems, leaks, refused_calls, steps, world};
+ghost use Rattle.fm_local.specs.Offered.{AnswersAny, AnswersReady, AttachesAny, AttachesAs, AttachesReady, DetachesAny, DetachesAs, DetachesReady, ForgetsReport, HandsOutFirst, HasNoReport, IsNew, LoadsAs, MountsAs, Numbers, Places, Ready, SameAround, SameFilters, SameHanded, StaysReady, StaysReadyAlike, StaysReadyIfPlain, UnloadsAny, UnloadsAs, UnloadsReady, WorksAny, dropped_count, file_systems, leaks, refused_calls, steps, world};
 
 use crate::leak::Leak;
 use crate::parts::Parts;
@@ -17,8 +17,8 @@ use fm_altitude::Altitude;
 use fm_base::Base;
 use fm_callback_data::{Reply, Request};
 use fm_core::State;
-use fm_filter::Minifilter;
-use fm_types::{FilterId, InstanceId, Name, OpId, Status, VolumeId};
+use fm_filter::{Minifilter, WorkItem};
+use fm_types::{FilterId, HandleId, InstanceId, Name, OpId, Status, VolumeId};
 use std::alloc::Global;
 use std::marker::Model;
 
@@ -219,6 +219,22 @@ impl<F: Minifilter, B: Base> LocalManager<F, B> {
         ensures ready { StaysReadyAlike F.Minifilter B.Base self.old self.new }
     {
         self.parts.detach(instance)
+    }
+
+    /// Runs a work item for an instance, on no file or on that of an open handle (`FltQueueGenericWorkItem`). It does what a callback of the instance may:
+    /// resume what the instance holds (`FltCompletePendedPreOperation`), also with an answer of its own, as a cancel routine does, and allocate, get, set and
+    /// release contexts. What it still holds at its end leaks. What it resumed goes on after it, in the order of the resumptions, and what is due is cleaned
+    /// up. Refused, and the item isn't run: 8 where the instance isn't there or is Detached, 13 where it is neither Attached nor Stopping, 14 where the handle
+    /// isn't open, 32 where its file is on another volume.
+    pub fn run_work<W: WorkItem>(
+        &mut self,
+        instance: InstanceId,
+        handle: Option<HandleId>,
+        item: &W,
+    ) -> Result<(), Status>
+        ensures { WorksAny F.Minifilter B.Base instance handle self.old result self.new }
+    {
+        self.parts.run_work(instance, handle, item)
     }
 
     /// Unloads a filter (`FltUnloadFilter`): asks it, tears down its instances one after the other, and cleans up its contexts. Refused as the events of the

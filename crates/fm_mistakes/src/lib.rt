@@ -14,4 +14,4 @@ mod noted;
 pub use crate::account::{Account, ToldMistake};
 pub use crate::finding::Finding;
 pub use crate::mistake::Mistake;
-pub use crate::noted::findings;
+pub use crate::noted::{findings, steps_of};

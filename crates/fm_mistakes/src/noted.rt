@@ -11,8 +11,8 @@ use fm_filter::Minifilter;
 use fm_local::{Leak, LocalManager, Refusal, Traced};
 use std::alloc::{AllocError, Global};
 
-// The steps that can be read.
-fn steps_of<F: Minifilter, B: Base>(
+/// The steps of operations that can be read, the oldest first. Fails if memory is refused.
+pub fn steps_of<F: Minifilter, B: Base>(
     alloc: Global,
     manager: &LocalManager<F, B>,
 ) -> Result<Vec<Traced>, AllocError>

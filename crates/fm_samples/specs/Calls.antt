@@ -4,7 +4,7 @@ use Rattle.fm_types.specs.declared.context_kind.ContextKind.{ContextKind}
 use Rattle.fm_types.specs.declared.ids.CtxId.{CtxId}
 use Rattle.fm_types.specs.declared.ids.OpId.{OpId}
 use Rattle.fm_types.specs.declared.status.Status.{Status}
-use Rattle.fm_callback_data.specs.declared.verdict.PreVerdict.TheVariants.{NoCallback}
+use Rattle.fm_callback_data.specs.declared.verdict.PreVerdict.TheVariants.{Complete, NoCallback}
 use Rattle.fm_ctx.specs.declared.set_reply.SetMode.TheVariants.{Keep}
 use Rattle.fm_operations.specs.declared.hold.Hold.{Hold}
 use Rattle.fm_operations.specs.declared.hold.Hold.TheVariants as callback
@@ -79,3 +79,10 @@ StopsWithin {P} p held old new = (count : ℕ) × (last : P) × (count < 256) ×
 -- all that are held go on, until none is held, a call is refused, or 256 went on
 abbrev pub ResumesAll : {P : Type 0} → port.Ghosts P → Hold → P → P → Type 0
 ResumesAll p held old new = ResumesMany p held 256 old new ⊎ StopsWithin p held old new
+
+-- ---- cancelled operations
+
+-- the first operation that a preoperation holds is found, and completed with that status
+abbrev pub CancelsFirst : {P : Type 0} → port.Ghosts P → Status → P → P → Type 0
+CancelsFirst {P} p status old new = (operation : OpId) × (found : P) × p.finds_held old callback.Pre (Ok (Some operation)) found
+    × p.resumes_pre found operation (Complete status) (Ok tt) new

@@ -1,6 +1,7 @@
 //! Sample filters, each as small as its kind allows.
 #![tactic(auto)]
 
+mod cancel;
 mod carry;
 mod common;
 mod guard;
@@ -12,6 +13,7 @@ mod sample;
 mod shift;
 mod stay;
 
+pub use crate::cancel::Cancel;
 pub use crate::carry::Carry;
 pub use crate::guard::Guard;
 pub use crate::hold::Hold;

@@ -19,6 +19,14 @@ pub fn words_of<R: Env + AllocGlobal>(rt: &R) -> io::Result<Option<Vec<String>>>
     }
 }
 
+/// Whether the words ask how the program is used: `--help` or `-h`, alone.
+pub fn asks_usage(words: &[String]) -> bool {
+    match words.first() {
+        Some(word) if words.len() == 1 => matches!(word.as_str(), "--help" | "-h"),
+        _ => false,
+    }
+}
+
 /// Words as text. Fails if memory is refused.
 pub fn texts<'a>(alloc: Global, words: &'a [String]) -> io::Result<Vec<&'a str>> {
     let mut all = Vec::new(alloc);
@@ -37,8 +45,9 @@ pub enum Invocation<D: Drop> {
     End(u8),
 }
 
-/// What the program is asked for by its words, `FOLDER SOCKET [--workers N]`: with them the folder and the socket are made ready (`prepare`). Without words the
-/// usage is printed, and the exit status is 0; it is 2 where the words are others, or not UTF-8, and 1 if memory is refused. Fails if the words can't be read.
+/// What the program is asked for by its words, `FOLDER SOCKET [--workers N]`: with them the folder and the socket are made ready (`prepare`). Without words,
+/// and for `--help` or `-h`, the usage is printed, and the exit status is 0; it is 2 where the words are others, or not UTF-8, and 1 if memory is refused. Fails if
+/// the words can't be read.
 pub fn endpoint_of<R, W>(rt: &R, usage: &str, out: &mut W) -> io::Result<Invocation<Folder<R>>>
 where
     R: Env + Files + Net + AllocGlobal + Clone + Drop,
@@ -47,7 +56,7 @@ where
     let Some(words) = words_of(rt)? else {
         return Ok(Invocation::End(show_usage(usage, 2, out)));
     };
-    if words.is_empty() {
+    if words.is_empty() || asks_usage(words.as_slice()) {
         return Ok(Invocation::End(show_usage(usage, 0, out)));
     }
     let words = texts(rt.alloc(), words.as_slice())?;

@@ -1,5 +1,5 @@
 -- What stays of a scenario where other fields change.
-use Rattle.std.proofs.Common.{◌≡◌, ◌∙◌, List, None, Ok, ℕ, ap, codes, subst, sym}
+use Rattle.std.proofs.Common.{◌≡◌, ◌∙◌, List, None, Ok, ℕ, ap, codes, subst, sym, true}
 use Rattle.std.specs.Global.{Vec}
 use Rattle.fm_types.specs.declared.ids.VolumeId.{VolumeId}
 use Rattle.fm_world.specs.Events.{Mounts}
@@ -16,18 +16,25 @@ module _ {F : Type 0} where
     manager = ap (λ (s : Scenario F). s.exec) same;
     last = ap (λ (s : Scenario F). s.last) same;
     held = ap (λ (s : Scenario F). s.held) same;
+    operates = ap (λ (s : Scenario F). s.operates) same;
   }
 
   -- a line expects something of it
-  pub expects_nothing : (old new : Scenario F) → new ≡ record old { account = new.account; refused = None } → AsksNothing old new
+  pub expects_nothing : (old new : Scenario F) → new ≡ record old { account = new.account; is_heard = true; refused = None } → AsksNothing old new
   expects_nothing old new same = record {
     manager = ap (λ (s : Scenario F). s.exec) same;
     last = ap (λ (s : Scenario F). s.last) same;
     held = ap (λ (s : Scenario F). s.held) same;
+    operates = ap (λ (s : Scenario F). s.operates) same;
   }
 
   pub both : (old mid new : Scenario F) → AsksNothing old mid → AsksNothing mid new → AsksNothing old new
-  both old mid new first then = record { manager = then.manager ∙ first.manager; last = then.last ∙ first.last; held = then.held ∙ first.held }
+  both old mid new first then = record {
+    manager = then.manager ∙ first.manager;
+    last = then.last ∙ first.last;
+    held = then.held ∙ first.held;
+    operates = then.operates ∙ first.operates;
+  }
 
   -- it is settled, and goes on
   pub settles : (old mid new : Scenario F) → Settles old mid → new ≡ record mid { reporter = new.reporter; lines = new.lines } → Settles old new
@@ -35,6 +42,7 @@ module _ {F : Type 0} where
       let account = ap (λ (s : Scenario F). s.account) same in record {
         unmet = rw account settled.unmet;
         refused = ap (λ (s : Scenario F). s.refused) same ∙ settled.refused;
+        heard = ap (λ (s : Scenario F). s.is_heard) same ∙ settled.heard;
         rest = both old mid new settled.rest (goes mid new same);
       }
 
@@ -50,6 +58,8 @@ module _ {F : Type 0} where
     told = ap (λ (s : Scenario F). s.account.told.items) same ∙ fresh.told;
     unmet = ap (λ (s : Scenario F). s.account.unmet) same ∙ fresh.unmet;
     dropped = ap (λ (s : Scenario F). s.account.dropped) same ∙ fresh.dropped;
+    operates = ap (λ (s : Scenario F). s.operates) same ∙ fresh.operates;
+    heard = ap (λ (s : Scenario F). s.is_heard) same ∙ fresh.heard;
   }
 
 module _ {F B : Type 0} where

@@ -53,7 +53,7 @@ all_told false asked counted more none = absurd (omega (arith, more.1, none))
 
 pub tells_leaks : {F : Type 0} (last : Scenario F) (end : Account) → Ends last end → end.dropped ≡ 0 → TellsLeaks last end
 tells_leaks last end ends none =
-    let all = all_told _ ends.asked ends.counted ends.left (sym (same_dropped ends.counted last.held.items end ends.holds) ∙ none) in
+    let all = all_told _ ends.heard ends.counted ends.left (sym (same_dropped ends.counted last.held.items end ends.holds) ∙ none) in
     same_leaks ends.counted last.held.items end ends.holds ∙ ap told_leaks all.1 ∙ same_number _ _ all.0
 
 pub passes : {F : Type 0} (f : filter.Ghosts F) (filters : Vec (List ℕ × F)) (text : List ℕ) (status : ℕ) → EndsScenario f filters text status → status ≡ 0

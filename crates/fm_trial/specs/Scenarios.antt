@@ -1,6 +1,7 @@
 -- What the lines of a scenario make of it: what its manager answers, what is told of that, and what of it is expected.
-use Rattle.std.specs.Prelude.{◌≡◌, ◌⊎◌, ◌≤◌, ◌<◌, ◌++◌, ◌∷◌, [], ℕ, zero, suc, List, Bool, true, false, Ok, Option, Some, None, codes, filter, is_none, is_some, nat_eq, not, ◌&&◌}
+use Rattle.std.specs.Prelude.{◌≡◌, ◌⊎◌, ◌≤◌, ◌<◌, ◌++◌, ◌∷◌, [], ℕ, zero, suc, List, Bool, true, false, Ok, Option, Some, None, codes, filter, is_none, is_some, nat_eq, not, ◌&&◌, ◌||◌}
 use Rattle.std.specs.Global.{Vec}
+use Rattle.std.specs.List.{list_any}
 use Rattle.fm_types.specs.declared.ids.OpId.{OpId}
 use Rattle.fm_types.specs.declared.ids.VolumeId.{VolumeId}
 use Rattle.fm_types.specs.declared.status.Status.TheVariants.{BadRequest}
@@ -16,6 +17,9 @@ use Rattle.fm_base.specs.Folders.{Folder}
 use Rattle.fm_local_exec.specs.Locals.{Answers, AnswersControl}
 use Rattle.fm_local_exec.specs.Said.{status_reply}
 use Rattle.fm_local.specs.declared.parts.Parts.{Parts}
+use Rattle.fm_local.specs.declared.trace.Traced.{Traced}
+use Rattle.fm_local.specs.declared.trace.Visit.{Visit}
+use Rattle.fm_local.specs.declared.trace.Visit.TheVariants as visit
 use Rattle.fm_local.specs.Offered.{ForgetsReport, HandsOutFirst, HasNoReport, SameAround, dropped_count, leaks, refused_calls, steps, world}
 use Rattle.fm_world.specs.Events.{Mounts}
 use Rattle.fm_world.specs.World.{empty_world}
@@ -84,6 +88,22 @@ abbrev pub is_refused : Reply → Bool
 is_refused (reply.Done status information bytes) = not (nat_eq (number_of status) 0)
 is_refused _ = false
 
+abbrev pub is_operation : Body → Bool
+is_operation (body.Operation request) = true
+is_operation _ = false
+
+-- ---- what is heard of operations
+
+-- by a step a callback was called
+abbrev pub is_callback : Visit → Bool
+is_callback (visit.Pre i answer) = true
+is_callback (visit.Post i answer) = true
+is_callback (visit.Drain i) = true
+is_callback _ = false
+
+abbrev pub hears : List Traced → Bool
+hears steps = list_any (λ (step : Traced). is_callback step.visit) steps
+
 -- ---- the manager
 
 -- the operations that filters hold: one more, where that is the reply
@@ -143,31 +163,42 @@ module _ {F : Type 0} where
     pub told : s.account.told.items ≡ []
     pub unmet : s.account.unmet ≡ 0
     pub dropped : s.account.dropped ≡ 0
+    pub operates : s.operates ≡ false
+    pub heard : s.is_heard ≡ false
 
   -- nothing is asked, and nothing that was asked changes
   pub record AsksNothing (old new : Scenario F) : Type 0 where
     pub manager : new.exec ≡ old.exec
     pub last : new.last ≡ old.last
     pub held : new.held ≡ old.held
+    pub operates : new.operates ≡ old.operates
 
   -- a set-up that was refused, of which no line expects anything, is counted as an expectation that isn't met
   pub record Settles (old new : Scenario F) : Type 0 where
     pub unmet : CountsUnmet (is_none old.refused) old.account new.account
     pub refused : new.refused ≡ None
+    pub heard : new.is_heard ≡ old.is_heard
     pub rest : AsksNothing old new
+
+  -- operations were asked for of which no callback heard, and no line expected anything
+  abbrev pub tests_something : Scenario F → Bool
+  tests_something s = s.is_heard || not s.operates
 
   -- whether as many references that callbacks left behind were told as the world counts
   abbrev pub tells_leaks : Scenario F → Account → Bool
   tells_leaks s told = nat_eq (told_leaks told) (world s.exec.manager).contexts.leaks
 
-  -- the end: a set-up that was refused is counted, and so is that nothing was asked, and that a reference wasn't told; that operations are held is told
+  -- the end: a set-up that was refused is counted, and so is that nothing was asked or nothing tested, and that a reference wasn't told; that operations are held
+  -- is told
   pub record Ends (old : Scenario F) (end : Account) : Type 0 where
     pub settled : Account
     pub asked : Account
+    pub heard : Account
     pub counted : Account
     pub expected : CountsUnmet (is_none old.refused) old.account settled
-    pub tested : CountsUnmet (is_some old.last) settled asked
-    pub left : CountsDropped (tells_leaks old asked) asked counted
+    pub requested : CountsUnmet (is_some old.last) settled asked
+    pub tested : CountsUnmet (tests_something old) asked heard
+    pub left : CountsDropped (tells_leaks old heard) heard counted
     pub holds : EndsAs old.held.items counted end
 
   -- its exit status where all lines said something, and behind one that says nothing
@@ -193,12 +224,15 @@ module _ {F : Type 0} (f : filter.Ghosts F) where
     pub last : new.last ≡ Some said
     pub refused : is_some new.refused ≡ (is_set_up asked && is_refused said)
     pub goes_on : GoesOn answered (old.held.items ++ held_by said) new.exec.manager new.held.items
+    pub operates : new.operates ≡ (old.operates || is_operation asked)
+    pub heard : new.is_heard ≡ (old.is_heard || hears (steps answered))
 
   -- a line that says that
   abbrev pub TakesSaid : ScenarioLine → Scenario F → Scenario F → Type 0
   TakesSaid (line.Request asked) old new = (settled : Scenario F) × Settles old settled × Asks asked settled new
-  TakesSaid (line.Expect expected) old new = AsksNothing old new × (new.refused ≡ None) × LineExpects expected old.last old.account new.account
-  TakesSaid _ old new = AsksNothing old new × (new.refused ≡ old.refused) × (new.account ≡ old.account)
+  TakesSaid (line.Expect expected) old new =
+      AsksNothing old new × (new.refused ≡ None) × (new.is_heard ≡ true) × LineExpects expected old.last old.account new.account
+  TakesSaid _ old new = AsksNothing old new × (new.refused ≡ old.refused) × (new.is_heard ≡ old.is_heard) × (new.account ≡ old.account)
 
   -- a line, and whether it says something
   abbrev pub TakesLine : List ℕ → Bool → Scenario F → Scenario F → Type 0

@@ -17,4 +17,4 @@ mod text;
 mod trial_format;
 mod words;
 
-pub use crate::program::trial;
+pub use crate::program::{show_usage, trial};

@@ -284,3 +284,23 @@ where
     let status = run_all(alloc, format, texts.as_slice(), &make, out)?;
     Ok(status)
 }
+
+/// Whether the trial program of that name was asked how it is used, by `--help` or `-h` and no other word; it has said so then. Fails if the words can't be read,
+/// if memory is refused, or if a write fails.
+pub fn show_usage<R, W>(rt: &R, program: &str, out: &mut W) -> io::Result<bool>
+where
+    R: Env + AllocGlobal,
+    W: Write,
+{
+    let words: Vec<String> = env::args(rt)?.skip(1).collect(rt.alloc())?;
+    let is_asked = match words.first() {
+        Some(word) if words.len() == 1 => matches!(word.as_str(), "--help" | "-h"),
+        _ => false,
+    };
+    if is_asked {
+        let usage = format!(in rt.alloc(); "usage: {program} [--json | --page] [FILE ..]\n")?;
+        out.write_all(usage.as_bytes())?;
+        out.flush()?;
+    }
+    Ok(is_asked)
+}

@@ -1,10 +1,10 @@
 //! A scenario under way.
 
-ghost use Rattle.std.specs.Prelude.{◌≡◌, ◌≤◌, ◌++◌, ◌&&◌, ◌∷◌, [], Some, None, IfOk, is_some};
+ghost use Rattle.std.specs.Prelude.{◌≡◌, ◌≤◌, ◌++◌, ◌&&◌, ◌||◌, ◌∷◌, [], Some, None, IfOk, is_some, true};
 ghost use Rattle.fm_local.specs.Offered.{ForgetsReport, HasNoReport, dropped_count, leaks, refused_calls, steps};
 ghost use Rattle.fm_mistakes.specs.Accounts.{TellsAll, status_of};
 ghost use Rattle.fm_mistakes.specs.Findings.{findings};
-ghost use Rattle.fm_trial.specs.Scenarios.{Asks, CountsDropped, CountsUnmet, Ends, EndsAfter, EndsAs, Finishes, HandsOutAll, HandsOutNext, IsFresh, IsMetAs, Keeps, LineExpects, RepliesTo, Reports, Settles, TakesLine, held_by, held_without, is_refused, is_set_up, tells_leaks};
+ghost use Rattle.fm_trial.specs.Scenarios.{Asks, CountsDropped, CountsUnmet, Ends, EndsAfter, EndsAs, Finishes, HandsOutAll, HandsOutNext, IsFresh, IsMetAs, Keeps, LineExpects, RepliesTo, Reports, Settles, TakesLine, hears, held_by, held_without, is_callback, is_operation, is_refused, is_set_up, tells_leaks, tests_something};
 
 use crate::expectation::{Expectation, expected_words};
 use crate::line::ScenarioLine;
@@ -17,9 +17,9 @@ use fm_base::MemoryBase;
 use fm_callback_data::Reply;
 use fm_core::Place;
 use fm_filter::Minifilter;
-use fm_local::PortCall;
+use fm_local::{PortCall, Visit};
 use fm_local_exec::LocalExec;
-use fm_mistakes::{Account, Finding, Mistake, findings};
+use fm_mistakes::{Account, Finding, Mistake, findings, steps_of};
 use fm_report::Summary;
 use fm_server::status_reply;
 use fm_types::limits::OPERATIONS;
@@ -45,6 +45,10 @@ pub(crate) struct Scenario<F> {
     held: Vec<OpId>,
     /// The last line that isn't empty.
     lines: usize,
+    /// Whether a line asked for an operation.
+    operates: bool,
+    /// Whether a callback was called for one, or a line expected something.
+    is_heard: bool,
     /// The line of the last request, where that is a load or an attach that was refused and no line behind it expects anything.
     refused: Option<SetUpLine>,
 }
@@ -77,6 +81,8 @@ impl<F: Minifilter> Scenario<F> {
             instances: 0,
             held: Vec::new(alloc),
             lines: 0,
+            operates: false,
+            is_heard: false,
             refused: None,
         })
     }
@@ -172,6 +178,7 @@ impl<F: Minifilter> Scenario<F> {
         self.account.begin_request();
         let asked = LineRequest::of(&body);
         let is_set_up = is_set_up(&body);
+        self.operates = either(self.operates, is_operation(&body));
         let reply = self.reply_to(body);
         self.report(asked, &reply, text)?;
         self.keep(is_set_up, line, reply)?;
@@ -217,10 +224,14 @@ impl<F: Minifilter> Scenario<F> {
         ensures none { IfOk result (λ _. HasNoReport self.new.exec.manager) }
         ensures last { IfOk result (λ _. self.new.last ≡ self.old.last) }
         ensures held { IfOk result (λ _. self.new.held ≡ self.old.held) }
+        ensures operates { IfOk result (λ _. self.new.operates ≡ self.old.operates) }
+        ensures heard { IfOk result (λ _. self.new.is_heard ≡ (self.old.is_heard || hears (steps self.old.exec.manager))) }
     {
         self.reporter
             .say_steps(text, self.exec.manager(), asked, reply)?;
         self.tell_findings(text)?;
+        let hears = hears(self.alloc, self.exec.manager())?;
+        self.is_heard = either(self.is_heard, hears);
         self.forget_report();
         if let Reporter::Lines = self.reporter {
             self.tell_instances(text)?;
@@ -281,6 +292,8 @@ impl<F: Minifilter> Scenario<F> {
         ensures last { IfOk result (λ _. self.new.last ≡ self.old.last) }
         ensures refused { IfOk result (λ _. self.new.refused ≡ self.old.refused) }
         ensures finishes { IfOk result (λ _. Finishes self.old.exec.manager self.old.held.items self.new.exec.manager self.new.held.items) }
+        ensures operates { IfOk result (λ _. self.new.operates ≡ self.old.operates) }
+        ensures heard { IfOk result (λ _. self.new.is_heard ≡ self.old.is_heard) }
     {
         say_finished(&mut self.exec, &mut self.reporter, &mut self.held, text)?;
         if let Reporter::Objects(_) = self.reporter {
@@ -310,9 +323,10 @@ impl<F: Minifilter> Scenario<F> {
         text: &mut String,
     ) -> Result<(), Status>
         ensures expects { IfOk result (λ _. LineExpects expected.now self.old.last self.old.account self.new.account) }
-        ensures same { self.new ≡ record self.old { account = self.new.account; refused = None } }
+        ensures same { self.new ≡ record self.old { account = self.new.account; is_heard = true; refused = None } }
     {
         self.refused = None;
+        self.is_heard = true;
         let is_met = self.is_met(expected);
         if !is_met {
             self.account.miss();
@@ -352,13 +366,14 @@ impl<F: Minifilter> Scenario<F> {
 
     // The end: what is still held, open or alive is said, and what became of contexts. The exit status: 0; 5 if a mistake was told that no line expects, or if
     // something wasn't kept of which it could have been told; 1 if an expectation wasn't met. That a load or an attach is refused of which no line expects
-    // anything, and that nothing was asked, count as expectations that weren't met. Refused with 1, if memory is refused.
+    // anything, and that nothing was asked or nothing tested, count as expectations that weren't met. Refused with 1, if memory is refused.
     fn end(&mut self, text: &mut String) -> Result<u8, Status>
         ensures status { IfOk result (λ status. status ≡ status_of self.new.account) }
         ensures ends { IfOk result (λ _. Ends self.old self.new.account) }
     {
         self.settle(text)?;
         self.check_asked(text)?;
+        self.check_heard(text)?;
         self.check_leaks();
         self.tell_held(text)?;
         let mut words = String::new(self.alloc);
@@ -395,6 +410,32 @@ impl<F: Minifilter> Scenario<F> {
         self.reporter.take_line(self.lines, "")?;
         self.reporter
             .say_expectation(text, line, "a request", false, "")?;
+        Ok(())
+    }
+
+    // Whether a callback heard of an operation or a line expected something, if operations were asked for at all.
+    fn tests_something(&self) -> bool
+        ensures { result ≡ tests_something self.now }
+    {
+        self.is_heard || !self.operates
+    }
+
+    // Operations of which no callback hears, with nothing expected, test nothing: that is an expectation that isn't met.
+    fn check_heard(&mut self, text: &mut String) -> Result<(), Status>
+        ensures tested { IfOk result (λ _. CountsUnmet (tests_something self.old) self.old.account self.new.account) }
+        ensures same { self.new ≡ record self.old { account = self.new.account; reporter = self.new.reporter } }
+    {
+        if self.tests_something() {
+            return Ok(());
+        }
+        self.account.miss();
+        let line = (
+            self.lines,
+            "no callback was called, and nothing is expected",
+        );
+        self.reporter.take_line(self.lines, "")?;
+        self.reporter
+            .say_expectation(text, line, "a callback", false, "")?;
         Ok(())
     }
 
@@ -509,6 +550,35 @@ fn is_set_up(body: &Body) -> bool
         body,
         Body::Control(Control::Load { .. } | Control::Attach { .. })
     )
+}
+
+// Whether one of both is so.
+fn either(one: bool, other: bool) -> bool
+    ensures { result ≡ (one || other) }
+{
+    one || other
+}
+
+// Whether an operation is asked for.
+fn is_operation(body: &Body) -> bool
+    ensures { result ≡ is_operation body.now }
+{
+    matches!(body, Body::Operation(_))
+}
+
+// Whether a callback was called by that step.
+fn is_callback(visit: &Visit) -> bool
+    ensures { result ≡ is_callback visit.now }
+{
+    matches!(visit, Visit::Pre(..) | Visit::Post(..) | Visit::Drain(_))
+}
+
+// Whether a callback was called for an operation, by what the manager noted. Fails if memory is refused.
+fn hears<F: Minifilter>(alloc: Global, manager: &TrialManager<F>) -> Result<bool, AllocError>
+    ensures { IfOk result (λ heard. heard ≡ hears (steps manager.now)) }
+{
+    let steps = steps_of(alloc, manager)?;
+    Ok(steps.iter().any(|step| is_callback(&step.visit)))
 }
 
 // Whether the reply is a refusal.

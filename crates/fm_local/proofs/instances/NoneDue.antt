@@ -2,13 +2,14 @@
 use Rattle.fm_local.proofs.Words.{◌≡◌, Answer, Bool, Err, FilterId, InstanceId, List, Ok, OpId, Result, Some, StackWorld, Status, VolumeId, WorkerId}
 use Rattle.fm_local.proofs.Words.{World, worker_at, ℕ, ◌∙◌, IsOk, ap, refl, subst, sym, Registration, Request, idle_by, Finishes, Attaches, Begins}
 use Rattle.fm_local.proofs.Words.{Collects, Mounts, Registers, UnloadReturnsAt, AsksDetach, AsksUnload, CompletesTeardown, EmptiesFilter}
-use Rattle.fm_local.proofs.Words.{FinishesFilter, StartsTeardown, UnloadReturns, is_idle, put, Place, HasNoneDue}
+use Rattle.fm_local.proofs.Words.{FinishesFilter, HandleId, Option, StartsTeardown, UnloadReturns, is_idle, put, Place, HasNoneDue}
+use Rattle.fm_world.specs.Routines.{EntersRoutine}
 use Rattle.std.specs.Prelude.{IfErr}
 use Rattle.fm_world.specs.World.{empty_world}
 use Rattle.fm_local.specs.Calls.{EndsTidily, UnloadsWith}
 use Rattle.fm_local.specs.Cleanups.{LeavesNoneDue}
 use Rattle.fm_local.proofs.instances.Detaches.{start_refused}
-use Rattle.fm_local.proofs.instances.Rest.{ask_refused, attach_refused, complete_refused, happened, is_in, is_out, ask_unload_refused}
+use Rattle.fm_local.proofs.instances.Rest.{ask_refused, attach_refused, complete_refused, happened, is_in, is_out, ask_unload_refused, work_refused}
 
 module _ (k : WorkerId) where
   pub none_still : (old new : World) → new.workers ≡ old.workers → new.contexts ≡ old.contexts → LeavesNoneDue k old new
@@ -63,6 +64,10 @@ module _ (k : WorkerId) where
 
   pub none_asked : (old : World) (i : InstanceId) (why : Status) (new : World) → AsksDetach old k i (Err why) new → LeavesNoneDue k old new
   none_asked old i why new h = none_same old new (ask_refused old k i why new h)
+
+  pub none_worked : (old : World) (i : InstanceId) (h : Option HandleId) (why : Status) (new : World) → EntersRoutine old k i h (Err why) new
+      → LeavesNoneDue k old new
+  none_worked old i h why new goes = none_same old new (work_refused old k i h why new goes)
 
   pub none_started : (old : World) (i : InstanceId) (why : Status) (new : World) → StartsTeardown old k i (Err why) new → LeavesNoneDue k old new
   none_started old i why new h = none_same old new (start_refused k i old why new h)

@@ -3,7 +3,8 @@ use Rattle.fm_local.proofs.Words.{[], ◌∷◌, ◌≡◌, ◌⊎◌, Bool, Err
 use Rattle.fm_local.proofs.Words.{WorkerId, World, false, slice_get, suc, true, worker_at, zero, ℕ, ◌++◌, ◌||◌, ◌∙◌, ap, ap₂, arith, count_by, inl}
 use Rattle.fm_local.proofs.Words.{inr, refl, subst, sym, list_any, Registration, Finishes, Unless, is_stopping_phase, is_stopping_row, Attaches}
 use Rattle.fm_local.proofs.Words.{Mounts, Registers, AsksDetach, AsksUnload, CompletesTeardown, updated, is_idle, put, Place, IsAtRest, NoneStops}
-use Rattle.fm_local.proofs.Words.{Tidies}
+use Rattle.fm_local.proofs.Words.{HandleId, Option, Tidies}
+use Rattle.fm_world.specs.Routines.{EntersRoutine}
 use Rattle.fm_stack.specs.Detaching as stack
 use Rattle.fm_stack.specs.Events as setting
 use Rattle.fm_world.proofs.Cases.{by_option, none_any}
@@ -224,6 +225,11 @@ attach_refused old k f v name altitude why new h =
 pub ask_refused : (old : World) (k : WorkerId) (i : InstanceId) (why : Status) (new : World) → AsksDetach old k i (Err why) new → new ≡ old
 unfolding AsksDetach
 ask_refused old k i why new h = refused_same (Unit {0}) old k why new _ h (λ event. event.1)
+
+pub work_refused : (old : World) (k : WorkerId) (i : InstanceId) (h : Option HandleId) (why : Status) (new : World) → EntersRoutine old k i h (Err why) new
+    → new ≡ old
+unfolding EntersRoutine
+work_refused old k i h why new goes = refused_same (Unit {0}) old k why new _ goes (λ event. event.1)
 
 pub complete_refused : (old : World) (k : WorkerId) (i : InstanceId) (why : Status) (new : World) → CompletesTeardown old k i (Err why) new → new ≡ old
 unfolding CompletesTeardown stack.CompletesTeardown

@@ -8,7 +8,7 @@ use Rattle.fm_filter.specs.Standing.{Kept}
 use Rattle.fm_world.proofs.Events.{idle_there}
 use Rattle.fm_world.proofs.Operations.{inside_drain, inside_post, inside_pre}
 use Rattle.fm_local.specs.Actions.{ends_turn}
-use Rattle.fm_local.specs.Callbacks.{CallsOnly}
+use Rattle.fm_local.specs.Callbacks.{CallsOnly, KeepsWaiting, LeavesStanding}
 use Rattle.fm_local.specs.Managers.{IsQuietIn}
 use Rattle.fm_local.specs.Places.{IsIn, IsLent}
 use Rattle.fm_local.specs.declared.local_port.Work.{Work}
@@ -24,17 +24,23 @@ same_flow t u resumed ended same h = subst (λ (x : FlowTable). Wait x resumed e
 -- ---- callbacks
 
 -- what a callback leaves by what its port keeps
+module _ (old new : Work) (k : WorkerId)
+    (kept : ◌≡◌ {A = Kept} (record { worker = k; standing = Some (standing_with new.resumed.items.items new.state) })
+    (record { worker = k; standing = Some (standing_with old.resumed.items.items old.state) })) where
+  same : standing_with new.resumed.items.items new.state ≡ standing_with old.resumed.items.items old.state
+  same = same_Some _ _ (ap (λ (x : Kept). x.standing) kept)
+
+  pub leaves_standing : LeavesStanding old new
+  leaves_standing = stands_alone old.state new.state old.resumed.items.items new.resumed.items.items same
+
+  pub waits_still : KeepsWaiting old new
+  waits_still ended h = waits_standing old.state new.state old.resumed.items.items new.resumed.items.items ended same h
+
 pub calls_only : {F : Type 0} (is_quiet : F → Type 0) (filter : Option F) (old new : Work) (k : WorkerId) → (IsQuietIn is_quiet filter → new ≡ old)
     → ◌≡◌ {A = Kept} (record { worker = k; standing = Some (standing_with new.resumed.items.items new.state) })
     (record { worker = k; standing = Some (standing_with old.resumed.items.items old.state) })
     → CallsOnly is_quiet filter old new
-calls_only is_quiet filter old new k quiet kept =
-    let same = same_Some _ _ (ap (λ (x : Kept). x.standing) kept) in
-    record {
-      quiet = quiet;
-      far = stands_alone old.state new.state old.resumed.items.items new.resumed.items.items same;
-      waits = λ ended h. waits_standing old.state new.state old.resumed.items.items new.resumed.items.items ended same h;
-    }
+calls_only is_quiet filter old new k quiet kept = record { quiet = quiet; far = leaves_standing old new k kept; waits = waits_still old new k kept }
 
 -- an operation whose callback a worker is inside of isn't with nobody
 busy : (w : World) (o : OpId) (r : FlowRecord) (s : Stage) → operation_at o w.flow ≡ Some r → r.stage ≡ s → is_between s ≡ false

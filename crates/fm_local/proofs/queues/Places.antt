@@ -8,9 +8,11 @@ use Rattle.fm_local.proofs.Words.{TakesDrain, BaseReturnsAt, PostReturnsAt, PreR
 use Rattle.fm_local.proofs.Words.{base_returned, begun_at, begun_on, state_at, Attaches, BaseReturns, Begins, Collects, Mounts, PostReturns}
 use Rattle.fm_local.proofs.Words.{PreReturns, Registers, handle_at, stream_at, LosesLinks, row_at, UnloadReturnsAt, AsksDetach, AsksUnload}
 use Rattle.fm_local.proofs.Words.{CompleteReturns, CompletesTeardown, EmptiesFilter, FinishesFilter, StartReturns, StartsTeardown, UnloadReturns}
-use Rattle.fm_local.proofs.Words.{told, is_idle, put, FileHandle, FileStream, Place, ArePlainFilters, filter_in, filter_in_row, StaysOut}
+use Rattle.fm_local.proofs.Words.{HandleId, told, is_idle, put, FileHandle, FileStream, Place, ArePlainFilters, filter_in, filter_in_row, StaysOut}
 use Rattle.fm_world.specs.EarlyDrains.{DrainReturnsAt, DrainReturns}
 use Rattle.fm_world.specs.Events.{SetsUpAt, pre_step, SetsUp}
+use Rattle.fm_world.specs.Routines.{EntersRoutine, RoutineReturns, RoutineReturnsAt, file_by}
+use Rattle.fm_world.specs.declared.file.FileObject.{FileObject}
 use Rattle.fm_world.specs.Teardowns.{CompleteReturnsAt, QueryReturnsAt, StartReturnsAt, QueryReturns}
 use Rattle.fm_filter.specs.Standing.{Shape, shape_of, standing_of}
 use Rattle.fm_local.specs.Actions.{Makes}
@@ -84,6 +86,12 @@ module _ (k : WorkerId) where
         by_stopping true d = ap (λ (w : World). w.workers) d.1
         by_stopping false d = absurd (none-some (o, completion) (sym d.0))
 
+  -- a routine of an instance, on whatever file
+  pub working_in : (old : World) (i : InstanceId) (h : Option HandleId) (new : World) → EntersRoutine old k i h (Ok tt) new
+      → IsIn k (Place.Routine i (file_by old.files h)) new
+  unfolding EntersRoutine
+  working_in old i h new goes = entered old tt new (Place.Routine i (file_by old.files h)) _ goes (λ event. ap (λ (w : World). w.workers) event.1)
+
   pub unloading_in : (old : World) (f : FilterId) (asked : World) → AsksUnload old k f (Ok tt) asked → IsIn k (Place.Unload f) asked
   unfolding AsksUnload
   unloading_in old f asked h = entered old tt asked (Place.Unload f) _ h (λ event. ap (λ (w : World). w.workers) event.1)
@@ -115,6 +123,19 @@ module _ (k : WorkerId) where
     unfolding UnloadReturns
     unload_out may f there (allows, answer, returns) = comes_out (Place.Unload f) old old new (UnloadReturnsAt old k allows ended new)
         refl there returns (λ at. ap (λ (w : World). w.workers) at.1)
+
+    pub routine_out : (i : InstanceId) (file : Option FileObject) → IsIn k (Place.Routine i file) old
+        → EndsFrom old (λ before. RoutineReturns before k ended new) → IsOut k new
+    unfolding RoutineReturns
+    routine_out i file there (before, far, returns) =
+        comes_out (Place.Routine i file) old before new (RoutineReturnsAt before k ended new) far there returns (λ at. ap (λ (w : World). w.workers) at.2)
+
+    -- nor can a routine
+    pub routine_ends : (i : InstanceId) (file : Option FileObject) → IsIn k (Place.Routine i file) old → RoutineReturns old k ended new
+        → RoutineReturns old k (Ok tt) new
+    unfolding RoutineReturns
+    routine_ends i file there h = subst (λ (r : Result (Unit {0}) Status). RoutineReturnsAt old k r new (worker_at old.workers k))
+        (subst (RoutineReturnsAt old k ended new) there h).0 h
 
     pub drained_out : (o : OpId) (i : InstanceId) → IsIn k (Place.EarlyDrain o i) old → EndsFrom old (λ before. DrainReturns before k ended new) → IsOut k new
     unfolding DrainReturns

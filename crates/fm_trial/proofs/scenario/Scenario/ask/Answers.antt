@@ -36,5 +36,7 @@ returns g c =
       request = number ∙ ap (λ (a : Account). a.request) began;
       last = c.in_ok-take_finished.ensures.last ∙ c.in_ok-keep.ensures.last;
       refused = search rules;
+      operates = search rules;
+      heard = search rules;
       goes_on = (reported.exec.manager, c.in_ok-report.ensures.forgets, c.in_ok-report.ensures.none, finishes);
     }

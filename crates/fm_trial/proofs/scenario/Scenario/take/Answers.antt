@@ -40,5 +40,5 @@ returns-in_ok-expect-in-Expect g c =
       line.Expect expected,
       says,
       refl,
-      (both old at new (goes old at c.go_to-in-Expect.ensures) (expects_nothing at new same), ap (λ (s : Scenario _). s.refused) same, expects),
+      (both old at new (goes old at c.go_to-in-Expect.ensures) (expects_nothing at new same), ap (λ (s : Scenario _). s.refused) same, ap (λ (s : Scenario _). s.is_heard) same, expects),
     )

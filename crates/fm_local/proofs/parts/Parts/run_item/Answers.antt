@@ -1,0 +1,23 @@
+use Rattle.fm_local.proofs.Words.{ap, subst, sym, Place, WORKER, Parts}
+use Rattle.fm_local.proofs.queues.Places.{in_still, routine_ends}
+use Rattle.fm_local.proofs.queues.SameOperations as unmoved
+use Rattle.fm_local.proofs.queues.ManagerWaits.{same_flow}
+use Rattle.fm_local.specs.Waits.{Waiting}
+use Rattle.fm_local.proofs.parts.Parts.run_item.Goals as goal
+
+pub returns-clause-ends : goal.returns-clause-ends
+returns-clause-ends g c i file there =
+    let done = c.do_work.new.work.state in
+    let still = in_still WORKER (Place.Routine i file) c.args.self.now.work.state done c.do_work.ensures.far there in
+    rw (ap (λ m. m.work.state) c.note_left.ensures) (
+      done,
+      c.do_work.ensures.far,
+      routine_ends WORKER done c.routine_returned.new.self c.routine_returned.result i file still c.routine_returned.ensures.event,
+    )
+
+pub returns-clause-waits : goal.returns-clause-waits
+returns-clause-waits g c waits =
+    subst (λ (m : Parts g.row.F.Denot g.row.B.Denot). Waiting m) (sym c.note_left.ensures)
+    (same_flow _ _ _ _ (unmoved.routine_returned c.do_work.new.work.state c.routine_returned.new.self WORKER c.routine_returned.result
+    c.routine_returned.ensures.event)
+    (c.do_work.ensures.waits c.args.self.now.finished.items.items waits))

@@ -14,7 +14,7 @@ Look look_at(Mount *mount, fuse_ino_t number)
 {
     if (number != FUSE_ROOT_ID)
         return nodes_look(&mount->nodes, node_at(number));
-    return (Look){.is_folder = true, .changed = mount->nodes.begun, .read = mount->nodes.begun};
+    return (Look){.kind = A_FOLDER, .changed = mount->nodes.begun, .read = mount->nodes.begun, .renewed = mount->nodes.begun};
 }
 
 /* A folder may be entered by whoever may read it. */
@@ -25,7 +25,9 @@ static mode_t folder_mode(mode_t mode)
 
 static mode_t mode_of(const Mount *mount, const Look *look)
 {
-    if (look->is_folder)
+    if (look->kind == A_LINK)
+        return S_IFLNK | 0777;
+    if (look->kind == A_FOLDER)
         return look->has_mode ? S_IFDIR | look->mode : folder_mode(mount->options.mode);
     return S_IFREG | (look->has_mode ? look->mode : mount->options.mode);
 }
@@ -35,7 +37,7 @@ struct stat attributes_of(const Mount *mount, const Look *look, uint64_t size)
     struct stat attributes = {
         .st_ino = look->path[0] ? look->number : FUSE_ROOT_ID,
         .st_mode = mode_of(mount, look),
-        .st_nlink = look->is_deleted ? 0 : look->is_folder ? 2 : 1,
+        .st_nlink = look->is_deleted ? 0 : look->kind == A_FOLDER ? 2 : 1,
         .st_uid = look->has_owner ? look->user : getuid(),
         .st_gid = look->has_owner ? look->group : getgid(),
         .st_size = (off_t)size,
@@ -43,10 +45,10 @@ struct stat attributes_of(const Mount *mount, const Look *look, uint64_t size)
         .st_blksize = 4096,
         .st_atim = look->read,
         .st_mtim = look->changed,
-        .st_ctim = look->changed,
+        .st_ctim = look->renewed,
     };
-    if (look->is_folder)
-        below_tell_folder(mount, look->path, &attributes);
+    if (!look->is_deleted)
+        below_tell(mount, look->path, &attributes);
     return attributes;
 }
 

@@ -73,25 +73,44 @@ static bool tell_of(const Mount *mount, const char *path, struct stat *is)
     return is_known;
 }
 
-char below_kind(const Mount *mount, const char *path)
+Kind below_kind(const Mount *mount, const char *path)
 {
     struct stat is;
-    return !tell_of(mount, path, &is) ? 0 : S_ISDIR(is.st_mode) ? 'd' : S_ISREG(is.st_mode) ? 'f' : 0;
+    if (path_is_in(mount->options.folders, path))
+        return A_FOLDER;
+    if (!tell_of(mount, path, &is))
+        return NOTHING;
+    return S_ISDIR(is.st_mode) ? A_FOLDER : S_ISREG(is.st_mode) ? A_FILE : S_ISLNK(is.st_mode) ? A_LINK : NOTHING;
 }
 
-void below_tell_folder(const Mount *mount, const char *path, struct stat *attributes)
+static bool is_later(const struct timespec *one, const struct timespec *other)
+{
+    return one->tv_sec != other->tv_sec ? one->tv_sec > other->tv_sec : one->tv_nsec > other->tv_nsec;
+}
+
+void below_tell(const Mount *mount, const char *path, struct stat *attributes)
 {
     struct stat is;
-    if (!tell_of(mount, path, &is))
+    if (!tell_of(mount, path, &is) || (is.st_mode & S_IFMT) != (attributes->st_mode & S_IFMT))
+        return;
+    attributes->st_blocks = is.st_blocks;
+    if (S_ISREG(is.st_mode))
         return;
     attributes->st_mtim = is.st_mtim;
-    attributes->st_ctim = is.st_ctim;
+    attributes->st_ctim = is_later(&is.st_ctim, &attributes->st_ctim) ? is.st_ctim : attributes->st_ctim;
     attributes->st_nlink = is.st_nlink;
+    attributes->st_size = is.st_size;
+}
+
+bool below_is_same(const Mount *mount, const char *path, const char *other)
+{
+    struct stat one, two;
+    return tell_of(mount, path, &one) && tell_of(mount, other, &two) && one.st_ino == two.st_ino && one.st_dev == two.st_dev;
 }
 
 bool below_is_folder(const Mount *mount, const char *path)
 {
-    return path_is_in(mount->options.folders, path) || below_kind(mount, path) == 'd';
+    return below_kind(mount, path) == A_FOLDER;
 }
 
 /* The folder that a path lies in, to be written out, and the last part of the path: -1 with errno. */
@@ -128,6 +147,45 @@ int below_remove_folder(const Mount *mount, const char *path)
     const char *name;
     int above = open_above(mount, path, &name);
     return written(above, above != -1 && unlinkat(above, name, AT_REMOVEDIR) == 0);
+}
+
+int below_make_link(const Mount *mount, const char *path, const char *target)
+{
+    const char *name;
+    int above = open_above(mount, path, &name);
+    return written(above, above != -1 && symlinkat(target, above, name) == 0);
+}
+
+/* What isn't one any more is left to the filters. */
+int below_remove_link(const Mount *mount, const char *path)
+{
+    const char *name;
+    if (below_kind(mount, path) != A_LINK)
+        return ENOENT;
+    int above = open_above(mount, path, &name);
+    return written(above, above != -1 && unlinkat(above, name, 0) == 0);
+}
+
+int below_move_link(const Mount *mount, const char *path, const char *to)
+{
+    const char *name, *to_name;
+    int above = open_above(mount, path, &name), to_above = open_above(mount, to, &to_name);
+    bool is_right = above != -1 && to_above != -1 && renameat2(above, name, to_above, to_name, RENAME_NOREPLACE) == 0;
+    int error = written(to_above, is_right);
+    int other = written(above, is_right);
+    return error != 0 ? error : other;
+}
+
+ssize_t below_read_link(const Mount *mount, const char *path, char *room, size_t size)
+{
+    int file = mount->below == -1 ? -1 : open_at(mount->below, path, O_PATH);
+    if (file == -1)
+        return -1;
+    ssize_t length = readlinkat(file, "", room, size);
+    int error = errno;
+    close(file);
+    errno = error;
+    return length;
 }
 
 DIR *below_list(const Mount *mount, const char *path)

@@ -24,10 +24,10 @@ static Listing *listing_of(const struct fuse_file_info *info)
     return (Listing *)(uintptr_t)info->fh;
 }
 
-static int add(fuse_req_t request, Listing *listing, const char *name, const char *path, bool is_folder)
+static int add(fuse_req_t request, Listing *listing, const char *name, const char *path, Kind kind)
 {
     Mount *mount = fuse_req_userdata(request);
-    struct stat attributes = {.st_ino = path[0] ? nodes_number(&mount->nodes, path) : FUSE_ROOT_ID, .st_mode = is_folder ? S_IFDIR : S_IFREG};
+    struct stat attributes = {.st_ino = path[0] ? nodes_number(&mount->nodes, path) : FUSE_ROOT_ID, .st_mode = kind == A_FOLDER ? S_IFDIR : kind == A_LINK ? S_IFLNK : S_IFREG};
     size_t needed = fuse_add_direntry(request, NULL, 0, name, NULL, 0);
     if (listing->length + needed > listing->size) {
         size_t size = listing->size * 2 + needed + 4096;
@@ -59,7 +59,7 @@ static int add_folders(fuse_req_t request, Listing *listing, const char *list, c
         char path[LONGEST_PATH + 1];
         snprintf(path, sizeof path, "%.*s", (int)length, item);
         if (lies_in(item, length, folder))
-            error = add(request, listing, folder[0] ? path + strlen(folder) + 1 : path, path, true);
+            error = add(request, listing, folder[0] ? path + strlen(folder) + 1 : path, path, A_FOLDER);
         item += length + (item[length] == ':');
     }
     return error;
@@ -72,37 +72,37 @@ static bool is_among(const char *names, const char *name)
     return strstr(names, line) != NULL;
 }
 
-/* What is listed lies in the root, and is no folder. */
+/* What is listed lies in the root, and is no folder. A link is shown as what lies below. */
 static int add_names(fuse_req_t request, Mount *mount, Listing *listing, char *names, const char *hidden)
 {
     int error = 0;
     char *rest = names;
     for (char *name = strsep(&rest, "\n"); rest && error == 0; name = strsep(&rest, "\n"))
-        if (!is_among(hidden, name) && !path_is_in(mount->options.folders, name))
-            error = add(request, listing, name, name, false);
+        if (!is_among(hidden, name) && !path_is_in(mount->options.folders, name) && below_kind(mount, name) != A_LINK)
+            error = add(request, listing, name, name, A_FILE);
     return error;
 }
 
-/* One entry of a folder that lies below, if it is of those kinds. A name that no path has is passed over, and what is neither a file nor a folder. */
-static int add_entry(fuse_req_t request, Listing *listing, const char *folder, const char *name, const char *kinds)
+/* One entry of a folder that lies below: a file, or another that isn't passed over. That is a name which no path has, and what is neither a file nor a folder nor a link. */
+static int add_entry(fuse_req_t request, Listing *listing, const char *folder, const char *name, bool has_files, bool has_others)
 {
     Mount *mount = fuse_req_userdata(request);
     char path[LONGEST_PATH + 1];
     if (strcmp(name, ".") == 0 || strcmp(name, "..") == 0 || path_join(path, folder, name) != 0 || path_is_in(mount->options.folders, path))
         return 0;
-    char kind = below_kind(mount, path);
-    bool is_shown = kind && strchr(kinds, kind) && (kind == 'd' || !nodes_is_hidden(&mount->nodes, path));
-    return is_shown ? add(request, listing, name, path, kind == 'd') : 0;
+    Kind kind = below_kind(mount, path);
+    bool is_shown = kind == A_FILE ? has_files && !nodes_is_hidden(&mount->nodes, path) : kind != NOTHING && has_others;
+    return is_shown ? add(request, listing, name, path, kind) : 0;
 }
 
-/* What lies in a folder below, of those kinds. */
-static int add_below(fuse_req_t request, Listing *listing, const char *folder, const char *kinds)
+/* What lies in a folder below: its files, or the others, or all. */
+static int add_below(fuse_req_t request, Listing *listing, const char *folder, bool has_files, bool has_others)
 {
     Mount *mount = fuse_req_userdata(request);
     DIR *list = mount->below == -1 ? NULL : below_list(mount, folder);
     int error = 0;
     for (const struct dirent *entry = list ? readdir(list) : NULL; entry && error == 0; entry = readdir(list))
-        error = add_entry(request, listing, folder, entry->d_name, kinds);
+        error = add_entry(request, listing, folder, entry->d_name, has_files, has_others);
     if (list)
         closedir(list);
     return error;
@@ -143,16 +143,16 @@ static int list(fuse_req_t request, fuse_ino_t number, Listing *listing)
     Mount *mount = fuse_req_userdata(request);
     Look look = look_at(mount, number);
     listing->length = 0;
-    int error = add(request, listing, ".", look.path, true);
+    int error = add(request, listing, ".", look.path, A_FOLDER);
     if (error == 0)
-        error = add(request, listing, "..", "", true);
+        error = add(request, listing, "..", "", A_FOLDER);
     if (error == 0)
         error = add_folders(request, listing, mount->options.folders, look.path);
     if (error == 0)
-        error = add_below(request, listing, look.path, look.path[0] ? "df" : "d");
+        error = add_below(request, listing, look.path, look.path[0] != '\0', true);
     if (error == 0 && !look.path[0])
         error = add_files(request, listing);
-    return error == EOVERFLOW && mount->below != -1 ? add_below(request, listing, "", "f") : error;
+    return error == EOVERFLOW && mount->below != -1 ? add_below(request, listing, "", true, false) : error;
 }
 
 /* Whoever still reads it has the mutex. */

@@ -3,6 +3,7 @@
 #include "data.h"
 #include "files.h"
 #include "folder.h"
+#include "link.h"
 #include "names.h"
 #include "options.h"
 #include "refused.h"
@@ -54,7 +55,8 @@ static const struct fuse_lowlevel_ops operations = {
     .mknod = refuse_make_node,
     .mkdir = tree_make_folder,
     .rmdir = tree_remove_folder,
-    .symlink = refuse_symbolic_link,
+    .symlink = link_make,
+    .readlink = link_read,
     .link = refuse_link,
     .statfs = below_tell_size,
 };

@@ -9,6 +9,9 @@
 #define FUSE_USE_VERSION 312
 #include <fuse_lowlevel.h>
 
+/* What is kept of a mode: a set-user-ID or a set-group-ID bit is refused. */
+#define KEPT_MODE 01777
+
 /* As -o says them. */
 typedef struct {
     char *socket;

@@ -4,6 +4,7 @@
 #include "attributes.h"
 #include "below.h"
 #include "files.h"
+#include "link.h"
 #include "path.h"
 #include "error.h"
 
@@ -12,7 +13,7 @@
 int path_of(Mount *mount, fuse_ino_t folder, const char *name, char path[LONGEST_PATH + 1])
 {
     Look look = look_at(mount, folder);
-    return look.is_folder ? path_join(path, look.path, name) : ENOTDIR;
+    return look.kind == A_FOLDER ? path_join(path, look.path, name) : ENOTDIR;
 }
 
 int open_path(Call *call, const char *path, bool is_home)
@@ -24,15 +25,16 @@ int open_path(Call *call, const char *path, bool is_home)
 /* The node is found while no deletion of the name can come between. */
 static int look_up(Call *call, const char *path, Node **node, uint64_t *size)
 {
-    bool is_folder = below_is_folder(call->mount, path);
-    int error = is_folder ? 0 : open_path(call, path, false);
-    if (error == 0 && !is_folder)
+    Kind kind = below_kind(call->mount, path);
+    kind = kind != NOTHING ? kind : A_FILE; /* the server knows of it */
+    int error = kind == A_FILE ? open_path(call, path, false) : 0;
+    if (error == 0 && kind == A_FILE)
         error = call_measure_and_close(call, size);
     if (error == ENOENT)
         nodes_missed(&call->mount->nodes, path);
     if (error != 0)
         return error;
-    *node = nodes_found(&call->mount->nodes, path, is_folder);
+    *node = nodes_found(&call->mount->nodes, path, kind);
     return *node ? 0 : ENOMEM;
 }
 
@@ -120,7 +122,7 @@ static void answer(fuse_req_t request, fuse_ino_t number, const struct fuse_file
     Call call = call_of(request);
     Look look = look_at(call.mount, number);
     uint64_t size = 0;
-    int error = look.is_folder ? 0 : size_of(&call, number, &look, info, wanted, &size);
+    int error = look.kind != A_FILE ? 0 : size_of(&call, number, &look, info, wanted, &size);
     if (error != 0) {
         fuse_reply_err(request, error);
         return;
@@ -142,10 +144,10 @@ void name_get_attributes(fuse_req_t request, fuse_ino_t number, struct fuse_file
 /* A mode that it has already is none that was given. */
 static void keep_mode(Mount *mount, Node *node, const Look *look, mode_t mode)
 {
-    if (mode == (attributes_of(mount, look, 0).st_mode & 0777))
+    if (mode == (attributes_of(mount, look, 0).st_mode & KEPT_MODE))
         return;
     nodes_set_mode(&mount->nodes, node, mode);
-    if (!look->is_deleted && !look->is_folder)
+    if (!look->is_deleted && look->kind == A_FILE)
         below_set_mode(mount, look->path, mode, false);
 }
 
@@ -155,7 +157,7 @@ static int refusal(Mount *mount, const Look *look, const struct stat *wanted, in
     struct stat is = attributes_of(mount, look, 0);
     bool is_read_given = (which & FUSE_SET_ATTR_ATIME) && !(which & FUSE_SET_ATTR_ATIME_NOW);
     bool is_changed_given = (which & FUSE_SET_ATTR_MTIME) && !(which & FUSE_SET_ATTR_MTIME_NOW);
-    bool may_have_mode = (look->has_mode || mount->options.has_memmodes) && look->path[0] && (wanted->st_mode & 07000) == 0;
+    bool may_have_mode = (look->has_mode || mount->options.has_memmodes) && look->path[0] && (wanted->st_mode & 07777 & ~KEPT_MODE) == 0;
     bool may_have_owner = mount->options.is_kept && look->path[0];
     if ((which & FUSE_SET_ATTR_MODE) && (wanted->st_mode & 07777) != (is.st_mode & 07777) && !may_have_mode)
         return EPERM;
@@ -165,7 +167,7 @@ static int refusal(Mount *mount, const Look *look, const struct stat *wanted, in
         return EPERM;
     if ((is_read_given || is_changed_given) && !mount->options.has_memtimes)
         return EPERM;
-    if ((which & FUSE_SET_ATTR_SIZE) && look->is_folder)
+    if ((which & FUSE_SET_ATTR_SIZE) && look->kind == A_FOLDER)
         return EISDIR;
     return (which & FUSE_SET_ATTR_SIZE) && (uint64_t)wanted->st_size > LARGEST_FILE ? EFBIG : 0;
 }
@@ -191,7 +193,7 @@ void name_set_attributes(fuse_req_t request, fuse_ino_t number, struct stat *wan
         return;
     }
     if ((which & FUSE_SET_ATTR_MODE) && look.path[0])
-        keep_mode(mount, node_at(number), &look, wanted->st_mode & 0777);
+        keep_mode(mount, node_at(number), &look, wanted->st_mode & KEPT_MODE);
     if ((which & (FUSE_SET_ATTR_UID | FUSE_SET_ATTR_GID)) && mount->options.is_kept && look.path[0])
         nodes_set_owner(&mount->nodes, node_at(number), which & FUSE_SET_ATTR_UID ? wanted->st_uid : (uid_t)-1, which & FUSE_SET_ATTR_GID ? wanted->st_gid : (gid_t)-1);
     if (which & GIVEN_TIMES)
@@ -232,14 +234,22 @@ static int unlink_path(Call *call, const char *path)
     return error != 0 ? error : delete_path(call, path, NULL);
 }
 
-void name_unlink(fuse_req_t request, fuse_ino_t folder, const char *name)
+int unlink_file(fuse_req_t request, const char *path)
 {
     Call call = call_of(request);
-    char path[LONGEST_PATH + 1];
-    int error = path_of(call.mount, folder, name, path);
-    if (error == 0 && below_is_folder(call.mount, path))
-        error = EISDIR;
-    error = error == EINVAL ? ENOENT : error != 0 ? error : unlink_path(&call, path);
+    int error = unlink_path(&call, path);
     call_end(&call);
+    return error;
+}
+
+void name_unlink(fuse_req_t request, fuse_ino_t folder, const char *name)
+{
+    Mount *mount = fuse_req_userdata(request);
+    char path[LONGEST_PATH + 1];
+    int error = path_of(mount, folder, name, path);
+    Kind kind = error == 0 ? below_kind(mount, path) : NOTHING;
+    if (kind == A_FOLDER)
+        error = EISDIR;
+    error = error == EINVAL ? ENOENT : error != 0 ? error : kind == A_LINK ? link_remove(mount, path) : unlink_file(request, path);
     fuse_reply_err(request, error);
 }

@@ -10,6 +10,8 @@ void name_forget_all(fuse_req_t request, size_t count, struct fuse_forget_data *
 void name_get_attributes(fuse_req_t request, fuse_ino_t number, struct fuse_file_info *info);
 void name_set_attributes(fuse_req_t request, fuse_ino_t number, struct stat *wanted, int which, struct fuse_file_info *info);
 void name_unlink(fuse_req_t request, fuse_ino_t folder, const char *name);
+/* Deletes a file: 0 or an errno. */
+int unlink_file(fuse_req_t request, const char *path);
 /* Deletes a path on the call's line, alone in its gate: 0 or an errno. Where it was copied before, its node has the other name from then on. */
 int delete_path(Call *call, const char *path, const char *moved_to);
 /* The path of a name in a folder: 0 or an errno. */

@@ -86,7 +86,7 @@ static void mark_deleted(Nodes *nodes, Node *node)
     reap(nodes, node);
 }
 
-static Node *add(Nodes *nodes, const char *path, bool is_folder)
+static Node *add(Nodes *nodes, const char *path, Kind kind)
 {
     Node *node = calloc(1, sizeof *node), **chain = chain_of(nodes, path);
     char *copy = strdup(path);
@@ -95,21 +95,21 @@ static Node *add(Nodes *nodes, const char *path, bool is_folder)
         free(copy);
         return NULL;
     }
-    *node = (Node){.next = *chain, .path = copy, .is_folder = is_folder, .changed = nodes->begun, .read = nodes->begun, .number = number_of(nodes, path)};
+    *node = (Node){.next = *chain, .path = copy, .kind = kind, .changed = nodes->begun, .read = nodes->begun, .renewed = nodes->begun, .number = number_of(nodes, path)};
     *chain = node;
     return node;
 }
 
-Node *nodes_found(Nodes *nodes, const char *path, bool is_folder)
+Node *nodes_found(Nodes *nodes, const char *path, Kind kind)
 {
     lock(nodes);
     Node *node = find(nodes, path, false);
-    if (node && node->is_folder != is_folder) {
+    if (node && node->kind != kind) {
         mark_deleted(nodes, node);
         node = NULL;
     }
     if (!node)
-        node = add(nodes, path, is_folder);
+        node = add(nodes, path, kind);
     if (node)
         node->lookups++;
     unlock(nodes);
@@ -129,7 +129,7 @@ Look nodes_look(Nodes *nodes, Node *node)
     Look look = {.path = ""};
     lock(nodes);
     memcpy(look.path, node->path, strlen(node->path) + 1);
-    look.is_folder = node->is_folder;
+    look.kind = node->kind;
     look.is_deleted = node->is_deleted;
     look.has_mode = node->has_mode;
     look.has_owner = node->has_owner;
@@ -137,6 +137,7 @@ Look nodes_look(Nodes *nodes, Node *node)
     look.group = node->group;
     look.changed = node->changed;
     look.read = node->read;
+    look.renewed = node->renewed;
     look.mode = node->mode;
     look.number = node->number;
     unlock(nodes);
@@ -240,8 +241,14 @@ bool nodes_is_open_in(Nodes *nodes, const char *folder)
     return is_so;
 }
 
+static void renew(Node *node)
+{
+    clock_gettime(CLOCK_REALTIME, &node->renewed);
+}
+
 static void move(Nodes *nodes, Node *node, char *path)
 {
+    renew(node);
     unlink_node(nodes, node);
     free(node->path);
     node->path = path;
@@ -272,7 +279,7 @@ void nodes_missed(Nodes *nodes, const char *path)
     Node *node = find(nodes, path, false);
     if (node && is_kept(node)) {
         node->has_times = node->has_mode = node->has_owner = false;
-        node->changed = node->read = nodes->begun;
+        node->changed = node->read = node->renewed = nodes->begun;
         reap(nodes, node);
     }
     unlock(nodes);
@@ -288,6 +295,7 @@ void nodes_changed(Nodes *nodes, Node *node)
 void nodes_set_times(Nodes *nodes, Node *node, const struct timespec *read, const struct timespec *changed)
 {
     lock(nodes);
+    renew(node);
     node->has_times = true;
     if (read)
         node->read = *read;
@@ -309,6 +317,7 @@ bool nodes_made(Nodes *nodes, Node *node, mode_t mode)
 void nodes_set_mode(Nodes *nodes, Node *node, mode_t mode)
 {
     lock(nodes);
+    renew(node);
     node->mode = mode;
     node->has_mode = true;
     unlock(nodes);
@@ -318,6 +327,7 @@ void nodes_set_owner(Nodes *nodes, Node *node, uid_t user, gid_t group)
 {
     lock(nodes);
     bool was_given = node->has_owner;
+    renew(node);
     node->has_owner = true;
     node->user = user != (uid_t)-1 ? user : was_given ? node->user : getuid();
     node->group = group != (gid_t)-1 ? group : was_given ? node->group : getgid();

@@ -9,15 +9,19 @@
 
 typedef struct File File;
 
-/* A file or a folder. Its fields are the nodes' mutex's; its number for the kernel is its address. */
+typedef enum { NOTHING, A_FILE, A_FOLDER, A_LINK } Kind;
+
+/* A file, a folder or a symbolic link. Its fields are the nodes' mutex's; its number for the kernel is its address. */
 typedef struct Node {
     struct Node *next;
     char *path;
     uint64_t lookups; /* the kernel's */
     unsigned holds;   /* open files, and calls that look at it */
-    bool is_folder, is_deleted;
+    Kind kind;
+    bool is_deleted;
     bool has_times, has_mode, has_owner; /* as long as the mount: it isn't forgotten with the last look-up */
     struct timespec changed, read;
+    struct timespec renewed; /* its bytes, or what is told of it: that is no time that a program may give */
     mode_t mode;
     uid_t user;
     gid_t group;
@@ -40,8 +44,9 @@ typedef struct {
 /* A node as it was at one moment. */
 typedef struct {
     char path[LONGEST_PATH + 1];
-    bool is_folder, is_deleted, has_mode, has_owner;
-    struct timespec changed, read;
+    Kind kind;
+    bool is_deleted, has_mode, has_owner;
+    struct timespec changed, read, renewed;
     mode_t mode;
     uid_t user;
     gid_t group;
@@ -50,7 +55,7 @@ typedef struct {
 
 void nodes_open(Nodes *nodes);
 /* The node of a name that was found; the kernel looks it up once more. NULL: no memory. */
-Node *nodes_found(Nodes *nodes, const char *path, bool is_folder);
+Node *nodes_found(Nodes *nodes, const char *path, Kind kind);
 void nodes_forget(Nodes *nodes, Node *node, uint64_t lookups);
 Look nodes_look(Nodes *nodes, Node *node);
 /* Whether the node still is the one of that name. */

@@ -34,7 +34,7 @@ static int open_node(Call *call, Node *node, struct fuse_file_info *info)
 {
     Nodes *nodes = &call->mount->nodes;
     Look look = nodes_look(nodes, node);
-    int error = look.is_deleted ? ESTALE : look.is_folder ? EISDIR : open_path(call, look.path, true);
+    int error = look.is_deleted ? ESTALE : look.kind != A_FILE ? EISDIR : open_path(call, look.path, true);
     if (error == ENOENT || (error == 0 && !nodes_is(nodes, node, look.path)))
         error = ESTALE;
     if (error == 0 && (info->flags & O_TRUNC)) {
@@ -78,7 +78,7 @@ static int create(Call *call, const char *path, struct fuse_file_info *info, uin
 static int find(Call *call, const char *path, struct fuse_file_info *info, Node **node)
 {
     Nodes *nodes = &call->mount->nodes;
-    *node = nodes_found(nodes, path, false);
+    *node = nodes_found(nodes, path, A_FILE);
     int error = *node ? keep(call, *node, info) : ENOMEM;
     if (error != 0 && *node)
         nodes_forget(nodes, *node, 1);
@@ -88,7 +88,7 @@ static int find(Call *call, const char *path, struct fuse_file_info *info, Node 
 /* The mode that is kept of what was made. A given mode= bounds it, and lets run what may be read. */
 static mode_t mode_made(const Options *options, mode_t mode)
 {
-    mode_t kept = options->is_mode_given ? mode & options->mode : mode & 0777;
+    mode_t kept = options->is_mode_given ? mode & options->mode : mode & KEPT_MODE;
     return kept | (options->mode & 0111 & (kept & 0444) >> 2);
 }
 

@@ -43,7 +43,7 @@ void options_usage(FILE *to)
           "  memmodes         given modes are, also of files that were there before\n"
           "  keep             memtimes and memmodes; given owners are kept too, and a new file is its maker's\n"
           "  mode=0755        the mode of files (0644); given, it bounds the modes of new ones\n"
-          "  below=FOLDER     the server's folder: folders are made in it, and it is asked for its room, and synced\n"
+          "  below=FOLDER     the server's folder: folders and links are made in it, and it is asked for its room, and synced\n"
           "  connections=N    so many connections with the server, 4 to 31 (16)\n"
           "  volume=V         the volume (0)\n"
           "  allow_other      others may use it as the modes say (default_permissions)\n"

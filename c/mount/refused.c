@@ -9,12 +9,6 @@ void refuse_make_node(fuse_req_t request, fuse_ino_t folder, const char *name, m
     fuse_reply_err(request, EPERM);
 }
 
-void refuse_symbolic_link(fuse_req_t request, const char *target, fuse_ino_t folder, const char *name)
-{
-    (void)target, (void)folder, (void)name;
-    fuse_reply_err(request, EPERM);
-}
-
 void refuse_link(fuse_req_t request, fuse_ino_t number, fuse_ino_t folder, const char *name)
 {
     (void)number, (void)folder, (void)name;

@@ -5,7 +5,6 @@
 #include "mount.h"
 
 void refuse_make_node(fuse_req_t request, fuse_ino_t folder, const char *name, mode_t mode, dev_t device);
-void refuse_symbolic_link(fuse_req_t request, const char *target, fuse_ino_t folder, const char *name);
 void refuse_link(fuse_req_t request, fuse_ino_t number, fuse_ino_t folder, const char *name);
 
 #endif

@@ -3,6 +3,7 @@
 #include "rename.h"
 
 #include "below.h"
+#include "link.h"
 #include "names.h"
 #include "path.h"
 #include "tree.h"
@@ -48,13 +49,16 @@ static int copy_piece(Call *call, uint64_t from, uint64_t to, uint64_t offset)
     return reply.information == length ? (int)length : -EIO;
 }
 
+/* It is cut behind the copy: both may be one file that has two names, which nobody here can see without the folder below. */
 static int copy_bytes(Call *call, uint64_t from, uint64_t to)
 {
     Reply reply;
     uint64_t offset = 0;
-    int count = 0, error = call_do(call, request_set_size(to, 0), &reply);
-    while (error == 0 && (count = copy_piece(call, from, to, offset)) > 0)
+    int count = 0, error = 0;
+    while ((count = copy_piece(call, from, to, offset)) > 0)
         offset += (uint64_t)count;
+    if (count == 0)
+        error = call_do(call, request_set_size(to, offset), &reply);
     if (error == 0 && count == 0)
         error = call_do(call, request_handle(FRAME_FLUSH, to), &reply);
     return error != 0 ? error : -count;
@@ -143,12 +147,29 @@ static int wait_before(fuse_req_t request, const char *path, const char *to)
 /* The file is copied once nobody has it open, and nobody waits for it. */
 static int rename_alone(fuse_req_t request, Mount *mount, const char *path, const char *to, bool is_new)
 {
-    if (below_is_folder(mount, to))
+    Kind kind = below_kind(mount, to);
+    if (kind == A_FOLDER)
         return EISDIR;
+    if (kind == A_LINK && is_new)
+        return EEXIST;
     if (stays_open(&mount->nodes, path, nodes_is_open) || stays_open(&mount->nodes, to, nodes_is_open))
         return EBUSY;
     int error = wait_before(request, path, to);
-    return error != 0 || strcmp(path, to) == 0 ? error : rename_file(mount, path, to, is_new);
+    if (error != 0 || strcmp(path, to) == 0 || below_is_same(mount, path, to))
+        return error;
+    return kind == A_LINK ? link_replace(mount, path, to) : rename_file(mount, path, to, is_new);
+}
+
+static int rename_any(fuse_req_t request, Mount *mount, const char *path, const char *to, bool is_new)
+{
+    Kind kind = below_kind(mount, path);
+    if (kind == A_FOLDER)
+        return tree_rename(mount, path, to, is_new);
+    if (kind != A_LINK)
+        return rename_alone(request, mount, path, to, is_new);
+    if (below_is_folder(mount, to))
+        return EISDIR;
+    return strcmp(path, to) == 0 ? 0 : link_rename(request, path, to, is_new);
 }
 
 void name_rename(fuse_req_t request, fuse_ino_t folder, const char *name, fuse_ino_t to_folder, const char *to, unsigned flags)
@@ -164,6 +185,6 @@ void name_rename(fuse_req_t request, fuse_ino_t folder, const char *name, fuse_i
     if (error == 0 && flags > 1)
         error = EINVAL;
     if (error == 0)
-        error = below_is_folder(mount, path) ? tree_rename(mount, path, to_path, is_new) : rename_alone(request, mount, path, to_path, is_new);
+        error = rename_any(request, mount, path, to_path, is_new);
     fuse_reply_err(request, error);
 }

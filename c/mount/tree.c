@@ -3,6 +3,7 @@
 
 #include "attributes.h"
 #include "below.h"
+#include "link.h"
 #include "names.h"
 #include "path.h"
 #include "rename.h"
@@ -18,11 +19,11 @@
 /* The node of a folder that was made: its mode is kept, and its owner where owners are. */
 static Node *node_made(Mount *mount, fuse_req_t request, const char *path, mode_t mode)
 {
-    Node *node = nodes_found(&mount->nodes, path, true);
+    Node *node = nodes_found(&mount->nodes, path, A_FOLDER);
     const struct fuse_ctx *maker = fuse_req_ctx(request);
     if (!node)
         return NULL;
-    nodes_set_mode(&mount->nodes, node, mode & 0777);
+    nodes_set_mode(&mount->nodes, node, mode & KEPT_MODE);
     nodes_changed(&mount->nodes, node);
     if (mount->options.is_kept)
         nodes_set_owner(&mount->nodes, node, maker->uid, maker->gid);
@@ -117,8 +118,8 @@ static int each(Mount *mount, const char *path, const char *to, unsigned depth, 
 /* Whether all in it can be moved. */
 static int can_move(Mount *mount, const char *path, const char *to, unsigned depth)
 {
-    char kind = below_kind(mount, path);
-    return kind == 'f' ? 0 : kind == 'd' ? each(mount, path, to, depth, can_move) : EXDEV;
+    Kind kind = below_kind(mount, path);
+    return kind == NOTHING ? EXDEV : kind == A_FOLDER ? each(mount, path, to, depth, can_move) : 0;
 }
 
 static int move(Mount *mount, const char *path, const char *to, unsigned depth);
@@ -138,7 +139,8 @@ static int move_folder(Mount *mount, const char *path, const char *to, unsigned 
 
 static int move(Mount *mount, const char *path, const char *to, unsigned depth)
 {
-    return below_kind(mount, path) == 'd' ? move_folder(mount, path, to, depth) : rename_file(mount, path, to, true);
+    Kind kind = below_kind(mount, path);
+    return kind == A_FOLDER ? move_folder(mount, path, to, depth) : kind == A_LINK ? link_move(mount, path, to) : rename_file(mount, path, to, true);
 }
 
 static bool lies_in(const char *path, const char *folder)
@@ -150,12 +152,12 @@ static bool lies_in(const char *path, const char *folder)
 /* An empty folder of the new name is replaced. */
 static int make_way(Mount *mount, const char *to, bool is_new)
 {
-    char kind = below_kind(mount, to);
-    if (kind == 0)
+    Kind kind = below_kind(mount, to);
+    if (kind == NOTHING)
         return 0;
     if (is_new)
         return EEXIST;
-    return kind == 'f' ? ENOTDIR : below_remove_folder(mount, to);
+    return kind != A_FOLDER ? ENOTDIR : below_remove_folder(mount, to);
 }
 
 int tree_rename(Mount *mount, const char *path, const char *to, bool is_new)

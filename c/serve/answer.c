@@ -3,6 +3,7 @@
 
 #include "core/client.h"
 #include "core/clock.h"
+#include "core/memory.h"
 #include "core/state.h"
 #include "manager/filter.h"
 #include "manager/instance.h"
@@ -221,13 +222,23 @@ static void manage(Link *link, const Frame *frame)
     link_reply(link, (uint8_t)status, information, NULL, 0);
 }
 
+/* Each request needs both blocks that are kept back. One that gives memory back needs one of them, and a Stop none. */
+static bool has_memory(uint8_t code)
+{
+    bool gives_back = code == FRAME_CLOSE || code == FRAME_DETACH || code == FRAME_UNLOAD || code == FRAME_DISMOUNT;
+    return code == FRAME_STOP || kz_keep_back() >= (gives_back ? 1 : 2);
+}
+
 bool answer_frame(Link *link, const uint8_t *body, size_t length)
 {
     Frame frame;
     uint8_t status = frame_read(body, length, &frame);
+    KZ_CALL_OF("a request");
     link->code = frame.code;
     link->number = frame.number;
     kz_tick();
+    if (status == KZS_OK && !has_memory(frame.code))
+        status = KZS_NO_MEMORY;
     if (status != KZS_OK)
         link_reply(link, status, 0, NULL, 0);
     else if (frame.code < FRAME_LOAD)
@@ -239,6 +250,7 @@ bool answer_frame(Link *link, const uint8_t *body, size_t length)
 
 void answer_due_closes(void)
 {
+    KZ_CALL_OF("a close");
     for (size_t at = 0; at < all_count; at++)
         if (all[at].socket != -1 && all[at].is_close_due) {
             all[at].is_close_due = false;
@@ -252,10 +264,11 @@ static bool was_closed(KzReply reply)
     return !reply.held && (reply.status == KZS_OK || reply.status == KZS_NO_HANDLE || reply.status == KZS_DISMOUNTING);
 }
 
-/* Each handle is tried once. */
+/* Each handle is tried once, as long as there is memory. */
 static void close_all(Link *link)
 {
-    for (size_t left = link->handles_count; left > 0; left--) {
+    KZ_CALL_OF("closes");
+    for (size_t left = link->handles_count; left > 0 && has_memory(FRAME_CLOSE); left--) {
         uint64_t handle = link->handles[left - 1];
         if (was_closed(kz_close_file(handle)))
             link_forget(link, handle);

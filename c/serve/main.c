@@ -153,6 +153,15 @@ static size_t watch(struct pollfd *places)
     return count;
 }
 
+/* Up to the last link: poll refuses more places than there may be descriptors. */
+static size_t used(void)
+{
+    size_t count = LINKS;
+    while (count > 0 && links[count - 1].socket == -1)
+        count--;
+    return count;
+}
+
 static bool serve_links(const struct pollfd *places)
 {
     for (size_t at = 0; at < LINKS; at++)
@@ -168,13 +177,13 @@ static bool serve_links(const struct pollfd *places)
 static void serve(int listener)
 {
     bool is_stopping = false, is_resting = false;
-    struct pollfd places[LINKS + 1];
-    while (watch(places) > 0 || !is_stopping) {
-        places[LINKS] = (struct pollfd){is_stopping || is_resting ? -1 : listener, POLLIN, 0};
-        if (poll(places, LINKS + 1, is_resting ? REST_MILLISECONDS : -1) == -1)
+    struct pollfd places[1 + LINKS];
+    while (watch(places + 1) > 0 || !is_stopping) {
+        places[0] = (struct pollfd){is_stopping || is_resting ? -1 : listener, POLLIN, 0};
+        if (poll(places, 1 + used(), is_resting ? REST_MILLISECONDS : -1) == -1)
             continue;
-        is_stopping |= serve_links(places);
-        is_resting = !is_stopping && places[LINKS].revents && !accept_one(listener);
+        is_stopping |= serve_links(places + 1);
+        is_resting = !is_stopping && places[0].revents && !accept_one(listener);
     }
 }
 

@@ -41,6 +41,12 @@ def names(ground, call):
         call(f"create {name!r}", "EINVAL", make, at(name))
         call(f"stat {name!r}", "ENOENT", os.stat, at(name))
         call(f"unlink {name!r}", "ENOENT", os.unlink, at(name))
+    call("two names that differ in case", (3, 4), lambda: (put(at("Makefile"), b"one"), put(at("makefile"), b"four")))
+    call("are two files", (b"one", b"four"), lambda: (whole(at("Makefile")), whole(at("makefile"))))
+    call("a third isn't there", "ENOENT", whole, at("MAKEFILE"))
+    call("one goes", None, os.unlink, at("makefile"))
+    call("and the other stays", b"one", whole, at("Makefile"))
+    call("which goes, too", None, os.unlink, at("Makefile"))
     call("a name of 256", "ENAMETOOLONG", make, at("n" * 256))
     call("stat a name of 256", "ENAMETOOLONG", os.stat, at("n" * 256))
 
@@ -123,7 +129,6 @@ def refusals(ground, call):
     call("make a folder", "EPERM", os.mkdir, at("d"))
     call("remove a folder", "ENOENT", os.rmdir, at("d"))
     call("remove a file as a folder", "ENOTDIR", os.rmdir, at("a"))
-    call("symbolic link", "EPERM", os.symlink, "a", at("l"))
     call("hard link", "EPERM", os.link, at("a"), at("l"))
     call("pipe", "EPERM", os.mkfifo, at("f"))
     call("socket", "EPERM", lambda: socket.socket(socket.AF_UNIX).bind(at("k")))
@@ -335,6 +340,12 @@ def optional(tally, tools):
         call("the new name", b"first", whole, at("b"))
         call("the old name", "ENOENT", whole, at("a"))
         call("what is left", ["b", "deny", "sub"], lambda: sorted(os.listdir(ground.mount)))
+        put(at("README"), b"read me")
+        call("rename in case alone", 0, lambda: subprocess.run(["mv", at("README"), at("Readme")], capture_output=True).returncode)
+        call("its bytes are there", b"read me", whole, at("Readme"))
+        call("under that name alone", "ENOENT", os.stat, at("README"))
+        os.unlink(at("Readme"))
+        call("a rename right behind a close waits for no tick", True, lambda: waits_of_renames(at) < 0.005)
         put(at("large"), os.urandom(100_000))
         data = whole(at("large"))
         call("rename what is large", None, os.rename, at("large"), at("l2"))
@@ -359,6 +370,20 @@ def optional(tally, tools):
         call("stat of that", "EACCES", os.stat, at("deny/x"))
         call("unlink a folder", "EISDIR", os.unlink, at("sub"))
         call("a program", 0, run_program, at("true"))
+
+
+def waits_of_renames(at):
+    """How much longer a rename takes right behind the close than later, in seconds: of the fourth shortest of thirty, since others may take the processors."""
+    took = {0: [], 0.02: []}
+    for number in range(60):
+        pause = (0, 0.02)[number % 2]
+        put(at("fresh"), b"x")
+        time.sleep(pause)
+        begun = time.monotonic()
+        os.rename(at("fresh"), at("kept"))
+        took[pause].append(time.monotonic() - begun)
+    os.unlink(at("kept"))
+    return sorted(took[0])[3] - sorted(took[0.02])[3]
 
 
 def run_program(path):

@@ -11,7 +11,7 @@ import traceback
 
 from ground import Tally
 
-PARTS = "client calls modes folders model deletions held ends programs".split()
+PARTS = "client calls cases modes folders model deletions held ends programs".split()
 
 
 def tried(part, tools):

@@ -194,6 +194,17 @@ def start(tools, *words):
         return done.returncode, done.stderr
 
 
+def elsewhere(tally, tools):
+    """A mount namespace that another process made meanwhile has the mount, too: its process ends with that one."""
+    with Ground(tally, tools) as ground:
+        put(ground.at("x"), b"hello")
+        other = subprocess.Popen(["unshare", "-m", "sleep", "3"], stderr=subprocess.DEVNULL)
+        if not until(lambda: other.poll() is not None or ground.is_held_by(other.pid), SOON) or other.poll() is not None:
+            print("mount: left out: a mount namespace, which can't be had here")
+        ground.unmount()
+        other.wait()
+
+
 def refused(tally, tools):
     """What the mount refuses to begin with."""
     status, words = start(tools, "/nowhere/s")
@@ -211,5 +222,5 @@ def refused(tally, tools):
 
 def run(tally, tools):
     """All ends."""
-    for part in (detach, detach_cached, stale, churn, dismount, dismount_writers, stop, death, crowd, refused):
+    for part in (detach, detach_cached, stale, churn, dismount, dismount_writers, stop, death, crowd, elsewhere, refused):
         part(tally, tools)

@@ -1,7 +1,9 @@
 """Folders, with the folder below: they are made, removed, listed and renamed there, and filters hear of what lies in them. And owners that are kept."""
 import os
+import subprocess
+import sys
 
-from ground import Ground, put, until, whole
+from ground import Ground, outcome, put, until, whole
 
 
 def made(tally, tools):
@@ -32,8 +34,17 @@ def made(tally, tools):
         call("it is gone below", False, os.path.exists, ground.below("d/e"))
         call("folders whose last file was deleted while it was open", 20, emptied, at)
         call("and here", "ENOENT", os.stat, at("d/e"))
+        call("a module that is written between two imports is found", (0, b""), imported, ground.mount)
         call("a file of its name", 4, put, at("d/e"), b"file")
         call("is a file", b"file", whole, at("d/e"))
+
+
+def imported(folder):
+    """Python looks whether a folder's time has moved since it last looked for a module there."""
+    script = "import sys, time; sys.path.insert(0, '.'); import first; time.sleep(0.1); open('second.py', 'w').close(); import second"
+    put(os.path.join(folder, "first.py"), b"")
+    done = subprocess.run([sys.executable, "-B", "-c", script], cwd=folder, capture_output=True, timeout=120)
+    return done.returncode, done.stderr
 
 
 def emptied(at):
@@ -48,7 +59,7 @@ def emptied(at):
 
 
 def outside(tally, tools):
-    """No link is followed, and nothing outside is reached. What is neither a file nor a folder isn't shown."""
+    """The mount follows no link, and reaches nothing outside. What is neither a file nor a folder nor a link isn't shown."""
     with Ground(tally, tools, "below={host}") as ground:
         at, call = ground.at, tally.call
         os.mkdir(os.path.join(ground.room, "out"))
@@ -58,10 +69,87 @@ def outside(tally, tools):
         os.symlink("../../out", ground.below("d/link"))
         os.mkdir(ground.below("d/\x01"))
         put(ground.below("d/f"), b"f")
-        call("a folder's names", ["f"], os.listdir, at("d"))
-        call("none is made behind a link", "EIO", os.mkdir, at("d/link/x"))
-        call("a link is no folder", "EIO", os.rmdir, at("d/link"))
-        call("nothing was made outside", [], os.listdir, os.path.join(ground.room, "out"))
+        put(os.path.join(ground.room, "out/secret"), b"secret")
+        call("a folder's names", ["f", "link"], lambda: sorted(os.listdir(at("d"))))
+        call("a link is one", "../../out", os.readlink, at("d/link"))
+        call("its size", 9, lambda: os.lstat(at("d/link")).st_size)
+        call("and no folder", "ENOTDIR", os.rmdir, at("d/link"))
+        call("removed", None, os.unlink, at("d/link"))
+        call("what it led to is there", ["secret"], os.listdir, os.path.join(ground.room, "out"))
+
+
+def linked(tally, tools):
+    """Links are made in the folder below, by the mount's user; each program follows them by itself."""
+    with Ground(tally, tools) as ground:
+        os.symlink("there", ground.below("l"))
+        put(ground.below("there"), b"bytes")
+        tally.call("without the folder below none is made", "EPERM", os.symlink, "a", ground.at("x"))
+        tally.call("and the server follows them", b"bytes", whole, ground.at("l"))
+    with Ground(tally, tools, "below={host}") as ground:
+        at, call = ground.at, tally.call
+        ground.attach(shift=100)
+        os.mkdir(at("d"))
+        put(at("d/f"), b"abc")
+        call("a link", None, os.symlink, "d/f", at("l"))
+        call("is one below", "d/f", os.readlink, ground.below("l"))
+        call("what it leads to is read through the filters", b"abc", whole, at("l"))
+        call("and written", 4, put, at("l"), b"abcd")
+        call("as filters leave it", b"bcde", whole, ground.below("d/f"))
+        call("the root's names", [("d", True), ("l", False)], lambda: sorted((entry.name, entry.is_dir(follow_symlinks=False)) for entry in os.scandir(ground.mount)))
+        call("it is a link there, too", True, lambda: {entry.name: entry.is_symlink() for entry in os.scandir(ground.mount)}["l"])
+        os.symlink("../l", at("d/up"))
+        call("a folder with a link in it is renamed", None, os.rename, at("d"), at("e"))
+        call("the link says the same", "../l", os.readlink, at("e/up"))
+        call("where it leads isn't there any more", "ENOENT", whole, at("l"))
+        put(at("new"), b"new")
+        with open(at("new"), "rb"):
+            call("an open file isn't renamed onto a link", "EBUSY", os.rename, at("new"), at("l"))
+        call("the link stays", "d/f", os.readlink, at("l"))
+        call("a closed one is", None, os.rename, at("new"), at("l"))
+        call("and is a file", (b"new", False), lambda: (whole(at("l")), os.path.islink(ground.below("l"))))
+
+
+def twice(tally, tools):
+    """A file that has two names keeps its bytes when it is renamed from the one to the other. With the folder below it keeps both names, as POSIX says."""
+    for options, wanted in ((("below={host}",), (b"bytes", b"bytes")), (("copyrename",), ("ENOENT", b"bytes"))):
+        with Ground(tally, tools, *options) as ground:
+            at, call = ground.at, tally.call
+            ground.attach(shift=100)
+            put(at("a"), b"bytes")
+            os.link(ground.below("a"), ground.below("b"))
+            call(f"a file that has both names is renamed with {options}", None, os.rename, at("a"), at("b"))
+            call("its bytes are there", wanted, lambda: tuple(outcome(whole, at(name)) for name in "ab"))
+            put(at("long"), b"longer than that")
+            put(at("short"), b"short")
+            call("a short one onto a long one", None, os.rename, at("short"), at("long"))
+            call("has nothing of that", b"short", whole, at("long"))
+
+
+def told(tally, tools):
+    """How much room a file takes is what it takes below, so holes show. Without the folder below it is its size."""
+    with Ground(tally, tools) as ground:
+        for size, blocks in ((0, 0), (1, 1), (512, 1), (513, 2), (100_003, 196)):
+            put(ground.at("f"), bytes(size))
+            tally.call(f"blocks of {size} bytes", blocks, lambda: os.stat(ground.at("f")).st_blocks)
+    with Ground(tally, tools, "below={host}") as ground:
+        at, call = ground.at, tally.call
+        file = os.open(at("f"), os.O_CREAT | os.O_RDWR)
+        os.ftruncate(file, 1 << 20)
+        os.pwrite(file, bytes(4096), 1 << 19)
+        for what, look in (("by name", lambda: os.stat(at("f")).st_blocks), ("open", lambda: os.fstat(file).st_blocks)):
+            call(f"a hole takes no room, {what}", os.stat(ground.below("f")).st_blocks, look)
+            call(f"that is less than its size, {what}", True, lambda: 0 < look() < (1 << 20) // 512)
+        os.close(file)
+
+
+def many(tally, tools):
+    """A list has all names of the root, also those that have no room in a frame."""
+    with Ground(tally, tools, "below={host}") as ground:
+        names = [f"long-name-of-a-file-{number:04}" for number in range(1600)]
+        for name in names:
+            put(ground.below(name), b"")
+        os.mkdir(ground.below("d"))
+        tally.call("the root's names", ["d"] + names, lambda: sorted(os.listdir(ground.mount)))
 
 
 def moved(tally, tools):
@@ -146,6 +234,10 @@ def run(tally, tools):
     """All of it."""
     made(tally, tools)
     outside(tally, tools)
+    linked(tally, tools)
+    twice(tally, tools)
+    told(tally, tools)
+    many(tally, tools)
     moved(tally, tools)
     denied(tally, tools)
     owned(tally, tools)

@@ -140,6 +140,19 @@ class Ground:
         """Whether the mount point is one, be anybody there or not."""
         return any(line.split()[1] == self.mount for line in open("/proc/mounts"))
 
+    def is_held_elsewhere(self):
+        """Whether another process has a mount namespace that was made meanwhile: the mount lives on there."""
+        return any(self.is_held_by(process) for process in filter(str.isdigit, os.listdir("/proc")))
+
+    def is_held_by(self, process):
+        """Whether a process sees the mount in a namespace of its own."""
+        try:
+            own = os.readlink(f"/proc/{process}/ns/mnt") != os.readlink("/proc/self/ns/mnt")
+            with open(f"/proc/{process}/mountinfo", encoding="utf-8") as mounts:
+                return own and any(line.split()[4] == self.mount for line in mounts)
+        except OSError:  # it has ended, or isn't ours
+            return False
+
     def unmount(self):
         """Ends the mount, and looks how it ended."""
         if self.mounted is None:
@@ -147,6 +160,7 @@ class Ground:
         if not until(lambda: not self.is_mounted() or subprocess.run(["fusermount3", "-u", self.mount], capture_output=True).returncode == 0, 20):
             subprocess.run(["fusermount3", "-u", "-z", self.mount], capture_output=True)
             self.tally.note("unmount", "busy", "done")
+        until(lambda: self.mounted.poll() is not None or not self.is_held_elsewhere(), 300)
         try:
             status = self.mounted.wait(60)
         except subprocess.TimeoutExpired:

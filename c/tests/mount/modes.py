@@ -194,8 +194,19 @@ def full(tally, tools):
                     tally.call(f"a full disk with {options}", wanted, fill, ground.at("x"))
                     os.unlink(ground.at("x"))
                     tally.call("and with room again", True, until, lambda: put(ground.at("y"), b"hello") == 5)
+                    if options:
+                        crowded(tally, ground)
         finally:
             subprocess.run(["umount", "-l", place], check=True)
+
+
+def crowded(tally, ground):
+    """A rename for whose copy there is no room: both files are as before."""
+    data = bytes(SMALL * 3 // 4)
+    put(ground.at("large"), data)
+    tally.call("a rename without room", "ENOSPC", os.rename, ground.at("large"), ground.at("y"))
+    tally.call("what it would have replaced", b"hello", whole, ground.at("y"))
+    tally.call("what would have replaced it", data, whole, ground.at("large"))
 
 
 def run(tally, tools):

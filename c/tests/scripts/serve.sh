@@ -22,9 +22,13 @@ fi
 c/build.sh --serve "${words[@]}" "$room/server" "$room"/*.c || exit 2
 status=0
 $tests/serve/frames.py --count "${COUNT:-300}" "$fltd" "$room/server" || status=1
+c/build.sh --serve "$room/plain" "$room"/*.c || exit 2
+$tests/serve/limits.py ${KAZDRIN_QUICK:+--without many_names} "$room/plain" || status=1
+# A server in Rattle dies by SIGXFSZ, waits in a FIFO that is swapped in, and has no list beside a name that isn't UTF-8 (docs/SERVER.md). One that is refused memory may end a connection.
+$tests/serve/limits.py --only abandoned "$fltd" || status=1
 if why=$(may_mount); then
     make -s -C c fltmount PROGRAM="$room/fltmount" CFLAGS="-O1 ${words:+-fsanitize=address,undefined -fno-sanitize-recover=undefined}" || exit 2
-    [ $# -gt 0 ] || set -- calls model deletions held ends late
+    [ $# -gt 0 ] || set -- calls cases model deletions held ends late
     $tests/mount/check.py --server "$room/server" --mount "$room/fltmount" --count 600 "$@" || status=1
 else
     untried "$why, for the mount above it" || status=1

@@ -92,6 +92,13 @@ class Server:
             self.links.pop(name).close()
             time.sleep(0.2)
             return b""
+        if what == "pipe":
+            os.remove(os.path.join(self.folder, name))
+            os.mkfifo(os.path.join(self.folder, name))
+            return b""
+        if what == "remove":
+            os.remove(os.path.join(self.folder, name))
+            return b""
         if what == "half":
             self.link(name).shutdown(socket.SHUT_WR)
             return b""
@@ -260,6 +267,23 @@ def cases():
     yield "look", ""
 
 
+def swapped():
+    """A FIFO takes the place of an open file: nobody waits in it."""
+    yield from asks("a", create(b"there", 0))
+    yield "pipe", "there"
+    yield from asks("a", read(0, 0, 3), write(0, 0, b"x"), on(kazdrin.QUERY_SIZE, 0), set_size(0, 3), on(kazdrin.FLUSH, 0), create(b"there"), on(kazdrin.SET_DELETE, 0), on(kazdrin.CLOSE, 0), on(kazdrin.CLOSE, 0), LIST)
+    yield "look", ""
+
+
+def deleted_below():
+    """What is to be deleted is there no more, or is no file any more."""
+    yield from asks("a", create(b"x"), create(b"y"), on(kazdrin.SET_DELETE, 0), on(kazdrin.SET_DELETE, 1))
+    yield "remove", "x"
+    yield "pipe", "y"
+    yield from asks("a", on(kazdrin.CLOSE, 0), on(kazdrin.CLOSE, 1), on(kazdrin.CLOSE, 1), create(b"x"), create(b"y"), LIST)
+    yield "look", ""
+
+
 def stop():
     """A connection ends behind the reply to its Stop, whatever else came with it."""
     yield from asks("b", create(b"there", 0))
@@ -318,15 +342,15 @@ def both(servers, name, script):
     return is_same and ends[0] == ends[1]
 
 
-def descriptors(command):
+def descriptors(command, most):
     """With too few descriptors for all connections a server says so, and doesn't begin."""
     place = tempfile.mkdtemp(prefix="kazdrin-")
-    shell = f"ulimit -n 24; exec {command} {place} {place}/s"
+    shell = f"ulimit -n {most}; exec {command} {place} {place}/s"
     ended = subprocess.run(["bash", "-c", shell], capture_output=True, timeout=PATIENCE)
     shutil.rmtree(place, ignore_errors=True)
     is_refused = ended.returncode == 3 and b"ready" not in ended.stdout and (ended.stdout + ended.stderr).startswith(b"fault")
     if not is_refused:
-        print(f"serve: few descriptors: {command}: {ended}")
+        print(f"serve: {most} descriptors: {command}: {ended}")
     return is_refused
 
 
@@ -340,10 +364,10 @@ def main():
     parser.add_argument("--seed", type=int, default=random.randrange(1 << 32))
     parser.add_argument("servers", nargs=2)
     words = parser.parse_args()
-    scripts = [(each.__name__, each()) for each in (files, odd, filters, held, let_go, dismount, cases, stop, crowd)]
+    scripts = [(each.__name__, each()) for each in (files, odd, filters, held, let_go, dismount, cases, swapped, deleted_below, stop, crowd)]
     scripts += [(f"random frames, seed {words.seed + at}", chance(words.seed + at, words.count)) for at in range(3)]
     results = [both(words.servers, name, script) for name, script in scripts]
-    results += [descriptors(command) for command in words.servers]
+    results += [descriptors(command, most) for command in words.servers for most in (8, 24, 33, 37)]
     print(f"serve: {sum(results)} passed, {len(results) - sum(results)} failed")
     return 0 if all(results) else 1
 

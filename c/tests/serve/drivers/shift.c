@@ -5,25 +5,43 @@
 
 PFLT_FILTER gFilterHandle;
 
+/* The caller's buffer is locked, since its bytes are changed at any IRQL. */
 static FLT_PREOP_CALLBACK_STATUS PreRead(_Inout_ PFLT_CALLBACK_DATA Data, _In_ PCFLT_RELATED_OBJECTS FltObjects, _Flt_CompletionContext_Outptr_ PVOID *CompletionContext)
 {
-    UNREFERENCED_PARAMETER(Data);
+    NTSTATUS status;
+
     UNREFERENCED_PARAMETER(FltObjects);
     UNREFERENCED_PARAMETER(CompletionContext);
+    if (Data->Iopb->Parameters.Read.Length == 0) {
+        return FLT_PREOP_SUCCESS_NO_CALLBACK;
+    }
+    status = FltLockUserBuffer(Data);
+    if (!NT_SUCCESS(status)) {
+        Data->IoStatus.Status = status;
+        Data->IoStatus.Information = 0;
+        return FLT_PREOP_COMPLETE;
+    }
     return FLT_PREOP_SUCCESS_WITH_CALLBACK;
 }
 
 static FLT_POSTOP_CALLBACK_STATUS PostRead(_Inout_ PFLT_CALLBACK_DATA Data, _In_ PCFLT_RELATED_OBJECTS FltObjects, _In_opt_ PVOID CompletionContext, _In_ FLT_POST_OPERATION_FLAGS Flags)
 {
-    PUCHAR buffer = Data->Iopb->Parameters.Read.ReadBuffer;
+    PUCHAR buffer;
     ULONG_PTR i;
 
     UNREFERENCED_PARAMETER(FltObjects);
     UNREFERENCED_PARAMETER(CompletionContext);
-    if (!FlagOn(Flags, FLTFL_POST_OPERATION_DRAINING) && NT_SUCCESS(Data->IoStatus.Status)) {
-        for (i = 0; i < Data->IoStatus.Information; i++) {
-            buffer[i]--;
-        }
+    if (FlagOn(Flags, FLTFL_POST_OPERATION_DRAINING) || !NT_SUCCESS(Data->IoStatus.Status)) {
+        return FLT_POSTOP_FINISHED_PROCESSING;
+    }
+    buffer = MmGetSystemAddressForMdlSafe(Data->Iopb->Parameters.Read.MdlAddress, NormalPagePriority | MdlMappingNoExecute);
+    if (buffer == NULL) {
+        Data->IoStatus.Status = STATUS_INSUFFICIENT_RESOURCES;
+        Data->IoStatus.Information = 0;
+        return FLT_POSTOP_FINISHED_PROCESSING;
+    }
+    for (i = 0; i < Data->IoStatus.Information; i++) {
+        buffer[i]--;
     }
     return FLT_POSTOP_FINISHED_PROCESSING;
 }

@@ -141,7 +141,8 @@ libraries=("$host/libkazdrin_host.a")
 case "$kind" in
 explore)
     driver+=(-fsanitize=thread -fno-pie "${volatiles[@]}")
-    is_clang "$cc" || driver+=(-Wno-tsan) # its own library doesn't know barriers; the explorer does
+    # gcc's own library doesn't know barriers; the explorer does. What it makes of a copy of a known size by itself has no call before it.
+    is_clang "$cc" || driver+=(-Wno-tsan -fno-builtin-memcpy -fno-builtin-memmove -fno-builtin-memset -fno-builtin-memcmp)
     link+=(-no-pie "-Wl,-z,now")
     libraries=("$host/libkazdrin_explore.a" "${libraries[@]}")
     renames=(memcpy:KzHookCopy memmove:KzHookMove memset:KzHookFill memcmp:KzHookCompare)
@@ -194,6 +195,11 @@ calls_of "$cc"
 if echo 'int a;' | $cc -mms-bitfields -x c -c -o /dev/null - 2> /dev/null; then
     driver+=(-mms-bitfields)
 fi
+# A function's frame is compared with the end of the kernel's stack before it is made (core/stack.c), where it is one as in a build for Windows: what is put into another function makes that one's no larger.
+case "$kind$sanitizers: $cflags ${KZAPI:-} " in
+*" -O0 "* | *" -fsanitize"*) ;;
+":"*) if ! is_clang "$cc" && echo 'int a;' | $cc -fsplit-stack -x c -c -o /dev/null - 2> /dev/null; then driver+=(-fsplit-stack --param=large-stack-frame-growth=0); fi ;;
+esac
 
 # ---- Drivers: each a name and its files. All but its entry is its own, so that two drivers may use one name. As many are compiled at once as there are processors.
 room=$(mktemp -d)

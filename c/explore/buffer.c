@@ -34,8 +34,7 @@ void ex_put_in(void)
         swap_write(buffer, at);
 }
 
-/* Whether it is so in this run. */
-static bool decide(Asks asks, uint8_t sign, const char *text)
+bool ex_is_so(Asks asks, uint8_t sign, const char *text)
 {
     if (!ex_decide(2, asks, NULL, false))
         return false;
@@ -51,7 +50,7 @@ static bool decide(Asks asks, uint8_t sign, const char *text)
 static bool begins_late(void)
 {
     bool is_asked = ex->run.late_used < ex->search.late || ex->search.replay || ex->run.is_guided;
-    if (!is_asked || !decide(ANSWER_LATE, LATE, "others see its next write later"))
+    if (!is_asked || !ex_is_so(ANSWER_LATE, LATE, "others see its next write later"))
         return false;
     ex->run.late_used++;
     return true;
@@ -84,7 +83,7 @@ void ex_may_be_seen(const void *address)
     if (!may_be_late() || ex_is_stack(address))
         return;
     ex->run.has_late_reads |= mine()->last && mine()->last != address;
-    if (mine()->count && decide(ANSWER_SEEN, SEEN, "others see what it wrote"))
+    if (mine()->count && ex_is_so(ANSWER_SEEN, SEEN, "others see what it wrote"))
         ex_see_writes();
 }
 

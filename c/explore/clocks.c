@@ -2,6 +2,7 @@
  * in order, of which one writes, are a race. Memory that was given back isn't to be touched at all. */
 #include "explore.h"
 #include "core/access.h"
+#include "core/binary.h"
 #include "core/edge.h"
 
 #include <sys/mman.h>
@@ -309,6 +310,8 @@ void ex_access(const void *address, size_t size, bool is_write, bool is_atomic, 
         return;
     if (is_point(start, end, is_atomic))
         ex_memory_point(address, size, from);
+    if (!is_write)
+        ex_may_change(address, size);
     note(address, size, (is_write ? IS_WRITE : 0) | (is_atomic ? IS_ATOMIC : 0), from);
 }
 
@@ -344,7 +347,7 @@ void ex_forget_lib_calls(void)
 void ex_enter_lib(const void *from)
 {
     if (is_watched() && calls[kz_me->number].depth++ == 0)
-        calls[kz_me->number].from = kz_me->inside ? NULL : from;
+        calls[kz_me->number].from = kz_me->inside ? NULL : kz_caller(from);
 }
 
 void ex_leave_lib(void)
@@ -358,8 +361,11 @@ void ex_lib_access(const void *address, size_t size, bool is_write)
 {
     if (is_watched() && is_write)
         ex_see_writes(); /* a copy of many bytes: it needn't be late */
-    if (is_watched() && calls[kz_me->number].depth > 0 && calls[kz_me->number].from && size && !ex_is_stack(address))
-        note(address, size, is_write ? IS_WRITE : 0, calls[kz_me->number].from);
+    if (!is_watched() || calls[kz_me->number].depth == 0 || !calls[kz_me->number].from || !size || ex_is_stack(address))
+        return;
+    if (!is_write)
+        ex_may_change(address, size);
+    note(address, size, is_write ? IS_WRITE : 0, calls[kz_me->number].from);
 }
 
 static void take(Object *one)
@@ -415,6 +421,7 @@ void ex_touch(const void *object, size_t size, KzTouch how)
         return;
     if (how == KZT_HAS_TAKEN_BACK) {
         take_back(object, size);
+        ex_forget_reads(object, size);
         return;
     }
     if (kz_me->place.call && kz_me->place.from) /* the kit itself uses what lies there */

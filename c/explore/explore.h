@@ -19,8 +19,9 @@ enum {
     WORKERS = 4
 };
 
-/* What a choice is of: who goes on, whether a call is refused, whether an operation goes on inside a call, whether others see a write later, and whether they do by now. */
-typedef enum { SWITCH, ANSWER_FAIL, ANSWER_INSIDE, ANSWER_LATE, ANSWER_SEEN } Asks;
+/* What a choice is of: who goes on, whether a call is refused, whether an operation goes on inside a call, whether others see a write later, whether they do by now, and whether a program
+ * has changed what a driver reads again. */
+typedef enum { SWITCH, ANSWER_FAIL, ANSWER_INSIDE, ANSWER_LATE, ANSWER_SEEN, ANSWER_CHANGED } Asks;
 
 /* ---- A client of the scenario: a coroutine of its own. */
 typedef enum { READY, RUNNING, WAITING, ENDED } State;
@@ -56,6 +57,12 @@ typedef struct {
     unsigned count;
     const void *last; /* what it wrote as volatile, and a late write could still be of */
 } Buffer;
+
+/* Bytes of a caller's own buffer (change.c). */
+enum { READS = 64 };
+typedef struct {
+    uintptr_t start, end;
+} Read;
 
 /* How often a place of the driver's code found the same where it looked, since another client went or it changed something itself. */
 enum { LOOKS = 8, LOOKS_ENOUGH = 3 };
@@ -130,6 +137,7 @@ typedef struct {
 typedef struct {
     unsigned bound, fails, shard, shards;
     bool wants_ends, is_traced, is_quiet, is_strict; /* is_strict: a limit counts */
+    unsigned changes; /* of a run: what is read again of a caller's own buffer is another */
     unsigned late, asked_late; /* writes of a run that others may see later; as the words have it, or LATE_UNSAID */
     unsigned asked_bound, workers, stops_at; /* the last bound; how many work items run at once; the step before which a debugger stops, or 0 */
     uint64_t asked_seed, asked_runs;
@@ -173,6 +181,8 @@ typedef struct {
     bool is_given_up;
     Buffer buffers[RUNNERS + 1]; /* of each client */
     unsigned late_used;
+    Read reads[READS]; /* what was read of callers' own buffers */
+    unsigned reads_count, changes_used;
     bool has_late_reads; /* in any run: a volatile read of another cell behind a volatile write, with nothing between them that empties a buffer */
     Patience patience[RUNNERS + 1]; /* of each client */
     uint32_t able;
@@ -259,8 +269,8 @@ void ex_run_once(void);
 void ex_search(void);
 extern Runner ex_runners[RUNNERS + 1]; /* by the client's number: from 1 on */
 #define ROOM (1UL << 30)
-/* In a schedule, beside clients: the call was refused; the operation went on inside the call; others see the next write later; they see what was written. */
-enum { FAIL = 255, INSIDE = 254, LATE = 253, SEEN = 252, FIRST_SIGN = SEEN };
+/* In a schedule, beside clients: the call was refused; the operation went on inside the call; others see the next write later; they see what was written; a program has changed its buffer. */
+enum { FAIL = 255, INSIDE = 254, LATE = 253, SEEN = 252, CHANGED = 251, FIRST_SIGN = CHANGED };
 enum { LATE_UNSAID = 0xffff };
 
 /* scenario.c: 0, or what is wrong was said. */
@@ -332,6 +342,14 @@ void ex_take_out(void);
 void ex_put_in(void);
 void ex_empty_buffers(void);
 uint64_t ex_buffers_hash(void);
+/* Whether it is so in this run: a sign stands in the schedule then, and the text in its trace. */
+bool ex_is_so(Asks asks, uint8_t sign, const char *text);
+
+/* change.c: a driver is about to read there; memory is given back; a run begins. */
+void ex_may_change(const void *address, size_t size);
+void ex_forget_reads(const void *address, size_t size);
+void ex_begin_changes(void);
+uint64_t ex_changes_hash(void);
 
 /* path.c: which of so many is taken. */
 uint8_t ex_sign_of(Asks asks);

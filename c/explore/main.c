@@ -31,6 +31,7 @@ static void start_run(void)
     ex->search.runs++;
     ex_hooked = NULL;
     ex_empty_buffers();
+    ex_begin_changes();
     ex_start_clocks();
 }
 

@@ -9,7 +9,7 @@ static bool usage(const char *name, FILE *to)
 {
     fprintf(to,
             "usage: %s [WORD..] SCENARIO, or %s --merge FILE..\n"
-            "  what is searched   --bound N (2), --reduce, --states, --coarse, --inline, --fails N, --fail-each, --workers N, --late N, --dispatch none|data|all\n"
+            "  what is searched   --bound N (2), --reduce, --states, --coarse, --inline, --fails N, --fail-each, --changes N, --workers N, --late N, --dispatch none|data|all\n"
             "  drawn schedules    --seed N [--runs N] [--pct N]\n"
             "  spread             --jobs N, --shard K/N, --save FILE, --merge FILE.., --resume FILE, --memory MB\n"
             "  what is shown      --ends, --learn FILE, --expect-ends FILE, --shrink, --page FILE, --allow KZ0000, --strict\n"
@@ -85,7 +85,7 @@ static size_t all_words(Asked *asked, Word *words)
         {"--ends", ALONE, &search->wants_ends}, {"--trace", ALONE, &search->is_traced}, {"--quiet", ALONE, &search->is_quiet}, {"--reduce", ALONE, &search->is_reduced},
         {"--coarse", ALONE, &search->is_coarse}, {"--inline", ALONE, &search->has_inside}, {"--shrink", ALONE, &asked->shrinks}, {"--gdb", ALONE, &asked->is_debugged},
         {"--states", ALONE, &search->has_no_bound}, {"--fail-each", ALONE, .read = read_fail_each}, {"--strict", ALONE, .read = read_strict},
-        {"--bound", NUMBER, &search->asked_bound, 0, BOUNDS - 1}, {"--fails", NUMBER, &search->fails, 0, 1000}, {"--workers", NUMBER, &search->workers, 1, WORKERS}, {"--late", NUMBER, &search->asked_late, 0, LATE_WRITES},
+        {"--bound", NUMBER, &search->asked_bound, 0, BOUNDS - 1}, {"--fails", NUMBER, &search->fails, 0, 1000}, {"--changes", NUMBER, &search->changes, 0, 1000}, {"--workers", NUMBER, &search->workers, 1, WORKERS}, {"--late", NUMBER, &search->asked_late, 0, LATE_WRITES},
         {"--jobs", NUMBER, &asked->jobs, 1, 256}, {"--stop", NUMBER, &search->stops_at, 1, STEPS}, {"--pct", NUMBER, &search->pct, 1, DEPTH},
         {"--seed", LARGE, &search->asked_seed}, {"--runs", LARGE, &search->asked_runs, 1},
         {"--replay", PATH_TO, &asked->replay, .takes = "a schedule"}, {"--learn", PATH_TO, &asked->learns}, {"--expect-ends", PATH_TO, &asked->expects},

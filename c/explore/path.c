@@ -64,7 +64,7 @@ static const struct {
     Asks asks;
     uint8_t sign;
     const char *name;
-} signs[] = {{ANSWER_FAIL, FAIL, "fail"}, {ANSWER_INSIDE, INSIDE, "inside"}, {ANSWER_LATE, LATE, "late"}, {ANSWER_SEEN, SEEN, "seen"}};
+} signs[] = {{ANSWER_FAIL, FAIL, "fail"}, {ANSWER_INSIDE, INSIDE, "inside"}, {ANSWER_LATE, LATE, "late"}, {ANSWER_SEEN, SEEN, "seen"}, {ANSWER_CHANGED, CHANGED, "change"}};
 enum { SIGNS = sizeof signs / sizeof signs[0] };
 
 uint8_t ex_sign_of(Asks asks)

@@ -65,7 +65,10 @@ typedef struct KzPlace {
     /* The call of the kit that it makes, and where; none while its own code runs. Its function, and what was asked for. */
     const char *call;
     const void *from, *function;
+    const void *stack;          /* where that of the driver's code begins; NULL if it isn't looked at */
     const void *callers[2];     /* and in the driver's functions around that */
+    const char *answered;       /* the call whose answer is looked at, and where it returns to */
+    const void *answered_to;
     const char *request, *path; /* of the client that began the operation, or that asks; NULL if there is none */
     unsigned line;              /* of the request in its file; 0 if it has none */
     UCHAR major;                /* of the operation */
@@ -128,6 +131,7 @@ typedef struct KzFile {
     bool is_by_key;      /* it is opened by its key, whatever the names are */
     uint8_t cached;      /* formats in which its name was asked for while its create was under way, a bit each */
     bool is_counted;     /* among its file's open handles */
+    uint8_t refusal;     /* the status with which a folder of the host machine refused to delete it */
     bool is_volume;      /* it is of the volume itself, whose file is the root here */
     bool is_posix;       /* a deletion takes its name away with the handle's cleanup */
     bool is_sharing;     /* it counts in its file's share access */
@@ -180,9 +184,11 @@ typedef struct {
     struct KzProgramState *program;
     struct KzRangeState *range;
     struct KzReferenceState *reference;
+    struct KzRefusalState *refusal;
     struct KzRegistryState *registry;
     struct KzRoutineState *routine;
     struct KzSectionState *section;
+    struct KzStackState *stack;
     struct KzThreadState *thread;
     struct KzTimerState *timer;
     struct KzToldState *told;
@@ -191,6 +197,7 @@ typedef struct {
     struct KzWorkState *work;
     /* What is above the core, as run/open.c hands it down. */
     const struct KzModule *const *modules; /* up to NULL */
+    const struct KzModule *looking[8];     /* those that look at memory which is given back, the last one first, up to NULL */
     const struct KzObserver *observer;
     const struct KzStore *store;
 } KzHost;

@@ -20,17 +20,16 @@
 enum { NEAR = 1 << 20, BELOW = 256, PAGE_WRITE = 2, PAGE_RUN = 16, BACKWARDS_AND_TRAP = 0x500, FAST_FAIL = 0x139 };
 
 /* What an instruction of the kernel's is. */
-typedef enum { NONE, READS_CR8, WRITES_CR8, INTERRUPTS, FAILS_FAST, ASSERTS, BREAKS, TOUCHES_TIMES, IS_POINT, IS_ABSENT } Kind;
+typedef enum { NONE, READS_CR8, WRITES_CR8, READS_DEBUG, WRITES_DEBUG, INTERRUPTS, FAILS_FAST, ASSERTS, ASKS_DEBUGGER, BREAKS, TOUCHES_TIMES, IS_POINT, IS_ABSENT, IS_PRIVILEGED } Kind;
 
 typedef struct {
     KzContext context;
     Kind kind;
-    bool is_copy;
+    bool is_copy, is_unplaced; /* is_unplaced: the processor doesn't say which address it is: one that isn't aligned as the instruction wants it, or that none can be */
     int signal;
     uint64_t address, error, stood; /* stood: where the instruction was, if it was moved */
 } Fault;
 
-static const int numbers[16] = {REG_RAX, REG_RCX, REG_RDX, REG_RBX, REG_RSP, REG_RBP, REG_RSI, REG_RDI, REG_R8, REG_R9, REG_R10, REG_R11, REG_R12, REG_R13, REG_R14, REG_R15};
 static _Thread_local uint64_t given_up; /* nobody took an exception here: it is a crash */
 
 /* ---- Instructions. */
@@ -49,6 +48,13 @@ static Instruction instruction_at(uint64_t rip)
     return one;
 }
 
+/* Other control registers, descriptor tables, model-specific registers, caches, ports, hlt. */
+static bool is_privileged(const uint8_t *code)
+{
+    static const uint8_t alone[] = {0xe4, 0xe5, 0xe6, 0xe7, 0xec, 0xed, 0xee, 0xef, 0xf4}, behind[] = {0x00, 0x01, 0x06, 0x08, 0x09, 0x20, 0x22, 0x30, 0x32, 0x33};
+    return code[0] == 0x0f ? memchr(behind, code[1], sizeof behind) != NULL : memchr(alone, code[0], sizeof alone) != NULL;
+}
+
 static Kind kind_of(int signal, uint64_t rip, uint64_t address)
 {
     if (signal == SIGTRAP)
@@ -62,9 +68,13 @@ static Kind kind_of(int signal, uint64_t rip, uint64_t address)
     bool is_cr8 = code[0] == 0x0f && ((code[2] >> 3 & 7) | (one.rex & 4) << 1) == 8;
     if (is_cr8 && (code[1] == 0x20 || code[1] == 0x22))
         return code[1] == 0x20 ? READS_CR8 : WRITES_CR8;
+    if (code[0] == 0x0f && (code[1] == 0x21 || code[1] == 0x23))
+        return code[1] == 0x21 ? READS_DEBUG : WRITES_DEBUG;
     if (code[0] == 0xfa || code[0] == 0xfb)
         return INTERRUPTS;
-    return code[0] != 0xcd ? NONE : code[1] == 0x29 ? FAILS_FAST : code[1] == 0x2c ? ASSERTS : NONE;
+    if (code[0] == 0xcd)
+        return code[1] == 0x29 ? FAILS_FAST : code[1] == 0x2c ? ASSERTS : code[1] == 0x2d ? ASKS_DEBUGGER : NONE;
+    return is_privileged(code) ? IS_PRIVILEGED : NONE;
 }
 
 __attribute__((section("kz_stubs"), noinline)) uint64_t kz_move_irql(uint64_t level, bool is_read, const void *caller)
@@ -88,11 +98,50 @@ static void move_irql(KzContext *context, bool is_read)
     *integer = kz_move_irql(*integer, is_read, (const void *)(uintptr_t)context->rip);
 }
 
+/* What was written last: no breakpoint comes of it. The others are as the processor begins with them. */
+static void move_debug(KzContext *context, bool is_read)
+{
+    static _Thread_local uint64_t registers[8] = {[6] = 0xffff0ff0, [7] = 0x400};
+    Instruction one = instruction_at(context->rip);
+    uint64_t *integer = &context->integers[(one.opcode[2] & 7) | (one.rex & 1) << 3], *other = &registers[one.opcode[2] >> 3 & 7];
+    context->rip = (uintptr_t)one.opcode + 3;
+    if (is_read)
+        *integer = *other;
+    else
+        *other = *integer;
+}
+
+/* It isn't refused there. What would come of it isn't known here: the driver's run ends. */
+static void tell_privileged(uint64_t rip)
+{
+    KZ_INSIDE_FROM("the processor", kz_stub_caller);
+    kz_tell(KZM_NOT_MODELLED, "the processor", "an instruction of the kernel's that isn't carried out here: the driver ends with it");
+    given_up = rip;
+}
+
 /* NT_ASSERT: its expression isn't in the binary. */
 static void tell_assertion(void)
 {
     KZ_INSIDE_FROM("NT_ASSERT", kz_stub_caller);
     kz_tell(KZM_ASSERT, "NT_ASSERT", "an assertion doesn't hold");
+}
+
+/* Answers how far behind it the code goes on. Behind int 3 it stands already; behind int 2Dh a byte is passed over. */
+__attribute__((section("kz_stubs"), noinline)) static unsigned tell_interrupt(Kind kind)
+{
+    switch (kind) {
+    case INTERRUPTS:
+        return 1;
+    case ASSERTS:
+        tell_assertion();
+        return 2;
+    case FAILS_FAST:
+        KzBugCheck(FAST_FAIL);
+        return 0;
+    default:
+        KzBreak();
+        return kind == ASKS_DEBUGGER ? 3 : 0;
+    }
 }
 
 /* Its calls of the host come from the stubs' section, as those of a binary do. */
@@ -105,30 +154,27 @@ __attribute__((section("kz_stubs"), noinline)) static bool carry_out(Fault *faul
     case WRITES_CR8:
         move_irql(context, fault->kind == READS_CR8);
         return true;
-    case INTERRUPTS:
-        context->rip++;
+    case READS_DEBUG:
+    case WRITES_DEBUG:
+        move_debug(context, fault->kind == READS_DEBUG);
         return true;
     case TOUCHES_TIMES:
         context->rip = fault->stood;
         return kz_touch_times(context, fault->address);
-    case BREAKS: /* it stands behind it already */
-        KzBreak();
-        return true;
     case IS_POINT:
         kz_pass_point(context);
         return true;
     case IS_ABSENT:
         kz_tell_absent(fault->address, context->rip);
         return true;
-    case ASSERTS:
-        tell_assertion();
-        context->rip += 2;
+    case IS_PRIVILEGED:
+        tell_privileged(context->rip);
         return true;
-    case FAILS_FAST:
-        KzBugCheck(FAST_FAIL);
-        return true;
-    default:
+    case NONE:
         return false;
+    default:
+        context->rip += tell_interrupt(fault->kind);
+        return true;
     }
 }
 
@@ -145,7 +191,7 @@ static KzException exception_of(const Fault *fault, const KzContext *context)
         one.code = ACCESS_VIOLATION;
         one.count = 2;
         one.information[0] = fault->error & PAGE_RUN ? 8 : fault->error & PAGE_WRITE ? 1 : 0;
-        one.information[1] = fault->address;
+        one.information[1] = fault->is_unplaced ? UINT64_MAX : fault->address;
     } else
         one.code = PRIVILEGED_INSTRUCTION;
     return one;
@@ -191,21 +237,30 @@ static void leave_copy(KzContext *context)
     context->integers[KZ_RSP] += 8;
 }
 
+_Noreturn static void go_on(const KzContext *context)
+{
+    kz_faulted = NULL;
+    kz_restore(context);
+}
+
 _Noreturn void kz_fault(Fault *fault);
 _Noreturn void kz_fault(Fault *fault)
 {
+    kz_faulted = fault->kind == IS_POINT ? NULL : &fault->context;
     if (fault->kind != NONE && carry_out(fault))
-        kz_restore(&fault->context);
+        go_on(&fault->context);
     KzContext context = fault->context;
     if (fault->is_copy)
         leave_copy(&context);
+    kz_faulted = &context;
     tell_constant(fault, &context);
+    kz_faulted = NULL;
     KzException exception = exception_of(fault, &context);
     kz_stub_caller = (const void *)(uintptr_t)context.rip;
     kz_raise(&exception, &context);
     given_up = fault->context.rip;
     kz_stub_caller = (const void *)(uintptr_t)context.rip;
-    kz_restore(&fault->context); /* it is refused again, and that is the crash */
+    go_on(&fault->context); /* it is refused again, and that is the crash */
 }
 
 /* ---- Signals. */
@@ -215,7 +270,7 @@ static void leave_signal(ucontext_t *there, Fault with)
     Fault *fault = (Fault *)(((uintptr_t)registers[REG_RSP] - BELOW - sizeof *fault) & ~(uintptr_t)63);
     *fault = with;
     for (unsigned one = 0; one < 16; one++)
-        fault->context.integers[one] = (uint64_t)registers[numbers[one]];
+        fault->context.integers[one] = (uint64_t)registers[kz_registers[one]];
     fault->context.rip = (uint64_t)registers[REG_RIP];
     fault->context.eflags = (uint32_t)registers[REG_EFL];
     fault->context.mxcsr = there->uc_mcontext.fpregs->mxcsr;
@@ -228,7 +283,7 @@ static void leave_signal(ucontext_t *there, Fault with)
 static Fault fault_of(int signal, const siginfo_t *information, const ucontext_t *there)
 {
     const greg_t *registers = there->uc_mcontext.gregs;
-    return (Fault){.signal = signal, .address = (uintptr_t)information->si_addr, .error = (uint64_t)registers[REG_ERR], .stood = (uint64_t)registers[REG_RIP]};
+    return (Fault){.signal = signal, .address = (uintptr_t)information->si_addr, .error = (uint64_t)registers[REG_ERR], .is_unplaced = signal == SIGSEGV && information->si_code == SI_KERNEL, .stood = (uint64_t)registers[REG_RIP]};
 }
 
 /* Where the thread stands: an instruction that was moved stands where it was linked for. */
@@ -266,7 +321,7 @@ static bool carry_out_in_place(int signal, void *information, void *context)
     /* An address outside of code can't be read for its instruction. */
     const KzImage *image = kz_image_at(rip);
     const KzSection *section = image ? kz_section_at(&image->headers, (uint32_t)(rip - (uintptr_t)image->bytes.start)) : NULL;
-    fault.kind = section && section->is_run ? kind_of(signal, rip, fault.address) : NONE;
+    fault.kind = section && section->is_run && given_up != rip ? kind_of(signal, rip, fault.address) : NONE;
     if (fault.kind == NONE)
         return false;
     leave_signal(context, fault);
@@ -305,6 +360,7 @@ void kz_watch_faults(void)
     kz_binaries.enter = kz_enter_processor;
     kz_binaries.carry_out = carry_out_in_place;
     kz_binaries.raise = raise_in_place;
+    kz_watch_callers();
     kz_binaries.find_line = kz_find_image_line;
     kz_binaries.find_path = kz_find_image_path;
     kz_binaries.find_variable = kz_find_image_variable;

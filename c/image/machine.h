@@ -32,6 +32,8 @@ typedef struct KzException {
 } KzException;
 _Static_assert(sizeof(KzException) == 0x98 && offsetof(KzException, information) == 0x20, "layout");
 
+/* processor.c: which of a signal's registers is one of KzContext. */
+extern const int kz_registers[16];
 /* raise.S: goes on with those registers. */
 _Noreturn void kz_restore(const KzContext *context);
 /* Where a signal's handler has its thread go on, and the calls that copy memory on behalf of a binary. */
@@ -54,6 +56,10 @@ typedef struct {
 const KzFunction *kz_function_at(const KzImage *image, uint64_t address);
 /* False: the code is no binary's, or its tables are broken. */
 bool kz_step_out(KzContext *context, KzFrame *frame);
+
+/* callers.c: where the thread stands whose fault is looked at; and what the host asks for. */
+extern _Thread_local const KzContext *kz_faulted;
+void kz_watch_callers(void);
 
 /* exception.c: goes on where a handler takes it; returns where none does. */
 void kz_raise(KzException *exception, KzContext *context);

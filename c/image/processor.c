@@ -35,7 +35,7 @@ const uint64_t kz_times = 0xfffff78000000000;
 enum { INTERRUPT_TIME = 0x08, SYSTEM_TIME = 0x14, TICK_MULTIPLIER = 4, NT_MAJOR = 0x26c, NT_MINOR = 0x270, TICK_COUNT = 0x320 };
 enum { TRAP_FLAG = 0x100, MOFFS_READ = 0xa1 };
 static uint8_t page[KZ_PAGE] __attribute__((aligned(KZ_PAGE)));
-static const int numbers[16] = {REG_RAX, REG_RCX, REG_RDX, REG_RBX, REG_RSP, REG_RBP, REG_RSI, REG_RDI, REG_R8, REG_R9, REG_R10, REG_R11, REG_R12, REG_R13, REG_R14, REG_R15};
+const int kz_registers[16] = {REG_RAX, REG_RCX, REG_RDX, REG_RBX, REG_RSP, REG_RBP, REG_RSI, REG_RDI, REG_R8, REG_R9, REG_R10, REG_R11, REG_R12, REG_R13, REG_R14, REG_R15};
 static _Thread_local struct {
     uint64_t at, before, between;
     int which;
@@ -111,8 +111,8 @@ bool kz_end_touch(void *context)
         return false;
     if ((uint64_t)registers[REG_RIP] == step.at)
         return true;
-    if ((uint64_t)registers[numbers[step.which]] == step.between)
-        registers[numbers[step.which]] = (greg_t)step.before;
+    if ((uint64_t)registers[kz_registers[step.which]] == step.between)
+        registers[kz_registers[step.which]] = (greg_t)step.before;
     registers[REG_EFL] &= ~(greg_t)TRAP_FLAG;
     step.is_on = false;
     return true;

@@ -1,6 +1,7 @@
 /* Calls with any number of arguments. Those of Windows lie one behind the other, 8 bytes each, and its va_list is where the first one lies. A va_list of Linux that has used up its
  * registers reads them so too: no formatting is done twice. */
 #include "image/calls.h"
+#include "core/client.h"
 
 #include <stdarg.h>
 
@@ -39,10 +40,18 @@ static void begin(va_list to, void *first)
     }
 #define P(...) __VA_ARGS__
 
-ANY(ULONG, DbgPrint, PCSTR format, format, vDbgPrintEx(DPFLTR_DEFAULT_ID, DPFLTR_INFO_LEVEL, format, list))
-ANY(ULONG, DbgPrintEx, P(ULONG component, ULONG level, PCSTR format), format, vDbgPrintEx(component, level, format, list))
-LIST(ULONG, vDbgPrintEx, P(ULONG component, ULONG level, PCSTR format), vDbgPrintEx(component, level, format, list))
-LIST(ULONG, vDbgPrintExWithPrefix, P(PCSTR prefix, ULONG component, ULONG level, PCSTR format), vDbgPrintExWithPrefix(prefix, component, level, format, list))
+static ULONG print(const char *name, PCSTR prefix, ULONG component, ULONG level, PCSTR format, va_list list)
+{
+    KZ_INSIDE_FROM(name, kz_stub_caller);
+    return vDbgPrintExWithPrefix(prefix, component, level, format, list);
+}
+
+ANY(ULONG, DbgPrint, PCSTR format, format, print("DbgPrint", "", DPFLTR_DEFAULT_ID, DPFLTR_INFO_LEVEL, format, list))
+ANY(ULONG, DbgPrintEx, P(ULONG component, ULONG level, PCSTR format), format, print("DbgPrintEx", "", component, level, format, list))
+LIST(ULONG, vDbgPrintEx, P(ULONG component, ULONG level, PCSTR format), print("vDbgPrintEx", "", component, level, format, list))
+LIST(ULONG, vDbgPrintExWithPrefix, P(PCSTR prefix, ULONG component, ULONG level, PCSTR format), print("vDbgPrintExWithPrefix", prefix, component, level, format, list))
+ANY(NTSTATUS, WmiTraceMessage, P(ULONG64 logger, ULONG flags, LPCGUID of, USHORT number), number, WmiTraceMessageVa(logger, flags, of, number, list))
+LIST(NTSTATUS, WmiTraceMessageVa, P(ULONG64 logger, ULONG flags, LPCGUID of, USHORT number), WmiTraceMessageVa(logger, flags, of, number, list))
 ANY(int, _snwprintf, P(WCHAR *to, size_t room, const WCHAR *format), format, KzVsnwprintf(to, room, format, list))
 ANY(int, _snprintf, P(char *to, size_t room, const char *format), format, KzVsnprintf(to, room, format, list))
 LIST(int, _vsnwprintf, P(WCHAR *to, size_t room, const WCHAR *format), KzVsnwprintf(to, room, format, list))

@@ -4,7 +4,7 @@
 
 enum { HAS_HANDLER = 1, HAS_TERMINATION = 2, IS_CHAINED = 4 };
 enum { PUSH_NONVOL, ALLOC_LARGE, ALLOC_SMALL, SET_FPREG, SAVE_NONVOL, SAVE_NONVOL_FAR, EPILOG, SPARE_CODE, SAVE_XMM128, SAVE_XMM128_FAR, PUSH_MACHFRAME };
-enum { MOST_CHAINED = 32 };
+enum { MOST_CHAINED = 32, FURTHEST = 1 << 20 };
 
 /* UNWIND_INFO, whose codes stand behind it. */
 typedef struct {
@@ -156,6 +156,8 @@ static bool undo_function(KzContext *context, KzFrame *frame)
         if (!read_part(&part))
             return false;
         uint64_t base = base_of(&part, context);
+        if (base - context->integers[KZ_RSP] >= FURTHEST) /* its register isn't known, or code without tables left it anyhow */
+            return false;
         if (count == 0)
             frame->frame = base;
         take_handler(&part, frame);

@@ -1260,6 +1260,16 @@ typedef enum _TRACE_INFORMATION_CLASS {
     WdfNotifyRoutinesClass,
     MaxTraceInformationClass
 } TRACE_INFORMATION_CLASS;
+/* What WPP's code calls. */
+#define WMIREG_ACTION_REGISTER 1
+#define WMIREG_ACTION_DEREGISTER 2
+#define WMIREG_ACTION_REREGISTER 3
+#define WMIREG_ACTION_UPDATE_GUIDS 4
+#define WMIREG_ACTION_BLOCK_IRPS 5
+NTSTATUS IoWMIRegistrationControl(struct _DEVICE_OBJECT *DeviceObject, ULONG Action);
+NTSTATUS WmiQueryTraceInformation(TRACE_INFORMATION_CLASS TraceInformationClass, PVOID TraceInformation, ULONG TraceInformationLength, PULONG RequiredLength, PVOID Buffer);
+NTSTATUS WmiTraceMessage(ULONG64 LoggerHandle, ULONG MessageFlags, LPCGUID MessageGuid, USHORT MessageNumber, ...);
+NTSTATUS WmiTraceMessageVa(ULONG64 LoggerHandle, ULONG MessageFlags, LPCGUID MessageGuid, USHORT MessageNumber, va_list MessageArgList);
 typedef struct _EVENT_FILTER_HEADER {
     USHORT Id;
     UCHAR Version;

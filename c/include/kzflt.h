@@ -73,6 +73,8 @@ KzCounts kz_counts(void);
 /* A message that isn't told, by its number, as "KZ0107"; false if there is none. It holds for all runs from then on. Strict: what differs from Windows (LIMIT) counts as told. */
 bool kz_allow(const char *id);
 void kz_be_strict(bool is);
+/* Each call of the kit by a driver that is refused is said on the standard error, once for its line: from then on. */
+void kz_show_refusals(void);
 /* Writes what a message says, what Windows does there, and how it is mended, to the standard output; of `all` the rows of docs/TOLD.md. False if there is none of that number. */
 bool kz_explain(const char *id);
 

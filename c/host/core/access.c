@@ -156,12 +156,22 @@ void kz_open_all_owned(void)
             give_rights(piece, OPEN);
 }
 
+static KzPiece *owned_at(const void *address, KzOwner owner)
+{
+    KzPiece *piece = kz.access->first;
+    while (piece && (piece->owner != owner || !lies_in(address, piece)))
+        piece = piece->owned;
+    return piece;
+}
+
 bool kz_is_paged(const void *address)
 {
-    const KzPiece *piece = kz.access->first;
-    while (piece && (piece->owner != KZ_PAGED || !lies_in(address, piece)))
-        piece = piece->owned;
-    return piece != NULL;
+    return owned_at(address, KZ_PAGED) != NULL;
+}
+
+KzPiece *kz_callers_at(const void *address)
+{
+    return owned_at(address, KZ_CALLERS);
 }
 
 void kz_must_be_there(const void *object, const char *kind, const char *call)

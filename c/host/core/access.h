@@ -17,6 +17,8 @@ void kz_shut_owned(void);
 void kz_open_all_owned(void);
 /* Whether the driver's variables there can be paged out. */
 bool kz_is_paged(const void *address);
+/* The piece there that is a caller's own; NULL if it is none. */
+KzPiece *kz_callers_at(const void *address);
 /* What the kernel itself waits for or spins on may not be paged out: that it can be is told. */
 void kz_must_be_there(const void *object, const char *kind, const char *call);
 /* Where the driver's own code stands there, or makes the call of the C library that does; NULL if neither. */

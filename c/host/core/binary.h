@@ -48,6 +48,8 @@ typedef struct {
     /* The processor refused an instruction: whether it was carried out in place of it, and whether the exception that it is goes on in a handler. */
     bool (*carry_out)(int signal, void *information, void *context);
     bool (*raise)(int signal, void *information, void *context);
+    void (*note_callers)(const void *frame, const void *from); /* as kz_note_callers (core/frame.h), of the client's place */
+    void (*note_callers_at)(const void *context);              /* the same where a signal came */
     bool (*find_line)(uintptr_t address, char *room, size_t size);
     const char *(*find_path)(uintptr_t address, unsigned *line);        /* of the source; NULL if it isn't known */
     bool (*find_variable)(uintptr_t address, char *room, size_t size); /* its name, and how far it is behind it */

@@ -2,6 +2,7 @@
 #include "core/client.h"
 
 #include "core/access.h"
+#include "core/answer.h"
 #include "core/beside.h"
 #include "core/clock.h"
 #include "core/frame.h"
@@ -9,6 +10,7 @@
 #include "core/late.h"
 #include "core/module.h"
 #include "core/said.h"
+#include "core/stack.h"
 #include "core/unwritten.h"
 
 #include <stdarg.h>
@@ -45,6 +47,7 @@ unsigned kz_go_inside_unsaid(void)
     if (kz_me->inside > 0)
         return kz_me->inside++;
     kz_scheduler->lock();
+    kz_free_stack();
     kz_me->calls++;
     kz_me->inside = 1;
     return 0;
@@ -56,9 +59,14 @@ unsigned kz_go_inside(const char *name, const void *from)
     unsigned depth = kz_go_inside_unsaid();
     if (depth > 0)
         return depth;
+    if (from == kz_answered)
+        from = kz_me->place.answered_to;
     kz_me->place.call = name;
     kz_me->place.from = from;
     kz_note_callers(kz_me->place.callers, __builtin_frame_address(0), from);
+    if (kz_is_binary(from))
+        kz_binaries.note_callers(__builtin_frame_address(0), from);
+    kz_watch_answer(__builtin_frame_address(0), name, from);
     kz_check_irql(name);
     return 0;
 }
@@ -76,6 +84,7 @@ static void let_code_go_on(void)
     if (kz_binaries.run)
         kz_binaries.run();
     kz_shut_owned();
+    kz_bound_stack();
 }
 
 void kz_end_inside(unsigned *depth)
@@ -110,6 +119,7 @@ static unsigned step_out(const char *name)
 unsigned kz_let_function(const char *name, const void *function)
 {
     kz_me->place.function = function;
+    kz_begin_stack(__builtin_frame_address(0));
     if (!kz_scheduler->has_pages)
         kz_look_at_code((const uint8_t *)function + 1);
     unsigned depth = step_out(name);
@@ -121,6 +131,7 @@ void kz_driver_returned(unsigned depth, const char *name)
 {
     kz_scheduler->point(name, NULL);
     kz_scheduler->lock();
+    kz_free_stack();
     kz_me->inside = depth;
     kz_open_all_owned();
 }

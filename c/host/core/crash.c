@@ -133,7 +133,9 @@ static const void *stack_of(const siginfo_t *information, const void *context)
 static void note_callers(const void *context, const void *stack)
 {
 #ifdef __x86_64__
-    if (stack && kz_me->inside == 0)
+    if (stack && kz_me->inside == 0 && (kz_is_binary(kz_code_at(context)) || kz_is_stub(kz_code_at(context))))
+        kz_binaries.note_callers_at(context);
+    else if (stack && kz_me->inside == 0)
         kz_note_callers_of(kz_me->place.callers, (const void *)((const ucontext_t *)context)->uc_mcontext.gregs[REG_RBP], stack);
 #else
     (void)context, (void)stack;

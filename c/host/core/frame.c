@@ -29,16 +29,29 @@ static void note(const void *callers[2], const Frame *frame)
     callers[1] = callers[0] && kz_is_drivers_code(frame->caller->returns) ? frame->caller->returns : NULL;
 }
 
-void kz_note_callers(const void *callers[2], const void *frame, const void *from)
+/* The frame whose function was called, by others in between, from there; NULL if that isn't a driver's code. */
+static const Frame *frame_from(const Frame *at, const void *from)
 {
-    const Frame *at = frame;
-    callers[0] = callers[1] = NULL;
     if (!kz_is_drivers_code(from))
-        return;
+        return NULL;
     for (unsigned between = 0; at->returns != from; at = at->caller)
         if (++between == BETWEEN)
-            return;
-    note(callers, at->caller);
+            return NULL;
+    return at;
+}
+
+void kz_note_callers(const void *callers[2], const void *frame, const void *from)
+{
+    const Frame *at = frame_from(frame, from);
+    callers[0] = callers[1] = NULL;
+    if (at)
+        note(callers, at->caller);
+}
+
+const void **kz_return_to(const void *frame, const void *from)
+{
+    const Frame *at = frame_from(frame, from);
+    return at ? (const void **)(uintptr_t)&at->returns : NULL;
 }
 
 void kz_note_callers_of(const void *callers[2], const void *frame, const void *stack)

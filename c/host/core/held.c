@@ -17,7 +17,7 @@ typedef struct {
     bool is_shared;
     KIRQL irql, before; /* to which it raises, and at which it was taken */
     const char *call;
-    const void *from; /* where */
+    const void *from, *callers[2]; /* where, as KzPlace has it */
     uint64_t place; /* the callback's number: kz_me->place.number */
 } Held;
 
@@ -157,7 +157,7 @@ static void note(PVOID lock, int how, KIRQL irql, const char *call)
     if (one)
         one->count++;
     else
-        add((Held){lock, kz_me, 1, is_shared(how), irql, kz_irql(), call, kz_me->place.from, kz_me->place.number});
+        add((Held){lock, kz_me, 1, is_shared(how), irql, kz_irql(), call, kz_me->place.from, {kz_me->place.callers[0], kz_me->place.callers[1]}, kz_me->place.number});
     kz_scheduler->touch(lock, 0, KZT_TAKES);
 }
 
@@ -258,6 +258,7 @@ void kz_tell_locks(void)
         bool is_region = kz.held->all[at].lock == &kz_me->region;
         kz_me->place.call = kz.held->all[at].call;
         kz_me->place.from = kz.held->all[at].from;
+        memcpy(kz_me->place.callers, kz.held->all[at].callers, sizeof kz_me->place.callers);
         kz_tell(KZM_LOCK_AT_RETURN, kz.held->all[at].call, is_region ? "the critical region isn't left as the callback returns" : "the lock is still held as the callback returns");
         kz.held->all[at].count = 1;
         kz_me->place.from = NULL;

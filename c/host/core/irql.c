@@ -120,6 +120,7 @@ static const Rule rules[] = {
     {"IoDeleteDevice", APC_LEVEL},
     {"IoDeleteSymbolicLink", APC_LEVEL},
     {"IoVolumeDeviceToDosName", APC_LEVEL},
+    {"IoWMIRegistrationControl", PASSIVE_LEVEL},
     {"KeAcquireGuardedMutex", APC_LEVEL},
     {"KeDelayExecutionThread", APC_LEVEL},
     {"KeEnterCriticalRegion", APC_LEVEL},

@@ -100,9 +100,10 @@ enum {
     /* The driver's own. */
     KZM_ASSERT = 191,
     KZM_BUG_CHECK = 192,
-    /* Its sections and its stack, where it is a binary. */
+    /* Its sections, where it is a binary. */
     KZM_GONE = 193,
     KZM_READ_ONLY = 194,
+    /* Its stack. */
     KZM_STACK = 195,
 
     /* Contexts. */

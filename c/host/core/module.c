@@ -13,11 +13,24 @@ static void **state_of(const KzModule *one)
     return (void **)((char *)&kz + one->place);
 }
 
+/* Most look at no memory, and it is given back all the time. */
+static void note_looking(void)
+{
+    size_t count = 0, found = 0;
+    for EACH (one)
+        count++;
+    while (count-- > 0)
+        if (kz.modules[count]->memory_goes)
+            kz.looking[found++] = kz.modules[count];
+    kz.looking[found] = NULL;
+}
+
 void kz_begin_modules(void)
 {
     for EACH (one)
         if ((*one)->size)
             *state_of(*one) = kz_memory((*one)->size);
+    note_looking();
 }
 
 void kz_end_modules(void)
@@ -69,12 +82,8 @@ bool kz_has_any_of(PFLT_FILTER filter)
 
 void kz_memory_goes(const void *memory, size_t size)
 {
-    size_t count = 0;
-    for EACH (one)
-        count++;
-    while (count-- > 0)
-        if (kz.modules[count]->memory_goes)
-            kz.modules[count]->memory_goes(memory, size);
+    for (const KzModule *const *one = kz.looking; *one; one++)
+        (*one)->memory_goes(memory, size);
 }
 
 void kz_operation_ends(KzOp *op)
@@ -136,4 +145,10 @@ void kz_replied(KzReply reply, NTSTATUS other, const uint8_t *bytes, size_t leng
 bool kz_fails_now(KzChoice what)
 {
     return kz.observer && kz.observer->fails(what);
+}
+
+void kz_call_answered(const char *call, NTSTATUS status)
+{
+    if (kz.observer && kz.observer->answered)
+        kz.observer->answered(call, status);
 }

@@ -32,6 +32,7 @@ typedef struct KzObserver {
     bool (*told)(const KzSaid *said, bool is_counted);
     void (*replied)(KzReply reply, NTSTATUS other, const uint8_t *bytes, size_t length);
     bool (*fails)(KzChoice what);
+    void (*answered)(const char *call, NTSTATUS status); /* a driver's call: what it returned, which isn't a status of each */
 } KzObserver;
 
 /* Their states, all zeros. */
@@ -53,5 +54,6 @@ void kz_entered(KzCallback callback, PFLT_FILTER filter);
 bool kz_observe(const KzSaid *said, bool is_counted);
 void kz_replied(KzReply reply, NTSTATUS other, const uint8_t *bytes, size_t length);
 bool kz_fails_now(KzChoice what);
+void kz_call_answered(const char *call, NTSTATUS status);
 
 #endif

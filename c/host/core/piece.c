@@ -7,6 +7,7 @@
 #include "core/access.h"
 #include "core/client.h"
 #include "core/edge.h"
+#include "core/memory.h"
 #include "core/module.h"
 #include "core/operation.h"
 #include "core/place.h"
@@ -42,6 +43,7 @@ enum { LISTS = KZ_FIRST_THREAD + KZ_THREADS };
 struct KzPieceState {
     KzPiece *places[PLACES]; /* by their address */
     size_t count, guarded;
+    unsigned lists; /* up to the last one that was ever used */
     unsigned returns; /* since all were looked at */
     /* Of each client the pieces that it took, the newest first, and those that it gave back: so their order is its own alone. Whoever has the manager has these too. */
     KzPiece *taken[LISTS];
@@ -58,9 +60,9 @@ static unsigned my_list(void)
 
 static KzPiece *first_from(unsigned list)
 {
-    while (list < LISTS && !kz.piece->taken[list])
+    while (list < kz.piece->lists && !kz.piece->taken[list])
         list++;
-    return list < LISTS ? kz.piece->taken[list] : NULL;
+    return list < kz.piece->lists ? kz.piece->taken[list] : NULL;
 }
 
 KzPiece *kz_first_piece(void)
@@ -179,9 +181,18 @@ static void let_go(KzPiece *piece)
     free(piece);
 }
 
+/* What a driver asks for may be refused. The host's own has what a server keeps back. */
+static KzPiece *allocate_own(KzMemory kind, size_t size)
+{
+    KzPiece *piece = allocate(kind, size);
+    while (!piece && kind != KZK_POOL && kind != KZK_CONTEXT && kz_give_way())
+        piece = allocate(kind, size);
+    return piece;
+}
+
 void *kz_take_memory(KzMemory kind, size_t size, int fill, ULONG tag)
 {
-    KzPiece *piece = size <= KZ_LARGEST ? allocate(kind, size) : NULL;
+    KzPiece *piece = size <= KZ_LARGEST ? allocate_own(kind, size) : NULL;
     if (!piece)
         return NULL;
     KzPiece **first = &kz.piece->taken[my_list()];
@@ -195,6 +206,8 @@ void *kz_take_memory(KzMemory kind, size_t size, int fill, ULONG tag)
     if (*first)
         (*first)->before = piece;
     *first = piece;
+    if (piece->list >= kz.piece->lists)
+        kz.piece->lists = piece->list + 1;
     enter_table(piece);
     memset(body_of(piece) - ZONE, KZ_ZONE_BYTE, ZONE);
     memset(body_of(piece), fill, size);
@@ -362,11 +375,16 @@ void kz_check_blocks(const KzOp *op)
         kz_check_piece(kz_piece_of(block->bytes));
 }
 
+static bool is_written(const KzPiece *piece)
+{
+    return !piece->is_shut && !piece->is_touched && !is_filled(body_of(piece), piece->size, KZ_GONE_BYTE);
+}
+
 /* Whether memory that was given back was written since: then that is told, once. */
 static void look_at(KzPiece *piece)
 {
     char tag[8], where[32] = "";
-    if (piece->is_shut || piece->is_touched || is_filled(body_of(piece), piece->size, KZ_GONE_BYTE))
+    if (!is_written(piece))
         return;
     if (piece->place.from)
         snprintf(where, sizeof where, " at @%lx", (unsigned long)kz_in_file(piece->place.from));
@@ -398,9 +416,11 @@ static void forget(KzPiece **place)
     *place = NULL;
     if (!piece)
         return;
-    KzPlace before = kz_enter(KZ_IN_NOTHING, kz_worker(), piece->filter, NULL, NULL, NULL);
-    look_at(piece);
-    kz_me->place = before;
+    if (is_written(piece)) {
+        KzPlace before = kz_enter(KZ_IN_NOTHING, kz_worker(), piece->filter, NULL, NULL, NULL);
+        look_at(piece);
+        kz_me->place = before;
+    }
     let_go(piece);
 }
 

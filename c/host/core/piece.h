@@ -35,6 +35,7 @@ typedef struct KzPiece {
     struct KzPiece *owned, *owned_before; /* those that aren't everybody's */
     uint64_t process;                     /* whose it is */
     unsigned locks;                       /* MDLs that have its pages */
+    bool has_changed;                     /* by its program, under the explorer */
     int rights;                           /* of its pages */
     bool is_let;                          /* to who touches it since its IRQL or process changed */
     const void *lookaside; /* the list that it is of; NULL if it is of none */

@@ -82,7 +82,7 @@ static size_t ask(const char *reader, const char *program, uintptr_t address, ch
 /* ---- Lines. */
 bool kz_is_left_out(const char *path)
 {
-    static const char *const folders[] = {"/c/include/", "/c/host/", "Windows Kits\\", "/x86_64-w64-mingw32/", "/lib/clang/"};
+    static const char *const folders[] = {"/c/include/", "/c/host/", "Windows Kits\\", "/x86_64-w64-mingw32/", "/mingw-w64/include/", "/lib/clang/"};
     for (size_t at = 0; at < sizeof folders / sizeof folders[0]; at++)
         if (strstr(path, folders[at]))
             return true;

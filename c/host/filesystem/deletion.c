@@ -125,14 +125,17 @@ void kz_count_no_open(KzFile *file)
     file->name->node->opens--;
 }
 
-void kz_delete_name(KzName *name)
+uint8_t kz_delete_name(KzName *name)
 {
     KzNode *node = name->node;
+    uint8_t status = kz_unlink_in_folder(name->volume->id, name->text);
+    if (status != KZS_OK && status != KZS_FILE_NOT_FOUND)
+        return status;
     kz_notify(name, node->is_directory ? FILE_NOTIFY_CHANGE_DIR_NAME : FILE_NOTIFY_CHANGE_FILE_NAME, FILE_ACTION_REMOVED);
     kz_names_moved(name->volume);
     kz_put_in_tunnel(name);
-    kz_unlink_in_folder(name->volume->id, name->text);
     kz_take_away(name);
+    return status;
 }
 
 void kz_end_cleanup(KzFile *file)
@@ -148,7 +151,7 @@ void kz_end_cleanup(KzFile *file)
     if (gone && !gone->is_gone && (!node->opens || file->is_posix)) {
         node->is_marked = false;
         node->marked = NULL;
-        kz_delete_name(gone);
+        file->refusal = kz_delete_name(gone);
     } else if (!node->links) {
         drop_bytes(name);
     }

@@ -59,10 +59,9 @@ NTSTATUS kz_make_in_folder(uint8_t volume, const char *name)
     return kz_is_in_folder(volume) ? kz_ntstatus(kz_folder_make(&disk.folder, name).status) : STATUS_SUCCESS;
 }
 
-void kz_unlink_in_folder(uint8_t volume, const char *name)
+uint8_t kz_unlink_in_folder(uint8_t volume, const char *name)
 {
-    if (kz_is_in_folder(volume))
-        kz_folder_unlink(&disk.folder, name);
+    return kz_is_in_folder(volume) ? kz_folder_unlink(&disk.folder, name).status : KZS_OK;
 }
 
 /* ---- Calls. Below the folder a file is what its name leads to now. */

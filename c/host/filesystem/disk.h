@@ -15,6 +15,7 @@ NTSTATUS kz_make_in_folder(uint8_t volume, const char *name);
 bool kz_is_in_folder(uint8_t volume);
 /* A call of the base of that worker; false if it is none of the folder's. */
 bool kz_call_in_folder(uint8_t worker, const KzFile *file);
-void kz_unlink_in_folder(uint8_t volume, const char *name);
+/* A status of the manager's. */
+uint8_t kz_unlink_in_folder(uint8_t volume, const char *name);
 
 #endif

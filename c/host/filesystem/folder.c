@@ -276,11 +276,21 @@ KzFolderAnswer kz_folder_make(const KzFolder *folder, const char *path)
     return done(place, place != -1 && mkdirat(place, last_of(path, &name), 0777) == 0 && sync_names(place));
 }
 
+/* How it is removed; -1 with errno: it isn't there, or is neither a file nor a link nor a directory. */
+static int removal_of(int place, const char *name)
+{
+    struct stat is;
+    if (place == -1 || fstatat(place, name, &is, AT_SYMLINK_NOFOLLOW) != 0)
+        return -1;
+    errno = EIO;
+    return S_ISDIR(is.st_mode) ? AT_REMOVEDIR : S_ISREG(is.st_mode) || S_ISLNK(is.st_mode) ? 0 : -1;
+}
+
 KzFolderAnswer kz_folder_unlink(const KzFolder *folder, const char *path)
 {
     Spelt name;
-    int place = open_above(folder, path);
-    return done(place, place != -1 && (unlinkat(place, last_of(path, &name), 0) == 0 || unlinkat(place, name.text, AT_REMOVEDIR) == 0) && sync_names(place));
+    int place = open_above(folder, path), how = removal_of(place, last_of(path, &name));
+    return done(place, how != -1 && unlinkat(place, name.text, how) == 0 && sync_names(place));
 }
 
 static KzFolderAnswer list(const KzFolder *folder)

@@ -52,8 +52,10 @@ ULONG vDbgPrintExWithPrefix(PCSTR Prefix, ULONG ComponentId, ULONG Level, PCSTR 
 {
     (void)ComponentId, (void)Level;
     KZ_INSIDE();
-    Piece piece = {0};
+    Piece piece;
     va_list arguments;
+    piece.length = 0;
+    piece.text[0] = 0;
     va_copy(arguments, Arguments);
     if (kz_me->place.call && has_wide_text(Format))
         look_at_wide_text(Format, &arguments);

@@ -37,3 +37,29 @@ NTSTATUS EtwWriteTransfer(REGHANDLE RegHandle, PCEVENT_DESCRIPTOR EventDescripto
     (void)RelatedActivityId;
     return EtwWrite(RegHandle, EventDescriptor, ActivityId, UserDataCount, UserData);
 }
+
+/* ---- What WPP's code calls. Whoever registers isn't asked to trace: so no handle of a session is a right one. */
+NTSTATUS IoWMIRegistrationControl(PDEVICE_OBJECT DeviceObject, ULONG Action)
+{
+    KZ_INSIDE();
+    (void)DeviceObject, (void)Action;
+    return STATUS_SUCCESS;
+}
+
+NTSTATUS WmiQueryTraceInformation(TRACE_INFORMATION_CLASS TraceInformationClass, PVOID TraceInformation, ULONG TraceInformationLength, PULONG RequiredLength, PVOID Buffer)
+{
+    (void)TraceInformationClass, (void)TraceInformation, (void)TraceInformationLength, (void)RequiredLength, (void)Buffer;
+    return STATUS_NOT_FOUND;
+}
+
+NTSTATUS WmiTraceMessage(ULONG64 LoggerHandle, ULONG MessageFlags, LPCGUID MessageGuid, USHORT MessageNumber, ...)
+{
+    (void)LoggerHandle, (void)MessageFlags, (void)MessageGuid, (void)MessageNumber;
+    return STATUS_INVALID_HANDLE;
+}
+
+NTSTATUS WmiTraceMessageVa(ULONG64 LoggerHandle, ULONG MessageFlags, LPCGUID MessageGuid, USHORT MessageNumber, va_list MessageArgList)
+{
+    (void)MessageArgList;
+    return WmiTraceMessage(LoggerHandle, MessageFlags, MessageGuid, MessageNumber);
+}

@@ -29,6 +29,7 @@ struct KzContextState {
     KzContext *live;
     /* All that are live by their bodies' addresses, and those that the manager knows by their slots. */
     KzContext *places[PLACES], **slots;
+    size_t known; /* by the manager: without one none is ever due */
     size_t slots_room;
     KzContext dead[REMEMBERED];
     size_t dead_next;
@@ -183,10 +184,13 @@ static KzContext *take_due(uint8_t worker)
 /* What is due in the manager: another worker takes it. As in the kit, it is called inside the call that gave up the last reference. */
 void kz_clean_up(void)
 {
+    if (!kz.context->known)
+        return;
     uint8_t worker = kz_helper();
     KzContext *context = take_due(worker);
     while (context) {
         context->is_known = false;
+        kz.context->known--;
         kz.context->slots[context->slot] = NULL;
         if (!context->kept)
             finish(context, worker);
@@ -216,6 +220,7 @@ uint32_t kz_make_known(KzContext *context)
         context->slot = made.told.slot;
         context->generation = made.told.generation;
         context->is_known = true;
+        kz.context->known++;
         enter_slot(context);
         kz_note_taken(context->body);
     }

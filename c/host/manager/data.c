@@ -4,6 +4,7 @@
 #include "core/access.h"
 #include "core/client.h"
 #include "core/major.h"
+#include "core/pool.h"
 #include "core/state.h"
 #include "core/told.h"
 #include "filesystem/fileobject.h"
@@ -34,7 +35,7 @@ void kz_free_data(KzOp *op)
         kz_leave_visit(op);
     for (; op->mdls; op->mdls = op->mdls->next)
         if (op->mdls->mdl)
-            IoFreeMdl(op->mdls->mdl);
+            kz_free_pool(op->mdls->mdl, "IoFreeMdl");
     kz_give_back(op->iopb);
     kz_give_back(op->data);
     while (op->blocks) {
@@ -197,9 +198,13 @@ static bool changed(KzOp *op, KazdrinEvent *event, const uint8_t **bytes, size_t
     }
 }
 
+/* What its own program has changed isn't the driver's doing. */
 static bool is_in_place(KzOp *op)
 {
-    return op->shown.asked && memcmp(op->shown.asked, op->shown.pristine, op->shown.asked_length) != 0;
+    if (!op->shown.asked || memcmp(op->shown.asked, op->shown.pristine, op->shown.asked_length) == 0)
+        return false;
+    const KzPiece *piece = kz_piece_of(op->shown.asked);
+    return !piece || !piece->has_changed;
 }
 
 /* Whether the parameters differ from those that the callback was shown, or from those that it left. */

@@ -462,10 +462,14 @@ KzReply kz_close_file(uint64_t handle)
     KzAnswer answer = run(&(KzBegin){.event = {.event = KZE_CLEANUP, .handle = handle}, .bytes = ""});
     KzReply reply = answer.reply;
     KzFile *file = !reply.held && reply.status == KZS_OK ? kz_file_of(handle) : NULL;
+    const KzFile *open = kz_file_of(handle);
+    uint8_t refusal = open ? open->refusal : KZS_OK;
     if (file && file->users > 1 && (kz_has_others() || kz_is_referenced(&file->object)))
         file->is_close_due = true; /* as in the kit: whoever ends the last operation of a file object closes it */
     else if (!reply.held && (reply.status == KZS_OK || reply.status == KZS_WRONG_STEP))
         answer = run(&(KzBegin){.event = {.event = KZE_CLOSE, .handle = handle}, .bytes = ""});
+    if (!answer.reply.held && answer.reply.status == KZS_OK)
+        answer.reply.status = refusal;
     answer.length = 0;
     put_answer(answer);
     kz_settle();

@@ -43,6 +43,7 @@ KzPlace kz_place_of_taken(const void *body)
         return place;
     place.call = one->place.call;
     place.from = one->place.from;
+    memcpy(place.callers, one->place.callers, sizeof place.callers);
     *one = (KzTaken){0};
     return place;
 }

@@ -74,7 +74,8 @@ static bool is_met(const char *kind, const char *value, char *now, size_t size)
         return strcmp(now, value) == 0;
     }
     if (strcmp(kind, "callbacks") == 0) {
-        snprintf(now, size, "callbacks %s", *kz_seen.callbacks ? kz_seen.callbacks : "none");
+        const char *called = kz_callbacks();
+        snprintf(now, size, "callbacks %s", *called ? called : "none");
         return strcmp(now + 10, value) == 0;
     }
     return is_told(value, now, size);

@@ -24,7 +24,8 @@ static int usage(const char *name, FILE *to)
             "usage: %s [WORD..] [REQUESTS..], or %s --load SCENARIO, or %s --explain KZ0000\n"
             "  what is played     REQUESTS.. or else the standard input, --folder FOLDER, --dispatch none|data|all\n"
             "                     --fill: under two fills of memory that nobody wrote, and what differs is reported\n"
-            "  what is shown      --explain KZ0000, --quiet, --json, --junit FILE, --allow KZ0000, --strict\n"
+            "  what is shown      --explain KZ0000, --quiet, --json, --junit FILE, --allow KZ0000, --strict,\n"
+            "                     --refusals: each call of a driver that is refused, once for its line\n"
             "  threads            --load SCENARIO [--threads N] [--seconds S] [--seed N]\n"
             "  a callback's end   --patience S: so many seconds of the processor's time it may take (3)\n",
             name, name, name);
@@ -65,6 +66,8 @@ static bool read_words(int count, char **words, Asked *asked)
             kz_is_quiet = 1;
         else if (strcmp(words[at], "--fill") == 0)
             asked->is_filled = true;
+        else if (strcmp(words[at], "--refusals") == 0)
+            kz_show_refusals();
         else if (strcmp(words[at], "--json") == 0)
             kz_use_json(true);
         else if (strncmp(words[at], "--", 2) != 0)

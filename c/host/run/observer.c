@@ -3,6 +3,7 @@
 
 #include "core/module.h"
 #include "run/fails.h"
+#include "run/refusal.h"
 #include "run/reply.h"
 #include "run/report.h"
 #include "run/seen.h"
@@ -24,4 +25,4 @@ static bool told(const KzSaid *said, bool is_counted)
     return !kz_is_json();
 }
 
-const KzObserver kz_observer = {entered, told, kz_print_reply, kz_fails};
+const KzObserver kz_observer = {entered, told, kz_print_reply, kz_fails, kz_note_answer};

@@ -6,6 +6,27 @@
 #include "run/seen.h"
 #include "run/sink.h"
 
+/* So many bytes are said at once. */
+enum { PIECE = 256 };
+
+static void spell(char *room, const uint8_t *bytes, size_t count)
+{
+    for (size_t at = 0; at < count; at++) {
+        *room++ = "0123456789abcdef"[bytes[at] >> 4];
+        *room++ = "0123456789abcdef"[bytes[at] & 15];
+    }
+    *room = 0;
+}
+
+static void say_bytes(const uint8_t *bytes, size_t length)
+{
+    char text[2 * PIECE + 1];
+    for (size_t at = 0; at < length && !kz_is_quiet; at += PIECE) {
+        spell(text, bytes + at, length - at < PIECE ? length - at : PIECE);
+        kz_say(KZ_SAID_REPLY, "%s", text);
+    }
+}
+
 /* The kit's own status stands behind a number that stands for another. */
 void kz_print_reply(KzReply reply, NTSTATUS other, const uint8_t *bytes, size_t length)
 {
@@ -19,8 +40,7 @@ void kz_print_reply(KzReply reply, NTSTATUS other, const uint8_t *bytes, size_t 
     if (other)
         kz_say(KZ_SAID_REPLY, " (0x%08x)", (unsigned)other);
     kz_say(reply.is_handle ? KZ_SAID_HANDLE : KZ_SAID_REPLY, " info %llu bytes ", (unsigned long long)reply.information);
-    for (size_t at = 0; at < length; at++)
-        kz_say(KZ_SAID_REPLY, "%02x", bytes[at]);
+    say_bytes(bytes, length);
     kz_say(KZ_SAID_REPLY, length ? "\n" : "-\n");
     if (*kz_me->says)
         kz_say(KZ_SAID_REPLY, "says %.1000s\n", kz_me->says);

@@ -38,7 +38,8 @@ void kz_forget_notes(void)
     kz_seen.line = kz_seen.request_line = kz_seen.unmet = kz_seen.expected = kz_seen.looked_for = kz_seen.called = kz_seen.set_up = 0;
     kz_seen.file = NULL;
     kz_seen.told_count = 0;
-    kz_seen.command[0] = kz_seen.callbacks[0] = 0;
+    kz_seen.command[0] = 0;
+    kz_seen.calls_count = 0;
 }
 
 void kz_next_line(void)
@@ -54,7 +55,7 @@ void kz_note_request(const char *words)
     snprintf(kz_seen.command, sizeof kz_seen.command, "%.255s", words);
     kz_seen.command[strcspn(kz_seen.command, "\r\n")] = 0;
     kz_seen.request_line = kz_seen.line;
-    kz_seen.callbacks[0] = 0;
+    kz_seen.calls_count = 0;
     kz_seen.reply = (KzReply){0};
     kz_seen.other = STATUS_SUCCESS;
     kz_seen.says[0] = 0;
@@ -91,13 +92,25 @@ void kz_note_callback(KzCallback callback, PFLT_FILTER filter)
         return;
     if (filter->id < 32)
         note_called(callback, 1U << filter->id);
-    size_t used = strlen(kz_seen.callbacks);
-    snprintf(kz_seen.callbacks + used, sizeof kz_seen.callbacks - used, "%s%s:%s", used ? " " : "", kz_callback_word(callback), filter->driver->name);
+    if (kz_seen.calls_count < sizeof kz_seen.calls / sizeof kz_seen.calls[0]) {
+        kz_seen.calls[kz_seen.calls_count].callback = callback;
+        kz_seen.calls[kz_seen.calls_count++].driver = filter->driver->name;
+    }
     if (!kz_is_json())
         return;
     kz_json_text(name, sizeof name, filter->driver->name);
     snprintf(members, sizeof members, "\"callback\": \"%s\", \"name\": %s", kz_callback_name(callback), name);
     kz_report_event("Callback", members);
+}
+
+const char *kz_callbacks(void)
+{
+    char *text = kz_seen.callbacks;
+    size_t used = 0;
+    text[0] = 0;
+    for (size_t at = 0; at < kz_seen.calls_count && used < sizeof kz_seen.callbacks; at++)
+        used += (size_t)snprintf(text + used, sizeof kz_seen.callbacks - used, "%s%s:%s", used ? " " : "", kz_callback_word(kz_seen.calls[at].callback), kz_seen.calls[at].driver);
+    return text;
 }
 
 static void note_message(const KzSaid *said, bool is_counted)
@@ -165,7 +178,7 @@ const uint8_t *kz_reply_bytes(size_t *size)
 
 const char *kz_reply_callbacks(void)
 {
-    return kz_seen.callbacks;
+    return kz_callbacks();
 }
 
 void kz_on_told(void (*to)(const char *id, const char *text))

@@ -9,7 +9,12 @@ typedef struct {
     unsigned line, request_line, unmet, expected, looked_for; /* of the expectations those of callbacks */
     uint32_t called; /* filters of which more was called than their loading and unloading, and the making and the end of their instances; a bit each */
     uint32_t set_up; /* those of which these callbacks of instances were called */
-    char command[256], callbacks[2048];
+    char command[256], callbacks[2048]; /* those that were called, as text once it is asked for */
+    struct {
+        KzCallback callback;
+        const char *driver;
+    } calls[400];
+    size_t calls_count;
     KzReply reply;
     NTSTATUS other; /* of the reply: the kit's own, where it is another one */
     char says[4096];
@@ -39,6 +44,7 @@ unsigned kz_line(void);
 /* That of the last request. */
 unsigned kz_request_line(void);
 const char *kz_command(void);
+const char *kz_callbacks(void);
 const char *kz_callback_word(KzCallback callback);
 
 #endif

@@ -8,6 +8,14 @@ static const struct {
 #include "statuses.inc"
 };
 
+const char *kz_status_name(uint32_t status)
+{
+    for (size_t at = 0; at < sizeof names / sizeof names[0]; at++)
+        if (names[at].status == status)
+            return names[at].name;
+    return NULL;
+}
+
 int64_t kz_status_named(const char *name)
 {
     for (size_t at = 0; at < sizeof names / sizeof names[0]; at++)

@@ -6,5 +6,6 @@
 
 /* statusnames.c; -1: it is none. */
 int64_t kz_status_named(const char *name);
+const char *kz_status_name(uint32_t status);
 
 #endif

@@ -12,7 +12,9 @@ INCLUDE, DDK, OUT = (pathlib.Path(it) for it in sys.argv[1:])
 
 # What mingw-w64's headers lack, and drivers of c/samples and c/tests name.
 LACKING = """FILE_DISPOSITION_DELETE FILE_DISPOSITION_POSIX_SEMANTICS FILE_DISPOSITION_ON_CLOSE FILE_DISPOSITION_INFORMATION_EX FILE_ID_128 FILE_ID_EXTD_DIR_INFORMATION FILE_ID_INFORMATION
-MdlMappingNoExecute POOL_NX_ALLOCATION FSCTL_OFFLOAD_WRITE DrvRtPoolNxOptIn IS_ALIGNED ROUND_TO_SIZE ExAllocatePoolZero ExInitializeDriverRuntime""".split()
+MdlMappingNoExecute POOL_NX_ALLOCATION FSCTL_OFFLOAD_WRITE DrvRtPoolNxOptIn IS_ALIGNED ROUND_TO_SIZE Add2Ptr ExAllocatePoolZero ExInitializeDriverRuntime KEY_NAME_INFORMATION
+PsGetProcessInheritedFromUniqueProcessId CmCallbackGetKeyObjectIDEx CmCallbackReleaseKeyObjectIDEx IO_REPARSE_TAG_CLOUD STATUS_CLOUD_FILE_UNSUCCESSFUL STATUS_CLOUD_FILE_PROVIDER_NOT_RUNNING
+RtlUnicodeStringToUTF8String RtlUTF8StringToUnicodeString RtlFreeUTF8String BCRYPT_SHA256_ALG_HANDLE BCRYPT_SHA384_ALG_HANDLE BCRYPT_HMAC_SHA256_ALG_HANDLE""".split()
 
 # Macros of this project's header, which are functions of the filter manager.
 FUNCTIONS = """
@@ -72,7 +74,7 @@ def definition(name, text):
         rf"^typedef (?:struct|union|enum) _{name} \{{.*?^\}} {name}\b.*?;$",
         rf"^typedef (?:struct|union|enum) _{name} \{{[^\n]*\}} {name}\b.*;$",
         rf"^typedef [^{{}}\n]*\b{name}(?:, .*)?;$",
-        rf"^(?:NTSTATUS|VOID|PVOID|ULONG|BOOLEAN) {name}\([^;]*;",
+        rf"^(?:NTSTATUS|VOID|PVOID|ULONG|BOOLEAN|HANDLE) {name}\([^;]*;",
     ):
         found = re.search(pattern, text, re.M | re.S if "{{.*?" in pattern or r"\{.*?" in pattern else re.M)
         if found:
@@ -82,16 +84,15 @@ def definition(name, text):
 
 def kit():
     text = "\n".join(it.read_text() for it in sorted(INCLUDE.glob("*.h")))
-    return HEAD + "\n".join(definition(it, text) for it in LACKING) + "\nKZ_END\n#endif\n"
+    return HEAD + "\n".join(definition(it, text) for it in LACKING) + "\nint sprintf_s(char *to, size_t size, const char *format, ...);\nKZ_END\n#endif\n"
 
 
 def manager():
     text = (INCLUDE / "fltKernel.h").read_text()
     text = re.sub(r"#include <(dontuse|suppress)\.h>\n", "", text).replace("#include <ntifs.h>", "#include <kit.h>")
-    text = re.sub(r'#include (?:<kz\w+\.h>|"\.\./user/\w+\.h")\n', "", text)
+    text = re.sub(r'#include "\.\./user/(\w+\.h)"\n', r"#include <\1>\n", re.sub(r"#include <kz(?!fltroutines)\w+\.h>\n", "", text))
     text = re.sub(OF_FUNCTIONS, "", text)
-    # Routines that aren't modelled are no driver's here; what mingw-w64 has already is mingw-w64's.
-    text = re.sub(r"#define KZ_ROUTINE.*?#undef KZ_ROUTINE\n", "", text, flags=re.S)
+    # What mingw-w64 has already is mingw-w64's.
     theirs = "\n".join((DDK / it).read_text() for it in ("wdm.h", "ntddk.h", "ntifs.h"))
     for kind, tag in re.findall(r"^typedef (struct|union|enum) (\w+) \{", text, re.M):
         if re.search(rf"\b{kind} {tag}\s*\{{", theirs):
@@ -104,8 +105,8 @@ def manager():
 OUT.mkdir(parents=True, exist_ok=True)
 (OUT / "kit.h").write_text(kit())
 (OUT / "fltKernel.h").write_text(manager())
-for name in ("sal.h", "driverspecs.h", "specstrings.h"):
-    shutil.copy(INCLUDE / name, OUT / name)
+for name in ("sal.h", "driverspecs.h", "specstrings.h", "kzfltroutines.h", "../user/fltUserStructures.h"):
+    shutil.copy(INCLUDE / name, OUT)
 for name in ("dontuse.h", "suppress.h"):
     (OUT / name).write_text("")
 # In C++ mingw-w64 has these twice.

@@ -43,13 +43,25 @@ mkdir -p "$room"
 [ -f "$room/$kind.made" ] || libraries
 
 read -r -a words <<< "${LEVEL:--O0} ${WORDS:-}"
-words+=(-g -fno-builtin -Werror=implicit-function-declaration -D_AMD64_ -D_WIN32_WINNT=0x0A00 -DNTDDI_VERSION=0x0A000002 -D_KERNEL_MODE=1 -DPOOL_NX_OPTIN=1 -DDBG=1 -DKERNEL)
+words+=(-g -fno-builtin -Werror=implicit-function-declaration -D_AMD64_ -D_WIN32_WINNT=0x0A00 -DNTDDI_VERSION=0x0A000002 -D_KERNEL_MODE=1 -DPOOL_NX_OPTIN=1 -DDBG=1 -DKERNEL -DALLOC_PRAGMA -D__CRT_STRSAFE_IMPL)
 # Headers of mingw-w64 want to see gcc; the code is that of Microsoft's conventions all the same.
-msvc=(--target=x86_64-pc-windows-msvc -fms-extensions -fms-compatibility-version=0 -fgnuc-version=4.8.0 -U_MSC_VER -D__MINGW32__=1 -D__MINGW64__=1 -D__MSVCRT__=1 -D__CRT__NO_INLINE
+msvc=(--target=x86_64-pc-windows-msvc -fms-extensions -fms-compatibility-version=0 -fgnuc-version=4.8.0 -U_MSC_VER -D__MINGW32__=1 -D__MINGW64__=1 -D__MSVCRT__=1 -D__CRT__NO_INLINE -D__mingw_vsnwprintf=_vsnwprintf
     -D_MSC_EXTENSIONS_SEH -gcodeview -Wno-everything -Werror=implicit-function-declaration -nostdinc -isystem "$(clang -print-resource-dir 2> /dev/null)/include")
+# Neither compiler takes the pragma that puts functions into sections: it is a declaration of each here, on its line.
+placed() {
+    awk -v path="$1" 'BEGIN { print "#line 1 \"" path "\"" }
+        /^#pragma alloc_text/ {
+            gsub(/^#pragma alloc_text *\(| |\).*$/, "")
+            count = split($0, names, ",")
+            for (at = 2; at <= count; at++) printf "extern __typeof__(%s) %s __attribute__((section(\"%s\"))); ", names[at], names[at], names[1]
+            $0 = ""
+        }
+        { print }' "$1"
+}
 objects=()
 for source in "$@"; do
-    object=$out.$(basename "$source").o
+    name=$(basename "$source")
+    object=$out.$name.o
     objects+=("$object")
     case $source in
     *.rs)
@@ -59,14 +71,14 @@ for source in "$@"; do
     esac
     case $source in
     *.cpp) language=(-x c++ -std=c++17 -fno-exceptions -fno-rtti) ;;
-    *) language=(-std=gnu11) ;;
+    *) language=(-x c -std=gnu11) ;;
     esac
     case $kind in
-    msvc) clang "${language[@]}" "${words[@]}" "${msvc[@]}" -isystem "$room/include" -isystem $mingw/include/ddk -isystem $mingw/include -c -o "$object" "$source" ;;
+    msvc) clang "${language[@]}" "${words[@]}" "${msvc[@]}" -isystem "$room/include" -isystem $mingw/include/ddk -isystem $mingw/include -iquote "$(dirname "$source")" -c -o "$object" - < <(placed "$source") ;;
     mingw)
         gcc=x86_64-w64-mingw32-gcc
         case $source in *.cpp) gcc=x86_64-w64-mingw32-g++ ;; esac
-        $gcc "${language[@]}" "${words[@]}" -gdwarf-4 -w -Werror=implicit-function-declaration -isystem "$room/include" -isystem $mingw/include/ddk -c -o "$object" "$source"
+        $gcc "${language[@]}" "${words[@]}" -gdwarf-4 -w -Werror=implicit-function-declaration -isystem "$room/include" -isystem $mingw/include/ddk -iquote "$(dirname "$source")" -c -o "$object" - < <(placed "$source")
         ;;
     esac
 done

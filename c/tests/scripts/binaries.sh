@@ -1,7 +1,9 @@
 #!/usr/bin/env bash
-# All samples as binaries, by both toolchains that are here, beside their sources: each refusal once, a load by threads, with their programs, and below a mount. Then binaries that others made: those of
-# Wine, where WINE_DRIVERS has them (else the folder of Debian's package libwine). Part image plays their requests and searches schedules; this takes ten minutes, and thorough.sh runs it.
+# binaries.sh [samples] [drivers] [wine] : all samples as binaries, by both toolchains that are here, beside their sources: each refusal once, a load by threads, with their programs, and below a mount.
+# The drivers of c/tests as binaries: all stored requests, and right drivers in order and under their schedules. Then binaries that others made: those of Wine, where WINE_DRIVERS has them (else the folder
+# of Debian's package libwine). Part image plays the samples' requests and searches schedules; this takes a quarter of an hour, and thorough.sh runs it.
 set -u
+. "$(dirname "$0")/stored.sh"
 . "$(dirname "$0")/tally.sh" binaries
 
 [ "$(uname -m)" = x86_64 ] || {
@@ -10,7 +12,7 @@ set -u
     exit
 }
 users=()
-for user in c/samples/user/*.c; do
+for user in c/samples/user/*.c "$tests"/user/*.c; do
     users+=(--user "$user")
 done
 build run --image "$room/run" "${users[@]}"
@@ -20,6 +22,12 @@ build serve --serve --image "$room/serve"
 build "a server of the sources" --serve "$room/served" c/samples/*.c
 ! may_mount > /dev/null || make -s -C c fltmount PROGRAM="$room/fltmount"
 export RUN=$room/run
+
+# Whether the words ask for it.
+words=" $* "
+is_asked() {
+    [ "$words" = '  ' ] || [[ $words = *" $1 "* ]]
+}
 
 # What a search found: how many schedules there were, and what of them. A binary's points aren't the source's: there are others at memory, and none at what an optimizer left out.
 ends_of() {
@@ -66,6 +74,41 @@ with_programs() {
     loaded "$name" "$scenarios/$name-load.txt"
 }
 
+# What is here is a row for each word (tally.sh), or is called by itself: then all lies in one room.
+built=$room
+
+# made FOLDER/NAME: a driver's binary of its source, which is a file or a folder. Those of c/tests/legal have names that others have too: they lie in a folder of their own.
+made() {
+    local source=$1 name to=$built/$kind sources=("$1")
+    name=$(basename "${source%.*}")
+    ! is_left_out "$name" || return 0
+    [ ! -d "$source" ] || sources=("$source"/*.c)
+    [[ $source != */legal/* ]] || to=$built/$kind-legal
+    $tests/image/sys.sh "$kind" "$built/kit-$kind" "$to/$name.sys" "${sources[@]}" > "$room/log" 2>&1 || { head -n 5 "$room/log"; tell 1 "$name, as it was built by $kind,"; }
+}
+
+# Requests whose drivers are all there; some need libcrypto.
+may_be_played() {
+    local name
+    case $1 in digests | keys | guardian | vault) ldconfig -p | grep -q 'libcrypto\.so\.3' || return ;; esac
+    while read -r name; do
+        [ -f "$room/$kind/$name.sys" ] || return
+    done < <(sed -n 's/^load \([^ ]*\).*/\1/p' "$tests/requests/$1.txt")
+}
+
+# A right driver: nothing is told of it, in order and under every schedule with one preemption at most.
+silent() {
+    local name=$1 requests=$tests/legal/$1.txt scenario=$tests/legal/$1.scenario
+    [ -f "$requests" ] || requests=$tests/legal/any.requests
+    [ -f "$scenario" ] || scenario=$tests/scenarios/four-clients.txt
+    sed "s/DRIVER/$name/" "$requests" > "$room/requests"
+    sed "s/DRIVER/$name/" "$scenario" > "$room/scenario"
+    "$RUN" "$built/$kind-legal/$name.sys" "$room/requests" > "$room/out" 2>&1 || { cat "$room/out"; false; }
+    tell $? "$name of legal by $kind"
+    timeout 300 "$built/explore" --bound 1 "$built/$kind-legal/$name.sys" "$room/scenario" > "$room/out" 2>&1 || { cat "$room/out"; false; }
+    tell $? "$name of legal under its schedules by $kind"
+}
+
 for kind in msvc mingw; do
     case $kind in
     msvc) tools=(python3 clang lld-link llvm-dlltool) ;;
@@ -76,18 +119,15 @@ for kind in msvc mingw; do
         echo "binaries: none by $kind are tried: its toolchain or mingw-w64's headers aren't here"
         continue
     }
-    mkdir -p "$room/$kind"
+    mkdir -p "$room/$kind" "$room/$kind-legal"
     printf '#!/bin/sh\nexec "%s/serve" "%s/%s"/*.sys "$@"\n' "$room" "$room" "$kind" > "$room/server-$kind"
     chmod +x "$room/server-$kind"
-    names=()
-    for source in c/samples/*.c; do
-        name=$(basename "$source" .c)
-        # gcc of mingw-w64 has no blocks for exceptions in C.
-        case $kind-$name in mingw-minispy | mingw-wordscanner) continue ;; esac
-        names+=("$name")
-        $tests/image/sys.sh $kind "$room/kit-$kind" "$room/$kind/$name.sys" "$source" > "$room/log" 2>&1 || { head -n 5 "$room/log"; tell 1 "$name, as it was built by $kind,"; }
-    done
-    for name in "${names[@]}"; do
+    # The first one makes the headers and the libraries of all.
+    made c/samples/nullfilter.c
+    rows made c/samples/*.c
+    for name in c/samples/*.c; do
+        name=$(basename "$name" .c)
+        is_asked samples && ! is_left_out "$name" || continue
         sed "s/DRIVER/$name/" $tests/scenarios/four-clients.txt > "$room/four.txt"
         sed "s/DRIVER/$name/" $tests/scenarios/load.txt > "$room/load.txt"
         refused "$name" "$room/four.txt"
@@ -95,6 +135,17 @@ for kind in msvc mingw; do
         with_programs "$name"
         [ ! -x "$room/fltmount" ] || below_a_mount "$name"
     done
+    is_asked drivers || continue
+    rows made "$tests"/drivers/*.c "$tests"/drivers/*.cpp "$tests"/drivers/two-files "$tests"/misuse/*.c "$tests"/legal/*.c
+    names=()
+    for requests in "$tests"/requests/*.txt; do
+        name=$(basename "$requests" .txt)
+        ! may_be_played "$name" || names+=("$name")
+    done
+    rows played "${names[@]}"
+    names=()
+    for name in "$room/$kind-legal"/*.sys; do names+=("$(basename "$name" .sys)"); done
+    rows silent "${names[@]}"
 done
 
 # Binaries that nobody here made: each is refused with a sentence, or laid out and bound; what of its imports isn't here is listed, and nothing else.
@@ -113,7 +164,9 @@ laid_out() {
     esac
 }
 wine=${WINE_DRIVERS:-/usr/lib/x86_64-linux-gnu/wine/x86_64-windows}
-if [ -f "$wine/fltmgr.sys" ] && command -v x86_64-w64-mingw32-objdump > /dev/null; then
+if ! is_asked wine; then
+    :
+elif [ -f "$wine/fltmgr.sys" ] && command -v x86_64-w64-mingw32-objdump > /dev/null; then
     printf '# nothing is loaded\n' > "$room/none.txt"
     # What a binary may import: the calls, and the variables.
     { nm "$room/run" | sed -n 's/.* [tT] kz_stub_//p'; grep -oE '\{"[A-Za-z_]+", &' c/image/kernel.c | cut -d'"' -f2; } | sort -u > "$room/here"

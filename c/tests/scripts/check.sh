@@ -50,9 +50,9 @@ least() {
         misuse) echo 16 ;;
         names) echo 28 ;;
         order) echo 14 ;;
-        mount) echo 650 ;;
+        mount) echo 1250 ;;
         programs) echo 35 ;;
-        serve) echo 520 ;;
+        serve) echo 1100 ;;
         spread) echo 22 ;;
         threads) echo 7 ;;
         *) echo 1 ;;

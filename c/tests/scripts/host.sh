@@ -15,6 +15,9 @@ tell $? "calls, as it was built,"
 try calls "$room/calls"
 look calls "$room/calls"
 
+# A compiler that compares frames with the end of the kernel's stack.
+has_bound=$(! ${CC:-cc} --version 2> /dev/null | grep -q clang && [ "$(uname -m)" = x86_64 ] && echo yes)
+
 # One program of all drivers plays all requests.
 drivers=(c/samples/*.c "$tests"/misuse/*.c "$tests"/drivers/*.c "$tests"/drivers/two-files)
 command -v "${CXX:-c++}" > /dev/null && drivers+=("$tests"/drivers/*.cpp)
@@ -27,6 +30,7 @@ for requests in "$tests"/requests/*.txt; do
     case $name in
     plus | blocks) command -v "${CXX:-c++}" > /dev/null || continue ;;
     digests | keys | guardian | vault) ldconfig -p | grep -q 'libcrypto\.so\.3' || continue ;;
+    deep) [ -n "$has_bound" ] || continue ;;
     esac
     # Where nothing is stored, its own expectations are all.
     if [ -f "$tests/expected/$name.out" ]; then
@@ -54,6 +58,32 @@ for row in '0 15' '1 18' '2 22'; do
     "$room/drivers" "$room/crashes.txt" 2> /dev/null | grep -q "^CRASH SIGSEGV: filter crashes, instance 0, preoperation, .*, at crashes\.c:$line, from crashes\.c:31, "
     tell $? "a crash in a call, $which"
 done
+
+# More of the kernel's stack than there is: at the function that has it, by threads too. What isn't optimized isn't looked at.
+deep() {
+    "$@" > "$room/deep.out" 2>&1
+    [ $? = 5 ] && [ "$(grep -oE '^TOLD KZ0195 .*, at deep\.c:[0-9]+' "$room/deep.out" | sed 's/.*://' | sort -u | tr '\n' ' ')" = '24 35 8 ' ] || { cat "$room/deep.out"; false; }
+    tell $? "the kernel's stack, $2"
+}
+printf 'load deep\nattach 0 0 d 100\ncreate 0 new a\nclient r: read 0 0 40; read 0 0 8; write 0 0 61; flush 0\n' > "$room/deep.load"
+sed '/^expect/d' $tests/requests/deep.txt > "$room/deep.txt"
+if [ -n "$has_bound" ]; then
+    deep "$room/drivers" "$room/deep.txt"
+    deep "$room/drivers" --load "$room/deep.load" --threads 2 --seconds 0.5
+fi
+KZAPI=-O0 build "without optimization" "$room/deep" $tests/misuse/deep.c
+"$room/deep" "$room/deep.txt" > "$room/deep.out" || { cat "$room/deep.out"; false; }
+tell $? "the kernel's stack, without optimization"
+
+# Which calls are refused, each once for its line; what else is said is the same.
+if [ "$(uname -m)" = x86_64 ]; then
+    "$room/drivers" --quiet --refusals $tests/requests/refusing.txt 2>&1 | diff - $tests/expected/refusing.txt
+    tell $? "calls that are refused"
+    for name in ownio statements mistakes; do
+        "$room/drivers" --refusals "$tests/requests/$name.txt" 2> "$room/refusals.err" | diff - <("$room/drivers" "$tests/requests/$name.txt") && grep -q '^refused ' "$room/refusals.err"
+        tell $? "$name, and what it is refused"
+    done
+fi
 
 # What memory that nobody wrote decides is found by two fills of it: in what is said, in an answer, in a status. Of right drivers nothing is.
 printf 'load unwritten\nattach 0 0 u 100\ncreate 0 new a as a\nflush a\nread a 0 4\nwrite a 0 6162\n' > "$room/unwritten.txt"

@@ -3,6 +3,7 @@
 # compiled kernel code does by itself, a driver in C++; the drivers of the explorer's tests, and the decoder by which it sees what a binary reads and writes; files that can't run; changed files under
 # sanitizers. SECONDS_OF_FUZZ is how long these are tried.
 set -u
+. "$(dirname "$0")/stored.sh"
 . "$(dirname "$0")/tally.sh" image
 
 [ "$(uname -m)" = x86_64 ] || {
@@ -71,25 +72,18 @@ rust_of_windows() {
 # What is here is a row for each word (tally.sh), or is called by itself: then all lies in one room.
 built=$room
 
-# A driver's binary of its source. Of the samples that leave a block gcc makes none: it has no blocks for exceptions in C.
+# A driver's binary of its source.
 made() {
     local source=$1 name
     name=$(basename "$source")
     name=${name%.*}
+    ! is_left_out "$name" || return 0
     case $kind-$name in
-    *-reader | *-decode | *-levels | msvc-rust | mingw-minispy | mingw-wordscanner | mingw-raises) return ;;
+    *-reader | *-decode | *-levels) return ;;
     mingw-rust) RUSTC=$(rust_of_windows) && export RUSTC || { echo "image: no driver in Rust is tried, since no rustc here builds for x86_64-pc-windows-gnu"; return; } ;;
     mingw-classes) command -v x86_64-w64-mingw32-g++ > /dev/null || { echo "image: no driver in C++ is tried by mingw, since there is no x86_64-w64-mingw32-g++ here"; return; } ;;
     esac
     $tests/image/sys.sh "$kind" "$built/kit-$kind" "$built/$kind/$name.sys" "$source" > "$room/$name.log" 2>&1 || { head -n 5 "$room/$name.log"; tell 1 "$name, as it was built by $kind,"; }
-}
-
-# The requests of a driver, beside what is stored of its source.
-played() {
-    local name=$1
-    "$RUN" "$built/$kind"/*.sys "$tests/requests/$name.txt" > "$room/$name.out" 2> "$room/$name.err"
-    [ $? = "$(cat "$tests/expected/$name.status" 2> /dev/null || echo 0)" ] && diff "$tests/expected/$name.out" "$room/$name.out"
-    tell $? "$name by $kind"
 }
 
 # The requests of a driver in c/tests/image. Where an endless stack ends, in the probe or behind it, is a matter of what else lies on it.
@@ -128,7 +122,7 @@ touched() {
 explored() {
     local name=$1 scenario=$tests/scenarios/$1.txt status finds words
     status=$(cat "$tests/expected/explore-$name.status" 2> /dev/null || sed -n 's/^# status: //p' "$scenario" | grep . || echo 0)
-    finds=$(sed -n 's/^# finds: //p' "$scenario")
+    finds=$(sed -n 's/^# finds: //p' "$scenario" | sed 's/\ba \(read\|write\) at/a\\(n interlocked\\)\\? \1 at/g')
     [ "$name" != counter ] || finds=RACE
     read -r -a words <<< "$(sed -n 's/^# words: //p' "$scenario")"
     "$tests/image/sys.sh" "$kind" "$built/kit-$kind" "$built/$name.sys" "$tests/misuse/schedules/$name.c" > "$room/$name.log" 2>&1
@@ -158,9 +152,9 @@ for kind in "$@"; do
     mkdir -p "$room/$kind"
     # The first one makes the headers and the libraries of all.
     made c/samples/nullfilter.c
-    rows made c/samples/*.c "$tests"/drivers/{majors,asker}.c "$tests"/misuse/first.c "$tests"/image/*.c "$tests"/image/*.cpp "$tests"/image/*.rs
+    rows made c/samples/*.c "$tests"/drivers/{majors,asker}.c "$tests"/misuse/{first,mistakes,kept}.c "$tests"/image/*.c "$tests"/image/*.cpp "$tests"/image/*.rs
     names=()
-    for name in "${samples[@]}" first; do
+    for name in "${samples[@]}" first mistakes kept; do
         [ ! -f "$room/$kind/$name.sys" ] || names+=("$name")
     done
     rows played "${names[@]}"

@@ -1,6 +1,6 @@
 #!/usr/bin/env bash
 # Right drivers: nothing is told of those in c/tests/legal by any scheduler: in order, by threads, under every schedule of a scenario with at most one preemption, with operations that go on inside
-# their completion, and under schedules that are drawn by a coin and by priorities. Those with a scenario of their own are searched without a bound too. Requests and a scenario of a driver's own stand beside it (NAME.txt, NAME.scenario); else it
+# their completion, with programs that change what is read of their buffers, and under schedules that are drawn by a coin and by priorities. Those with a scenario of their own are searched without a bound too. Requests and a scenario of a driver's own stand beside it (NAME.txt, NAME.scenario); else it
 # gets those of all samples.
 set -u
 . "$(dirname "$0")/tally.sh" legal
@@ -28,6 +28,7 @@ silent() {
     tell $? "$name by threads"
     search "$name" --bound 1
     search "$name" --inline --bound 1
+    search "$name" --changes 2 --bound 0
     search "$name" --seed 1 --runs 300
     search "$name" --seed 1 --runs 300 --pct 3
     [ ! -f "$tests/legal/$name.scenario" ] || search "$name" --states

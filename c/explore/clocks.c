@@ -326,6 +326,8 @@ void ex_move(const void *address, size_t size, bool is_write, bool is_update, co
     is_shared |= *place_of(tag) == tag;
     if (is_shared && !ex->search.is_coarse)
         ex_memory_point(address, size, from);
+    if (!is_write)
+        ex_may_change(address, size);
     note(address, size, IS_ATOMIC | (is_write ? IS_WRITE : 0) | (is_update ? IS_UPDATE : 0), from);
     if (is_write || is_shared) /* who reads it later comes behind this write, also where it isn't known yet that somebody will */
         ex_touch(address, 0, is_write ? KZT_GIVES : KZT_TAKES);

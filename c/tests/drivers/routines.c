@@ -9,6 +9,13 @@
 
 typedef ULONG_PTR ROUTINE(ULONG_PTR, ULONG_PTR, ULONG_PTR, ULONG_PTR);
 
+#ifndef __linux__ /* in a binary it raises, as on Windows */
+static ULONG_PTR Nothing(VOID)
+{
+    return 0;
+}
+#define ExRaiseAccessViolation Nothing
+#endif
 #define KZ_ROUTINE(type, answer, message, name, ...) (PVOID)name,
 static PVOID gRoutines[] = {
 #include <kzroutines.h>

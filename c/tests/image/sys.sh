@@ -47,7 +47,7 @@ words+=(-g -fno-builtin -Werror=implicit-function-declaration -D_AMD64_ -D_WIN32
 # Headers of mingw-w64 want to see gcc; the code is that of Microsoft's conventions all the same.
 msvc=(--target=x86_64-pc-windows-msvc -fms-extensions -fms-compatibility-version=0 -fgnuc-version=4.8.0 -U_MSC_VER -D__MINGW32__=1 -D__MINGW64__=1 -D__MSVCRT__=1 -D__CRT__NO_INLINE -D__mingw_vsnwprintf=_vsnwprintf
     -D_MSC_EXTENSIONS_SEH -gcodeview -Wno-everything -Werror=implicit-function-declaration -nostdinc -isystem "$(clang -print-resource-dir 2> /dev/null)/include")
-# Neither compiler takes the pragma that puts functions into sections: it is a declaration of each here, on its line.
+# Neither compiler takes the pragma that puts functions into sections: it is a declaration of each here, on its line. What WPP's preprocessor makes is kzwpp.h.
 placed() {
     awk -v path="$1" 'BEGIN { print "#line 1 \"" path "\"" }
         /^#pragma alloc_text/ {
@@ -56,6 +56,7 @@ placed() {
             for (at = 2; at <= count; at++) printf "extern __typeof__(%s) %s __attribute__((section(\"%s\"))); ", names[at], names[at], names[1]
             $0 = ""
         }
+        /^#include ".*\.tmh"$/ { $0 = "#include <kzwpp.h>" }
         { print }' "$1"
 }
 objects=()

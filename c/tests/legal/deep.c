@@ -3,7 +3,7 @@
 #include <fltKernel.h>
 
 static PFLT_FILTER gFilter;
-static volatile ULONG gSum;
+static LONG gSum;
 
 static ULONG Sum(ULONG Left)
 {
@@ -33,7 +33,7 @@ static VOID NameOf(PFLT_CALLBACK_DATA Data)
     if (NT_SUCCESS(FltGetFileNameInformation(Data, FLT_FILE_NAME_NORMALIZED | FLT_FILE_NAME_QUERY_DEFAULT, &name))) {
         RtlZeroMemory(copy, sizeof(copy));
         RtlCopyMemory(copy, name->Name.Buffer, min(name->Name.Length, sizeof(copy)));
-        gSum += copy[1];
+        InterlockedExchangeAdd(&gSum, copy[1]);
         FltReleaseFileNameInformation(name);
     }
 }
@@ -44,7 +44,7 @@ static FLT_PREOP_CALLBACK_STATUS PreFlush(PFLT_CALLBACK_DATA Data, PCFLT_RELATED
     UNREFERENCED_PARAMETER(CompletionContext);
     NameOf(Data);
     ReadBelow(FltObjects->Instance, FltObjects->FileObject);
-    gSum += Sum(20);
+    InterlockedExchangeAdd(&gSum, (LONG)Sum(20));
     return FLT_PREOP_SUCCESS_NO_CALLBACK;
 }
 

@@ -96,17 +96,28 @@ may_be_played() {
     done < <(sed -n 's/^load \([^ ]*\).*/\1/p' "$tests/requests/$1.txt")
 }
 
-# A right driver: nothing is told of it, in order and under every schedule with one preemption at most.
+# Each routine that isn't modelled has a stub, which tells its limit; but for the one that raises in a binary.
+limits() {
+    local count
+    count=$(cat c/include/kz*routines.h | grep -c '^KZ_ROUTINE')
+    "$RUN" "$room/$kind/routines.sys" $tests/requests/routines.txt > "$room/out" && tail -n 1 "$room/out" | grep -q "told 0, limits $((count - 1))$" && grep -v '^LIMIT' "$room/out" | sed '$d' | diff $tests/expected/routines.txt -
+    tell $? "routines that aren't modelled by $kind"
+}
+
+# A right driver: nothing is told of it, in order, under every schedule with one preemption at most, and with programs that change what is read of their buffers.
 silent() {
-    local name=$1 requests=$tests/legal/$1.txt scenario=$tests/legal/$1.scenario
+    local search name=$1 requests=$tests/legal/$1.txt scenario=$tests/legal/$1.scenario
     [ -f "$requests" ] || requests=$tests/legal/any.requests
     [ -f "$scenario" ] || scenario=$tests/scenarios/four-clients.txt
     sed "s/DRIVER/$name/" "$requests" > "$room/requests"
     sed "s/DRIVER/$name/" "$scenario" > "$room/scenario"
     "$RUN" "$built/$kind-legal/$name.sys" "$room/requests" > "$room/out" 2>&1 || { cat "$room/out"; false; }
     tell $? "$name of legal by $kind"
-    timeout 300 "$built/explore" --bound 1 "$built/$kind-legal/$name.sys" "$room/scenario" > "$room/out" 2>&1 || { cat "$room/out"; false; }
-    tell $? "$name of legal under its schedules by $kind"
+    for search in '--bound 1' '--changes 2 --bound 0'; do
+        # shellcheck disable=SC2086 # two words or four
+        timeout 300 "$built/explore" $search "$built/$kind-legal/$name.sys" "$room/scenario" > "$room/out" 2>&1 || { cat "$room/out"; false; }
+        tell $? "$name of legal under $search by $kind"
+    done
 }
 
 for kind in msvc mingw; do
@@ -143,6 +154,7 @@ for kind in msvc mingw; do
         ! may_be_played "$name" || names+=("$name")
     done
     rows played "${names[@]}"
+    limits
     names=()
     for name in "$room/$kind-legal"/*.sys; do names+=("$(basename "$name" .sys)"); done
     rows silent "${names[@]}"

@@ -107,7 +107,7 @@ read -r -d '' -a host_words <<< "$host_cflags" || true
 read -r -d '' -a api <<< "${KZAPI:-}" || true
 common=(-fshort-wchar -fno-strict-aliasing -fno-omit-frame-pointer -O1 -g "${host_words[@]}")
 machine=(-D_WIN64=1 -D_M_AMD64=100 -D_M_X64=100 -D_AMD64_=1 -D_WIN32_WINNT=0x0A00 -DWINVER=0x0A00 -DNTDDI_VERSION=0x0A000002)
-driver=(-fwrapv -fms-extensions "${common[@]}" "${machine[@]}" -DDBG=1 -D_KERNEL_MODE=1 -DKZ_DRIVER=1 -include ntdef.h "${api[@]}")
+driver=(-fwrapv -fno-delete-null-pointer-checks -fms-extensions "${common[@]}" "${machine[@]}" -DDBG=1 -D_KERNEL_MODE=1 -DKZ_DRIVER=1 -include ntdef.h "${api[@]}")
 user=(-fwrapv -fms-extensions "${common[@]}" "-I$here/user" "-I$here/include" "${own[@]}" "${machine[@]}" -D_WIN32=1 -fno-builtin -include windows.h)
 link=("${common[@]}")
 renames=()
@@ -223,9 +223,27 @@ tracing() {
         } > "$1.tmh/$name"
     done < <(grep -hoE '^[[:space:]]*#[[:space:]]*include[[:space:]]*"[^"]+\.tmh"' "$2" | sed 's/.*"\(.*\)"/\1/')
 }
-# In C++ the words __try and __finally are those of its own library's headers, where a source has some.
+# A source with try blocks. Where a variable's life ends clang keeps where to go on, and a finally block that runs before a `return` would change that: there are no such marks. In C++ the whole source is
+# compiled as KZ_TRIES has it for a function of C; and the words __try and __finally are those of its own library's headers, where a source has some.
 blocks() {
-    grep -qE '^[[:space:]]*#[[:space:]]*include[[:space:]]*<[a-z_]+>' "$1" || words+=(-DKZ_SEH)
+    if ! grep -qsw KZ_TRIES "$1.adapted"/*; then
+        :
+    elif is_clang "$cc"; then
+        words+=(-Xclang -disable-lifetime-markers)
+    fi
+}
+blocks_cxx() {
+    if grep -qE '^[[:space:]]*#[[:space:]]*include[[:space:]]*<[a-z_]+>' "$1"; then
+        return
+    fi
+    words+=(-DKZ_SEH)
+    if ! grep -qw __try "$1"; then
+        :
+    elif is_clang "${CXX:-c++}"; then
+        words+=(-O0 -Xclang -disable-lifetime-markers)
+    else
+        words+=(-O0 -fno-split-stack)
+    fi
 }
 # What an object is made of: its source, and each header that its compiler read, but for those that are made here.
 needs() {
@@ -241,10 +259,13 @@ compile() {
     file=$("$host/adapt" "$1.adapted" "$2") || exit 1
     case "$2" in
     *.cpp | *.cc | *.cxx)
-        blocks "$2"
+        blocks_cxx "$2"
         ${CXX:-c++} -std=gnu++17 -fno-exceptions -fno-rtti -w "${words[@]}" "${calls_cxx[@]}" "${includes[@]}" -iquote "$(dirname "$2")" -DDriverEntry="$3" -c -o "$1" "$file"
         ;;
-    *) $cc "${c_words[@]}" -Wno-multichar "${words[@]}" "${calls[@]}" "${includes[@]}" -iquote "$(dirname "$2")" -DDriverEntry="$3" -c -o "$1" "$file" ;;
+    *)
+        blocks "$1"
+        $cc "${c_words[@]}" -Wno-multichar "${words[@]}" "${calls[@]}" "${includes[@]}" -iquote "$(dirname "$2")" -DDriverEntry="$3" -c -o "$1" "$file"
+        ;;
     esac
     needs "$1" "$2"
 }

@@ -7,6 +7,7 @@
  *   enum E : ULONG {      enum E {, for types of 32 bits
  *   static __forceinline  __forceinline, which is static here
  *   #pragma alloc_text(PAGE, F)   the section PAGE for F, in C: what is there may not run at DISPATCH_LEVEL
+ *   __try, try            KZ_TRIES in front of its function, in C
  */
 #include <ctype.h>
 #include <libgen.h>
@@ -26,7 +27,8 @@ typedef struct {
     size_t used, room;
     char function[NAME], candidate[NAME], last[NAME];
     int braces, parentheses;
-    bool is_directive, is_changed;
+    size_t declared; /* where the declaration of that function begins in what comes out */
+    bool is_directive, is_changed, has_try;
 } Source;
 
 static const char *room;
@@ -162,6 +164,19 @@ static void change_enum(Source *source)
     source->is_changed = true;
 }
 
+/* Its function is compiled so that the block's ends find what its variables hold. */
+static void note_try(Source *source)
+{
+    static const char words[] = " KZ_TRIES ";
+    size_t length = sizeof words - 1, behind = source->used - source->declared;
+    if (!*source->function || source->has_try || source->is_directive)
+        return;
+    put(source, words, length);
+    memmove(source->out + source->declared + length, source->out + source->declared, behind);
+    memcpy(source->out + source->declared, words, length);
+    source->is_changed = source->has_try = true;
+}
+
 static void take_number(Source *source)
 {
     size_t length = 0;
@@ -251,9 +266,11 @@ static void take_directive(Source *source, unsigned depth)
 
 static void take_word(Source *source)
 {
-    static const char *const functions[] = {"__FUNCTION__", "__FUNCTIONW__", "__func__", NULL};
+    static const char *const functions[] = {"__FUNCTION__", "__FUNCTIONW__", "__func__", NULL}, *const tries[] = {"__try", "try", NULL};
     size_t length = word_length(source->at);
     snprintf(source->last, sizeof source->last, "%.*s", (int)(length < NAME - 1 ? length : NAME - 1), source->at);
+    if (is_one_of(source->at, length, tries))
+        note_try(source);
     if (is_word(source->at, length, "long"))
         change_long(source);
     else if (is_one_of(source->at, length, functions))
@@ -280,9 +297,15 @@ static void take_sign(Source *source)
         source->function[0] = source->candidate[0] = 0;
     else if (sign == ';' && source->braces == 0)
         source->candidate[0] = 0;
-    if (sign == '\n' && last_letter(source) != '\\')
+    bool is_line = sign == '\n' && last_letter(source) != '\\';
+    bool is_end = source->braces == 0 && (sign == '}' || sign == ';' || (is_line && source->is_directive && !source->candidate[0]));
+    if (is_line)
         source->is_directive = false;
     keep(source, 1);
+    if (is_end) {
+        source->declared = source->used;
+        source->has_try = false;
+    }
 }
 
 static bool begins_line(const Source *source)

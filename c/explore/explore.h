@@ -170,7 +170,6 @@ typedef struct {
     bool is_alone; /* a thread goes on until it waits, and nobody else */
     bool is_running;
     unsigned preemptions, switches, fails_used, timeouts, steps;
-    bool is_limited;
     char unmet[TEXT]; /* the first expectation that isn't met */
     bool is_guided; /* it follows a list of steps as far as it can */
     struct Guide *guide;

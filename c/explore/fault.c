@@ -4,6 +4,7 @@
 #include "core/crash.h"
 #include "core/frame.h"
 #include "core/place.h"
+#include "core/raise.h"
 
 #include <signal.h>
 #include <sys/time.h>
@@ -22,7 +23,12 @@ static void leave_run(KindOf of, const char *what, const void *at)
 /* What a binary may not do by itself in this process, or takes for an exception. */
 static bool is_carried_on(int signal, siginfo_t *information, void *context)
 {
-    return kz_binaries.carry_out && (kz_binaries.carry_out(signal, information, context) || kz_binaries.raise(signal, information, context));
+    if (kz_binaries.carry_out && (kz_binaries.carry_out(signal, information, context) || kz_binaries.raise(signal, information, context)))
+        return true;
+    if (!ex->run.is_running || !kz_takes_fault(signal, information, context))
+        return false;
+    ex_hooked = NULL; /* the hook isn't gone on with */
+    return true;
 }
 
 /* The driver's own, that which it called there, or none of its. */

@@ -82,10 +82,8 @@ void ex_say(const KzSaid *said)
         ex_found(TOLD, said->text);
     else if (said->kind == KZ_SAID_LIMIT && said->message == KZM_UNKNOWN_WAIT && kz_me != &kz_first) {
         ex_stop_at(said->text, "a wait isn't modelled");
-    } else if (said->kind == KZ_SAID_LIMIT) {
-        ex->run.is_limited |= said->message == KZM_LEFT_OUT;
+    } else if (said->kind == KZ_SAID_LIMIT)
         ex_found(LIMITED, said->text);
-    }
 }
 
 /* ---- Kinds. */

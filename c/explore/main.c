@@ -24,7 +24,7 @@ static void start_run(void)
     ex->run.preemptions = ex->run.switches = ex->run.fails_used = ex->run.timeouts = ex->run.steps = ex->path.deviations = 0;
     ex->path.hash = 0;
     ex->run.unmet[0] = 0;
-    ex->run.is_limited = ex->run.is_given_up = ex->run.is_alone = false;
+    ex->run.is_given_up = ex->run.is_alone = false;
     ex->run.runners_count = ex->run.usual_count;
     memset(ex->run.patience, 0, sizeof ex->run.patience[0] * ((size_t)ex->run.most_runners + 1));
     ex->run.number++;
@@ -38,14 +38,14 @@ static void start_run(void)
 static void tell_stuck(void)
 {
     char text[TEXT];
-    size_t used = (size_t)snprintf(text, sizeof text, ex->run.is_limited ? "LIMIT: nobody goes on here, which needn't be so on Windows" : "STUCK");
+    size_t used = (size_t)snprintf(text, sizeof text, "STUCK");
     for (int at = 1; at <= ex->run.runners_count; at++) {
         const Runner *one = &ex_runners[at];
         bool is_idle = one->is_worker && !ex_is_busy(one);
         if (!is_idle && one->state != ENDED && used + 1 < sizeof text)
             used += (size_t)snprintf(text + used, sizeof text - used, "\n  %s waits for %s", one->name, one->client->waits);
     }
-    ex_found_lines(ex->run.is_limited ? LIMITED : STUCK, text);
+    ex_found_lines(STUCK, text);
 }
 
 static int compare_lines(const void *a, const void *b)

@@ -81,7 +81,7 @@ static uint64_t said(void)
 
 static uint64_t key(int stays)
 {
-    uint64_t rest = (uint64_t)ex->run.fails_used << 32 | (uint64_t)ex->run.timeouts << 8 | ex->run.is_limited;
+    uint64_t rest = (uint64_t)ex->run.fails_used << 32 | (uint64_t)ex->run.timeouts << 8;
     uint64_t hash = ex_memory_hash() + 3 * ex_stacks_hash() + 5 * ex_clocks_hash() + 7 * said() + 11 * ex_patience_hash() + 13 * ex_buffers_hash() + 17 * ex_changes_hash();
     return ex_mixed(hash) + ex_mixed(rest + 1) + (ex->search.has_no_bound ? 0 : ex_mixed((uint64_t)stays + 2) * 3);
 }

@@ -80,7 +80,6 @@ struct _FLT_FILTER {
     FLT_REGISTRATION registration;
     bool is_registered, is_started, is_mandatory;
     bool gave_up;    /* a wait that nobody here could end: what it does behind that isn't its mistake */
-    bool leaves_out; /* a block that would have released what it holds: what is left isn't its mistake */
     uint32_t end; /* how far its end came: 0, or the status that stopped it */
     char altitude[68]; /* where it is attached by itself; empty if it isn't */
     DRIVER_OBJECT object;

@@ -328,7 +328,7 @@ static bool carry_out_in_place(int signal, void *information, void *context)
     return true;
 }
 
-/* There is no stack left to go on with: that is the end. */
+/* There is no stack left to go on with: that is the end, as an address is that nobody has and that isn't the user's. */
 static bool is_past_stack(const Fault *fault, const ucontext_t *there)
 {
     return fault->signal == SIGSEGV && fault->address - ((uint64_t)there->uc_mcontext.gregs[REG_RSP] - NEAR) < 2 * NEAR;
@@ -339,9 +339,9 @@ static bool raise_in_place(int signal, void *information, void *context)
     Fault fault = fault_of(signal, information, context);
     uint64_t rip = place_of(context);
     fault.is_copy = rip - (uintptr_t)kz_copies < (uintptr_t)(kz_copies_end - kz_copies);
-    bool is_known = given_up == rip, has_no_stack = is_past_stack(&fault, context);
+    bool is_known = given_up == rip, is_end = is_past_stack(&fault, context) || fault.address >= MmUserProbeAddress;
     given_up = 0;
-    if (has_no_stack || is_known || signal == SIGABRT || !(fault.is_copy || kz_image_at(rip)))
+    if (is_end || is_known || signal == SIGABRT || !(fault.is_copy || kz_image_at(rip)))
         return false;
     leave_signal(context, fault);
     return true;

@@ -170,36 +170,74 @@
 #define DBG_UNREFERENCED_LOCAL_VARIABLE(p) ((void)(p))
 #define DEFAULT_UNREACHABLE default: break
 
-/* Structured exceptions. Nothing raises one here: an exception's block is compiled, and never run. `leave` goes to the block behind. Whatever else jumps out of a try
- * block, a `return` above all, leaves its finally block out, which the kit's compiler doesn't: that is told as a limit. */
+/* Structured exceptions. A try block keeps where its function goes on (jump); the host (core/raise.c) goes there to ask its filter and to run its finally block, above whoever raises, and to run its
+ * handler. So a function with such a block may hold nothing in registers: c/adapt gives it KZ_TRIES. What isn't at its end (a `return`, a `goto`, a `break`) has its finally block run first. */
 #define EXCEPTION_EXECUTE_HANDLER 1
 #define EXCEPTION_CONTINUE_SEARCH 0
 #define EXCEPTION_CONTINUE_EXECUTION (-1)
-#define GetExceptionCode() ((NTSTATUS)0)
-#define GetExceptionInformation() ((PEXCEPTION_POINTERS)0)
-#define AbnormalTermination() 0
-typedef struct {
-    const void *end;
-    const char *file;
-    int line, is_at_end;
+struct _EXCEPTION_POINTERS;
+typedef struct KzTry {
+    struct KzTry *outer;
+    void *raise;
+    unsigned long long callback;
+    void *jump[5];
 } KzTry;
+typedef struct {
+    KzTry *block;
+    int is_at_end;
+} KzTried;
+typedef struct {
+    int is_due, is_abnormal;
+    void **back;
+} KzFinally;
 #ifdef __cplusplus
-extern "C"
+extern "C" {
 #endif
-void KzLeaveTry(KzTry *Try);
-#define KZ_TRY {  __label__ kz_left; __attribute__((cleanup(KzLeaveTry))) KzTry kz_try = {&&kz_left, __FILE__, __LINE__, 0};
-#define KZ_LEFT kz_left: __attribute__((unused)); kz_try.is_at_end = 1; }
-#define KZ_FINALLY kz_left: __attribute__((unused)); kz_try.is_at_end = 1; static const void *const kz_end __attribute__((section("kz_finally"), used)) = &&kz_left; }
+void KzEnterTry(KzTry *Try);
+void KzLeaveTry(KzTried *Tried);
+int KzIsAsked(const void *Frame, int Block);
+int KzFiltered(int Filter);
+int KzIsTaken(void);
+KzFinally KzBeginFinally(void);
+void KzEndFinally(KzFinally *Finally);
+int KzExceptionCode(const void *Frame, int Block);
+struct _EXCEPTION_POINTERS *KzExceptionInformation(const void *Frame, int Block);
+#ifdef __cplusplus
+}
+#endif
+#ifdef __cplusplus
+#define KZ_TRIES
+#elif defined(__clang__)
+#define KZ_TRIES __attribute__((noinline, optnone))
+#else
+#define KZ_TRIES __attribute__((noinline, optimize("O0", "no-ira-share-spill-slots"), no_split_stack))
+#endif
+#define KZ_TRY { KzTry kz_try; KzEnterTry(&kz_try); if (!__builtin_setjmp(kz_try.jump)) { __label__ kz_left; __attribute__((cleanup(KzLeaveTry))) KzTried kz_tried = {&kz_try, 0};
+#define KZ_LEFT kz_left: __attribute__((unused)); kz_tried.is_at_end = 1; } }
+#define KZ_HANDLES(filter) (KzIsAsked(__builtin_frame_address(0), kz_handler) ? KzFiltered(filter) : KzIsTaken())
+#define KZ_FINALLY KZ_LEFT for (KzFinally kz_finally = KzBeginFinally(); kz_finally.is_due; KzEndFinally(&kz_finally))
+/* The block has a number of its own in what stands behind `if`. */
+#ifdef __cplusplus
+#define KZ_EXCEPT(filter) KZ_LEFT if (constexpr int kz_handler = __COUNTER__; !KZ_HANDLES(filter)) { } else
+#else
+#define KZ_EXCEPT(filter) KZ_LEFT if (sizeof(enum { kz_handler = __COUNTER__ }) == 0 || !KZ_HANDLES(filter)) { } else
+#endif
+#define GetExceptionCode() ((NTSTATUS)KzExceptionCode(__builtin_frame_address(0), kz_handler))
+#define GetExceptionInformation() KzExceptionInformation(__builtin_frame_address(0), kz_handler)
+#define _exception_code GetExceptionCode
+#define _exception_info GetExceptionInformation
+#define AbnormalTermination() (kz_finally.is_abnormal)
+#define _abnormal_termination AbnormalTermination
 #if !defined(__cplusplus) || defined(KZ_SEH)
 #define __try KZ_TRY
 #define __finally KZ_FINALLY
-#define __except(filter) KZ_LEFT if (0 && (filter))
+#define __except(filter) KZ_EXCEPT(filter)
 #define __leave goto kz_left
 #endif
 #ifndef __cplusplus
 #define try KZ_TRY
 #define finally KZ_FINALLY
-#define except(filter) KZ_LEFT if (0 && (filter))
+#define except(filter) KZ_EXCEPT(filter)
 #define leave goto kz_left
 #endif
 

@@ -543,6 +543,8 @@ void KzBugCheck(ULONG Code);
 #define WPP_INIT_TRACING(a, b) ((void)0)
 #define WPP_CLEANUP(a) ((void)0)
 VOID ExRaiseStatus(NTSTATUS Status);
+VOID ExRaiseAccessViolation(VOID);
+VOID ExRaiseDatatypeMisalignment(VOID);
 
 /* ---- Dispatcher objects. */
 typedef struct _DISPATCHER_HEADER {
@@ -848,8 +850,8 @@ VOID MmUnmapLockedPages(PVOID BaseAddress, PMDL MemoryDescriptorList);
     (memset((mdl), 0, sizeof(MDL)), (mdl)->StartVa = PAGE_ALIGN(address), (mdl)->ByteOffset = BYTE_OFFSET(address), (mdl)->ByteCount = (ULONG)(length))
 BOOLEAN MmIsAddressValid(PVOID VirtualAddress);
 PVOID MmGetSystemRoutineAddress(PUNICODE_STRING SystemRoutineName);
-#define ProbeForRead(address, length, alignment) ((void)(address), (void)(length), (void)(alignment))
-#define ProbeForWrite(address, length, alignment) ((void)(address), (void)(length), (void)(alignment))
+VOID ProbeForRead(const volatile VOID *Address, SIZE_T Length, ULONG Alignment);
+VOID ProbeForWrite(volatile VOID *Address, SIZE_T Length, ULONG Alignment);
 
 /* ---- Objects. */
 typedef struct _IO_STATUS_BLOCK {

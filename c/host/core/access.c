@@ -206,8 +206,7 @@ static void tell(const KzPiece *piece, bool is_written)
                 (unsigned long long)kz_me->process, (unsigned long long)piece->process);
 }
 
-/* A call of the kit over a driver's memory touches that in its place. What else the host does there is its own business. */
-static bool is_in_drivers_place(void)
+bool kz_is_in_drivers_place(void)
 {
     static const char *const calls[] = {"Rtl", "FsRtl", "ExInterlocked", "ExfInterlocked", "Dbg", "wcs"};
     const char *call = kz_me->place.from ? kz_me->place.call : NULL;
@@ -265,7 +264,7 @@ bool kz_touched_owned(const void *address, const void *code, const void *caller,
         piece = piece->owned;
     if (!piece || piece->rights & (is_written ? PROT_WRITE : PROT_READ))
         return piece != NULL; /* another thread has opened it since */
-    bool is_hosts = kz_depth > 0 && !is_in_drivers_place(), is_past = is_written && !lies_in(address, piece);
+    bool is_hosts = kz_depth > 0 && !kz_is_in_drivers_place(), is_past = is_written && !lies_in(address, piece);
     if (is_past && !is_hosts)
         kz_tell_past(piece, (const uint8_t *)address >= piece->body, true, kz_depth > 0 ? NULL : kz_drivers_code(code, caller));
     else if (!is_hosts && !may_touch(piece, kz_irql() >= DISPATCH_LEVEL, kz_me->process, is_written))

@@ -17,6 +17,8 @@ void kz_shut_owned(void);
 void kz_open_all_owned(void);
 /* Whether the driver's variables there can be paged out. */
 bool kz_is_paged(const void *address);
+/* A call of the kit over a driver's memory touches that in its place. What else the host does there is its own business. */
+bool kz_is_in_drivers_place(void);
 /* The piece there that is a caller's own; NULL if it is none. */
 KzPiece *kz_callers_at(const void *address);
 /* What the kernel itself waits for or spins on may not be paged out: that it can be is told. */

@@ -39,6 +39,7 @@ void kz_new_client(KzClient *client, const char *name, unsigned number)
     client->beside = NULL;
     client->request = NULL;
     client->line_number = 0;
+    memset(&client->tries, 0, sizeof client->tries);
     memset(client->taken, 0, sizeof client->taken);
 }
 

@@ -17,6 +17,13 @@ typedef struct {
 
 enum { KZ_TAKEN = 64 };
 
+/* The code of an exception, for the handler of that number in that function. */
+typedef struct {
+    const void *frame;
+    int block, code;
+} KzHandled;
+enum { KZ_HANDLED = 16 };
+
 struct KzClient {
     const char *name;
     KzPlace place;
@@ -29,6 +36,18 @@ struct KzClient {
     int region;      /* stands for its critical region */
     uint64_t calls;  /* that its drivers' code has made */
     unsigned inside; /* how many calls of the host it is in; 0 in a driver's code */
+    struct {
+        KzTry *innermost;       /* of the blocks that its drivers' code is in */
+        struct KzRaise *raise;  /* the exception whose filters are asked, or whose blocks are left */
+        int why;                /* it goes on at a block's end, and where it goes then */
+        void **back;
+        bool is_taken;
+        KzHandled handled[KZ_HANDLED];
+        unsigned handled_count;
+        const struct KzFault *resumes; /* with whose registers it is to go on */
+        uint64_t fault[128];           /* room for the one that a signal's handler found last */
+        long long given_up;            /* the instruction of an exception that nobody took: a crash */
+    } tries;
     const void *stack; /* where that of a binary's code begins that was called last */
     unsigned number;
     bool is_last; /* it goes on where no other can: what it expects is looked at */

@@ -22,6 +22,7 @@ static struct {
     uint8_t stack[65536];
     volatile sig_atomic_t was_told;
     bool is_watched;
+    KzTakesFault *takes;
 } crash;
 
 static void put(const char *text)
@@ -174,7 +175,7 @@ static bool is_touch(int signal, const siginfo_t *information, const void *conte
 static bool is_carried_on(int signal, siginfo_t *information, void *context)
 {
     if (!kz_is_binary(kz_code_at(context)) && !kz_is_stub(kz_code_at(context)) && !kz_is_binary(information->si_addr))
-        return is_touch(signal, information, context);
+        return is_touch(signal, information, context) || crash.takes(signal, information, context);
     return kz_binaries.carry_out(signal, information, context) || is_touch(signal, information, context) || kz_binaries.raise(signal, information, context);
 }
 
@@ -209,8 +210,9 @@ static void watch(int signal)
     sigaction(signal, &(struct sigaction){.sa_sigaction = handle, .sa_flags = SA_SIGINFO | SA_ONSTACK}, NULL);
 }
 
-void kz_watch_crashes(void)
+void kz_watch_crashes(KzTakesFault *takes)
 {
+    crash.takes = takes;
     setvbuf(stdout, NULL, _IOLBF, 0);
     crash.was_told = 0;
     if (crash.is_watched)

@@ -4,7 +4,9 @@
 
 #include "host.h"
 
-void kz_watch_crashes(void);
+/* What the processor refused, with the signal's arguments: whether the driver goes on with it. */
+typedef bool KzTakesFault(int signal, const void *information, void *context);
+void kz_watch_crashes(KzTakesFault *takes);
 const char *kz_signal_name(int signal);
 /* Where the program stood, of a signal's context. */
 const void *kz_code_at(const void *context);

@@ -136,11 +136,10 @@ enum {
     KZM_CALLBACKS = 239,
     KZM_SECURITY = 240,
     KZM_NOBODY_SETS = 241,
-    KZM_EXCEPTION = 242,
+    /* 242 and 246 were exceptions. */
     KZM_NOTIFY = 243,
     KZM_ATTACH = 244,
     KZM_DEVICE = 245,
-    KZM_LEFT_OUT = 246,
     KZM_UNKNOWN_WAIT = 247,
     /* What isn't modelled. */
     KZM_NOT_MODELLED = 251,

@@ -80,34 +80,12 @@ static void put_line(KzSaid said, const char *call, const char *text)
         kz_scheduler->said(&said);
 }
 
-/* What a finally block that was left out may have ended. */
-static bool is_left(KzMessage message)
-{
-    switch (message) {
-    case KZM_LEAK:
-    case KZM_NEVER_COMPLETED:
-    case KZM_POOL_LEAK:
-    case KZM_NAME_LEAK:
-    case KZM_OBJECT_LEAK:
-    case KZM_HANDLE_LEAK:
-    case KZM_PORT_LEAK:
-    case KZM_WORK_LEFT:
-    case KZM_TIMER_LEFT:
-    case KZM_THREAD_LEFT:
-    case KZM_WAITS_FOR_EVER:
-    case KZM_LOCK_AT_RETURN:
-        return true;
-    default:
-        return false;
-    }
-}
-
 /* A mistake that was told of the same place counts, and is no line of its own. */
 static void tell(const void *object, KzMessage message, const char *call, const char *format, va_list arguments)
 {
     char text[1000];
     PFLT_FILTER filter = kz_me->place.filter;
-    bool is_limit = KZ_IS_LIMIT(message) || (filter && (filter->gave_up || (filter->leaves_out && is_left(message))));
+    bool is_limit = KZ_IS_LIMIT(message) || (filter && filter->gave_up);
     if (asked.is_allowed[message])
         return;
     bool is_again = was_told(message, is_limit, call);

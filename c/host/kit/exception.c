@@ -1,31 +1,9 @@
-/* What a driver says itself: assertions, bug checks and exceptions; and its blocks of try and finally. */
+/* What a driver says itself: assertions, bug checks and exceptions. */
 #include "core/client.h"
+#include "core/raise.h"
 #include "core/told.h"
 
 #include <stdlib.h>
-
-/* ---- Blocks of try and finally. There is a place in the program for the end of each try block that a finally block stands behind. */
-extern const void *const __start_kz_finally[] __attribute__((weak));
-extern const void *const __stop_kz_finally[] __attribute__((weak));
-
-static bool has_finally(const void *end)
-{
-    for (const void *const *at = __start_kz_finally; at && at < __stop_kz_finally; at++)
-        if (*at == end)
-            return true;
-    return false;
-}
-
-void KzLeaveTry(KzTry *Try)
-{
-    KZ_INSIDE_OF("finally");
-    const char *slash = strrchr(Try->file, '/');
-    if (Try->is_at_end || !has_finally(Try->end))
-        return;
-    if (kz_me->place.filter)
-        kz_me->place.filter->leaves_out = true;
-    kz_tell(KZM_LEFT_OUT, "finally", "a return left the try block of %s:%d, and its finally block isn't run here: what that releases stays", slash ? slash + 1 : Try->file, Try->line);
-}
 
 /* ---- What the driver says itself. */
 void KzAssertFailed(PCSTR Expression, PCSTR File, int Line)
@@ -48,8 +26,53 @@ void KzBugCheck(ULONG Code)
     abort();
 }
 
+/* ---- Exceptions (core/raise.c). */
+/* It is looked at what the driver holds, and at which IRQL; the exception is raised outside of the host. */
+static void look_at(const char *call, const void *from)
+{
+    KZ_INSIDE_FROM(call, from);
+}
+
+static void raise_at(const char *call, NTSTATUS status, const void *from)
+{
+    look_at(call, from);
+    if (status)
+        kz_raise_for(call, status, from);
+}
+
 VOID ExRaiseStatus(NTSTATUS Status)
 {
-    KZ_INSIDE();
-    kz_tell(KZM_EXCEPTION, "ExRaiseStatus", "0x%08x: there are no structured exceptions, and the call returns", (unsigned)Status);
+    look_at("ExRaiseStatus", KZ_CALLER());
+    kz_raise_for("ExRaiseStatus", Status, KZ_CALLER());
+}
+
+VOID ExRaiseAccessViolation(VOID)
+{
+    raise_at("ExRaiseAccessViolation", STATUS_ACCESS_VIOLATION, KZ_CALLER());
+}
+
+VOID ExRaiseDatatypeMisalignment(VOID)
+{
+    raise_at("ExRaiseDatatypeMisalignment", STATUS_DATATYPE_MISALIGNMENT, KZ_CALLER());
+}
+
+/* As in the kit: that memory of the user's lies where it may and as it is to, and no more. */
+static NTSTATUS probe(const volatile VOID *address, SIZE_T length, ULONG alignment)
+{
+    uintptr_t at = (uintptr_t)address;
+    if (!length)
+        return STATUS_SUCCESS;
+    if (alignment > 1 && at & (alignment - 1))
+        return STATUS_DATATYPE_MISALIGNMENT;
+    return at + length < at || at + length > MmUserProbeAddress ? STATUS_ACCESS_VIOLATION : STATUS_SUCCESS;
+}
+
+VOID ProbeForRead(const volatile VOID *Address, SIZE_T Length, ULONG Alignment)
+{
+    raise_at("ProbeForRead", probe(Address, Length, Alignment), KZ_CALLER());
+}
+
+VOID ProbeForWrite(volatile VOID *Address, SIZE_T Length, ULONG Alignment)
+{
+    raise_at("ProbeForWrite", probe(Address, Length, Alignment), KZ_CALLER());
 }

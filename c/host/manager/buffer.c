@@ -131,8 +131,8 @@ void kz_tell_old_mdl(PMDL mdl)
 void kz_note_swap(KzOp *op, bool has_post)
 {
     KzVisit *visited = op->visits;
-    PMDL *mdl, *mdl_shown;
-    ULONG *length, *length_shown;
+    PMDL *mdl = NULL, *mdl_shown;
+    ULONG *length = NULL, *length_shown;
     PVOID *buffer = kz_buffer_in(op, &op->iopb->Parameters, &mdl, &length);
     PVOID *buffer_shown = kz_buffer_in(op, &op->shown.parameters.Parameters, &mdl_shown, &length_shown);
     if (op->event != KZE_QUERY_SIZE && *mdl && *mdl != visited->received_mdl) {

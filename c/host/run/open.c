@@ -6,6 +6,7 @@
 #include "core/late.h"
 #include "core/module.h"
 #include "core/piece.h"
+#include "core/raise.h"
 #include "core/said.h"
 #include "core/told.h"
 #include "manager/below.h"
@@ -47,7 +48,7 @@ int kz_open(const KzDriver *drivers, size_t count)
     kz_forget_notes();
     kz_forget_fails();
     kz_new_client(kz_me, "first", 0);
-    kz_watch_crashes();
+    kz_watch_crashes(kz_takes_fault);
     kz_watch_time();
     if (kazdrin_open(&kz.manager) != KZS_OK)
         return 1;

@@ -219,7 +219,8 @@ static bool is_junit_put(const char *name)
     bool is_put = file != NULL;
     if (file) {
         put_suite(file, name);
-        is_put = !ferror(file) & (fclose(file) == 0);
+        is_put = !ferror(file);
+        is_put &= fclose(file) == 0;
     }
     if (!is_put)
         fprintf(stderr, "%s: can't be written\n", report.junit);

@@ -1,4 +1,4 @@
-/* It crashes in calls that it makes: of no function, of a copy, of the kit. The line is its own, and so are those that led there. */
+/* It crashes in calls that it makes: of no function, of a copy, of the kit, and of one that raises what no block takes. The line is its own, and so are those that led there. */
 #include <fltKernel.h>
 
 static PFLT_FILTER gFilter;
@@ -20,6 +20,13 @@ static VOID Use(LONGLONG Which)
         break;
     case 2:
         RtlInitUnicodeString(&name, (PCWSTR)16);
+        break;
+    case 3:
+        __try {
+            ExRaiseStatus(STATUS_DATATYPE_MISALIGNMENT);
+        } __except (GetExceptionCode() == STATUS_ACCESS_VIOLATION) {
+            gNothing = NULL;
+        }
         break;
     }
 }

@@ -55,9 +55,23 @@ try crash "$room/drivers" "$room/crash.txt" 2> /dev/null
 for row in '0 15' '1 18' '2 22'; do
     read -r which line <<< "$row"
     printf 'load crashes\nattach 0 0 c 100\ncreate 0 new a\nread 0 %s 1\n' "$which" > "$room/crashes.txt"
-    "$room/drivers" "$room/crashes.txt" 2> /dev/null | grep -q "^CRASH SIGSEGV: filter crashes, instance 0, preoperation, .*, at crashes\.c:$line, from crashes\.c:31, "
+    "$room/drivers" "$room/crashes.txt" 2> /dev/null | grep -q "^CRASH SIGSEGV: filter crashes, instance 0, preoperation, .*, at crashes\.c:$line, from crashes\.c:38, "
     tell $? "a crash in a call, $which"
 done
+printf 'load crashes\nattach 0 0 c 100\ncreate 0 new a\nread 0 3 1\n' > "$room/crashes.txt"
+"$room/drivers" "$room/crashes.txt" > "$room/crashes.out" 2> /dev/null
+grep -q '^TOLD KZ0192 ExRaiseStatus: exception 0x80000002, which nobody takes: filter crashes, .*, at crashes\.c:26, from crashes\.c:38, ' "$room/crashes.out" &&
+    grep -q '^CRASH SIGABRT: filter crashes, instance 0, preoperation, .*, at crashes\.c:26, ' "$room/crashes.out" || { cat "$room/crashes.out"; false; }
+tell $? "an exception that nobody takes"
+# Exceptions in a source: each kind as in its binary (part image), however it is optimized.
+exceptions() {
+    KZAPI=$1 build "exceptions at $1" "$room/raises" $tests/image/raises.c
+    { "$room/raises" $tests/image/raises.txt; echo "status $?"; } 2> /dev/null | diff $tests/image/raises.out -
+    tell $? "exceptions at $1"
+}
+exceptions -O0
+exceptions -O1
+exceptions '-O2 -Wno-array-bounds'
 
 # More of the kernel's stack than there is: at the function that has it, by threads too. What isn't optimized isn't looked at.
 deep() {
@@ -427,7 +441,10 @@ random() {
 }
 long() {
     case $1 in
-    requests) look "all requests" "$built/drivers" $tests/requests/*.txt ;;
+    requests) # it tells of what a try block takes too
+        mapfile -t all < <(find $tests/requests -name '*.txt' ! -name guards.txt ! -name swallows.txt | LC_ALL=C sort)
+        look "all requests" "$built/drivers" "${all[@]}"
+        ;;
     valgrind) look "random requests" "$built/samples" 1000 2 "${never[@]}" ;;
     never) random samples $((many * 5)) 1 "${never[@]}" ;;
     waits) random samples $((many * 2)) 1 waits ;;

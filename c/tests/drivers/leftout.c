@@ -1,4 +1,4 @@
-/* Returns from a try block: on Windows the finally block is run all the same, and the name is released. Of a try block with an except block nothing is left out. */
+/* Returns from a try block: the finally block is run all the same, and the name is released. */
 #include <fltKernel.h>
 
 static PFLT_FILTER gFilter;

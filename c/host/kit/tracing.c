@@ -38,6 +38,26 @@ NTSTATUS EtwWriteTransfer(REGHANDLE RegHandle, PCEVENT_DESCRIPTOR EventDescripto
     return EtwWrite(RegHandle, EventDescriptor, ActivityId, UserDataCount, UserData);
 }
 
+NTSTATUS EtwWriteEx(REGHANDLE RegHandle, PCEVENT_DESCRIPTOR EventDescriptor, ULONG64 Filter, ULONG Flags, LPCGUID ActivityId, LPCGUID RelatedActivityId, ULONG UserDataCount,
+                    PEVENT_DATA_DESCRIPTOR UserData)
+{
+    (void)Filter, (void)Flags;
+    return EtwWriteTransfer(RegHandle, EventDescriptor, ActivityId, RelatedActivityId, UserDataCount, UserData);
+}
+
+NTSTATUS EtwWriteString(REGHANDLE RegHandle, UCHAR Level, ULONGLONG Keyword, LPCGUID ActivityId, PCWSTR String)
+{
+    (void)RegHandle, (void)Level, (void)Keyword, (void)ActivityId, (void)String;
+    return STATUS_SUCCESS;
+}
+
+/* TraceLogging, as it is compiled, names its provider by it. */
+NTSTATUS EtwSetInformation(REGHANDLE RegHandle, EVENT_INFO_CLASS InformationClass, PVOID EventInformation, ULONG InformationLength)
+{
+    (void)RegHandle, (void)InformationClass, (void)EventInformation, (void)InformationLength;
+    return STATUS_SUCCESS;
+}
+
 /* ---- What WPP's code calls. Whoever registers isn't asked to trace: so no handle of a session is a right one. */
 NTSTATUS IoWMIRegistrationControl(PDEVICE_OBJECT DeviceObject, ULONG Action)
 {

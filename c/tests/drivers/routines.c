@@ -9,13 +9,6 @@
 
 typedef ULONG_PTR ROUTINE(ULONG_PTR, ULONG_PTR, ULONG_PTR, ULONG_PTR);
 
-#ifndef __linux__ /* in a binary it raises, as on Windows */
-static ULONG_PTR Nothing(VOID)
-{
-    return 0;
-}
-#define ExRaiseAccessViolation Nothing
-#endif
 #define KZ_ROUTINE(type, answer, message, name, ...) (PVOID)name,
 static PVOID gRoutines[] = {
 #include <kzroutines.h>
@@ -39,6 +32,7 @@ static VOID ShowRuntime(VOID)
     CHAR utf8[8];
     PVOID context = NULL;
     NTSTATUS status;
+    REGHANDLE provider;
     ULONG value, count;
 
     RtlInitializeSid(room, &authority, 1);
@@ -57,6 +51,10 @@ static VOID ShowRuntime(VOID)
     status = RtlRunOnceBeginInitialize(&once, 0, &context);
     DbgPrint(" 0x%08x %u\n", status, context == (PVOID)0x40);
     DbgPrint("%u %u %u\n", _byteswap_ushort(0x1234), memcpy_s(utf8, 1, "ab", 2), _wtoi(L"-7") == -7);
+    status = EtwRegister((LPCGUID)room, NULL, NULL, &provider);
+    DbgPrint("0x%08x 0x%08x", status, EtwSetInformation(provider, EventProviderSetTraits, room, sizeof(room)));
+    DbgPrint(" 0x%08x 0x%08x\n", EtwWriteString(provider, 0, 0, NULL, L"nobody listens"), EtwWriteEx(provider, (PCEVENT_DESCRIPTOR)room, 0, 0, NULL, NULL, 0, NULL));
+    EtwUnregister(provider);
 }
 
 NTSTATUS DriverEntry(PDRIVER_OBJECT DriverObject, PUNICODE_STRING RegistryPath)

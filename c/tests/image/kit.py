@@ -14,7 +14,7 @@ THEIRS = "\n".join((DDK / it).read_text() for it in ("wdm.h", "ntddk.h", "ntifs.
 # What mingw-w64's headers lack, and drivers of c/samples and c/tests name.
 LACKING = """FILE_DISPOSITION_DELETE FILE_DISPOSITION_POSIX_SEMANTICS FILE_DISPOSITION_ON_CLOSE FILE_DISPOSITION_INFORMATION_EX FILE_ID_128 FILE_ID_EXTD_DIR_INFORMATION FILE_ID_INFORMATION
 MdlMappingNoExecute POOL_NX_ALLOCATION FSCTL_OFFLOAD_WRITE DrvRtPoolNxOptIn IS_ALIGNED ROUND_TO_SIZE Add2Ptr ExAllocatePoolZero ExInitializeDriverRuntime KEY_NAME_INFORMATION
-SECURITY_MAX_SID_SIZE RtlCrc32 PsGetProcessInheritedFromUniqueProcessId CmCallbackGetKeyObjectIDEx CmCallbackReleaseKeyObjectIDEx IO_REPARSE_TAG_CLOUD STATUS_CLOUD_FILE_UNSUCCESSFUL STATUS_CLOUD_FILE_PROVIDER_NOT_RUNNING
+SECURITY_MAX_SID_SIZE RtlCrc32 EVENT_INFO_CLASS EtwSetInformation PsGetProcessInheritedFromUniqueProcessId CmCallbackGetKeyObjectIDEx CmCallbackReleaseKeyObjectIDEx IO_REPARSE_TAG_CLOUD STATUS_CLOUD_FILE_UNSUCCESSFUL STATUS_CLOUD_FILE_PROVIDER_NOT_RUNNING
 RtlUnicodeStringToUTF8String RtlUTF8StringToUnicodeString RtlFreeUTF8String BCRYPT_SHA256_ALG_HANDLE BCRYPT_SHA384_ALG_HANDLE BCRYPT_HMAC_SHA256_ALG_HANDLE""".split()
 
 # Macros of this project's header, which are functions of the filter manager.

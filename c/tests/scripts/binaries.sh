@@ -96,11 +96,11 @@ may_be_played() {
     done < <(sed -n 's/^load \([^ ]*\).*/\1/p' "$tests/requests/$1.txt")
 }
 
-# Each routine that isn't modelled has a stub, which tells its limit; but for the one that raises in a binary.
+# Each routine that isn't modelled has a stub, which tells its limit.
 limits() {
     local count
     count=$(cat c/include/kz*routines.h | grep -c '^KZ_ROUTINE')
-    "$RUN" "$room/$kind/routines.sys" $tests/requests/routines.txt > "$room/out" && tail -n 1 "$room/out" | grep -q "told 0, limits $((count - 1))$" && grep -v '^LIMIT' "$room/out" | sed '$d' | diff $tests/expected/routines.txt -
+    "$RUN" "$room/$kind/routines.sys" $tests/requests/routines.txt > "$room/out" && tail -n 1 "$room/out" | grep -q "told 0, limits $count$" && grep -v '^LIMIT' "$room/out" | sed '$d' | diff $tests/expected/routines.txt -
     tell $? "routines that aren't modelled by $kind"
 }
 

@@ -80,6 +80,7 @@ made() {
     ! is_left_out "$name" || return 0
     case $kind-$name in
     *-reader | *-decode | *-levels) return ;;
+    msvc-cookie) local -x WORDS='-fstack-protector-strong -Xclang -cfguard' ;;
     mingw-rust) RUSTC=$(rust_of_windows) && export RUSTC || { echo "image: no driver in Rust is tried, since no rustc here builds for x86_64-pc-windows-gnu"; return; } ;;
     mingw-classes) command -v x86_64-w64-mingw32-g++ > /dev/null || { echo "image: no driver in C++ is tried by mingw, since there is no x86_64-w64-mingw32-g++ here"; return; } ;;
     esac

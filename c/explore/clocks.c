@@ -4,6 +4,7 @@
 #include "core/access.h"
 #include "core/binary.h"
 #include "core/edge.h"
+#include "core/pointer.h"
 
 #include <sys/mman.h>
 
@@ -370,6 +371,16 @@ void ex_lib_access(const void *address, size_t size, bool is_write)
     note(address, size, is_write ? IS_WRITE : 0, calls[kz_me->number].from);
 }
 
+void ex_kit_access(const void *address, size_t size, bool is_write)
+{
+    const void *from = kz_me->place.from;
+    if (!is_watched() || !from || !size || ex_is_stack(address) || !kz_is_drivers_memory(address))
+        return;
+    if (is_write)
+        ex_see_writes();
+    note(address, size, is_write ? IS_WRITE : 0, from);
+}
+
 static void take(Object *one)
 {
     uint32_t *mine = shadow->clock[kz_me->number];
@@ -424,6 +435,10 @@ void ex_touch(const void *object, size_t size, KzTouch how)
     if (how == KZT_HAS_TAKEN_BACK) {
         take_back(object, size);
         ex_forget_reads(object, size);
+        return;
+    }
+    if (how == KZT_READS) {
+        ex_kit_access(object, size, false);
         return;
     }
     if (kz_me->place.call && kz_me->place.from) /* the kit itself uses what lies there */

@@ -308,6 +308,8 @@ void ex_move(const void *address, size_t size, bool is_write, bool is_update, co
 void ex_enter_lib(const void *from);
 void ex_leave_lib(void);
 void ex_lib_access(const void *address, size_t size, bool is_write);
+/* A call of the kit that the driver makes copies from or to that memory: it counts where it is the driver's. */
+void ex_kit_access(const void *address, size_t size, bool is_write);
 void ex_forget_lib_calls(void);
 void ex_in_order(const void *object);
 extern const void *volatile ex_hooked;

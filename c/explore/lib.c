@@ -78,3 +78,20 @@ int KzLibCompare(const void *a, const void *b, size_t size)
     ex_lib_access(b, size, false);
     return memcmp(a, b, size);
 }
+
+/* ---- Copies by the rest of the kit, which has memory of the host's as well. */
+void *KzKitCopy(void *to, const void *from, size_t size);
+void *KzKitCopy(void *to, const void *from, size_t size)
+{
+    ex_kit_access(from, size, false);
+    ex_kit_access(to, size, true);
+    return memcpy(to, from, size);
+}
+
+void *KzKitMove(void *to, const void *from, size_t size);
+void *KzKitMove(void *to, const void *from, size_t size)
+{
+    ex_kit_access(from, size, false);
+    ex_kit_access(to, size, true);
+    return memmove(to, from, size);
+}

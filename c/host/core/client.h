@@ -78,7 +78,7 @@ struct KzClient {
 typedef bool KzCan(void *what);
 
 /* What is done with an object or with memory, for who looks whether two clients are in order. */
-typedef enum { KZT_TAKES, KZT_GIVES, KZT_HAS_TAKEN_BACK } KzTouch;
+typedef enum { KZT_TAKES, KZT_GIVES, KZT_READS, KZT_HAS_TAKEN_BACK } KzTouch;
 
 typedef struct {
     /* The client stands before what is named, in no call of the host: another may go on first. */

@@ -45,6 +45,30 @@ static bool leads_from_variables(Range to)
     return false;
 }
 
+static bool lies_in(const void *address, const char *start, const char *end)
+{
+    return (uintptr_t)address - (uintptr_t)start < (uintptr_t)end - (uintptr_t)start;
+}
+
+static bool is_variable(const void *address)
+{
+    char *start, *end;
+    bool is = lies_in(address, __start_kz_data, __stop_kz_data) || lies_in(address, __start_kz_bss, __stop_kz_bss);
+    for (unsigned at = 0; !is && kz_binaries.data && kz_binaries.data(at, &start, &end); at++)
+        is = lies_in(address, start, end);
+    return is;
+}
+
+bool kz_is_drivers_memory(const void *address)
+{
+    if (is_variable(address))
+        return true;
+    const KzPiece *piece = kz_first_piece();
+    while (piece && (uintptr_t)address - (uintptr_t)piece->body >= piece->size)
+        piece = kz_next_piece(piece);
+    return piece && (piece->kind == KZK_POOL || piece->kind == KZK_CONTEXT);
+}
+
 bool kz_is_pointed_to(const void *object)
 {
     const KzPiece *own;

@@ -129,6 +129,9 @@ KzAnswer kz_below(const KzOwn *own, KzFile *file, KazdrinEvent asked, const void
     KzPlace before = kz_me->place;
     uint8_t worker = kz_helper();
     kz_me->place.worker = worker;
+    kz_scheduler->touch(bytes, length, KZT_READS);
+    if (own->carried)
+        kz_scheduler->touch(own->carried->input, own->carried->input_size, KZT_READS);
     KzAnswer answer = begin(own, file, asked, bytes, length);
     kz_me->place = before;
     if (!answer.reply.held)

@@ -19,11 +19,16 @@ typedef struct {
 
 typedef struct {
     uintptr_t tag;
-    uint32_t run;
     struct {
         Access read, write;
     } by[RUNNERS + 1];
 } Cell;
+
+/* Where a cell is looked for: apart from what the clients did with it, so that many are near one another. */
+typedef struct {
+    uintptr_t tag;
+    uint32_t run;
+} Place;
 
 typedef struct {
     const void *object;
@@ -32,6 +37,7 @@ typedef struct {
 } Object;
 
 static struct {
+    Place places[CELLS];
     Cell cells[CELLS];
     Object objects[OBJECTS];
     uint32_t clock[RUNNERS + 1][RUNNERS + 1];
@@ -100,22 +106,25 @@ static size_t hashed(uintptr_t key, size_t size)
     return (size_t)((key * 0x9e3779b97f4a7c15ULL) >> 40) & (size - 1);
 }
 
-/* NULL where the table is full: then nothing is told of it. */
+static Cell *make_cell(size_t at, uintptr_t tag)
+{
+    Cell *cell = &shadow->cells[at];
+    memset(cell->by, 0, sizeof cell->by[0] * ((size_t)ex->run.most_runners + 1));
+    shadow->places[at] = (Place){tag, ex->run.number};
+    cell->tag = tag;
+    return cell;
+}
+
+/* NULL where the table is full: then nothing is told of it. Eight cells in a row have places in a row. */
 static Cell *cell_of(uintptr_t tag, bool is_made)
 {
-    size_t at = hashed(tag, CELLS);
+    size_t at = hashed(tag >> 3, CELLS / 8) * 8 + tag % 8;
     for (int tries = 0; tries < 64; tries++, at = (at + 1) & (CELLS - 1)) {
-        Cell *cell = &shadow->cells[at];
-        if (cell->run == ex->run.number && cell->tag == tag)
-            return cell;
-        if (cell->run == ex->run.number)
-            continue;
-        if (!is_made)
-            return NULL;
-        memset(cell->by, 0, sizeof cell->by[0] * ((size_t)ex->run.most_runners + 1));
-        cell->run = ex->run.number;
-        cell->tag = tag;
-        return cell;
+        const Place *place = &shadow->places[at];
+        if (place->run != ex->run.number)
+            return is_made ? make_cell(at, tag) : NULL;
+        if (place->tag == tag)
+            return &shadow->cells[at];
     }
     return NULL;
 }
@@ -218,7 +227,7 @@ static void look_at_freed(uintptr_t address, const void *from, const char *what)
     }
 }
 
-static bool is_watched(void)
+static inline bool is_watched(void)
 {
     return ex && ex->run.is_running && !ex->run.is_alone && kz_me != &kz_first;
 }
@@ -362,9 +371,11 @@ void ex_leave_lib(void)
 /* No other client goes on inside such a call: in the kit too it is the driver's line that is interrupted, before it or behind it. */
 void ex_lib_access(const void *address, size_t size, bool is_write)
 {
-    if (is_watched() && is_write)
+    if (!is_watched())
+        return;
+    if (is_write)
         ex_see_writes(); /* a copy of many bytes: it needn't be late */
-    if (!is_watched() || calls[kz_me->number].depth == 0 || !calls[kz_me->number].from || !size || ex_is_stack(address))
+    if (calls[kz_me->number].depth == 0 || !calls[kz_me->number].from || !size || ex_is_stack(address))
         return;
     if (!is_write)
         ex_may_change(address, size);

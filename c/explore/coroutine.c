@@ -79,7 +79,7 @@ typedef struct {
 
 static void add(Options *options, Runner *one)
 {
-    options->clients[options->count++] = (int)one->client->number;
+    options->clients[options->count++] = (int)(one - ex_runners);
 }
 
 /* The one that runs first; those that only go on where nobody else can, then: the scenario's last lines, and waits whose time is over. */
@@ -98,7 +98,7 @@ static Options options_of(Runner *me)
     for (int at = 1; at <= ex->run.runners_count && !options.count; at++)
         if (is_finally(&ex_runners[at]) && can_go_on(&ex_runners[at]))
             add(&options, &ex_runners[at]);
-    bool is_over = !ex_is_stuck(); /* whoever is beside the clients alone waits on */
+    bool is_over = !options.count && !ex_is_stuck(); /* whoever is beside the clients alone waits on */
     for (int at = 1; at <= ex->run.runners_count && !options.count; at++)
         if (ex_runners[at].state == WAITING && ex_runners[at].client->timeout && !(is_over && ex_runners[at].thread)) {
             ex_runners[at].timed_out = true;

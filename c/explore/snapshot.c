@@ -29,8 +29,11 @@ enum { MOST_RANGES = 64 };
 static struct {
     Range ranges[MOST_RANGES]; /* the program's, the first client's memory, and what drivers that are binaries have */
     int ranges_count;
-    char *pages[1 << 16];
-    uint64_t hashes[1 << 16]; /* of the pages as they are put back */
+    struct {
+        char *at;
+        const char *copy;
+        uint64_t hash; /* as it is put back */
+    } pages[1 << 16]; /* that are open */
     size_t pages_count;
     bool is_taken;
 } *image;
@@ -189,20 +192,19 @@ bool ex_opens_page(const void *address)
     Range *range = range_of(page);
     if (!range || range->is_open[(page - range->start) / PAGE] || image->pages_count == sizeof image->pages / sizeof image->pages[0])
         return false;
+    const char *copy = range->copy + (page - range->start);
     range->is_open[(page - range->start) / PAGE] = 1;
-    image->hashes[image->pages_count] = ex_bytes_hash(range->copy + (page - range->start), PAGE, (uintptr_t)page);
-    image->pages[image->pages_count++] = page;
+    image->pages[image->pages_count].at = page;
+    image->pages[image->pages_count].copy = copy;
+    image->pages[image->pages_count++].hash = ex_bytes_hash(copy, PAGE, (uintptr_t)page);
     mprotect(page, PAGE, PROT_READ | PROT_WRITE);
     return true;
 }
 
 void ex_put_back(void)
 {
-    for (size_t at = 0; at < image->pages_count; at++) {
-        char *page = image->pages[at];
-        Range *range = range_of(page);
-        memcpy(page, range->copy + (page - range->start), PAGE);
-    }
+    for (size_t at = 0; at < image->pages_count; at++)
+        memcpy(image->pages[at].at, image->pages[at].copy, PAGE);
     if (kz_binaries.put_back)
         kz_binaries.put_back();
 }
@@ -212,7 +214,7 @@ uint64_t ex_memory_hash(void)
 {
     uint64_t hash = 0;
     for (size_t at = 0; at < image->pages_count; at++)
-        hash += ex_bytes_hash(image->pages[at], PAGE, (uintptr_t)image->pages[at]) - image->hashes[at];
+        hash += ex_bytes_hash(image->pages[at].at, PAGE, (uintptr_t)image->pages[at].at) - image->pages[at].hash;
     for (size_t client = 1; client <= (size_t)ex->run.runners_count; client++)
         hash += ex_bytes_hash(arena(client), (size_t)(next[client] - arena(client)), client);
     return hash;

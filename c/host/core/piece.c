@@ -35,7 +35,7 @@ enum { PAGE = 4096, GUARDED_BYTES = 64 * 1024, GUARDED = 8192 };
 /* Up to so many pieces each one is looked at as a callback returns. Where there are more, the last few that the client took are, and all of them now and then. */
 enum { FEW = 256, LAST = 64, NOW_AND_THEN = 256 };
 
-/* All pieces by their address. */
+/* All pieces by their address. Those that are near one another have places near one another, whether they have pages of their own or not: the explorer puts back each page that is written. */
 enum { PLACES = 1 << 14 };
 
 /* Of each client the pieces that it took, the newest first, and those that it gave back: so their order is its own alone. Whoever has the manager has these too. */
@@ -82,7 +82,8 @@ static uint8_t *body_of(const KzPiece *piece)
 
 static KzPiece **place_of(const void *body)
 {
-    return &kz.piece->places[((uintptr_t)body * 0x9e3779b97f4a7c15ULL) >> 50];
+    uintptr_t address = (uintptr_t)body;
+    return &kz.piece->places[(address >> 4 ^ address >> 13) % PLACES];
 }
 
 static void enter_table(KzPiece *piece)

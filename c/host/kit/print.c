@@ -59,10 +59,11 @@ ULONG vDbgPrintExWithPrefix(PCSTR Prefix, ULONG ComponentId, ULONG Level, PCSTR 
     va_copy(arguments, Arguments);
     if (kz_me->place.call && has_wide_text(Format))
         look_at_wide_text(Format, &arguments);
-    if (!kz_is_quiet) {
+    if (!kz_is_quiet) { /* where nobody reads it, the driver's memory is read all the same */
+        KzPut put = kz_is_deaf ? nowhere : put_out;
         for (; *Prefix; Prefix++)
-            put_out(&piece, (UCHAR)*Prefix);
-        kz_format(put_out, &piece, Format, false, &arguments);
+            put(&piece, (UCHAR)*Prefix);
+        kz_format(put, &piece, Format, false, &arguments);
         kz_put(KZ_SAID_BY_DRIVER, piece.text);
     }
     va_end(arguments);

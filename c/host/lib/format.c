@@ -18,7 +18,7 @@ typedef struct {
     char kind;
 } Conversion;
 
-static int letter_at(const void *format, bool is_wide, size_t at)
+static inline int letter_at(const void *format, bool is_wide, size_t at)
 {
     return is_wide ? ((const WCHAR *)format)[at] : ((const char *)format)[at] & 255;
 }

@@ -99,7 +99,7 @@ class Life:
         elif which <= 5:
             client.write(handle, own.randrange(20), own.randbytes(own.choice([0, 1, 100, 9_000])))
         elif which == 6:
-            own.choice([client.query_size, client.flush, client.flush, client.set_delete])(handle)
+            own.choice([client.query_size, client.flush, client.set_delete, client.restore])(handle)
         elif which == 7:
             client.set_size(handle, own.randrange(200))
         elif which == 8:

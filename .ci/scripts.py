@@ -106,7 +106,7 @@ class Maker:
             f"read {handle} 0 {size}",
             f"write {handle} 0 {'41' * size or '-'}",
             f"list {self.any('v')}",
-            f"{self.random.choice(['size', 'flush', 'delete', 'cleanup', 'close'])} {handle}",
+            f"{self.random.choice(['size', 'flush', 'delete', 'restore', 'cleanup', 'close'])} {handle}",
             f"setsize {handle} {size}",
         ]
         self.say(self.random.choice(asks[:1] * 3 + asks[1:]))

@@ -32,7 +32,7 @@ from collections.abc import Sequence
 from types import TracebackType
 from typing import NamedTuple
 
-CREATE, READ, WRITE, QUERY_SIZE, SET_SIZE, FLUSH, LIST, SET_DELETE, CLOSE = range(1, 10)
+CREATE, READ, WRITE, QUERY_SIZE, SET_SIZE, FLUSH, LIST, SET_DELETE, CLOSE, RESTORE = range(1, 11)
 LOAD, ATTACH, DETACH, UNLOAD, DISMOUNT, STOP = range(16, 22)
 REPLY, HELD_REPLY = 128, 129
 EXISTING, NEW, ALWAYS = range(3)
@@ -249,6 +249,10 @@ class Client:
     def set_delete(self, handle: int) -> Reply:
         """Marks the file: it goes with its last handle."""
         return self.ask(SET_DELETE, pack("Q", handle))
+
+    def restore(self, handle: int) -> Reply:
+        """Takes that mark back."""
+        return self.ask(RESTORE, pack("Q", handle))
 
     def close(self, handle: int) -> Reply:
         """Closes a handle."""

@@ -101,7 +101,8 @@ enum {
     KZE_EMPTY_VOLUME = 45,      /* volume */
     KZE_FINISH_VOLUME = 46,     /* volume */
     KZE_ENTER_ROUTINE = 47,     /* worker, instance; handle where flag isn't 0 */
-    KZE_ROUTINE_RETURNED = 48   /* worker */
+    KZE_ROUTINE_RETURNED = 48,  /* worker */
+    KZE_RESTORE = 49            /* handle */
 };
 
 /* Operations in `pre` and `post` of KZE_REGISTER. */
@@ -115,7 +116,8 @@ enum {
     KZ_MASK_LIST = 64,
     KZ_MASK_SET_DELETE = 128,
     KZ_MASK_CLEANUP = 256,
-    KZ_MASK_CLOSE = 512
+    KZ_MASK_CLOSE = 512,
+    KZ_MASK_RESTORE = 1024
 };
 
 /* A preoperation's verdict, in `mode`. The first two ask for the postoperation, with `number`, and with the context in slot and generation if `flag` isn't 0.

@@ -140,9 +140,9 @@ static void operate(Link *link, const Frame *frame)
         create(link, frame);
     } else if (frame->code == FRAME_CLOSE) {
         close_handle(link);
-    } else if (frame->code == FRAME_SET_DELETE) {
+    } else if (frame->code == FRAME_SET_DELETE || frame->code == FRAME_RESTORE) {
         asking = link;
-        kz_delete_file(frame->handle);
+        kz_dispose_file(frame->handle, frame->code == FRAME_SET_DELETE);
     } else {
         asking = link;
         kz_perform(event_of(frame), frame->code == FRAME_WRITE ? frame->text : (const uint8_t *)"", frame->text_length, NULL);

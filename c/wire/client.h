@@ -27,7 +27,7 @@ Request request_read(uint64_t handle, uint64_t offset, uint32_t length);
 Request request_write(uint64_t handle, uint64_t offset, const void *bytes, size_t length);
 Request request_set_size(uint64_t handle, uint64_t size);
 Request request_list(uint8_t volume);
-/* QuerySize, Flush, SetDelete or Close, by its code */
+/* QuerySize, Flush, SetDelete, Close or Restore, by its code */
 Request request_handle(uint8_t code, uint64_t handle);
 
 /* What stands in front of a request's bytes, in room for a longest one: how many bytes it has. */

@@ -104,6 +104,7 @@ static bool take_fields(Fields *fields, Frame *frame)
     case FRAME_FLUSH:
     case FRAME_SET_DELETE:
     case FRAME_CLOSE:
+    case FRAME_RESTORE:
         frame->handle = take(fields, 8);
         return true;
     case FRAME_LIST:

@@ -37,6 +37,7 @@ static UCHAR major_of_event(uint8_t event)
         return IRP_MJ_QUERY_INFORMATION;
     case KZE_SET_SIZE:
     case KZE_SET_DELETE:
+    case KZE_RESTORE:
         return IRP_MJ_SET_INFORMATION;
     case KZE_FLUSH:
         return IRP_MJ_FLUSH_BUFFERS;

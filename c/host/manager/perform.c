@@ -401,10 +401,10 @@ KzReply kz_ask_file(uint64_t handle, const KzAsked *asked)
     return kz_perform_as(&(KzBegin){.event = {.event = KZE_FLUSH, .handle = handle}, .bytes = "", .carried = asked});
 }
 
-KzReply kz_delete_file(uint64_t handle)
+KzReply kz_dispose_file(uint64_t handle, bool is_gone)
 {
-    const FILE_DISPOSITION_INFORMATION gone = {TRUE};
-    return kz_ask_file(handle, &(KzAsked){.major = IRP_MJ_SET_INFORMATION, .code = FileDispositionInformation, .input = &gone, .input_size = sizeof gone, .irp_flags = IRP_BUFFERED_IO});
+    const FILE_DISPOSITION_INFORMATION said = {is_gone};
+    return kz_ask_file(handle, &(KzAsked){.major = IRP_MJ_SET_INFORMATION, .code = FileDispositionInformation, .input = &said, .input_size = sizeof said, .irp_flags = IRP_BUFFERED_IO});
 }
 
 KzReply kz_ask_file_twice(uint64_t handle, const KzAsked *first, const KzAsked *second)

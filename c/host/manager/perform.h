@@ -31,8 +31,8 @@ void kz_cleanup_over(KzFile *file);
 KzReply kz_ask_file(uint64_t handle, const KzAsked *asked);
 /* A read or a write without an IRP; where a filter disallows that, once more with one. */
 KzReply kz_perform_fast(const KzBegin *asked);
-/* The file is marked to go with its last handle. */
-KzReply kz_delete_file(uint64_t handle);
+/* The file is marked to go with its last handle, or isn't any more. */
+KzReply kz_dispose_file(uint64_t handle, bool is_gone);
 /* After a success the second one follows, whose reply isn't passed on. */
 KzReply kz_ask_file_twice(uint64_t handle, const KzAsked *first, const KzAsked *second);
 KzReply kz_ask_volume(PFLT_VOLUME volume, const KzAsked *asked);

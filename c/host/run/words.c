@@ -325,7 +325,13 @@ static KzReply ask_flush(char **words)
 static KzReply ask_set_delete(char **words)
 {
     uint64_t handle;
-    return kz_read_handle(words[1], &handle) ? kz_delete_file(handle) : kz_wrong();
+    return kz_read_handle(words[1], &handle) ? kz_dispose_file(handle, true) : kz_wrong();
+}
+
+static KzReply ask_restore(char **words)
+{
+    uint64_t handle;
+    return kz_read_handle(words[1], &handle) ? kz_dispose_file(handle, false) : kz_wrong();
 }
 
 static KzReply ask_close(char **words)
@@ -345,6 +351,7 @@ static const KzRequest requests[] = {
     {"registry", 2, 5, ask_registry, false},   {"fail", 3, 3, ask_fail, false},           {"start", 2, KZ_WORDS, ask_start, false},
     {"type", 3, KZ_WORDS, ask_type, false},    {"cancel", 2, 2, ask_cancel, false},       {"process", 3, 5, ask_process, false},
     {"thread", 3, 5, kz_ask_thread, false},    {"image", 4, 4, kz_ask_image, false},      {"open", 4, 6, kz_ask_open, false},
+    {"restore", 2, 2, ask_restore, true},
 };
 
 const KzRequest *kz_request_at(size_t at)

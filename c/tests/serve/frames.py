@@ -175,7 +175,7 @@ def files():
     yield from asks("a", create(b"no", 0), create(b"there", 1), create(b"new", 1), write(1, 0, b"hello"), write(1, 9, b"gap"), write(1, 3, b""), read(1, 0, 32_768))
     yield from asks("a", on(kazdrin.QUERY_SIZE, 1), set_size(1, 4), read(1, 0, 9), set_size(1, 6), read(1, 0, 9), on(kazdrin.FLUSH, 1))
     yield from asks("a", create(b"deny/in"), create(b"deny"), create(b"deny", 1), create(b"nowhere/x"), create(b"pipe"), create(b"pipe", 1), create(b"link"), create(b"link", 0), create(b"link", 1), create(b"there/x"))
-    yield from asks("a", LIST, on(kazdrin.SET_DELETE, 1), create(b"new"), read(1, 0, 9), on(kazdrin.CLOSE, 1), create(b"new", 0), LIST, on(kazdrin.CLOSE, 1))
+    yield from asks("a", LIST, on(kazdrin.SET_DELETE, 1), create(b"new"), on(kazdrin.RESTORE, 1), LIST, on(kazdrin.SET_DELETE, 1), read(1, 0, 9), on(kazdrin.RESTORE, 9), on(kazdrin.CLOSE, 1), create(b"new", 0), LIST, on(kazdrin.CLOSE, 1))
     yield from asks("a", write(0, 1 << 40, b"x"), write(0, (1 << 40) - 1, b""), set_size(0, (1 << 40) + 1), read(0, 1 << 40, 1), read(0, (1 << 64) - 1, 1), write(0, (1 << 64) - 1, b"x"))
     yield from asks("a", write(0, 0, bytes(32_768)), read(0, 0, 32_768), read(0, 0, 32_769), write(0, 0, bytes(32_769)), set_size(0, 3))
     yield from asks("b", read(0, 0, 1), on(kazdrin.CLOSE, 0), create(b"there", 0), on(kazdrin.SET_DELETE, 3))
@@ -186,7 +186,7 @@ def files():
 
 def odd():
     """Frames that are none, or that refuse themselves."""
-    for code in (0, 10, 15, 22, 99, 127, 130, 255):
+    for code in (0, 10, 11, 15, 22, 99, 127, 130, 255):
         yield from asks("a", frame(code), frame(code, b"123", 7))
     for code in list(range(1, 10)) + list(range(16, 22)):
         yield from asks("a", frame(code, b"" if code != kazdrin.STOP else b"more"), frame(code, b"\0"), frame(code, bytes(17)), frame(code, bytes(20)), frame(code, bytes(21)), frame(code, b"\xff" * 30, 0xFFFF_FFFF))
@@ -313,7 +313,7 @@ def chance(seed, count):
         offset = own.choice((0, 1, 9, 4096, (1 << 40) - 4))
         yield from asks(own.choice("abc"), own.choice((
             create(path, own.randrange(3)), create(path, own.randrange(3)), read(handle, offset, own.randrange(40)), write(handle, own.randrange(50), own.randbytes(own.randrange(60))),
-            on(kazdrin.QUERY_SIZE, handle), set_size(handle, own.randrange(90)), on(kazdrin.FLUSH, handle), on(kazdrin.SET_DELETE, handle), on(kazdrin.CLOSE, handle), on(kazdrin.CLOSE, handle), LIST,
+            on(kazdrin.QUERY_SIZE, handle), set_size(handle, own.randrange(90)), on(kazdrin.FLUSH, handle), on(kazdrin.SET_DELETE, handle), on(kazdrin.RESTORE, handle), on(kazdrin.CLOSE, handle), on(kazdrin.CLOSE, handle), LIST,
             frame(kazdrin.LOAD, own.choice((b"shift", b"guard"))), attach(own.randrange(2), 0, own.choice((b"p", b"q")), own.choice((b"1", b"2"))), frame(kazdrin.DETACH, pack("H", own.randrange(6))),
         )))
         if own.random() < 0.02:

@@ -19,6 +19,7 @@ operation_of (params.SetSize size) = kind.SetSize
 operation_of params.Flush = kind.Flush
 operation_of params.List = kind.List
 operation_of params.SetDelete = kind.SetDelete
+operation_of params.Restore = kind.Restore
 operation_of params.Cleanup = kind.Cleanup
 operation_of params.Close = kind.Close
 

@@ -12,5 +12,6 @@ params_of request.QuerySize = params.QuerySize
 params_of (request.SetSize size) = params.SetSize size
 params_of request.Flush = params.Flush
 params_of request.SetDelete = params.SetDelete
+params_of request.Restore = params.Restore
 params_of request.Cleanup = params.Cleanup
 params_of request.Close = params.Close

@@ -25,6 +25,8 @@ pub enum Params {
     List,
     /// Marks the file for deletion.
     SetDelete,
+    /// Takes that mark back.
+    Restore,
     /// The client let go of its handle.
     Cleanup,
     /// The handle ends.
@@ -45,6 +47,7 @@ impl Params {
             Params::Flush => Operation::Flush,
             Params::List => Operation::List,
             Params::SetDelete => Operation::SetDelete,
+            Params::Restore => Operation::Restore,
             Params::Cleanup => Operation::Cleanup,
             Params::Close => Operation::Close,
         }

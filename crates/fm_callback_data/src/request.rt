@@ -21,6 +21,8 @@ pub enum FileRequest {
     Flush,
     /// Marks the file, to be deleted at its last close (`FileDispositionInformation`).
     SetDelete,
+    /// Takes that mark back, so that the file stays (`FileDispositionInformation`, `DeleteFile` FALSE).
+    Restore,
     /// The client let go of the handle (`IRP_MJ_CLEANUP`). Frames don't spell it: a close of theirs
     /// begins two operations, a cleanup and then the close.
     Cleanup,
@@ -40,6 +42,7 @@ impl FileRequest {
             FileRequest::SetSize { size } => Params::SetSize { size },
             FileRequest::Flush => Params::Flush,
             FileRequest::SetDelete => Params::SetDelete,
+            FileRequest::Restore => Params::Restore,
             FileRequest::Cleanup => Params::Cleanup,
             FileRequest::Close => Params::Close,
         }

@@ -20,6 +20,7 @@ spelling verb.SetSize = codes "setsize"
 spelling verb.Flush = codes "flush"
 spelling verb.List = codes "list"
 spelling verb.SetDelete = codes "setdelete"
+spelling verb.Restore = codes "restore"
 spelling verb.Close = codes "close"
 spelling verb.Load = codes "load"
 spelling verb.Attach = codes "attach"
@@ -30,7 +31,7 @@ spelling verb.Stop = codes "stop"
 
 abbrev pub all_verbs : List Verb
 all_verbs =
-    verb.Create ∷ verb.Read ∷ verb.Write ∷ verb.QuerySize ∷ verb.SetSize ∷ verb.Flush ∷ verb.List ∷ verb.SetDelete ∷ verb.Close ∷ verb.Load ∷ verb.Attach
+    verb.Create ∷ verb.Read ∷ verb.Write ∷ verb.QuerySize ∷ verb.SetSize ∷ verb.Flush ∷ verb.List ∷ verb.SetDelete ∷ verb.Restore ∷ verb.Close ∷ verb.Load ∷ verb.Attach
     ∷ verb.Detach ∷ verb.Unload ∷ verb.Dismount ∷ verb.Stop ∷ []
 
 -- what the first word asks for
@@ -91,6 +92,7 @@ plain_read verb.SetSize words = set_size_read words
 plain_read verb.Flush words = only_handle words file.Flush
 plain_read verb.List words = list_read words
 plain_read verb.SetDelete words = only_handle words file.SetDelete
+plain_read verb.Restore words = only_handle words file.Restore
 plain_read verb.Close words = only_handle words file.Close
 plain_read verb.Detach words = detach_read words
 plain_read verb.Unload words = unload_read words

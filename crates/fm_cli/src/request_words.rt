@@ -145,6 +145,7 @@ fn read_plain(verb: Verb, words: &[&str]) -> Option<Body>
         Verb::Flush => only_handle(words, FileRequest::Flush),
         Verb::List => read_list(words),
         Verb::SetDelete => only_handle(words, FileRequest::SetDelete),
+        Verb::Restore => only_handle(words, FileRequest::Restore),
         Verb::Close => only_handle(words, FileRequest::Close),
         Verb::Detach => read_detach(words),
         Verb::Unload => read_unload(words),

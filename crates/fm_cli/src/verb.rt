@@ -14,6 +14,7 @@ pub enum Verb {
     Flush,
     List,
     SetDelete,
+    Restore,
     Close,
     Load,
     Attach,
@@ -32,7 +33,7 @@ fn spelled(verbs: &[Verb], word: &[u8]) -> Option<Verb>
 
 impl Verb {
     /// All of them.
-    pub const ALL: [Verb; 15] = [
+    pub const ALL: [Verb; 16] = [
         Verb::Create,
         Verb::Read,
         Verb::Write,
@@ -41,6 +42,7 @@ impl Verb {
         Verb::Flush,
         Verb::List,
         Verb::SetDelete,
+        Verb::Restore,
         Verb::Close,
         Verb::Load,
         Verb::Attach,
@@ -71,6 +73,7 @@ impl Verb {
             Verb::Flush => b"flush",
             Verb::List => b"list",
             Verb::SetDelete => b"setdelete",
+            Verb::Restore => b"restore",
             Verb::Close => b"close",
             Verb::Load => b"load",
             Verb::Attach => b"attach",

@@ -155,9 +155,9 @@ others_counted s h (x ∷ hs) older = elim (cases_Bool (is_handle h x)) [
 apart_streams : (s : StreamId) (xs : List FileStream) → AllPairs IsBefore xs → AllPairs (λ x y. is_stream s x ≡ true → is_stream s y ≡ false) xs
 apart_streams s xs rises = λ i j d below within e. later_number (get_or xs i d).number.0 (get_or xs j d).number.0 s.0 (rises i j d below within) e
 
-pub marked_counted : (s : StreamId) (xs ys : List FileStream) (hs : List FileHandle) (ns : List ℕ) → ys ≡ change_first (is_stream s) with_mark xs
+pub marked_counted : (b : Bool) (s : StreamId) (xs ys : List FileStream) (hs : List FileHandle) (ns : List ℕ) → ys ≡ change_first (is_stream s) (with_mark b) xs
     → AreCounted xs hs ns → AreCounted ys hs ns
-marked_counted s xs ys hs ns is counted = counted ∙ sym (ap (map (open_on hs)) is ∙ map_changed (open_on hs) (is_stream s) with_mark xs (λ x. refl))
+marked_counted b s xs ys hs ns is counted = counted ∙ sym (ap (map (open_on hs)) is ∙ map_changed (open_on hs) (is_stream s) (with_mark b) xs (λ x. refl))
 
 pub torn_counted : (s : StreamId) (xs ys : List FileStream) (hs : List FileHandle) (ns ms : List ℕ) → ys ≡ without_first (is_stream s) xs
     → ms ≡ without_at (position (is_stream s) xs) ns → AreCounted xs hs ns → AreCounted ys hs ms

@@ -161,17 +161,18 @@ opened_keeps s f (Some (Object.Stream r)) h = h
 opened_keeps s f (Some (Object.Handle g)) h = found_before (is_handle g) f.handles (fresh_handle s f.next ∷ []) h
 opened_keeps s f l h = refl
 
-marked_keeps : (s : StreamId) (f : FileTable) (l : Option Object) → is_there f l ≡ true → is_there (marked s f) l ≡ true
-marked_keeps s f (Some (Object.Stream r)) h = found_changed (is_stream r) (is_stream s) with_mark (λ x. refl) f.streams h
-marked_keeps s f (Some (Object.Handle g)) h = h
-marked_keeps s f l h = refl
+marked_keeps : (b : Bool) (s : StreamId) (f : FileTable) (l : Option Object) → is_there f l ≡ true → is_there (marked b s f) l ≡ true
+marked_keeps b s f (Some (Object.Stream r)) h = found_changed (is_stream r) (is_stream s) (with_mark b) (λ x. refl) f.streams h
+marked_keeps b s f (Some (Object.Handle g)) h = h
+marked_keeps b s f l h = refl
 
 -- the base's answer takes away a close's handle at most, and the stream of a close or a create
 base_keeps : (k : Operation) (s : Option StreamId) (h : Option HandleId) (why : Status) (c : Bool) (f : FileTable)
     → KeepsBut f (after_base k s h why c f) (handle_lost_by k (record { operation = k; stream = s; handle = h }))
     (stream_lost_by k (record { operation = k; stream = s; handle = h }))
 base_keeps kind.Create (Some s) h why c f = λ l there. grind (arith, there, opened_keeps s f l there, left_keeps s c f None l there)
-base_keeps kind.SetDelete (Some s) h why c f = λ l there. grind (arith, there, marked_keeps s f l there)
+base_keeps kind.SetDelete (Some s) h why c f = λ l there. grind (arith, there, marked_keeps true s f l there)
+base_keeps kind.Restore (Some s) h why c f = λ l there. grind (arith, there, marked_keeps false s f l there)
 base_keeps kind.Close (Some s) (Some h) why c f =
     keeps_then f (closed h f) (left s c (closed h f)) (Some (Object.Handle h)) (Some (Object.Stream s)) (closed_keeps h f (Some (Object.Stream s)))
     (left_keeps s c (closed h f) (Some (Object.Handle h)))

@@ -60,18 +60,18 @@ find_gone {A = A} p test (x ∷ xs) r found other = elim (cases_Bool (test x)) [
   | inr e ↦ rw e (ap (λ (m : Option A). cond (p x) (Some x) m) (find_gone p test xs r (sym (ap (λ b. cond b (Some x) (find test xs)) e) ∙ found) other))
 ]
 
-marked_alike : (b : Bool) (x : FileStream) (m : Option FileStream) → number_of (cond b (Some (with_mark x)) m) ≡ number_of (cond b (Some x) m)
-marked_alike true x m = refl
-marked_alike false x m = refl
+marked_alike : (mark b : Bool) (x : FileStream) (m : Option FileStream) → number_of (cond b (Some (with_mark mark x)) m) ≡ number_of (cond b (Some x) m)
+marked_alike mark true x m = refl
+marked_alike mark false x m = refl
 
-find_marked : (f : FileName) (s : StreamId) (xs : List FileStream)
-    → number_of (find (is_file f) (change_first (is_stream s) with_mark xs)) ≡ number_of (find (is_file f) xs)
-find_marked f s [] = refl
-find_marked f s (x ∷ xs) = elim (cases_Bool (is_stream s x)) [
-  | inl e ↦ rw e (marked_alike (is_file f x) x (find (is_file f) xs))
+find_marked : (mark : Bool) (f : FileName) (s : StreamId) (xs : List FileStream)
+    → number_of (find (is_file f) (change_first (is_stream s) (with_mark mark) xs)) ≡ number_of (find (is_file f) xs)
+find_marked mark f s [] = refl
+find_marked mark f s (x ∷ xs) = elim (cases_Bool (is_stream s x)) [
+  | inl e ↦ rw e (marked_alike mark (is_file f x) x (find (is_file f) xs))
   | inr e ↦ rw e (elim (cases_Bool (is_file f x)) [
     | inl p ↦ rw p refl
-    | inr p ↦ rw p (find_marked f s xs)
+    | inr p ↦ rw p (find_marked mark f s xs)
   ])
 ]
 
@@ -94,11 +94,11 @@ module _ {S : Type 0} where
       → AreNamed xs old → AreNamed xs new
   reserved_named xs old new same h = record { named = λ f. same f ∙ h.named f; once = h.once }
 
-  pub marked_named : (s : StreamId) (xs ys : List FileStream) (numbers : HashMap FileName StreamId S) → ys ≡ change_first (is_stream s) with_mark xs
+  pub marked_named : (mark : Bool) (s : StreamId) (xs ys : List FileStream) (numbers : HashMap FileName StreamId S) → ys ≡ change_first (is_stream s) (with_mark mark) xs
       → AreNamed xs numbers → AreNamed ys numbers
-  marked_named s xs ys numbers is h = rw is (record {
-    named = λ f. h.named f ∙ sym (find_marked f s xs);
-    once = λ f. omega (arith, count_kept (is_file f) (is_stream s) with_mark xs (λ x. refl), h.once f);
+  marked_named mark s xs ys numbers is h = rw is (record {
+    named = λ f. h.named f ∙ sym (find_marked mark f s xs);
+    once = λ f. omega (arith, count_kept (is_file f) (is_stream s) (with_mark mark) xs (λ x. refl), h.once f);
   })
 
   absent_named : (x : FileStream) (xs : List FileStream) (old : HashMap FileName StreamId S) → number_in old (name_of x) ≡ None → AreNamed xs old

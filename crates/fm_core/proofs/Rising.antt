@@ -1,6 +1,6 @@
 -- Streams and handles stay in the order of their numbers.
 use Rattle.fm_core.proofs.Words.{IsBefore, IsOlder, FileHandle, FileStream, HandlePhase, List, [], arith, subst, sym, ℕ, ◌++◌, ◌+◌, ◌<◌, ◌∷◌, ◌≡◌, change_first}
-use Rattle.fm_core.proofs.Words.{without_first, HandleId, StreamId, is_handle, is_stream, with_mark, with_phase, All, AllPairs}
+use Rattle.fm_core.proofs.Words.{without_first, Bool, HandleId, StreamId, is_handle, is_stream, with_mark, with_phase, All, AllPairs}
 use Rattle.fm_world.proofs.Words.{all_without, All-push, all_pairs_push}
 use Rattle.fm_world.proofs.Streams.{all_kept, pairs_change, pairs_without}
 use Rattle.fm_core.specs.FilesKept.{AreRising}
@@ -26,10 +26,10 @@ opened_rising h xs hs gs n is last rises =
           (λ k d within. omega (arith, rises.given k d within)) (omega (arith, last)));
     }
 
-pub marked_rising : (s : StreamId) (xs ys : List FileStream) (hs : List FileHandle) (n : ℕ) → ys ≡ change_first (is_stream s) with_mark xs
+pub marked_rising : (b : Bool) (s : StreamId) (xs ys : List FileStream) (hs : List FileHandle) (n : ℕ) → ys ≡ change_first (is_stream s) (with_mark b) xs
     → AreRising (record { streams = xs; handles = hs; next = n }) → AreRising (record { streams = ys; handles = hs; next = n })
-marked_rising s xs ys hs n is rises =
-    with_streams hs n (subst (AllPairs IsBefore) (sym is) (pairs_change IsBefore (is_stream s) with_mark xs (λ x y h. h) (λ x y h. h) rises.streams)) rises
+marked_rising b s xs ys hs n is rises =
+    with_streams hs n (subst (AllPairs IsBefore) (sym is) (pairs_change IsBefore (is_stream s) (with_mark b) xs (λ x y h. h) (λ x y h. h) rises.streams)) rises
 
 pub torn_rising : (s : StreamId) (xs ys : List FileStream) (hs : List FileHandle) (n : ℕ) → ys ≡ without_first (is_stream s) xs
     → AreRising (record { streams = xs; handles = hs; next = n }) → AreRising (record { streams = ys; handles = hs; next = n })

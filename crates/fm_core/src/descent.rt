@@ -51,7 +51,7 @@ fn known_on(
     ensures { result ≡ known_on files.now.table flow.now operation stream handle }
 {
     match operation.role() {
-        Role::Marks | Role::CleansUp => Some(Status::Success),
+        Role::Marks | Role::Unmarks | Role::CleansUp => Some(Status::Success),
         Role::Closes => {
             if unlinks(files, flow, stream, handle) {
                 None

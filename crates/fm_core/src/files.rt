@@ -267,11 +267,11 @@ impl Files {
         phase_in(&mut self.handles, handle, phase);
     }
 
-    /// A file is to be unlinked.
-    fn mark(&mut self, stream: StreamId)
-        ensures { self.new.table ≡ marked stream self.old.table }
+    /// A file is to be unlinked, or isn't any more.
+    fn mark(&mut self, stream: StreamId, is_marked: bool)
+        ensures { self.new.table ≡ marked is_marked stream self.old.table }
     {
-        mark_in(&mut self.streams, stream);
+        mark_in(&mut self.streams, stream, is_marked);
     }
 
     /// A create succeeded: it gives a handle.
@@ -324,7 +324,8 @@ impl Files {
         };
         match target.operation.role() {
             Role::Opens => self.answer_create(stream, status, is_created),
-            Role::Marks => self.answer_marking(stream, status),
+            Role::Marks => self.answer_marking(stream, true, status),
+            Role::Unmarks => self.answer_marking(stream, false, status),
             Role::Closes => self.answer_close(stream, target.handle, is_created),
             Role::Uses | Role::CleansUp => {}
         }
@@ -342,11 +343,11 @@ impl Files {
         }
     }
 
-    fn answer_marking(&mut self, stream: StreamId, status: Status)
-        ensures { self.new.table ≡ cond (is_success status) (marked stream self.old.table) self.old.table }
+    fn answer_marking(&mut self, stream: StreamId, is_marked: bool, status: Status)
+        ensures { self.new.table ≡ cond (is_success status) (marked is_marked stream self.old.table) self.old.table }
     {
         if is_success(status) {
-            self.mark(stream);
+            self.mark(stream, is_marked);
         }
     }
 
@@ -442,12 +443,12 @@ fn phase_in(handles: &mut Vec<FileHandle>, handle: HandleId, phase: HandlePhase)
     }
 }
 
-fn mark_in(streams: &mut Vec<FileStream>, stream: StreamId)
+fn mark_in(streams: &mut Vec<FileStream>, stream: StreamId, is_marked: bool)
     requires { AllPairs IsBefore streams.old.items }
-    ensures { streams.new.items ≡ change_first (is_stream stream) with_mark streams.old.items }
+    ensures { streams.new.items ≡ change_first (is_stream stream) (with_mark is_marked) streams.old.items }
 {
     if let Some(at) = index_of_stream(streams, stream) {
-        streams[at].is_marked = true;
+        streams[at].is_marked = is_marked;
     }
 }
 

@@ -65,7 +65,7 @@ fn phase_refusal(flow: &Flow, operation: Operation, phase: HandlePhase) -> Optio
             }
             HandlePhase::Closing => Some(Status::NoHandle),
         },
-        Role::Opens | Role::Uses | Role::Marks => match phase {
+        Role::Opens | Role::Uses | Role::Marks | Role::Unmarks => match phase {
             HandlePhase::Open => None,
             HandlePhase::CleaningUp(_) | HandlePhase::Closing => Some(Status::NoHandle),
         },
@@ -147,7 +147,7 @@ fn move_on(files: &mut Files, operation: Operation, handle: HandleId, number: u6
     match operation.role() {
         Role::CleansUp => files.set_phase(handle, HandlePhase::CleaningUp(OpId(number))),
         Role::Closes => files.set_phase(handle, HandlePhase::Closing),
-        Role::Opens | Role::Uses | Role::Marks => {}
+        Role::Opens | Role::Uses | Role::Marks | Role::Unmarks => {}
     }
 }
 

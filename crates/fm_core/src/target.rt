@@ -111,7 +111,7 @@ fn handle_lost(target: Target) -> Option<Object>
 {
     match target.operation.role() {
         Role::Closes => Some(Object::Handle(target.handle?)),
-        Role::Opens | Role::Uses | Role::Marks | Role::CleansUp => None,
+        Role::Opens | Role::Uses | Role::Marks | Role::Unmarks | Role::CleansUp => None,
     }
 }
 
@@ -121,7 +121,7 @@ fn stream_lost(target: Target) -> Option<Object>
 {
     match target.operation.role() {
         Role::Opens | Role::Closes => Some(Object::Stream(target.stream?)),
-        Role::Uses | Role::Marks | Role::CleansUp => None,
+        Role::Uses | Role::Marks | Role::Unmarks | Role::CleansUp => None,
     }
 }
 

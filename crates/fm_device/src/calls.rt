@@ -102,6 +102,6 @@ fn on_file<B: Base>(alloc: Global, base: &mut B, path: &RelPath, call: &Params) 
         Params::SetSize { size } => done(alloc, base.set_size(path, *size)),
         Params::Flush => done(alloc, base.flush(path)),
         Params::Close => done(alloc, base.unlink(path)),
-        Params::List | Params::SetDelete | Params::Cleanup => done(alloc, Ok(())),
+        Params::List | Params::SetDelete | Params::Restore | Params::Cleanup => done(alloc, Ok(())),
     }
 }

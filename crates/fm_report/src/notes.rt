@@ -60,6 +60,7 @@ pub enum What {
     Size(u64),
     Flush(u64),
     Delete(u64),
+    Restore(u64),
     Cleanup(u64),
     Close(u64),
 }
@@ -76,6 +77,7 @@ impl What {
             What::Size(_) => "size",
             What::Flush(_) => "flush",
             What::Delete(_) => "delete",
+            What::Restore(_) => "restore",
             What::Cleanup(_) => "cleanup",
             What::Close(_) => "close",
         }
@@ -92,6 +94,7 @@ impl What {
             What::Size(_) => "QUERY_SIZE",
             What::Flush(_) => "FLUSH",
             What::Delete(_) => "DELETE",
+            What::Restore(_) => "RESTORE",
             What::Cleanup(_) => "CLEANUP",
             What::Close(_) => "CLOSE",
         }
@@ -107,6 +110,7 @@ impl What {
             | What::Size(handle)
             | What::Flush(handle)
             | What::Delete(handle)
+            | What::Restore(handle)
             | What::Cleanup(handle)
             | What::Close(handle) => Some(*handle),
         }
@@ -531,6 +535,7 @@ fn what_on(handle: u64, request: &FileRequest) -> What {
         FileRequest::SetSize { size } => What::SetSize(handle, *size),
         FileRequest::Flush => What::Flush(handle),
         FileRequest::SetDelete => What::Delete(handle),
+        FileRequest::Restore => What::Restore(handle),
         FileRequest::Cleanup => What::Cleanup(handle),
         FileRequest::Close => What::Close(handle),
     }

@@ -40,6 +40,7 @@ shifted_plain (params.SetSize size) old answer new h = search rules
 shifted_plain params.Flush old answer new h = search rules
 shifted_plain params.List old answer new h = search rules
 shifted_plain params.SetDelete old answer new h = search rules
+shifted_plain params.Restore old answer new h = search rules
 shifted_plain params.Cleanup old answer new h = search rules
 shifted_plain params.Close old answer new h = search rules
 

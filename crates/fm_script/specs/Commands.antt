@@ -86,6 +86,7 @@ spelling keyword.EmptyV = codes "emptyv"
 spelling keyword.FinishV = codes "finishv"
 spelling keyword.QuerySize = codes "querysize"
 spelling keyword.SetDelete = codes "setdelete"
+spelling keyword.Restore = codes "restore"
 spelling keyword.Below = codes "below"
 spelling keyword.AtBase = codes "atbase"
 
@@ -98,7 +99,7 @@ all_keywords =
     keyword.Delete ∷ keyword.Cleanup ∷ keyword.Close ∷ keyword.Fail ∷ keyword.Failures ∷ keyword.Resume ∷ keyword.ResPost ∷
     keyword.Query ∷ keyword.Queried ∷ keyword.Start ∷ keyword.Started ∷ keyword.Complete ∷ keyword.Completed ∷ keyword.Enter ∷ keyword.Left ∷ keyword.Unload ∷
     keyword.Unloaded ∷ keyword.EmptyF ∷ keyword.FinishF ∷ keyword.Flight ∷ keyword.Drain ∷ keyword.Drained ∷
-    keyword.Dismount ∷ keyword.Drop ∷ keyword.EmptyV ∷ keyword.FinishV ∷ keyword.QuerySize ∷ keyword.SetDelete ∷
+    keyword.Dismount ∷ keyword.Drop ∷ keyword.EmptyV ∷ keyword.FinishV ∷ keyword.QuerySize ∷ keyword.SetDelete ∷ keyword.Restore ∷
     keyword.Below ∷ keyword.AtBase ∷ []
 
 -- the keyword that a word is
@@ -118,15 +119,15 @@ abbrev pub with_masks : ℕ → ℕ → Registration
 with_masks pre post = record { pre = record { 0 = pre }; post = record { 0 = post }; contexts = record { 0 = 15 }; query = true; unload = true }
 
 abbrev pub bare : Registration
-bare = record { pre = record { 0 = 1023 }; post = record { 0 = 1023 }; contexts = record { 0 = 0 }; query = false; unload = false }
+bare = record { pre = record { 0 = 2047 }; post = record { 0 = 2047 }; contexts = record { 0 = 0 }; query = false; unload = false }
 
 abbrev pub option_read : List ℕ → Result Registration Status
 option_read option =
-    cond (bytes_eq option (codes "only-pre")) (Ok (with_masks 1023 0)) (cond (bytes_eq option (codes "only-post")) (Ok (with_masks 0 1023))
+    cond (bytes_eq option (codes "only-pre")) (Ok (with_masks 2047 0)) (cond (bytes_eq option (codes "only-post")) (Ok (with_masks 0 2047))
     (cond (bytes_eq option (codes "bare")) (Ok bare) (Err BadRequest)))
 
 abbrev pub registration_read : List (List ℕ) → Result Registration Status
-registration_read [] = Ok (with_masks 1023 1023)
+registration_read [] = Ok (with_masks 2047 2047)
 registration_read (option ∷ []) = option_read option
 registration_read _ = Err BadRequest
 

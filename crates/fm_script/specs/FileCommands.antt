@@ -61,6 +61,7 @@ file_read w keyword.SetSize words = set_size_read w words
 file_read w keyword.Flush words = only_asked w words file.Flush
 file_read w keyword.Delete words = only_asked w words file.SetDelete
 file_read w keyword.SetDelete words = only_asked w words file.SetDelete
+file_read w keyword.Restore words = only_asked w words file.Restore
 file_read w keyword.Cleanup words = only_asked w words file.Cleanup
 file_read w keyword.Close words = only_asked w words file.Close
 file_read w keyword.Fail words = fail_read words

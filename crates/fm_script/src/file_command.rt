@@ -25,6 +25,7 @@ pub(crate) fn read_file_command(
         Keyword::SetSize => read_set_size(state, words),
         Keyword::Flush => only_asked(state, words, FileRequest::Flush),
         Keyword::Delete | Keyword::SetDelete => { only_asked(state, words, FileRequest::SetDelete) }
+        Keyword::Restore => only_asked(state, words, FileRequest::Restore),
         Keyword::Cleanup => only_asked(state, words, FileRequest::Cleanup),
         Keyword::Close => only_asked(state, words, FileRequest::Close),
         Keyword::Fail => read_fail(words),

@@ -70,6 +70,7 @@ pub enum Keyword {
     QuerySize,
     /// `delete` by the word of requests.
     SetDelete,
+    Restore,
     Below,
     AtBase,
 }
@@ -131,6 +132,7 @@ fn beginning_with(letter: u8) -> &'static [Keyword]
             Keyword::Read,
             Keyword::Resume,
             Keyword::ResPost,
+            Keyword::Restore,
         ],
         b'w' => &[Keyword::WBody, Keyword::Write],
         b'q' => &[Keyword::Query, Keyword::Queried, Keyword::QuerySize],
@@ -152,7 +154,7 @@ fn spelled(keywords: &[Keyword], word: &[u8]) -> Option<Keyword>
 
 impl Keyword {
     /// All of them.
-    pub const ALL: [Keyword; 64] = [
+    pub const ALL: [Keyword; 65] = [
         Keyword::Load,
         Keyword::Mount,
         Keyword::Attach,
@@ -215,6 +217,7 @@ impl Keyword {
         Keyword::FinishV,
         Keyword::QuerySize,
         Keyword::SetDelete,
+        Keyword::Restore,
         Keyword::Below,
         Keyword::AtBase,
     ];
@@ -305,6 +308,7 @@ impl Keyword {
             Keyword::FinishV => b"finishv",
             Keyword::QuerySize => b"querysize",
             Keyword::SetDelete => b"setdelete",
+            Keyword::Restore => b"restore",
             Keyword::Below => b"below",
             Keyword::AtBase => b"atbase",
         }

@@ -2,7 +2,7 @@
 use Rattle.std.specs.Prelude.{◌≡◌, ℕ, Bool, true, false, ◌==◌}
 use Rattle.std.specs.Int.RustNames.{bit_and}
 use Rattle.fm_types.specs.declared.operation.Operation.{Operation}
-use Rattle.fm_types.specs.declared.operation.Operation.TheVariants.{Create, Read, Write, QuerySize, SetSize, Flush, List, SetDelete, Cleanup, Close}
+use Rattle.fm_types.specs.declared.operation.Operation.TheVariants.{Create, Read, Write, QuerySize, SetSize, Flush, List, SetDelete, Restore, Cleanup, Close}
 use Rattle.fm_types.specs.declared.context_kind.ContextKind.{ContextKind}
 use Rattle.fm_types.specs.declared.context_kind.ContextKind.TheVariants.{Volume, Instance, Stream, Handle}
 
@@ -16,6 +16,7 @@ operation_bit SetSize = 16
 operation_bit Flush = 32
 operation_bit List = 64
 operation_bit SetDelete = 128
+operation_bit Restore = 1024
 operation_bit Cleanup = 256
 operation_bit Close = 512
 

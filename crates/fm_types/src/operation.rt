@@ -1,4 +1,4 @@
-//! The ten kinds of operations, and sets of them: what a filter's callbacks are registered for.
+//! The eleven kinds of operations, and sets of them: what a filter's callbacks are registered for.
 
 ghost use Rattle.std.specs.Prelude.{⊤, ◌≡◌, ◌<◌, ◌^◌, [], ◌∷◌, codes};
 ghost use Rattle.fm_types.specs.Roles.{role_of};
@@ -17,6 +17,7 @@ pub enum Operation {
     Flush,
     List,
     SetDelete,
+    Restore,
     Cleanup,
     Close,
 }
@@ -30,6 +31,8 @@ pub enum Role {
     Uses,
     /// It marks the file for deletion.
     Marks,
+    /// It takes that mark back.
+    Unmarks,
     /// It begins the handle's end.
     CleansUp,
     /// It closes the handle.
@@ -50,6 +53,7 @@ impl Operation {
             | Operation::Flush
             | Operation::List => Role::Uses,
             Operation::SetDelete => Role::Marks,
+            Operation::Restore => Role::Unmarks,
             Operation::Cleanup => Role::CleansUp,
             Operation::Close => Role::Closes,
         }
@@ -83,6 +87,7 @@ bitflag_items! {
         const SET_DELETE = 128;
         const CLEANUP = 256;
         const CLOSE = 512;
+        const RESTORE = 1024;
     }
 }
 
@@ -91,7 +96,7 @@ impl Flags for OpMask {
 
     ghost exact = { ⊤ };
 
-    ghost table = { (codes "CREATE", 1) ∷ (codes "READ", 2) ∷ (codes "WRITE", 4) ∷ (codes "QUERY_SIZE", 8) ∷ (codes "SET_SIZE", 16) ∷ (codes "FLUSH", 32) ∷ (codes "LIST", 64) ∷ (codes "SET_DELETE", 128) ∷ (codes "CLEANUP", 256) ∷ (codes "CLOSE", 512) ∷ [] };
+    ghost table = { (codes "CREATE", 1) ∷ (codes "READ", 2) ∷ (codes "WRITE", 4) ∷ (codes "QUERY_SIZE", 8) ∷ (codes "SET_SIZE", 16) ∷ (codes "FLUSH", 32) ∷ (codes "LIST", 64) ∷ (codes "SET_DELETE", 128) ∷ (codes "CLEANUP", 256) ∷ (codes "CLOSE", 512) ∷ (codes "RESTORE", 1024) ∷ [] };
 
     ghost set_of = { λ mask. mask.0 };
 
@@ -110,7 +115,7 @@ impl Flags for OpMask {
 
 impl OpMask {
     /// Every kind of operation.
-    pub const ALL: OpMask = OpMask(1023);
+    pub const ALL: OpMask = OpMask(2047);
 
     /// No kind of operation.
     pub const NONE: OpMask = OpMask(0);
@@ -128,6 +133,7 @@ impl OpMask {
             Operation::Flush => OpMask::FLUSH,
             Operation::List => OpMask::LIST,
             Operation::SetDelete => OpMask::SET_DELETE,
+            Operation::Restore => OpMask::RESTORE,
             Operation::Cleanup => OpMask::CLEANUP,
             Operation::Close => OpMask::CLOSE,
         }
@@ -135,8 +141,8 @@ impl OpMask {
 
     /// Every kind of operation is in `ALL`, none is in `NONE`, and nothing else is in either.
     pub fn laws()
-        ensures all { HasEveryOperation OpMask.ALL.0 × (OpMask.ALL.0 < 2 ^ 10) }
-        ensures none { HasNoOperation OpMask.NONE.0 × (OpMask.NONE.0 < 2 ^ 10) }
+        ensures all { HasEveryOperation OpMask.ALL.0 × (OpMask.ALL.0 < 2 ^ 11) }
+        ensures none { HasNoOperation OpMask.NONE.0 × (OpMask.NONE.0 < 2 ^ 11) }
     {}
 
     /// Whether that kind of operation is in the set.

@@ -24,7 +24,7 @@ pub fn usage(keyword: Keyword) -> &'static str {
         Keyword::SetSize => "H N",
         Keyword::Size | Keyword::QuerySize | Keyword::Flush | Keyword::Cleanup | Keyword::Close =>
             "H",
-        Keyword::Delete | Keyword::SetDelete => "H",
+        Keyword::Delete | Keyword::SetDelete | Keyword::Restore => "H",
         Keyword::Alloc => "W KIND HEX",
         Keyword::Set => "W C keep or replace [old]",
         Keyword::Get => "W KIND",

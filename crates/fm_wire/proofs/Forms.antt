@@ -20,7 +20,7 @@ pub file_apart : (r : FileRequest) → (file_code r ≢ 1) × (file_code r ≢ 7
 file_apart file.Cleanup = (λ e. omega arith, λ e. omega arith)
 file_apart r = (λ e. omega arith, λ e. omega arith)
 
-pub request_codes : (r : Request) → request_code r ≤ 9
+pub request_codes : (r : Request) → request_code r ≤ 10
 request_codes (request.Create volume path mode) = omega arith
 request_codes (request.OnHandle handle file.Cleanup) = omega arith
 request_codes r = omega arith
@@ -33,7 +33,7 @@ pub reply_codes : (r : Reply) → (128 ≤ reply_code r) × (reply_code r ≤ 12
 reply_codes (reply.Held operation) = (omega arith, omega arith)
 reply_codes r = (omega arith, omega arith)
 
-pub formless_request : (code : ℕ) (fields : List ℕ) → code ≤ 9 → ((r : Request) → request_code r ≡ code → request_fields r ≡ fields
+pub formless_request : (code : ℕ) (fields : List ℕ) → code ≤ 10 → ((r : Request) → request_code r ≡ code → request_fields r ≡ fields
     → FitsRequest r → KeepsRequestLimits r → ⊥) → IsFormless code fields
 formless_request code fields small none (body.Operation r) s = none r s.code_is s.fields_are s.fits s.limits
 formless_request code fields small none (body.Control c) s = let k = control_codes c in let e = s.code_is in absurd (omega arith)
@@ -68,7 +68,7 @@ request_has_size (request.OnHandle handle (file.SetSize size)) a b limits = simp
 request_has_size (request.OnHandle handle file.Cleanup) a b limits = absurd limits
 request_has_size (request.OnHandle handle asked) a b limits = simp (length-append, length-u64)
 
-pub request_of_wrong_size : (code : ℕ) (fields : List ℕ) → code ≤ 9 → code ≢ 1 → code ≢ 3 → length fields ≢ request_size code → IsFormless code fields
+pub request_of_wrong_size : (code : ℕ) (fields : List ℕ) → code ≤ 10 → code ≢ 1 → code ≢ 3 → length fields ≢ request_size code → IsFormless code fields
 request_of_wrong_size code fields small a b bad =
     formless_request code fields small (λ r c f fits limits. bad (rw (← c, ← f) (request_has_size r (λ e. a (sym c ∙ e)) (λ e. b (sym c ∙ e)) limits)))
 
@@ -94,14 +94,15 @@ held_of_wrong_size fields bad = formless_reply 129 fields (omega arith) (elim [
   | reply.Held operation ↦ λ c f fits limits. bad (rw (← f) (length-u64 operation.0))
 ])
 
-pub number_of_wrong_size : (code : ℕ) (fields : List ℕ) → (code ≡ 4) ⊎ (code ≡ 6) ⊎ (code ≡ 8) ⊎ (code ≡ 9) ⊎ (code ≡ 129)
+pub number_of_wrong_size : (code : ℕ) (fields : List ℕ) → (code ≡ 4) ⊎ (code ≡ 6) ⊎ (code ≡ 8) ⊎ (code ≡ 9) ⊎ (code ≡ 10) ⊎ (code ≡ 129)
     → length fields ≢ 8 → IsFormless code fields
 number_of_wrong_size code fields is bad = elim is [
   | inl e ↦ rw e (request_of_wrong_size 4 fields (omega arith) (λ e. omega arith) (λ e. omega arith) bad)
   | inr (inl e) ↦ rw e (request_of_wrong_size 6 fields (omega arith) (λ e. omega arith) (λ e. omega arith) bad)
   | inr (inr (inl e)) ↦ rw e (request_of_wrong_size 8 fields (omega arith) (λ e. omega arith) (λ e. omega arith) bad)
   | inr (inr (inr (inl e))) ↦ rw e (request_of_wrong_size 9 fields (omega arith) (λ e. omega arith) (λ e. omega arith) bad)
-  | inr (inr (inr (inr e))) ↦ rw e (held_of_wrong_size fields bad)
+  | inr (inr (inr (inr (inl e)))) ↦ rw e (request_of_wrong_size 10 fields (omega arith) (λ e. omega arith) (λ e. omega arith) bad)
+  | inr (inr (inr (inr (inr e)))) ↦ rw e (held_of_wrong_size fields bad)
 ]
 
 -- ---- the other forms

@@ -65,6 +65,7 @@ one_file (file.SetSize size) (file.SetSize s) c f x y = rw (alone_u64 size s x y
 one_file file.QuerySize file.QuerySize c f x y = refl
 one_file file.Flush file.Flush c f x y = refl
 one_file file.SetDelete file.SetDelete c f x y = refl
+one_file file.Restore file.Restore c f x y = refl
 one_file file.Cleanup file.Cleanup c f x y = refl
 one_file file.Close file.Close c f x y = refl
 one_file _ _ c f x y = absurd (omega arith)

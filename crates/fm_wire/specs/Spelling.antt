@@ -40,6 +40,7 @@ file_code (file.SetSize size) = 5
 file_code file.Flush = 6
 file_code file.SetDelete = 8
 file_code file.Close = 9
+file_code file.Restore = 10
 file_code file.Cleanup = 0
 
 abbrev pub file_fields : FileRequest → List ℕ

@@ -25,7 +25,7 @@ fn read_fields(alloc: Global, code: u8, fields: &[u8]) -> Result<Body, Status>
         1 => read_create(alloc, fields),
         2 => read_read(fields),
         3 => read_write(alloc, fields),
-        4 | 6 | 8 | 9 | 129 => read_on_number(code, fields),
+        4 | 6 | 8 | 9 | 10 | 129 => read_on_number(code, fields),
         5 => read_set_size(fields),
         7 | 19 | 20 => read_on_byte(code, fields),
         16 => read_load(fields),

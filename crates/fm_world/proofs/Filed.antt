@@ -7,7 +7,7 @@ use Rattle.fm_world.proofs.Words.{ℕ, ◌<◌, ◌==◌, ◌||◌, ◌∙◌, �
 use Rattle.fm_world.proofs.Cases.{by_bool}
 use Rattle.fm_world.proofs.Filing.{answered_none, filed_answered, filed_closed, filed_step, shrinks_same}
 use Rattle.fm_world.proofs.Streams.{IsOn, Stands, any_pushed, creating_ended, creating_same, is_creating_on, none_out, on_found, same_number, stands_among}
-use Rattle.fm_world.proofs.Streams.{stands_closed, stands_left, stands_marked, stands_opened, that, uses}
+use Rattle.fm_world.proofs.Streams.{stands_closed, stands_left, stands_marked_where, stands_opened, that, uses}
 use Rattle.fm_world.specs.Files as files
 
 -- ---- the parts
@@ -155,11 +155,11 @@ stands_answered f t o r step Operation.Create None h why b at same stream handle
     absurd (create_on_none f t.operations t.next (is_number o) r at stream
     (and_from (is_create r.operation) (is_unanswered r.stage) (ap is_create same) unanswered) k)
 stands_answered f t o r step Operation.SetDelete (Some s) h why b at same stream handle unanswered answered is k =
-    let stepped = stands_same f t.operations t.next (is_number o) step r at (same_answered f why r (step r) (ap is_create same) answered) k in
-    elim (is_success why) as (λ c. Stands none_out (cond c (files.marked s f) f) (changed o step t).operations t.next) [
-      | true ↦ stands_marked s f (changed o step t).operations t.next stepped
-      | false ↦ stepped
-    ]
+    stands_marked_where true (is_success why) s f (changed o step t).operations t.next
+    (stands_same f t.operations t.next (is_number o) step r at (same_answered f why r (step r) (ap is_create same) answered) k)
+stands_answered f t o r step Operation.Restore (Some s) h why b at same stream handle unanswered answered is k =
+    stands_marked_where false (is_success why) s f (changed o step t).operations t.next
+    (stands_same f t.operations t.next (is_number o) step r at (same_answered f why r (step r) (ap is_create same) answered) k)
 stands_answered f t o r step Operation.Close (Some s) (Some g) why b at same stream handle unanswered answered is k =
     stands_close f t.operations t.next (is_number o) step r s g b at stream handle (same_answered f why r (step r) (ap is_create same) answered) is k
 stands_answered f t o r step _ _ _ why b at same stream handle unanswered answered is k =

@@ -52,6 +52,11 @@ filed_open f t o s r step at was is h =
 not_more_none : (r s : FlowRecord) → is_creating s ≡ false → NotMore r s
 not_more_none r s none = one-le (is_creating s) (is_creating r) (λ creating. absurd (false≢true (sym none ∙ creating)))
 
+-- a mark, or its being taken back, where that counts
+marked_shrinks : (b counts : Bool) (s : StreamId) (f : FileTable) → Shrinks f (cond counts (files.marked b s f) f)
+marked_shrinks b true s f = record { next = refl; handles = omega arith }
+marked_shrinks b false s f = shrinks_same f
+
 -- the base's answer: the operation was unanswered before
 pub filed_answered : (f : FileTable) (t : FlowTable) (o : OpId) (r : FlowRecord) (step : FlowRecord
     → FlowRecord) (operation : Operation) (s : Option StreamId) (h : Option HandleId)
@@ -63,9 +68,11 @@ filed_answered f t o r step Operation.Create (Some s) h why b at same unanswered
       | false ↦ filed_step f (left s b f) t o r step at (not_more_none r (step r) none) (left_shrinks s b f) k
     ]
 filed_answered f t o r step Operation.SetDelete (Some s) h why b at same unanswered none k =
-    filed_step f (cond (is_success why) (files.marked s f) f) t o r step at (not_more_none r (step r) none)
-    (elim (is_success why) as (λ c. Shrinks f (cond c (files.marked s f) f))
-    [ true ↦ record { next = refl; handles = omega arith } | false ↦ shrinks_same f ]) k
+    filed_step f (cond (is_success why) (files.marked true s f) f) t o r step at (not_more_none r (step r) none)
+    (marked_shrinks true (is_success why) s f) k
+filed_answered f t o r step Operation.Restore (Some s) h why b at same unanswered none k =
+    filed_step f (cond (is_success why) (files.marked false s f) f) t o r step at (not_more_none r (step r) none)
+    (marked_shrinks false (is_success why) s f) k
 filed_answered f t o r step Operation.Close (Some s) (Some h) why b at same unanswered none k =
     filed_step f (left s b (closed h f)) t o r step at (not_more_none r (step r) none) (closed_shrinks s h b f) k
 filed_answered f t o r step _ _ _ why b at same unanswered none k = filed_step f f t o r step at (not_more_none r (step r) none) (shrinks_same f) k

@@ -221,23 +221,28 @@ stands_phased g p f rs n h = record {
 created_still : (f g : FileTable) (r : FlowRecord) → ((q : StreamId) → has_stream f q ≡ true → has_stream g q ≡ true) → IsCreatedOn f r → IsCreatedOn g r
 created_still f g r h3 h4 = grind arith
 
-marked_has : (s : StreamId) (f : FileTable) (q : StreamId) → has_stream (files.marked s f) q ≡ has_stream f q
-marked_has s f q = any_change (is_stream q) (is_stream s) with_mark f.streams (λ r found. refl)
+marked_has : (b : Bool) (s : StreamId) (f : FileTable) (q : StreamId) → has_stream (files.marked b s f) q ≡ has_stream f q
+marked_has b s f q = any_change (is_stream q) (is_stream s) (with_mark b) f.streams (λ r found. refl)
 
-pub stands_marked : (s : StreamId) (f : FileTable) (rs : List FlowRecord) (n : ℕ) → Stands none_out f rs n → Stands none_out (files.marked s f) rs n
-stands_marked s f rs n h = record {
+stands_marked : (b : Bool) (s : StreamId) (f : FileTable) (rs : List FlowRecord) (n : ℕ) → Stands none_out f rs n → Stands none_out (files.marked b s f) rs n
+stands_marked b s f rs n h = record {
   streams = record {
-    ascend = pairs_change (λ (x y : FileStream). x.number.0 < y.number.0) (is_stream s) with_mark f.streams (λ x y k. k) (λ x y k. k) h.streams.ascend;
-    born = all_kept (λ (x : FileStream). x.number.0 < n) (is_stream s) with_mark f.streams (λ x k. k) h.streams.born;
-    paths = pairs_change (λ (x y : FileStream). is_at_path y.volume y.path x ≡ false) (is_stream s) with_mark f.streams (λ x y k. k)
+    ascend = pairs_change (λ (x y : FileStream). x.number.0 < y.number.0) (is_stream s) (with_mark b) f.streams (λ x y k. k) (λ x y k. k) h.streams.ascend;
+    born = all_kept (λ (x : FileStream). x.number.0 < n) (is_stream s) (with_mark b) f.streams (λ x k. k) h.streams.born;
+    paths = pairs_change (λ (x y : FileStream). is_at_path y.volume y.path x ≡ false) (is_stream s) (with_mark b) f.streams (λ x y k. k)
         (λ x y k. k) h.streams.paths;
   };
   handles = h.handles;
-  handles_on = λ k d l. marked_has s f (get_or f.handles k d).stream ∙ h.handles_on k d l;
-  creates_on = λ k d l. created_still f (files.marked s f) (get_or rs k d) (λ q there. marked_has s f q ∙ there) (h.creates_on k d l);
+  handles_on = λ k d l. marked_has b s f (get_or f.handles k d).stream ∙ h.handles_on k d l;
+  creates_on = λ k d l. created_still f (files.marked b s f) (get_or rs k d) (λ q there. marked_has b s f q ∙ there) (h.creates_on k d l);
   operations_on = h.operations_on;
-  in_use = all_kept (λ (x : FileStream). false ≡ false → uses f rs x.number ≡ true) (is_stream s) with_mark f.streams (λ x k. k) h.in_use;
+  in_use = all_kept (λ (x : FileStream). false ≡ false → uses f rs x.number ≡ true) (is_stream s) (with_mark b) f.streams (λ x k. k) h.in_use;
 }
+
+pub stands_marked_where : (b counts : Bool) (s : StreamId) (f : FileTable) (rs : List FlowRecord) (n : ℕ) → Stands none_out f rs n
+    → Stands none_out (cond counts (files.marked b s f) f) rs n
+stands_marked_where b true s f rs n h = stands_marked b s f rs n h
+stands_marked_where b false s f rs n h = h
 
 -- another stream is there still, where one is torn down
 torn_has : (s : StreamId) (f : FileTable) (q : StreamId) → (q.0 == s.0) ≡ false → has_stream f q ≡ true → has_stream (torn_down s f) q ≡ true

@@ -182,6 +182,7 @@ unlinks f t s h = is_marked s f && not (has_other_handle s h f || has_create_on 
 -- the base's answer to an operation on a handle that is open, where no device is called for it
 abbrev pub known_on : FileTable → FlowTable → Operation → StreamId → HandleId → Option Status
 known_on f t kind.SetDelete s h = Some status.Success
+known_on f t kind.Restore s h = Some status.Success
 known_on f t kind.Cleanup s h = Some status.Success
 known_on f t kind.Close s h = cond (unlinks f t s h) None (Some status.Success)
 known_on f t _ s h = None

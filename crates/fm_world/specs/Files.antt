@@ -87,12 +87,12 @@ phased h where' t = record t { handles = change_first (is_handle h) (with_phase 
 
 -- ---- operations reach the base
 
--- a file is to be unlinked
-abbrev pub with_mark : FileStream → FileStream
-with_mark x = record x { is_marked = true }
+-- a file is to be unlinked, or isn't any more
+abbrev pub with_mark : Bool → FileStream → FileStream
+with_mark b x = record x { is_marked = b }
 
-abbrev pub marked : StreamId → FileTable → FileTable
-marked s t = record t { streams = change_first (is_stream s) with_mark t.streams }
+abbrev pub marked : Bool → StreamId → FileTable → FileTable
+marked b s t = record t { streams = change_first (is_stream s) (with_mark b) t.streams }
 
 -- a create succeeded: a handle is given, of the next number
 abbrev pub fresh_handle : StreamId → ℕ → FileHandle
@@ -111,11 +111,12 @@ torn_down s t = record t { streams = without_first (is_stream s) t.streams }
 abbrev pub left : StreamId → Bool → FileTable → FileTable
 left s is_created t = cond (has_handle_on s t || is_created) t (torn_down s t)
 
--- what the base's answer makes of them: a create's success gives a handle, and a create that failed leaves its stream; a marking counts
--- where it succeeded, and a close whatever it is answered
+-- what the base's answer makes of them: a create's success gives a handle, and a create that failed leaves its stream; a marking and its
+-- taking back count where they succeeded, and a close whatever it is answered
 abbrev pub after_base : Operation → Option StreamId → Option HandleId → Status → Bool → FileTable → FileTable
 after_base kind.Create (Some s) h status is_created t = cond (is_success status) (opened s t) (left s is_created t)
-after_base kind.SetDelete (Some s) h status is_created t = cond (is_success status) (marked s t) t
+after_base kind.SetDelete (Some s) h status is_created t = cond (is_success status) (marked true s t) t
+after_base kind.Restore (Some s) h status is_created t = cond (is_success status) (marked false s t) t
 after_base kind.Close (Some s) (Some h) status is_created t = left s is_created (closed h t)
 after_base _ _ _ status is_created t = t
 

@@ -44,6 +44,7 @@ params_told params.Flush = record nothing_lent { operation = 10 }
 params_told params.SetDelete = record nothing_lent { operation = 11 }
 params_told params.Cleanup = record nothing_lent { operation = 12 }
 params_told params.Close = record nothing_lent { operation = 13 }
+params_told params.Restore = record nothing_lent { operation = 49 }
 
 -- a create's path, and what is written
 abbrev pub params_bytes : Params → List ℕ
@@ -96,4 +97,5 @@ params_named e bytes =
     (cond (e.event == 10) (Some params.Flush)
     (cond (e.event == 11) (Some params.SetDelete)
     (cond (e.event == 12) (Some params.Cleanup)
-    (cond (e.event == 13) (Some params.Close) None)))))))))
+    (cond (e.event == 13) (Some params.Close)
+    (cond (e.event == 49) (Some params.Restore) None))))))))))

@@ -176,7 +176,8 @@ file_named e bytes =
     (cond (e.event == 10) (asks e file.Flush)
     (cond (e.event == 11) (asks e file.SetDelete)
     (cond (e.event == 12) (asks e file.Cleanup)
-    (cond (e.event == 13) (asks e file.Close) (context_named e bytes))))))))
+    (cond (e.event == 13) (asks e file.Close)
+    (cond (e.event == 49) (asks e file.Restore) (context_named e bytes)))))))))
 
 -- the event of the number, with the bytes as its text, body or data; none for a number that names none
 abbrev pub step_named : KazdrinEvent → List ℕ → Option Step

@@ -93,6 +93,7 @@ fn params_told(params: &Params) -> KazdrinData
         Params::SetDelete => told.operation = 11,
         Params::Cleanup => told.operation = 12,
         Params::Close => told.operation = 13,
+        Params::Restore => told.operation = 49,
     }
     told
 }
@@ -206,6 +207,7 @@ impl KazdrinEvent {
             11 => Params::SetDelete,
             12 => Params::Cleanup,
             13 => Params::Close,
+            49 => Params::Restore,
             _ => return Err(Status::BadRequest),
         };
         Ok(params)

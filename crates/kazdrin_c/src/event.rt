@@ -250,6 +250,7 @@ impl KazdrinEvent {
             11 => FileRequest::SetDelete,
             12 => FileRequest::Cleanup,
             13 => FileRequest::Close,
+            49 => FileRequest::Restore,
             _ => return self.context_step(alloc, bytes),
         };
         named(self.begun(Request::OnHandle {

@@ -41,6 +41,7 @@ enum Asked {
     SetsSize,
     Flushes,
     SetsDelete,
+    Restores,
     Cleans,
     Closes,
 }
@@ -61,7 +62,8 @@ enum Managed {
 }
 
 use Asked::{
-    Cleans, Closes, Flushes, QueriesSize, Reads, SetsDelete, SetsSize, Writes, WritesZeros,
+    Cleans, Closes, Flushes, QueriesSize, Reads, Restores, SetsDelete, SetsSize, Writes,
+    WritesZeros,
 };
 use Managed::{Attaches, Detaches, Dismounts, Loads, Stops, Unloads};
 use Says::{Asks, Creates, Holds, Lists, Manages, Refuses, Replies, RepliesZeros};
@@ -104,6 +106,7 @@ fn file_request(rt: &impl Abort, alloc: Global, asked: &Asked) -> FileRequest {
         },
         Flushes => FileRequest::Flush,
         SetsDelete => FileRequest::SetDelete,
+        Restores => FileRequest::Restore,
         Cleans => FileRequest::Cleanup,
         Closes => FileRequest::Close,
     }
@@ -272,6 +275,10 @@ const SPELLED: &[(Says, &[u8])] = &[
     (
         Asks(Closes),
         &[0, 0, 0, 13, 9, 1, 2, 3, 4, 0, 0, 0, 0, 0, 0, 5, 6],
+    ),
+    (
+        Asks(Restores),
+        &[0, 0, 0, 13, 10, 1, 2, 3, 4, 0, 0, 0, 0, 0, 0, 5, 6],
     ),
     (
         Manages(Loads),

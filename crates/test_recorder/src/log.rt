@@ -138,6 +138,7 @@ fn operation_word(kind: Operation) -> &'static str {
         Operation::Flush => " flush",
         Operation::List => " list",
         Operation::SetDelete => " setdelete",
+        Operation::Restore => " restore",
         Operation::Cleanup => " cleanup",
         Operation::Close => " close",
     }

@@ -25,7 +25,7 @@ fn is_refused(alloc: Global, words: &[&str]) -> bool {
 }
 
 /// Words, and the bytes of their frames.
-const NAMED: [(&[&str], &[u8]); 15] = [
+const NAMED: [(&[&str], &[u8]); 16] = [
     (&["list", "0"], b"\x00\x00\x00\x06\x07\x00\x00\x00\x01\x00"),
     (
         &["create", "0", "always", "x"],
@@ -58,6 +58,10 @@ const NAMED: [(&[&str], &[u8]); 15] = [
     (
         &["close", "007"],
         b"\x00\x00\x00\x0d\x09\x00\x00\x00\x01\x00\x00\x00\x00\x00\x00\x00\x07",
+    ),
+    (
+        &["restore", "1"],
+        b"\x00\x00\x00\x0d\x0a\x00\x00\x00\x01\x00\x00\x00\x00\x00\x00\x00\x01",
     ),
     (
         &["load", "meter"],

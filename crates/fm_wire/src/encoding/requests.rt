@@ -43,6 +43,7 @@ fn file_code(request: &FileRequest) -> u8
         FileRequest::Flush => 6,
         FileRequest::SetDelete => 8,
         FileRequest::Close => 9,
+        FileRequest::Restore => 10,
         FileRequest::Cleanup => 0,
     }
 }

@@ -17,7 +17,7 @@ fn on_handle(number: u64, request: FileRequest) -> Body
 }
 
 fn on_number(code: u8, number: u64) -> Body
-    requires { (code ≡ 4) ⊎ (code ≡ 6) ⊎ (code ≡ 8) ⊎ (code ≡ 9) ⊎ (code ≡ 129) }
+    requires { (code ≡ 4) ⊎ (code ≡ 6) ⊎ (code ≡ 8) ⊎ (code ≡ 9) ⊎ (code ≡ 10) ⊎ (code ≡ 129) }
     ensures said { Says code (bytes_of_u64 number) result }
     ensures texts { HasTexts result }
     ensures canonical { canonical_body result ≡ result }
@@ -27,13 +27,14 @@ fn on_number(code: u8, number: u64) -> Body
         6 => on_handle(number, FileRequest::Flush),
         8 => on_handle(number, FileRequest::SetDelete),
         9 => on_handle(number, FileRequest::Close),
+        10 => on_handle(number, FileRequest::Restore),
         _ => Body::Reply(Reply::Held(OpId(number))),
     }
 }
 
 /// Reads a handle or an operation that is all there is.
 pub(crate) fn read_on_number(code: u8, fields: &[u8]) -> Result<Body, Status>
-    requires { (code ≡ 4) ⊎ (code ≡ 6) ⊎ (code ≡ 8) ⊎ (code ≡ 9) ⊎ (code ≡ 129) }
+    requires { (code ≡ 4) ⊎ (code ≡ 6) ⊎ (code ≡ 8) ⊎ (code ≡ 9) ⊎ (code ≡ 10) ⊎ (code ≡ 129) }
     ensures { Reading code fields.now result }
 {
     match read_u64(fields) {

@@ -3,7 +3,8 @@
 //! status isn't 0.
 #![tactic(auto)]
 
-use fm_socket::{CLIENT_USAGE, asks_usage, client, show_usage, texts, words_of};
+use fm_cli::asks_usage;
+use fm_socket::{CLIENT_USAGE, client, show_usage, texts, words_of};
 use std::io;
 use std::process::ExitCode;
 

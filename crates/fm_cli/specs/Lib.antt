@@ -1,3 +1,4 @@
+pub mod Usage
 pub mod Values
 pub mod Requests
 pub mod Fronts

@@ -9,4 +9,5 @@ pub mod Tidiness
 pub mod Teardowns
 pub mod DrainCount
 pub mod Unloads
+pub mod Worked
 pub mod FilterNumbers

@@ -225,14 +225,15 @@ impl<F: Minifilter, B: Base> LocalManager<F, B> {
     /// resume what the instance holds (`FltCompletePendedPreOperation`), also with an answer of its own, as a cancel routine does, and allocate, get, set and
     /// release contexts. What it still holds at its end leaks. What it resumed goes on after it, in the order of the resumptions, and what is due is cleaned
     /// up. Refused, and the item isn't run: 8 where the instance isn't there or is Detached, 13 where it is neither Attached nor Stopping, 14 where the handle
-    /// isn't open, 32 where its file is on another volume.
+    /// isn't open, 32 where its file is on another volume. A manager that is ready is ready again.
     pub fn run_work<W: WorkItem>(
         &mut self,
         instance: InstanceId,
         handle: Option<HandleId>,
         item: &W,
     ) -> Result<(), Status>
-        ensures { WorksAny F.Minifilter B.Base instance handle self.old result self.new }
+        ensures works { WorksAny F.Minifilter B.Base instance handle self.old result self.new }
+        ensures ready { StaysReadyAlike F.Minifilter B.Base self.old self.new }
     {
         self.parts.run_work(instance, handle, item)
     }

@@ -3,8 +3,8 @@
 ghost use Rattle.fm_local.specs.Actions.{WorksThenSettles};
 ghost use Rattle.fm_local.specs.Between.{StaysBetween};
 ghost use Rattle.fm_local.specs.Callbacks.{KeepsWaiting, LeavesStanding};
+ghost use Rattle.fm_local.specs.Offered.{StaysReadyAlike};
 ghost use Rattle.fm_local.specs.Private.{EndsRoutine, NotesLeaks};
-ghost use Rattle.fm_local.specs.Waits.{StaysWaiting};
 
 use crate::local_port::Work;
 use crate::parts::{Parts, WORKER};
@@ -25,6 +25,7 @@ impl<F: Minifilter, B: Base> Parts<F, B> {
     ) -> Result<(), Status>
         ensures works { WorksThenSettles F.Minifilter B.Base WORKER TURNS RESUMPTIONS instance handle self.old result self.new }
         ensures between { StaysBetween self.old self.new }
+        ensures ready { StaysReadyAlike F.Minifilter B.Base self.old self.new }
     {
         self.work.state.enter_routine(WORKER, instance, handle)?;
         self.run_item(item);
@@ -36,7 +37,7 @@ impl<F: Minifilter, B: Base> Parts<F, B> {
     fn run_item<W: WorkItem>(&mut self, item: &W)
         ensures ends { EndsRoutine self.old self.new }
         ensures kept { NotesLeaks self.old self.new }
-        ensures waits { StaysWaiting self.old self.new }
+        ensures waits { KeepsWaiting self.old.work self.new.work }
     {
         let routine = self.work.state.place(WORKER).unwrap_or(Place::Idle);
         do_work(&mut self.work, item);

@@ -1,5 +1,5 @@
 -- A connection that is being served: what was read and sent so far.
-use Rattle.std.specs.Prelude.{◌≡◌, ◌≢◌, ◌<◌, ◌≤◌, ℕ, false, true, List, [], Option, Some, None, Result, Ok, Err, MatchResult, length, take}
+use Rattle.std.specs.Prelude.{◌≡◌, ◌≢◌, ◌<◌, ◌≤◌, ℕ, false, true, List, [], ◌++◌, Option, Some, None, Result, Ok, Err, MatchResult, length, take}
 use Rattle.std.specs.Io.KnownBytes.{Appends, Consumes, IsAtEnd}
 use Rattle.fm_wire.specs.declared.frame.Frame.{Frame}
 use Rattle.fm_wire.specs.Stream.{IsPartial, Keeps, Splits}
@@ -112,6 +112,33 @@ module _ {S : Type 0} (answers : S → Frame → Frame → S → Type 0) where
   abbrev pub Goes : Result (Unit {0}) ServeEnd → S → Option (List ℕ) → Option (List ℕ) → Option (List ℕ) → Option (List ℕ) → Option (List ℕ) → S → Type 0
   Goes (Ok _) first read_old written_old decoder read_now written_now now = Waits first read_old written_old decoder read_now written_now now
   Goes (Err end) first read_old written_old decoder read_now written_now now = Leaves answers end read_old written_old first read_now written_now now
+
+  -- ---- of any connection that stood, or waited, so far
+
+  -- a piece is taken in, and what is sent of the answers to its frames is appended
+  abbrev pub TakesPiece : Result (Unit {0}) ServeEnd → List ℕ → Option (List ℕ) → S → Option (List ℕ) → S → Option (List ℕ) → Option (List ℕ) → Type 0
+  TakesPiece result piece decoder_old old decoder_new new written_old written_new =
+      (first : S) (input before : List ℕ) → Stands first decoder_old input before old
+      → (output : List ℕ) × Appends written_old written_new output × Takes result first decoder_new (input ++ piece) (before ++ output) new
+
+  -- the same, with less than a frame left behind it
+  abbrev pub TakesAll : Result (Unit {0}) ServeEnd → List ℕ → Option (List ℕ) → S → Option (List ℕ) → S → Option (List ℕ) → Option (List ℕ) → Type 0
+  TakesAll result piece decoder_old old decoder_new new written_old written_new =
+      (first : S) (input before : List ℕ) → Stands first decoder_old input before old
+      → (output : List ℕ) × Appends written_old written_new output × TakesWhole result first decoder_new (input ++ piece) (before ++ output) new
+
+  -- one read, and what comes of it
+  abbrev pub GoesOn : Result (Unit {0}) ServeEnd → Option (List ℕ) → Option (List ℕ) → Option (List ℕ) → S
+      → Option (List ℕ) → Option (List ℕ) → Option (List ℕ) → S → Type 0
+  GoesOn result decoder_old read_old written_old old decoder_new read_new written_new new =
+      (first : S) (read written : Option (List ℕ)) → Waits first read written decoder_old read_old written_old old
+      → Goes result first read written decoder_new read_new written_new new
+
+  -- reads until serving ends
+  abbrev pub LeavesAt : ServeEnd → Option (List ℕ) → Option (List ℕ) → Option (List ℕ) → S → Option (List ℕ) → Option (List ℕ) → S → Type 0
+  LeavesAt end decoder_old read_old written_old old read_new written_new new =
+      (first : S) (read written : Option (List ℕ)) → Waits first read written decoder_old read_old written_old old
+      → Leaves answers end read written first read_new written_new new
 
 -- a sink took that many bytes from the front of a text, or failed and took none
 abbrev pub AppendsFront : {E : Type 0} → Result ℕ E → List ℕ → Option (List ℕ) → Option (List ℕ) → Type 0

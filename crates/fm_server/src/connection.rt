@@ -1,10 +1,9 @@
 //! Serving one connection, from its first read to its end.
 
-ghost use Rattle.std.specs.Prelude.{◌≡◌, ◌<◌, ◌≤◌, ◌+◌, ◌-◌, ◌^◌, ◌++◌, ◌⊎◌, Option, List, ℕ, Err, IfOk, OnOk, length};
-ghost use Rattle.std.specs.Io.KnownBytes.{Appends};
-ghost use Rattle.fm_server.specs.Connections.{AppendsSuch, Goes, HandsOn, HandsOnAt, LastEnd, Stands, Takes, TakesWhole, TellsBehind, Waits};
-ghost use Rattle.fm_server.specs.Replies.{Says};
+ghost use Rattle.std.specs.Prelude.{◌≡◌, ◌<◌, ◌≤◌, ◌+◌, ◌-◌, ◌^◌, ◌⊎◌, Err, IfOk, OnOk, length};
 ghost use Rattle.fm_server.specs.Serving.{Leaves};
+ghost use Rattle.fm_server.specs.Connections.{AppendsSuch, GoesOn, HandsOn, HandsOnAt, LastEnd, LeavesAt, TakesAll, TakesPiece, TellsBehind};
+ghost use Rattle.fm_server.specs.Replies.{Says};
 
 use crate::answering::do_all;
 use crate::exec::Exec;
@@ -31,9 +30,7 @@ fn take_piece<W: Sink, E: Exec>(
     exec: &mut E,
     piece: &[u8],
 ) -> Result<(), ServeEnd>
-    ensures takes { (first : E) (input before : List ℕ) → Stands (Says E.operates E.controls) first decoder.old input before exec.old →
-        (output : List ℕ) × Appends (W.contents sink.old) (W.contents sink.new) output
-        × Takes (Says E.operates E.controls) result first decoder.new (input ++ piece.now) (before ++ output) exec.new }
+    ensures takes { TakesPiece (Says E.operates E.controls) result piece.now decoder.old exec.old decoder.new exec.new (W.contents sink.old) (W.contents sink.new) }
     ensures handed { HandsOn result (W.handed_on sink.old) (W.handed_on sink.new) }
     ensures fault { result ≡ Err ServeEnd.WriteFault → W.failed sink.new }
     ensures never { result ≡ Err ServeEnd.ReadFault → ⊥ }
@@ -67,9 +64,7 @@ fn take_whole<W: Sink, E: Exec>(
     exec: &mut E,
     piece: &[u8],
 ) -> Result<(), ServeEnd>
-    ensures takes { (first : E) (input before : List ℕ) → Stands (Says E.operates E.controls) first decoder.old input before exec.old →
-        (output : List ℕ) × Appends (W.contents sink.old) (W.contents sink.new) output
-        × TakesWhole (Says E.operates E.controls) result first decoder.new (input ++ piece.now) (before ++ output) exec.new }
+    ensures takes { TakesAll (Says E.operates E.controls) result piece.now decoder.old exec.old decoder.new exec.new (W.contents sink.old) (W.contents sink.new) }
     ensures handed { HandsOn result (W.handed_on sink.old) (W.handed_on sink.new) }
     ensures fault { result ≡ Err ServeEnd.WriteFault → W.failed sink.new }
     ensures never { result ≡ Err ServeEnd.ReadFault → ⊥ }
@@ -105,9 +100,8 @@ fn turn<R: Source, W: Sink, E: Exec>(
     ensures write_fault { result ≡ Err ServeEnd.WriteFault → W.failed sink.new }
     ensures read_fault { result ≡ Err ServeEnd.ReadFault → R.failed source.new }
     ensures counted { OnOk result (R.reads source.new ≡ R.reads source.old + 1) }
-    ensures goes { (first : E) (read written : Option (List ℕ)) →
-        Waits (Says E.operates E.controls) first read written decoder.old (R.remaining source.old) (W.contents sink.old) exec.old →
-        Goes (Says E.operates E.controls) result first read written decoder.new (R.remaining source.new) (W.contents sink.new) exec.new }
+    ensures goes { GoesOn (Says E.operates E.controls) result decoder.old (R.remaining source.old) (W.contents sink.old) exec.old
+        decoder.new (R.remaining source.new) (W.contents sink.new) exec.new }
 {
     match receive(source, buffer) {
         Got::Piece(count) => take_whole(alloc, decoder, sink, exec, &buffer[..count]),
@@ -129,9 +123,8 @@ fn run<R: Source, W: Sink, E: Exec>(
     ensures handed { HandsOnAt result (W.handed_on sink.old) (W.handed_on sink.new) }
     ensures write_fault { result ≡ ServeEnd.WriteFault → W.failed sink.new }
     ensures read_fault { result ≡ ServeEnd.ReadFault → R.failed source.new ⊎ (R.reads source.old + (2 ^ 32 - 1) ≤ R.reads source.new) }
-    ensures leaves { (first : E) (read written : Option (List ℕ)) →
-        Waits (Says E.operates E.controls) first read written decoder.old (R.remaining source.old) (W.contents sink.old) exec.old →
-        Leaves (Says E.operates E.controls) result read written first (R.remaining source.new) (W.contents sink.new) exec.new }
+    ensures leaves { LeavesAt (Says E.operates E.controls) result decoder.old (R.remaining source.old) (W.contents sink.old) exec.old
+        (R.remaining source.new) (W.contents sink.new) exec.new }
 {
     for _ in 0..MOST_READS {
         match turn(alloc, source, decoder, sink, exec, buffer) {

@@ -24,4 +24,4 @@ mod words;
 pub use crate::endpoint::{Endpoint, Folder, prepare};
 pub use crate::program::{front, front_with, show_usage};
 pub use crate::request::{CLIENT_USAGE, client};
-pub use crate::words::{Invocation, asks_usage, endpoint_of, texts, words_of};
+pub use crate::words::{Invocation, endpoint_of, texts, words_of};

@@ -2,7 +2,7 @@
 
 use crate::endpoint::{Endpoint, Folder, prepare};
 use crate::program::show_usage;
-use fm_cli::{Fault, front_of};
+use fm_cli::{Fault, asks_usage, front_of};
 use fm_types::Status;
 use std::alloc::Global;
 use std::env::{self, Env};
@@ -16,14 +16,6 @@ pub fn words_of<R: Env + AllocGlobal>(rt: &R) -> io::Result<Option<Vec<String>>>
         Ok(words) => Ok(Some(words.skip(1).collect(rt.alloc())?)),
         Err(error) if error.kind() == io::ErrorKind::InvalidData => Ok(None),
         Err(error) => Err(error),
-    }
-}
-
-/// Whether the words ask how the program is used: `--help` or `-h`, alone.
-pub fn asks_usage(words: &[String]) -> bool {
-    match words.first() {
-        Some(word) if words.len() == 1 => matches!(word.as_str(), "--help" | "-h"),
-        _ => false,
     }
 }
 

@@ -180,7 +180,7 @@ module _ {F : Type 0} where
     pub heard : new.is_heard ≡ old.is_heard
     pub rest : AsksNothing old new
 
-  -- operations were asked for of which no callback heard, and no line expected anything
+  -- a callback heard of an operation, or a line expected something, or no operation was asked for
   abbrev pub tests_something : Scenario F → Bool
   tests_something s = s.is_heard || not s.operates
 

@@ -11,6 +11,7 @@ use crate::scenario_text::ScenarioText;
 use crate::text::{lines_of, without_return};
 use crate::trial_format::TrialFormat;
 use crate::words::Words;
+use fm_cli::asks_usage;
 use fm_filter::Minifilter;
 use fm_report::{RunFault, Summary, Teller};
 use fm_types::{Name, Status};
@@ -258,7 +259,8 @@ where
 ///
 /// Each request is printed behind `> `, then the steps of its operations, the mistakes that callbacks made, with the numbers of the host for drivers in C, and its
 /// reply. With the word `--json` the objects of docs/JSON.md are printed instead, one a line, and with `--page` the page of `fltview` that has them. The exit
-/// status: 0; 5 if a mistake was told that no line expects, or steps weren't kept of which one could have been told; 1 if an expectation isn't met; 2 if a line is no request and no expectation, or a file can't be read.
+/// status: 0; 5 if a mistake was told that no line expects, or steps weren't kept of which one could have been told; 1 if an expectation isn't met, if there is no
+/// request, or if no line expects anything and no callback heard of an operation that was asked for; 2 if a line is no request and no expectation, or a file can't be read.
 /// It is 2 too, with a sentence on standard error and nothing else, for another word that begins with `--`, for both words, and for a page of several files. It
 /// fails if memory is refused, if the filters can't be made, or if a write fails. The clause says nothing of which files are read, and what is in them.
 pub fn trial<R, I, F, E, W>(rt: &R, input: I, make: E, out: &mut W) -> io::Result<u8>
@@ -293,10 +295,7 @@ where
     W: Write,
 {
     let words: Vec<String> = env::args(rt)?.skip(1).collect(rt.alloc())?;
-    let is_asked = match words.first() {
-        Some(word) if words.len() == 1 => matches!(word.as_str(), "--help" | "-h"),
-        _ => false,
-    };
+    let is_asked = asks_usage(words.as_slice());
     if is_asked {
         let usage = format!(in rt.alloc(); "usage: {program} [--json | --page] [FILE ..]\n")?;
         out.write_all(usage.as_bytes())?;

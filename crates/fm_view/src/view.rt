@@ -1,34 +1,26 @@
 //! A script that is run line by line as `fltscript` runs it, and shown to a reader.
 
+mod ending;
+mod expectations;
+mod objects;
+mod surprises;
+mod titles;
+mod words;
+
 use crate::answer::printed;
-use crate::colour::{Colour, colour_of};
-use crate::expect::{ExpectOutcome, Expectations, Expected, LineNote, behind_mark, expected_in};
+use crate::expect::{Expectations, LineNote, expected_in};
 use crate::happened::{LineContext, refusal_in};
 use crate::learn::{bytes_in, learn};
-use crate::picture::draw;
 use crate::reason::{RefusedLine, say_refusal};
 use crate::subject::{facts_of, worker_of};
-use crate::verdict::{
-    counted_at, exit_status, fault_of, held, say_end, say_expectations, say_fault, say_held,
-    say_leaks,
-};
-use fm_callback_data::PreVerdict;
 use fm_core::{Place, State, Step};
-use fm_page::{Inert, Label, PAGE_BEGIN, PAGE_END};
-use fm_report::{
-    Detail, Event, Facts, Kind, Moment, Notes, ObjectDetail, Summary, Text, push_ascii,
-    say_begin_json, say_change_json, say_comment_json, say_detail, say_end_json,
-    say_expectation_json, say_json, say_leak, say_leak_json,
-};
+use fm_page::{Inert, Label, PAGE_BEGIN};
+use fm_report::{Event, Facts, Kind, Moment, Notes, Text, say_begin_json};
 use fm_script::{Interpreter, Listener, Said, ScriptEnd, Task, is_silent, read_lines};
 use fm_types::limits::{LINE, TURNS};
 use fm_types::{OpId, Status, WorkerId};
 use std::alloc::{AllocError, Global};
 use std::io::{Read, Write};
-use std::mem;
-
-/// How wide the commands are, before what happened.
-const COMMAND: usize = 27;
 
 /// How a run is shown.
 #[derive(Clone, Copy, PartialEq, Eq)]
@@ -231,132 +223,6 @@ impl<W: Write + Drop> View<W> {
         }
     }
 
-    // Nothing more is expected of the last line. A check tells what counts of it.
-    fn settle(&mut self) -> Result<(), ScriptEnd> {
-        let note = self.expectations.last();
-        let is_told = note.is_unread || note.is_misuse || (note.is_refused && self.shown.is_strict);
-        self.expectations.settle();
-        let mut surprise = Text::new(self.alloc);
-        mem::swap(&mut surprise, &mut self.surprise);
-        if is_told && self.shown.format == ViewFormat::Check {
-            return self.write_made(surprise);
-        }
-        Ok(())
-    }
-
-    // A line says what the line before printed, or how the run ends. It is told if that isn't so.
-    fn expect(&mut self, line: &[u8], expected: Expected<'_>) -> Result<(), ScriptEnd> {
-        let text = match self.expectations.meet(expected) {
-            ExpectOutcome::Wrong(why) => self.wrong_line(line, why),
-            outcome => self.expectation(line, behind_mark(line), outcome == ExpectOutcome::Met),
-        };
-        self.write_made(text)
-    }
-
-    // A line that expects what can't be read, as it is shown: it is refused.
-    fn wrong_line(&mut self, line: &[u8], why: &str) -> Text {
-        let refused = Event::refused(Status::BadRequest, Facts::none());
-        self.notes.refuse(Status::BadRequest);
-        let detail = Detail {
-            reason: Some(why),
-            ..Detail::none()
-        };
-        let mut words = Text::new(self.alloc);
-        say_detail(&mut words, &self.notes, &refused, &detail);
-        let mut text = Text::new(self.alloc);
-        if self.shown.format == ViewFormat::Check {
-            self.say_surprise(&mut text, line, words.as_str());
-        } else if self.is_json() {
-            let told = ObjectDetail {
-                line: self.line,
-                command: line,
-                words: words.as_str(),
-                reason: why,
-                detail,
-            };
-            say_json(self.alloc, &mut text, &self.notes, &refused, &told);
-        } else if self.is_said() {
-            self.show_words(&mut text, line, &refused, words.as_str(), true);
-        }
-        text
-    }
-
-    // Appends what a check tells of a line.
-    fn say_surprise(&self, text: &mut Text, line: &[u8], words: &str) {
-        text.push_str("line ");
-        text.push_number(u64::from(self.line));
-        text.push_str(", ");
-        push_ascii(text, line);
-        text.push_str(": ");
-        text.push_str(words);
-        text.push('\n')
-    }
-
-    // An expectation as it is shown.
-    fn expectation(&self, line: &[u8], expected: &[u8], is_met: bool) -> Text {
-        let mut text = Text::new(self.alloc);
-        let number = self.line;
-        if self.is_json() {
-            let printed = self.expectations.printed();
-            let outcome = (is_met, printed);
-            say_expectation_json(self.alloc, &mut text, number, expected, outcome);
-        }
-        if self.is_said() {
-            self.say_comment(&mut text, line);
-        }
-        if !is_met && matches!(self.shown.format, ViewFormat::Words | ViewFormat::Check) {
-            self.say_unmet(&mut text, expected);
-        }
-        text
-    }
-
-    // What wasn't as the line expects.
-    fn say_unmet(&self, text: &mut Text, expected: &[u8]) {
-        let (begin, end) = Colour::Wrong.around(self.shown.is_coloured);
-        text.push_str(begin);
-        text.push_str("NOT AS EXPECTED on line ");
-        text.push_number(u64::from(self.line));
-        text.push_str(end);
-        text.push_str(": ");
-        push_ascii(text, expected);
-        self.say_printed(text);
-        text.push('\n')
-    }
-
-    // What the line before printed.
-    fn say_printed(&self, text: &mut Text) {
-        let mut is_first = true;
-        for answer in self.expectations.printed().split(|byte| *byte == b'\n') {
-            if !answer.is_empty() {
-                text.push_str(between(is_first));
-                push_ascii(text, answer);
-                is_first = false;
-            }
-        }
-    }
-
-    // A line that asks for nothing, as it is shown.
-    fn comment(&self, line: &[u8]) -> Text {
-        let mut text = Text::new(self.alloc);
-        if self.is_json() {
-            say_comment_json(self.alloc, &mut text, self.line, line);
-        } else if self.is_said() {
-            self.say_comment(&mut text, line);
-        }
-        text
-    }
-
-    // A line that asks for nothing, in words.
-    fn say_comment(&self, text: &mut Text, line: &[u8]) {
-        let (begin, end) = Colour::Dim.around(self.shown.is_coloured);
-        text.push_str(begin);
-        push_line(text, self.line);
-        text.push_str("  ");
-        push_ascii(text, line);
-        text.push_str(end);
-        text.push('\n')
-    }
-
     // Shows what a line or a turn answered, and notes it.
     fn show_all(
         &mut self,
@@ -371,30 +237,6 @@ impl<W: Write + Drop> View<W> {
             answered.is_first = false;
         }
         self.note_leaks(line)
-    }
-
-    // Appends what only the end of a line tells: how far lives came, and what was left behind.
-    fn show_rest(&self, text: &mut Text, changes: usize, leaks: usize) {
-        if self.is_json() {
-            self.show_changes(text, changes);
-            self.show_leaks(text, leaks);
-        }
-    }
-
-    // Appends how far lives came on this line.
-    fn show_changes(&self, text: &mut Text, from: usize) {
-        for change in self.notes.changes.iter().skip(from) {
-            say_change_json(self.alloc, text, change);
-        }
-    }
-
-    // Appends what was left behind on this line.
-    fn show_leaks(&self, text: &mut Text, from: usize) {
-        for leak in self.notes.leaks.iter().skip(from) {
-            let mut words = Text::new(self.alloc);
-            say_leak(&mut words, &self.notes, leak);
-            say_leak_json(self.alloc, text, &self.notes, leak, words.as_str());
-        }
     }
 
     // How things are before a line, or before a turn of it.
@@ -510,37 +352,6 @@ impl<W: Write + Drop> View<W> {
         Ok(())
     }
 
-    // What happened, in words.
-    fn words(&self, line: &ScriptLine<'_>, said: &Said, event: &Event, reason: &str) -> Text {
-        let mut words = Text::new(self.alloc);
-        let counted = counted_at(self.interpreter.state(), event);
-        let bytes = bytes_of(line.task, said).unwrap_or(b"");
-        say_words(&mut words, &self.notes, event, bytes, (counted, reason));
-        words
-    }
-
-    // Appends what happened as an object.
-    fn show_object(
-        &self,
-        text: &mut Text,
-        line: &ScriptLine<'_>,
-        said: &Said,
-        event: &Event,
-        (words, reason): (&str, &str),
-    ) {
-        let counted = counted_at(self.interpreter.state(), event);
-        let bytes = bytes_of(line.task, said);
-        let telling = (self.line, line.text, words, reason);
-        say_object(
-            self.alloc,
-            text,
-            &self.notes,
-            event,
-            (bytes, counted),
-            telling,
-        )
-    }
-
     // Whether an event is told: a check tells refusals alone, and words may be of a part of the lines.
     fn is_told(&self, event: &Event) -> bool {
         match self.shown.format {
@@ -548,28 +359,6 @@ impl<W: Write + Drop> View<W> {
             ViewFormat::Words => self.is_said(),
             ViewFormat::Json | ViewFormat::Page | ViewFormat::Picture => true,
         }
-    }
-
-    // Keeps what a check tells of a line that was refused, if no line expects it.
-    fn note_surprise(&mut self, line: &ScriptLine<'_>, words: &str) {
-        let mut surprise = Text::new(self.alloc);
-        self.say_surprise(&mut surprise, line.text, words);
-        self.surprise = surprise;
-    }
-
-    // Keeps what is told of an event in a picture.
-    fn title(&mut self, line: &ScriptLine<'_>, words: &str) -> Result<(), AllocError> {
-        let mut title = Text::new(self.alloc);
-        title.push_str("line ");
-        title.push_number(u64::from(self.line));
-        title.push_str(", ");
-        push_ascii(&mut title, line.text);
-        title.push_str(": ");
-        title.push_str(words);
-        let title = title.finish()?;
-        let label = Label::new(self.alloc, title.as_bytes())?;
-        self.titles.push(label)?;
-        Ok(())
     }
 
     // Why a line was refused; nothing if it wasn't.
@@ -590,153 +379,6 @@ impl<W: Write + Drop> View<W> {
         };
         say_refusal(self.alloc, &mut reason, &refusal, status);
         reason
-    }
-
-    // One answer in words, with the command before the first one of its line. One that is wider than its column has a line of its own.
-    fn show_words(&self, text: &mut Text, line: &[u8], event: &Event, words: &str, is_first: bool) {
-        if is_first {
-            self.show_command(text, line);
-        } else {
-            push_spaces(text, COMMAND.saturating_add(8));
-        }
-        let (begin, end) = colour_of(event).around(self.shown.is_coloured);
-        text.push_str(begin);
-        text.push_str(words);
-        text.push_str(end);
-        text.push('\n')
-    }
-
-    // A command before its answer, with its number.
-    fn show_command(&self, text: &mut Text, line: &[u8]) {
-        let (dim, plain) = Colour::Dim.around(self.shown.is_coloured);
-        text.push_str(dim);
-        push_line(text, self.line);
-        text.push_str(plain);
-        text.push_str("  ");
-        let mut command = Text::new(self.alloc);
-        push_ascii(&mut command, line);
-        text.push_str(command.as_str());
-        let width = command.len();
-        if width > COMMAND {
-            text.push('\n');
-            return push_spaces(text, COMMAND.saturating_add(8));
-        }
-        push_spaces(text, COMMAND.saturating_sub(width).saturating_add(2))
-    }
-
-    // Ends a run that ended so: writes the verdict or the picture. It gives the exit status, and how many lines expect something.
-    fn finish(mut self, end: ScriptEnd) -> (u8, u64) {
-        let end = match (self.settle(), end) {
-            (Err(fault), ScriptEnd::Ended) => fault,
-            _ => end,
-        };
-        let end = match self.end(end) {
-            Ok(()) => end,
-            Err(fault) => fault,
-        };
-        (self.tally(end).status, self.expectations.count)
-    }
-
-    // Writes the last text, and hands all out.
-    fn end(&mut self, end: ScriptEnd) -> Result<(), ScriptEnd> {
-        if self.shown.format == ViewFormat::Picture {
-            self.write_picture()?;
-        } else {
-            let text = self.last_text(end);
-            self.write_made(text)?;
-        }
-        if self.shown.format == ViewFormat::Page {
-            self.write_raw(PAGE_END)?;
-        }
-        self.pause()
-    }
-
-    // Writes the picture.
-    fn write_picture(&mut self) -> Result<(), ScriptEnd> {
-        let picture = draw(self.alloc, &self.notes, &self.moments, &self.titles).map_err(
-            |_| ScriptEnd::NoMemory,
-        )?;
-        self.write_raw(picture.as_str())
-    }
-
-    // The figures of a run that ended so.
-    fn tally(&self, end: ScriptEnd) -> Summary {
-        let state = self.interpreter.state();
-        let (leaks, held) = (state.leaks(), held(state));
-        let (unmet, misuses) = (self.unmet(), self.expectations.misuses);
-        let wrong = self.expectations.wrong;
-        let status = exit_status(end, wrong, unmet, leaks, held, misuses);
-        Summary {
-            fault: fault_of(end),
-            status: self.expectations.status(status),
-            lines: self.last,
-            refused: self.notes.refused(),
-            born: state.born(),
-            cleaned: state.cleaned_count(),
-            leaks,
-            held,
-            misuses,
-            unmet,
-            told: None,
-            dropped: None,
-        }
-    }
-
-    // How much wasn't as the script expects. In a check a line that can't be read is among it, and in a strict run each refusal.
-    fn unmet(&self) -> u64 {
-        let more = match self.shown {
-            Shown {
-                is_strict: true,
-                ..
-            } => self.expectations.surprises,
-            Shown {
-                format: ViewFormat::Check,
-                ..
-            } => self.expectations.unread,
-            _ => 0,
-        };
-        self.expectations.unmet.saturating_add(more)
-    }
-
-    // What is written at the end, if it isn't a picture.
-    fn last_text(&self, end: ScriptEnd) -> Text {
-        let mut text = Text::new(self.alloc);
-        match self.shown.format {
-            ViewFormat::Words => {
-                text.push('\n');
-                self.say_verdict(&mut text, end);
-            }
-            ViewFormat::Check => self.say_causes(&mut text, end),
-            ViewFormat::Json | ViewFormat::Page => self.say_end_object(&mut text, end),
-            ViewFormat::Picture => {}
-        }
-        text
-    }
-
-    // The last object.
-    fn say_end_object(&self, text: &mut Text, end: ScriptEnd) {
-        let mut words = Text::new(self.alloc);
-        self.say_verdict(&mut words, end);
-        if words.check().is_err() {
-            text.fail();
-        }
-        say_end_json(self.alloc, text, &self.tally(end), words.as_str())
-    }
-
-    // What a check tells at the end, beside its status: what was left behind, what is held, and what isn't as expected.
-    fn say_causes(&self, text: &mut Text, end: ScriptEnd) {
-        say_leaks(text, &self.notes);
-        say_held(text, &self.notes, self.interpreter.state());
-        say_expectations(text, &self.expectations, self.shown.is_strict);
-        say_fault(text, end)
-    }
-
-    // What is left at the end, in words.
-    fn say_verdict(&self, text: &mut Text, end: ScriptEnd) {
-        let state = self.interpreter.state();
-        say_end(text, &self.notes, state, self.last);
-        say_expectations(text, &self.expectations, self.shown.is_strict);
-        say_fault(text, end)
     }
 
     // Writes what was made, if there was memory for all of it.
@@ -770,47 +412,6 @@ fn place_of(state: &State, worker: Option<WorkerId>) -> Place {
         Some(worker) => state.place(worker).unwrap_or(Place::Idle),
         None => Place::Idle,
     }
-}
-
-// Appends what happened in words, with the verdict that counts and the reason of a refusal.
-fn say_words<'x>(
-    words: &mut Text,
-    notes: &Notes,
-    event: &Event,
-    bytes: &'x [u8],
-    (counted, reason): (Option<PreVerdict>, &'x str),
-) {
-    let detail = Detail {
-        bytes: Some(bytes),
-        counted,
-        left: None,
-        reason: Some(reason),
-    };
-    say_detail(words, notes, event, &detail)
-}
-
-// Appends what happened as an object.
-fn say_object<'x>(
-    alloc: Global,
-    text: &mut Text,
-    notes: &Notes,
-    event: &Event,
-    (bytes, counted): (Option<&'x [u8]>, Option<PreVerdict>),
-    (line, command, words, reason): (u32, &'x [u8], &'x str, &'x str),
-) {
-    let told = ObjectDetail {
-        line,
-        command,
-        words,
-        reason,
-        detail: Detail {
-            bytes,
-            counted,
-            left: None,
-            reason: None,
-        },
-    };
-    say_json(alloc, text, notes, event, &told)
 }
 
 // Notes what a worker's last callback left behind, which returned there, on that line.
@@ -857,30 +458,6 @@ fn is_misuse(task: &Result<Task, Status>, status: Option<Status>) -> bool {
         ) => true,
         _ => false,
     }
-}
-
-// What stands before an answer in a list of them.
-fn between(is_first: bool) -> &'static str {
-    if is_first { "; it answered " } else { ", " }
-}
-
-// Appends so many spaces.
-fn push_spaces(text: &mut Text, count: usize) {
-    for _ in 0..count {
-        text.push(' ');
-    }
-}
-
-// Appends the number of a line, in four places.
-fn push_line(text: &mut Text, line: u32) {
-    let places = match line {
-        0..=9 => 3,
-        10..=99 => 2,
-        100..=999 => 1,
-        _ => 0,
-    };
-    push_spaces(text, places);
-    text.push_number(u64::from(line))
 }
 
 /// Runs the script that a reader gives, and writes what happened to a writer. Objects and a page name the file, if one is named. It gives the exit status: that of the script's end. Of one that ended well it is

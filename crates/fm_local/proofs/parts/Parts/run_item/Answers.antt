@@ -1,8 +1,7 @@
-use Rattle.fm_local.proofs.Words.{ap, subst, sym, Place, WORKER, Parts}
+use Rattle.fm_local.proofs.Words.{ap, sym, Place, WORKER}
 use Rattle.fm_local.proofs.queues.Places.{in_still, routine_ends}
 use Rattle.fm_local.proofs.queues.SameOperations as unmoved
 use Rattle.fm_local.proofs.queues.ManagerWaits.{same_flow}
-use Rattle.fm_local.specs.Waits.{Waiting}
 use Rattle.fm_local.proofs.parts.Parts.run_item.Goals as goal
 
 pub returns-clause-ends : goal.returns-clause-ends
@@ -16,8 +15,8 @@ returns-clause-ends g c i file there =
     )
 
 pub returns-clause-waits : goal.returns-clause-waits
-returns-clause-waits g c waits =
-    subst (λ (m : Parts g.row.F.Denot g.row.B.Denot). Waiting m) (sym c.note_left.ensures)
+returns-clause-waits g c ended waits =
+    rw (ap (λ m. m.work) c.note_left.ensures)
     (same_flow _ _ _ _ (unmoved.routine_returned c.do_work.new.work.state c.routine_returned.new.self WORKER c.routine_returned.result
     c.routine_returned.ensures.event)
-    (c.do_work.ensures.waits c.args.self.now.finished.items.items waits))
+    (c.do_work.ensures.waits ended waits))

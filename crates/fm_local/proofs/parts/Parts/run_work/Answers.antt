@@ -1,7 +1,9 @@
-use Rattle.fm_local.proofs.Words.{inr, refl, Err, Ok, WORKER}
+use Rattle.fm_local.proofs.Words.{[], ◌∙◌, ap, inr, refl, subst, sym, Err, Ok, WORKER}
+use Rattle.fm_local.specs.Waits.{Wait}
 use Rattle.fm_world.specs.Routines.{file_by}
 use Rattle.fm_local.proofs.operations.AnyTurns.{calls_untraced}
 use Rattle.fm_local.proofs.instances.Rest.{work_refused}
+use Rattle.fm_local.proofs.instances.Worked.{refused_ready, resumed_none, waits_at_rest, worked, worked_ready}
 use Rattle.fm_local.proofs.queues.Places.{routine_out, same_out, working_in}
 use Rattle.fm_local.proofs.instances.NoneDue.{none_worked}
 use Rattle.fm_local.proofs.queues.SameOperations as unmoved
@@ -43,9 +45,30 @@ returns-clause-between g c before =
     let file = file_by old.files c.args.handle in
     let there = working_in WORKER old c.args.instance c.args.handle entered event in
     record {
-      waits = c.settle.ensures.waits (c.run_item.ensures.waits
-          (same_flow _ _ _ _ (unmoved.entered_routine old entered WORKER c.args.instance c.args.handle (Ok tt) event) before.waits));
+      waits = c.settle.ensures.waits (subst (λ ended. Wait c.run_item.new.self.work.state.flow c.run_item.new.self.work.resumed.items.items ended)
+          (sym (ap (λ m. m.finished.items.items) c.run_item.ensures.kept))
+          (c.run_item.ensures.waits c.args.self.now.finished.items.items
+          (same_flow _ _ _ _ (unmoved.entered_routine old entered WORKER c.args.instance c.args.handle (Ok tt) event) before.waits)));
       out = c.settle.ensures.out (routine_out WORKER entered c.run_item.new.self.work.state (Ok tt) c.args.instance file there
           (c.run_item.ensures.ends c.args.instance file there));
       none_due = c.settle.ensures.none_due;
     }
+
+pub returns-in_err-enter_routine-clause-ready : goal.returns-in_err-enter_routine-clause-ready
+returns-in_err-enter_routine-clause-ready g c ready =
+    refused_ready c.args.self.now ready c.args.instance c.args.handle c.in_err-enter_routine.field-0.0 c.enter_routine.new.self
+    c.in_err-enter_routine.ensures.event
+
+pub returns-clause-ready : goal.returns-clause-ready
+returns-clause-ready g c ready =
+    let old = c.args.self.now.work.state in
+    let entered = c.enter_routine.new.self in
+    let event = c.in_ok-enter_routine.ensures.event in
+    let there = working_in WORKER old c.args.instance c.args.handle entered event in
+    let back = c.run_item.new.self in
+    let is = worked WORKER old ready.rests c.args.instance c.args.handle entered back.work.state event
+    (c.run_item.ensures.ends c.args.instance (file_by old.files c.args.handle) there) in
+    let none = resumed_none back.work.state.flow back.work.resumed.items.items is.operations (c.run_item.ensures.waits [] (waits_at_rest entered.flow c.args.self.now.work.resumed.items.items ready.settled)) in
+    let settled = c.settle.ensures.kept none in
+    worked_ready c.args.self.now ready c.args.instance c.args.handle back c.settle.new.self is (c.settle.ensures.tidies none)
+    (settled.0 ∙ ap (λ m. m.bases) c.run_item.ensures.kept) (settled.1 ∙ ap (λ m. m.filters) c.run_item.ensures.kept) settled.2

@@ -2,7 +2,7 @@
 #include "core/client.h"
 
 #include "core/access.h"
-#include "core/answer.h"
+#include "core/result.h"
 #include "core/beside.h"
 #include "core/clock.h"
 #include "core/frame.h"

@@ -1,7 +1,7 @@
 /* Major functions: their names, and those of the manager's own operations. */
 #include "core/major.h"
 
-#include "core/operation.h"
+#include "core/op.h"
 
 PCHAR FltGetIrpName(UCHAR IrpMajorCode)
 {

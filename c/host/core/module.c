@@ -2,7 +2,7 @@
 #include "core/module.h"
 
 #include "core/memory.h"
-#include "core/operation.h"
+#include "core/op.h"
 
 #include <stdlib.h>
 

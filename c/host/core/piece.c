@@ -9,7 +9,7 @@
 #include "core/edge.h"
 #include "core/memory.h"
 #include "core/module.h"
-#include "core/operation.h"
+#include "core/op.h"
 #include "core/place.h"
 #include "core/source.h"
 #include "core/state.h"

@@ -5,7 +5,7 @@
 #include "core/held.h"
 #include "core/major.h"
 #include "core/module.h"
-#include "core/operation.h"
+#include "core/op.h"
 #include "core/piece.h"
 #include "core/source.h"
 #include "core/spell.h"

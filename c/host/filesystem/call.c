@@ -2,7 +2,7 @@
 #include "filesystem/call.h"
 
 #include "core/clock.h"
-#include "core/operation.h"
+#include "core/op.h"
 #include "filesystem/deletion.h"
 #include "filesystem/disk.h"
 #include "filesystem/folder.h"

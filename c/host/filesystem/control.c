@@ -2,7 +2,7 @@
 #include "filesystem/control.h"
 
 #include "core/memory.h"
-#include "core/operation.h"
+#include "core/op.h"
 #include "core/told.h"
 #include "filesystem/fsctl.h"
 #include "filesystem/name.h"

@@ -1,7 +1,7 @@
 /* The entries of a directory, by the kit's classes. */
 #include "filesystem/entries.h"
 
-#include "core/operation.h"
+#include "core/op.h"
 #include "lib/letters.h"
 #include "filesystem/disk.h"
 #include "filesystem/name.h"

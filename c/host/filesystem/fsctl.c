@@ -1,7 +1,7 @@
 /* Control codes that ask for a file's bytes, its object ID, its journal's record, or what its volume is made of. */
 #include "filesystem/fsctl.h"
 
-#include "core/operation.h"
+#include "core/op.h"
 #include "filesystem/name.h"
 #include "filesystem/node.h"
 #include "filesystem/store.h"

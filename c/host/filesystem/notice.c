@@ -5,7 +5,7 @@
 #include "core/client.h"
 #include "core/memory.h"
 #include "core/module.h"
-#include "core/operation.h"
+#include "core/op.h"
 #include "lib/letters.h"
 #include "filesystem/name.h"
 #include "filesystem/store.h"

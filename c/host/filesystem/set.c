@@ -2,7 +2,7 @@
 #include "filesystem/set.h"
 
 #include "core/module.h"
-#include "core/operation.h"
+#include "core/op.h"
 #include "filesystem/deletion.h"
 #include "filesystem/fileobject.h"
 #include "filesystem/name.h"

@@ -2,7 +2,7 @@
 #include "filesystem/sharing.h"
 
 #include "core/module.h"
-#include "core/operation.h"
+#include "core/op.h"
 #include "filesystem/call.h"
 #include "filesystem/control.h"
 #include "filesystem/deletion.h"

@@ -1,7 +1,7 @@
 /* Reparse points: a tag of a file, and the bytes that its owner keeps with it. */
 #include "filesystem/tag.h"
 
-#include "core/operation.h"
+#include "core/op.h"
 #include "lib/letters.h"
 #include "filesystem/deletion.h"
 #include "filesystem/name.h"

@@ -3,7 +3,7 @@
 
 #include "core/clock.h"
 #include "core/module.h"
-#include "core/operation.h"
+#include "core/op.h"
 #include "lib/letters.h"
 #include "filesystem/name.h"
 #include "filesystem/query.h"

@@ -2,7 +2,7 @@
 #include "kit/cancel.h"
 
 #include "core/client.h"
-#include "core/operation.h"
+#include "core/op.h"
 #include "core/place.h"
 #include "core/state.h"
 #include "core/told.h"

@@ -2,7 +2,7 @@
 #include "kit/control.h"
 
 #include "core/client.h"
-#include "core/operation.h"
+#include "core/op.h"
 #include "core/told.h"
 #include "lib/letters.h"
 #include "filesystem/handle.h"

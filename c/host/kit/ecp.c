@@ -3,7 +3,7 @@
 
 #include "core/client.h"
 #include "core/module.h"
-#include "core/operation.h"
+#include "core/op.h"
 #include "core/place.h"
 #include "core/state.h"
 #include "manager/operation.h"

@@ -2,7 +2,7 @@
 #include "kit/information.h"
 
 #include "core/client.h"
-#include "core/operation.h"
+#include "core/op.h"
 #include "core/told.h"
 #include "filesystem/deletion.h"
 #include "filesystem/handle.h"

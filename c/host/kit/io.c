@@ -3,7 +3,7 @@
 
 #include "core/client.h"
 #include "core/memory.h"
-#include "core/operation.h"
+#include "core/op.h"
 #include "core/place.h"
 #include "core/state.h"
 #include "core/told.h"

@@ -8,7 +8,7 @@
 #include "core/told.h"
 #include "lib/descriptor.h"
 #include "lib/letters.h"
-#include "kit/create.h"
+#include "kit/fltcreate.h"
 #include "kit/keyevent.h"
 #include "kit/registry.h"
 

@@ -2,7 +2,7 @@
 #include "core/access.h"
 #include "core/client.h"
 #include "core/held.h"
-#include "core/operation.h"
+#include "core/op.h"
 #include "core/told.h"
 #include "filesystem/fileobject.h"
 #include "manager/block.h"

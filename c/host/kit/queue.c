@@ -2,7 +2,7 @@
 #include "kit/queue.h"
 
 #include "core/client.h"
-#include "core/operation.h"
+#include "core/op.h"
 #include "core/told.h"
 #include "manager/instance.h"
 #include "manager/operation.h"

@@ -1,6 +1,6 @@
 /* Operations that a filter makes up by itself, in callback data of its own; and those of a callback that it sends down again. */
 #include "core/client.h"
-#include "core/operation.h"
+#include "core/op.h"
 #include "core/piece.h"
 #include "core/told.h"
 #include "filesystem/name.h"

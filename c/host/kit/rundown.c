@@ -1,6 +1,6 @@
 /* Rundown protection: a count, and a mark that nobody enters any more. */
 #include "core/client.h"
-#include "core/operation.h"
+#include "core/op.h"
 #include "core/told.h"
 #include "kit/interlocked.h"
 #include "kit/timer.h"

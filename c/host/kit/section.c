@@ -5,7 +5,7 @@
 #include "core/major.h"
 #include "core/memory.h"
 #include "core/module.h"
-#include "core/operation.h"
+#include "core/op.h"
 #include "core/place.h"
 #include "core/state.h"
 #include "core/told.h"

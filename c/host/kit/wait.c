@@ -3,7 +3,7 @@
 #include "core/clock.h"
 #include "core/held.h"
 #include "core/module.h"
-#include "core/operation.h"
+#include "core/op.h"
 #include "core/pointer.h"
 #include "core/told.h"
 #include "manager/filter.h"

@@ -3,7 +3,7 @@
 
 #include "core/client.h"
 #include "core/module.h"
-#include "core/operation.h"
+#include "core/op.h"
 #include "core/state.h"
 #include "core/status.h"
 #include "filesystem/call.h"

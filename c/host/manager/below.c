@@ -4,7 +4,7 @@
 
 #include "core/client.h"
 #include "core/memory.h"
-#include "core/operation.h"
+#include "core/op.h"
 #include "core/state.h"
 #include "core/status.h"
 #include "core/told.h"

@@ -3,7 +3,7 @@
 #define KZ_MANAGER_BELOW_H
 
 #include "host.h"
-#include "core/operation.h"
+#include "core/op.h"
 #include "filesystem/store.h"
 
 FLT_CALLBACK_DATA_FLAGS kz_data_flags(const KzOp *op);

@@ -2,7 +2,7 @@
 #include "manager/block.h"
 
 #include "core/memory.h"
-#include "core/operation.h"
+#include "core/op.h"
 #include "core/piece.h"
 #include "core/unwritten.h"
 

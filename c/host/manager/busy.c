@@ -2,7 +2,7 @@
 #include "manager/busy.h"
 
 #include "core/client.h"
-#include "core/operation.h"
+#include "core/op.h"
 #include "core/state.h"
 #include "manager/instance.h"
 #include "manager/operation.h"

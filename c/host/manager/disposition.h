@@ -3,7 +3,7 @@
 #define KZ_MANAGER_DISPOSITION_H
 
 #include "host.h"
-#include "core/operation.h"
+#include "core/op.h"
 
 /* What a request asks for that says nothing but how the file is to be opened: everything, shared with everybody. */
 KzCreate kz_usual_create(ULONG disposition, bool is_directory);

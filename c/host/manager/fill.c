@@ -1,7 +1,7 @@
 /* The parameters of an operation that rides on another: what goes down, and the room for what comes up, are memory of the operation. */
 #include "manager/fill.h"
 
-#include "core/operation.h"
+#include "core/op.h"
 #include "lib/letters.h"
 #include "manager/block.h"
 

@@ -2,7 +2,7 @@
 #include "manager/hand.h"
 
 #include "core/client.h"
-#include "core/operation.h"
+#include "core/op.h"
 #include "core/state.h"
 #include "manager/block.h"
 #include "manager/context.h"

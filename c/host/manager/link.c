@@ -1,6 +1,6 @@
 /* Links of contexts to objects. The manager knows the objects of the callback alone; the host asks it for others of volumes and instances as from their own callback. */
 #include "core/client.h"
-#include "core/operation.h"
+#include "core/op.h"
 #include "core/state.h"
 #include "core/status.h"
 #include "core/told.h"

@@ -5,7 +5,7 @@
 #include "manager/newname.h"
 
 #include "core/client.h"
-#include "core/operation.h"
+#include "core/op.h"
 #include "core/place.h"
 #include "core/state.h"
 #include "core/told.h"

@@ -2,7 +2,7 @@
 #include "manager/outcome.h"
 
 #include "core/client.h"
-#include "core/operation.h"
+#include "core/op.h"
 #include "core/place.h"
 #include "core/state.h"
 #include "manager/context.h"

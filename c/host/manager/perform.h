@@ -3,7 +3,7 @@
 #define KZ_MANAGER_PERFORM_H
 
 #include "host.h"
-#include "core/operation.h"
+#include "core/op.h"
 
 /* An operation that is asked for, by the manager's event, with what that is handed. */
 typedef struct {

@@ -2,7 +2,7 @@
 #ifndef KZ_MANAGER_PRE_H
 #define KZ_MANAGER_PRE_H
 
-#include "core/operation.h"
+#include "core/op.h"
 
 void kz_pre(KzOp *op, PFLT_INSTANCE instance);
 /* Its verdict, and whether the instance waits still for what it passed. */

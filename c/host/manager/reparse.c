@@ -2,7 +2,7 @@
 #include "manager/reparse.h"
 
 #include "core/client.h"
-#include "core/operation.h"
+#include "core/op.h"
 #include "core/piece.h"
 #include "core/status.h"
 #include "core/told.h"

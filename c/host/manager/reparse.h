@@ -3,7 +3,7 @@
 #define KZ_MANAGER_REPARSE_H
 
 #include "host.h"
-#include "core/operation.h"
+#include "core/op.h"
 
 /* Begins a create, and its answer. Of an answer STATUS_REPARSE the create that comes in its place is begun, and so on. */
 typedef KzAnswer KzBeginCreate(void *given, KazdrinEvent asked, const char *path);

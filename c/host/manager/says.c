@@ -3,7 +3,7 @@
 
 #include "core/client.h"
 #include "core/clock.h"
-#include "core/operation.h"
+#include "core/op.h"
 #include "core/spell.h"
 
 #include <stdarg.h>

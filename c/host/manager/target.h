@@ -3,7 +3,7 @@
 #define KZ_MANAGER_TARGET_H
 
 #include "host.h"
-#include "core/operation.h"
+#include "core/op.h"
 
 /* Opens it, as the system does first, where the new name says a folder that is there: then what is asked for has it along. */
 NTSTATUS kz_put_target(PFLT_INSTANCE initiator, KzFile *file, const KzAsked **asked, KzAsked *with);

@@ -7,7 +7,7 @@
 #include "core/client.h"
 #include "core/memory.h"
 #include "core/module.h"
-#include "core/operation.h"
+#include "core/op.h"
 #include "core/piece.h"
 #include "core/place.h"
 #include "core/state.h"

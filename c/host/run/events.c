@@ -2,7 +2,7 @@
 #include "run/events.h"
 
 #include "core/client.h"
-#include "core/operation.h"
+#include "core/op.h"
 #include "core/process.h"
 #include "core/status.h"
 #include "lib/letters.h"

@@ -2,7 +2,7 @@
 #include "user/file.h"
 
 #include "core/client.h"
-#include "core/operation.h"
+#include "core/op.h"
 #include "lib/letters.h"
 #include "filesystem/fileobject.h"
 #include "filesystem/sharing.h"

@@ -3,7 +3,7 @@
 #define KZ_USER_FILE_H
 
 #include "host.h"
-#include "core/operation.h"
+#include "core/op.h"
 #include "user/program.h"
 
 /* A file by its path, with `/` between its parts; its access is as it is said, with generic bits. 0, or the error, and then no file. */

@@ -1,6 +1,6 @@
 /* Slim locks of a program's threads, and locks of bytes in its files. */
 #include "core/client.h"
-#include "core/operation.h"
+#include "core/op.h"
 #include "user/error.h"
 #include "user/file.h"
 #include "user/object.h"

@@ -3,7 +3,7 @@
 
 #include "core/client.h"
 #include "core/memory.h"
-#include "kit/create.h"
+#include "kit/fltcreate.h"
 #include "kit/device.h"
 #include "kit/port.h"
 #include "user/directory.h"

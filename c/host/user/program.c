@@ -8,7 +8,7 @@
 #include "core/said.h"
 #include "core/told.h"
 #include "kit/cancel.h"
-#include "kit/create.h"
+#include "kit/fltcreate.h"
 #include "kit/notify.h"
 #include "user/object.h"
 

@@ -1,7 +1,7 @@
 /* Notices of a directory for a program: ReadDirectoryChangesW, which completes later, or is waited for. */
 #include "core/client.h"
 #include "core/memory.h"
-#include "core/operation.h"
+#include "core/op.h"
 #include "manager/below.h"
 #include "user/completion.h"
 #include "user/error.h"

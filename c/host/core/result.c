@@ -1,6 +1,6 @@
 /* What the kit answers a driver's call: as one begins, the place to which it returns is another one, where the answer is looked at; then the driver goes on where it would have. So no call has to say what it
  * answers. That is for drivers of source, whose frames are known, and only if it is asked for. */
-#include "core/answer.h"
+#include "core/result.h"
 
 #include "core/client.h"
 #include "core/frame.h"

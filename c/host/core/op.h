@@ -1,6 +1,6 @@
 /* Operations, as the layers share them: what one has, and how it is asked for. */
-#ifndef KZ_CORE_OPERATION_H
-#define KZ_CORE_OPERATION_H
+#ifndef KZ_CORE_OP_H
+#define KZ_CORE_OP_H
 
 #include "host.h"
 #include "core/create.h"

@@ -1,6 +1,6 @@
 /* Files that a driver opens by itself. */
-#ifndef KZ_KIT_CREATE_H
-#define KZ_KIT_CREATE_H
+#ifndef KZ_KIT_FLTCREATE_H
+#define KZ_KIT_FLTCREATE_H
 
 #include "host.h"
 

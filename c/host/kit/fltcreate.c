@@ -1,8 +1,8 @@
 /* Files that a driver opens by itself. */
-#include "kit/create.h"
+#include "kit/fltcreate.h"
 
 #include "core/client.h"
-#include "core/operation.h"
+#include "core/op.h"
 #include "core/told.h"
 #include "lib/letters.h"
 #include "filesystem/fileobject.h"

@@ -1,6 +1,6 @@
 /* What the kit answers a driver's call. */
-#ifndef KZ_CORE_ANSWER_H
-#define KZ_CORE_ANSWER_H
+#ifndef KZ_CORE_RESULT_H
+#define KZ_CORE_RESULT_H
 
 #include "host.h"
 

@@ -11,7 +11,7 @@ typedef struct {
     size_t count;
 } Ends;
 
-static char *text_of(const Kind *kind)
+char *ex_kind_text(const Kind *kind)
 {
     char *text = NULL;
     size_t size;
@@ -44,7 +44,7 @@ static Ends *found_ends(void)
     Ends *ends = ex_map(sizeof *ends);
     for (int at = 0; at < ex->kinds.count; at++)
         if (ex->kinds.all[at].of != LIMITED)
-            sort_in(ends, text_of(&ex->kinds.all[at]), &ex->kinds.all[at]);
+            sort_in(ends, ex_kind_text(&ex->kinds.all[at]), &ex->kinds.all[at]);
     return ends;
 }
 
@@ -105,7 +105,7 @@ int ex_compare_ends(const char *path)
     for (size_t at = 0; at < found->count; at++)
         if (!has(stored, found->texts[at])) {
             printf("\nnew:");
-            ex_report_kind(found->kinds[at]);
+            ex_report_kind(found->kinds[at], 1);
             status = 1;
         }
     for (size_t at = 0; at < stored->count; at++)

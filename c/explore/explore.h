@@ -372,12 +372,16 @@ void ex_found_lines(KindOf of, const char *text);
 bool ex_found_race(const char *text, uintptr_t now, uintptr_t before);
 void ex_say(const KzSaid *said);
 void ex_keep_found(void);
-void ex_report_kind(const Kind *kind);
+void ex_report_kind(const Kind *kind, unsigned count);
+int ex_compare_kinds(const Kind *a, const Kind *b);
 void ex_put_kind_line(const Kind *kind);
 void ex_report(void);
 
 char *ex_kept(const char *text);
 void ex_add_kind(const Kind *more);
+
+/* once.c: of each kind how many it is shown for; 0 if another is shown in its place. */
+unsigned *ex_count_kinds(void);
 
 /* asked.c: requests that are refused in each schedule, of which nothing is tried. */
 void ex_note_answer(size_t request, uint32_t status, bool is_done);
@@ -399,6 +403,7 @@ Counted ex_count_now(void);
 int ex_search_jobs(unsigned jobs, const char *resume, void (*search)(void));
 
 /* ends.c: kinds that are stored in a file, and compared with it. 0, 1 where they differ, or 3 if the file can't be read or written. */
+char *ex_kind_text(const Kind *kind); /* with the lines of sources */
 int ex_learn_ends(const char *path);
 int ex_compare_ends(const char *path);
 

@@ -128,13 +128,19 @@ static void key_of(const char *text, char *key, size_t size)
     key[used] = 0;
 }
 
+/* Below 0 if the first was found by less. */
+int ex_compare_kinds(const Kind *a, const Kind *b)
+{
+    unsigned left[] = {a->preemptions, a->switches, a->steps}, right[] = {b->preemptions, b->switches, b->steps};
+    size_t at = 0;
+    while (at < 2 && left[at] == right[at])
+        at++;
+    return (left[at] > right[at]) - (left[at] < right[at]);
+}
+
 static bool is_better(const Found *one, const Kind *kind)
 {
-    if (one->preemptions != kind->preemptions)
-        return one->preemptions < kind->preemptions;
-    if (one->switches != kind->switches)
-        return one->switches < kind->switches;
-    return one->steps < kind->steps;
+    return ex_compare_kinds(&(Kind){.preemptions = one->preemptions, .switches = one->switches, .steps = one->steps}, kind) < 0;
 }
 
 static Kind *kind_of(const Found *one, const char *key)
@@ -169,11 +175,6 @@ static void keep(const Found *one)
     kind->seed = ex->search.seed;
 }
 
-static bool is_better_kind(const Kind *one, const Kind *than)
-{
-    return is_better(&(Found){.preemptions = one->preemptions, .switches = one->switches, .steps = one->steps}, than);
-}
-
 /* One that another part of the search found. */
 void ex_add_kind(const Kind *more)
 {
@@ -181,7 +182,7 @@ void ex_add_kind(const Kind *more)
     if (!kind)
         return;
     kind->count += more->count;
-    if (kind->text && !is_better_kind(more, kind))
+    if (kind->text && ex_compare_kinds(more, kind) >= 0)
         return;
     uint64_t count = kind->count;
     *kind = *more;
@@ -227,10 +228,13 @@ void ex_put_kind_line(const Kind *kind)
     put_indented(line);
 }
 
-void ex_report_kind(const Kind *kind)
+/* `count` is how many it stands for. */
+void ex_report_kind(const Kind *kind, unsigned count)
 {
     printf("\n%llu schedules:\n", (unsigned long long)(kind->count ? kind->count : kind->earlier));
     put_indented(kind->text);
+    if (count > 1)
+        printf("    and %u more between the same two lines\n", count - 1);
     printf("  the shortest: %u preemptions, %u switches, %u steps\n", kind->preemptions, kind->switches, kind->steps);
     printf("  --replay '%s'%s\n", kind->schedule, ex->search.is_coarse ? " --coarse" : "");
     if (kind->seed && ex->search.pct)
@@ -241,6 +245,8 @@ void ex_report_kind(const Kind *kind)
 
 void ex_report(void)
 {
+    const unsigned *counts = ex_count_kinds();
     for (int at = 0; at < ex->kinds.count; at++)
-        ex_report_kind(&ex->kinds.all[at]);
+        if (counts[at])
+            ex_report_kind(&ex->kinds.all[at], counts[at]);
 }

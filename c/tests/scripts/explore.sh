@@ -144,6 +144,12 @@ tell $? "trace of a lost update"
 [ $? = 5 ] && grep -q '^  f comes behind what r did up to step [0-9]*, FltReleaseContext at lastrelease.c:29 ' "$room/out"
 tell $? "trace of what is in order still"
 
+# Races between the same two lines are shown once, whatever they touch and whoever came first; those in which memory is freed apart. A read's line 19 meets a flush's lines 26 and 27, and 27 frees.
+"$program" --bound 1 $scenarios/sharedlist.txt > "$room/out"
+[ $? = 5 ] && sed -nE 's/^    RACE: (a read|memory is freed) at ([^ ]*) .* at ([^ ]*) .*/\1 \2 \3/p' "$room/out" | sort | diff - <(printf '%s\n' 'a read sharedlist.c:26 sharedlist.c:19' 'a read sharedlist.c:27 sharedlist.c:19' 'memory is freed sharedlist.c:27 sharedlist.c:19') &&
+    [ "$(grep -c '^    RACE' "$room/out")" = 3 ] && [ "$(grep -c '^    and [0-9]* more between the same two lines$' "$room/out")" = 2 ]
+tell $? "races that are shown once"
+
 # What a seed finds is shown by less: with one preemption, and without the requests that aren't needed.
 "$program" --seed 1 --runs 500 --pct 2 --shrink $scenarios/stuckdetach-long.txt > "$room/out"
 [ $? = 6 ] && grep -q '^  the shortest: 1 preemptions' "$room/out" && grep -A 2 '^    STUCK' "$room/out" | grep -q '^    client r: read 0 0 8$' && grep -q '^    client d: detach 0$' "$room/out"

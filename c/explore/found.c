@@ -182,11 +182,13 @@ void ex_add_kind(const Kind *more)
     if (!kind)
         return;
     kind->count += more->count;
+    kind->earlier += more->earlier;
     if (kind->text && ex_compare_kinds(more, kind) >= 0)
         return;
-    uint64_t count = kind->count;
+    uint64_t count = kind->count, earlier = kind->earlier;
     *kind = *more;
     kind->count = count;
+    kind->earlier = earlier;
 }
 
 /* At the run's end: if it is this shard's, what it found counts. */

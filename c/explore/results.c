@@ -52,7 +52,7 @@ static void put_numbers(FILE *to, const Counted *one)
 
 static void put_kind(FILE *to, const Kind *kind)
 {
-    fprintf(to, "kind %d %llu %u %u %u %llu\n", kind->of, (unsigned long long)kind->count, kind->preemptions, kind->switches, kind->steps, (unsigned long long)kind->seed);
+    fprintf(to, "kind %d %llu %u %u %u %llu %llu\n", kind->of, (unsigned long long)kind->count, kind->preemptions, kind->switches, kind->steps, (unsigned long long)kind->seed, (unsigned long long)kind->earlier);
     put_text(to, "key", kind->key);
     put_text(to, "text", kind->text);
     put_text(to, "schedule", kind->schedule);
@@ -205,14 +205,15 @@ static bool is_this(const char *name)
 static void read_line(char *line, Reading *from)
 {
     Counted one = {0};
-    unsigned long long count, seed;
+    unsigned long long count, seed, earlier;
     int of, whole, reduced;
     if (strncmp(line, "counted ", 8) == 0) {
         from->is_right = read_numbers(line, &one);
         add_numbers(&one);
-    } else if (sscanf(line, "kind %d %llu %u %u %u %llu", &of, &count, &from->kind.preemptions, &from->kind.switches, &from->kind.steps, &seed) == 6) {
+    } else if (sscanf(line, "kind %d %llu %u %u %u %llu %llu", &of, &count, &from->kind.preemptions, &from->kind.switches, &from->kind.steps, &seed, &earlier) == 7) {
         from->kind.of = (KindOf)of;
         from->kind.count = count;
+        from->kind.earlier = earlier;
         from->kind.seed = seed;
     } else if (strncmp(line, "key ", 4) == 0) {
         from->kind.key = ex_kept(plain(line + 4));

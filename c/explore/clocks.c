@@ -47,6 +47,8 @@ static struct {
         int client;
     } freed[FREED];
     size_t freed_count;
+    uint32_t cells_made[CELLS], objects_made[OBJECTS]; /* in this run: where they are */
+    size_t cells_count, objects_count;
     struct {
         unsigned step;
         const char *call;
@@ -68,7 +70,7 @@ void ex_start_clocks(void)
     memset(shadow->clock, 0, sizeof shadow->clock);
     for (int client = 0; client <= RUNNERS; client++)
         shadow->clock[client][client] = 1;
-    shadow->freed_count = 0;
+    shadow->freed_count = shadow->cells_count = shadow->objects_count = 0;
     shadow->least = UINTPTR_MAX;
     shadow->most = 0;
     shadow->hash = 0;
@@ -111,6 +113,7 @@ static Cell *make_cell(size_t at, uintptr_t tag)
     Cell *cell = &shadow->cells[at];
     memset(cell->by, 0, sizeof cell->by[0] * ((size_t)ex->run.most_runners + 1));
     shadow->places[at] = (Place){tag, ex->run.number};
+    shadow->cells_made[shadow->cells_count++] = (uint32_t)at;
     cell->tag = tag;
     return cell;
 }
@@ -141,9 +144,45 @@ static Object *object_of(const void *object)
         memset(one, 0, sizeof *one);
         one->run = ex->run.number;
         one->object = object;
+        shadow->objects_made[shadow->objects_count++] = (uint32_t)at;
         return one;
     }
     return NULL;
+}
+
+static void pass_cells(Store *store)
+{
+    ex_pass(store, &shadow->cells_count, sizeof shadow->cells_count);
+    ex_pass(store, shadow->cells_made, shadow->cells_count * sizeof shadow->cells_made[0]);
+    for (size_t made = 0; made < shadow->cells_count; made++) {
+        size_t at = shadow->cells_made[made];
+        ex_pass(store, &shadow->cells[at].tag, sizeof shadow->cells[at].tag);
+        ex_pass(store, shadow->cells[at].by, sizeof shadow->cells[at].by[0] * ((size_t)ex->run.most_runners + 1));
+        shadow->places[at] = (Place){shadow->cells[at].tag, ex->run.number};
+    }
+}
+
+static void pass_objects(Store *store)
+{
+    ex_pass(store, &shadow->objects_count, sizeof shadow->objects_count);
+    ex_pass(store, shadow->objects_made, shadow->objects_count * sizeof shadow->objects_made[0]);
+    for (size_t made = 0; made < shadow->objects_count; made++) {
+        Object *one = &shadow->objects[shadow->objects_made[made]];
+        ex_pass(store, one, sizeof *one);
+        one->run = ex->run.number;
+    }
+}
+
+void ex_pass_clocks(Store *store)
+{
+    ex_pass(store, shadow->clock, sizeof shadow->clock);
+    ex_pass(store, &shadow->freed_count, sizeof shadow->freed_count);
+    ex_pass(store, shadow->freed, shadow->freed_count * sizeof shadow->freed[0]);
+    ex_pass(store, &shadow->least, sizeof shadow->least);
+    ex_pass(store, &shadow->most, sizeof shadow->most);
+    ex_pass(store, &shadow->hash, sizeof shadow->hash);
+    pass_cells(store);
+    pass_objects(store);
 }
 
 /* How memory is met. */

@@ -165,10 +165,10 @@ static int choose(Runner *me)
     return begin_step(options.clients[taken], options.may_stay && taken > 0);
 }
 
-/* Where states are told apart another stack chooses, so that all clients stand alike. */
+/* Where states are told apart, or places kept, another stack chooses, so that all clients stand alike. */
 static void stand_aside(Runner *me)
 {
-    if (ex->search.is_reduced || ex->run.is_alone) {
+    if (ex->search.is_reduced || ex->run.has_places || ex->run.is_alone) {
         ex_switch(&me->stands, ex->run.back);
         return;
     }
@@ -525,8 +525,14 @@ uint64_t ex_stacks_hash(void)
     return hash;
 }
 
-/* One run, from the set-up's end to where nobody can go on. */
-void ex_run(void)
+void ex_pass_stacks(Store *store)
+{
+    for (int at = 1; at <= ex->run.runners_count; at++)
+        if (ex_runners[at].state != ENDED)
+            ex_pass(store, ex_runners[at].stands, (size_t)(top_of(at) - (char *)ex_runners[at].stands));
+}
+
+static void make_all(void)
 {
     for (int at = 1; at <= ex->run.runners_count; at++)
         if (at >= KZ_FIRST_THREAD)
@@ -535,9 +541,26 @@ void ex_run(void)
             make(&ex_runners[at], at, live);
     ex->run.current = 0;
     ex_forget_lib_calls();
+}
+
+static int choose_apart(Runner *before)
+{
+    if (ex->run.has_places)
+        ex_keep_place();
+    return choose(before);
+}
+
+/* One run, from the set-up's end, or from where the client of that number stood last, to where nobody can go on. */
+void ex_run(int stood)
+{
+    bool is_apart = ex->search.is_reduced || ex->run.has_places;
+    Runner *before = stood ? &ex_runners[stood] : NULL;
+    if (!stood)
+        make_all();
+    else
+        kz_me = before->client;
     ex->run.is_running = true;
-    Runner *before = NULL;
-    for (int client = choose(NULL); client; client = ex->search.is_reduced ? choose(before) : 0) {
+    for (int client = choose(before); client; client = is_apart ? choose_apart(before) : 0) {
         before = &ex_runners[client];
         ex->run.current = client;
         kz_me = before->client;

@@ -169,6 +169,7 @@ typedef struct {
     int runners_count, usual_count, most_runners; /* up to the last one; as a run begins; and in any run so far */
     bool is_alone; /* a thread goes on until it waits, and nobody else */
     bool is_running;
+    bool has_places; /* it may go on from where an earlier one stood: another stack chooses then */
     unsigned preemptions, switches, fails_used, timeouts, steps;
     char unmet[TEXT]; /* the first expectation that isn't met */
     bool is_guided; /* it follows a list of steps as far as it can */
@@ -249,6 +250,12 @@ typedef struct {
 
 extern Explorer *ex;
 
+/* All that a run stands on, one thing after the other: it is kept there, or put back. */
+typedef struct {
+    char *at, *end;
+    bool is_kept, is_full;
+} Store;
+
 /* What the words ask for, beside what the search itself looks at. */
 typedef struct {
     unsigned jobs;
@@ -323,7 +330,7 @@ void ex_keep_stacks(void);
 void ex_clear_stacks(void);
 bool ex_is_stack(const void *address);
 uint64_t ex_stacks_hash(void);
-void ex_run(void);
+void ex_run(int stood);
 bool ex_is_stuck(void);
 bool ex_is_busy(const Runner *one);
 uint64_t ex_stands_hash(void);
@@ -382,6 +389,16 @@ void ex_add_kind(const Kind *more);
 
 /* once.c: of each kind how many it is shown for; 0 if another is shown in its place. */
 unsigned *ex_count_kinds(void);
+
+/* checkpoint.c */
+void ex_open_places(void);
+void ex_keep_places(bool is);
+void ex_keep_place(void);
+int ex_go_back(void);
+void ex_pass(Store *store, void *memory, size_t size);
+void ex_pass_memory(Store *store);
+void ex_pass_stacks(Store *store);
+void ex_pass_clocks(Store *store);
 
 /* asked.c: requests that are refused in each schedule, of which nothing is tried. */
 void ex_note_answer(size_t request, uint32_t status, bool is_done);

@@ -17,7 +17,7 @@ enum { WARM_UP = 200 };
 Explorer *ex;
 
 /* ---- One run. */
-static void start_run(void)
+static void begin_run(void)
 {
     ex_put_back();
     ex->path.depth = ex->found.count = ex->schedule.length = ex->output.length = 0;
@@ -27,12 +27,21 @@ static void start_run(void)
     ex->run.is_given_up = ex->run.is_alone = false;
     ex->run.runners_count = ex->run.usual_count;
     memset(ex->run.patience, 0, sizeof ex->run.patience[0] * ((size_t)ex->run.most_runners + 1));
-    ex->run.number++;
-    ex->search.runs++;
     ex_hooked = NULL;
     ex_empty_buffers();
     ex_begin_changes();
     ex_start_clocks();
+}
+
+/* Who stood where it goes on, or 0. */
+static int start_run(void)
+{
+    ex->run.number++;
+    ex->search.runs++;
+    int stood = ex_go_back();
+    if (!stood)
+        begin_run();
+    return stood;
 }
 
 static void tell_stuck(void)
@@ -83,9 +92,9 @@ static void finish_run(void)
 
 void ex_run_once(void)
 {
-    start_run();
+    int stood = start_run();
     if (sigsetjmp(ex->run.out, 0) == 0) {
-        ex_run();
+        ex_run(stood);
         finish_run();
     }
     ex->run.is_running = false;
@@ -200,10 +209,12 @@ static bool search_bound(void)
 {
     bool is_more = true;
     begin_bound();
+    ex_keep_places(!ex->search.is_reduced && !kz_binaries.put_back); /* a binary's machine is more than its memory */
     while (is_more && !is_to_end()) {
         ex_run_once();
         is_more = ex_advance();
     }
+    ex_keep_places(false);
     if (is_more && ex->total.is_interrupted)
         return false;
     note_counts();
@@ -443,6 +454,7 @@ int main(int count, char **words)
         return refused;
     ex_name_search(asked.search, asked.scenario);
     ex_open_shadow();
+    ex_open_places();
     ex_watch_faults();
     if (asked.replay || ex->search.asked_seed)
         ex->search.is_reduced = ex->search.has_no_bound = false;

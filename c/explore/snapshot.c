@@ -209,6 +209,53 @@ void ex_put_back(void)
         kz_binaries.put_back();
 }
 
+/* ---- What a run has changed so far: of each page the lines that aren't as in the image, a bit for each. */
+enum { LINE = 64, PART = 8 * LINE };
+
+static uint64_t changed_lines(const char *page, const char *copy)
+{
+    uint64_t changed = 0;
+    for (size_t at = 0; at < PAGE; at += LINE)
+        if (at % PART == 0 && memcmp(page + at, copy + at, PART) == 0)
+            at += PART - LINE;
+        else if (memcmp(page + at, copy + at, LINE) != 0)
+            changed |= 1UL << at / LINE;
+    return changed;
+}
+
+static void pass_page(Store *store, char *page, const char *copy)
+{
+    uint64_t changed = store->is_kept ? changed_lines(page, copy) : 0;
+    if (!store->is_kept)
+        memcpy(page, copy, PAGE);
+    ex_pass(store, &changed, sizeof changed);
+    for (; changed; changed &= changed - 1)
+        ex_pass(store, page + (size_t)__builtin_ctzl(changed) * LINE, LINE);
+}
+
+/* One that was opened since is as in the image. */
+static void pass_pages(Store *store)
+{
+    size_t count = image->pages_count;
+    ex_pass(store, &count, sizeof count);
+    for (size_t at = 0; at < image->pages_count; at++)
+        if (at < count)
+            pass_page(store, image->pages[at].at, image->pages[at].copy);
+        else
+            memcpy(image->pages[at].at, image->pages[at].copy, PAGE);
+}
+
+/* The pages come first: they say how much of the arenas is used. */
+void ex_pass_memory(Store *store)
+{
+    pass_pages(store);
+    for (size_t client = 0; client < RUNNERS + 2; client++) {
+        char *start = client ? arena(client) : image->ranges[1].end;
+        if (next[client] > start)
+            ex_pass(store, start, (size_t)(next[client] - start));
+    }
+}
+
 /* Of all that a run changed: pages that were written, and what the clients allocated. A page that is as it was counts as none. */
 uint64_t ex_memory_hash(void)
 {

@@ -18,6 +18,7 @@ extern void AnnotateIgnoreSyncBegin(const char *file, int line) __attribute__((w
 extern void AnnotateIgnoreSyncEnd(const char *file, int line) __attribute__((weak));
 extern void __tsan_acquire(void *object) __attribute__((weak));
 extern void __tsan_release(void *object) __attribute__((weak));
+extern void __tsan_read_range(void *memory, long size) __attribute__((weak));
 extern void __tsan_write_range(void *memory, long size) __attribute__((weak));
 
 static struct {
@@ -124,6 +125,8 @@ static void touch(const void *object, size_t size, KzTouch how)
         __tsan_acquire((void *)(uintptr_t)object);
     else if (how == KZT_GIVES)
         __tsan_release((void *)(uintptr_t)object);
+    else if (how == KZT_READS)
+        __tsan_read_range((void *)(uintptr_t)object, (long)size);
     else
         __tsan_write_range((void *)(uintptr_t)object, (long)size);
     if (is_inside)

@@ -66,7 +66,7 @@ searched() {
     if [ -f "$tests/expected/explore-$name.out" ]; then
         [ $ended = "$status" ] && diff "$tests/expected/explore-$name.out" "$built/$name.out"
     else
-        finds=$(sed -n 's/^# finds: //p' "$scenario")
+        finds=$(finds_of "$scenario")
         if [ "$finds" = nothing ]; then
             [ $ended = "$status" ] && ! grep -q "schedules:" "$built/$name.out"
         else

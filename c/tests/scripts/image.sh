@@ -123,7 +123,7 @@ touched() {
 explored() {
     local name=$1 scenario=$tests/scenarios/$1.txt status finds words
     status=$(cat "$tests/expected/explore-$name.status" 2> /dev/null || sed -n 's/^# status: //p' "$scenario" | grep . || echo 0)
-    finds=$(sed -n 's/^# finds: //p' "$scenario" | sed 's/\ba \(read\|write\) at/a\\(n interlocked\\)\\? \1 at/g')
+    finds=$(finds_of "$scenario" | sed 's/\ba \(read\|write\) at/a\\(n interlocked\\)\\? \1 at/g')
     [ "$name" != counter ] || finds=RACE
     read -r -a words <<< "$(sed -n 's/^# words: //p' "$scenario")"
     "$tests/image/sys.sh" "$kind" "$built/kit-$kind" "$built/$name.sys" "$tests/misuse/schedules/$name.c" > "$room/$name.log" 2>&1

@@ -115,3 +115,8 @@ may_mount() {
     command -v fusermount3 > /dev/null || { echo 'there is no fusermount3 here'; return 1; }
     command -v python3 > /dev/null || { echo 'there is no python3 here'; return 1; }
 }
+
+# finds_of SCENARIO: what it is to find, as a pattern. Which side of a race comes first is the schedule's.
+finds_of() {
+    sed -n 's/^# finds: //p' "$1" | sed 's/^RACE: \(.*\), and \(.*\)$/RACE: \\(\1, and \2\\|\2, and \1\\)/'
+}

@@ -17,7 +17,7 @@ if sys.argv[1:2] in (["-h"], ["--help"]):
 
 WORKERS = ["w0", "w1", "w2", "w3"]
 ENDS = ["SetUp", "Pre", "Post", "PostHeld", "Drained", "Queried", "Started", "EarlyDrained", "Completed", "RoutineReturned", "Unloaded", "Cleaned"]
-KINDS = ["volume", "instance", "stream", "handle"]
+KINDS = ["volume", "instance", "stream", "handle", "file"]
 ALTITUDES = ["5", "12.50", "100", "235", "320000"]
 PATHS = ["a", "b", "deny/x", "sub/long-name"]
 ODD = [b"", b"laod f", b"go  w0 o0", b"\xff\\", b"# <a remark> & \xe9", b"attach f0 v0 a 1.2.3", b"write h0 0 abc", b"mount v\xe9", b"x" * 4097]
@@ -108,6 +108,8 @@ class Maker:
             f"list {self.any('v')}",
             f"{self.random.choice(['size', 'flush', 'delete', 'restore', 'cleanup', 'close'])} {handle}",
             f"setsize {handle} {size}",
+            f"other {handle} {self.random.choice([17, 20, 249])} {size}",
+            f"otherv {self.any('v')} 10 {size}",
         ]
         self.say(self.random.choice(asks[:1] * 3 + asks[1:]))
         if self.random.random() < 0.4:

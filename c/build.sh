@@ -119,22 +119,38 @@ case "$flags" in
 esac
 [ -z "$flags" ] || exit 0
 
-# ---- The manager's archive, and what it needs of the kit: an installed tree has both.
+# ---- The host's libraries, by the compiler and its words, and the manager's archive: an installed tree has it. Where it has to be built they are compiled meanwhile.
+room=$(mktemp -d)
+trap 'rm -rf "$room"' EXIT
+make_host() {
+    local names
+    read -r -a names <<< "host $kind $image"
+    CC="$cc" CFLAGS="$host_cflags" "$here/libraries.sh" "${names[@]}" > "$room/host"
+}
 library=${KAZDRIN_LIB:-$here/../lib/libkazdrin_c.a}
 [ -n "${KAZDRIN_LIB:-}" ] || [ -f "$library" ] || library=$here/../crates/kazdrin_c/out/libkazdrin_c.a
-if [ -z "${KAZDRIN_LIB:-}" ] && [ ! -f "$library" ]; then
-    library=$("$here/archive.sh" --unproved)
-fi
-if [ ! -f "$library" ]; then
+if [ -z "${KAZDRIN_LIB:-}" ] && [ ! -f "$library" ] && command -v rt > /dev/null; then
+    make_host &
+    making=$!
+    library=$("$here/archive.sh" --unproved) || {
+        status=$?
+        wait
+        exit "$status"
+    }
+    wait "$making"
+elif [ -z "${KAZDRIN_LIB:-}" ] && [ ! -f "$library" ]; then
+    "$here/archive.sh" --unproved # which says what is missing
+    exit 1
+elif [ ! -f "$library" ]; then
     say "there is no $library; make it by c/archive.sh, or name one as KAZDRIN_LIB"
     exit 1
+else
+    make_host
 fi
+host=$(cat "$room/host")
+# What the archive needs of the kit.
 support=$here/../lib
 [ -f "$support/liblibc_c.a" ] || support=$("$here/archive.sh" --support)
-
-# ---- The host's libraries, by the compiler and its words.
-read -r -a names <<< "host $kind $image"
-host=$(CC="$cc" CFLAGS="$host_cflags" "$here/libraries.sh" "${names[@]}")
 
 libraries=("$host/libkazdrin_host.a")
 # The explorer is behind the compiler's calls before each access of a driver's code; its addresses are those of the program's file.
@@ -202,8 +218,6 @@ case "$kind$sanitizers: $cflags ${KZAPI:-} " in
 esac
 
 # ---- Drivers: each a name and its files. All but its entry is its own, so that two drivers may use one name. As many are compiled at once as there are processors.
-room=$(mktemp -d)
-trap 'rm -rf "$room"' EXIT
 processors=$(nproc)
 wait_for_one() {
     while [ "$(jobs -rp | wc -l)" -ge "$processors" ]; do wait -n || true; done

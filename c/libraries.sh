@@ -1,6 +1,6 @@
 #!/usr/bin/env bash
-# c/libraries.sh [NAME ..] : compiles the libraries that c/build.sh links a driver with (host, explore, serve, fuzz, libfuzzer, image; without a name all), unless they are there, and prints
-# their folder. CC is the compiler and CFLAGS are more words for it: objects are kept apart by them.
+# c/libraries.sh [NAME ..] : compiles the libraries that c/build.sh links a driver with, unless they are there, and prints their folder. They are host, explore, serve, fuzz, libfuzzer,
+# orders and image; without a name all. CC is the compiler and CFLAGS are more words for it: objects are kept apart by them.
 #
 # They are kept in out/c of this tree. A tree without any takes what another one of the same sources made, from ~/.cache/kazdrin/host (XDG_CACHE_HOME). A tree that can't be written is
 # used as it is, if nothing in it is older than its sources; else they are compiled in that cache.
@@ -34,16 +34,22 @@ if ! mkdir -p "$out" 2> /dev/null || [ ! -w "$out" ]; then
     ln -sfn "$here" "$out/src"
     make=("${make[@]::${#make[@]}-1}" "$out" -f src/Makefile SRC=src OUT=.)
 fi
-exec 9> "$out/.lock"
-flock -n 9 || {
-    echo 'c/libraries.sh: waiting for another build of the host' >&2
-    flock 9
-}
 folder=$out/$("${make[@]}" key "${words[@]}")
+# Where all is made, and there for the next tree, as many as ask are told so at once.
+exec 9> "$out/.lock"
+flock -s -w 1 9 || {
+    echo 'c/libraries.sh: waiting for another build of the host' >&2
+    flock -s 9
+}
+if [ -e "$folder/.kept" ] && "${make[@]}" -q libraries "${words[@]}" 2> /dev/null; then
+    echo "$folder"
+    exit
+fi
+flock 9
 
 # The checksum of all that they are made of, but for the compiler and its words, which the folder's name has.
 sum() {
-    (cd "$here" && find adapt explore fuzz host image include serve wire Makefile ../docs/TOLD.md -type f -print0 | LC_ALL=C sort -z | xargs -0 sha256sum | sha256sum | cut -c1-20)
+    (cd "$here" && find adapt explore fuzz host image include orders serve wire Makefile ../docs/TOLD.md -type f -print0 | LC_ALL=C sort -z | xargs -0 sha256sum | sha256sum | cut -c1-20)
 }
 kept=''
 if [ ! -d "$folder" ]; then
@@ -54,9 +60,10 @@ if [ ! -d "$folder" ]; then
         mv "$folder.new" "$folder"
         kept=''
     else
-        echo "compiling the host: $(find "$here/host" -name '*.c' | wc -l) files, once" >&2
+        [ "$*" = orders ] || echo "compiling the host: $(find "$here/host" -name '*.c' | wc -l) files, once" >&2
     fi
 fi
+rm -f "$folder/.kept"
 "${make[@]}" libraries "${words[@]}" >&2
 # What was made from nothing, and all of it in place of a part, is for the next tree; the four newest stay.
 [ $# -gt 0 ] || [ -n "$kept" ] || kept=$cache/host/$(sum)-${folder##*/}
@@ -67,4 +74,5 @@ if [ -n "$kept" ] && [ ! -f "$kept/libkazdrin_libfuzzer.a" ] && mkdir -p "$cache
     mv -T "$kept.new" "$kept"
     find "$cache/host" -mindepth 1 -maxdepth 1 -printf '%T@ %p\n' | sort -rn | tail -n +5 | cut -d' ' -f2- | xargs -r -d '\n' rm -rf --
 fi
+[ -z "$kept" ] || [ ! -f "$kept/libkazdrin_libfuzzer.a" ] || touch "$folder/.kept"
 echo "$folder"

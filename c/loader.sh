@@ -1,15 +1,18 @@
 #!/usr/bin/env bash
-# c/loader.sh [explore | serve] : builds the program of host and loader by which binaries of drivers are run, searched or served, unless it is there, and prints its path. It needs neither a
-# compiler nor the kit where it runs. KAZDRIN_LIB is the manager's archive, as for c/build.sh.
+# c/loader.sh [explore | serve | orders] : builds the program of host and loader by which binaries of drivers are run, searched or served, unless it is there, and prints its path; or that of
+# c/orders. It needs neither a compiler nor the kit where it runs. KAZDRIN_LIB is the manager's archive, as for c/build.sh.
 set -eu
 case ${1:-} in -h | --help) sed -n '2,/^[^#]/s/^#\( \|$\)//p' "$0"; exit ;; esac
 here=$(CDPATH='' cd -- "$(dirname -- "$(readlink -f -- "$0")")" && pwd)
 kind=${1:-}
 library=${KAZDRIN_LIB:-$here/../crates/kazdrin_c/out/libkazdrin_c.a}
 [ -f "$library" ] || library=$("$here/archive.sh" --unproved)
-host=$("$here/libraries.sh")
+file=kazdrin-image${kind:+-$kind}
+parts=()
+[ "$kind" != orders ] || file=kazdrin-orders parts=(orders)
+host=$("$here/libraries.sh" "${parts[@]}")
 folder=$host
-program=$folder/kazdrin-image${kind:+-$kind}
+program=$folder/$file
 
 # An archive without proofs is written anew, faster, under the same name, and another user has a copy of it: it is known by its content.
 is_made() {
@@ -31,12 +34,22 @@ if [ ! -w "$folder" ]; then
         echo "c/loader.sh: nothing can be written to $host, nor to $folder" >&2
         exit 3
     }
-    program=$folder/kazdrin-image${kind:+-$kind}
+    program=$folder/$file
 fi
-exec 9> "$folder/.lock-image$kind"
+make_program() {
+    if [ "$kind" != orders ]; then
+        KAZDRIN_LIB=$library "$here/build.sh" ${kind:+"--$kind"} --image "$1" >&2
+        return
+    fi
+    local words support=${library%/*}
+    read -r -d '' -a words <<< "${CFLAGS:-}" || true
+    [ -f "$support/liblibc_c.a" ] || support=$("$here/archive.sh" --support)
+    ${CC:-cc} "${words[@]}" -o "$1" "$host/libkazdrin_orders.a" "$library" "$support/libos_c.a" "$support/liblibc_c.a"
+}
+exec 9> "$folder/.lock-$file"
 flock 9
 if ! is_made; then
-    KAZDRIN_LIB=$library "$here/build.sh" ${kind:+"--$kind"} --image "$program.new" 9>&- >&2
+    make_program "$program.new" 9>&-
     mv "$program.new" "$program"
     cksum < "$library" > "$program.archive"
 fi

@@ -69,6 +69,7 @@ function(kazdrin_add_driver name)
     endif()
     add_custom_command(
         OUTPUT "${program}"
+        COMMAND "${CMAKE_COMMAND}" -E remove -f "${program}" # so that no test is passed by an old one behind a build that failed
         COMMAND "${CMAKE_COMMAND}" -E env "CC=${CMAKE_C_COMPILER}" "${KAZDRIN_SHARE}/c/build.sh" ${words} "${program}" --driver ${sources} ${users}
         DEPENDS ${sources} ${programs}
         ${needs}

@@ -36,6 +36,7 @@ void ex_put_in(void)
 
 bool ex_is_so(Asks asks, uint8_t sign, const char *text)
 {
+    ex_use_all();
     if (!ex_decide(2, asks, NULL, false))
         return false;
     ex->schedule.steps[ex->schedule.length++] = sign;

@@ -186,7 +186,7 @@ void ex_pass_clocks(Store *store)
 }
 
 /* How memory is met. */
-enum { IS_WRITE = 1, IS_ATOMIC = 2, IS_UPDATE = 4 };
+enum { IS_WRITE = 1, IS_ATOMIC = 2, IS_UPDATE = 4, IS_FREEING = 8 };
 static const char *word_of(bool is_atomic, bool is_write, bool is_update)
 {
     static const char *const words[2][2] = {{"a read", "a write"}, {"an interlocked read", "an interlocked write"}};
@@ -210,15 +210,17 @@ static void tell_why(int client)
     ex_trace_found(text);
 }
 
-static void tell(const Access *before, bool was_write, int client, const void *from, const char *now)
+static void tell(const Access *before, bool was_write, int client, const void *from, unsigned how)
 {
     char text[TEXT], place[32] = "the end of its operation";
     Runner *other = &ex_runners[client];
+    bool is_freeing = how & IS_FREEING;
+    const char *now = is_freeing ? "memory is freed" : word_of(how & IS_ATOMIC, how & IS_WRITE, how & IS_UPDATE);
     if (from)
         snprintf(place, sizeof place, "@%lx", (unsigned long)(uintptr_t)from);
     snprintf(text, sizeof text, "RACE: %s at %s (" KZ_MARK "%s" KZ_MARK "), and %s at @%lx (" KZ_MARK "%s" KZ_MARK "), and nothing orders them", now, place, kz_me->name,
              word_of(before->is_atomic, was_write, before->is_update), (unsigned long)before->from, other->name);
-    if (ex_found_race(text, (uintptr_t)from, before->from) && ex->search.is_traced)
+    if (ex_found_race(is_freeing ? BESIDE_FREEING : BETWEEN_ACCESSES, text, (uintptr_t)from, before->from) && ex->search.is_traced)
         tell_why(client);
 }
 
@@ -233,7 +235,7 @@ static bool is_race(const Access *before, uint8_t bytes, uint32_t known, bool wa
     return !(before->is_atomic && was_write && !is_write) && !(is_atomic && is_write && !was_write && !before->is_atomic);
 }
 
-static void look(Cell *cell, uint8_t bytes, unsigned how, const void *from, const char *now)
+static void look(Cell *cell, uint8_t bytes, unsigned how, const void *from)
 {
     unsigned me = kz_me->number;
     for (int client = 1; client <= ex->run.runners_count; client++) {
@@ -241,9 +243,9 @@ static void look(Cell *cell, uint8_t bytes, unsigned how, const void *from, cons
             continue;
         uint32_t known = shadow->clock[me][client];
         if (is_race(&cell->by[client].write, bytes, known, true, how))
-            tell(&cell->by[client].write, true, client, from, now);
+            tell(&cell->by[client].write, true, client, from, how);
         else if (is_race(&cell->by[client].read, bytes, known, false, how))
-            tell(&cell->by[client].read, false, client, from, now);
+            tell(&cell->by[client].read, false, client, from, how);
     }
 }
 
@@ -257,11 +259,12 @@ static void look_at_freed(uintptr_t address, const void *from, const char *what)
             continue;
         char text[TEXT];
         char place[32] = "the end of its operation";
+        ex_use_all();
         if (shadow->freed[at].from)
             snprintf(place, sizeof place, "@%x", shadow->freed[at].from);
         snprintf(text, sizeof text, "USE AFTER FREE: %s at @%lx (" KZ_MARK "%s" KZ_MARK ") of memory that %s gave back at %s", what, (unsigned long)(uintptr_t)from, kz_me->name,
                  ex_runners[shadow->freed[at].client].name, place);
-        ex_found_race(text, (uintptr_t)from, shadow->freed[at].from);
+        ex_found_race(AFTER_FREEING, text, (uintptr_t)from, shadow->freed[at].from);
         return;
     }
 }
@@ -316,6 +319,14 @@ static bool is_contended(uintptr_t tag, bool is_write)
     return false;
 }
 
+/* Who comes first there decides whether the other's plain access is a point. */
+static void use_meetings(uintptr_t start, uintptr_t end, bool is_atomic)
+{
+    for (uintptr_t tag = start >> 3; tag <= (end - 1) >> 3; tag++)
+        if (*place_of(tag) != tag)
+            ex_use_meetings(tag, is_atomic);
+}
+
 static bool is_point(uintptr_t start, uintptr_t end, bool is_atomic)
 {
     return is_atomic || (!ex->search.is_coarse && (is_shared(start >> 3) || ((end - 1) >> 3 != start >> 3 && is_shared((end - 1) >> 3))));
@@ -328,6 +339,10 @@ static void note(const void *address, size_t size, unsigned how, const void *fro
     bool is_write = how & IS_WRITE, is_atomic = how & IS_ATOMIC, is_update = how & IS_UPDATE;
     if (ex->search.is_traced)
         ex_trace_access(address, size, is_write, is_atomic, from);
+    if (ex->search.is_thinned)
+        ex_use_memory(address, size, is_write);
+    if (ex->run.pair && size && (ex_is_heap(address) || ex_is_program(address)))
+        ex_note_seen(ex_bytes_hash(address, size, (uintptr_t)from));
     look_at_freed(start, from, word_of(false, is_write, false));
     kz_look_at_owned(address, size, from, is_write);
     ex_hooked = from;
@@ -340,7 +355,7 @@ static void note(const void *address, size_t size, unsigned how, const void *fro
         Cell *cell = cell_of(tag, true);
         if (!cell)
             continue;
-        look(cell, bytes, how, from, word_of(is_atomic, is_write, is_update));
+        look(cell, bytes, how, from);
         unsigned me = kz_me->number;
         Access *mine = is_write ? &cell->by[me].write : &cell->by[me].read;
         bool is_same = mine->when == shadow->clock[me][me] && mine->is_atomic == is_atomic && mine->is_update == is_update;
@@ -357,8 +372,12 @@ void ex_access(const void *address, size_t size, bool is_write, bool is_atomic, 
         learn(address);
     if (!is_watched() || ex_is_stack(address))
         return;
+    if (ex->search.is_thinned && !is_atomic && !ex->search.is_coarse)
+        use_meetings(start, end, false);
     if (is_point(start, end, is_atomic))
         ex_memory_point(address, size, from);
+    if (ex->search.is_thinned && is_atomic)
+        use_meetings(start, end, true);
     if (!is_write)
         ex_may_change(address, size);
     note(address, size, (is_write ? IS_WRITE : 0) | (is_atomic ? IS_ATOMIC : 0), from);
@@ -464,7 +483,7 @@ static void take_back(const void *memory, size_t size)
     for (uintptr_t tag = start >> 3; tag << 3 < end; tag++) {
         Cell *cell = cell_of(tag, false);
         if (cell)
-            look(cell, 0xff, IS_WRITE, from, "memory is freed");
+            look(cell, 0xff, IS_WRITE | IS_FREEING, from);
         if (cell && kz_binaries.size && shadow->is_learning && is_contended(tag, true))
             learn((const void *)(tag << 3));
     }
@@ -483,6 +502,7 @@ void ex_touch(const void *object, size_t size, KzTouch how)
     if (!is_watched())
         return;
     if (how == KZT_HAS_TAKEN_BACK) {
+        ex_use_gone(object, size);
         take_back(object, size);
         ex_forget_reads(object, size);
         return;
@@ -493,6 +513,7 @@ void ex_touch(const void *object, size_t size, KzTouch how)
     }
     if (kz_me->place.call && kz_me->place.from) /* the kit itself uses what lies there */
         look_at_freed((uintptr_t)object, kz_me->place.from, kz_me->place.call);
+    ex_uses(object, how == KZT_TAKES ? KZU_READS : KZU_ADDS);
     Object *one = object_of(object);
     if (ex->search.is_traced && kz_me->place.call)
         ex_trace_object(object, how == KZT_TAKES, kz_me->place.call);

@@ -133,8 +133,27 @@ static void note_step(int client)
         ex_runners[at].owes &= ~(1U << client);
         ex_runners[at].has_moved |= ex_runners[at].yields;
         ex->run.patience[at].in_a_row = ex->run.patience[at].alone = 0;
-        forget_looks(at);
+        if (!ex->search.is_thinned)
+            forget_looks(at);
     }
+}
+
+/* Where orders are left out a step has others look anew only where it changed what they look at: else it would matter when it comes. */
+void ex_note_used(const Use *uses, unsigned count, bool is_all)
+{
+    for (int at = 1; at <= ex->run.runners_count; at++)
+        for (unsigned look = 0; at != ex->run.current && ex->run.patience[at].has_looked && look < LOOKS; look++) {
+            const Use seen = {ex->run.patience[at].looks[look].at >> 3, KZU_READS};
+            if (is_all || ex_do_depend(&seen, 1, uses, count))
+                ex->run.patience[at].looks[look].count = 0;
+        }
+}
+
+/* What goes on where others can't, or waited for what isn't said. */
+static bool may_use_all(const Runner *one)
+{
+    bool is_late = one->timed_out || one->yields || one->owes || is_finally(one);
+    return one->is_worker || is_late || ex->run.buffers[one->client->number].count || (one->state == WAITING && !one->client->is_known);
 }
 
 static int begin_step(int client, bool is_preemption)
@@ -142,6 +161,8 @@ static int begin_step(int client, bool is_preemption)
     ex->run.preemptions += is_preemption;
     ex->run.switches += client != ex->run.current && ex->run.current;
     note_step(client);
+    if (may_use_all(&ex_runners[client]))
+        ex_footprint()->is_all = true;
     if (ex->search.stops_at && ex->run.steps == ex->search.stops_at)
         raise(SIGTRAP); /* a debugger stops here: the client goes on next */
     if (ex->search.is_traced)
@@ -152,13 +173,20 @@ static int begin_step(int client, bool is_preemption)
 /* The number of the client that goes on; 0 if none can. */
 static int choose(Runner *me)
 {
+    ex_end_step();
+    if (ex->path.goes_to && ex->path.depth >= ex->path.goes_to)
+        ex_give_up();
     Options options = options_of(me);
     if (!options.count)
         return 0;
-    ex->run.able = 0;
+    ex->run.able = ex->run.stayed_at = ex->run.chose_at = 0;
     for (unsigned at = 0; at < options.count; at++)
         ex->run.able |= 1U << options.clients[at];
     bool is_bound = options.may_stay && ex->run.preemptions >= ex->search.bound && !ex->search.replay;
+    if (ex->run.pair)
+        return begin_step(options.clients[ex_choose_for_pair(options.clients, options.count)], false);
+    if (options.count == 1 && ex->search.is_thinned && ex_is_asleep(options.clients[0]))
+        ex_give_up();
     unsigned taken = options.count > 1 && !is_bound ? ex_decide(options.count, SWITCH, options.clients, options.may_stay) : 0;
     if ((ex->search.replay || ex->run.is_guided) && options.count == 1)
         taken = ex_decide(1, SWITCH, options.clients, options.may_stay);
@@ -215,6 +243,8 @@ static bool wait(KzCan *can, void *what, const char *text)
 {
     Runner *me = mine();
     ex_see_writes();
+    if (!kz_me->is_known)
+        ex_use_all();
     me->can = can;
     me->what = what;
     me->timed_out = false;
@@ -287,6 +317,13 @@ uint64_t ex_stands_hash(void)
     return hash | 1;
 }
 
+void ex_note_seen(uint64_t what)
+{
+    uint64_t *seen = &ex->run.seen[kz_me->number];
+    if (ex->run.pair)
+        *seen = ex_mixed(*seen * 3 + what + 1);
+}
+
 /* ---- The scheduler's calls. */
 static void stand(Runner *me, const char *name, const void *from)
 {
@@ -294,6 +331,7 @@ static void stand(Runner *me, const char *name, const void *from)
     ex->run.patience[me->client->number].points++;
     me->at = name;
     me->from = from;
+    ex_note_seen((uintptr_t)name ^ (uintptr_t)from << 1);
     if (++ex->run.patience[me->client->number].in_a_row % IN_A_ROW == 0)
         owe_all(me);
     if (me->owes && (!has_let_others(me) || !can_others(me))) {
@@ -319,9 +357,9 @@ static void point(const char *name, const void *from)
 }
 
 /* It tried for a lock in vain, or looked whether something is there: where it does so again and again the next points let others go. */
-static void looked(const void *from)
+static void looked(const void *object, const void *from)
 {
-    if (!is_set_up() && ex->run.is_running && !ex->run.is_alone && is_in_vain(from, 0, 0))
+    if (!is_set_up() && ex->run.is_running && !ex->run.is_alone && is_in_vain(from, (uintptr_t)object, 0))
         owe_all(mine());
 }
 
@@ -353,6 +391,8 @@ static unsigned choose_answer(unsigned count, KzChoice what, const char *name)
         return 0;
     bool is_time = what == KZ_CHOICE_TIME, is_inside = what == KZ_CHOICE_INSIDE;
     bool is_asked = is_inside ? ex->search.has_inside || ex->search.replay || ex->run.is_guided : is_time ? !ex->run.timeouts : ex->run.fails_used < ex->search.fails || ex->search.replay || ex->run.is_guided;
+    if (is_asked)
+        ex_use_all();
     unsigned taken = is_asked ? ex_decide(count, is_inside ? ANSWER_INSIDE : ANSWER_FAIL, NULL, false) : 0;
     if (!taken)
         return 0;
@@ -501,7 +541,7 @@ static bool let(KzThread *thread)
     return true;
 }
 
-const KzScheduler ex_scheduler = {point, wait, ex_touch, looked, choose_answer, begin, let, ex_see_writes, nothing, ex_say, true, false};
+const KzScheduler ex_scheduler = {point, wait, ex_touch, ex_uses, looked, choose_answer, begin, let, ex_see_writes, nothing, ex_say, true, false, true};
 
 /* What a client left on its stack below where it stands: two states aren't to differ by that. */
 static void tidy(Runner *one)

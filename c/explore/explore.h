@@ -10,6 +10,7 @@
 
 enum {
     RUNNERS = KZ_FIRST_THREAD + KZ_THREADS - 1, /* clients, the one of work items, and threads beside them */
+    DEVIATIONS = 2,     /* from the usual order: so many say whose part of a search a run is */
     STEPS = 20000,      /* of a run: one that has more is endless */
     PATH = 20000,       /* choices of a run */
     KINDS = 1024,       /* kinds of ends and of what is told */
@@ -80,9 +81,26 @@ typedef struct {
     unsigned alone;    /* how often it went on in vain, since nobody else could */
 } Patience;
 
+/* What a step uses (footprint.c): a place of memory by the number of its eight bytes, or what the host has there. */
+enum { USES = 64 };
+typedef struct {
+    uintptr_t tag;
+    KzUse how;
+} Use;
+
+typedef struct {
+    bool is_all; /* it may be everything */
+    unsigned count;
+    Use uses[USES];
+} Footprint;
+
 typedef struct {
     uint8_t count, taken;
     bool is_switch;
+    bool may_stay, is_met; /* of the first option (order.c): no other leads to what needs fewer preemptions; something later uses what its step used */
+    bool is_cut;           /* parts of the search begin there: what a part doesn't search decides nothing */
+    uint8_t first, clients[RUNNERS];
+    uint32_t asleep, tried; /* who slept as it came up, a bit for each; of whom it is known what the step used */
     uint64_t key; /* of the state, where states are told apart */
     uint32_t able; /* who could go on, a bit for each */
     uint32_t place; /* in the schedule */
@@ -92,8 +110,13 @@ typedef struct {
 /* ---- What was found: of each kind the schedule with the fewest preemptions, then switches, then steps. */
 typedef enum { TOLD, RACE, STUCK, CRASH, END, LIMITED } KindOf;
 
+/* Of a race: two accesses, memory that is freed beside one, one behind that. */
+typedef enum { NO_RACE, BETWEEN_ACCESSES, BESIDE_FREEING, AFTER_FREEING } RaceSort;
+
 typedef struct {
     KindOf of;
+    RaceSort sort;
+    uint64_t sides[2]; /* as Found has them */
     char *key, *text, *schedule;
     uint64_t count, earlier; /* in this bound; in the one before it */
     unsigned preemptions, switches, steps;
@@ -111,6 +134,7 @@ typedef struct {
 /* What a run has found so far, until its end. */
 typedef struct {
     KindOf of;
+    RaceSort sort;
     char text[TEXT];
     uintptr_t sides[2]; /* of a race: the driver's code on its two sides, as addresses; 0 where there is none */
     unsigned preemptions, switches, steps;
@@ -144,6 +168,9 @@ typedef struct {
     bool is_coarse; /* no points at memory */
     bool has_inside; /* the rest of an operation may run inside its completion */
     bool is_reduced; /* a run that comes to a known state is given up */
+    bool is_whole; /* each order is asked for */
+    bool is_spread;  /* it is one of parts, of which each is searched as if it were alone */
+    bool is_thinned; /* of orders that differ by steps which come to the same in either order one is searched */
     bool has_no_bound;
     size_t memory; /* that the explorer's own tables may take */
     uint64_t seed, runs;
@@ -155,7 +182,7 @@ typedef struct {
 /* The path, and where the run is on it (path.c). */
 typedef struct {
     Node nodes[PATH];
-    size_t length, depth;
+    size_t length, depth, goes_to; /* goes_to: a run is given up behind so many choices, since it is for what its last step uses; or 0 */
     unsigned deviations;
     uint64_t hash;
     uint64_t random;
@@ -174,6 +201,8 @@ typedef struct {
     char unmet[TEXT]; /* the first expectation that isn't met */
     bool is_guided; /* it follows a list of steps as far as it can */
     struct Guide *guide;
+    struct Pair *pair; /* of steps that are tried in both orders */
+    uint64_t seen[RUNNERS + 1]; /* then: what each client came to, and read */
     uint64_t left_out[RUNNERS + 1]; /* requests of each client that aren't made: a bit for each */
     sigjmp_buf out; /* to where a run ends, from wherever it is */
     void *back;
@@ -186,6 +215,8 @@ typedef struct {
     bool has_late_reads; /* in any run: a volatile read of another cell behind a volatile write, with nothing between them that empties a buffer */
     Patience patience[RUNNERS + 1]; /* of each client */
     uint32_t able;
+    uint32_t asleep, slept_at[RUNNERS + 1]; /* who doesn't go on now, a bit for each; the choice since which */
+    uint32_t chose_at, stayed_at; /* where the client that runs was chosen, and one; the same if that was the first option */
 } Run;
 
 /* What the schedules came to (main.c). */
@@ -258,7 +289,7 @@ typedef struct {
 
 /* What the words ask for, beside what the search itself looks at. */
 typedef struct {
-    unsigned jobs;
+    unsigned jobs, commutes;
     bool shrinks, is_debugged;
     const char *replay, *scenario, *learns, *expects, *saves, *resume, *page;
     char **merges;
@@ -291,6 +322,7 @@ void ex_clear_arenas(void);
 bool ex_opens_page(const void *address);
 bool ex_is_heap(const void *address);
 bool ex_is_program(const void *address);
+unsigned ex_arena_of(const void *address); /* of the heap: the number of the client that allocated it, 0 for the set-up */
 
 uint64_t ex_memory_hash(void);
 
@@ -323,6 +355,35 @@ extern const void *volatile ex_hooked;
 /* Cells that interlocked or volatile accesses meet in the set-up, and in runs before the search: plain accesses to them are points too. */
 void ex_learn_cells(bool is);
 
+/* footprint.c */
+void ex_open_footprints(void);
+Footprint *ex_begin_footprint(void);
+Footprint *ex_footprint(void);
+void ex_use_all(void);
+void ex_uses(const void *object, KzUse how);
+void ex_use_words(const void *address, size_t size, bool is_write);
+/* The driver's code does so. */
+void ex_use_memory(const void *address, size_t size, bool is_write);
+void ex_use_gone(const void *memory, size_t size);
+void ex_use_meetings(uintptr_t tag, bool is_atomic);
+bool ex_do_depend(const Use *a, unsigned count, const Use *b, unsigned others);
+
+/* order.c */
+void ex_open_order(void);
+void ex_order_back_to(uint32_t step);
+void ex_go_on_in_order(void);
+bool ex_do_steps_depend(uint32_t a, uint32_t b);
+bool ex_is_asleep(int client);
+void ex_end_step(void);
+void ex_break_step(void);
+bool ex_begin_choice(Node *node, const int *clients, bool may_stay);
+void ex_note_choice(Node *node, const int *clients);
+unsigned ex_next_option(const Node *node);
+
+/* commute.c: 1 if steps that are taken to come to the same in either order don't. */
+int ex_try_pairs(unsigned runs);
+unsigned ex_choose_for_pair(const int *clients, unsigned count);
+
 /* coroutine.c */
 extern const KzScheduler ex_scheduler;
 void ex_open_stacks(void);
@@ -339,6 +400,9 @@ void ex_memory_point(const void *address, size_t size, const void *from);
 /* It has changed shared memory: it doesn't look in vain. */
 void ex_note_change(void);
 uint64_t ex_patience_hash(void);
+void ex_note_used(const Use *uses, unsigned count, bool is_all);
+/* The client that runs comes to it, where steps are tried in both orders. */
+void ex_note_seen(uint64_t what);
 
 /* buffer.c: a write of the driver's code comes next; may_begin: it is volatile, and may be the first that is late. A volatile read comes next. */
 void ex_delay_write(void *address, size_t size, bool may_begin, const void *from);
@@ -365,6 +429,7 @@ const char *ex_sign_name(uint8_t sign); /* NULL where it is a client */
 uint8_t ex_sign_named(const char *name, size_t length); /* 0 where it is none */
 unsigned ex_decide(unsigned count, Asks asks, const int *clients, bool may_stay);
 unsigned ex_draw(unsigned count);
+void ex_give_up(void) __attribute__((noreturn));
 bool ex_advance(void);
 void ex_draw_priorities(void);
 bool ex_is_own(void);
@@ -376,8 +441,9 @@ void ex_stop_at(const char *unknown, const char *why);
 /* The first line of it, or all of its lines; of a race, between these two places of the driver's code. */
 void ex_found(KindOf of, const char *text);
 void ex_found_lines(KindOf of, const char *text);
-bool ex_found_race(const char *text, uintptr_t now, uintptr_t before);
+bool ex_found_race(RaceSort sort, const char *text, uintptr_t now, uintptr_t before);
 void ex_say(const KzSaid *said);
+bool ex_is_line_open(void);
 void ex_keep_found(void);
 void ex_report_kind(const Kind *kind, unsigned count);
 int ex_compare_kinds(const Kind *a, const Kind *b);
@@ -386,6 +452,7 @@ void ex_report(void);
 
 char *ex_kept(const char *text);
 void ex_add_kind(const Kind *more);
+uint64_t ex_found_hash(void); /* of what the run has found */
 
 /* once.c: of each kind how many it is shown for; 0 if another is shown in its place. */
 unsigned *ex_count_kinds(void);

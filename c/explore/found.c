@@ -29,12 +29,13 @@ void ex_found_lines(KindOf of, const char *text)
     add(of, text);
 }
 
-bool ex_found_race(const char *text, uintptr_t now, uintptr_t before)
+bool ex_found_race(RaceSort sort, const char *text, uintptr_t now, uintptr_t before)
 {
     char line[TEXT + 8];
     Found *one = add(RACE, text);
     if (!one)
         return false;
+    one->sort = sort;
     one->sides[0] = now;
     one->sides[1] = before;
     snprintf(line, sizeof line, "  %s\n", text);
@@ -43,14 +44,19 @@ bool ex_found_race(const char *text, uintptr_t now, uintptr_t before)
     return true;
 }
 
+/* Who says something next says it in the same line. */
+bool ex_is_line_open(void)
+{
+    return ex->output.length && ex->output.text[ex->output.length - 1] != '\n';
+}
+
 /* What is said, each line with its client's name. */
 static void append(const char *text)
 {
     size_t length = strlen(text);
     if (ex->output.length + length + 40 > sizeof ex->output.text)
         return;
-    bool is_first = !ex->output.length || ex->output.text[ex->output.length - 1] == '\n';
-    if (is_first)
+    if (!ex_is_line_open())
         ex->output.length += (size_t)snprintf(ex->output.text + ex->output.length, 34, "%s: ", kz_me->name);
     memcpy(ex->output.text + ex->output.length, text, length + 1);
     ex->output.length += length;
@@ -128,6 +134,17 @@ static void key_of(const char *text, char *key, size_t size)
     key[used] = 0;
 }
 
+uint64_t ex_found_hash(void)
+{
+    char key[TEXT];
+    uint64_t hash = 0;
+    for (size_t at = 0; at < ex->found.count; at++) {
+        key_of(ex->found.all[at].text, key, sizeof key);
+        hash += ex_bytes_hash(key, strlen(key), ex->found.all[at].of);
+    }
+    return hash;
+}
+
 /* Below 0 if the first was found by less. */
 int ex_compare_kinds(const Kind *a, const Kind *b)
 {
@@ -168,6 +185,8 @@ static void keep(const Found *one)
     if (kind->text && !is_better(one, kind))
         return;
     kind->text = ex_kept(one->text);
+    kind->sort = one->sort;
+    memcpy(kind->sides, one->sides, sizeof kind->sides);
     kind->schedule = ex_kept(ex_schedule_text(one->schedule_length));
     kind->preemptions = one->preemptions;
     kind->switches = one->switches;
@@ -195,7 +214,7 @@ void ex_add_kind(const Kind *more)
 void ex_keep_found(void)
 {
     bool is_seen[LIMITED + 1] = {false};
-    if (!ex_is_own())
+    if (!ex_is_own() || ex->path.goes_to)
         return;
     ex->total.schedules++;
     ex->total.given_up += ex->run.is_given_up;
@@ -236,7 +255,7 @@ void ex_report_kind(const Kind *kind, unsigned count)
     printf("\n%llu schedules:\n", (unsigned long long)(kind->count ? kind->count : kind->earlier));
     put_indented(kind->text);
     if (count > 1)
-        printf("    and %u more between the same two lines\n", count - 1);
+        printf("    and %u more %s\n", count - 1, kind->sort ? "between the same two lines" : "at the same line");
     printf("  the shortest: %u preemptions, %u switches, %u steps\n", kind->preemptions, kind->switches, kind->steps);
     printf("  --replay '%s'%s\n", kind->schedule, ex->search.is_coarse ? " --coarse" : "");
     if (kind->seed && ex->search.pct)

@@ -25,6 +25,8 @@ static void begin_run(void)
     ex->path.hash = 0;
     ex->run.unmet[0] = 0;
     ex->run.is_given_up = ex->run.is_alone = false;
+    ex->run.asleep = ex->run.stayed_at = ex->run.chose_at = 0;
+    memset(ex->run.seen, 0, sizeof ex->run.seen);
     ex->run.runners_count = ex->run.usual_count;
     memset(ex->run.patience, 0, sizeof ex->run.patience[0] * ((size_t)ex->run.most_runners + 1));
     ex_hooked = NULL;
@@ -41,6 +43,8 @@ static int start_run(void)
     int stood = ex_go_back();
     if (!stood)
         begin_run();
+    if (ex->search.is_thinned)
+        ex_order_back_to(ex->run.steps);
     return stood;
 }
 
@@ -96,6 +100,8 @@ void ex_run_once(void)
     if (sigsetjmp(ex->run.out, 0) == 0) {
         ex_run(stood);
         finish_run();
+    } else {
+        ex_break_step();
     }
     ex->run.is_running = false;
     kz_me = &kz_first;
@@ -191,6 +197,7 @@ static void begin_bound(void)
         memcpy(ex->total.counts, ex->total.resumed.counts, sizeof ex->total.counts);
         ex->total.since -= ex->total.resumed.seconds;
         ex->total.is_resumed = false;
+        ex_go_on_in_order();
         return;
     }
     ex->path.length = 0;
@@ -242,9 +249,9 @@ void ex_search(void)
 /* Before the search, and before a schedule that is played again: runs without a preemption say how long one is, and which memory is shared by more than locks. Nothing of them is told. */
 static void warm_up(void)
 {
-    bool is_reduced = ex->search.is_reduced, has_no_bound = ex->search.has_no_bound, is_coarse = ex->search.is_coarse, is_traced = ex->search.is_traced, wants_ends = ex->search.wants_ends;
+    bool is_reduced = ex->search.is_reduced, has_no_bound = ex->search.has_no_bound, is_coarse = ex->search.is_coarse, is_traced = ex->search.is_traced, wants_ends = ex->search.wants_ends, is_thinned = ex->search.is_thinned;
     unsigned fails = ex->search.fails, shards = ex->search.shards, runs = 0;
-    ex->search.is_reduced = ex->search.has_no_bound = ex->search.is_traced = ex->search.wants_ends = false;
+    ex->search.is_reduced = ex->search.has_no_bound = ex->search.is_traced = ex->search.wants_ends = ex->search.is_thinned = false;
     ex->search.is_coarse = true;
     ex->search.bound = ex->search.fails = ex->search.shards = ex->search.late = 0;
     ex_learn_cells(true);
@@ -256,7 +263,7 @@ static void warm_up(void)
     ex_learn_cells(false);
     ex_clear_stacks();
     ex_clear_arenas();
-    ex->search.is_reduced = is_reduced, ex->search.has_no_bound = has_no_bound, ex->search.is_coarse = is_coarse, ex->search.is_traced = is_traced, ex->search.wants_ends = wants_ends;
+    ex->search.is_reduced = is_reduced, ex->search.has_no_bound = has_no_bound, ex->search.is_coarse = is_coarse, ex->search.is_traced = is_traced, ex->search.wants_ends = wants_ends, ex->search.is_thinned = is_thinned;
     ex->search.fails = fails, ex->search.shards = shards;
     ex->search.late = ex->search.asked_late != LATE_UNSAID ? ex->search.asked_late : ex->run.has_late_reads;
     ex->kinds.count = 0;
@@ -318,6 +325,7 @@ static int status_of_search(void)
 static int play(const Asked *asked)
 {
     ex->search.replay = asked->replay;
+    ex->search.is_thinned = false;
     ex->search.bound = UINT32_MAX;
     ex->search.fails = 0;
     ex_run_once();
@@ -427,6 +435,13 @@ static int end(int ended)
     return 3;
 }
 
+/* Of a binary it isn't known what its steps use. */
+static bool is_to_be_thinned(const Asked *asked)
+{
+    bool is_drawn = asked->replay || ex->search.asked_seed;
+    return !ex->search.is_whole && !is_drawn && !ex->search.is_reduced && !kz_binaries.put_back;
+}
+
 int main(int count, char **words)
 {
     Asked asked = {.jobs = 1};
@@ -455,9 +470,12 @@ int main(int count, char **words)
     ex_name_search(asked.search, asked.scenario);
     ex_open_shadow();
     ex_open_places();
+    ex_open_order();
     ex_watch_faults();
     if (asked.replay || ex->search.asked_seed)
         ex->search.is_reduced = ex->search.has_no_bound = false;
+    ex->search.is_thinned = is_to_be_thinned(&asked);
+    ex->search.is_spread = ex->search.shards || asked.jobs > 1;
     if (ex->search.is_reduced)
         ex_open_states();
     kz_is_deaf = !ex->search.wants_ends && !ex->search.is_traced && !asked.page;
@@ -466,5 +484,5 @@ int main(int count, char **words)
     warm_up();
     if (!asked.replay)
         signal(SIGINT, interrupt), signal(SIGTERM, interrupt);
-    return end(asked.replay ? play(&asked) : search_and_end(&asked));
+    return end(asked.replay ? play(&asked) : asked.commutes ? ex_try_pairs(asked.commutes) : search_and_end(&asked));
 }

@@ -1,62 +1,67 @@
-/* Which races are one mistake: those between the same two lines, whatever bytes they touch, and whichever side came first. One of them is shown. */
+/* Which kinds are one mistake: races between the same two lines, whatever bytes they touch, and whichever side came first; and what is the same text, of two places in one line. One of them is shown. */
 #include "explore.h"
+#include "core/source.h"
 
 enum { LINE = 100 };
 
 typedef struct {
-    char sort; /* of races, of memory that is freed beside an access, of accesses after that; 0 where it is none of these */
-    char lines[2][LINE];
-    char *text; /* with the lines of sources */
-} Race;
+    const Kind *kind;
+    char lines[2][LINE]; /* of a race */
+    char *text;          /* with the lines of sources */
+} Shown;
 
-/* What stands behind the next `at`. */
-static const char *read_line(const char *text, char *line)
+static void put_line(char *line, uint64_t address)
 {
-    const char *at = strstr(text, " at ");
-    size_t length = at ? strcspn(at + 4, " ,\n") : 0;
-    snprintf(line, LINE, "%.*s", (int)length, at ? at + 4 : "");
-    return at ? at + 4 + length : text;
+    if (!address || !kz_find_source((unsigned long)address, line, LINE))
+        snprintf(line, LINE, "%llx", (unsigned long long)address);
 }
 
-static Race race_of(const Kind *kind)
+/* Of two accesses neither is the first. */
+static void sort_lines(Shown *one)
 {
-    Race made = {.sort = 0};
-    if (kind->of != RACE)
-        return made;
-    made.text = ex_kind_text(kind);
-    made.sort = strncmp(made.text, "RACE", 4) != 0 ? 'U' : strstr(made.text, "memory is freed") ? 'F' : 'R';
-    read_line(read_line(made.text, made.lines[0]), made.lines[1]);
-    if (made.sort == 'R' && strcmp(made.lines[0], made.lines[1]) > 0) {
-        char first[LINE];
-        memcpy(first, made.lines[0], LINE);
-        memcpy(made.lines[0], made.lines[1], LINE);
-        memcpy(made.lines[1], first, LINE);
-    }
+    char first[LINE];
+    if (one->kind->sort != BETWEEN_ACCESSES || strcmp(one->lines[0], one->lines[1]) <= 0)
+        return;
+    memcpy(first, one->lines[0], LINE);
+    memcpy(one->lines[0], one->lines[1], LINE);
+    memcpy(one->lines[1], first, LINE);
+}
+
+static Shown shown_of(const Kind *kind)
+{
+    Shown made = {.kind = kind, .text = ex_kind_text(kind)};
+    put_line(made.lines[0], kind->sides[0]);
+    put_line(made.lines[1], kind->sides[1]);
+    sort_lines(&made);
     return made;
 }
 
-static bool is_one(const Race *a, const Race *b)
+static bool is_one(const Shown *a, const Shown *b)
 {
-    return a->sort && a->sort == b->sort && strcmp(a->lines[0], b->lines[0]) == 0 && strcmp(a->lines[1], b->lines[1]) == 0;
+    if (a->kind->of != b->kind->of || a->kind->sort != b->kind->sort)
+        return false;
+    if (!a->kind->sort)
+        return strcmp(a->text, b->text) == 0;
+    return strcmp(a->lines[0], b->lines[0]) == 0 && strcmp(a->lines[1], b->lines[1]) == 0;
 }
 
 /* Whether the one there is shown in place of the other: by its text, so that each search of a scenario shows the same. */
-static bool is_before(const Race *races, int one, int other)
+static bool is_before(const Shown *all, int one, int other)
 {
-    int order = strcmp(races[one].text, races[other].text);
+    int order = strcmp(all[one].text, all[other].text);
     if (order == 0)
-        order = ex_compare_kinds(&ex->kinds.all[one], &ex->kinds.all[other]);
+        order = ex_compare_kinds(all[one].kind, all[other].kind);
     return order ? order < 0 : one < other;
 }
 
 /* How many are shown by this one, with itself; 0 if another is shown in its place. */
-static unsigned count_of(const Race *races, int at)
+static unsigned count_of(const Shown *all, int at)
 {
     unsigned count = 1;
     for (int other = 0; other < ex->kinds.count; other++) {
-        if (other == at || !is_one(&races[at], &races[other]))
+        if (other == at || !is_one(&all[at], &all[other]))
             continue;
-        if (is_before(races, other, at))
+        if (is_before(all, other, at))
             return 0;
         count++;
     }
@@ -65,11 +70,11 @@ static unsigned count_of(const Race *races, int at)
 
 unsigned *ex_count_kinds(void)
 {
-    Race *races = ex_map(KINDS * sizeof *races);
+    Shown *all = ex_map(KINDS * sizeof *all);
     unsigned *counts = ex_map(KINDS * sizeof *counts);
     for (int at = 0; at < ex->kinds.count; at++)
-        races[at] = race_of(&ex->kinds.all[at]);
+        all[at] = shown_of(&ex->kinds.all[at]);
     for (int at = 0; at < ex->kinds.count; at++)
-        counts[at] = count_of(races, at);
+        counts[at] = count_of(all, at);
     return counts;
 }

@@ -9,8 +9,9 @@ static bool usage(const char *name, FILE *to)
 {
     fprintf(to,
             "usage: %s [WORD..] SCENARIO, or %s --merge FILE..\n"
-            "  what is searched   --bound N (2), --reduce, --states, --coarse, --inline, --fails N, --fail-each, --changes N, --workers N, --late N, --dispatch none|data|all\n"
+            "  what is searched   --bound N|all (2), --whole, --reduce, --states, --coarse, --inline, --fails N, --fail-each, --changes N, --workers N, --late N, --dispatch none|data|all\n"
             "  drawn schedules    --seed N [--runs N] [--pct N]\n"
+            "  orders of steps    --commute N\n"
             "  spread             --jobs N, --shard K/N, --save FILE, --merge FILE.., --resume FILE, --memory MB\n"
             "  what is shown      --ends, --learn FILE, --expect-ends FILE, --shrink, --page FILE, --allow KZ0000, --strict\n"
             "  one schedule       --replay SCHEDULE [--trace | --page FILE | --gdb]\n",
@@ -71,6 +72,21 @@ static bool read_fail_each(const char *value)
     return true;
 }
 
+static bool read_states(const char *value)
+{
+    (void)value;
+    return ex->search.has_no_bound = ex->search.is_reduced = true;
+}
+
+static bool read_bound(const char *value)
+{
+    uint64_t bound = 0;
+    bool is_all = strcmp(value, "all") == 0, is_right = is_all || is_number(value, 0, BOUNDS - 1, &bound);
+    ex->search.has_no_bound |= is_all;
+    ex->search.asked_bound = (unsigned)bound;
+    return is_right;
+}
+
 static bool read_strict(const char *value)
 {
     (void)value;
@@ -84,13 +100,13 @@ static size_t all_words(Asked *asked, Word *words)
     const Word all[] = {
         {"--ends", ALONE, &search->wants_ends}, {"--trace", ALONE, &search->is_traced}, {"--quiet", ALONE, &search->is_quiet}, {"--reduce", ALONE, &search->is_reduced},
         {"--coarse", ALONE, &search->is_coarse}, {"--inline", ALONE, &search->has_inside}, {"--shrink", ALONE, &asked->shrinks}, {"--gdb", ALONE, &asked->is_debugged},
-        {"--states", ALONE, &search->has_no_bound}, {"--fail-each", ALONE, .read = read_fail_each}, {"--strict", ALONE, .read = read_strict},
-        {"--bound", NUMBER, &search->asked_bound, 0, BOUNDS - 1}, {"--fails", NUMBER, &search->fails, 0, 1000}, {"--changes", NUMBER, &search->changes, 0, 1000}, {"--workers", NUMBER, &search->workers, 1, WORKERS}, {"--late", NUMBER, &search->asked_late, 0, LATE_WRITES},
-        {"--jobs", NUMBER, &asked->jobs, 1, 256}, {"--stop", NUMBER, &search->stops_at, 1, STEPS}, {"--pct", NUMBER, &search->pct, 1, DEPTH},
+        {"--whole", ALONE, &search->is_whole}, {"--fail-each", ALONE, .read = read_fail_each}, {"--states", ALONE, .read = read_states}, {"--strict", ALONE, .read = read_strict},
+        {"--fails", NUMBER, &search->fails, 0, 1000}, {"--changes", NUMBER, &search->changes, 0, 1000}, {"--workers", NUMBER, &search->workers, 1, WORKERS}, {"--late", NUMBER, &search->asked_late, 0, LATE_WRITES},
+        {"--jobs", NUMBER, &asked->jobs, 1, 256}, {"--commute", NUMBER, &asked->commutes, 1, 10000000}, {"--stop", NUMBER, &search->stops_at, 1, STEPS}, {"--pct", NUMBER, &search->pct, 1, DEPTH},
         {"--seed", LARGE, &search->asked_seed}, {"--runs", LARGE, &search->asked_runs, 1},
         {"--replay", PATH_TO, &asked->replay, .takes = "a schedule"}, {"--learn", PATH_TO, &asked->learns}, {"--expect-ends", PATH_TO, &asked->expects},
         {"--save", PATH_TO, &asked->saves}, {"--resume", PATH_TO, &asked->resume}, {"--page", PATH_TO, &asked->page},
-        {"--shard", OWN, .read = read_shard, .takes = "a part, as 0/4 is the first of four"}, {"--memory", OWN, .read = read_memory, .takes = "a number of megabytes"},
+        {"--bound", OWN, .read = read_bound, .takes = "a number from 0 to 63, or all"}, {"--shard", OWN, .read = read_shard, .takes = "a part, as 0/4 is the first of four"}, {"--memory", OWN, .read = read_memory, .takes = "a number of megabytes"},
         {"--dispatch", OWN, .read = kz_dispatch_as, .takes = "none, data or all"}, {"--allow", OWN, .read = kz_allow, .takes = "the number of a message, as KZ0130"}};
     memcpy(words, all, sizeof all);
     return sizeof all / sizeof all[0];
@@ -213,8 +229,7 @@ bool ex_read_words(int count, char **words, Asked *asked)
         if (!read)
             return false;
     }
-    ex->search.is_reduced |= ex->search.has_no_bound;
-    ex->search.wants_ends |= asked->learns || asked->expects;
+    ex->search.wants_ends |= asked->learns || asked->expects || asked->commutes;
     ex->search.is_traced |= asked->replay && asked->page;
     return asked->scenario ? are_right(asked) : usage(words[0], stderr);
 }

@@ -9,40 +9,51 @@ bool ex_is_own(void)
     return ex->search.shards < 2 || ex_mixed(ex->path.hash) % ex->search.shards == ex->search.shard;
 }
 
-/* The first two deviations from the usual order say whose part a run is. Once they are known, another's part isn't run. */
+/* The first deviations from the usual order say whose part a run is. Once they are known, another's part isn't run. */
 static void note_deviation(unsigned taken)
 {
-    if (!taken || ex->path.deviations++ >= 2)
+    if (!taken || ex->path.deviations++ >= DEVIATIONS)
         return;
     ex->path.hash = ex_mixed(ex->path.hash * 1000003 + ex->path.depth * 16 + taken);
-    if (ex->path.deviations == 2 && !ex_is_own()) {
+    if (ex->path.deviations == DEVIATIONS && !ex_is_own()) {
         ex->path.length = ex->path.depth;
         siglongjmp(ex->run.out, 1);
     }
 }
 
-/* The option that the path has for this choice; a choice that it doesn't have yet is appended with its first. `stays` is the client that may go on without a preemption; 0 if none may. */
-static unsigned follow(unsigned count, bool is_switch, int stays)
+/* What follows is searched elsewhere. */
+void ex_give_up(void)
+{
+    ex->run.is_given_up = true;
+    siglongjmp(ex->run.out, 1);
+}
+
+/* The option that the path has for this choice; a choice that it doesn't have yet is appended with its first. Its first client may stay where it goes on without a preemption. */
+static unsigned follow(unsigned count, bool is_switch, const int *clients, bool may_stay)
 {
     if (ex->path.depth == PATH) {
         ex_found(STUCK, "ENDLESS: the run has too many choices");
         siglongjmp(ex->run.out, 1);
     }
+    if (ex->path.goes_to && ex->path.depth == ex->path.length)
+        return 0; /* what comes behind is in the path already */
     Node *node = &ex->path.nodes[ex->path.depth];
     uint64_t stands = ex_stands_hash();
-    if (ex->path.depth == ex->path.length && is_switch && ex->search.is_reduced && ex_is_known(stays)) {
-        ex->run.is_given_up = true;
-        siglongjmp(ex->run.out, 1);
-    }
+    if (ex->path.depth == ex->path.length && is_switch && ex->search.is_reduced && ex_is_known(may_stay ? clients[0] : 0))
+        ex_give_up();
     if (ex->path.depth == ex->path.length) {
         *node = (Node){.count = (uint8_t)count, .is_switch = is_switch, .key = is_switch && ex->search.is_reduced ? node->key : 0, .able = ex->run.able, .place = (uint32_t)ex->schedule.length};
-        ex->path.length++;
         node->stands = stands;
+        if (is_switch && ex->search.is_thinned && !ex_begin_choice(node, clients, may_stay))
+            ex_give_up();
+        ex->path.length++;
     } else if (node->count != count || (node->stands && node->stands != stands)) {
         ex_stop_at("LIMIT: the same schedule came to another choice: the driver goes by what this doesn't put back, as by the processor's clock or by random numbers", "the driver doesn't repeat itself");
     }
+    if (is_switch && ex->search.is_thinned)
+        ex_note_choice(node, clients);
     ex->path.depth++;
-    note_deviation(node->taken);
+    note_deviation(node->taken - node->first);
     return node->taken;
 }
 
@@ -51,7 +62,7 @@ bool ex_advance(void)
 {
     while (ex->path.length > 0) {
         Node *node = &ex->path.nodes[ex->path.length - 1];
-        node->taken++;
+        node->taken = (uint8_t)ex_next_option(node);
         if (node->taken < node->count)
             return true;
         ex->path.length--;
@@ -188,7 +199,7 @@ unsigned ex_decide(unsigned count, Asks asks, const int *clients, bool may_stay)
         return by_priority(count, clients);
     if (ex->search.seed)
         return is_switch ? ex_draw(count) : ex_draw(8) == 0;
-    return follow(count, is_switch, may_stay ? clients[0] : 0);
+    return follow(count, is_switch, clients, may_stay);
 }
 
 /* How often the client goes on in a row; a refusal stands alone. */

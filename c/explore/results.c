@@ -53,6 +53,7 @@ static void put_numbers(FILE *to, const Counted *one)
 static void put_kind(FILE *to, const Kind *kind)
 {
     fprintf(to, "kind %d %llu %u %u %u %llu %llu\n", kind->of, (unsigned long long)kind->count, kind->preemptions, kind->switches, kind->steps, (unsigned long long)kind->seed, (unsigned long long)kind->earlier);
+    fprintf(to, "race %d %llx %llx\n", kind->sort, (unsigned long long)kind->sides[0], (unsigned long long)kind->sides[1]);
     put_text(to, "key", kind->key);
     put_text(to, "text", kind->text);
     put_text(to, "schedule", kind->schedule);
@@ -61,8 +62,10 @@ static void put_kind(FILE *to, const Kind *kind)
 static void put_path(FILE *to)
 {
     fprintf(to, "path");
-    for (size_t at = 0; at < ex->path.length; at++)
-        fprintf(to, " %u.%u.%d", ex->path.nodes[at].count, ex->path.nodes[at].taken, ex->path.nodes[at].is_switch);
+    for (size_t at = 0; at < ex->path.length; at++) {
+        const Node *one = &ex->path.nodes[at];
+        fprintf(to, " %u.%u.%d.%u.%d.%d.%d.%x", one->count, one->taken, one->is_switch, one->first, one->may_stay, one->is_met, one->is_cut, one->asleep);
+    }
     putc('\n', to);
 }
 
@@ -172,11 +175,12 @@ static bool read_path(char *text)
     char *rest = NULL;
     ex->path.length = 0;
     for (char *word = strtok_r(text, " \n", &rest); word; word = strtok_r(NULL, " \n", &rest)) {
-        unsigned count, taken;
-        int is_switch;
-        if (ex->path.length == PATH || sscanf(word, "%u.%u.%d", &count, &taken, &is_switch) != 3)
+        unsigned count, taken, first, asleep;
+        int is_switch, may_stay, is_met, is_cut;
+        if (ex->path.length == PATH || sscanf(word, "%u.%u.%d.%u.%d.%d.%d.%x", &count, &taken, &is_switch, &first, &may_stay, &is_met, &is_cut, &asleep) != 8)
             return false;
-        ex->path.nodes[ex->path.length++] = (Node){.count = (uint8_t)count, .taken = (uint8_t)taken, .is_switch = is_switch};
+        ex->path.nodes[ex->path.length++] =
+            (Node){.count = (uint8_t)count, .taken = (uint8_t)taken, .is_switch = is_switch, .first = (uint8_t)first, .may_stay = may_stay, .is_met = is_met, .is_cut = is_cut, .asleep = asleep};
     }
     return true;
 }
@@ -215,6 +219,10 @@ static void read_line(char *line, Reading *from)
         from->kind.count = count;
         from->kind.earlier = earlier;
         from->kind.seed = seed;
+    } else if (sscanf(line, "race %d %llx %llx", &of, &count, &seed) == 3) {
+        from->kind.sort = (RaceSort)of;
+        from->kind.sides[0] = count;
+        from->kind.sides[1] = seed;
     } else if (strncmp(line, "key ", 4) == 0) {
         from->kind.key = ex_kept(plain(line + 4));
     } else if (strncmp(line, "text ", 5) == 0) {

@@ -211,7 +211,7 @@ void ex_shrink(void)
     uint64_t seed = ex->search.seed, counts[LIMITED + 1], schedules = ex->total.schedules;
     unsigned longest = ex->total.longest, shards = ex->search.shards, fails = ex->search.fails;
     memcpy(counts, ex->total.counts, sizeof counts);
-    ex->search.is_reduced = false;
+    ex->search.is_reduced = ex->search.is_thinned = false;
     ex->search.seed = ex->search.shards = 0;
     guide = ex_map(sizeof(struct Guide));
     ex->run.is_guided = true;

@@ -24,7 +24,7 @@ typedef struct {
     uint8_t *is_open;
 } Range;
 
-enum { MOST_RANGES = 64 };
+enum { MOST_RANGES = 64, CALLS = 64 }; /* bytes of code in which the manager asks for memory */
 
 static struct {
     Range ranges[MOST_RANGES]; /* the program's, the first client's memory, and what drivers that are binaries have */
@@ -69,16 +69,28 @@ bool ex_is_heap(const void *address)
     return (uintptr_t)address >= BASE && (uintptr_t)address < BASE + ARENA * (RUNNERS + 2);
 }
 
+unsigned ex_arena_of(const void *address)
+{
+    return (unsigned)(((uintptr_t)address - BASE) / ARENA);
+}
+
 bool ex_is_program(const void *address)
 {
     return ((const char *)address >= __data_start && (const char *)address < _end) || kz_is_binary(address);
 }
 
-/* ---- The C library's calls. */
+/* ---- The C library's calls. The manager's tables grow for whoever comes to their end: they lie behind what the set-up has, so that no client's addresses depend on who came before it. */
+extern const char rattle_alloc[] __attribute__((weak));
+
+static bool is_managers(const void *caller)
+{
+    return rattle_alloc && (uintptr_t)caller - (uintptr_t)rattle_alloc < CALLS;
+}
+
 void *malloc(size_t size)
 {
     ex_open_memory();
-    unsigned client = image && image->is_taken ? kz_me->number : 0; /* what threads allocate in the set-up is of the image */
+    unsigned client = image && image->is_taken && !is_managers(__builtin_return_address(0)) ? kz_me->number : 0; /* what threads allocate in the set-up is of the image */
     size_t room = (sizeof(Head) + size + 15) & ~(size_t)15;
     Head *head = (Head *)next[client];
     if (room < size || (size_t)(next[client] - arena(client)) + room > ARENA) {
@@ -262,6 +274,8 @@ uint64_t ex_memory_hash(void)
     uint64_t hash = 0;
     for (size_t at = 0; at < image->pages_count; at++)
         hash += ex_bytes_hash(image->pages[at].at, PAGE, (uintptr_t)image->pages[at].at) - image->pages[at].hash;
+    if (next[0] > image->ranges[1].end)
+        hash += ex_bytes_hash(image->ranges[1].end, (size_t)(next[0] - image->ranges[1].end), 0);
     for (size_t client = 1; client <= (size_t)ex->run.runners_count; client++)
         hash += ex_bytes_hash(arena(client), (size_t)(next[client] - arena(client)), client);
     return hash;

@@ -40,7 +40,7 @@ static void file_request(char *line, Draw *draw)
     }
 }
 
-/* ---- Names, information, and what rides on the manager's operations. */
+/* ---- Names, information, and other major functions. */
 static void name_request(char *line, Draw *draw)
 {
     static const char *const words[] = {"", " replace", " posix", " ex"}, *const folders[] = {"", "/d", "/d/e"};

@@ -814,14 +814,14 @@ NTSTATUS FltClearCancelCompletion(PFLT_CALLBACK_DATA CallbackData);
 
 #define FltInitializePushLock(lock) ((void)(*(lock) = 0))
 #define FltDeletePushLock(lock) KzForgetLock((lock), "FltDeletePushLock")
-#define FltAcquirePushLockExclusive(lock) KzTake((lock), KZ_ALONE, PASSIVE_LEVEL, "FltAcquirePushLockExclusive")
-#define FltAcquirePushLockShared(lock) KzTake((lock), KZ_SHARED, PASSIVE_LEVEL, "FltAcquirePushLockShared")
+#define FltAcquirePushLockExclusive(lock) KzTake((lock), KZ_ALONE | KZ_IN_REGION, PASSIVE_LEVEL, "FltAcquirePushLockExclusive")
+#define FltAcquirePushLockShared(lock) KzTake((lock), KZ_SHARED | KZ_IN_REGION, PASSIVE_LEVEL, "FltAcquirePushLockShared")
 #define FltReleasePushLock(lock) KzLetGo((lock), "FltReleasePushLock")
 #define FltAcquirePushLockExclusiveEx(lock, flags) ((void)(flags), FltAcquirePushLockExclusive(lock))
 #define FltAcquirePushLockSharedEx(lock, flags) ((void)(flags), FltAcquirePushLockShared(lock))
 #define FltReleasePushLockEx(lock, flags) ((void)(flags), FltReleasePushLock(lock))
-#define FltAcquireResourceExclusive(lock) KzTake((lock), KZ_AGAIN, PASSIVE_LEVEL, "FltAcquireResourceExclusive")
-#define FltAcquireResourceShared(lock) KzTake((lock), KZ_SHARED_AGAIN, PASSIVE_LEVEL, "FltAcquireResourceShared")
+#define FltAcquireResourceExclusive(lock) KzTake((lock), KZ_AGAIN | KZ_MADE | KZ_IN_REGION, PASSIVE_LEVEL, "FltAcquireResourceExclusive")
+#define FltAcquireResourceShared(lock) KzTake((lock), KZ_SHARED_AGAIN | KZ_MADE | KZ_IN_REGION, PASSIVE_LEVEL, "FltAcquireResourceShared")
 #define FltReleaseResource(lock) KzLetGo((lock), "FltReleaseResource")
 
 /* ---- Held operations. */

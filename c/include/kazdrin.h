@@ -18,8 +18,8 @@ typedef struct {
     uint32_t event;
     uint32_t slot, generation; /* a context */
     uint32_t len;
-    uint64_t operation, handle, offset, number;
-    uint16_t instance, pre, post;
+    uint64_t operation, handle, offset, number, pre, post;
+    uint16_t instance;
     uint8_t contexts, query, unload, worker, filter, volume, kind, mode, flag, status;
 } KazdrinEvent;
 
@@ -102,7 +102,10 @@ enum {
     KZE_FINISH_VOLUME = 46,     /* volume */
     KZE_ENTER_ROUTINE = 47,     /* worker, instance; handle where flag isn't 0 */
     KZE_ROUTINE_RETURNED = 48,  /* worker */
-    KZE_RESTORE = 49            /* handle */
+    KZE_RESTORE = 49,           /* handle */
+    KZE_OTHER = 50,             /* handle, mode: the major function, by the kit's number; offset: a number that stands for its parameters */
+    KZE_ON_VOLUME = 51,         /* volume, mode, offset: the same without a file */
+    KZE_CHANGE_HELD = 52        /* worker, operation; kind: the number of the parameters' event, with its fields; bytes: its path or data */
 };
 
 /* Operations in `pre` and `post` of KZE_REGISTER. */
@@ -119,6 +122,9 @@ enum {
     KZ_MASK_CLOSE = 512,
     KZ_MASK_RESTORE = 1024
 };
+
+/* And those of a major function that KZE_OTHER begins. */
+#define KZ_MASK_OTHER(major) (1ull << ((uint8_t)(major) < 28 ? 11 + (uint8_t)(major) : 294 - (uint8_t)(major)))
 
 /* A preoperation's verdict, in `mode`. The first two ask for the postoperation, with `number`, and with the context in slot and generation if `flag` isn't 0.
  * Complete has a status by its number. */

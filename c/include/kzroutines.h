@@ -1,4 +1,4 @@
-/* Routines of the kit that are declared and aren't modelled: KZ_ROUTINE(type, answer, LIMIT, name, parameters). Each answers so, and tells its LIMIT with its name. ntifs.h declares them by
+/* Routines of the kit that are declared and aren't modelled: KZ_ROUTINE(type, answer, LIMIT, name, parameters). Each answers so, and tells its LIMIT with its name; with `| WAITS` it waits in the kit, or ends a wait. ntifs.h declares them by
  * this table, and the host makes their bodies by it. A routine that is modelled has no line here. */
 
 /* ---- Objects of the system by their handles. */
@@ -22,7 +22,7 @@ KZ_ROUTINE(NTSTATUS, STATUS_NOT_SUPPORTED, NOT_MODELLED, ZwDuplicateObject, HAND
            ACCESS_MASK DesiredAccess, ULONG HandleAttributes, ULONG Options)
 KZ_ROUTINE(NTSTATUS, STATUS_NOT_SUPPORTED, NOT_MODELLED, ZwQueryObject, HANDLE Handle, OBJECT_INFORMATION_CLASS ObjectInformationClass, PVOID ObjectInformation, ULONG ObjectInformationLength,
            PULONG ReturnLength)
-KZ_ROUTINE(NTSTATUS, STATUS_NOT_SUPPORTED, NOBODY_SETS, ZwWaitForSingleObject, HANDLE Handle, BOOLEAN Alertable, PLARGE_INTEGER Timeout)
+KZ_ROUTINE(NTSTATUS, STATUS_NOT_SUPPORTED, NOBODY_SETS | WAITS, ZwWaitForSingleObject, HANDLE Handle, BOOLEAN Alertable, PLARGE_INTEGER Timeout)
 KZ_ROUTINE(NTSTATUS, STATUS_NOT_SUPPORTED, NOT_MODELLED, ZwSetEvent, HANDLE EventHandle, PLONG PreviousState)
 KZ_ROUTINE(NTSTATUS, STATUS_NOT_SUPPORTED, NOT_MODELLED, ZwCreateEvent, PHANDLE EventHandle, ACCESS_MASK DesiredAccess, POBJECT_ATTRIBUTES ObjectAttributes, EVENT_TYPE EventType,
            BOOLEAN InitialState)
@@ -57,15 +57,15 @@ KZ_ROUTINE(BOOLEAN, FALSE, NOT_MODELLED, RtlRemoveEntryHashTable, PRTL_DYNAMIC_H
 KZ_ROUTINE(PRTL_DYNAMIC_HASH_TABLE_ENTRY, NULL, NOT_MODELLED, RtlLookupEntryHashTable, PRTL_DYNAMIC_HASH_TABLE HashTable, ULONG_PTR Signature, PRTL_DYNAMIC_HASH_TABLE_CONTEXT Context)
 
 /* ---- The kernel and the executive. */
-KZ_ROUTINE(LONG, 0, NOT_MODELLED, KePulseEvent, PRKEVENT Event, KPRIORITY Increment, BOOLEAN Wait)
+KZ_ROUTINE(LONG, 0, NOT_MODELLED | WAITS, KePulseEvent, PRKEVENT Event, KPRIORITY Increment, BOOLEAN Wait)
 KZ_ROUTINE(VOID, , NOT_MODELLED, KeStackAttachProcess, PKPROCESS Process, PRKAPC_STATE ApcState)
 KZ_ROUTINE(VOID, , NOT_MODELLED, KeUnstackDetachProcess, PRKAPC_STATE ApcState)
 KZ_ROUTINE(VOID, , NOT_MODELLED, KeAttachProcess, PKPROCESS Process)
 KZ_ROUTINE(VOID, , NOT_MODELLED, KeDetachProcess, VOID)
 KZ_ROUTINE(VOID, , THREAD, KeInitializeQueue, PRKQUEUE Queue, ULONG Count)
-KZ_ROUTINE(LONG, 0, THREAD, KeInsertQueue, PRKQUEUE Queue, PLIST_ENTRY Entry)
-KZ_ROUTINE(PLIST_ENTRY, NULL, THREAD, KeRemoveQueue, PRKQUEUE Queue, KPROCESSOR_MODE WaitMode, PLARGE_INTEGER Timeout)
-KZ_ROUTINE(PLIST_ENTRY, NULL, THREAD, KeRundownQueue, PRKQUEUE Queue)
+KZ_ROUTINE(LONG, 0, THREAD | WAITS, KeInsertQueue, PRKQUEUE Queue, PLIST_ENTRY Entry)
+KZ_ROUTINE(PLIST_ENTRY, NULL, THREAD | WAITS, KeRemoveQueue, PRKQUEUE Queue, KPROCESSOR_MODE WaitMode, PLARGE_INTEGER Timeout)
+KZ_ROUTINE(PLIST_ENTRY, NULL, THREAD | WAITS, KeRundownQueue, PRKQUEUE Queue)
 KZ_ROUTINE(NTSTATUS, STATUS_NOT_SUPPORTED, NOT_MODELLED, KeExpandKernelStackAndCallout, PEXPAND_STACK_CALLOUT Callout, PVOID Parameter, SIZE_T Size)
 KZ_ROUTINE(BOOLEAN, FALSE, NOT_MODELLED, KeRegisterBugCheckCallback, PKBUGCHECK_CALLBACK_RECORD CallbackRecord, PKBUGCHECK_CALLBACK_ROUTINE CallbackRoutine, PVOID Buffer, ULONG Length,
            PUCHAR Component)
@@ -130,7 +130,7 @@ KZ_ROUTINE(NTSTATUS, STATUS_NOT_SUPPORTED, SECTION, FsRtlCreateSectionForDataSca
            ACCESS_MASK DesiredAccess, POBJECT_ATTRIBUTES ObjectAttributes, PLARGE_INTEGER MaximumSize, ULONG SectionPageProtection, ULONG AllocationAttributes, ULONG Flags)
 KZ_ROUTINE(BOOLEAN, TRUE, FILE_LOCK, FsRtlFastCheckLockForRead, PFILE_LOCK FileLock, PLARGE_INTEGER FileOffset, PLARGE_INTEGER Length, ULONG Key, PFILE_OBJECT FileObject, PVOID Process)
 KZ_ROUTINE(VOID, , FILE_LOCK, FsRtlInitializeFileLock, PFILE_LOCK FileLock, PCOMPLETE_LOCK_IRP_ROUTINE CompleteLockIrpRoutine, PUNLOCK_ROUTINE UnlockRoutine)
-KZ_ROUTINE(NTSTATUS, STATUS_NOT_SUPPORTED, FILE_LOCK, FsRtlProcessFileLock, PFILE_LOCK FileLock, PIRP Irp, PVOID Context)
+KZ_ROUTINE(NTSTATUS, STATUS_NOT_SUPPORTED, FILE_LOCK | WAITS, FsRtlProcessFileLock, PFILE_LOCK FileLock, PIRP Irp, PVOID Context)
 KZ_ROUTINE(NTSTATUS, STATUS_NOT_SUPPORTED, OPLOCK, FsRtlCheckOplock, POPLOCK Oplock, PIRP Irp, PVOID Context, POPLOCK_WAIT_COMPLETE_ROUTINE CompletionRoutine, POPLOCK_FS_PREPOST_IRP PostIrpRoutine)
 KZ_ROUTINE(BOOLEAN, FALSE, OWN_IO, FsRtlCopyRead, PFILE_OBJECT FileObject, PLARGE_INTEGER FileOffset, ULONG Length, BOOLEAN Wait, ULONG LockKey, PVOID Buffer, PIO_STATUS_BLOCK IoStatus,
            PDEVICE_OBJECT DeviceObject)
@@ -191,7 +191,7 @@ KZ_ROUTINE(BOOLEAN, FALSE, CACHE, CcIsThereDirtyData, PVPB Vpb)
 KZ_ROUTINE(VOID, , CACHE, CcMdlRead, PFILE_OBJECT FileObject, PLARGE_INTEGER FileOffset, ULONG Length, PMDL *MdlChain, PIO_STATUS_BLOCK IoStatus)
 KZ_ROUTINE(VOID, , CACHE, CcMdlReadComplete, PFILE_OBJECT FileObject, PMDL MdlChain)
 KZ_ROUTINE(BOOLEAN, FALSE, CACHE, CcZeroData, PFILE_OBJECT FileObject, PLARGE_INTEGER StartOffset, PLARGE_INTEGER EndOffset, BOOLEAN Wait)
-KZ_ROUTINE(NTSTATUS, STATUS_SUCCESS, CACHE, CcWaitForCurrentLazyWriterActivity, VOID)
+KZ_ROUTINE(NTSTATUS, STATUS_SUCCESS, CACHE | WAITS, CcWaitForCurrentLazyWriterActivity, VOID)
 KZ_ROUTINE(VOID, , CACHE, CcCoherencyFlushAndPurgeCache, PSECTION_OBJECT_POINTERS SectionObjectPointer, PLARGE_INTEGER FileOffset, ULONG Length, PIO_STATUS_BLOCK IoStatus, ULONG Flags)
 
 /* ---- Modules. */

@@ -685,7 +685,9 @@ typedef struct _KLOCK_QUEUE_HANDLE {
 KZ_ASSERT(sizeof(FAST_MUTEX) == 0x38 && sizeof(ERESOURCE) == 0x68 && sizeof(KLOCK_QUEUE_HANDLE) == 0x18, "layout");
 
 /* How a lock is held: alone, shared, alone or shared again by the same owner; shared whoever waits for it alone, and shared only after those who do. */
-enum { KZ_ALONE, KZ_SHARED, KZ_AGAIN, KZ_SHARED_AGAIN, KZ_SHARED_FIRST, KZ_SHARED_LAST };
+enum { KZ_ALONE, KZ_SHARED, KZ_AGAIN, KZ_SHARED_AGAIN, KZ_SHARED_FIRST, KZ_SHARED_LAST, KZ_HOW = 15 };
+/* Beside that, which lock it is: a fast mutex, which may not be paged out; it has a count, as a guarded mutex has; a resource, which has to be made; and that its call enters a critical region. */
+enum { KZ_FAST = 16, KZ_COUNTED = 32, KZ_MADE = 64, KZ_IN_REGION = 128 };
 VOID KzTake(PVOID Lock, int How, KIRQL Irql, PCSTR Call);
 VOID KzLetGo(PVOID Lock, PCSTR Call);
 VOID KzLetGoTo(PVOID Lock, KIRQL Irql, PCSTR Call);
@@ -702,14 +704,14 @@ FORCEINLINE VOID ExInitializeFastMutex(PFAST_MUTEX FastMutex)
     memset(FastMutex, 0, sizeof *FastMutex);
     FastMutex->Count = 1;
 }
-#define ExAcquireFastMutex(lock) KzTake((lock), KZ_ALONE, APC_LEVEL, "ExAcquireFastMutex")
-#define ExAcquireFastMutexUnsafe(lock) KzTake((lock), KZ_ALONE, PASSIVE_LEVEL, "ExAcquireFastMutexUnsafe")
-#define ExTryToAcquireFastMutex(lock) KzTryTake((lock), KZ_ALONE, APC_LEVEL, "ExTryToAcquireFastMutex")
+#define ExAcquireFastMutex(lock) KzTake((lock), KZ_ALONE | KZ_FAST | KZ_COUNTED, APC_LEVEL, "ExAcquireFastMutex")
+#define ExAcquireFastMutexUnsafe(lock) KzTake((lock), KZ_ALONE | KZ_FAST | KZ_COUNTED, PASSIVE_LEVEL, "ExAcquireFastMutexUnsafe")
+#define ExTryToAcquireFastMutex(lock) KzTryTake((lock), KZ_ALONE | KZ_FAST | KZ_COUNTED, APC_LEVEL, "ExTryToAcquireFastMutex")
 #define ExReleaseFastMutex(lock) KzLetGo((lock), "ExReleaseFastMutex")
 #define ExReleaseFastMutexUnsafe(lock) KzLetGo((lock), "ExReleaseFastMutexUnsafe")
 #define KeInitializeGuardedMutex ExInitializeFastMutex
-#define KeAcquireGuardedMutex(lock) KzTake((lock), KZ_ALONE, PASSIVE_LEVEL, "KeAcquireGuardedMutex")
-#define KeTryToAcquireGuardedMutex(lock) KzTryTake((lock), KZ_ALONE, PASSIVE_LEVEL, "KeTryToAcquireGuardedMutex")
+#define KeAcquireGuardedMutex(lock) KzTake((lock), KZ_ALONE | KZ_COUNTED | KZ_IN_REGION, PASSIVE_LEVEL, "KeAcquireGuardedMutex")
+#define KeTryToAcquireGuardedMutex(lock) KzTryTake((lock), KZ_ALONE | KZ_COUNTED | KZ_IN_REGION, PASSIVE_LEVEL, "KeTryToAcquireGuardedMutex")
 #define KeReleaseGuardedMutex(lock) KzLetGo((lock), "KeReleaseGuardedMutex")
 
 NTSTATUS ExInitializeResourceLite(PERESOURCE Resource);

@@ -176,6 +176,16 @@ int below_move_link(const Mount *mount, const char *path, const char *to)
     return error != 0 ? error : other;
 }
 
+int below_set_times(const Mount *mount, const char *path, const struct timespec times[2])
+{
+    int file = mount->below == -1 ? -1 : open_at(mount->below, path, O_PATH);
+    if (file == -1)
+        return mount->below == -1 ? 0 : errno;
+    int error = utimensat(file, "", times, AT_EMPTY_PATH) == 0 ? 0 : errno;
+    close(file);
+    return error;
+}
+
 ssize_t below_read_link(const Mount *mount, const char *path, char *room, size_t size)
 {
     int file = mount->below == -1 ? -1 : open_at(mount->below, path, O_PATH);

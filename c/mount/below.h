@@ -1,5 +1,5 @@
-/* The server's folder itself, where -o below=FOLDER names it: folders and symbolic links are made and removed in it, it is asked for its room and for names in folders, and synced, and its files
- * get modes. Nothing else of a file is touched: filters hear of all the rest. No link is followed, and nothing outside the folder is reached. */
+/* The server's folder itself, where -o below=FOLDER names it: folders and symbolic links are made and removed in it and get times, it is asked for its room and for names in folders, and synced, and
+ * its files get modes. Nothing else of a file is touched: filters hear of all the rest. No link is followed, and nothing outside the folder is reached. */
 #ifndef KZ_MOUNT_BELOW_H
 #define KZ_MOUNT_BELOW_H
 
@@ -29,6 +29,8 @@ int below_remove_folder(const Mount *mount, const char *path);
 int below_make_link(const Mount *mount, const char *path, const char *target);
 int below_remove_link(const Mount *mount, const char *path);
 int below_move_link(const Mount *mount, const char *path, const char *to);
+/* Sets the times of a folder or a link: last read, last changed, as for utimensat. 0 or an errno; where no folder is named nothing is set. */
+int below_set_times(const Mount *mount, const char *path, const struct timespec times[2]);
 /* What a link says: how many bytes, or -1 with errno. */
 ssize_t below_read_link(const Mount *mount, const char *path, char *room, size_t size);
 /* Opens a folder to be listed: NULL with errno. */

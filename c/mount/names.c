@@ -172,14 +172,18 @@ static int refusal(Mount *mount, const Look *look, const struct stat *wanted, in
     return (which & FUSE_SET_ATTR_SIZE) && (uint64_t)wanted->st_size > LARGEST_FILE ? EFBIG : 0;
 }
 
-static void keep_times(Mount *mount, Node *node, const struct stat *wanted, int which)
+/* A file's are kept by the mount, where no program below sees them; a folder and a link get them below, where theirs are told from. 0 or an errno. */
+static int keep_times(Mount *mount, Node *node, const Look *look, const struct stat *wanted, int which)
 {
     struct timespec now;
     clock_gettime(CLOCK_REALTIME, &now);
     const struct timespec *read = which & FUSE_SET_ATTR_ATIME_NOW ? &now : which & FUSE_SET_ATTR_ATIME ? &wanted->st_atim : NULL;
     const struct timespec *changed = which & FUSE_SET_ATTR_MTIME_NOW ? &now : which & FUSE_SET_ATTR_MTIME ? &wanted->st_mtim : NULL;
-    if (node)
+    const struct timespec none = {.tv_nsec = UTIME_OMIT}, times[2] = {read ? *read : none, changed ? *changed : none};
+    int error = look->kind == A_FILE || look->is_deleted ? 0 : below_set_times(mount, look->path, times);
+    if (error == 0 && node)
         nodes_set_times(&mount->nodes, node, read, changed);
+    return error;
 }
 
 void name_set_attributes(fuse_req_t request, fuse_ino_t number, struct stat *wanted, int which, struct fuse_file_info *info)
@@ -188,6 +192,8 @@ void name_set_attributes(fuse_req_t request, fuse_ino_t number, struct stat *wan
     Look look = look_at(mount, number);
     uint64_t size = (uint64_t)wanted->st_size;
     int error = refusal(mount, &look, wanted, which);
+    if (error == 0 && which & GIVEN_TIMES)
+        error = keep_times(mount, node_at(number), &look, wanted, which);
     if (error != 0) {
         fuse_reply_err(request, error);
         return;
@@ -196,8 +202,6 @@ void name_set_attributes(fuse_req_t request, fuse_ino_t number, struct stat *wan
         keep_mode(mount, node_at(number), &look, wanted->st_mode & KEPT_MODE);
     if ((which & (FUSE_SET_ATTR_UID | FUSE_SET_ATTR_GID)) && mount->options.is_kept && look.path[0])
         nodes_set_owner(&mount->nodes, node_at(number), which & FUSE_SET_ATTR_UID ? wanted->st_uid : (uid_t)-1, which & FUSE_SET_ATTR_GID ? wanted->st_gid : (gid_t)-1);
-    if (which & GIVEN_TIMES)
-        keep_times(mount, node_at(number), wanted, which);
     answer(request, number, info, which & FUSE_SET_ATTR_SIZE ? &size : NULL);
 }
 

@@ -233,7 +233,7 @@ bool answer_frame(Link *link, const uint8_t *body, size_t length)
 {
     Frame frame;
     uint8_t status = frame_read(body, length, &frame);
-    KZ_CALL_OF("a request");
+    KZ_CALL_OF(kz_a_request);
     link->code = frame.code;
     link->number = frame.number;
     kz_tick();

@@ -9,51 +9,44 @@ static void add(Request *request, uint64_t number, unsigned bytes)
     request->fields_length += bytes;
 }
 
+/* A request with its fields, and one text at most, which is the last of them. */
+static Request spelled(Frame frame)
+{
+    Request request = {.code = frame.code, .bytes = frame.text, .length = frame.text_length};
+    for (const char *at = form_of(frame.code); *at; at += 2)
+        if (at[1] != '-')
+            add(&request, field_at(&frame, at[0]), (unsigned)(at[1] - '0'));
+    return request;
+}
+
 Request request_create(uint8_t volume, uint8_t mode, const char *path)
 {
-    Request request = {.code = FRAME_CREATE, .bytes = path, .length = strlen(path)};
-    add(&request, volume, 1);
-    add(&request, mode, 1);
-    return request;
+    return spelled((Frame){.code = FRAME_CREATE, .volume = volume, .mode = mode, .text = (const uint8_t *)path, .text_length = strlen(path)});
 }
 
 Request request_read(uint64_t handle, uint64_t offset, uint32_t length)
 {
-    Request request = {.code = FRAME_READ};
-    add(&request, handle, 8);
-    add(&request, offset, 8);
-    add(&request, length, 4);
-    return request;
+    return spelled((Frame){.code = FRAME_READ, .handle = handle, .offset = offset, .length = length});
 }
 
 Request request_write(uint64_t handle, uint64_t offset, const void *bytes, size_t length)
 {
-    Request request = {.code = FRAME_WRITE, .bytes = bytes, .length = length};
-    add(&request, handle, 8);
-    add(&request, offset, 8);
-    return request;
+    return spelled((Frame){.code = FRAME_WRITE, .handle = handle, .offset = offset, .text = bytes, .text_length = length});
 }
 
 Request request_set_size(uint64_t handle, uint64_t size)
 {
-    Request request = {.code = FRAME_SET_SIZE};
-    add(&request, handle, 8);
-    add(&request, size, 8);
-    return request;
+    return spelled((Frame){.code = FRAME_SET_SIZE, .handle = handle, .offset = size});
 }
 
 Request request_list(uint8_t volume)
 {
-    Request request = {.code = FRAME_LIST};
-    add(&request, volume, 1);
-    return request;
+    return spelled((Frame){.code = FRAME_LIST, .volume = volume});
 }
 
 Request request_handle(uint8_t code, uint64_t handle)
 {
-    Request request = {.code = code};
-    add(&request, handle, 8);
-    return request;
+    return spelled((Frame){.code = code, .handle = handle});
 }
 
 size_t request_head(const Request *request, uint32_t number, uint8_t *room)

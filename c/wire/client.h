@@ -4,7 +4,7 @@
 
 #include "frame.h"
 
-/* A request: its fields in front, and the text or the bytes behind them, which are the caller's. */
+/* A request as it is sent: its fields in front, and the text or the bytes behind them, which are the caller's. */
 typedef struct {
     uint8_t code;
     uint8_t fields[20];

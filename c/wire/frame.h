@@ -10,21 +10,21 @@
 
 enum {
     FRAME_CREATE = 1,
-    FRAME_READ,
-    FRAME_WRITE,
-    FRAME_QUERY_SIZE,
-    FRAME_SET_SIZE,
-    FRAME_FLUSH,
-    FRAME_LIST,
-    FRAME_SET_DELETE,
-    FRAME_CLOSE,
-    FRAME_RESTORE,
+    FRAME_READ = 2,
+    FRAME_WRITE = 3,
+    FRAME_QUERY_SIZE = 4,
+    FRAME_SET_SIZE = 5,
+    FRAME_FLUSH = 6,
+    FRAME_LIST = 7,
+    FRAME_SET_DELETE = 8,
+    FRAME_CLOSE = 9,
+    FRAME_RESTORE = 10,
     FRAME_LOAD = 16,
-    FRAME_ATTACH,
-    FRAME_DETACH,
-    FRAME_UNLOAD,
-    FRAME_DISMOUNT,
-    FRAME_STOP,
+    FRAME_ATTACH = 17,
+    FRAME_DETACH = 18,
+    FRAME_UNLOAD = 19,
+    FRAME_DISMOUNT = 20,
+    FRAME_STOP = 21,
     FRAME_REPLY = 128
 };
 
@@ -41,6 +41,22 @@ enum { CREATE_EXISTING, CREATE_NEW, CREATE_ALWAYS };
 #define LONGEST_PATH 255
 #define LARGEST_FILE ((uint64_t)1 << 40)
 
+/* A request. Its texts and bytes lie in the frame, or are the caller's. */
+typedef struct {
+    uint8_t code, volume, mode, filter;
+    uint16_t instance;
+    uint32_t number, length;
+    uint64_t handle, offset; /* the size of a SetSize is its offset */
+    const uint8_t *text, *altitude;
+    size_t text_length, altitude_length;
+} Frame;
+
+/* The fields of a request in their order, by its code: of each the first letter of its name ('c' is the count of a name's letters), and how many bytes it has, or '-' for a text.
+ * NULL: there is no such code. */
+const char *form_of(uint8_t code);
+/* A field that isn't a text, by its letter. */
+void field_set(Frame *frame, char letter, uint64_t number);
+uint64_t field_at(const Frame *frame, char letter);
 /* A number in so many bytes, the highest first. */
 void put_number(uint8_t *room, uint64_t number, unsigned bytes);
 uint64_t number_at(const uint8_t *room, unsigned bytes);

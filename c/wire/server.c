@@ -54,80 +54,41 @@ static uint64_t take(Fields *fields, unsigned bytes)
     return number;
 }
 
-static void take_rest(Fields *fields, const uint8_t **text, size_t *length)
+/* A text of so many bytes. */
+static const uint8_t *take_text(Fields *fields, size_t length)
 {
-    *text = fields->at;
-    *length = fields->left;
-    fields->at += fields->left;
-    fields->left = 0;
+    const uint8_t *text = fields->at;
+    if (fields->left < length) {
+        fields->is_short = true;
+        return text;
+    }
+    fields->at += length;
+    fields->left -= length;
+    return text;
 }
 
-static void take_attach(Fields *fields, Frame *frame)
+/* An altitude, and a text without a count in front of it, fill the rest. */
+static void take_field(Fields *fields, Frame *frame, char letter, char bytes, bool is_last)
 {
-    frame->filter = (uint8_t)take(fields, 1);
-    frame->volume = (uint8_t)take(fields, 1);
-    frame->text_length = (size_t)take(fields, 1);
-    if (frame->text_length > fields->left) {
-        fields->is_short = true;
-        return;
+    if (bytes != '-') {
+        field_set(frame, letter, take(fields, (unsigned)(bytes - '0')));
+    } else if (letter == 'a') {
+        frame->altitude_length = fields->left;
+        frame->altitude = take_text(fields, frame->altitude_length);
+    } else {
+        if (is_last)
+            frame->text_length = fields->left;
+        frame->text = take_text(fields, frame->text_length);
     }
-    frame->text = fields->at;
-    fields->at += frame->text_length;
-    fields->left -= frame->text_length;
-    take_rest(fields, &frame->altitude, &frame->altitude_length);
 }
 
 /* False: there is no such code. */
 static bool take_fields(Fields *fields, Frame *frame)
 {
-    switch (frame->code) {
-    case FRAME_CREATE:
-        frame->volume = (uint8_t)take(fields, 1);
-        frame->mode = (uint8_t)take(fields, 1);
-        take_rest(fields, &frame->text, &frame->text_length);
-        return true;
-    case FRAME_READ:
-        frame->handle = take(fields, 8);
-        frame->offset = take(fields, 8);
-        frame->length = (uint32_t)take(fields, 4);
-        return true;
-    case FRAME_WRITE:
-        frame->handle = take(fields, 8);
-        frame->offset = take(fields, 8);
-        take_rest(fields, &frame->text, &frame->text_length);
-        return true;
-    case FRAME_SET_SIZE:
-        frame->handle = take(fields, 8);
-        frame->offset = take(fields, 8);
-        return true;
-    case FRAME_QUERY_SIZE:
-    case FRAME_FLUSH:
-    case FRAME_SET_DELETE:
-    case FRAME_CLOSE:
-    case FRAME_RESTORE:
-        frame->handle = take(fields, 8);
-        return true;
-    case FRAME_LIST:
-    case FRAME_DISMOUNT:
-        frame->volume = (uint8_t)take(fields, 1);
-        return true;
-    case FRAME_LOAD:
-        take_rest(fields, &frame->text, &frame->text_length);
-        return true;
-    case FRAME_ATTACH:
-        take_attach(fields, frame);
-        return true;
-    case FRAME_DETACH:
-        frame->instance = (uint16_t)take(fields, 2);
-        return true;
-    case FRAME_UNLOAD:
-        frame->filter = (uint8_t)take(fields, 1);
-        return true;
-    case FRAME_STOP:
-        return true;
-    default:
-        return false;
-    }
+    const char *form = form_of(frame->code);
+    for (const char *at = form; at && *at; at += 2)
+        take_field(fields, frame, at[0], at[1], !at[2]);
+    return form;
 }
 
 /* What is wrong with fields that are all there. */

@@ -4,16 +4,6 @@
 
 #include "frame.h"
 
-/* A request. Its texts and bytes lie in the frame. */
-typedef struct {
-    uint8_t code, volume, mode, filter;
-    uint16_t instance;
-    uint32_t number, length;
-    uint64_t handle, offset; /* the size of a SetSize is its offset */
-    const uint8_t *text, *altitude;
-    size_t text_length, altitude_length;
-} Frame;
-
 /* Reads a body: 0, or the status with which the frame is refused. The number is read in any case. */
 uint8_t frame_read(const uint8_t *body, size_t length, Frame *frame);
 /* Spells a reply into room for a longest frame: how many bytes it has. */

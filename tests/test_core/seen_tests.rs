@@ -1,4 +1,4 @@
-//! What callbacks and the base see of parameters that were changed before a hold.
+//! What callbacks and the base see of parameters that were changed before a hold, and while it lasts.
 
 use crate::events::{Event, WORKER};
 use crate::lines::Line::Does;
@@ -19,15 +19,17 @@ const COME: &[Line] = &[
     Does(Event::Pre(OTHER, WITH, Operation::Read), Told::Done),
 ];
 
-// Another read comes to the lower instance, which lets the first one go on.
-const RESUMED_DOWN: &[Line] = &[
+// Another read comes to the lower instance.
+const INSIDE: &[Line] = &[
     Does(Event::Next(OTHER, SECOND), Told::Held),
     Does(Event::Begin(Operation::Read), Told::Number(2)),
     Does(Event::Next(WORKER, THIRD), Told::Pre),
     Does(Event::Pre(WORKER, NONE, Operation::Read), Told::Done),
     Does(Event::Next(WORKER, THIRD), Told::Pre),
-    Does(Event::ResumePre(WORKER, SECOND, WITH), Told::Done),
 ];
+
+// There it lets the first one go on.
+const RESUMED_DOWN: &[Line] = &[Does(Event::ResumePre(WORKER, SECOND, WITH), Told::Done)];
 
 // The same on its way up, in the same callback.
 const RESUMED_UP: &[Line] = &[
@@ -48,11 +50,30 @@ fn shorten(rt: &impl Abort, data: &mut CallbackData, len: u32) {
         .expect(rt, "a change");
 }
 
-// The lower instance asks for less, and holds the read.
-fn hold_shortened(rt: &impl Abort, state: &mut State, mut data: CallbackData) {
-    shorten(rt, &mut data, 5);
+// How much less the lower instance asks for as its preoperation returns, and while it holds the read; none where it changes nothing then.
+#[derive(Clone, Copy)]
+struct Asks {
+    returning: Option<u32>,
+    holding: Option<u32>,
+}
+
+// It holds the read.
+fn hold(rt: &impl Abort, state: &mut State, mut data: CallbackData, asks: Asks) {
+    if let Some(len) = asks.returning {
+        shorten(rt, &mut data, len);
+    }
     let taken = state.pre_returned(OTHER, PreVerdict::Pending, data);
     assert!(rt; taken.is_ok());
+}
+
+// It changes what it holds, and changes it again.
+fn change_held(rt: &impl Abort, state: &mut State, asks: Asks) {
+    if let Some(len) = asks.holding {
+        for len in [len + 1, len] {
+            let changed = state.change_held(WORKER, SECOND, Params::Read { offset: 0, len });
+            assert!(rt; changed.is_ok());
+        }
+    }
 }
 
 fn answer_base(rt: &impl Abort, alloc: Global, state: &mut State, call: BaseCall) {
@@ -73,11 +94,17 @@ fn post(rt: &impl Abort, state: &mut State, verdict: PostVerdict, mut data: Call
 }
 
 // How much the read asks for where it comes next: a callback, of which a postoperation returns with that verdict, or the base.
-fn turn(rt: &impl Abort, alloc: Global, state: &mut State, verdict: PostVerdict) -> u32 {
+fn turn(
+    rt: &impl Abort,
+    alloc: Global,
+    state: &mut State,
+    verdict: PostVerdict,
+    asks: Asks,
+) -> u32 {
     match state.next(OTHER, SECOND).expect(rt, "an action") {
         Action::Pre(_, data) => {
             let len = len_of(data.params());
-            hold_shortened(rt, state, data);
+            hold(rt, state, data, asks);
             len
         }
         Action::Base(call) => {
@@ -95,28 +122,52 @@ fn turn(rt: &impl Abort, alloc: Global, state: &mut State, verdict: PostVerdict)
 }
 
 // What the lower preoperation, the base, and both postoperations see.
-fn seen(rt: &impl Abort, alloc: Global, state: &mut State) -> [u32; 4] {
+fn seen(rt: &impl Abort, alloc: Global, state: &mut State, asks: Asks) -> [u32; 4] {
     go_through(
         rt,
         alloc,
         state,
         &[REGISTERED, ATTACHED, CREATED, BELOW, COME],
     );
-    let received = turn(rt, alloc, state, PostVerdict::Finished);
+    let received = turn(rt, alloc, state, PostVerdict::Finished, asks);
+    go_through(rt, alloc, state, &[INSIDE]);
+    change_held(rt, state, asks);
     go_through(rt, alloc, state, &[RESUMED_DOWN]);
-    let below = turn(rt, alloc, state, PostVerdict::Finished);
-    let own = turn(rt, alloc, state, PostVerdict::MoreProcessing);
+    let below = turn(rt, alloc, state, PostVerdict::Finished, asks);
+    let own = turn(rt, alloc, state, PostVerdict::MoreProcessing, asks);
     go_through(rt, alloc, state, &[RESUMED_UP]);
-    let above = turn(rt, alloc, state, PostVerdict::Finished);
+    let above = turn(rt, alloc, state, PostVerdict::Finished, asks);
     [received, below, own, above]
 }
 
-fn seen_from_the_start(rt: &impl Abort, alloc: Global) -> [u32; 4] {
+fn seen_from_the_start(rt: &impl Abort, alloc: Global, asks: Asks) -> [u32; 4] {
     let mut state = State::new(alloc).expect(rt, "a state");
-    seen(rt, alloc, &mut state)
+    seen(rt, alloc, &mut state, asks)
 }
 
 #[test]
 fn changed_before_a_hold(rt: HostRuntime) {
-    assert_eq!(rt; seen_from_the_start(&rt, rt.alloc()), [9, 5, 9, 9]);
+    let asks = Asks {
+        returning: Some(5),
+        holding: None,
+    };
+    assert_eq!(rt; seen_from_the_start(&rt, rt.alloc(), asks), [9, 5, 9, 9]);
+}
+
+#[test]
+fn changed_while_held(rt: HostRuntime) {
+    let asks = Asks {
+        returning: None,
+        holding: Some(4),
+    };
+    assert_eq!(rt; seen_from_the_start(&rt, rt.alloc(), asks), [9, 4, 9, 9]);
+}
+
+#[test]
+fn changed_before_and_while_held(rt: HostRuntime) {
+    let asks = Asks {
+        returning: Some(5),
+        holding: Some(4),
+    };
+    assert_eq!(rt; seen_from_the_start(&rt, rt.alloc(), asks), [9, 4, 9, 9]);
 }

@@ -4,6 +4,7 @@
 use crate::peer::{Step, exchange, follow, is_done, send, taken};
 use crate::server::{Filters, goes_well};
 use fm_cli::Front;
+use fm_types::limits::CONNECTIONS;
 use std::alloc::Global;
 use std::net::{Net, TcpListener, TcpStream};
 use std::os::unix::net::UnixStream;
@@ -53,6 +54,17 @@ fn hears<R: Clock>(rt: &R, alloc: Global, stream: &UnixStream, status: u8) -> Op
     Some(false)
 }
 
+// Takes every place that is left: by then the threads of all clients that are gone have come to their ends.
+fn take_places<R>(rt: &R, alloc: Global, at: &Front, streams: &mut Vec<UnixStream>) -> Option<()>
+where
+    R: Net<Listener = TcpListener, Stream = TcpStream> + Clock,
+{
+    for _ in 1..CONNECTIONS {
+        streams.push(taken(rt, alloc, at)?).ok()?;
+    }
+    Some(())
+}
+
 // Once 192 are there a listing is refused, and a close isn't. A flush lets them go, and then a listing isn't refused any more.
 fn stays<R>(rt: &R, alloc: Global, at: &Front) -> Option<bool>
 where
@@ -64,10 +76,12 @@ where
     for _ in 0..ROUNDS {
         leave_reads(rt, alloc, at)?;
     }
+    let is_full = hears(rt, alloc, streams.first()?, 29)?;
+    take_places(rt, alloc, at, &mut streams)?;
     let stream = streams.first()?;
     Some(
         is_begun
-            && hears(rt, alloc, stream, 29)?
+            && is_full
             && is_done(alloc, stream, &["close", "0"])
             && is_done(alloc, stream, &["flush", "1"])
             && hears(rt, alloc, stream, 0)?,

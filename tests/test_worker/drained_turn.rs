@@ -100,7 +100,7 @@ fn drained_day<L: Ledger, R: Wait + Clock>(
     requires blank { IsBlankOf blank.name blank.parts L.name L.parts }
 {
     let manager = mounted::<Ties, L, R>(rt, alloc, filters(alloc)?, blank)?;
-    let (queue, mut passes) = JobQueue::new(alloc, 2, 3)?;
+    let (queue, mut passes) = JobQueue::new(alloc, 2, 6)?;
     let hook = Watch::new();
     let below = folder(alloc)?;
     let mut workers = make_workers(rt, alloc, &manager, &queue, &hook, &mut passes, below)?;
@@ -167,7 +167,7 @@ fn both_day<L: Ledger, R: Wait + Clock>(
     requires blank { IsBlankOf blank.name blank.parts L.name L.parts }
 {
     let manager = mounted::<Ties, L, R>(rt, alloc, filters(alloc)?, blank)?;
-    let (queue, mut passes) = JobQueue::new(alloc, 3, 3)?;
+    let (queue, mut passes) = JobQueue::new(alloc, 3, 6)?;
     let hook = Watch::new();
     let below = folder(alloc)?;
     let mut workers = make_workers(rt, alloc, &manager, &queue, &hook, &mut passes, below)?;

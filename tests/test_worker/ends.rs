@@ -333,7 +333,7 @@ fn scene_day<L: Ledger, R: Wait + Clock>(
     let manager = Manager::<Keeper, L>::new(alloc, filters(alloc)?, blank)?;
     manager.mount(rt, Name::read(b"v")?)?;
     manager.mount(rt, Name::read(b"w")?)?;
-    let (queue, mut passes) = JobQueue::new(alloc, 272, 1)?;
+    let (queue, mut passes) = JobQueue::new(alloc, 272, 2)?;
     let hook = NoHook;
     let client = new_client(rt, alloc, &manager, &queue, &hook, &mut passes)?;
     let first = manager.hire(rt)?;

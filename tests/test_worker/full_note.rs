@@ -45,7 +45,7 @@ fn look_at_last<L: Ledger, R: Wait + Clock>(
     requires blank { IsBlankOf blank.name blank.parts L.name L.parts }
 {
     let manager = mounted::<Ties, L, R>(rt, alloc, filters(alloc)?, blank)?;
-    let (queue, mut passes) = JobQueue::new(alloc, 1, 3)?;
+    let (queue, mut passes) = JobQueue::new(alloc, 1, 6)?;
     let hook = Watch::new();
     let below = folder(alloc)?;
     let Workers {

@@ -51,7 +51,7 @@ fn crowded_day<L: Ledger, R: Wait>(rt: &R, alloc: Global, blank: Blank) -> Resul
     requires blank { IsBlankOf blank.name blank.parts L.name L.parts }
 {
     let manager = mounted::<Ties, L, R>(rt, alloc, filters(alloc)?, blank)?;
-    let (queue, mut passes) = JobQueue::new(alloc, 1, 1)?;
+    let (queue, mut passes) = JobQueue::new(alloc, 1, 2)?;
     let hook = Watch::new();
     let mut client = new_worker(rt, alloc, &manager, &queue, &hook, &mut passes)?;
     carry_alone(rt, alloc, &manager, &mut client)
@@ -108,7 +108,7 @@ fn bound_day<L: Ledger, R: Wait>(rt: &R, alloc: Global, blank: Blank) -> Result<
     requires blank { IsBlankOf blank.name blank.parts L.name L.parts }
 {
     let manager = mounted::<Ties, L, R>(rt, alloc, filters(alloc)?, blank)?;
-    let (queue, mut passes) = JobQueue::new(alloc, 1, 2)?;
+    let (queue, mut passes) = JobQueue::new(alloc, 1, 4)?;
     let hook = Watch::new();
     let mut client = new_worker(rt, alloc, &manager, &queue, &hook, &mut passes)?;
     let mut other = new_worker(rt, alloc, &manager, &queue, &hook, &mut passes)?;

@@ -56,7 +56,7 @@ fn told_at_once<L: Ledger, R: Wait + Clock>(
     requires blank { IsBlankOf blank.name blank.parts L.name L.parts }
 {
     let manager = mounted::<Ties, L, R>(rt, alloc, filters(alloc)?, blank)?;
-    let (queue, mut passes) = JobQueue::new(alloc, 1, 1)?;
+    let (queue, mut passes) = JobQueue::new(alloc, 1, 2)?;
     let hook = Watch::new();
     let mut client = new_worker(rt, alloc, &manager, &queue, &hook, &mut passes)?;
     client.stop_worker();

@@ -66,7 +66,7 @@ fn beside_day<L: Ledger, R: Wait + Clock>(
     requires blank { IsBlankOf blank.name blank.parts L.name L.parts }
 {
     let manager = mounted::<Sample, L, R>(rt, alloc, hold(alloc)?, blank)?;
-    let (queue, mut passes) = JobQueue::new(alloc, 272, 2)?;
+    let (queue, mut passes) = JobQueue::new(alloc, 272, 4)?;
     let hook = NoHook;
     let mut client = new_worker(rt, alloc, &manager, &queue, &hook, &mut passes)?;
     let mut worker = new_worker(rt, alloc, &manager, &queue, &hook, &mut passes)?;

@@ -175,7 +175,7 @@ fn scene_day<L: Ledger, R: Wait + Clock>(
     requires blank { IsBlankOf blank.name blank.parts L.name L.parts }
 {
     let manager = mounted::<Sample, L, R>(rt, alloc, shift(alloc)?, blank)?;
-    let (queue, mut passes) = JobQueue::new(alloc, 272, 2)?;
+    let (queue, mut passes) = JobQueue::new(alloc, 272, 4)?;
     let hook = NoHook;
     let first = new_worker(rt, alloc, &manager, &queue, &hook, &mut passes)?;
     let second = new_worker(rt, alloc, &manager, &queue, &hook, &mut passes)?;

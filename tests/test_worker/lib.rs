@@ -31,6 +31,8 @@ mod one_place;
 #[cfg(test)]
 mod order_tests;
 #[cfg(test)]
+mod own_io;
+#[cfg(test)]
 mod own_turn;
 #[cfg(test)]
 mod put_aside;

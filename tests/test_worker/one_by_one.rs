@@ -85,7 +85,7 @@ fn put_all<R: Wait + Clock>(
 
 // Both at once.
 fn are_taken<R: Threads + Wait + Clock + Sync>(rt: &R, alloc: Global) -> Option<bool> {
-    let (queue, mut passes) = JobQueue::new(alloc, 4, 2).ok()?;
+    let (queue, mut passes) = JobQueue::new(alloc, 4, 4).ok()?;
     let mut takes = take_pass(&queue, &mut passes)?;
     let mut puts = take_pass(&queue, &mut passes)?;
     let taken = AtomicU64::new(0);

@@ -181,7 +181,7 @@ fn played<L: Ledger, R: Wait + Clock>(
 {
     let log = Arc::new(alloc, Log::new(alloc)?)?;
     let manager = mounted::<_, L, R>(rt, alloc, recorders(alloc, &log)?, blank)?;
-    let (queue, mut passes) = JobQueue::new(alloc, 272, 2)?;
+    let (queue, mut passes) = JobQueue::new(alloc, 272, 4)?;
     let hook = NoHook;
     let client = new_worker(rt, alloc, &manager, &queue, &hook, &mut passes)?;
     let worker = new_worker(rt, alloc, &manager, &queue, &hook, &mut passes)?;

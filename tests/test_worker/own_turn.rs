@@ -88,7 +88,7 @@ fn own_turn<L: Ledger + Send + Sync, R: Threads + Wait + Clock + Sync>(
     requires blank { IsBlankOf blank.name blank.parts L.name L.parts }
 {
     let manager = mounted::<Ties, L, R>(rt, alloc, filters(alloc)?, blank)?;
-    let (queue, mut passes) = JobQueue::new(alloc, 1, 3)?;
+    let (queue, mut passes) = JobQueue::new(alloc, 1, 6)?;
     let hook = Watch::new();
     let below = folder(alloc)?;
     let Workers {
@@ -139,7 +139,7 @@ fn look_again<L: Ledger, R: Wait + Clock>(
     requires blank { IsBlankOf blank.name blank.parts L.name L.parts }
 {
     let manager = mounted::<Ties, L, R>(rt, alloc, filters(alloc)?, blank)?;
-    let (queue, mut passes) = JobQueue::new(alloc, 1, 3)?;
+    let (queue, mut passes) = JobQueue::new(alloc, 1, 6)?;
     let hook = Watch::new();
     let below = folder(alloc)?;
     let Workers {
@@ -180,7 +180,7 @@ fn look_at_two<L: Ledger, R: Wait + Clock>(
     requires blank { IsBlankOf blank.name blank.parts L.name L.parts }
 {
     let manager = mounted::<Ties, L, R>(rt, alloc, filters(alloc)?, blank)?;
-    let (queue, mut passes) = JobQueue::new(alloc, 1, 3)?;
+    let (queue, mut passes) = JobQueue::new(alloc, 1, 6)?;
     let hook = Watch::new();
     let below = folder(alloc)?;
     let Workers {
@@ -227,7 +227,7 @@ fn turn_behind_a_stop<L: Ledger, R: Wait + Clock>(
     requires blank { IsBlankOf blank.name blank.parts L.name L.parts }
 {
     let manager = mounted::<Ties, L, R>(rt, alloc, filters(alloc)?, blank)?;
-    let (queue, mut passes) = JobQueue::new(alloc, 272, 3)?;
+    let (queue, mut passes) = JobQueue::new(alloc, 272, 6)?;
     let hook = Watch::new();
     let below = folder(alloc)?;
     let Workers {

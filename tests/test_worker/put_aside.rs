@@ -143,7 +143,7 @@ fn aside_day<L: Ledger, R: Wait>(rt: &R, alloc: Global, blank: Blank) -> Result<
     requires blank { IsBlankOf blank.name blank.parts L.name L.parts }
 {
     let manager = mounted::<Ties, L, R>(rt, alloc, filters(alloc)?, blank)?;
-    let (queue, mut passes) = JobQueue::new(alloc, 2, 5)?;
+    let (queue, mut passes) = JobQueue::new(alloc, 2, 10)?;
     let hook = Watch::new();
     let jobs = &queue;
     let (Some(pass), Some(mut looks)) = (take_pass(jobs, &mut passes), take_pass(jobs, &mut passes))

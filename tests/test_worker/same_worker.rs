@@ -117,7 +117,7 @@ fn homing_day<L: Ledger, R: Wait + Clock>(
     requires blank { IsBlankOf blank.name blank.parts L.name L.parts }
 {
     let manager = mounted::<Ties, L, R>(rt, alloc, filters(alloc)?, blank)?;
-    let (queue, mut passes) = JobQueue::new(alloc, 272, 3)?;
+    let (queue, mut passes) = JobQueue::new(alloc, 272, 6)?;
     let hook = Watch::new();
     let below = folder(alloc)?;
     let mut workers = make_workers(rt, alloc, &manager, &queue, &hook, &mut passes, below)?;

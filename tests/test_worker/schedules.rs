@@ -155,7 +155,7 @@ fn run_at<L: Ledger + Send + Sync, R: Threads + Wait + Clock + Sync>(
 {
     let counted = Arc::new(alloc, AtomicU64::new(0))?;
     let manager = mounted::<Unlocked, L, R>(rt, alloc, filters(alloc, &counted)?, blank)?;
-    let (queue, mut passes) = JobQueue::new(alloc, 272, 3)?;
+    let (queue, mut passes) = JobQueue::new(alloc, 272, 6)?;
     let hook = ScheduleHook::new(rt, alloc, Duration::from_secs(PATIENCE), chooser);
     let below = folder(alloc)?;
     let workers = make_workers(rt, alloc, &manager, &queue, &hook, &mut passes, below)?;

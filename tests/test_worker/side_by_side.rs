@@ -140,7 +140,7 @@ fn meeting_day<L: Ledger + Send + Sync, R: Threads + Wait + Clock + Sync>(
     requires blank { IsBlankOf blank.name blank.parts L.name L.parts }
 {
     let manager = mounted::<Sample, L, R>(rt, alloc, shift(alloc)?, blank)?;
-    let (queue, mut passes) = JobQueue::new(alloc, 272, 3)?;
+    let (queue, mut passes) = JobQueue::new(alloc, 272, 6)?;
     let hook = Meeting::new(rt);
     let below = folder(alloc)?;
     let workers = make_workers(rt, alloc, &manager, &queue, &hook, &mut passes, below)?;

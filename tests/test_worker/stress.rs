@@ -332,7 +332,7 @@ fn stress_round<L: Ledger + Send + Sync, R: Threads + Wait + Clock + Sync>(
     requires blank { IsBlankOf blank.name blank.parts L.name L.parts }
 {
     let manager = mounted::<Sample, L, R>(rt, alloc, filters(alloc)?, blank)?;
-    let (queue, mut passes) = JobQueue::new(alloc, places, 4)?;
+    let (queue, mut passes) = JobQueue::new(alloc, places, 8)?;
     let hook = NoHook;
     let below = folder(alloc)?;
     let workers = make_workers(rt, alloc, &manager, &queue, &hook, &mut passes, below)?;

@@ -152,7 +152,7 @@ fn racing_round<L: Ledger + Send + Sync, R: Threads + Wait + Clock + Sync>(
     requires blank { IsBlankOf blank.name blank.parts L.name L.parts }
 {
     let manager = mounted::<Sample, L, R>(rt, alloc, filters(alloc)?, blank)?;
-    let (queue, mut passes) = JobQueue::new(alloc, 272, 3)?;
+    let (queue, mut passes) = JobQueue::new(alloc, 272, 6)?;
     let gate = NoHook;
     let below = folder(alloc)?;
     let workers = make_workers(rt, alloc, &manager, &queue, &gate, &mut passes, below)?;

@@ -209,7 +209,7 @@ fn run_at<L: Ledger + Send + Sync, R: Threads + Wait + Clock + Sync>(
     requires blank { IsBlankOf blank.name blank.parts L.name L.parts }
 {
     let manager = mounted::<Sample, L, R>(rt, alloc, filters(alloc)?, blank)?;
-    let (queue, mut passes) = JobQueue::new(alloc, 272, 3)?;
+    let (queue, mut passes) = JobQueue::new(alloc, 272, 6)?;
     let patience = Duration::from_millis(patience);
     let hook = ScheduleHook::new(rt, alloc, patience, Chooser::Seed(seed));
     let below = folder(alloc)?;

@@ -143,7 +143,7 @@ fn is_put<L: Ledger + Send + Sync, R: Threads + Wait + Clock + Sync>(
 {
     let places = if matches!(put, Put::Once) { ASIDE } else { 1 };
     let manager = mounted::<Ties, L, R>(rt, alloc, filters(alloc)?, blank)?;
-    let (queue, mut passes) = JobQueue::new(alloc, places, 2)?;
+    let (queue, mut passes) = JobQueue::new(alloc, places, 4)?;
     let hook = Watch::new();
     let Some(mut pass) = take_pass(&queue, &mut passes) else {
         return Err(Status::TooMany);

@@ -208,12 +208,7 @@ static void tell(const KzPiece *piece, bool is_written)
 
 bool kz_is_in_drivers_place(void)
 {
-    static const char *const calls[] = {"Rtl", "FsRtl", "ExInterlocked", "ExfInterlocked", "Dbg", "wcs"};
-    const char *call = kz_me->place.from ? kz_me->place.call : NULL;
-    for (size_t at = 0; call && at < sizeof calls / sizeof calls[0]; at++)
-        if (strncmp(call, calls[at], strlen(calls[at])) == 0)
-            return true;
-    return false;
+    return kz_me->place.from && kz_me->place.call && kz_me->place.is_in_drivers_place;
 }
 
 /* The driver's own code, or a copy that it called. */

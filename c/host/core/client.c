@@ -27,6 +27,7 @@ void kz_new_client(KzClient *client, const char *name, unsigned number)
     client->thread = 104 + 4 * number;
     client->top_level = NULL;
     client->inside = 0;
+    client->is_known = client->is_detaching = false;
     client->number = number;
     client->is_last = false;
     client->timeout = 0;
@@ -51,7 +52,48 @@ unsigned kz_go_inside_unsaid(void)
     kz_free_stack();
     kz_me->calls++;
     kz_me->inside = 1;
+    kz_me->is_known = false;
     return 0;
+}
+
+void kz_uses_all(void)
+{
+    kz_scheduler->uses(NULL, KZU_WRITES);
+}
+
+void kz_uses_bytes(const void *bytes, size_t size, KzUse how)
+{
+    for (size_t at = 0; at < size; at += sizeof(uint64_t))
+        kz_scheduler->uses((const uint8_t *)bytes + at, how);
+}
+
+/* In a call that the host makes itself it is the outer one that would have to be known. */
+void kz_uses_own(void)
+{
+    kz_me->is_known |= kz_me->inside == 1;
+}
+
+void kz_uses_phases(void)
+{
+    for (size_t at = 0; at < kz.instances_count; at++)
+        kz_scheduler->uses(&kz.instances[at]->torn_down_by, KZU_READS);
+}
+
+void kz_uses_little(void)
+{
+    kz_uses_own();
+    kz_uses_phases();
+}
+
+void kz_acts_as_driver(void)
+{
+    kz_me->place.is_in_drivers_place |= kz_me->inside == 1;
+}
+
+static void leave_host(void)
+{
+    if (!kz_me->is_known)
+        kz_uses_all();
 }
 
 /* A driver's own call is looked at: whether it may be made at that IRQL. */
@@ -63,6 +105,7 @@ unsigned kz_go_inside(const char *name, const void *from)
     if (from == kz_answered)
         from = kz_me->place.answered_to;
     kz_me->place.call = name;
+    kz_me->place.is_in_drivers_place = false;
     kz_me->place.from = from;
     kz_note_callers(kz_me->place.callers, __builtin_frame_address(0), from);
     if (kz_is_binary(from))
@@ -93,6 +136,7 @@ void kz_end_inside(unsigned *depth)
     kz_me->inside = *depth;
     if (*depth > 0)
         return;
+    leave_host();
     let_code_go_on();
     kz_scheduler->unlock();
     kz_fill_stack();
@@ -110,6 +154,7 @@ void kz_end_call(unsigned *depth)
 static unsigned step_out(const char *name)
 {
     unsigned depth = kz_me->inside;
+    leave_host();
     kz_me->inside = 0;
     let_code_go_on();
     kz_scheduler->unlock();
@@ -134,6 +179,7 @@ void kz_driver_returned(unsigned depth, const char *name)
     kz_scheduler->lock();
     kz_free_stack();
     kz_me->inside = depth;
+    kz_me->is_known = false;
     kz_open_all_owned();
 }
 
@@ -219,9 +265,14 @@ static void touch_nothing(const void *object, size_t size, KzTouch how)
     (void)object, (void)size, (void)how;
 }
 
-static void look_at_nothing(const void *from)
+static void use_nothing(const void *object, KzUse how)
 {
-    (void)from;
+    (void)object, (void)how;
+}
+
+static void look_at_nothing(const void *object, const void *from)
+{
+    (void)object, (void)from;
 }
 
 static unsigned choose_as_asked(unsigned count, KzChoice what, const char *name)
@@ -234,4 +285,4 @@ static void nothing(void)
 {
 }
 
-const KzScheduler kz_in_order = {pass_point, wait_in_order, touch_nothing, look_at_nothing, choose_as_asked, kz_begin_thread, kz_let_thread, nothing, nothing, kz_print, false, true};
+const KzScheduler kz_in_order = {pass_point, wait_in_order, touch_nothing, use_nothing, look_at_nothing, choose_as_asked, kz_begin_thread, kz_let_thread, nothing, nothing, kz_print, false, true, false};

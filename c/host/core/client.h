@@ -4,6 +4,7 @@
 
 #include "host.h"
 #include "core/create.h"
+#include "core/place.h"
 
 /* The driver's function is called for it: its code runs until it has returned, or makes a call. */
 #define kz_let_driver(name, function) kz_let_function(name, (const void *)(uintptr_t)(function))
@@ -50,6 +51,8 @@ struct KzClient {
     } tries;
     const void *stack; /* where that of a binary's code begins that was called last */
     unsigned number;
+    bool is_known; /* what it touches inside the host, since it came in: that which is said, and no more */
+    bool is_detaching; /* its request is a detach, and what that touches is said */
     bool is_last; /* it goes on where no other can: what it expects is looked at */
     struct {
         char name[24];
@@ -80,14 +83,19 @@ typedef bool KzCan(void *what);
 /* What is done with an object or with memory, for who looks whether two clients are in order. */
 typedef enum { KZT_TAKES, KZT_GIVES, KZT_READS, KZT_HAS_TAKEN_BACK } KzTouch;
 
+/* How what others come to is touched. Two that add to it may do so in either order. */
+typedef enum { KZU_READS, KZU_ADDS, KZU_WRITES } KzUse;
+
 typedef struct {
     /* The client stands before what is named, in no call of the host: another may go on first. */
     void (*point)(const char *name, const void *from);
     /* It can't go on, and waits for what is named until it can. False: nobody brings that about, or its time is over. */
     bool (*wait)(KzCan *can, void *what, const char *text);
     void (*touch)(const void *object, size_t size, KzTouch how);
-    /* It tried for something in vain, and doesn't wait: code that does so again and again lets others go first. */
-    void (*looked)(const void *from);
+    /* What the client that is inside touches of the host, for who looks whether two clients' steps may change places; NULL is all of it. */
+    void (*uses)(const void *object, KzUse how);
+    /* It tried for that in vain, and doesn't wait: code that does so again and again lets others go first. */
+    void (*looked)(const void *object, const void *from);
     /* Which of so many answers the call gets; 0 is the usual one. The name is for people. */
     unsigned (*choose)(unsigned count, KzChoice what, const char *name);
     /* A thread beside the requests begins; one goes on until it waits, where it can, beside a client that waits for nobody: in order, and before and behind a run of the explorer. */
@@ -99,6 +107,7 @@ typedef struct {
     void (*said)(const KzSaid *said);
     bool has_others; /* clients run beside one another, and work items beside them */
     bool has_pages;  /* memory may have pages of its own, and an access to them may be a signal */
+    bool is_timeless; /* the clock stands still while clients make requests: when one comes doesn't say how late it is */
 } KzScheduler;
 
 #define KZ_CALL_FROM(name, from) __attribute__((cleanup(kz_end_call), unused)) unsigned kz_depth = kz_begin_call((name), (from))
@@ -108,6 +117,17 @@ typedef struct {
 #define KZ_INSIDE_FROM(name, from) __attribute__((cleanup(kz_end_call), unused)) unsigned kz_depth = kz_go_inside((name), (from))
 #define KZ_INSIDE_OF(name) KZ_INSIDE_FROM((name), KZ_CALLER())
 #define KZ_INSIDE() KZ_INSIDE_OF(__func__)
+/* A call that touches what its arguments lead to, what is the client's own, and what it says beside that. */
+#define KZ_INSIDE_ALONE() \
+    KZ_INSIDE();          \
+    kz_uses_own()
+#define KZ_CALL_ALONE() \
+    KZ_CALL();          \
+    kz_uses_own()
+/* And one that touches a driver's memory as the driver's own code would: what it meets there is the driver's doing. */
+#define KZ_INSIDE_AS_DRIVER() \
+    KZ_INSIDE_ALONE();        \
+    kz_acts_as_driver()
 unsigned kz_let_function(const char *name, const void *function);
 /* What runs beside the requests goes on: a deferred procedure call, a work item. False if nothing could. */
 bool kz_let_others(void);
@@ -131,6 +151,15 @@ bool kz_wait(KzCan *can, void *what, const char *format, ...) __attribute__((for
 /* The same in order as well: what runs beside goes on, and time passes as far as it is to; for ever with -1. */
 bool kz_wait_for(KzCan *can, void *what, int64_t milliseconds, const char *text);
 bool kz_refuses(KzChoice what, const char *call);
+/* From here on, until it leaves the host or another may go on, the client touches of what others come to only what it says. Where nobody says so it is taken to touch all of it, and so does what is called for more. */
+void kz_uses_own(void);
+/* How far the teardown of any instance is: the manager looks at that, and doesn't say at whose. */
+void kz_uses_phases(void);
+/* Both. */
+void kz_uses_little(void);
+void kz_uses_all(void);
+void kz_acts_as_driver(void);
+void kz_uses_bytes(const void *bytes, size_t size, KzUse how);
 bool kz_has_others(void);
 
 #endif

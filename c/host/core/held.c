@@ -14,7 +14,7 @@ typedef struct {
     const void *lock;
     KzClient *client;
     unsigned count;
-    bool is_shared;
+    bool is_shared, is_in_region;
     KIRQL irql, before; /* to which it raises, and at which it was taken */
     const char *call;
     const void *from, *callers[2]; /* where, as KzPlace has it */
@@ -113,6 +113,7 @@ static void wait_in_line(Wanted *one, const char *call)
         kz_wait(is_free, one, "%s of a lock that %s holds", call, owner->client->name);
     else
         kz_wait(is_free, one, "%s of a lock that %s waits for exclusively", call, writer->client->name);
+    kz_scheduler->uses(one->lock, KZU_WRITES);
     leave_line(one);
 }
 
@@ -137,36 +138,44 @@ static void add(Held one)
 #define UNWRITTEN 0xcdcdcdcdcdcdcdcdULL
 
 /* Who holds a spin lock can't wait for a page of it, and the kernel itself touches a fast mutex. */
-static void check_place(const void *lock, KIRQL irql, const char *call)
+static void check_place(const void *lock, int which, KIRQL irql, const char *call)
 {
-    bool is_fast = strstr(call, "FastMutex") || strstr(call, "GuardedMutex");
-    if (strncmp(call, "FltAcquireResource", 18) == 0)
+    if (which & KZ_MADE)
         kz_is_made(lock, "a resource", call);
-    else if (is_fast && ((const FAST_MUTEX *)lock)->Count != 1)
+    else if (which & KZ_COUNTED && ((const FAST_MUTEX *)lock)->Count != 1)
         kz_tell_of(lock, KZM_NEVER_MADE, call, "a fast mutex that was never initialized");
     else if (irql >= DISPATCH_LEVEL && *(const ULONG_PTR *)lock == UNWRITTEN)
         kz_tell_of(lock, KZM_NEVER_MADE, call, "a spin lock that was never initialized");
-    if (irql >= DISPATCH_LEVEL || strstr(call, "FastMutex"))
+    if (irql >= DISPATCH_LEVEL || which & KZ_FAST)
         kz_must_be_there(lock, irql >= DISPATCH_LEVEL ? "a spin lock" : "a fast mutex", call);
 }
 
 static void note(PVOID lock, int how, KIRQL irql, const char *call)
 {
     Held *one = find(lock);
-    check_place(lock, irql, call);
+    check_place(lock, how, irql, call);
     if (one)
         one->count++;
     else
-        add((Held){lock, kz_me, 1, is_shared(how), irql, kz_irql(), call, kz_me->place.from, {kz_me->place.callers[0], kz_me->place.callers[1]}, kz_me->place.number});
+        add((Held){lock, kz_me, 1, is_shared(how & KZ_HOW), (how & KZ_IN_REGION) != 0, irql, kz_irql(), call, kz_me->place.from, {kz_me->place.callers[0], kz_me->place.callers[1]}, kz_me->place.number});
     kz_scheduler->touch(lock, 0, KZT_TAKES);
+}
+
+/* Who has it, and who waits for it: of other locks nothing. */
+static void use_lock(const void *lock)
+{
+    kz_uses_own();
+    kz_scheduler->uses(lock, KZU_WRITES);
 }
 
 BOOLEAN KzTryTake(PVOID Lock, int How, KIRQL Irql, PCSTR Call)
 {
     KZ_CALL_OF(Call);
+    use_lock(Lock);
     Held *one = find(Lock);
-    if ((one && !may_share(one, How)) || !is_free(&(Wanted){.lock = Lock, .client = kz_me, .how = How})) {
-        kz_scheduler->looked(KZ_CALLER());
+    int how = How & KZ_HOW;
+    if ((one && !may_share(one, how)) || !is_free(&(Wanted){.lock = Lock, .client = kz_me, .how = how})) {
+        kz_scheduler->looked(Lock, KZ_CALLER());
         return FALSE;
     }
     note(Lock, How, Irql, Call);
@@ -176,9 +185,10 @@ BOOLEAN KzTryTake(PVOID Lock, int How, KIRQL Irql, PCSTR Call)
 VOID KzTake(PVOID Lock, int How, KIRQL Irql, PCSTR Call)
 {
     KZ_CALL_OF(Call);
+    use_lock(Lock);
     Held *one = find(Lock);
-    Wanted asked = {.lock = Lock, .client = kz_me, .how = How};
-    if (one && !may_share(one, How))
+    Wanted asked = {.lock = Lock, .client = kz_me, .how = How & KZ_HOW};
+    if (one && !may_share(one, asked.how))
         kz_tell(KZM_WAITS_FOR_EVER, Call, "the lock is held already, and by the same thread: it would wait for ever");
     else if (!is_free(&asked))
         wait_in_line(&asked, Call);
@@ -201,6 +211,7 @@ static void let_go(Held *one, PVOID lock, const char *call)
 VOID KzLetGo(PVOID Lock, PCSTR Call)
 {
     KZ_CALL_OF(Call);
+    use_lock(Lock);
     let_go(find(Lock), Lock, Call);
 }
 
@@ -235,14 +246,14 @@ bool kz_is_taken(const void *lock)
 
 BOOLEAN KzIsHeldAlone(const VOID *Lock)
 {
-    KZ_INSIDE();
+    KZ_INSIDE_ALONE();
     Held *one = find(Lock);
     return one && !one->is_shared;
 }
 
 ULONG KzIsHeld(const VOID *Lock)
 {
-    KZ_INSIDE();
+    KZ_INSIDE_ALONE();
     Held *one = find(Lock);
     return one ? one->count : 0;
 }
@@ -301,6 +312,7 @@ KIRQL kz_irql(void)
 VOID KzLetGoTo(PVOID Lock, KIRQL Irql, PCSTR Call)
 {
     KZ_CALL_OF(Call);
+    use_lock(Lock);
     Held *one = find(Lock);
     if (one && one->before != Irql)
         kz_tell(KZM_IRQL, Call, "to IRQL %u, where the lock was taken at %u", Irql, one->before);
@@ -310,7 +322,7 @@ VOID KzLetGoTo(PVOID Lock, KIRQL Irql, PCSTR Call)
 bool kz_are_apcs_disabled(void)
 {
     for (size_t at = 0; at < kz.held->count; at++)
-        if (kz.held->all[at].client == kz_me && strncmp(kz.held->all[at].call, "ExAcquire", 9) != 0)
+        if (kz.held->all[at].client == kz_me && (kz.held->all[at].is_in_region || kz.held->all[at].irql > PASSIVE_LEVEL))
             return true;
     return kz_irql() > PASSIVE_LEVEL;
 }

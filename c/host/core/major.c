@@ -50,5 +50,5 @@ static UCHAR major_of_event(uint8_t event)
 
 UCHAR kz_major_of(const KzOp *op)
 {
-    return op->carried ? op->carried->major : major_of_event(op->event);
+    return op->opaque ? op->opaque->major : major_of_event(op->event);
 }

@@ -113,7 +113,6 @@ enum {
     KZM_NO_SUCH_CONTEXTS = 204,
     KZM_KEPT_SET = 205,
     /* Held operations. */
-    KZM_CHANGED_WHILE_HELD = 212,
     KZM_UNREGISTER_WAITS = 213,
     /* Parameters and answers. */
     KZM_CREATE_COMPLETED = 221,

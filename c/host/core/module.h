@@ -3,6 +3,7 @@
 #define KZ_CORE_MODULE_H
 
 #include "host.h"
+#include "core/place.h"
 
 #include <stddef.h>
 

@@ -3,21 +3,23 @@
 #define KZ_CORE_OP_H
 
 #include "host.h"
+#include "core/place.h"
 #include "core/create.h"
 
-/* An instance on the way down, and the parameters that it received. */
-typedef struct KzStep {
-    struct KzStep *above;
-    PFLT_INSTANCE instance;
-    FLT_PARAMETERS received;
-} KzStep;
+/* Parameters that an instance left on the way down, by the number that the manager has for them: 1 and up, in the order in which they came. */
+typedef struct KzChanged {
+    struct KzChanged *before;
+    uint64_t number;
+    PFLT_INSTANCE by;
+    FLT_PARAMETERS parameters;
+} KzChanged;
 
-struct KzCarried {
+struct KzOpaque {
     UCHAR major, minor, operation_flags;
     ULONG irp_flags, data_flags;
     bool has_no_file;
-    FLT_PARAMETERS now; /* those in force: buffers are pointers, and none is copied */
-    KzStep *steps;
+    FLT_PARAMETERS first, now; /* those that were asked for, and those that came to the file system: buffers are pointers, and none is copied */
+    KzChanged *changed;
     uint8_t *output; /* the requestor's own buffer for the answer, and its size; and how many bytes it sent */
     size_t output_size, input_size;
     uint64_t information;
@@ -128,7 +130,7 @@ typedef struct {
     PFLT_INSTANCE initiator; /* those at its altitude and above don't hear; NULL: all hear */
     ULONG irp_flags;
     PECP_LIST ecps; /* of a create; the filter's own */
-    const KzAsked *carried; /* what the kit has in place of the manager's operation, as it begins */
+    const KzAsked *opaque; /* what the kit has in place of the manager's operation, as it begins */
     const KzCreate *create; /* of a create, as it begins; NULL: the usual one */
     uint8_t worker;
     bool has_worker; /* a client's, which has one of its own all the same */
@@ -180,12 +182,14 @@ struct KzOp {
     KzSafe safe;
     unsigned maker;
     KzClient *runner; /* who carries it on, also while it is held */
+    bool is_awaited;  /* and waits until it is let go on */
     KzOwn own;
-    KzCarried *carried; /* NULL: it is one of the manager's own */
+    KzOpaque *opaque; /* NULL: it is one of the manager's own */
     bool is_waiting;    /* the file system keeps it; it has a worker of its own */
     bool is_returning;  /* and that it waits is told still: nobody else carries it on before that is over */
     PECP_LIST ecps; /* that a filter put into a create */
     KzCancel cancel;
+    PFLT_INSTANCE last; /* that it came to on its way down; NULL if that isn't known */
     bool is_cancelled; /* a create that a filter cancelled in its postoperation */
     bool is_misnamed;  /* a create whose file object has a name that is none */
     bool is_reopened;  /* a create that failed, and that a filter sent down again: its file is open all the same */
@@ -203,6 +207,9 @@ struct KzOp {
     PVOID early_context;
     KzOp *next_resumed;
 };
+
+/* Puts other parameters into an operation: the event of their kind, with the bytes. */
+typedef uint32_t KzPut(KzOp *op, KazdrinEvent event, const uint8_t *bytes, size_t length);
 
 /* What an operation was answered: a number that stands for the kit's own status, which is `other`, and bytes, which lie in the client's room. */
 typedef struct {

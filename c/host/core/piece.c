@@ -317,6 +317,8 @@ void kz_check_all_memory(PFLT_FILTER filter)
 /* And as its callback returns. */
 void kz_check_memory(PFLT_FILTER filter)
 {
+    if (kz.piece->count > FEW)
+        kz_uses_all(); /* how many callbacks have returned decides what is looked at */
     if (kz.piece->count <= FEW || ++kz.piece->returns % NOW_AND_THEN == 0) {
         kz_check_all_memory(filter);
     } else {
@@ -354,6 +356,7 @@ size_t kz_there(const void *memory, size_t size, const char *what)
 void kz_check_text_from(const void *text, const char *call, const void *from)
 {
     KZ_INSIDE_FROM(call, from);
+    kz_acts_as_driver();
     KzPiece *piece = kz_piece_of(text);
     const WCHAR *letters = text;
     size_t count = piece ? piece->size / sizeof(WCHAR) : 1;

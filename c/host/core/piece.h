@@ -3,6 +3,7 @@
 #define KZ_CORE_PIECE_H
 
 #include "host.h"
+#include "core/place.h"
 
 /* An input is what the system has copied of a program's. */
 typedef enum { KZK_POOL, KZK_CONTEXT, KZK_NAME, KZK_BUFFER, KZK_CALLER, KZK_INPUT, KZK_DATA } KzMemory;

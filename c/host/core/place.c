@@ -12,6 +12,8 @@
 
 #include <stdarg.h>
 
+const char kz_a_request[] = "a request";
+
 static const char *const callbacks[] = {"no callback",  "DriverEntry",    "setup",             "preoperation", "postoperation", "drain", "query",
                                         "teardown start", "teardown complete", "unload",       "context cleanup", "work item", "timer",
                                         "thread",       "port",  "cancel",       "notify routine", "completion", "dispatch", "name provider"};
@@ -104,7 +106,7 @@ size_t kz_source_text(char *room, size_t size, const char *call)
     char path[400];
     room[0] = 0;
     kz_spell(path, sizeof path, place->path ? place->path : "");
-    if (place->from && !place->filter && strcmp(place->call, "a request") == 0)
+    if (place->from && !place->filter && place->call == kz_a_request)
         ; /* the host's own line says nothing */
     else if (place->from && strcmp(place->call, call) != 0)
         add(room, size, &used, ", at @%lx by %s", (unsigned long)kz_in_file(place->from), place->call);

@@ -23,37 +23,37 @@ static PVOID take_pool(const char *call, bool is_paged, SIZE_T size, int fill, U
 
 PVOID ExAllocatePoolWithTag(POOL_TYPE PoolType, SIZE_T NumberOfBytes, ULONG Tag)
 {
-    KZ_INSIDE();
+    KZ_INSIDE_ALONE();
     return take_pool(__func__, PoolType & PagedPool, NumberOfBytes, kz_unwritten(0xcd), Tag);
 }
 
 PVOID ExAllocatePool(POOL_TYPE PoolType, SIZE_T NumberOfBytes)
 {
-    KZ_INSIDE();
+    KZ_INSIDE_ALONE();
     return ExAllocatePoolWithTag(PoolType, NumberOfBytes, 'enoN');
 }
 
 PVOID ExAllocatePoolWithQuotaTag(POOL_TYPE PoolType, SIZE_T NumberOfBytes, ULONG Tag)
 {
-    KZ_INSIDE();
+    KZ_INSIDE_ALONE();
     return ExAllocatePoolWithTag(PoolType, NumberOfBytes, Tag);
 }
 
 PVOID ExAllocatePoolUninitialized(POOL_TYPE PoolType, SIZE_T NumberOfBytes, ULONG Tag)
 {
-    KZ_INSIDE();
+    KZ_INSIDE_ALONE();
     return ExAllocatePoolWithTag(PoolType, NumberOfBytes, Tag);
 }
 
 PVOID ExAllocatePoolZero(POOL_TYPE PoolType, SIZE_T NumberOfBytes, ULONG Tag)
 {
-    KZ_INSIDE();
+    KZ_INSIDE_ALONE();
     return take_pool(__func__, PoolType & PagedPool, NumberOfBytes, 0, Tag);
 }
 
 PVOID ExAllocatePool2(POOL_FLAGS Flags, SIZE_T NumberOfBytes, ULONG Tag)
 {
-    KZ_INSIDE();
+    KZ_INSIDE_ALONE();
     return take_pool(__func__, Flags & POOL_FLAG_PAGED, NumberOfBytes, Flags & POOL_FLAG_UNINITIALIZED ? kz_unwritten(0xcd) : 0, Tag);
 }
 
@@ -78,7 +78,7 @@ static KzPiece *pool_of(PVOID memory, const char *call)
 
 void kz_free_pool(PVOID memory, const char *call)
 {
-    KZ_INSIDE();
+    KZ_INSIDE_ALONE();
     KzPiece *piece = pool_of(memory, call);
     if (piece && piece->owner == KZ_PAGED)
         kz_may_be_called(call, APC_LEVEL);
@@ -88,7 +88,7 @@ void kz_free_pool(PVOID memory, const char *call)
 
 VOID ExFreePoolWithTag(PVOID P, ULONG Tag)
 {
-    KZ_INSIDE();
+    KZ_INSIDE_ALONE();
     KzPiece *piece = pool_of(P, __func__);
     char own[8], given[8];
     if (!piece)
@@ -102,13 +102,13 @@ VOID ExFreePoolWithTag(PVOID P, ULONG Tag)
 
 VOID ExFreePool(PVOID P)
 {
-    KZ_INSIDE();
+    KZ_INSIDE_ALONE();
     kz_free_pool(P, __func__);
 }
 
 VOID ExFreePool2(PVOID P, ULONG Tag, PVOID ExtendedParameters, ULONG ExtendedParametersCount)
 {
-    KZ_INSIDE();
+    KZ_INSIDE_ALONE();
     (void)ExtendedParameters, (void)ExtendedParametersCount;
     ExFreePoolWithTag(P, Tag);
 }

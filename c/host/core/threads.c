@@ -139,9 +139,14 @@ static unsigned choose(unsigned count, KzChoice what, const char *name)
     return 0;
 }
 
-static void looked(const void *from)
+static void use(const void *object, KzUse how)
 {
-    (void)from;
+    (void)object, (void)how;
+}
+
+static void looked(const void *object, const void *from)
+{
+    (void)object, (void)from;
 }
 
 /* It doesn't begin before it is given the turn: there all have it. */
@@ -151,7 +156,7 @@ static bool let(KzThread *thread)
     return false;
 }
 
-const KzScheduler kz_threads = {point, wait, touch, looked, choose, kz_begin_thread, let, lock, unlock, kz_print, true, true};
+const KzScheduler kz_threads = {point, wait, touch, use, looked, choose, kz_begin_thread, let, lock, unlock, kz_print, true, true, false};
 
 void kz_use_threads(uint64_t number)
 {

@@ -37,7 +37,7 @@ static NTSTATUS set_ea(KzOp *op, const FLT_PARAMETERS *now)
     size_t wrong;
     KzName *name = op->file->name;
     if (now->SetEa.Length && !is_chain(now->SetEa.EaBuffer, now->SetEa.Length, &wrong)) {
-        op->carried->information = wrong;
+        op->opaque->information = wrong;
         return STATUS_EA_LIST_INCONSISTENT;
     }
     kz_keep_bytes(&name->node->ea, now->SetEa.EaBuffer, now->SetEa.Length);
@@ -52,14 +52,14 @@ static NTSTATUS query_ea(KzOp *op, const FLT_PARAMETERS *now)
         return STATUS_NO_EAS_ON_FILE;
     if (now->QueryEa.Length < kept->length)
         return STATUS_BUFFER_OVERFLOW;
-    memcpy(now->QueryEa.EaBuffer, kept->bytes, op->carried->information = kept->length);
+    memcpy(now->QueryEa.EaBuffer, kept->bytes, op->opaque->information = kept->length);
     return STATUS_SUCCESS;
 }
 
 /* ---- Security: a descriptor that stands in one piece, as it was set; where none was, one of nobody's, with no lists. */
 static NTSTATUS set_security(KzOp *op, const FLT_PARAMETERS *now)
 {
-    size_t length = op->carried->input_size;
+    size_t length = op->opaque->input_size;
     KzBytes *kept = &op->file->name->node->security;
     SECURITY_INFORMATION what = now->SetSecurity.SecurityInformation;
     if (!kz_is_descriptor(now->SetSecurity.SecurityDescriptor, length))
@@ -78,7 +78,7 @@ static NTSTATUS query_security(KzOp *op, const FLT_PARAMETERS *now)
     uint8_t *made = kz_memory(kept->length + sizeof KZ_NO_DESCRIPTOR);
     size_t length = kz_join_descriptors(kept->length ? kept->bytes : KZ_NO_DESCRIPTOR, now->QuerySecurity.SecurityInformation, NULL, 0, made);
     bool has_room = now->QuerySecurity.Length >= length;
-    op->carried->information = length; /* also of what has no room */
+    op->opaque->information = length; /* also of what has no room */
     if (has_room)
         memcpy(now->QuerySecurity.SecurityBuffer, made, length);
     free(made);
@@ -91,7 +91,7 @@ static NTSTATUS lock(KzOp *op, const FLT_PARAMETERS *now)
     const KzRange range = {(uint64_t)now->LockControl.ByteOffset.QuadPart, now->LockControl.Length ? (uint64_t)now->LockControl.Length->QuadPart : 0, now->LockControl.ExclusiveLock, now->LockControl.Key};
     if (op->file->is_directory)
         return STATUS_INVALID_PARAMETER;
-    switch (op->carried->minor) {
+    switch (op->opaque->minor) {
     case IRP_MN_LOCK:
         return kz_lock_range(op->file, &range);
     case IRP_MN_UNLOCK_SINGLE:
@@ -171,7 +171,7 @@ static NTSTATUS control(KzOp *op, const FLT_PARAMETERS *now)
         if (now->FileSystemControl.Common.OutputBufferLength < sizeof *compressed)
             return STATUS_INVALID_PARAMETER;
         *compressed = 0;
-        op->carried->information = sizeof *compressed;
+        op->opaque->information = sizeof *compressed;
         return STATUS_SUCCESS;
     default:
         return kz_control_file(op, now);
@@ -184,14 +184,14 @@ static NTSTATUS network_open(KzOp *op, const FLT_PARAMETERS *now)
     if (!name || !kz_is_there(name))
         return STATUS_OBJECT_NAME_NOT_FOUND;
     kz_show_network(name->node, now->NetworkQueryOpen.NetworkInformation);
-    op->carried->information = sizeof(FILE_NETWORK_OPEN_INFORMATION);
+    op->opaque->information = sizeof(FILE_NETWORK_OPEN_INFORMATION);
     return STATUS_SUCCESS;
 }
 
 /* What is of a file that has a name here. */
 static NTSTATUS of_file(KzOp *op, const FLT_PARAMETERS *now)
 {
-    switch (op->carried->major) {
+    switch (op->opaque->major) {
     case IRP_MJ_QUERY_EA:
         return query_ea(op, now);
     case IRP_MJ_SET_EA:
@@ -207,7 +207,7 @@ static NTSTATUS of_file(KzOp *op, const FLT_PARAMETERS *now)
 
 NTSTATUS kz_answer_other(KzOp *op, const FLT_PARAMETERS *now)
 {
-    switch (op->carried->major) {
+    switch (op->opaque->major) {
     case IRP_MJ_QUERY_EA:
     case IRP_MJ_SET_EA:
     case IRP_MJ_QUERY_SECURITY:

@@ -2,6 +2,7 @@
  * hears of it as the file goes, by a handle that nobody hears of: so its bytes go with the last close. */
 #include "filesystem/deletion.h"
 
+#include "core/client.h"
 #include "filesystem/call.h"
 #include "filesystem/disk.h"
 #include "filesystem/name.h"
@@ -128,6 +129,7 @@ void kz_count_no_open(KzFile *file)
 uint8_t kz_delete_name(KzName *name)
 {
     KzNode *node = name->node;
+    kz_uses_all();
     uint8_t status = kz_unlink_in_folder(name->volume->id, name->text);
     if (status != KZS_OK && status != KZS_FILE_NOT_FOUND)
         return status;

@@ -140,9 +140,9 @@ static NTSTATUS list(KzOp *op, const FLT_PARAMETERS *now, const Shape *shape)
     KzFile *file = op->file;
     uint8_t *buffer = now->DirectoryControl.QueryDirectory.DirectoryBuffer, *before = NULL;
     size_t room = now->DirectoryControl.QueryDirectory.Length, place = 0;
-    bool is_first = !file->scan.pattern[0] || op->carried->operation_flags & SL_RESTART_SCAN;
+    bool is_first = !file->scan.pattern[0] || op->opaque->operation_flags & SL_RESTART_SCAN;
     Entry entry;
-    begin_scan(file, now, op->carried->operation_flags & SL_RESTART_SCAN);
+    begin_scan(file, now, op->opaque->operation_flags & SL_RESTART_SCAN);
     while (next_entry(file, &entry)) {
         size_t size = shape->name + strlen(entry.name) * sizeof(WCHAR);
         if (place + size > room) {
@@ -155,10 +155,10 @@ static NTSTATUS list(KzOp *op, const FLT_PARAMETERS *now, const Shape *shape)
         if (before)
             *(ULONG *)before = (ULONG)(buffer + place - before);
         before = buffer + place;
-        op->carried->information = place + size;
+        op->opaque->information = place + size;
         place = (place + size + 7) & ~(size_t)7;
         pass(file, &entry);
-        if (op->carried->operation_flags & SL_RETURN_SINGLE_ENTRY)
+        if (op->opaque->operation_flags & SL_RETURN_SINGLE_ENTRY)
             break;
     }
     return before ? STATUS_SUCCESS : is_first ? STATUS_NO_SUCH_FILE : STATUS_NO_MORE_FILES;
@@ -168,7 +168,7 @@ NTSTATUS kz_answer_directory(KzOp *op, const FLT_PARAMETERS *now)
 {
     if (!op->file->name || !op->file->is_directory)
         return STATUS_INVALID_PARAMETER;
-    if (op->carried->minor != IRP_MN_QUERY_DIRECTORY)
+    if (op->opaque->minor != IRP_MN_QUERY_DIRECTORY)
         return kz_wait_for_change(op);
     const Shape *shape = shape_of((int)now->DirectoryControl.QueryDirectory.FileInformationClass);
     return shape ? list(op, now, shape) : STATUS_INVALID_INFO_CLASS;

@@ -28,7 +28,7 @@ static NTSTATUS give(KzOp *op, const Buffers *to, const void *bytes, size_t size
 {
     if (to->out_length < size)
         return STATUS_BUFFER_TOO_SMALL;
-    memcpy(to->out, bytes, op->carried->information = size);
+    memcpy(to->out, bytes, op->opaque->information = size);
     return STATUS_SUCCESS;
 }
 

@@ -36,6 +36,7 @@ NTSTATUS kz_wait_for_change(KzOp *op)
 
 static void make_due(Notice *notice, NTSTATUS status)
 {
+    kz_uses_all();
     notice->is_due = true;
     notice->status = status;
     kz_scheduler->touch(notice->op, 0, KZT_GIVES);
@@ -44,7 +45,7 @@ static void make_due(Notice *notice, NTSTATUS status)
 
 static void tell(Notice *notice, const char *rest, ULONG action)
 {
-    const FLT_PARAMETERS *now = &notice->op->carried->now;
+    const FLT_PARAMETERS *now = &notice->op->opaque->now;
     struct {
         ULONG next, action, length;
         WCHAR name[260];
@@ -52,7 +53,7 @@ static void tell(Notice *notice, const char *rest, ULONG action)
     change.length = kz_widen(change.name, rest);
     size_t size = offsetof(FILE_NOTIFY_INFORMATION, FileName) + change.length;
     bool has_room = size <= now->DirectoryControl.NotifyDirectory.Length;
-    notice->op->carried->information = has_room ? size : 0;
+    notice->op->opaque->information = has_room ? size : 0;
     if (has_room)
         memcpy(now->DirectoryControl.NotifyDirectory.DirectoryBuffer, &change, size);
     make_due(notice, has_room ? STATUS_SUCCESS : STATUS_NOTIFY_ENUM_DIR);
@@ -63,10 +64,10 @@ void kz_notify(const KzName *name, ULONG filter, ULONG action)
     for (Notice *one = kz.notice->first; one; one = one->next) {
         const KzFile *file = one->op->file;
         const char *directory = kz_name_now(file);
-        if (one->is_due || !kz_is_below(name, file->volume, directory) || !(one->op->carried->now.DirectoryControl.NotifyDirectory.CompletionFilter & filter))
+        if (one->is_due || !kz_is_below(name, file->volume, directory) || !(one->op->opaque->now.DirectoryControl.NotifyDirectory.CompletionFilter & filter))
             continue;
         const char *rest = name->text + (*directory ? strlen(directory) + 1 : 0);
-        if (!strchr(rest, '/') || one->op->carried->operation_flags & SL_WATCH_TREE)
+        if (!strchr(rest, '/') || one->op->opaque->operation_flags & SL_WATCH_TREE)
             tell(one, rest, action);
     }
 }
@@ -96,6 +97,7 @@ bool kz_run_notice(void)
     if (!*at)
         return false;
     Notice *gone = *at;
+    kz_uses_all();
     *at = gone->next;
     kz.store->go_on(gone->op, gone->status);
     free(gone);

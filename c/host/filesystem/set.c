@@ -14,7 +14,7 @@
 
 NTSTATUS kz_answer_query(KzOp *op, const FLT_PARAMETERS *now)
 {
-    const KzRoom room = {now->QueryFileInformation.InfoBuffer, now->QueryFileInformation.Length, &op->carried->information};
+    const KzRoom room = {now->QueryFileInformation.InfoBuffer, now->QueryFileInformation.Length, &op->opaque->information};
     if (!op->file->name)
         return STATUS_INVALID_PARAMETER;
     kz_is_there(op->file->name);

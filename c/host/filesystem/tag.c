@@ -116,7 +116,7 @@ static NTSTATUS get(KzOp *op, const FLT_PARAMETERS *now)
     if (room < offsetof(REPARSE_DATA_BUFFER, GenericReparseBuffer))
         return STATUS_BUFFER_TOO_SMALL;
     size_t length = kept->length < room ? kept->length : room;
-    memcpy(now->FileSystemControl.Buffered.SystemBuffer, kept->bytes, op->carried->information = length);
+    memcpy(now->FileSystemControl.Buffered.SystemBuffer, kept->bytes, op->opaque->information = length);
     return length < kept->length ? STATUS_BUFFER_OVERFLOW : STATUS_SUCCESS;
 }
 

@@ -96,8 +96,8 @@ static NTSTATUS set_label(PFLT_VOLUME volume, const FLT_PARAMETERS *now)
 
 NTSTATUS kz_answer_volume(KzOp *op, const FLT_PARAMETERS *now)
 {
-    const KzRoom room = {now->QueryVolumeInformation.VolumeBuffer, now->QueryVolumeInformation.Length, &op->carried->information};
-    if (op->carried->major == IRP_MJ_SET_VOLUME_INFORMATION)
+    const KzRoom room = {now->QueryVolumeInformation.VolumeBuffer, now->QueryVolumeInformation.Length, &op->opaque->information};
+    if (op->opaque->major == IRP_MJ_SET_VOLUME_INFORMATION)
         return set_label(op->volume, now);
     return query(op->volume, (int)now->QueryVolumeInformation.FsInformationClass, &room);
 }

@@ -16,6 +16,7 @@ void KzAssertFailed(PCSTR Expression, PCSTR File, int Line)
 void KzBreak(void)
 {
     KZ_INSIDE_OF("DbgBreakPoint");
+    kz_acts_as_driver();
     kz_tell(KZM_BUG_CHECK, "DbgBreakPoint", "the driver breaks into a debugger");
 }
 

@@ -1,4 +1,4 @@
-/* What a driver asks of a file by itself, and sets: operations of which those below hear. The size, its change and a plain deletion are the manager's own; the others ride on one. */
+/* What a driver asks of a file by itself, and sets: operations of which those below hear. The size, its change and a plain deletion have kinds of their own. */
 #include "kit/information.h"
 
 #include "core/client.h"
@@ -57,6 +57,7 @@ NTSTATUS FltQueryInformationFile(PFLT_INSTANCE Instance, PFILE_OBJECT FileObject
 NTSTATUS FsRtlGetFileSize(PFILE_OBJECT FileObject, PLARGE_INTEGER FileSize)
 {
     KZ_CALL();
+    kz_acts_as_driver();
     FILE_STANDARD_INFORMATION standard;
     ULONG used;
     NTSTATUS status = kz_query_below(NULL, FileObject, &standard, sizeof standard, FileStandardInformation, &used, __func__);

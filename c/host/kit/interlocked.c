@@ -12,6 +12,7 @@ void kz_in_order_of(PVOID object)
 
 VOID InitializeSListHead(PSLIST_HEADER ListHead)
 {
+    kz_uses_all();
     ListHead->Alignment[0] = ListHead->Alignment[1] = 0;
 }
 

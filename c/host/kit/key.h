@@ -3,6 +3,7 @@
 #define KZ_KIT_KEY_H
 
 #include "host.h"
+#include "core/place.h"
 
 enum { KZ_KEY_NAME = 400 };
 

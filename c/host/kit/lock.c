@@ -5,13 +5,13 @@
 
 KIRQL KeGetCurrentIrql(VOID)
 {
-    KZ_INSIDE();
+    KZ_INSIDE_ALONE();
     return kz_irql();
 }
 
 KIRQL KfRaiseIrql(KIRQL NewIrql)
 {
-    KZ_INSIDE();
+    KZ_INSIDE_ALONE();
     KIRQL before = kz_irql();
     if (NewIrql < before)
         kz_tell(KZM_IRQL, "KeRaiseIrql", "to %u, below the current %u", NewIrql, before);
@@ -21,7 +21,7 @@ KIRQL KfRaiseIrql(KIRQL NewIrql)
 
 VOID KeLowerIrql(KIRQL NewIrql)
 {
-    KZ_INSIDE();
+    KZ_INSIDE_ALONE();
     if (NewIrql > kz_me->place.raised)
         kz_tell(KZM_IRQL, "KeLowerIrql", "to %u, above the current %u", NewIrql, kz_me->place.raised);
     else if (NewIrql < kz_me->place.irql)
@@ -32,6 +32,7 @@ VOID KeLowerIrql(KIRQL NewIrql)
 void KzPagedCode(PCSTR Function)
 {
     KZ_INSIDE_OF("PAGED_CODE");
+    kz_uses_own();
     KIRQL irql = KeGetCurrentIrql();
     if (irql > APC_LEVEL)
         kz_tell(KZM_IRQL, "PAGED_CODE", "%s runs at IRQL %u", Function, irql);
@@ -39,25 +40,26 @@ void KzPagedCode(PCSTR Function)
 
 VOID KeEnterCriticalRegion(VOID)
 {
-    KZ_INSIDE();
-    KzTake(&kz_me->region, KZ_AGAIN, PASSIVE_LEVEL, __func__);
+    KZ_INSIDE_ALONE();
+    KzTake(&kz_me->region, KZ_AGAIN | KZ_IN_REGION, PASSIVE_LEVEL, __func__);
 }
 
 VOID KeLeaveCriticalRegion(VOID)
 {
-    KZ_INSIDE();
+    KZ_INSIDE_ALONE();
     KzLetGo(&kz_me->region, __func__);
 }
 
 BOOLEAN KeAreApcsDisabled(VOID)
 {
-    KZ_INSIDE();
+    KZ_INSIDE_ALONE();
     return kz_are_apcs_disabled();
 }
 
 KIRQL KzTakeSpinLock(PVOID Lock, PCSTR Call)
 {
     KZ_CALL_OF(Call);
+    kz_uses_own();
     KIRQL before = KeGetCurrentIrql();
     KzTake(Lock, KZ_ALONE, DISPATCH_LEVEL, Call);
     return before;
@@ -66,6 +68,7 @@ KIRQL KzTakeSpinLock(PVOID Lock, PCSTR Call)
 KIRQL KzTakeSpinLockShared(PVOID Lock, PCSTR Call)
 {
     KZ_CALL_OF(Call);
+    kz_uses_own();
     KIRQL before = KeGetCurrentIrql();
     KzTake(Lock, KZ_SHARED, DISPATCH_LEVEL, Call);
     return before;

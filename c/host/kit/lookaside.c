@@ -25,6 +25,7 @@ VOID KzInitializeLookaside(PVOID List, PALLOCATE_FUNCTION Allocate, PFREE_FUNCTI
 static bool is_made(const Lookaside *list, const char *call, const void *from)
 {
     KZ_INSIDE_FROM(call, from);
+    kz_uses_little();
     if (list->Initialized != MADE)
         kz_tell(KZM_NO_LOOKASIDE, call, "a lookaside list that wasn't initialized, or was deleted");
     return list->Initialized == MADE;
@@ -56,6 +57,7 @@ PVOID KzAllocateFromLookaside(PVOID List, PCSTR Call)
     if (IS_OWN(list->Allocate))
         return KZ_CALL_DRIVER(list->Allocate, list->Type, list->Size, list->Tag);
     KZ_INSIDE_OF(Call);
+    kz_uses_little();
     PVOID memory = ExAllocatePoolWithTag(list->Type, list->Size, list->Tag);
     note_lookaside(memory, list);
     return memory;
@@ -72,6 +74,7 @@ VOID KzFreeToLookaside(PVOID List, PVOID Entry, PCSTR Call)
         return;
     }
     KZ_INSIDE_OF(Call);
+    kz_uses_little();
     if (!IS_OWN(list->Allocate))
         check_lookaside(Entry, list, Call);
     kz_free_pool(Entry, Call);

@@ -156,6 +156,15 @@ static NTSTATUS note_cached(NTSTATUS status, uint8_t *cached, FLT_FILE_NAME_OPTI
     return status;
 }
 
+/* The names of the folder, and that it is in the cache from then on: others put it there as well. */
+static void use_names(const uint8_t *cached, FLT_FILE_NAME_OPTIONS options)
+{
+    bool asks_cache = FltGetFileNameQueryMethod(options) == FLT_FILE_NAME_QUERY_CACHE_ONLY;
+    kz_uses_little();
+    kz_scheduler->uses(&kz.files, KZU_READS);
+    kz_scheduler->uses(cached, asks_cache ? KZU_WRITES : KZU_ADDS);
+}
+
 NTSTATUS FltGetFileNameInformation(PFLT_CALLBACK_DATA CallbackData, FLT_FILE_NAME_OPTIONS NameOptions, PFLT_FILE_NAME_INFORMATION *FileNameInformation)
 {
     KZ_CALL();
@@ -169,13 +178,15 @@ NTSTATUS FltGetFileNameInformation(PFLT_CALLBACK_DATA CallbackData, FLT_FILE_NAM
         return STATUS_INVALID_PARAMETER;
     if (is_unsafe(op, NameOptions, true, __func__))
         return STATUS_FLT_INVALID_NAME_REQUEST;
-    if (op->carried && op->carried->has_no_file)
+    if (op->opaque && op->opaque->has_no_file)
         return STATUS_INVALID_PARAMETER;
     if (is_opening(op) && FltGetFileNameFormat(NameOptions) == FLT_FILE_NAME_SHORT)
         return STATUS_FLT_INVALID_NAME_REQUEST;
     uint8_t *cached = cached_of(op->file, !is_opening(op));
     if (is_cache_miss(cached, NameOptions))
         return STATUS_FLT_NAME_CACHE_MISS;
+    if (op->maker == kz_me->number)
+        use_names(cached, NameOptions);
     char text[600];
     NTSTATUS status;
     PFLT_INSTANCE asker = kz_me->place.instance ? kz_me->place.instance : CallbackData->Iopb->TargetInstance;
@@ -255,14 +266,20 @@ VOID FltReferenceFileNameInformation(PFLT_FILE_NAME_INFORMATION FileNameInformat
 {
     KZ_CALL();
     Named **at = find(FileNameInformation, __func__);
-    if (at)
-        (*at)->references++;
+    if (!at)
+        return;
+    kz_uses_little();
+    kz_scheduler->uses(*at, KZU_WRITES);
+    (*at)->references++;
 }
 
 VOID FltReleaseFileNameInformation(PFLT_FILE_NAME_INFORMATION FileNameInformation)
 {
     KZ_CALL();
     Named **at = find(FileNameInformation, __func__);
+    kz_uses_little();
+    if (at)
+        kz_scheduler->uses(*at, KZU_WRITES);
     if (!at || --(*at)->references > 0)
         return;
     Named *gone = *at;

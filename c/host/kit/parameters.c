@@ -12,6 +12,8 @@
 VOID FltSetCallbackDataDirty(PFLT_CALLBACK_DATA Data)
 {
     KZ_INSIDE();
+    if (kz_me->place.op && kz_me->place.op->data == Data)
+        kz_uses_little();
     Data->Flags |= FLTFL_CALLBACK_DATA_DIRTY;
 }
 
@@ -23,6 +25,8 @@ VOID FltClearCallbackDataDirty(PFLT_CALLBACK_DATA Data)
 
 BOOLEAN FltIsCallbackDataDirty(PFLT_CALLBACK_DATA Data)
 {
+    if (!kz_me->place.op || kz_me->place.op->data != Data)
+        kz_uses_all();
     return (Data->Flags & FLTFL_CALLBACK_DATA_DIRTY) != 0;
 }
 
@@ -104,19 +108,19 @@ BOOLEAN FltDoCompletionProcessingWhenSafe(PFLT_CALLBACK_DATA Data, PCFLT_RELATED
 
 HANDLE FltGetRequestorProcessIdEx(PFLT_CALLBACK_DATA CallbackData)
 {
-    KZ_INSIDE();
+    KZ_INSIDE_ALONE();
     return PsGetThreadProcessId(CallbackData->Thread);
 }
 
 ULONG FltGetRequestorProcessId(PFLT_CALLBACK_DATA CallbackData)
 {
-    KZ_INSIDE();
+    KZ_INSIDE_ALONE();
     return HandleToULong(FltGetRequestorProcessIdEx(CallbackData));
 }
 
 PEPROCESS FltGetRequestorProcess(PFLT_CALLBACK_DATA CallbackData)
 {
-    KZ_INSIDE();
+    KZ_INSIDE_ALONE();
     return IoThreadToProcess(CallbackData->Thread);
 }
 

@@ -51,7 +51,7 @@ static void look_at_wide_text(PCSTR format, va_list *arguments)
 ULONG vDbgPrintExWithPrefix(PCSTR Prefix, ULONG ComponentId, ULONG Level, PCSTR Format, va_list Arguments)
 {
     (void)ComponentId, (void)Level;
-    KZ_INSIDE();
+    KZ_INSIDE_ALONE();
     Piece piece;
     va_list arguments;
     piece.length = 0;
@@ -77,7 +77,7 @@ ULONG vDbgPrintEx(ULONG ComponentId, ULONG Level, PCSTR Format, va_list Argument
 
 ULONG DbgPrint(PCSTR Format, ...)
 {
-    KZ_INSIDE();
+    KZ_INSIDE_AS_DRIVER();
     va_list arguments;
     va_start(arguments, Format);
     vDbgPrintEx(DPFLTR_DEFAULT_ID, DPFLTR_INFO_LEVEL, Format, arguments);
@@ -87,7 +87,7 @@ ULONG DbgPrint(PCSTR Format, ...)
 
 ULONG DbgPrintEx(ULONG ComponentId, ULONG Level, PCSTR Format, ...)
 {
-    KZ_INSIDE();
+    KZ_INSIDE_AS_DRIVER();
     va_list arguments;
     va_start(arguments, Format);
     vDbgPrintEx(ComponentId, Level, Format, arguments);

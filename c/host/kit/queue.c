@@ -12,6 +12,7 @@ NTSTATUS FltCbdqInitialize(PFLT_INSTANCE Instance, PFLT_CALLBACK_DATA_QUEUE Cbdq
                            PFLT_CALLBACK_DATA_QUEUE_ACQUIRE CbdqAcquire, PFLT_CALLBACK_DATA_QUEUE_RELEASE CbdqRelease,
                            PFLT_CALLBACK_DATA_QUEUE_COMPLETE_CANCELED_IO CbdqCompleteCanceledIo)
 {
+    kz_uses_all();
     *Cbdq = (FLT_CALLBACK_DATA_QUEUE){
         .Flags = FLTFL_CALLBACK_DATA_QUEUE_VALID,
         .Instance = Instance,
@@ -29,9 +30,23 @@ NTSTATUS FltCbdqInitialize(PFLT_INSTANCE Instance, PFLT_CALLBACK_DATA_QUEUE Cbdq
 static bool is_made(PFLT_CALLBACK_DATA_QUEUE queue, const char *call, const void *from)
 {
     KZ_CALL_FROM(call, from);
+    kz_uses_little();
     if (!(queue->Flags & FLTFL_CALLBACK_DATA_QUEUE_VALID) || !queue->Acquire)
         kz_tell_of(queue, KZM_NEVER_MADE, call, "a queue that was never initialized");
     return queue->Acquire && kz_may_use(call, queue->Instance);
+}
+
+/* Of an operation that is in a queue, or was: who cancels it looks there as well. */
+static void use_queued(const KzOp *op)
+{
+    kz_uses_little();
+    kz_scheduler->uses(&op->cancel, KZU_WRITES);
+}
+
+static void use_context(PFLT_CALLBACK_DATA_QUEUE_IO_CONTEXT context)
+{
+    if (context)
+        kz_uses_bytes(context, sizeof *context, KZU_WRITES);
 }
 
 /* The operation is in the queue from here on. */
@@ -41,6 +56,7 @@ static void enter_queue(PFLT_CALLBACK_DATA_QUEUE queue, PFLT_CALLBACK_DATA data,
     KzOp *op = kz_op_with(data);
     if (!op)
         return;
+    use_queued(op);
     op->cancel.queue = queue;
     op->cancel.context = context;
 }
@@ -49,6 +65,10 @@ void kz_leave_queue(PFLT_CALLBACK_DATA data)
 {
     KZ_INSIDE();
     KzOp *op = kz_op_with(data);
+    if (op)
+        use_queued(op);
+    if (op && op->cancel.context)
+        use_context(op->cancel.context);
     if (op && op->cancel.context)
         op->cancel.context->Cbd = NULL;
     if (op) {
@@ -75,6 +95,7 @@ NTSTATUS FltCbdqInsertIo(PFLT_CALLBACK_DATA_QUEUE Cbdq, PFLT_CALLBACK_DATA Cbd, 
     if (!is_made(Cbdq, __func__, KZ_CALLER()))
         return STATUS_FLT_CBDQ_DISABLED;
     KZ_CALL_DRIVER(Cbdq->Acquire, Cbdq, &irql);
+    use_context(Context);
     bool is_disabled = __atomic_load_n(&Cbdq->Flags, __ATOMIC_SEQ_CST) & FLTFL_CALLBACK_DATA_QUEUE_DISABLED;
     NTSTATUS status = is_disabled ? STATUS_FLT_CBDQ_DISABLED : KZ_CALL_DRIVER(Cbdq->InsertIo, Cbdq, Cbd, InsertContext);
     if (Context)
@@ -106,6 +127,7 @@ PFLT_CALLBACK_DATA FltCbdqRemoveIo(PFLT_CALLBACK_DATA_QUEUE Cbdq, PFLT_CALLBACK_
     if (!is_made(Cbdq, __func__, KZ_CALLER()))
         return NULL;
     KZ_CALL_DRIVER(Cbdq->Acquire, Cbdq, &irql);
+    use_context(Context);
     PFLT_CALLBACK_DATA found = Context->Cbd;
     if (found) {
         KZ_CALL_DRIVER(Cbdq->RemoveIo, Cbdq, found);

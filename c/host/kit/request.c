@@ -179,7 +179,7 @@ VOID FltReissueSynchronousIo(PFLT_INSTANCE InitiatingInstance, PFLT_CALLBACK_DAT
     }
     kz_me->reissues.instance = InitiatingInstance;
     kz_me->reissues.is_user = kz_requestor_of(op) == UserMode;
-    bool is_create = op->event == KZE_CREATE && !op->carried;
+    bool is_create = op->event == KZE_CREATE && !op->opaque;
     CallbackData->IoStatus.Status = is_create ? open_again(InitiatingInstance, op, &done) : carry_out(InitiatingInstance, CallbackData->Iopb, &done, __func__);
     kz_me->reissues.instance = NULL;
     CallbackData->IoStatus.Information = done;

@@ -16,7 +16,7 @@ static void check_resource(PERESOURCE resource, const char *call)
 
 BOOLEAN ExAcquireResourceExclusiveLite(PERESOURCE Resource, BOOLEAN Wait)
 {
-    KZ_CALL();
+    KZ_CALL_ALONE();
     check_resource(Resource, __func__);
     if (!Wait)
         return KzTryTake(Resource, KZ_AGAIN, PASSIVE_LEVEL, __func__);
@@ -36,31 +36,31 @@ static BOOLEAN take_shared(PERESOURCE Resource, BOOLEAN Wait, int how, const cha
 
 BOOLEAN ExAcquireResourceSharedLite(PERESOURCE Resource, BOOLEAN Wait)
 {
-    KZ_CALL();
+    KZ_CALL_ALONE();
     return take_shared(Resource, Wait, KZ_SHARED_AGAIN, __func__);
 }
 
 BOOLEAN ExAcquireSharedStarveExclusive(PERESOURCE Resource, BOOLEAN Wait)
 {
-    KZ_CALL();
+    KZ_CALL_ALONE();
     return take_shared(Resource, Wait, KZ_SHARED_FIRST, __func__);
 }
 
 BOOLEAN ExAcquireSharedWaitForExclusive(PERESOURCE Resource, BOOLEAN Wait)
 {
-    KZ_CALL();
+    KZ_CALL_ALONE();
     return take_shared(Resource, Wait, KZ_SHARED_LAST, __func__);
 }
 
 VOID ExReleaseResourceLite(PERESOURCE Resource)
 {
-    KZ_CALL();
+    KZ_CALL_ALONE();
     KzLetGo(Resource, __func__);
 }
 
 VOID ExReleaseResourceForThreadLite(PERESOURCE Resource, ERESOURCE_THREAD ResourceThreadId)
 {
-    KZ_CALL();
+    KZ_CALL_ALONE();
     (void)ResourceThreadId;
     KzLetGo(Resource, __func__);
 }

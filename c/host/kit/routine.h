@@ -3,6 +3,7 @@
 #define KZ_KIT_ROUTINE_H
 
 #include "host.h"
+#include "core/place.h"
 
 typedef enum { KZR_PROCESS, KZR_PROCESS_EX, KZR_THREAD, KZR_IMAGE, KZR_REGISTRY, KZR_OBJECT } KzRoutineKind;
 

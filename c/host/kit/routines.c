@@ -6,19 +6,13 @@
 
 #pragma GCC diagnostic ignored "-Wunused-parameter"
 
-/* Those that wait in the kit, or that end a wait: what follows comes in another order there. */
-static bool is_wait(const char *call)
-{
-    static const char *const waits[] = {"KePulseEvent", "KeInsertQueue", "KeRemoveQueue", "KeRundownQueue", "FsRtlProcessFileLock", "FltProcessFileLock", "FltOplockBreakH", "FltOplockBreakToNone"};
-    for (size_t at = 0; at < sizeof waits / sizeof waits[0]; at++)
-        if (strcmp(call, waits[at]) == 0)
-            return true;
-    return strstr(call, "Wait") != NULL;
-}
+/* Beside its LIMIT: it waits in the kit, or ends a wait, so what follows comes in another order there. */
+enum { WAITS = 1 << 16 };
 
-static void tell(KzMessage message, const char *call, const char *answer)
+static void tell(unsigned said, const char *call, const char *answer)
 {
-    if (is_wait(call) && kz_has_others())
+    KzMessage message = said & ~(unsigned)WAITS;
+    if (said & WAITS && kz_has_others())
         kz_tell(KZM_UNKNOWN_WAIT, call, "isn't modelled, and others may go on while it waits: what comes after it can't be judged");
     if (*answer)
         kz_tell(message, call, "isn't modelled: it answers %s", answer);
@@ -30,7 +24,7 @@ static void tell(KzMessage message, const char *call, const char *answer)
     type name(__VA_ARGS__)                           \
     {                                                \
         KZ_INSIDE();                                 \
-        tell(KZM_##message, #name, #answer);         \
+        tell((unsigned)(KZM_##message), #name, #answer); \
         return answer;                               \
     }
 

@@ -7,6 +7,7 @@
 
 VOID ExInitializeRundownProtection(PEX_RUNDOWN_REF RunRef)
 {
+    kz_uses_all();
     RunRef->Count = 0;
 }
 

@@ -144,7 +144,7 @@ static void notify(const Section *one, KzOp *op)
 {
     PFLT_SECTION_CONFLICT_NOTIFICATION_CALLBACK function = one->filter->registration.SectionNotificationCallback;
     PFLT_CONTEXT context = one->context;
-    FLT_IO_PARAMETER_BLOCK iopb = {.MajorFunction = kz_major_of(op), .MinorFunction = op->carried ? op->carried->minor : IRP_MN_NORMAL, .TargetInstance = one->instance, .TargetFileObject = &op->file->object};
+    FLT_IO_PARAMETER_BLOCK iopb = {.MajorFunction = kz_major_of(op), .MinorFunction = op->opaque ? op->opaque->minor : IRP_MN_NORMAL, .TargetInstance = one->instance, .TargetFileObject = &op->file->object};
     FLT_CALLBACK_DATA data = {.Flags = kz_data_flags(op), .Thread = op->thread, .Iopb = &iopb, .RequestorMode = kz_requestor_of(op)};
     uint8_t worker = kz_helper();
     KzPlace before = kz_enter(KZ_IN_NOTIFY, worker, one->filter, one->instance, NULL, &data);

@@ -75,6 +75,7 @@ LOGICAL MmIsDriverVerifying(PDRIVER_OBJECT DriverObject)
 NTSTATUS RtlGetVersion(PRTL_OSVERSIONINFOW VersionInformation)
 {
     KZ_INSIDE();
+    kz_acts_as_driver();
     VersionInformation->dwMajorVersion = 10;
     VersionInformation->dwMinorVersion = 0;
     VersionInformation->dwBuildNumber = 19045;
@@ -108,6 +109,7 @@ BOOLEAN RtlIsNtDdiVersionAvailable(ULONG Version)
 
 ULONG RtlRandomEx(PULONG Seed)
 {
+    kz_uses_all();
     *Seed = *Seed * 1103515245 + 12345;
     return *Seed & MAXLONG;
 }

@@ -15,7 +15,7 @@
 static void take(PDISPATCHER_HEADER object, const char *call)
 {
     if (object->Type == KZ_MUTANT) {
-        KzTake(object, KZ_AGAIN, PASSIVE_LEVEL, call);
+        KzTake(object, KZ_AGAIN | KZ_IN_REGION, PASSIVE_LEVEL, call); /* the kernel disables APCs of who owns it */
         object->SignalState = 0;
         return;
     }
@@ -180,7 +180,7 @@ static NTSTATUS wait_for(Awaited *one, PLARGE_INTEGER timeout)
     if (is_wait_over(one))
         return take_awaited(one);
     if (timeout && units_of(timeout) <= 0) {
-        kz_scheduler->looked(kz_me->place.from);
+        kz_scheduler->looked(one->objects[0], kz_me->place.from);
         return STATUS_TIMEOUT;
     }
     if (KeGetCurrentIrql() > APC_LEVEL)

@@ -40,6 +40,7 @@ static ULONG length_of(const uint8_t *part, bool is_list)
 ULONG RtlLengthSecurityDescriptor(PSECURITY_DESCRIPTOR SecurityDescriptor)
 {
     KZ_INSIDE();
+    kz_acts_as_driver();
     Descriptor head;
     ULONG length = sizeof head;
     memcpy(&head, SecurityDescriptor, sizeof head);

@@ -4,6 +4,7 @@
 PLIST_ENTRY ExInterlockedInsertHeadList(PLIST_ENTRY ListHead, PLIST_ENTRY ListEntry, PKSPIN_LOCK Lock)
 {
     KZ_CALL();
+    kz_acts_as_driver();
     KzTake(Lock, KZ_ALONE, DISPATCH_LEVEL, __func__);
     PLIST_ENTRY first = IsListEmpty(ListHead) ? NULL : ListHead->Flink;
     InsertHeadList(ListHead, ListEntry);
@@ -14,6 +15,7 @@ PLIST_ENTRY ExInterlockedInsertHeadList(PLIST_ENTRY ListHead, PLIST_ENTRY ListEn
 PLIST_ENTRY ExInterlockedInsertTailList(PLIST_ENTRY ListHead, PLIST_ENTRY ListEntry, PKSPIN_LOCK Lock)
 {
     KZ_CALL();
+    kz_acts_as_driver();
     KzTake(Lock, KZ_ALONE, DISPATCH_LEVEL, __func__);
     PLIST_ENTRY last = IsListEmpty(ListHead) ? NULL : ListHead->Blink;
     InsertTailList(ListHead, ListEntry);
@@ -24,6 +26,7 @@ PLIST_ENTRY ExInterlockedInsertTailList(PLIST_ENTRY ListHead, PLIST_ENTRY ListEn
 PLIST_ENTRY ExInterlockedRemoveHeadList(PLIST_ENTRY ListHead, PKSPIN_LOCK Lock)
 {
     KZ_CALL();
+    kz_acts_as_driver();
     KzTake(Lock, KZ_ALONE, DISPATCH_LEVEL, __func__);
     PLIST_ENTRY first = IsListEmpty(ListHead) ? NULL : RemoveHeadList(ListHead);
     KzLetGo(Lock, __func__);
@@ -33,6 +36,7 @@ PLIST_ENTRY ExInterlockedRemoveHeadList(PLIST_ENTRY ListHead, PKSPIN_LOCK Lock)
 PSINGLE_LIST_ENTRY ExInterlockedPushEntryList(PSINGLE_LIST_ENTRY ListHead, PSINGLE_LIST_ENTRY ListEntry, PKSPIN_LOCK Lock)
 {
     KZ_CALL();
+    kz_acts_as_driver();
     KzTake(Lock, KZ_ALONE, DISPATCH_LEVEL, __func__);
     PSINGLE_LIST_ENTRY first = ListHead->Next;
     PushEntryList(ListHead, ListEntry);
@@ -43,6 +47,7 @@ PSINGLE_LIST_ENTRY ExInterlockedPushEntryList(PSINGLE_LIST_ENTRY ListHead, PSING
 PSINGLE_LIST_ENTRY ExInterlockedPopEntryList(PSINGLE_LIST_ENTRY ListHead, PKSPIN_LOCK Lock)
 {
     KZ_CALL();
+    kz_acts_as_driver();
     KzTake(Lock, KZ_ALONE, DISPATCH_LEVEL, __func__);
     PSINGLE_LIST_ENTRY first = PopEntryList(ListHead);
     KzLetGo(Lock, __func__);
@@ -52,6 +57,7 @@ PSINGLE_LIST_ENTRY ExInterlockedPopEntryList(PSINGLE_LIST_ENTRY ListHead, PKSPIN
 LARGE_INTEGER ExInterlockedAddLargeInteger(PLARGE_INTEGER Addend, LARGE_INTEGER Increment, PKSPIN_LOCK Lock)
 {
     KZ_CALL();
+    kz_acts_as_driver();
     KzTake(Lock, KZ_ALONE, DISPATCH_LEVEL, __func__);
     LARGE_INTEGER before = *Addend;
     Addend->QuadPart += Increment.QuadPart;

@@ -8,7 +8,7 @@
 
 VOID RtlInitUnicodeString(PUNICODE_STRING DestinationString, PCWSTR SourceString)
 {
-    KZ_INSIDE();
+    KZ_INSIDE_AS_DRIVER();
     kz_check_text(SourceString, __func__);
     USHORT length = SourceString ? (USHORT)(KzWcslen(SourceString) * sizeof(WCHAR)) : 0;
     *DestinationString = (UNICODE_STRING){length, SourceString ? (USHORT)(length + sizeof(WCHAR)) : 0, (PWSTR)SourceString};
@@ -16,7 +16,7 @@ VOID RtlInitUnicodeString(PUNICODE_STRING DestinationString, PCWSTR SourceString
 
 NTSTATUS RtlInitUnicodeStringEx(PUNICODE_STRING DestinationString, PCWSTR SourceString)
 {
-    KZ_INSIDE();
+    KZ_INSIDE_AS_DRIVER();
     if (SourceString && KzWcslen(SourceString) > UNICODE_STRING_MAX_CHARS - 1)
         return STATUS_NAME_TOO_LONG;
     RtlInitUnicodeString(DestinationString, SourceString);
@@ -61,19 +61,19 @@ static LONG compare(const WCHAR *a, USHORT length1, const WCHAR *b, USHORT lengt
 
 LONG RtlCompareUnicodeString(PCUNICODE_STRING String1, PCUNICODE_STRING String2, BOOLEAN CaseInSensitive)
 {
-    KZ_INSIDE();
+    KZ_INSIDE_AS_DRIVER();
     return compare(String1->Buffer, String1->Length / sizeof(WCHAR), String2->Buffer, String2->Length / sizeof(WCHAR), CaseInSensitive);
 }
 
 BOOLEAN RtlEqualUnicodeString(PCUNICODE_STRING String1, PCUNICODE_STRING String2, BOOLEAN CaseInSensitive)
 {
-    KZ_INSIDE();
+    KZ_INSIDE_AS_DRIVER();
     return String1->Length == String2->Length && RtlCompareUnicodeString(String1, String2, CaseInSensitive) == 0;
 }
 
 BOOLEAN RtlPrefixUnicodeString(PCUNICODE_STRING String1, PCUNICODE_STRING String2, BOOLEAN CaseInSensitive)
 {
-    KZ_INSIDE();
+    KZ_INSIDE_AS_DRIVER();
     USHORT length = String1->Length / sizeof(WCHAR);
     return String1->Length <= String2->Length && compare(String1->Buffer, length, String2->Buffer, length, CaseInSensitive) == 0;
 }
@@ -117,7 +117,7 @@ NTSTATUS RtlAppendUnicodeStringToString(PUNICODE_STRING Destination, PCUNICODE_S
 
 NTSTATUS RtlAppendUnicodeToString(PUNICODE_STRING Destination, PCWSTR Source)
 {
-    KZ_INSIDE();
+    KZ_INSIDE_AS_DRIVER();
     UNICODE_STRING text;
     RtlInitUnicodeString(&text, Source);
     return RtlAppendUnicodeStringToString(Destination, &text);
@@ -152,19 +152,19 @@ static NTSTATUS turned(PUNICODE_STRING to, PCUNICODE_STRING from, BOOLEAN is_new
 
 NTSTATUS RtlUpcaseUnicodeString(PUNICODE_STRING DestinationString, PCUNICODE_STRING SourceString, BOOLEAN AllocateDestinationString)
 {
-    KZ_INSIDE();
+    KZ_INSIDE_AS_DRIVER();
     return turned(DestinationString, SourceString, AllocateDestinationString, kz_upcase);
 }
 
 NTSTATUS RtlDowncaseUnicodeString(PUNICODE_STRING DestinationString, PCUNICODE_STRING SourceString, BOOLEAN AllocateDestinationString)
 {
-    KZ_INSIDE();
+    KZ_INSIDE_AS_DRIVER();
     return turned(DestinationString, SourceString, AllocateDestinationString, kz_downcase);
 }
 
 NTSTATUS RtlAnsiStringToUnicodeString(PUNICODE_STRING DestinationString, PCANSI_STRING SourceString, BOOLEAN AllocateDestinationString)
 {
-    KZ_INSIDE();
+    KZ_INSIDE_AS_DRIVER();
     NTSTATUS status = make_room(DestinationString, SourceString->Length * sizeof(WCHAR), AllocateDestinationString);
     if (status != STATUS_SUCCESS)
         return status;
@@ -176,7 +176,7 @@ NTSTATUS RtlAnsiStringToUnicodeString(PUNICODE_STRING DestinationString, PCANSI_
 
 NTSTATUS RtlUnicodeStringToAnsiString(PANSI_STRING DestinationString, PCUNICODE_STRING SourceString, BOOLEAN AllocateDestinationString)
 {
-    KZ_INSIDE();
+    KZ_INSIDE_AS_DRIVER();
     USHORT length = SourceString->Length / sizeof(WCHAR);
     if (AllocateDestinationString) {
         DestinationString->Buffer = ExAllocatePoolWithTag(PagedPool, length + 1u, TEXT_TAG);
@@ -198,7 +198,7 @@ NTSTATUS RtlUnicodeStringToAnsiString(PANSI_STRING DestinationString, PCUNICODE_
 /* ---- In UTF-8. */
 NTSTATUS RtlUnicodeStringToUTF8String(PUTF8_STRING DestinationString, PCUNICODE_STRING SourceString, BOOLEAN AllocateDestinationString)
 {
-    KZ_INSIDE();
+    KZ_INSIDE_AS_DRIVER();
     ULONG length;
     NTSTATUS status = RtlUnicodeToUTF8N(NULL, 0, &length, SourceString->Buffer, SourceString->Length);
     if (!NT_SUCCESS(status) || length >= 0xffff)
@@ -219,7 +219,7 @@ NTSTATUS RtlUnicodeStringToUTF8String(PUTF8_STRING DestinationString, PCUNICODE_
 
 NTSTATUS RtlUTF8StringToUnicodeString(PUNICODE_STRING DestinationString, PUTF8_STRING SourceString, BOOLEAN AllocateDestinationString)
 {
-    KZ_INSIDE();
+    KZ_INSIDE_AS_DRIVER();
     ULONG length;
     NTSTATUS status = RtlUTF8ToUnicodeN(NULL, 0, &length, SourceString->Buffer, SourceString->Length);
     if (!NT_SUCCESS(status) || length > UNICODE_STRING_MAX_BYTES - sizeof(WCHAR))
@@ -234,7 +234,7 @@ NTSTATUS RtlUTF8StringToUnicodeString(PUNICODE_STRING DestinationString, PUTF8_S
 
 VOID RtlFreeUnicodeString(PUNICODE_STRING UnicodeString)
 {
-    KZ_INSIDE();
+    KZ_INSIDE_AS_DRIVER();
     if (UnicodeString->Buffer)
         ExFreePool(UnicodeString->Buffer);
     *UnicodeString = (UNICODE_STRING){0};
@@ -242,7 +242,7 @@ VOID RtlFreeUnicodeString(PUNICODE_STRING UnicodeString)
 
 VOID RtlFreeAnsiString(PANSI_STRING AnsiString)
 {
-    KZ_INSIDE();
+    KZ_INSIDE_AS_DRIVER();
     if (AnsiString->Buffer)
         ExFreePool(AnsiString->Buffer);
     *AnsiString = (ANSI_STRING){0};
@@ -255,7 +255,7 @@ VOID RtlFreeUTF8String(PUTF8_STRING Utf8String)
 
 NTSTATUS RtlDuplicateUnicodeString(ULONG Flags, PCUNICODE_STRING StringIn, PUNICODE_STRING StringOut)
 {
-    KZ_INSIDE();
+    KZ_INSIDE_AS_DRIVER();
     if (!StringIn->Length && !(Flags & RTL_DUPLICATE_UNICODE_STRING_ALLOCATE_NULL_STRING)) {
         *StringOut = (UNICODE_STRING){0};
         return STATUS_SUCCESS;
@@ -275,7 +275,7 @@ NTSTATUS RtlValidateUnicodeString(ULONG Flags, PCUNICODE_STRING String)
 
 NTSTATUS RtlHashUnicodeString(PCUNICODE_STRING String, BOOLEAN CaseInSensitive, ULONG HashAlgorithm, PULONG HashValue)
 {
-    KZ_INSIDE();
+    KZ_INSIDE_AS_DRIVER();
     if (HashAlgorithm > HASH_STRING_ALGORITHM_X65599)
         return STATUS_INVALID_PARAMETER;
     ULONG hash = 0;
@@ -288,7 +288,7 @@ NTSTATUS RtlHashUnicodeString(PCUNICODE_STRING String, BOOLEAN CaseInSensitive, 
 /* ---- Numbers. */
 NTSTATUS RtlUnicodeStringToInteger(PCUNICODE_STRING String, ULONG Base, PULONG Value)
 {
-    KZ_INSIDE();
+    KZ_INSIDE_AS_DRIVER();
     WCHAR room[72];
     size_t length = String->Length / sizeof(WCHAR);
     if (Base && Base != 2 && Base != 8 && Base != 10 && Base != 16)
@@ -304,7 +304,7 @@ NTSTATUS RtlUnicodeStringToInteger(PCUNICODE_STRING String, ULONG Base, PULONG V
 
 NTSTATUS RtlInt64ToUnicodeString(ULONGLONG Value, ULONG Base, PUNICODE_STRING String)
 {
-    KZ_INSIDE();
+    KZ_INSIDE_AS_DRIVER();
     WCHAR made[68];
     size_t at = RTL_NUMBER_OF(made);
     Base = Base ? Base : 10;
@@ -320,13 +320,13 @@ NTSTATUS RtlInt64ToUnicodeString(ULONGLONG Value, ULONG Base, PUNICODE_STRING St
 
 NTSTATUS RtlIntegerToUnicodeString(ULONG Value, ULONG Base, PUNICODE_STRING String)
 {
-    KZ_INSIDE();
+    KZ_INSIDE_AS_DRIVER();
     return RtlInt64ToUnicodeString(Value, Base, String);
 }
 
 NTSTATUS RtlStringFromGUID(REFGUID Guid, PUNICODE_STRING GuidString)
 {
-    KZ_INSIDE();
+    KZ_INSIDE_AS_DRIVER();
     NTSTATUS status = make_room(GuidString, 38 * sizeof(WCHAR), TRUE);
     if (status == STATUS_SUCCESS)
         KzSnwprintf(GuidString->Buffer, 39, L"{%08X-%04X-%04X-%02X%02X-%02X%02X%02X%02X%02X%02X}", Guid->Data1, Guid->Data2, Guid->Data3, Guid->Data4[0],
@@ -336,7 +336,7 @@ NTSTATUS RtlStringFromGUID(REFGUID Guid, PUNICODE_STRING GuidString)
 
 NTSTATUS RtlGUIDFromString(PCUNICODE_STRING GuidString, GUID *Guid)
 {
-    KZ_INSIDE();
+    KZ_INSIDE_AS_DRIVER();
     unsigned bytes[11];
     char text[40] = {0};
     for (USHORT at = 0; at < GuidString->Length / sizeof(WCHAR) && at < 38; at++)
@@ -353,7 +353,7 @@ NTSTATUS RtlGUIDFromString(PCUNICODE_STRING GuidString, GUID *Guid)
 /* ---- ntstrsafe.h's counted strings. */
 NTSTATUS RtlUnicodeStringInit(PUNICODE_STRING To, NTSTRSAFE_PCWSTR From)
 {
-    KZ_INSIDE();
+    KZ_INSIDE_AS_DRIVER();
     return RtlInitUnicodeStringEx(To, From);
 }
 
@@ -373,7 +373,7 @@ NTSTATUS RtlUnicodeStringCopy(PUNICODE_STRING To, PCUNICODE_STRING From)
 
 NTSTATUS RtlUnicodeStringCopyString(PUNICODE_STRING To, NTSTRSAFE_PCWSTR From)
 {
-    KZ_INSIDE();
+    KZ_INSIDE_AS_DRIVER();
     UNICODE_STRING text;
     RtlInitUnicodeString(&text, From);
     return put(To, 0, &text);
@@ -386,7 +386,7 @@ NTSTATUS RtlUnicodeStringCat(PUNICODE_STRING To, PCUNICODE_STRING From)
 
 NTSTATUS RtlUnicodeStringCatString(PUNICODE_STRING To, NTSTRSAFE_PCWSTR From)
 {
-    KZ_INSIDE();
+    KZ_INSIDE_AS_DRIVER();
     UNICODE_STRING text;
     RtlInitUnicodeString(&text, From);
     return put(To, To->Length, &text);
@@ -414,14 +414,14 @@ static bool matches(const WCHAR *expression, size_t left, const WCHAR *name, siz
 
 BOOLEAN FsRtlIsNameInExpression(PUNICODE_STRING Expression, PUNICODE_STRING Name, BOOLEAN IgnoreCase, PWCH UpcaseTable)
 {
-    KZ_INSIDE();
+    KZ_INSIDE_AS_DRIVER();
     (void)UpcaseTable;
     return matches(Expression->Buffer, Expression->Length / sizeof(WCHAR), Name->Buffer, Name->Length / sizeof(WCHAR), IgnoreCase);
 }
 
 BOOLEAN FsRtlDoesNameContainWildCards(PUNICODE_STRING Name)
 {
-    KZ_INSIDE();
+    KZ_INSIDE_AS_DRIVER();
     for (USHORT at = 0; at < Name->Length / sizeof(WCHAR); at++)
         if (Name->Buffer[at] && KzWcschr(L"*?<>\"", Name->Buffer[at]))
             return TRUE;

@@ -11,7 +11,7 @@
 #include "lib/letters.h"
 #include "manager/block.h"
 #include "manager/buffer.h"
-#include "manager/carrier.h"
+#include "manager/opaque.h"
 #include "manager/data.h"
 
 static size_t least(size_t a, size_t b)
@@ -116,10 +116,10 @@ static void put_served(KzOp *op)
 
 void kz_show_post(KzOp *op, PFLT_INSTANCE instance)
 {
-    if (op->carried) {
+    if (op->opaque) {
         kazdrin_lent(&kz.manager, &(KazdrinEvent){.flag = 1, .worker = kz_worker()}, &op->lent, kz_me->room, sizeof kz_me->room);
         put_served(op);
-        kz_show_carried(op, instance, true);
+        kz_show_opaque(op, instance, true);
         return;
     }
     while (kz_has_visits(op) && op->visits && op->visits->instance != instance)
@@ -180,8 +180,8 @@ static void check_length(KzOp *op, const char *call)
 /* A preoperation completed it: what is beside the status waits until the manager can be told. */
 void kz_serve(KzOp *op)
 {
-    if (op->carried) {
-        kz_serve_carried(op);
+    if (op->opaque) {
+        kz_serve_opaque(op);
         return;
     }
     uint64_t said = op->data->IoStatus.Information;
@@ -248,8 +248,8 @@ static bool changes_answer(KzOp *op, KzServed *now)
 
 void kz_take_post(KzOp *op)
 {
-    if (op->carried) {
-        kz_take_carried_post(op);
+    if (op->opaque) {
+        kz_take_opaque_post(op);
         return;
     }
     KzServed now;
@@ -263,8 +263,8 @@ void kz_take_post(KzOp *op)
 /* A postoperation that is held completes it: the manager learns of what it changed where it next lends the answer, and else the client does. */
 void kz_take_held(KzOp *op)
 {
-    if (op->carried) {
-        kz_take_carried_post(op);
+    if (op->opaque) {
+        kz_take_opaque_post(op);
         return;
     }
     KzServed now;

@@ -15,7 +15,7 @@
 #include "filesystem/ranges.h"
 #include "filesystem/tree.h"
 #include "manager/below.h"
-#include "manager/carrier.h"
+#include "manager/opaque.h"
 #include "manager/disposition.h"
 #include "manager/perform.h"
 
@@ -115,9 +115,9 @@ static void call_create(KzOp *op, const KazdrinData *call, uint8_t worker)
     kz_note_opened(op, was_there);
 }
 
-static bool call_carried(KzOp *op)
+static bool call_opaque(KzOp *op)
 {
-    NTSTATUS status = kz_answer_carried(op);
+    NTSTATUS status = kz_answer_opaque(op);
     op->is_waiting = status == STATUS_PENDING;
     if (!op->is_waiting) {
         answer(op, status, NULL, 0);
@@ -126,6 +126,18 @@ static bool call_carried(KzOp *op)
     kz_scheduler->touch(op, 0, KZT_GIVES); /* another client may carry it on */
     kz.changes++;
     return false;
+}
+
+/* The file's bytes, size and times; a create makes or finds it among the volume's. */
+static void note_uses(const KzOp *op)
+{
+    bool is_create = op->event == KZE_CREATE, is_changed = is_create || op->event == KZE_WRITE;
+    if (is_create)
+        kz_scheduler->uses(&kz.files, KZU_WRITES);
+    if (op->file->name)
+        kz_scheduler->uses(&op->file->name->node->size, is_changed ? KZU_WRITES : KZU_READS);
+    if (op->file->name && op->file->name->node->views)
+        kz_uses_all();
 }
 
 bool kz_call_base(KzOp *op)
@@ -138,8 +150,9 @@ bool kz_call_base(KzOp *op)
     if (is_failed && kazdrin_based(&kz.manager, &failed, (const uint8_t *)"", 0) == KZS_OK)
         return true;
     op->comes_from_device = true;
-    if (op->carried)
-        return call_carried(op);
+    if (op->opaque)
+        return call_opaque(op);
+    note_uses(op);
     kazdrin_lent(&kz.manager, &(KazdrinEvent){.worker = worker}, &call, &none, 0);
     bool cuts = call.operation == KZE_SET_SIZE && !op->own.is_unheard && op->file->name;
     if (cuts && kz_is_mapped(op, op->file->name->node, call.offset))

@@ -13,7 +13,7 @@
 #include "filesystem/name.h"
 #include "filesystem/store.h"
 #include "manager/base.h"
-#include "manager/carrier.h"
+#include "manager/opaque.h"
 #include "manager/disposition.h"
 #include "manager/operation.h"
 #include "manager/perform.h"
@@ -88,8 +88,8 @@ static KzAnswer begin(const KzOwn *own, KzFile *file, KazdrinEvent asked, const 
     if (asked.event == KZE_CREATE)
         name_file(file, bytes, &bytes, &length);
     KzAsked renames;
-    const KzAsked *carried = own->carried;
-    NTSTATUS wrong = kz_put_target(own->initiator, file, &carried, &renames);
+    const KzAsked *opaque = own->opaque;
+    NTSTATUS wrong = kz_put_target(own->initiator, file, &opaque, &renames);
     if (!NT_SUCCESS(wrong)) {
         answer = kz_refused(wrong);
         answer.is_refused = true;
@@ -99,8 +99,8 @@ static KzAnswer begin(const KzOwn *own, KzFile *file, KazdrinEvent asked, const 
     answer.reply.status = begun.status;
     answer.is_refused = begun.status != KZS_OK;
     if (answer.is_refused) {
-        if (carried && carried->target)
-            kz_close_target(own->initiator, carried->target);
+        if (opaque && opaque->target)
+            kz_close_target(own->initiator, opaque->target);
         return answer;
     }
     KzOp *op = kz_new_op(begun.told.operation, asked, file, file->volume);
@@ -111,14 +111,14 @@ static KzAnswer begin(const KzOwn *own, KzFile *file, KazdrinEvent asked, const 
         op->own.is_user |= kz_me->reissues.is_user;
     }
     op->own.worker = kz_worker();
-    op->own.carried = NULL;
+    op->own.opaque = NULL;
     op->own.create = NULL;
     if (asked.event == KZE_CREATE) {
         const KzCreate usual = kz_usual_create(kz_disposition_of((uint8_t)asked.mode), file->is_directory);
         kz_begin_create(op, own->create ? own->create : &usual);
     }
-    if (carried)
-        kz_begin_carried(op, carried);
+    if (opaque)
+        kz_begin_opaque(op, opaque);
     if (kz_carry_to_end(op))
         return kz_collect(op);
     return (KzAnswer){.reply = {.held = 1, .operation = op->id}};
@@ -130,8 +130,8 @@ KzAnswer kz_below(const KzOwn *own, KzFile *file, KazdrinEvent asked, const void
     uint8_t worker = kz_helper();
     kz_me->place.worker = worker;
     kz_scheduler->touch(bytes, length, KZT_READS);
-    if (own->carried)
-        kz_scheduler->touch(own->carried->input, own->carried->input_size, KZT_READS);
+    if (own->opaque)
+        kz_scheduler->touch(own->opaque->input, own->opaque->input_size, KZT_READS);
     KzAnswer answer = begin(own, file, asked, bytes, length);
     kz_me->place = before;
     if (!answer.reply.held)
@@ -233,8 +233,8 @@ static NTSTATUS cut(KzFile *file, uint64_t size)
 
 NTSTATUS kz_ask_below(PFLT_INSTANCE initiator, KzFile *file, const KzAsked *asked, void *to, uint64_t *information)
 {
-    const KzOwn own = {.initiator = initiator, .is_waited_for = true, .carried = asked};
-    KzAnswer answer = kz_below_file(&own, file, (KazdrinEvent){.event = KZE_FLUSH}, "", 0);
+    const KzOwn own = {.initiator = initiator, .is_waited_for = true, .opaque = asked};
+    KzAnswer answer = kz_below_file(&own, file, kz_opaque_event(asked, (KazdrinEvent){.event = KZE_OTHER}), "", 0);
     size_t there = answer.length < asked->room ? answer.length : asked->room;
     *information = answer.reply.information;
     if (to && there)
@@ -244,10 +244,10 @@ NTSTATUS kz_ask_below(PFLT_INSTANCE initiator, KzFile *file, const KzAsked *aske
 
 NTSTATUS kz_ask_volume_below(PFLT_INSTANCE initiator, const KzAsked *asked, void *to, uint64_t *information)
 {
-    const KzOwn own = {.initiator = initiator, .is_waited_for = true, .carried = asked};
+    const KzOwn own = {.initiator = initiator, .is_waited_for = true, .opaque = asked};
     KzFile *root = kz_new_file(initiator->volume, "", true);
     root->users++;
-    KzAnswer answer = kz_below(&own, root, (KazdrinEvent){.event = KZE_LIST, .volume = initiator->volume->id}, "", 0);
+    KzAnswer answer = kz_below(&own, root, kz_opaque_event(asked, (KazdrinEvent){.event = KZE_ON_VOLUME, .volume = initiator->volume->id}), "", 0);
     size_t there = answer.length < asked->room ? answer.length : asked->room;
     *information = answer.reply.information;
     if (to && there)

@@ -82,7 +82,7 @@ void kz_leave_visit(KzOp *op)
 /* An instance that is drained frees its buffer: those below go on with one of the operation's own. */
 void kz_forget_swap(KzOp *op, PFLT_INSTANCE instance)
 {
-    if (op->carried)
+    if (op->opaque)
         return; /* that was before the drain */
     for (KzVisit *below = NULL, *at = op->visits; at; below = at, at = at->above) {
         if (at->instance != instance || !at->swapped)

@@ -128,6 +128,7 @@ static bool is_free(void *busy)
 
 static bool wait_until_free(Until *busy)
 {
+    kz_me->is_known = false; /* whatever changes may end that */
     if (busy->instance)
         return kz_wait(is_free, busy, "what is in flight at instance %u to end", busy->instance->id);
     return kz_wait(is_free, busy, "what goes on still to end");
@@ -137,6 +138,10 @@ static bool wait_until_free(Until *busy)
 uint32_t kz_until_free(const char *name, KazdrinEvent event, PFLT_INSTANCE instance)
 {
     kz_pause(name);
+    if (instance)
+        kz_uses_teardown(instance, false);
+    else if (event.event == KZE_FINISH)
+        kz_uses_teardown(kz.instances[event.instance], true);
     Until busy = {instance, kz.changes};
     uint32_t status = kz_event(kz_worker(), event).status;
     while (status == KZS_BUSY && kz_has_others() && wait_until_free(&busy)) {

@@ -154,6 +154,8 @@ static void finish(KzContext *context, uint8_t worker)
         KZ_CALL_DRIVER(context->how->ContextCleanupCallback, context->body, context->type);
         kz_driver_returned(depth, "context cleanup returns");
     }
+    kz_uses_little(); /* nobody else has it */
+    kz_scheduler->uses(context, KZU_WRITES);
     kz_leave(before);
     leave_tables(context);
     if (context->how->ContextFreeCallback)
@@ -181,24 +183,37 @@ static KzContext *take_due(uint8_t worker)
     return due.status == KZS_OK && due.told.has ? context : NULL;
 }
 
+/* Whoever comes to what is due cleans it up. Nothing is being cleaned up by this worker: the event comes to nothing, and says whether anything is due. */
+void kz_use_due(void)
+{
+    if (kz.context->known && kz_event(kz_worker(), (KazdrinEvent){.event = KZE_CLEANED}).told.due)
+        kz_scheduler->uses(&kz.context, KZU_WRITES);
+}
+
 /* What is due in the manager: another worker takes it. As in the kit, it is called inside the call that gave up the last reference. */
 void kz_clean_up(void)
 {
+    kz_scheduler->uses(&kz.context, KZU_READS);
     if (!kz.context->known)
         return;
+    bool is_known = kz_me->is_known;
     uint8_t worker = kz_helper();
     KzContext *context = take_due(worker);
     while (context) {
+        kz_scheduler->uses(&kz.context, KZU_WRITES);
+        kz_scheduler->uses(context, KZU_WRITES);
         context->is_known = false;
         kz.context->known--;
         kz.context->slots[context->slot] = NULL;
         if (!context->kept)
             finish(context, worker);
+        kz_scheduler->uses(&kz.context, KZU_READS);
         KzTold cleaned = kz_event(worker, (KazdrinEvent){.event = KZE_CLEANED});
         kz.changes++;
         context = cleaned.told.due ? take_due(worker) : NULL;
     }
     kz_helped(worker);
+    kz_me->is_known = is_known; /* who called this goes on */
 }
 
 /* ---- Allocation. */
@@ -251,6 +266,8 @@ NTSTATUS FltAllocateContext(PFLT_FILTER Filter, FLT_CONTEXT_TYPE ContextType, SI
     *made = (KzContext){.body = body, .kind = kz_context_kind(ContextType), .type = ContextType, .filter = Filter, .how = how};
     enter_tables(made);
     uint32_t status = made->kind > 3 ? KZS_WRONG_STEP : kz_make_known(made); /* the manager has none of sections and files: the host alone counts their references */
+    if (status == KZS_OK && !how->ContextAllocateCallback)
+        kz_uses_little();
     if (status == KZS_WRONG_STEP || status == KZS_HAND_FULL) {
         kz_keep_reference(made, &kz_me->place); /* in no callback of an instance, or where 16 are held: the manager gets to know it once it is set */
     } else if (status != KZS_OK) {
@@ -285,6 +302,7 @@ VOID FltReferenceContext(PFLT_CONTEXT Context)
 /* The worker gives back a reference that it holds: false if it holds none. The manager says whether something is due then. */
 static bool release(uint8_t worker, const KzContext *context)
 {
+    kz_scheduler->uses(&kz.context, KZU_READS);
     KzTold released = kz_event(worker, (KazdrinEvent){.event = KZE_RELEASE, .slot = context->slot, .generation = context->generation});
     if (released.status == KZS_OK)
         kz_forget_taken(context->body);
@@ -327,8 +345,10 @@ VOID FltReleaseContext(PFLT_CONTEXT Context)
         return;
     }
     kz_scheduler->touch(context, 0, KZT_GIVES);
-    if (context->is_known && release(kz_worker(), context))
+    if (context->is_known && release(kz_worker(), context)) {
+        kz_uses_little(); /* one reference less */
         return;
+    }
     if (!context->kept && released_elsewhere(context))
         return;
     if (!context->kept) {

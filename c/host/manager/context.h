@@ -3,6 +3,7 @@
 #define KZ_MANAGER_CONTEXT_H
 
 #include "host.h"
+#include "core/place.h"
 
 /* A reference that the host keeps for the driver, and where it was left. */
 typedef struct KzLeft {
@@ -43,6 +44,7 @@ bool kz_holds(uint8_t worker, const KzContext *context);
 /* It goes if nobody has it: of those that the manager doesn't know. */
 void kz_end_unused(KzContext *context);
 void kz_clean_up(void);
+void kz_use_due(void);
 void kz_tell_kept(PFLT_FILTER filter);
 extern const struct KzModule kz_context_module;
 

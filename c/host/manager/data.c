@@ -12,7 +12,7 @@
 #include "manager/below.h"
 #include "manager/block.h"
 #include "manager/buffer.h"
-#include "manager/carrier.h"
+#include "manager/opaque.h"
 #include "manager/disposition.h"
 #include "manager/instance.h"
 
@@ -148,8 +148,8 @@ void kz_show_data(KzOp *op, PFLT_INSTANCE instance)
 
 void kz_show_pre(KzOp *op, PFLT_INSTANCE instance)
 {
-    if (op->carried) {
-        kz_show_carried(op, instance, false);
+    if (op->opaque) {
+        kz_show_opaque(op, instance, false);
         return;
     }
     if (kz_has_visits(op))
@@ -228,29 +228,28 @@ void kz_check_target(KzOp *op, bool is_dirty)
 }
 
 /* Bytes that were changed in the caller's own buffer are written, as in the kit. */
-static void take_in_place(KzOp *op)
+static void take_in_place(KzOp *op, KzPut *put)
 {
     kz_tell(KZM_WRITE_IN_PLACE, "FLT_IO_PARAMETER_BLOCK", "the bytes of WriteBuffer were changed in place: that is the caller's own memory");
     KazdrinEvent event = {.event = KZE_WRITE, .worker = kz_worker(), .offset = op->lent.offset};
-    kazdrin_change(&kz.manager, &event, op->shown.asked, op->shown.asked_length);
+    put(op, event, op->shown.asked, op->shown.asked_length);
     memcpy(op->shown.pristine, op->shown.asked, op->shown.asked_length);
 }
 
-void kz_take_pre(KzOp *op, bool has_post, bool is_completed)
+/* The change is made by `put`, whether the callback still runs or holds the operation. */
+static void take_parameters(KzOp *op, bool has_post, bool is_completed, KzPut *put)
 {
     const uint8_t *bytes = (const uint8_t *)"";
     size_t length = 0;
     KazdrinEvent event;
     bool is_dirty = op->data->Flags & FLTFL_CALLBACK_DATA_DIRTY;
     kz_check_target(op, is_dirty);
-    if (!is_completed && (op->data->IoStatus.Status != op->shown.status.Status || op->data->IoStatus.Information != op->shown.status.Information))
-        kz_tell(KZM_STATUS_NOT_COMPLETED, "FLT_CALLBACK_DATA", "IoStatus was set by a preoperation that doesn't complete: it doesn't count");
-    if (op->carried) {
-        kz_take_carried_pre(op, has_post, is_completed);
+    if (op->opaque) {
+        kz_take_opaque_pre(op, has_post, is_completed, put);
         return;
     }
     if (op->event == KZE_WRITE && is_in_place(op) && !is_completed)
-        take_in_place(op);
+        take_in_place(op, put);
     if (!is_dirty) {
         if (kz_is_touched(op) && !is_completed)
             kz_tell(KZM_NOT_DIRTY, "FltSetCallbackDataDirty", "never called, though parameters were changed: they don't count");
@@ -259,9 +258,27 @@ void kz_take_pre(KzOp *op, bool has_post, bool is_completed)
     }
     if (kz_has_buffer(op))
         kz_note_swap(op, has_post);
-    if (!changed(op, &event, &bytes, &length) || kazdrin_change(&kz.manager, &event, bytes, length) != KZS_OK)
+    if (!changed(op, &event, &bytes, &length) || put(op, event, bytes, length) != KZS_OK)
         kz_tell(KZM_OTHER_PARAMETERS, "FltSetCallbackDataDirty", "parameters of another operation, or past a limit of the manager: they don't count");
     op->shown.parameters = *op->iopb;
     if (op->shown.asked)
         memcpy(op->shown.pristine, op->shown.asked, op->shown.asked_length);
+}
+
+static uint32_t put_now(KzOp *op, KazdrinEvent event, const uint8_t *bytes, size_t length)
+{
+    (void)op;
+    return kazdrin_change(&kz.manager, &event, bytes, length);
+}
+
+void kz_take_pre(KzOp *op, bool has_post, bool is_completed)
+{
+    if (!is_completed && (op->data->IoStatus.Status != op->shown.status.Status || op->data->IoStatus.Information != op->shown.status.Information))
+        kz_tell(KZM_STATUS_NOT_COMPLETED, "FLT_CALLBACK_DATA", "IoStatus was set by a preoperation that doesn't complete: it doesn't count");
+    take_parameters(op, has_post, is_completed, put_now);
+}
+
+void kz_take_held_pre(KzOp *op, bool has_post, KzPut *put)
+{
+    take_parameters(op, has_post, false, put);
 }

@@ -128,9 +128,9 @@ static ACCESS_MASK needed_to_set(ULONG class)
     }
 }
 
-bool kz_is_granted(const KzFile *file, const KazdrinEvent *asked, const KzAsked *carried)
+bool kz_is_granted(const KzFile *file, const KazdrinEvent *asked, const KzAsked *opaque)
 {
-    ACCESS_MASK needed = carried && carried->major == IRP_MJ_SET_INFORMATION ? needed_to_set(carried->code) : asked->event == KZE_SET_SIZE ? FILE_WRITE_DATA : 0;
+    ACCESS_MASK needed = opaque && opaque->major == IRP_MJ_SET_INFORMATION ? needed_to_set(opaque->code) : asked->event == KZE_SET_SIZE ? FILE_WRITE_DATA : 0;
     if (asked->event == KZE_READ)
         return file->access & (FILE_READ_DATA | FILE_EXECUTE);
     if (asked->event == KZE_WRITE)

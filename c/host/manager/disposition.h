@@ -21,6 +21,6 @@ void kz_show_tag(KzOp *op);
 /* What the callback left in them; false if it is nothing that a create may ask for. */
 bool kz_take_create(KzOp *op);
 /* Whether a handle with that access lets its user make the operation. */
-bool kz_is_granted(const KzFile *file, const KazdrinEvent *asked, const KzAsked *carried);
+bool kz_is_granted(const KzFile *file, const KazdrinEvent *asked, const KzAsked *opaque);
 
 #endif

@@ -1,4 +1,4 @@
-/* The parameters of an operation that rides on another: what goes down, and the room for what comes up, are memory of the operation. */
+/* The parameters of an operation that the manager doesn't look into: what goes down, and the room for what comes up, are memory of the operation. */
 #include "manager/fill.h"
 
 #include "core/op.h"
@@ -14,8 +14,8 @@ static void *input(KzOp *op, const KzAsked *asked)
 
 static void *output(KzOp *op, const KzAsked *asked)
 {
-    op->carried->output_size = asked->room;
-    return op->carried->output = kz_output_block(op, asked->room);
+    op->opaque->output_size = asked->room;
+    return op->opaque->output = kz_output_block(op, asked->room);
 }
 
 static PUNICODE_STRING pattern(KzOp *op, const char *text)
@@ -40,8 +40,8 @@ static void fill_control(KzOp *op, const KzAsked *asked, FLT_PARAMETERS *now)
     now->FileSystemControl.Buffered.SystemBuffer = buffer;
     if (METHOD_FROM_CTL_CODE(asked->code) == METHOD_NEITHER)
         now->FileSystemControl.Neither.OutputBuffer = buffer = asked->room ? kz_output_block(op, asked->room) : NULL;
-    op->carried->output = asked->room ? buffer : NULL;
-    op->carried->output_size = asked->room;
+    op->opaque->output = asked->room ? buffer : NULL;
+    op->opaque->output_size = asked->room;
 }
 
 static void fill_lock(KzOp *op, const KzAsked *asked, FLT_PARAMETERS *now)
@@ -86,7 +86,7 @@ static void fill_set(KzOp *op, const KzAsked *asked, FLT_PARAMETERS *now)
     if (is_name && asked->input_size >= sizeof(FILE_RENAME_INFORMATION))
         now->SetFileInformation.ReplaceIfExists = name->ReplaceIfExists;
     now->SetFileInformation.ParentOfTarget = asked->target ? &asked->target->object : NULL;
-    op->carried->target = asked->target;
+    op->opaque->target = asked->target;
 }
 
 static void fill_volume(KzOp *op, const KzAsked *asked, FLT_PARAMETERS *now)
@@ -128,9 +128,9 @@ static void fill_beside(KzOp *op, const KzAsked *asked, FLT_PARAMETERS *now)
     }
 }
 
-void kz_fill_carried(KzOp *op, const KzAsked *asked)
+void kz_fill_opaque(KzOp *op, const KzAsked *asked)
 {
-    FLT_PARAMETERS *now = &op->carried->now;
+    FLT_PARAMETERS *now = &op->opaque->now;
     switch (asked->major) {
     case IRP_MJ_QUERY_INFORMATION:
         fill_query(op, asked, now);

@@ -1,10 +1,10 @@
-/* The parameters of an operation that rides on another: what goes down, and the room for what comes up, are memory of the operation. */
+/* The parameters of an operation that the manager doesn't look into: what goes down, and the room for what comes up, are memory of the operation. */
 #ifndef KZ_MANAGER_FILL_H
 #define KZ_MANAGER_FILL_H
 
 #include "host.h"
 
 /* Its parameters, in memory of the operation. */
-void kz_fill_carried(KzOp *op, const KzAsked *asked);
+void kz_fill_opaque(KzOp *op, const KzAsked *asked);
 
 #endif

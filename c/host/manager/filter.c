@@ -20,9 +20,10 @@
 
 #include <stdlib.h>
 
-/* The manager's mask of a major function. What the manager hasn't rides on a flush, or on a listing where it has no handle. */
-static uint16_t mask_of(UCHAR major)
+/* The manager's mask of a major function: of its kinds of operations, and of what it doesn't look into. */
+static uint64_t mask_of(UCHAR major)
 {
+    uint64_t other = KZ_MASK_OTHER(major);
     switch (major) {
     case IRP_MJ_CREATE:
         return KZ_MASK_CREATE;
@@ -31,24 +32,19 @@ static uint16_t mask_of(UCHAR major)
     case IRP_MJ_WRITE:
         return KZ_MASK_WRITE;
     case IRP_MJ_QUERY_INFORMATION:
-        return KZ_MASK_QUERY_SIZE | KZ_MASK_FLUSH;
+        return KZ_MASK_QUERY_SIZE | other;
     case IRP_MJ_SET_INFORMATION:
-        return KZ_MASK_SET_SIZE | KZ_MASK_SET_DELETE | KZ_MASK_RESTORE | KZ_MASK_FLUSH;
+        return KZ_MASK_SET_SIZE | KZ_MASK_SET_DELETE | KZ_MASK_RESTORE | other;
     case IRP_MJ_DIRECTORY_CONTROL:
-        return KZ_MASK_LIST | KZ_MASK_FLUSH;
-    case IRP_MJ_QUERY_VOLUME_INFORMATION:
-    case IRP_MJ_SET_VOLUME_INFORMATION:
-        return KZ_MASK_LIST | KZ_MASK_FLUSH; /* a filter's own has no handle */
-    case IRP_MJ_SHUTDOWN:
-    case IRP_MJ_PNP:
-    case IRP_MJ_NETWORK_QUERY_OPEN:
-        return KZ_MASK_LIST;
+        return KZ_MASK_LIST | other;
+    case IRP_MJ_FLUSH_BUFFERS:
+        return KZ_MASK_FLUSH;
     case IRP_MJ_CLEANUP:
         return KZ_MASK_CLEANUP;
     case IRP_MJ_CLOSE:
         return KZ_MASK_CLOSE;
     default:
-        return KZ_MASK_FLUSH;
+        return other;
     }
 }
 
@@ -129,7 +125,7 @@ static bool is_skipped(const FLT_OPERATION_REGISTRATION *one)
     return is_data && one->Flags & FLTFL_OPERATION_REGISTRATION_SKIP_NON_DASD_IO;
 }
 
-/* Those of requests are cached, but for paging I/O and what a filter asks for itself. */
+/* It skips some by flags of its registration. Requests are cached, but for paging I/O and what a filter asks for itself. */
 bool kz_hears(PFLT_FILTER filter, const KzOp *op)
 {
     const FLT_OPERATION_REGISTRATION *one = kz_registered(filter, kz_major_of(op));

@@ -25,8 +25,20 @@
 uint64_t kz_phase(PFLT_INSTANCE instance)
 {
     KazdrinTold told = {0};
+    kz_scheduler->uses(&instance->torn_down_by, KZU_READS);
     kazdrin_phase(&kz.manager, &(KazdrinEvent){.mode = KZP_OF_INSTANCE, .instance = instance->id}, &told);
     return told.has ? told.number : KZP_INSTANCE_DETACHED;
+}
+
+void kz_uses_teardown(PFLT_INSTANCE instance, bool is_changed)
+{
+    if (!kz_me->is_detaching || kz_me->place.filter)
+        return;
+    kz_uses_little();
+    kz_scheduler->uses(instance->name, KZU_WRITES); /* that it is asked about */
+    kz_scheduler->uses(is_changed ? (void *)&instance->torn_down_by : (void *)&instance->in_flight, is_changed ? KZU_WRITES : KZU_READS);
+    kz_scheduler->uses(&kz.context, is_changed ? KZU_WRITES : KZU_READS);
+    kz_uses_closes();
 }
 
 /* ---- Attaching. */
@@ -151,6 +163,7 @@ static uint32_t ask(PFLT_INSTANCE instance)
     kz_driver_returned(depth, "query returns");
     kz_keep_rest(NULL);
     kz_leave(before);
+    kz_uses_teardown(instance, true);
     status = kz_event(kz_worker(), (KazdrinEvent){.event = KZE_QUERY_RETURNED, .flag = NT_SUCCESS(said)}).status;
     kz.changes++;
     kz_settle();
@@ -169,6 +182,7 @@ static void tell_teardown(PFLT_INSTANCE instance, KzCallback place, PFLT_INSTANC
     }
     kz_keep_rest(NULL);
     kz_leave(before);
+    kz_uses_teardown(instance, true);
 }
 
 static void start(PFLT_INSTANCE instance, FLT_INSTANCE_TEARDOWN_FLAGS reason)
@@ -215,6 +229,7 @@ static uint32_t stop(PFLT_INSTANCE instance, FLT_INSTANCE_TEARDOWN_FLAGS reason)
 
 uint32_t kz_finish_teardown(PFLT_INSTANCE instance)
 {
+    kz_uses_teardown(instance, true);
     kz_end_files_of(instance);
     kz_clean_up();
     uint32_t status = kz_until_free("finish", (KazdrinEvent){.event = KZE_FINISH, .instance = instance->id}, NULL);
@@ -236,6 +251,7 @@ uint32_t kz_tear_down(PFLT_INSTANCE instance, FLT_INSTANCE_TEARDOWN_FLAGS reason
     if (!kz_wait(is_alone, instance, "the teardown of instance %u by another", instance->id))
         return KZS_BUSY;
     KzClient *before = instance->torn_down_by;
+    kz_uses_teardown(instance, true);
     instance->torn_down_by = kz_me;
     uint32_t status = kz_phase(instance) == KZP_INSTANCE_DETACHED ? KZS_OK : stop(instance, reason);
     if (status == KZS_OK && kz_phase(instance) != KZP_INSTANCE_DETACHED)
@@ -250,6 +266,16 @@ uint32_t kz_detach(PFLT_INSTANCE instance)
     bool is_leaving = !kz_has_others() && (phase == KZP_INSTANCE_STOPPING || phase == KZP_INSTANCE_EMPTYING);
     uint32_t status = is_leaving ? KZS_OK : ask(instance);
     return status == KZS_OK ? kz_tear_down(instance, FLTFL_INSTANCE_TEARDOWN_MANUAL) : status;
+}
+
+uint32_t kz_detach_alone(PFLT_INSTANCE instance)
+{
+    kz_me->is_detaching = true;
+    kz_uses_little();
+    kz_scheduler->uses(instance->name, KZU_WRITES); /* that it is asked about */
+    uint32_t status = kz_detach(instance);
+    kz_me->is_detaching = false;
+    return status;
 }
 
 uint32_t kz_stop_for_dismount(PFLT_INSTANCE instance)

@@ -5,10 +5,14 @@
 #include "host.h"
 
 uint64_t kz_phase(PFLT_INSTANCE instance);
+/* Of a detach that is a request of its own: the step changes how far the teardown is, and the contexts of the instance; or it looks at what is in flight. Beside that it touches no more than is
+ * said. One that is part of something else may touch everything. */
+void kz_uses_teardown(PFLT_INSTANCE instance, bool is_changed);
 /* `said` is what its InstanceSetup answered where it refused, else STATUS_SUCCESS. */
 uint32_t kz_attach(PFLT_FILTER filter, PFLT_VOLUME volume, const char *name, const char *altitude, FLT_INSTANCE_SETUP_FLAGS flags, uint64_t *number, NTSTATUS *said);
 void kz_attach_by_itself(PFLT_FILTER filter, PFLT_VOLUME volume, FLT_INSTANCE_SETUP_FLAGS flags);
 uint32_t kz_detach(PFLT_INSTANCE instance);
+uint32_t kz_detach_alone(PFLT_INSTANCE instance); /* as a request of its own */
 uint32_t kz_tear_down(PFLT_INSTANCE instance, FLT_INSTANCE_TEARDOWN_FLAGS reason);
 /* Up to the cleanup of its contexts, since its volume goes; and from there to its end. */
 uint32_t kz_stop_for_dismount(PFLT_INSTANCE instance);

@@ -5,6 +5,7 @@
 #include "core/status.h"
 #include "core/told.h"
 #include "filesystem/fileobject.h"
+#include "filesystem/name.h"
 #include "manager/context.h"
 #include "manager/filecontext.h"
 #include "manager/instance.h"
@@ -115,6 +116,40 @@ static NTSTATUS get(const char *call, uint8_t worker, uint8_t kind, PFLT_CONTEXT
     return kz_ntstatus(answer.status);
 }
 
+/* What has the contexts of that kind, of the callback's own objects. */
+static const void *owner_of(uint8_t kind)
+{
+    const KzOp *op = kz_me->place.op;
+    if (kind < 2)
+        return kind ? (const void *)kz_me->place.instance : kz_me->place.instance->volume;
+    if (!op || !op->file->name)
+        return NULL;
+    return kind == 2 ? (const void *)op->file->name->node : &op->file->sections;
+}
+
+static void use_owner(uint8_t kind, KzUse how)
+{
+    if (!owner_of(kind))
+        return;
+    kz_uses_little();
+    kz_scheduler->uses(owner_of(kind), how);
+}
+
+static NTSTATUS get_own(const char *call, uint8_t kind, PFLT_CONTEXT *found)
+{
+    use_owner(kind, KZU_READS);
+    return get(call, kz_worker(), kind, found);
+}
+
+static NTSTATUS set_own(const char *call, uint8_t kind, FLT_SET_CONTEXT_OPERATION how, PFLT_CONTEXT body, PFLT_CONTEXT *old)
+{
+    use_owner(kind, KZU_WRITES);
+    NTSTATUS status = set(call, kind, how, body, old);
+    if (!NT_SUCCESS(status) && status != STATUS_FLT_CONTEXT_ALREADY_DEFINED)
+        kz_uses_all();
+    return status;
+}
+
 static NTSTATUS take_off(const char *call, uint8_t kind, PFLT_CONTEXT *old)
 {
     KzTold answer = kz_event(kz_worker(), (KazdrinEvent){.event = KZE_DELETE, .kind = kind, .flag = old != NULL});
@@ -189,7 +224,7 @@ NTSTATUS FltSetVolumeContext(PFLT_VOLUME Volume, FLT_SET_CONTEXT_OPERATION Opera
     KZ_CALL();
     if (OldContext)
         *OldContext = NULL;
-    return is_own(NULL, Volume, NULL) ? set(__func__, 0, Operation, NewContext, OldContext) : refuse(__func__, NULL, Volume, NULL);
+    return is_own(NULL, Volume, NULL) ? set_own(__func__, 0, Operation, NewContext, OldContext) : refuse(__func__, NULL, Volume, NULL);
 }
 
 NTSTATUS FltSetInstanceContext(PFLT_INSTANCE Instance, FLT_SET_CONTEXT_OPERATION Operation, PFLT_CONTEXT NewContext, PFLT_CONTEXT *OldContext)
@@ -197,7 +232,7 @@ NTSTATUS FltSetInstanceContext(PFLT_INSTANCE Instance, FLT_SET_CONTEXT_OPERATION
     KZ_CALL();
     if (OldContext)
         *OldContext = NULL;
-    return is_own(Instance, NULL, NULL) ? set(__func__, 1, Operation, NewContext, OldContext) : refuse(__func__, Instance, NULL, NULL);
+    return is_own(Instance, NULL, NULL) ? set_own(__func__, 1, Operation, NewContext, OldContext) : refuse(__func__, Instance, NULL, NULL);
 }
 
 NTSTATUS FltSetStreamContext(PFLT_INSTANCE Instance, PFILE_OBJECT FileObject, FLT_SET_CONTEXT_OPERATION Operation, PFLT_CONTEXT NewContext,
@@ -208,7 +243,7 @@ NTSTATUS FltSetStreamContext(PFLT_INSTANCE Instance, PFILE_OBJECT FileObject, FL
         *OldContext = NULL;
     if (Instance == kz_me->place.instance && is_reopened(FileObject))
         return set_again(__func__, 2, Instance, Operation, NewContext, OldContext);
-    return is_own(Instance, NULL, FileObject) ? set(__func__, 2, Operation, NewContext, OldContext) : refuse(__func__, Instance, NULL, FileObject);
+    return is_own(Instance, NULL, FileObject) ? set_own(__func__, 2, Operation, NewContext, OldContext) : refuse(__func__, Instance, NULL, FileObject);
 }
 
 NTSTATUS FltSetStreamHandleContext(PFLT_INSTANCE Instance, PFILE_OBJECT FileObject, FLT_SET_CONTEXT_OPERATION Operation, PFLT_CONTEXT NewContext,
@@ -219,7 +254,7 @@ NTSTATUS FltSetStreamHandleContext(PFLT_INSTANCE Instance, PFILE_OBJECT FileObje
         *OldContext = NULL;
     if (Instance == kz_me->place.instance && is_reopened(FileObject))
         return set_again(__func__, 3, Instance, Operation, NewContext, OldContext);
-    return is_own(Instance, NULL, FileObject) ? set(__func__, 3, Operation, NewContext, OldContext) : refuse(__func__, Instance, NULL, FileObject);
+    return is_own(Instance, NULL, FileObject) ? set_own(__func__, 3, Operation, NewContext, OldContext) : refuse(__func__, Instance, NULL, FileObject);
 }
 
 NTSTATUS FltGetVolumeContext(PFLT_FILTER Filter, PFLT_VOLUME Volume, PFLT_CONTEXT *Context)
@@ -227,28 +262,28 @@ NTSTATUS FltGetVolumeContext(PFLT_FILTER Filter, PFLT_VOLUME Volume, PFLT_CONTEX
     KZ_CALL();
     (void)Filter;
     *Context = NULL;
-    return is_own(NULL, Volume, NULL) ? get(__func__, kz_worker(), 0, Context) : elsewhere(__func__, 0, NULL, Volume, NULL, false, Context);
+    return is_own(NULL, Volume, NULL) ? get_own(__func__, 0, Context) : elsewhere(__func__, 0, NULL, Volume, NULL, false, Context);
 }
 
 NTSTATUS FltGetInstanceContext(PFLT_INSTANCE Instance, PFLT_CONTEXT *Context)
 {
     KZ_CALL();
     *Context = NULL;
-    return is_own(Instance, NULL, NULL) ? get(__func__, kz_worker(), 1, Context) : elsewhere(__func__, 1, Instance, NULL, NULL, false, Context);
+    return is_own(Instance, NULL, NULL) ? get_own(__func__, 1, Context) : elsewhere(__func__, 1, Instance, NULL, NULL, false, Context);
 }
 
 NTSTATUS FltGetStreamContext(PFLT_INSTANCE Instance, PFILE_OBJECT FileObject, PFLT_CONTEXT *Context)
 {
     KZ_CALL();
     *Context = NULL;
-    return is_own(Instance, NULL, FileObject) ? get(__func__, kz_worker(), 2, Context) : elsewhere(__func__, 2, Instance, NULL, FileObject, false, Context);
+    return is_own(Instance, NULL, FileObject) ? get_own(__func__, 2, Context) : elsewhere(__func__, 2, Instance, NULL, FileObject, false, Context);
 }
 
 NTSTATUS FltGetStreamHandleContext(PFLT_INSTANCE Instance, PFILE_OBJECT FileObject, PFLT_CONTEXT *Context)
 {
     KZ_CALL();
     *Context = NULL;
-    return is_own(Instance, NULL, FileObject) ? get(__func__, kz_worker(), 3, Context) : elsewhere(__func__, 3, Instance, NULL, FileObject, false, Context);
+    return is_own(Instance, NULL, FileObject) ? get_own(__func__, 3, Context) : elsewhere(__func__, 3, Instance, NULL, FileObject, false, Context);
 }
 
 NTSTATUS FltDeleteVolumeContext(PFLT_FILTER Filter, PFLT_VOLUME Volume, PFLT_CONTEXT *OldContext)

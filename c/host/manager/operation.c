@@ -10,11 +10,12 @@
 #include "core/state.h"
 #include "core/told.h"
 #include "filesystem/fileobject.h"
+#include "filesystem/disk.h"
 #include "filesystem/name.h"
 #include "manager/base.h"
 #include "manager/below.h"
 #include "manager/block.h"
-#include "manager/carrier.h"
+#include "manager/opaque.h"
 #include "manager/context.h"
 #include "manager/data.h"
 #include "manager/filter.h"
@@ -101,7 +102,7 @@ void kz_forget_op(KzOp *op)
             break;
         }
     kz_operation_ends(op);
-    kz_free_carried(op);
+    kz_free_opaque(op);
     kz_free_data(op);
     kz_let_go_file(op->file);
     free(op);
@@ -119,17 +120,66 @@ bool kz_has_waiting(PFLT_INSTANCE instance)
     return false;
 }
 
+static bool is_closing(const KzOp *op)
+{
+    return op->event == KZE_CLEANUP || op->event == KZE_CLOSE;
+}
+
+static bool is_simple(const KzOp *op)
+{
+    bool is_event = op->event == KZE_READ || op->event == KZE_WRITE || op->event == KZE_FLUSH || op->event == KZE_QUERY_SIZE || op->event == KZE_CREATE || is_closing(op);
+    bool is_others = op->own.is_own || op->own.has_worker || op->opaque || op->users || op->wants || op->is_cancelled || op->is_reopened;
+    bool is_plain = op->file->name && !op->file->is_volume && !op->file->is_directory && !kz_is_in_folder(op->volume->id);
+    return is_event && !is_others && is_plain && op->maker == kz_me->number && !kz_me->beside;
+}
+
+/* It is out of the folder's counts, its locks and its share access go, its handle is none any more, and its flags say so. */
+static void use_closing(const KzFile *file)
+{
+    kz_scheduler->uses(&kz.files, KZU_WRITES);
+    kz_scheduler->uses(&file->handle, KZU_WRITES);
+    kz_scheduler->uses(&file->object.Flags, KZU_WRITES);
+    kz_scheduler->uses(&file->sections, KZU_WRITES);
+    kz_scheduler->uses(&file->name->node->size, KZU_WRITES);
+}
+
+/* Whoever completes it for its holder changes it as well. */
+void kz_goes_alone(const KzOp *op)
+{
+    if (!is_simple(op)) {
+        kz_uses_all();
+        return;
+    }
+    kz_uses_own();
+    kz_scheduler->uses(op, KZU_READS);
+    kz_scheduler->uses(&op->file->users, is_closing(op) ? KZU_WRITES : KZU_ADDS);
+    if (is_closing(op))
+        use_closing(op->file);
+}
+
+/* Whose teardowns the manager looked at: at the file system those of all instances but the one that it came from, and none where the operation is over. */
+static void use_phases(const KzOp *op, uint8_t action)
+{
+    for (size_t at = 0; at < kz.instances_count && action != KZA_DONE; at++)
+        if (action != KZA_BASE || kz.instances[at] != op->last)
+            kz_scheduler->uses(&kz.instances[at]->torn_down_by, KZU_READS);
+}
+
 static Turn turn(KzOp *op)
 {
+    kz_goes_alone(op);
     kz_scheduler->touch(op, 0, KZT_TAKES); /* behind whoever let it go on */
     KazdrinTold told = {0};
     KazdrinEvent next = {.operation = op->id, .worker = kz_worker()};
-    if (kazdrin_next(&kz.manager, &next, &told) != KZS_OK)
-        return HELD;
+    uint32_t status = kazdrin_next(&kz.manager, &next, &told);
     PFLT_INSTANCE instance = told.instance < kz.instances_count ? kz.instances[told.instance] : NULL;
+    use_phases(op, status == KZS_OK ? told.action : KZA_HELD);
+    if (status != KZS_OK)
+        return HELD;
     PVOID completion = (PVOID)(uintptr_t)told.number;
     switch (told.action) {
     case KZA_PRE:
+        op->last = instance;
         if (!kz_hears(instance->filter, op)) /* it skips operations of that kind by a flag of its registration */
             kazdrin_pre_returned(&kz.manager, &(KazdrinEvent){.mode = KZV_NO_CALLBACK, .worker = kz_worker()});
         else
@@ -153,6 +203,7 @@ static Turn turn(KzOp *op)
         kz_clean_up();
         return GOES;
     case KZA_MOVED:
+        op->last = NULL;
         return GOES;
     case KZA_HELD:
         return HELD;
@@ -167,6 +218,8 @@ static Turn carry(KzOp *op)
     do {
         kz_pause("next");
         made = turn(op);
+        if (is_closing(op))
+            kz_use_due();
     } while (made == GOES);
     return made;
 }
@@ -189,7 +242,10 @@ static bool waits_for(KzOp *op)
         return false;
     while (op->own.is_waited_for && !is_resumed(op) && kz_let_others())
         ;
-    return kz_wait(is_resumed, op, KZ_OPERATION ", which a %soperation holds", (unsigned long long)op->id, side);
+    op->is_awaited = true;
+    bool goes_on = kz_wait(is_resumed, op, KZ_OPERATION ", which a %soperation holds", (unsigned long long)op->id, side);
+    op->is_awaited = false;
+    return goes_on;
 }
 
 /* Its own client carries it on, also behind a callback that holds it, if somebody else may let it go on meanwhile. */

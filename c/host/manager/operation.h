@@ -16,6 +16,8 @@ KzOp *kz_new_op(uint64_t id, KazdrinEvent asked, KzFile *file, PFLT_VOLUME volum
 void kz_forget_op(KzOp *op);
 bool kz_carry_to_end(KzOp *op); /* false: a filter holds it, or the file system keeps it */
 bool kz_carry(KzOp *op);
+/* What the client does next is the operation's alone, or what is said: so it is of a program's own read, write, flush, query or create, while nobody else has to do with it. Of another one it may be everything. */
+void kz_goes_alone(const KzOp *op);
 /* Whether an operation waits in the file system that owes the instance something. */
 bool kz_has_waiting(PFLT_INSTANCE instance);
 

@@ -13,6 +13,7 @@
 
 void kz_resume(KzOp *op)
 {
+    kz_uses_all();
     op->next_resumed = NULL;
     *kz.resumed_end = op;
     kz.resumed_end = &op->next_resumed;
@@ -20,6 +21,8 @@ void kz_resume(KzOp *op)
 
 static void resume(KzOp *op)
 {
+    if (op->maker == kz_me->number || op->opaque || op->own.is_own)
+        kz_uses_all();
     op->stage = KZ_RESUMED;
     op->comes_from_device = false;
     kz.changes++;
@@ -31,15 +34,15 @@ static void resume(KzOp *op)
 
 /* Makes the event where its client is, if that is in a callback or a routine of the holder, and else in a routine: whoever completes an operation in the kit may do so from
  * anywhere. */
-static uint32_t resume_event(PFLT_INSTANCE holder, KazdrinEvent event)
+static uint32_t holder_event(PFLT_INSTANCE holder, KazdrinEvent event, const uint8_t *bytes, size_t length)
 {
-    uint32_t status = kz_me->place.instance == holder ? kz_event(kz_worker(), event).status : KZS_WRONG_STEP;
+    uint32_t status = kz_me->place.instance == holder ? kz_event_with(kz_worker(), event, bytes, length).status : KZS_WRONG_STEP;
     if (status != KZS_WRONG_STEP)
         return status;
     uint8_t worker = kz_helper();
     bool is_in = kz_enter_routine(holder, NULL, worker);
     event.flag = 0; /* a reference of another callback's doesn't go along */
-    status = kz_event(worker, event).status;
+    status = kz_event_with(worker, event, bytes, length).status;
     if (is_in)
         kz_leave_routine(worker);
     kz_helped(worker);
@@ -48,10 +51,19 @@ static uint32_t resume_event(PFLT_INSTANCE holder, KazdrinEvent event)
 
 static bool resume_from(const char *call, KzOp *op, KazdrinEvent event)
 {
-    uint32_t status = resume_event(op->holder, event);
+    uint32_t status = holder_event(op->holder, event, (const uint8_t *)"", 0);
     if (status == KZS_BAD_REQUEST)
         kz_tell(KZM_NO_HELD_VERDICT, call, "a verdict that is none of a held operation's");
     return status == KZS_OK;
+}
+
+/* Parameters that were changed while it was held are what those below see. */
+static uint32_t change_held(KzOp *op, KazdrinEvent event, const uint8_t *bytes, size_t length)
+{
+    event.kind = (uint8_t)event.event;
+    event.event = KZE_CHANGE_HELD;
+    event.operation = op->id;
+    return holder_event(op->holder, event, bytes, length);
 }
 
 /* As the kit may do it: the rest of an operation runs inside the call that completes it, and its own client has its answer. Where it goes on otherwise, that client carries it on. */
@@ -80,6 +92,8 @@ VOID FltCompletePendedPreOperation(PFLT_CALLBACK_DATA CallbackData, FLT_PREOP_CA
         kz_tell(KZM_COMPLETED_TWICE, __func__, "no operation that a preoperation holds (completed twice?)");
         return;
     }
+    kz_uses_little(); /* it, and what stands behind it if nobody waits for it */
+    kz_scheduler->uses(op, KZU_WRITES);
     if (!is_verdict) {
         kz_tell(KZM_NO_HELD_VERDICT, __func__, "%d is none of a held operation's verdicts: it stays held", (int)CallbackStatus);
         return;
@@ -95,11 +109,8 @@ VOID FltCompletePendedPreOperation(PFLT_CALLBACK_DATA CallbackData, FLT_PREOP_CA
         kz_tell(KZM_CANCEL_LEFT, "FltClearCancelCompletion", "never called before the operation goes on: its routine may be called for one that is gone");
         op->cancel.routine = NULL;
     }
-    bool is_touched = kz_is_touched(op) && CallbackStatus != FLT_PREOP_COMPLETE;
-    if (is_touched && op->data->Flags & FLTFL_CALLBACK_DATA_DIRTY)
-        kz_tell(KZM_CHANGED_WHILE_HELD, __func__, "parameters that were changed while the operation was held don't count");
-    else if (is_touched)
-        kz_tell(KZM_NOT_DIRTY, "FltSetCallbackDataDirty", "never called, though parameters were changed: they don't count");
+    if (kz_is_touched(op) && CallbackStatus != FLT_PREOP_COMPLETE)
+        kz_take_held_pre(op, CallbackStatus == FLT_PREOP_SUCCESS_WITH_CALLBACK, change_held);
     KzPlace before = kz_me->place;
     KazdrinEvent verdict = kz_verdict_of(op, op->holder, CallbackStatus, Context);
     kz_me->place = before;
@@ -110,7 +121,7 @@ VOID FltCompletePendedPreOperation(PFLT_CALLBACK_DATA CallbackData, FLT_PREOP_CA
     resume(op);
     if (!kz_owes(op, holder, &verdict))
         kz_leave_flight(op, holder);
-    if (op->runner && kz_scheduler->choose(2, KZ_CHOICE_INSIDE, __func__))
+    if (op->runner && op->is_awaited && kz_scheduler->choose(2, KZ_CHOICE_INSIDE, __func__)) /* one that doesn't wait yet carries it on itself */
         carry_inside(op);
 }
 
@@ -118,6 +129,8 @@ VOID FltCompletePendedPostOperation(PFLT_CALLBACK_DATA CallbackData)
 {
     KZ_CALL();
     KzOp *op = kz_op_with(CallbackData);
+    kz_uses_little();
+    kz_scheduler->uses(op, KZU_WRITES);
     if (op && op->stage == KZ_IN_POSTOPERATION) {
         op->stage = KZ_COMPLETED_IN_POST; /* the callback is about to hold it */
         kz_scheduler->touch(op, 0, KZT_GIVES);

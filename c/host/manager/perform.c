@@ -17,7 +17,7 @@
 #include "filesystem/ranges.h"
 #include "filesystem/tree.h"
 #include "manager/below.h"
-#include "manager/carrier.h"
+#include "manager/opaque.h"
 #include "manager/context.h"
 #include "manager/disposition.h"
 #include "manager/filecontext.h"
@@ -39,7 +39,7 @@ static void put_served(const KzOp *op, KzAnswer *answer)
 {
     if (op->served.has_status)
         answer->reply.status = op->served.status;
-    if (op->carried)
+    if (op->opaque)
         return;
     answer->reply.information = op->served.number;
     answer->length = op->served.bytes ? op->served.length : 0;
@@ -47,18 +47,18 @@ static void put_served(const KzOp *op, KzAnswer *answer)
 }
 
 /* Its bytes are those of the requestor's own buffer. */
-static void put_carried(const KzOp *op, KzAnswer *answer)
+static void put_opaque(const KzOp *op, KzAnswer *answer)
 {
     NTSTATUS status = answer->other ? answer->other : kz_ntstatus(answer->reply.status);
-    const KzCarried *carried = op->carried;
-    size_t there = carried->information < carried->output_size ? carried->information : carried->output_size;
-    bool has_bytes = carried->output && (NT_SUCCESS(status) || status == STATUS_BUFFER_OVERFLOW);
-    answer->reply.information = carried->information;
+    const KzOpaque *opaque = op->opaque;
+    size_t there = opaque->information < opaque->output_size ? opaque->information : opaque->output_size;
+    bool has_bytes = opaque->output && (NT_SUCCESS(status) || status == STATUS_BUFFER_OVERFLOW);
+    answer->reply.information = opaque->information;
     answer->length = !has_bytes ? 0 : there < sizeof kz_me->room ? there : sizeof kz_me->room;
     if (answer->length)
-        memcpy(kz_me->room, carried->output, answer->length);
+        memcpy(kz_me->room, opaque->output, answer->length);
     if (!op->own.is_own)
-        kz_say_answer(carried, answer->length);
+        kz_say_answer(opaque, answer->length);
 }
 
 static void open_handle(KzOp *op, KzReply *reply)
@@ -114,16 +114,20 @@ static void note_end(KzOp *op, KzReply *reply)
 KzAnswer kz_collect(KzOp *op)
 {
     kz_pause("collect");
+    kz_goes_alone(op);
+    if (op->event == KZE_CREATE)
+        kz_scheduler->uses(&kz.files, KZU_WRITES); /* its handle's number, and what opened the file counts */
     kz_clean_up(); /* a close is over, and with it the contexts of its handle: the caller is told behind that */
+    kz_goes_alone(op);
     KazdrinTold told = kz_event_into(kz_worker(), (KazdrinEvent){.event = KZE_COLLECT, .operation = op->id}, kz_me->room, sizeof kz_me->room).told;
     KzAnswer answer = {.reply = {.status = told.status, .information = told.information, .operation = op->id}, .other = op->other, .length = told.length};
     if (op->served.is_there)
         put_served(op, &answer);
     kz_tell_outcome(op, op->is_answered ? op->answered : answer.other ? answer.other : kz_ntstatus(answer.reply.status));
-    if (op->carried && op->carried->target)
-        kz_close_target(op->own.initiator, op->carried->target);
-    if (op->carried)
-        put_carried(op, &answer);
+    if (op->opaque && op->opaque->target)
+        kz_close_target(op->own.initiator, op->opaque->target);
+    if (op->opaque)
+        put_opaque(op, &answer);
     kz_scheduler->touch(op->file, 0, KZT_GIVES);
     if (op->other == STATUS_REPARSE)
         answer.other = kz_note_reparse(op);
@@ -152,6 +156,7 @@ static bool close_due(void)
         file = file->next;
     if (!file)
         return false;
+    kz_uses_all();
     if (file->is_own) {
         kz_close_if_due(file);
         return true;
@@ -180,6 +185,7 @@ static bool dismount_due(void)
             due = NULL;
     if (!due)
         return false;
+    kz_uses_all();
     due->is_to_go = false;
     kz_dismount(due);
     return true;
@@ -213,10 +219,18 @@ void kz_go_on(KzOp *op)
 static void carry_resumed(void)
 {
     KzOp *op = kz.resumed;
+    kz_uses_all();
     kz.resumed = op->next_resumed;
     if (!kz.resumed)
         kz.resumed_end = &kz.resumed;
     kz_go_on(op);
+}
+
+void kz_uses_closes(void)
+{
+    kz_scheduler->uses(&kz.files, KZU_READS);
+    for (const KzFile *file = kz.files; file; file = file->next)
+        kz_scheduler->uses(&file->users, KZU_READS);
 }
 
 /* What was let go on, what is due, and what waits for its turn, until nothing of it is left. */
@@ -226,13 +240,15 @@ void kz_settle(void)
         while (kz.resumed)
             carry_resumed();
         kz_clean_up();
+        if (kz_me->is_detaching)
+            kz_uses_closes(); /* other clients settle what they made due */
     } while (kz_run_notice() || close_due() || dismount_due() || kz_let_others() || kz.resumed);
 }
 
 /* The file of a client's handle, whose number isn't the manager's; a driver's own is no client's, nor is one before its create is over. */
 static bool find_file(KazdrinEvent *asked, KzFile **file)
 {
-    bool is_on_volume = asked->event == KZE_CREATE || asked->event == KZE_LIST;
+    bool is_on_volume = asked->event == KZE_CREATE || asked->event == KZE_LIST || asked->event == KZE_ON_VOLUME;
     *file = is_on_volume ? NULL : kz_file_of(asked->handle);
     if (*file)
         asked->handle = (*file)->handle;
@@ -253,12 +269,12 @@ static KzName *name_of(KzBegin *asked)
 
 static KzFile *new_file(const KzBegin *asked, KzName *name)
 {
-    bool is_list = asked->event.event == KZE_LIST;
+    bool is_list = asked->event.event != KZE_CREATE;
     PFLT_VOLUME volume = kz.volumes[asked->event.volume];
     bool is_directory = is_list ? !asked->path : kz_opens_directory(asked->create, volume, asked->path);
     KzFile *made = kz_new_file(volume, asked->path ? asked->path : "", is_directory);
     if (is_list && asked->path)
-        name = kz_take_name(made->volume, asked->path); /* of what rides on it */
+        name = kz_take_name(made->volume, asked->path);
     made->name = name;
     if (!is_list && asked->create->is_volume)
         kz_be_volume(made);
@@ -282,6 +298,14 @@ static bool is_unaligned(const KzFile *file, const KzBegin *asked)
     return is_data && file->object.Flags & FO_NO_INTERMEDIATE_BUFFERING && (asked->event.offset % file->volume->sector || length % file->volume->sector);
 }
 
+/* A create takes its name among those of the volume, and each looks whether the file is open still. */
+static void note_begun(const KzOp *op)
+{
+    kz_goes_alone(op);
+    if (op->event == KZE_CREATE)
+        kz_scheduler->uses(&kz.files, KZU_WRITES);
+}
+
 /* Begins an operation and carries it on. Refused, it has no reply but the status. */
 static KzAnswer begin(const KzBegin *begun)
 {
@@ -290,22 +314,22 @@ static KzAnswer begin(const KzBegin *begun)
     KzFile *file;
     if (!find_file(&asked.event, &file))
         return refused(KZS_NO_HANDLE);
-    if (file && !kz_is_granted(file, &asked.event, asked.carried)) /* the system refuses it, before any filter hears of it */
+    if (file && !kz_is_granted(file, &asked.event, asked.opaque)) /* the system refuses it, before any filter hears of it */
         return refused(KZS_ACCESS_DENIED);
     if (file && is_unaligned(file, &asked)) /* this too */
         return kz_refused(STATUS_INVALID_PARAMETER);
     if (!asked.create)
         asked.create = &usual;
     KzAsked renames;
-    NTSTATUS wrong = kz_put_target(NULL, file, &asked.carried, &renames);
+    NTSTATUS wrong = kz_put_target(NULL, file, &asked.opaque, &renames);
     if (!NT_SUCCESS(wrong))
         return kz_refused(wrong);
     KzName *name = name_of(&asked);
     KzTold told = kz_event_with(kz_worker(), asked.event, asked.bytes, asked.length);
     if (told.status != KZS_OK) {
         kz_let_go_name(name);
-        if (asked.carried && asked.carried->target)
-            kz_close_target(NULL, asked.carried->target);
+        if (asked.opaque && asked.opaque->target)
+            kz_close_target(NULL, asked.opaque->target);
         return refused(told.status);
     }
     if (!file)
@@ -315,17 +339,18 @@ static KzAnswer begin(const KzBegin *begun)
     op->own.irp_flags = asked.irp_flags | (is_data && is_uncached ? IRP_NOCACHE : 0);
     op->own.is_fast = asked.is_fast;
     op->own.worker = kz_worker();
-    op->own.has_worker = asked.carried && asked.carried->waits;
+    op->own.has_worker = asked.opaque && asked.opaque->waits;
     if (asked.event.event == KZE_CREATE)
         kz_begin_create(op, asked.create);
-    if (asked.carried)
-        kz_begin_carried(op, asked.carried);
+    if (asked.opaque)
+        kz_begin_opaque(op, asked.opaque);
+    note_begun(op);
     return carry_on(op);
 }
 
 static KzAnswer run(const KzBegin *asked)
 {
-    if (!asked->carried || !asked->carried->waits)
+    if (!asked->opaque || !asked->opaque->waits)
         return begin(asked);
     if (!kz_has_helpers())
         return refused(KZS_TOO_MANY);
@@ -355,7 +380,7 @@ static void spell_names(KzAnswer *answer)
 KzReply kz_perform_as(const KzBegin *asked)
 {
     KzAnswer answer = kz_follow(run(asked), NULL, begin_create);
-    if (asked->event.event == KZE_LIST && !asked->carried && !answer.reply.held)
+    if (asked->event.event == KZE_LIST && !answer.reply.held)
         spell_names(&answer);
     put_answer(answer);
     kz_settle();
@@ -398,7 +423,7 @@ KzReply kz_perform_create(uint8_t volume, const char *path, const KzCreate *crea
 
 KzReply kz_ask_file(uint64_t handle, const KzAsked *asked)
 {
-    return kz_perform_as(&(KzBegin){.event = {.event = KZE_FLUSH, .handle = handle}, .bytes = "", .carried = asked});
+    return kz_perform_as(&(KzBegin){.event = kz_opaque_event(asked, (KazdrinEvent){.event = KZE_OTHER, .handle = handle}), .bytes = "", .opaque = asked});
 }
 
 KzReply kz_dispose_file(uint64_t handle, bool is_gone)
@@ -409,9 +434,10 @@ KzReply kz_dispose_file(uint64_t handle, bool is_gone)
 
 KzReply kz_ask_file_twice(uint64_t handle, const KzAsked *first, const KzAsked *second)
 {
-    KzBegin asked = {.event = {.event = KZE_FLUSH, .handle = handle}, .bytes = "", .carried = first};
+    KzBegin asked = {.event = kz_opaque_event(first, (KazdrinEvent){.event = KZE_OTHER, .handle = handle}), .bytes = "", .opaque = first};
     KzAnswer answer = run(&asked);
-    asked.carried = second;
+    asked.opaque = second;
+    asked.event = kz_opaque_event(second, asked.event);
     if (!answer.reply.held && answer.reply.status == KZS_OK)
         run(&asked);
     answer.length = 0;
@@ -430,7 +456,7 @@ static KzAnswer query_opened(PFLT_VOLUME volume, const char *path)
     if (opened.reply.held || opened.reply.status != KZS_OK)
         return opened;
     uint64_t handle = opened.reply.information;
-    KzAnswer answer = run(&(KzBegin){.event = {.event = KZE_FLUSH, .handle = handle}, .bytes = "", .carried = &query});
+    KzAnswer answer = run(&(KzBegin){.event = kz_opaque_event(&query, (KazdrinEvent){.event = KZE_OTHER, .handle = handle}), .bytes = "", .opaque = &query});
     memcpy(bytes, kz_me->room, sizeof bytes);
     snprintf(says, sizeof says, "%.199s", kz_me->says);
     run(&(KzBegin){.event = {.event = KZE_CLEANUP, .handle = handle}, .bytes = ""});
@@ -443,7 +469,7 @@ static KzAnswer query_opened(PFLT_VOLUME volume, const char *path)
 KzReply kz_open_network(PFLT_VOLUME volume, const char *path)
 {
     const KzAsked asked = {.major = IRP_MJ_NETWORK_QUERY_OPEN, .room = sizeof(FILE_NETWORK_OPEN_INFORMATION), .data_flags = FLTFL_CALLBACK_DATA_FAST_IO_OPERATION};
-    KzAnswer answer = run(&(KzBegin){.event = {.event = KZE_LIST, .volume = volume->id}, .bytes = "", .path = path, .carried = &asked});
+    KzAnswer answer = run(&(KzBegin){.event = kz_opaque_event(&asked, (KazdrinEvent){.event = KZE_ON_VOLUME, .volume = volume->id}), .bytes = "", .path = path, .opaque = &asked});
     if (answer.other == STATUS_FLT_DISALLOW_FAST_IO)
         answer = query_opened(volume, path);
     put_answer(answer);
@@ -453,7 +479,7 @@ KzReply kz_open_network(PFLT_VOLUME volume, const char *path)
 
 KzReply kz_ask_volume(PFLT_VOLUME volume, const KzAsked *asked)
 {
-    return kz_perform_as(&(KzBegin){.event = {.event = KZE_LIST, .volume = volume->id}, .bytes = "", .carried = asked});
+    return kz_perform_as(&(KzBegin){.event = kz_opaque_event(asked, (KazdrinEvent){.event = KZE_ON_VOLUME, .volume = volume->id}), .bytes = "", .opaque = asked});
 }
 
 /* A cleanup and then the close; the close alone if the cleanup was made before. */
@@ -465,7 +491,7 @@ KzReply kz_close_file(uint64_t handle)
     const KzFile *open = kz_file_of(handle);
     uint8_t refusal = open ? open->refusal : KZS_OK;
     if (file && file->users > 1 && (kz_has_others() || kz_is_referenced(&file->object)))
-        file->is_close_due = true; /* as in the kit: whoever ends the last operation of a file object closes it */
+        kz_uses_all(), file->is_close_due = true; /* as in the kit: whoever ends the last operation of a file object closes it */
     else if (!reply.held && (reply.status == KZS_OK || reply.status == KZS_WRONG_STEP))
         answer = run(&(KzBegin){.event = {.event = KZE_CLOSE, .handle = handle}, .bytes = ""});
     if (!answer.reply.held && answer.reply.status == KZS_OK)

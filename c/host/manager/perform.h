@@ -14,7 +14,7 @@ typedef struct {
     const KzCreate *create; /* what it asks for; NULL: the usual */
     ULONG irp_flags;        /* beside its usual ones */
     bool is_fast;           /* without an IRP */
-    const KzAsked *carried; /* what rides on it */
+    const KzAsked *opaque; /* what it asks, if the manager doesn't look into it */
 } KzBegin;
 
 KzReply kz_perform(KazdrinEvent asked, const void *bytes, size_t length, const char *path);
@@ -22,6 +22,7 @@ KzReply kz_perform(KazdrinEvent asked, const void *bytes, size_t length, const c
 KzReply kz_perform_create(uint8_t volume, const char *path, const KzCreate *create);
 KzReply kz_close_file(uint64_t handle);
 void kz_settle(void);
+void kz_uses_closes(void); /* whether any are due */
 /* A client's, whose reply is passed on. */
 KzReply kz_perform_as(const KzBegin *asked);
 KzAnswer kz_collect(KzOp *op);

@@ -11,7 +11,8 @@
 #include "manager/answer.h"
 #include "manager/below.h"
 #include "manager/buffer.h"
-#include "manager/carrier.h"
+#include "manager/instance.h"
+#include "manager/opaque.h"
 #include "manager/context.h"
 #include "manager/filter.h"
 #include "manager/hand.h"
@@ -94,6 +95,8 @@ void kz_post(KzOp *op, PFLT_INSTANCE instance, PVOID completion)
     if (op->event == KZE_CREATE && op->lent.status == KZS_OK && !op->is_cancelled)
         kz_file_answered(op->file, op->lent.information);
     FLT_POSTOP_CALLBACK_STATUS said = ask_post(op, instance, completion);
+    kz_goes_alone(op);
+    kz_uses_phases();
     if (op->safe.callback)
         said = call_when_safe(op, instance, said);
     bool is_completed = op->stage == KZ_COMPLETED_IN_POST;
@@ -128,19 +131,20 @@ void kz_drain(KzOp *op, PFLT_INSTANCE instance, PVOID completion)
 {
     FLT_RELATED_OBJECTS objects = kz_objects_of(instance, op);
     FLT_IO_PARAMETER_BLOCK iopb = {.MajorFunction = kz_major_of(op),
-                                   .MinorFunction = op->carried ? op->carried->minor : IRP_MN_NORMAL,
+                                   .MinorFunction = op->opaque ? op->opaque->minor : IRP_MN_NORMAL,
                                    .TargetInstance = instance,
                                    .TargetFileObject = objects.FileObject};
     FLT_CALLBACK_DATA data = {.Flags = kz_data_flags(op) | FLTFL_CALLBACK_DATA_POST_OPERATION | FLTFL_CALLBACK_DATA_DRAINING_IO,
                               .Thread = op->thread,
                               .Iopb = &iopb,
                               .RequestorMode = kz_requestor_of(op)};
+    kz_uses_all();
     KzPlace before = kz_enter(KZ_IN_DRAIN, kz_worker(), instance->filter, instance, op, &data);
     PFLT_POST_OPERATION_CALLBACK callback = kz_registered(instance->filter, kz_major_of(op))->PostOperation;
     op->users++;
     kz_scheduler->touch(&op->users, 0, KZT_TAKES);
-    if (op->carried)
-        kz_forget_carried_swap(op, instance); /* what goes down in its buffer is still to be read */
+    if (op->opaque)
+        kz_forget_opaque_swap(op, instance); /* what goes down in its buffer is still to be read */
     unsigned depth = kz_let_driver("drain", callback);
     FLT_POSTOP_CALLBACK_STATUS said = KZ_CALL_DRIVER(callback, &data, &objects, completion, FLTFL_POST_OPERATION_DRAINING);
     kz_driver_returned(depth, "drain returns");
@@ -159,6 +163,7 @@ void kz_drain(KzOp *op, PFLT_INSTANCE instance, PVOID completion)
 bool kz_drain_next(PFLT_INSTANCE instance)
 {
     kz_pause("drain");
+    kz_uses_teardown(instance, false);
     KzTold taken = kz_event(kz_worker(), (KazdrinEvent){.event = KZE_DRAIN_TAKE, .instance = instance->id});
     if (taken.status != KZS_OK || !taken.told.action)
         return false;

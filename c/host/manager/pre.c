@@ -21,7 +21,7 @@
 /* A shutdown, and what is asked of a device, has no file object. */
 FLT_RELATED_OBJECTS kz_objects_of(PFLT_INSTANCE instance, const KzOp *op)
 {
-    return kz_objects(instance, op->carried && op->carried->has_no_file ? NULL : op->file);
+    return kz_objects(instance, op->opaque && op->opaque->has_no_file ? NULL : op->file);
 }
 
 FLT_RELATED_OBJECTS kz_objects(PFLT_INSTANCE instance, KzFile *file)
@@ -94,7 +94,7 @@ static void complete(KzOp *op, KazdrinEvent *verdict)
 
 static bool is_fast(const KzOp *op)
 {
-    return op->own.is_fast || (op->carried && op->carried->data_flags & FLTFL_CALLBACK_DATA_FAST_IO_OPERATION);
+    return op->own.is_fast || (op->opaque && op->opaque->data_flags & FLTFL_CALLBACK_DATA_FAST_IO_OPERATION);
 }
 
 KazdrinEvent kz_verdict_of(KzOp *op, PFLT_INSTANCE instance, FLT_PREOP_CALLBACK_STATUS said, PVOID completion)
@@ -111,7 +111,7 @@ KazdrinEvent kz_verdict_of(KzOp *op, PFLT_INSTANCE instance, FLT_PREOP_CALLBACK_
     case FLT_PREOP_SUCCESS_NO_CALLBACK:
         break;
     case FLT_PREOP_PENDING:
-        if (op->own.is_fast || (op->carried && !(op->carried->data_flags & FLTFL_CALLBACK_DATA_IRP_OPERATION)))
+        if (op->own.is_fast || (op->opaque && !(op->opaque->data_flags & FLTFL_CALLBACK_DATA_IRP_OPERATION)))
             kz_tell(KZM_NO_VERDICT, "FLT_PREOP_PENDING", "of what is no IRP, and can't be held: it counts as FLT_PREOP_SUCCESS_NO_CALLBACK");
         else
             verdict.mode = KZV_PENDING;
@@ -196,6 +196,7 @@ bool kz_owes(KzOp *op, PFLT_INSTANCE instance, const KazdrinEvent *verdict)
 static void enter_flight(KzOp *op, PFLT_INSTANCE instance)
 {
     instance->in_flight++;
+    kz_scheduler->uses(&instance->in_flight, KZU_ADDS);
     if (op->owed_count < KZ_OWED)
         op->owed[op->owed_count++] = (KzOwed){instance, false};
 }
@@ -227,6 +228,8 @@ void kz_pre(KzOp *op, PFLT_INSTANCE instance)
     KzPlace before = kz_enter(KZ_IN_PRE, kz_worker(), instance->filter, instance, op, op->data);
     kz_show_pre(op, instance);
     FLT_PREOP_CALLBACK_STATUS said = ask_pre(op, instance, &completion);
+    kz_goes_alone(op);
+    kz_uses_phases();
     kz_adopt_name(op->file);
     if (said != FLT_PREOP_COMPLETE)
         kz_take_new_name(op, instance);

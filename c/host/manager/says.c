@@ -197,27 +197,27 @@ static void add_volume(Text *text, int class, const void *from)
     }
 }
 
-void kz_say_answer(const KzCarried *carried, size_t length)
+void kz_say_answer(const KzOpaque *opaque, size_t length)
 {
     Text text = {kz_me->says, sizeof kz_me->says, 0};
     kz_me->says[0] = 0;
     if (!length)
         return;
-    switch (carried->major) {
+    switch (opaque->major) {
     case IRP_MJ_QUERY_INFORMATION:
-        add_file(&text, carried->now.QueryFileInformation.FileInformationClass, carried->output, length);
+        add_file(&text, opaque->now.QueryFileInformation.FileInformationClass, opaque->output, length);
         break;
     case IRP_MJ_NETWORK_QUERY_OPEN:
-        add_network(&text, (const void *)carried->output);
+        add_network(&text, (const void *)opaque->output);
         break;
     case IRP_MJ_QUERY_VOLUME_INFORMATION:
-        add_volume(&text, (int)carried->now.QueryVolumeInformation.FsInformationClass, carried->output);
+        add_volume(&text, (int)opaque->now.QueryVolumeInformation.FsInformationClass, opaque->output);
         break;
     case IRP_MJ_DIRECTORY_CONTROL:
-        if (carried->minor == IRP_MN_QUERY_DIRECTORY)
-            add_entries(&text, (int)carried->now.DirectoryControl.QueryDirectory.FileInformationClass, carried->output, length);
+        if (opaque->minor == IRP_MN_QUERY_DIRECTORY)
+            add_entries(&text, (int)opaque->now.DirectoryControl.QueryDirectory.FileInformationClass, opaque->output, length);
         else
-            add_change(&text, (const void *)carried->output);
+            add_change(&text, (const void *)opaque->output);
         break;
     }
 }

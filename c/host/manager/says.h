@@ -5,6 +5,6 @@
 #include "host.h"
 
 /* The text of an answer, into the client's room for it. */
-void kz_say_answer(const KzCarried *carried, size_t length);
+void kz_say_answer(const KzOpaque *opaque, size_t length);
 
 #endif

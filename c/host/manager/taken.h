@@ -3,6 +3,7 @@
 #define KZ_MANAGER_TAKEN_H
 
 #include "host.h"
+#include "core/place.h"
 
 void kz_note_taken(const void *body);
 void kz_forget_taken(const void *body);

@@ -3,6 +3,7 @@
 #define KZ_RUN_REPORT_H
 
 #include "host.h"
+#include "core/place.h"
 
 bool kz_is_json(void);
 void kz_report_event(const char *event, const char *members);

@@ -122,7 +122,7 @@ KzReply kz_request_as(const char *line, const char *asked)
     size_t count = kz_split(kz_me->line, words);
     if (count == 0 || words[0][0] == '#')
         return (KzReply){0};
-    KZ_CALL_OF("a request");
+    KZ_CALL_OF(kz_a_request);
     if (is_of_file())
         note_unexpected();
     seen.requests++;
@@ -130,7 +130,8 @@ KzReply kz_request_as(const char *line, const char *asked)
     kz_me->request = asked ? asked : kz_kept_text(expected);
     kz_me->line_number = kz_scheduler == &kz_in_order ? kz_line() : 0;
     kz_forget_busy();
-    kz_tick();
+    if (!kz_scheduler->is_timeless || !kz_has_others())
+        kz_tick();
     kz_say(KZ_SAID_REQUEST, ">");
     for (size_t at = 0; at < count; at++)
         kz_say(KZ_SAID_REQUEST, " %s", words[at]);

@@ -3,6 +3,7 @@
 #define KZ_RUN_SEEN_H
 
 #include "host.h"
+#include "core/place.h"
 
 typedef struct {
     const char *file; /* whose requests are played; NULL if it is none */

@@ -229,7 +229,7 @@ static KzReply ask_detach(char **words)
     uint64_t at;
     if (!kz_read_instance(words[1], &at))
         return kz_wrong();
-    return ended(at < kz.instances_count ? kz_detach(kz.instances[at]) : KZS_NO_INSTANCE);
+    return ended(at < kz.instances_count ? kz_detach_alone(kz.instances[at]) : KZS_NO_INSTANCE);
 }
 
 static KzReply ask_unload(char **words)

@@ -7,6 +7,7 @@
 #include "filesystem/fileobject.h"
 #include "filesystem/sharing.h"
 #include "manager/below.h"
+#include "manager/opaque.h"
 #include "manager/disposition.h"
 #include "manager/reparse.h"
 #include "kit/device.h"
@@ -167,8 +168,8 @@ uint32_t kz_open_path(const char *name, const KzCreate *create, KzFile **file)
 
 NTSTATUS kz_ask_opened(KzFile *file, const KzAsked *asked, KzAnswer *answer)
 {
-    const KzOwn own = {.is_waited_for = true, .is_user = true, .carried = asked};
-    *answer = kz_below(&own, file, (KazdrinEvent){.event = KZE_FLUSH, .handle = file->handle}, "", 0);
+    const KzOwn own = {.is_waited_for = true, .is_user = true, .opaque = asked};
+    *answer = kz_below(&own, file, kz_opaque_event(asked, (KazdrinEvent){.event = KZE_OTHER, .handle = file->handle}), "", 0);
     return kz_status_of(*answer);
 }
 

@@ -3,6 +3,7 @@
 #include "core/memory.h"
 #include "core/op.h"
 #include "manager/below.h"
+#include "manager/opaque.h"
 #include "user/completion.h"
 #include "user/error.h"
 #include "user/file.h"
@@ -59,8 +60,8 @@ static Watch *begin(KzObject *object, void *room, uint32_t size, bool is_tree, u
     watch->overlapped = overlapped ? overlapped : &watch->own;
     kz_begin_overlapped(object, watch->overlapped);
     const KzAsked asked = {.major = IRP_MJ_DIRECTORY_CONTROL, .minor = IRP_MN_NOTIFY_CHANGE_DIRECTORY, .flags = is_tree ? SL_WATCH_TREE : 0, .code = filter, .room = size, .waits = true};
-    const KzOwn own = {.is_user = true, .carried = &asked, .done = completed, .given = watch};
-    KzAnswer answer = kz_below(&own, object->file, (KazdrinEvent){.event = KZE_FLUSH, .handle = object->file->handle}, "", 0);
+    const KzOwn own = {.is_user = true, .opaque = &asked, .done = completed, .given = watch};
+    KzAnswer answer = kz_below(&own, object->file, kz_opaque_event(&asked, (KazdrinEvent){.event = KZE_OTHER, .handle = object->file->handle}), "", 0);
     if (!answer.reply.held)
         completed(watch, kz_status_of(answer), answer.reply.information, kz_me->room, answer.length);
     return watch;

@@ -1,4 +1,4 @@
-/* Mistakes in operations that ride on another one of the manager's; each by the name of a file. */
+/* Mistakes in operations that the manager doesn't look into; each by the name of a file. */
 #include <fltKernel.h>
 
 #define TAG 'drrC'

@@ -316,8 +316,6 @@ DIFFERENT = {
     ("mkfifo", "x"): ("EPERM", HAS_NO_FRAME),
     ("rename with", "f", "e", 2): ("EINVAL", "two files can't change their names by copies"),
     ("nobody", "symlink", "f", "t/x"): ("EPERM", "a server may follow a link by its own rights, so the mount's user alone makes them"),
-    ("times", "d"): (lambda got: got[1] != 7, "a folder has the times of the one below"),
-    ("times", "ln"): (lambda got: got[1] != 7, "so has a link"),
 }
 
 

@@ -109,6 +109,8 @@ def trees(tally, ground, room):
         for number in range(5):
             with open(os.path.join(source, folder, f"file{number}"), "wb") as file:
                 file.write(os.urandom(number * 3_000))
+    for folder in ("a/b", "a", "c", "."):
+        os.utime(os.path.join(source, folder), (5, 7))
     at = ground.at
     steps = {
         "cp": f"cp -a {source} {at('cp')} && diff -r {source} {at('cp')}",

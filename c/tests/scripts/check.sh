@@ -7,9 +7,10 @@
 #   explore   schedules
 #   spread    a search in parts, by jobs, by GNU parallel and by shards, and one that is interrupted
 #   threads   drivers under real threads
-#   names     names, and the majors that ride on the manager's operations: compared with a model, under schedules and refusals, by threads
+#   names     names, and major functions without a kind of their own: compared with a model, under schedules and refusals, by threads
 #   programs  samples with programs, threads, processes: schedules, refusals, threads
 #   cache     what is built without proofs, and who takes it from where: by stand-ins of the kit
+#   script    scripts above the archive, and threads of scenarios in every order
 #   order     the lists that all managers are held to
 #   image     binaries of drivers, by the toolchains that are here: each sample compared with what its source prints, exceptions, files that can't run, changed files
 #   headers   constants, structures and prototypes compared with those of mingw-w64, if its headers are there: by its name alone, and in thorough.sh
@@ -34,7 +35,9 @@ if [ -z "${KAZDRIN_LIB:-}" ]; then
     [ -f "$KAZDRIN_LIB" ] || KAZDRIN_LIB=$("$here/../../archive.sh" --unproved) || exit 1
     export KAZDRIN_LIB
 fi
-[ $# -gt 0 ] || set -- host legal misuse explore spread threads names programs cache order image mount serve
+# All are those that this file's head names, but for headers.
+mapfile -t usual < <(sed -n 's/^#   \([a-z]*\)  .*/\1/p' "$0" | grep -vx headers)
+[ $# -gt 0 ] || set -- "${usual[@]}"
 passed=0
 failed=0
 
@@ -49,6 +52,7 @@ least() {
         cache) echo 20 ;;
         misuse) echo 16 ;;
         names) echo 28 ;;
+        script) echo 47 ;;
         order) echo 14 ;;
         mount) echo 1250 ;;
         programs) echo 35 ;;

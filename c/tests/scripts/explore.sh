@@ -39,13 +39,8 @@ play() {
     done < <(awk -v q="'" '/ schedules:$/ { getline; limit = /^    LIMIT/ } /^  --replay/ && !limit { split($0, parts, q); print parts[2] }' "$built/$1.out")
     [ "$count" -gt 0 ]
 }
-# What a search found, each kind in a line, without the numbers and names in which two schedules differ.
-kinds() {
-    awk '/ schedules:$/ { text = ""; inside = 1; next } /^  the shortest:/ { print text; inside = 0; next } inside { text = text "|" $0 }' "$1" |
-        sed -E 's/operation [0-9]*/operation N/g; s/\([a-z]*\)/()/g; s/(, (at|in) [^,|]*)[^|]*/\1/g' | sort
-}
 
-# Known states are left out soundly: a program finds the kinds of ends in "$room/kinds" without them, too.
+# Known states, and orders that come to the same, are left out soundly: a program finds the kinds of ends in "$room/kinds" without them, too.
 reduce() {
     local words=$1 scenario=$2 way
     shift 2
@@ -53,13 +48,17 @@ reduce() {
     for way in "$@"; do
         search "$scenario" --ends "$words" "$way" > "$room/reduced"
         kinds "$room/reduced" | diff "$room/kinds" - || return 1
-        grep -q "^[a-z 0-9]*: .* [1-9][0-9]* given up, [1-9][0-9]* states" "$room/reduced" || return 1
+        [ -z "$way" ] || grep -q "^[a-z 0-9]*: .* [1-9][0-9]* given up, [1-9][0-9]* states" "$room/reduced" || return 1
     done
+}
+# What steps use is known: of those that come to the same in either order, by that, each pair that is drawn does.
+commute() {
+    search "$1" --commute "$2" "${3:-}" > "$room/pairs" && grep -q '^[1-9][0-9]* pairs, .*, 0 of them wrongly$' "$room/pairs" || { cat "$room/pairs"; false; }
 }
 searched() {
     local name=$1 scenario=$scenarios/$1.txt status ended finds words ways
     status=$(cat "$tests/expected/explore-$name.status" 2> /dev/null || sed -n 's/^# status: //p' "$scenario" | grep . || echo 0)
-    search "$scenario" "$(words_of "$scenario")" > "$room/whole"
+    search "$scenario" --whole "$(words_of "$scenario")" > "$room/whole"
     ended=$?
     timeless < "$room/whole" > "$built/$name.out"
     # Where nothing is stored, the scenario says what is found.
@@ -77,10 +76,14 @@ searched() {
     [ "$status" != 4 ] && [ "$name" != barriers ] || return # that one has many schedules, and a row of its own
     case "$name" in polls | settwice) ways=(--reduce) ;; teardowns) ways=(--states) ;; *) ways=(--reduce --states) ;; esac
     words="--bound 3 $(other_words_of "$scenario") $(words_of "$scenario" | grep -q -e --fail-each && echo --fails 1)"
-    search "$scenario" --ends "$words" > "$room/plain"
+    search "$scenario" --ends --whole "$words" > "$room/plain"
     kinds "$room/plain" > "$room/kinds"
     reduce "$words" "$scenario" "${ways[@]}"
     tell $? "$name with known states left out"
+    reduce "$words" "$scenario" ""
+    tell $? "$name with orders left out that come to the same"
+    commute "$scenario" 1000 "$words"
+    tell $? "$name, steps in both orders,"
     grep -q -e --replay "$built/$name.out" || return
     play "$name" "$status"
     tell $? "$name, played again,"
@@ -110,12 +113,33 @@ done
 program=$room/schedules
 build schedules --explore "$program" "${drivers[@]}" $tests/drivers/left.c $tests/misuse/forever.c
 rows searched "${names[@]}"
+
+# ended SCENARIO WORDS [SCHEDULES]: without a bound no end is lost. There are those that the search by states has and, where it ends, the search of each schedule by itself. It has SCHEDULES, more than there are else.
+ended() {
+    local scenario=$1 words=$2
+    search "$scenario" --ends --bound all "$words" > "$room/all"
+    kinds "$room/all" > "$room/kinds"
+    search "$scenario" --ends --states "$words" > "$room/states"
+    [ -s "$room/kinds" ] && kinds "$room/states" | diff "$room/kinds" - || return 1
+    [ -n "${3:-}" ] || return 0
+    search "$scenario" --ends --whole --bound all "$words" > "$room/whole"
+    grep -q "^no bound: $3 schedules, " "$room/whole" && ! grep -q "^no bound: $3 schedules, " "$room/all" && kinds "$room/whole" | diff "$room/kinds" -
+}
+# Of two clients with so many steps there are C(a + b, a) schedules: 7 and 7 steps have 3432, 8 and 7 have 6435. Those of the same requests are counted once.
+unbounded() {
+    local name=${1%%:*} whole=${1#"${1%%:*}"} words
+    words="$(other_words_of "$scenarios/$name.txt") $(words_of "$scenarios/$name.txt" | grep -q -e --fail-each && echo --fails 1)"
+    ended "$scenarios/$name.txt" "$words" "${whole#:}"
+    tell $? "$name without a bound"
+}
+rows unbounded counter:1716 compares:3432 copied:3432 sharedtable:3432 sharedtext:3432 cleared:3432 sharedlist:6435 afterpend checkact closing countedbyplus fetchestwice initialisedtwice insidelock keptinside lastrelease \
+    lockorder lostupdate nocount publishedearly readsinto readthenset refusal rundown setagain setflag sharedagain stuckdetach teardowns triesforever waitsforwriter writesout
 schedules_of() {
     sed -n 's/^\([0-9]*\) schedules:$/\1/p' "$1" | sort -n
 }
 said() {
     sed "s/settwice/says$1/" $scenarios/settwice.txt > "$room/says.txt"
-    search "$room/says.txt" --coarse --ends > "$room/says.out" && [ "$(grep -c "^    END" "$room/says.out")" = 5 ] && schedules_of "$room/says.out" | diff <(schedules_of "$built/settwice.out") - &&
+    search "$room/says.txt" --whole --coarse --ends > "$room/says.out" && [ "$(grep -c "^    END" "$room/says.out")" = 5 ] && schedules_of "$room/says.out" | diff <(schedules_of "$built/settwice.out") - &&
         diff <(grep '^bound' "$built/settwice.out") <(timeless < "$room/says.out" | grep '^bound')
     tell $? "a driver that prints '${prints[$1]}'"
 }
@@ -145,7 +169,7 @@ tell $? "trace of a lost update"
 tell $? "trace of what is in order still"
 
 # Races between the same two lines are shown once, whatever they touch and whoever came first; those in which memory is freed apart. A read's line 19 meets a flush's lines 26 and 27, and 27 frees.
-"$program" --bound 1 $scenarios/sharedlist.txt > "$room/out"
+"$program" --whole --bound 1 $scenarios/sharedlist.txt > "$room/out"
 [ $? = 5 ] && sed -nE 's/^    RACE: (a read|memory is freed) at ([^ ]*) .* at ([^ ]*) .*/\1 \2 \3/p' "$room/out" | sort | diff - <(printf '%s\n' 'a read sharedlist.c:26 sharedlist.c:19' 'a read sharedlist.c:27 sharedlist.c:19' 'memory is freed sharedlist.c:27 sharedlist.c:19') &&
     [ "$(grep -c '^    RACE' "$room/out")" = 3 ] && [ "$(grep -c '^    and [0-9]* more between the same two lines$' "$room/out")" = 2 ]
 tell $? "races that are shown once"
@@ -180,7 +204,8 @@ word() {
 }
 word 'there is no word --boundd; the nearest is --bound (--help shows all)' --boundd 2
 word 'there is no word --everything (--help shows all)' --everything
-word '--bound x: behind --bound stands a number from 0 to 63' --bound x
+word '--bound x: behind --bound stands a number from 0 to 63, or all' --bound x
+word '--runs 0: behind --runs stands a number from 1 on' --seed 1 --runs 0
 word '--shard 4/4: behind --shard stands a part, as 0/4 is the first of four' --shard 4/4
 word "$scenarios/counter.txt: the scenario is other.txt, and there is one" other.txt
 
@@ -230,10 +255,12 @@ tell $? "limits"
 tell $? "limits that count"
 
 # Code that comes to no call ends a schedule within a second of the processor's.
-printf 'load forever\nattach 0 0 f 100\ncreate 0 new a\nclient r: read 0 0 5\n' > "$room/forever.txt"
+printf 'load forever\nattach 0 0 f 100\ncreate 0 new a\nclient r: read 0 0 5\nclient s: read 0 0 6\n' > "$room/forever.txt"
 timeout 600 "$program" --bound 1 "$room/forever.txt" > "$room/out"
 [ $? = 6 ] && grep -q "^    ENDLESS: the driver's code comes to no call at forever.c:1[45]" "$room/out"
 tell $? "code without an end"
+[ "$(grep '^    ENDLESS' "$room/out" | sort | uniq -d)" = "" ]
+tell $? "each kind is shown once"
 
 # What is expected once all have ended.
 {
@@ -290,12 +317,16 @@ tell $? "seed with priorities"
 sampled() {
     local name=$1
     sed "s/DRIVER/$name/" $scenarios/four-clients.txt > "$room/scenario"
-    "$program" --ends --bound "$bound" "$room/scenario" > "$room/plain"
+    "$program" --ends --whole --bound "$bound" "$room/scenario" > "$room/plain"
     tell $? "$name under every schedule"
     [ "$bound" = 1 ] || grep '^bound' "$room/plain"
     kinds "$room/plain" > "$room/kinds"
     reduce "--bound $bound" "$room/scenario" --reduce
     tell $? "$name with known states left out"
+    reduce "--bound $bound" "$room/scenario" ""
+    tell $? "$name with orders left out that come to the same"
+    commute "$room/scenario" 1000
+    tell $? "$name, steps in both orders,"
     sed "s/DRIVER/$name/" $scenarios/refusals.txt > "$room/scenario"
     "$program" --fail-each "$room/scenario" > "$room/out"
     tell $? "$name with each refusal"
@@ -305,4 +336,15 @@ build samples --explore "$program" c/samples/*.c
 names=(c/samples/*.c)
 names=("${names[@]##*/}")
 rows sampled "${names[@]%.c}"
+# And of right drivers a read beside a write, and beside a detach.
+right() {
+    sed -e "s/DRIVER/$1/" -e '/^client [cd]/d' -e 's/; flush a//' $scenarios/four-clients.txt > "$room/scenario"
+    ended "$room/scenario" ""
+    tell $? "$1 without a bound"
+    case $1 in audit | contentscan | ctx | passthrough | spy) ;; *) return ;; esac
+    sed -i 's/^client w.*/client d: detach 0/' "$room/scenario"
+    ended "$room/scenario" "" && commute "$room/scenario" 1000
+    tell $? "$1 without a bound, beside a detach"
+}
+rows right audit backup cipher contentscan control ctx metadata passthrough processaudit quota scanner spy trail
 finish

@@ -352,6 +352,8 @@ sed 's|"../spy.h"|"spy.h"|' c/samples/user/spylog.c > "$room/a fresh folder/spyl
 sed "s/DRIVER/ctx/" $tests/scenarios/four-clients.txt > "$room/a fresh folder/four-clients.txt"
 c/install.sh "$room/an installed tree" > "$room/install.log" 2>&1 || { cat "$room/install.log"; false; }
 tell $? "install"
+./flt new driver "$room/a-driver" > /dev/null && c/build.sh "$room/a-driver/run" "$room/a-driver/a-driver.c" && "$room/a-driver/run" --quiet "$room/a-driver/requests.txt"
+tell $? "a new driver"
 if command -v cmake > /dev/null; then
     (
         unset KAZDRIN_LIB
@@ -362,6 +364,8 @@ if command -v cmake > /dev/null; then
     echo '#error changed' >> "$room/a fresh folder/include/spy.h"
     ! env -u KAZDRIN_LIB cmake --build "$room/a fresh folder/build" > "$room/cmake.log" 2>&1 && grep -q '#error changed' "$room/cmake.log"
     tell $? "a header that changes"
+    ! (cd "$room/a fresh folder/build" && ctest) > "$room/cmake.log" 2>&1
+    tell $? "no test is passed by an old program"
     sed -i '$d' "$room/a fresh folder/include/spy.h"
     env -u KAZDRIN_LIB cmake --build "$room/a fresh folder/build" > "$room/cmake.log" 2>&1 && grep -q testcase "$room/a fresh folder/build/spy-run.spy.xml"
     tell $? "a report for each file of requests"
@@ -427,6 +431,12 @@ missing no-cc env CC=no-cc c/build.sh "$room/none" c/samples/ctx.c
 missing make env -u CC PATH="$room/few" c/build.sh "$room/none" c/samples/ctx.c
 missing nosuch.c c/build.sh "$room/none" nosuch.c
 missing "folder $room/nofolder" c/build.sh "$room/nofolder/none" c/samples/ctx.c
+# Without a compiler the tests of an installation aren't passed.
+if command -v rt > /dev/null; then
+    CC=no-cc ./flt test > "$room/missing.out" 2>&1
+    [ $? = 1 ] && grep -q '^drivers in C: not tried' "$room/missing.out" && grep -qx 'failed: drivers' "$room/missing.out"
+    tell $? "the tests without a compiler"
+fi
 
 # Random requests through all samples. Those whose own threads and requests wait for what other drivers hold play apart from those that never do.
 never=()

@@ -1,5 +1,5 @@
 #!/usr/bin/env bash
-# c/tests/scripts/names.sh [--whole] : names, and what rides on the manager's operations. Random requests about names beside a model of their own (200 sessions, with --whole 3,000); samples
+# c/tests/scripts/names.sh [--whole] : names, and operations of other major functions. Random requests about names beside a model of their own (200 sessions, with --whole 3,000); samples
 # and drivers under each schedule of renames and notices with up to one preemption, with each call refused in turn, and by eight threads for a second.
 set -u
 WHOLE=${1:-}

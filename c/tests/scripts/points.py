@@ -21,7 +21,7 @@ def read(path):
 def tabled():
     """The routines that are declared and aren't modelled."""
     texts = [read(path) for path in glob.glob("c/include/kz*routines.h")]
-    return {name for text in texts for name in re.findall(r"^KZ_ROUTINE\([^,]*, [^,]*, \w+, (\w+)", text, re.M)}
+    return {name for text in texts for name in re.findall(r"^KZ_ROUTINE\([^,]*, [^,]*, [^,]*, (\w+)", text, re.M)}
 
 
 def declared():
@@ -47,7 +47,7 @@ def bodies():
 def is_point(name, all_bodies, depth=DEPTH):
     """Whether another client may go on first where it is called: it says so, or goes straight on to one that does."""
     body = all_bodies.get(name, "")
-    if re.search(r"\bKZ_CALL(_OF|_FROM)?\(", body):
+    if re.search(r"\bKZ_CALL(_OF|_FROM|_ALONE)?\(", body):
         return True
     if "KZ_INSIDE" in body or not depth:
         return False

@@ -1,6 +1,6 @@
 #!/usr/bin/env bash
-# A search that is spread: over the processors of this machine by one word, by GNU parallel, and by shards that are merged. Each adds up to the same counts and kinds as the search in one piece. And one that is interrupted
-# goes on.
+# A search that is spread: over the processors of this machine by one word, by GNU parallel, and by shards that are merged. Each adds up to the same counts and kinds as one part that is all of it, which finds the kinds
+# that the search of each schedule finds. And one that is interrupted goes on.
 set -u
 . "$(dirname "$0")/tally.sh" spread
 schedules=$tests/misuse/schedules
@@ -14,20 +14,38 @@ sed 's/DRIVER/ctx/' $scenarios/four-clients.txt > "$room/ctx.txt"
 
 # The counts of each bound, and each kind with its number.
 seen() {
-    sed 's/, [0-9.]* s, /, /' "$1" | grep -E '^(bound|seeds)'
+    sed 's/, [0-9.]* s, /, /' "$1" | grep -E '^(bound|no bound|seeds)'
     awk '/ schedules:$/ { text = $1; inside = 1; next } /^  the shortest:/ { print text; inside = 0; next } inside { text = text "|" $0 }' "$1" | sort
 }
-"$room/settwice" --ends --bound 3 "$room/settwice.txt" > "$room/whole"
-seen "$room/whole" > "$room/wanted"
+# one PROGRAM WANTED WORD..: what one part finds is wanted of more; each schedule by itself, of which there are more, finds the same kinds.
+one() {
+    local program=$room/$1 scenario=$room/$1.txt wanted=$2
+    shift 2
+    "$program" "$@" --shard 0/1 "$scenario" > "$room/one"
+    seen "$room/one" > "$wanted"
+    "$program" "$@" --whole "$scenario" > "$room/whole"
+    [ "$(schedules "$room/one")" -lt "$(schedules "$room/whole")" ] && kinds "$room/one" | diff <(kinds "$room/whole") -
+    tell $? "one part, $*"
+}
+schedules() {
+    sed -nE 's/^(bound [0-9]*|no bound): ([0-9]*) schedules.*/\2/p' "$1" | tail -n 1
+}
+one settwice "$room/wanted" --ends --bound 3
 "$room/settwice" --ends --bound 3 --jobs 2 "$room/settwice.txt" > "$room/jobs" && seen "$room/jobs" | diff "$room/wanted" -
 tell $? "two jobs"
 "$room/settwice" --ends --bound 3 --jobs 5 "$room/settwice.txt" > "$room/jobs" && seen "$room/jobs" | diff "$room/wanted" -
 tell $? "five jobs"
-"$room/lockorder" "$room/lockorder.txt" > "$room/whole.lo"
-seen "$room/whole.lo" > "$room/wanted.lo"
+one lockorder "$room/wanted.lo" --bound 2
 "$room/lockorder" --jobs 3 "$room/lockorder.txt" > "$room/jobs"
 [ $? = 6 ] && seen "$room/jobs" | diff "$room/wanted.lo" -
 tell $? "jobs that find something"
+"$room/lockorder" --bound all --shard 0/1 "$room/lockorder.txt" > "$room/one"
+"$room/lockorder" --states "$room/lockorder.txt" > "$room/states"
+seen "$room/one" > "$room/wanted.all" && kinds "$room/one" | diff <(kinds "$room/states") -
+tell $? "one part, without a bound"
+"$room/lockorder" --bound all --jobs 4 "$room/lockorder.txt" > "$room/jobs"
+[ $? = 6 ] && seen "$room/jobs" | diff "$room/wanted.all" -
+tell $? "jobs without a bound"
 "$room/settwice" --ends --seed 5 --runs 300 "$room/settwice.txt" > "$room/seeds" && "$room/settwice" --ends --seed 5 --runs 300 --jobs 3 "$room/settwice.txt" > "$room/jobs" &&
     seen "$room/seeds" > "$room/wanted.seeds" && seen "$room/jobs" | diff "$room/wanted.seeds" -
 tell $? "jobs of drawn schedules"
@@ -49,6 +67,16 @@ tell $? "a shard that is there twice"
 "$room/settwice" --merge "$room"/part.[023] "$room/other" > "$room/out" 2>&1
 [ $? = 3 ] && grep -q "another search" "$room/out"
 tell $? "a shard of another search"
+
+# As many parts as the array of docs/EXPLORE.md has, most of them with little to do.
+part() {
+    "$built/settwice" --ends --bound 3 --shard "$1/64" --save "$built/many.$1" "$built/settwice.txt" > "$room/out" || { cat "$room/out"; false; }
+    tell $? "part $1 of 64"
+}
+mapfile -t numbers < <(seq 0 63)
+rows part "${numbers[@]}"
+"$room/settwice" --merge "$room"/many.* > "$room/merged" && seen "$room/merged" | diff "$room/wanted" -
+tell $? "64 merged parts"
 
 # A part of another driver's program, whose places are other lines.
 "$room/lockorder" --merge "$room"/part.? > "$room/out" 2>&1
@@ -86,29 +114,29 @@ wait $search
 [ $? = 5 ] && grep -q '^part 0/2 was ended by signal 9: what it found is lost$' "$room/out" && grep -q "^part 0/2 isn't there$" "$room/out" && grep -q "part 1/2 isn't whole$" "$room/out" &&
     grep -q '^    USE AFTER FREE' "$room/out" && ! grep -q '^0 schedules' "$room/out"
 tell $? "a part that is killed, and Ctrl-C"
-timeout -s INT 2 "$room/kitfreed" --bound 9 "$scenarios/kitfreed.txt" > "$room/out" 2>&1
+timeout --foreground -s INT 2 "$room/kitfreed" --whole --bound 9 "$scenarios/kitfreed.txt" > "$room/out" 2>&1
 [ $? = 124 ] && grep -q "^interrupted: the search isn't whole" "$room/out" && grep -q '^    USE AFTER FREE' "$room/out" && ! grep -q '^0 schedules' "$room/out"
 tell $? "Ctrl-C"
 
 # GNU parallel, by the line of docs/EXPLORE.md.
 if command -v parallel > /dev/null && parallel --version 2> /dev/null | grep -q '^GNU parallel'; then
     line=$(sed -n 's/^`\(parallel .*\)`.*/\1/p' docs/EXPLORE.md | head -n 1)
-    (cd "$room" && cp settwice lo && cp settwice.txt s.txt && rm -f part.* && eval "$line" > parallel.out 2>&1 && ./lo --merge part.* > merged) && "$room/settwice" "$room/settwice.txt" > "$room/whole2" &&
-        seen "$room/whole2" > "$room/wanted2" && seen "$room/merged" | diff "$room/wanted2" -
+    (cd "$room" && cp settwice lo && cp settwice.txt s.txt && rm -f part.* && eval "$line" > parallel.out 2>&1 && ./lo --merge part.* > merged) && "$room/settwice" --shard 0/1 "$room/settwice.txt" > "$room/one" &&
+        seen "$room/one" > "$room/wanted2" && seen "$room/merged" | diff "$room/wanted2" -
     tell $? "GNU parallel: $line"
 else
     echo "spread: there is no GNU parallel here (Debian: apt install parallel): its line wasn't run"
 fi
 
 # Interrupted, and on: what comes out is what one search in one go has.
-"$room/ctx" --bound 1 "$room/ctx.txt" > "$room/whole"
-seen "$room/whole" > "$room/wanted"
+"$room/ctx" --bound 1 "$room/ctx.txt" > "$room/all"
+seen "$room/all" > "$room/wanted"
 rm -f "$room/on"
 ended=4
 rounds=0
 while [ $ended = 4 ] && [ $rounds -lt 60 ]; do
     # A little longer each time, so that a slow machine comes on and a fast one is interrupted.
-    timeout -s INT "$(printf '%d.%03d' $((rounds / 25)) $((rounds % 25 * 40 + 30)))" "$room/ctx" --bound 1 --resume "$room/on" "$room/ctx.txt" > "$room/went" 2>&1
+    timeout --foreground -s INT "$(printf '%d.%03d' $((rounds / 25)) $((rounds % 25 * 40 + 30)))" "$room/ctx" --bound 1 --resume "$room/on" "$room/ctx.txt" > "$room/went" 2>&1
     ended=$?
     [ $ended != 124 ] || ended=4
     rounds=$((rounds + 1))

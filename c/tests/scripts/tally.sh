@@ -90,6 +90,12 @@ untried() {
     esac
 }
 
+# kinds REPORT: what a search of the explorer found, each kind in a line, without the numbers and names in which two schedules differ.
+kinds() {
+    awk '/ schedules:$/ { text = ""; inside = 1; next } /^  the shortest:/ { print text; inside = 0; next } inside { text = text "|" $0 }' "$1" |
+        sed -E 's/operation [0-9]*/operation N/g; s/\([a-z]*\)/()/g; s/(, (at|in) [^,|]*)[^|]*/\1/g' | sort
+}
+
 # The last line.
 finish() {
     echo "$PART: $passed passed, $failed failed"

@@ -196,7 +196,7 @@ fn shared<F: Minifilter, L: Ledger + Send + Sync, R: Threads + Wait + Sync>(
     filters.push((Name::read(b"f")?, filter))?;
     let manager = Manager::<F, L>::new(alloc, filters, blank)?;
     manager.mount(rt, Name::read(b"v")?)?;
-    let (queue, mut passes) = JobQueue::new(alloc, 272, 5)?;
+    let (queue, mut passes) = JobQueue::new(alloc, 272, 10)?;
     let gate = NoHook;
     let workers = make_workers(rt, alloc, &manager, &queue, &gate, &mut passes)?;
     ask_beside(rt, alloc, &manager, workers, load)

@@ -22,6 +22,7 @@ operation_of params.SetDelete = kind.SetDelete
 operation_of params.Restore = kind.Restore
 operation_of params.Cleanup = kind.Cleanup
 operation_of params.Close = kind.Close
+operation_of (params.Other major number) = kind.Other major
 
 -- the path that a create names
 abbrev pub path_of : Params → Option (List ℕ)

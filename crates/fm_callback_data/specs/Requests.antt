@@ -15,3 +15,4 @@ params_of request.SetDelete = params.SetDelete
 params_of request.Restore = params.Restore
 params_of request.Cleanup = params.Cleanup
 params_of request.Close = params.Close
+params_of (request.Other major number) = params.Other major number

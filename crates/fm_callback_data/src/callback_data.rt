@@ -214,13 +214,14 @@ impl CallbackData {
         self.parts.answer = answer;
     }
 
-    /// Puts back what an earlier callback received, for the next callback. Data that a callback changed isn't given other parameters so.
-    pub fn receive(&mut self, params: Params)
+    /// Puts other parameters there for the next callback, and gives those that were there. Data that a callback changed isn't given other parameters so.
+    pub fn receive(&mut self, params: Params) -> Params
         requires limits { IsTrue (is_within_limits params) }
         requires bare { self.old.changed ≡ None }
-        ensures { self.new ≡ record self.old { received = params } }
+        ensures before { result ≡ self.old.received }
+        ensures after { self.new ≡ record self.old { received = params } }
     {
-        self.parts.received = params;
+        mem::replace(&mut self.parts.received, params)
     }
 
     /// The laws of all callback data, for callers that rest on them. It does nothing.

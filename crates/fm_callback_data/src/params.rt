@@ -4,7 +4,7 @@ ghost use Rattle.std.specs.Prelude.{◌≡◌, ◌+◌, ◌^◌, nat_le};
 ghost use Rattle.fm_callback_data.specs.Params.{operation_of, length_of, end_of, is_within_limits, same_operation, are_on, are_for, fit, may_replace, path_of};
 
 use fm_types::limits::{END, TRANSFER};
-use fm_types::{Bytes, CreateMode, OpMask, Operation, SharedPath};
+use fm_types::{Bytes, CreateMode, Major, OpMask, Operation, SharedPath};
 
 /// What an operation is asked to do, one variant for each kind (`FLT_PARAMETERS`).
 #[derive(Drop)]
@@ -31,6 +31,9 @@ pub enum Params {
     Cleanup,
     /// The handle ends.
     Close,
+    /// What a major function without a kind of its own is asked to do: a number that stands for it,
+    /// which the manager hands on and doesn't look into.
+    Other { major: Major, number: u64 },
 }
 
 impl Params {
@@ -50,6 +53,7 @@ impl Params {
             Params::Restore => Operation::Restore,
             Params::Cleanup => Operation::Cleanup,
             Params::Close => Operation::Close,
+            Params::Other { major, .. } => Operation::Other(*major),
         }
     }
 

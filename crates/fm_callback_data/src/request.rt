@@ -4,7 +4,7 @@ ghost use Rattle.std.specs.Prelude.{◌≡◌};
 ghost use Rattle.fm_callback_data.specs.Requests.{params_of};
 
 use crate::params::Params;
-use fm_types::{Bytes, CreateMode, HandleId, OpId, SharedPath, Status, VolumeId};
+use fm_types::{Bytes, CreateMode, HandleId, Major, OpId, SharedPath, Status, VolumeId};
 
 /// What a client asks of a handle.
 #[derive(Drop)]
@@ -28,6 +28,8 @@ pub enum FileRequest {
     Cleanup,
     /// The handle ends (`IRP_MJ_CLOSE`).
     Close,
+    /// What a major function without a kind of its own is asked to do. Frames don't spell it.
+    Other { major: Major, number: u64 },
 }
 
 impl FileRequest {
@@ -45,6 +47,7 @@ impl FileRequest {
             FileRequest::Restore => Params::Restore,
             FileRequest::Cleanup => Params::Cleanup,
             FileRequest::Close => Params::Close,
+            FileRequest::Other { major, number } => Params::Other { major, number },
         }
     }
 }
@@ -62,6 +65,13 @@ pub enum Request {
     /// Lists the files of a volume (`IRP_MJ_DIRECTORY_CONTROL`).
     List {
         volume: VolumeId,
+    },
+    /// A major function without a kind of its own is asked of a volume, without a file. Frames don't
+    /// spell it.
+    OnVolume {
+        volume: VolumeId,
+        major: Major,
+        number: u64,
     },
     /// An operation on a handle.
     OnHandle {

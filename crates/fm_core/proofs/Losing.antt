@@ -1,12 +1,12 @@
 -- Links that go with what they name: what the code unlinks is all that is gone.
-use Rattle.fm_core.proofs.Words.{IsTied, Sweeping, handle_lost, is_lost, is_lost_of, stream_lost, answered, decided, Target, sweeps_alike, carried_there}
+use Rattle.fm_core.proofs.Words.{IsTied, Sweeping, file_lost, handle_lost, is_lost, is_lost_of, stream_lost, torn, answered, decided, Target, sweeps_alike, carried_there}
 use Rattle.fm_core.proofs.Words.{ContextsKept, carried_of, fresh_handle, Bool, List, None, Option, Some, [], ap, arith, false, inl, inr, is_some, map, refl}
 use Rattle.fm_core.proofs.Words.{subst, sym, true, ℕ, ◌==◌, ◌||◌, ◌∙◌, ◌∷◌, ◌≡◌, nat_tests, Sweeps, Context, ContextTable, Slot, context_at, Object, FlowTable}
-use Rattle.fm_core.proofs.Words.{PreState, without_first, CtxId, HandleId, StreamId, Operation, Status, is_created_on, FileTable, after_pre, is_handle}
+use Rattle.fm_core.proofs.Words.{PreState, option_map, without_first, CtxId, HandleId, StreamId, Operation, Status, is_created_on, FileTable, after_pre, is_handle}
 use Rattle.fm_core.proofs.Words.{is_stream, with_mark, LosesLinks, is_there, names_there, IsSound, World, carries, All, find, cases_Bool, false≢true, All-cons}
 use Rattle.fm_core.proofs.Words.{All-head, All-nil, All-tail, All-weaker}
 use Rattle.fm_world.proofs.Words.{context_at-swept, is_to, swept, swept_slot, after_base, closed, left, opened, torn_down, is_on_gone}
-use Rattle.fm_core.specs.Lost.{is_named, handle_lost_by, stream_lost_by, GoneAlone}
+use Rattle.fm_core.specs.Lost.{is_named, handle_lost_by, torn_by, GoneAlone}
 use Rattle.fm_ctx.proofs.Alike.{settles_alike}
 use Rattle.fm_ctx.proofs.Carried.{carried_numbers}
 use Rattle.fm_ctx.proofs.Objects.{same_object-same}
@@ -118,17 +118,18 @@ nothing_lost f o x is = grind (arith, same_there f o x.link, is)
 
 -- ---- what is gone
 
--- whatever was there still is, but for those two
-abbrev pub KeepsBut : FileTable → FileTable → Option Object → Option Object → Type 0
-KeepsBut f g a b = (l : Option Object) → is_there f l ≡ true → (is_there g l || (is_named a l || is_named b l)) ≡ true
+-- whatever was there still is, but for that object, and that stream and its file
+abbrev pub KeepsBut : FileTable → FileTable → Option Object → Option StreamId → Type 0
+KeepsBut f g a b = (l : Option Object) → is_there f l ≡ true
+    → (is_there g l || ((is_named a l || is_named (option_map Object.Stream b) l) || is_named (option_map Object.File b) l)) ≡ true
 
-keeps_all : (f g : FileTable) (a b : Option Object) → ((l : Option Object) → is_there f l ≡ true → is_there g l ≡ true) → KeepsBut f g a b
+keeps_all : (f g : FileTable) (a : Option Object) (b : Option StreamId) → ((l : Option Object) → is_there f l ≡ true → is_there g l ≡ true) → KeepsBut f g a b
 keeps_all f g a b keeps l h = grind (arith, keeps l h)
 
-keeps_same : (f : FileTable) (a b : Option Object) → KeepsBut f f a b
+keeps_same : (f : FileTable) (a : Option Object) (b : Option StreamId) → KeepsBut f f a b
 keeps_same f a b = keeps_all f f a b (λ l h. h)
 
-keeps_then : (f g k : FileTable) (a b : Option Object) → KeepsBut f g a b → KeepsBut g k a b → KeepsBut f k a b
+keeps_then : (f g k : FileTable) (a : Option Object) (b : Option StreamId) → KeepsBut f g a b → KeepsBut g k a b → KeepsBut f k a b
 keeps_then f g k a b first second l h = grind (arith, first l h, second l)
 
 -- what passes a test that no removed one passes is found still
@@ -137,57 +138,64 @@ found_without : {A : Type 0} (test other : A → Bool) → ((x : A) → test x �
 found_without test other apart [] h = absurd (false≢true h)
 found_without test other apart (x ∷ xs) h = grind (arith, apart x, h, found_without test other apart xs)
 
-torn_keeps : (s : StreamId) (f : FileTable) (a : Option Object) → KeepsBut f (torn_down s f) a (Some (Object.Stream s))
+torn_keeps : (s : StreamId) (f : FileTable) (a : Option Object) → KeepsBut f (torn_down s f) a (Some s)
 torn_keeps s f a (Some (Object.Handle g)) h = grind (arith, h)
 torn_keeps s f a (Some (Object.Stream r)) h = elim (cases_Bool (s.0 == r.0)) [
   | inl is ↦ grind (arith, is)
   | inr is ↦ grind (arith, found_without (is_stream r) (is_stream s) (λ x here. grind (arith, nat_tests, here, is)) f.streams h)
 ]
+torn_keeps s f a (Some (Object.File r)) h = elim (cases_Bool (s.0 == r.0)) [
+  | inl is ↦ grind (arith, is)
+  | inr is ↦ grind (arith, found_without (is_stream r) (is_stream s) (λ x here. grind (arith, nat_tests, here, is)) f.streams h)
+]
 torn_keeps s f a l h = refl
 
-closed_keeps : (g : HandleId) (f : FileTable) (b : Option Object) → KeepsBut f (closed g f) (Some (Object.Handle g)) b
+closed_keeps : (g : HandleId) (f : FileTable) (b : Option StreamId) → KeepsBut f (closed g f) (Some (Object.Handle g)) b
 closed_keeps g f b (Some (Object.Stream s)) h = grind (arith, h)
+closed_keeps g f b (Some (Object.File s)) h = grind (arith, h)
 closed_keeps g f b (Some (Object.Handle r)) h = elim (cases_Bool (g.0 == r.0)) [
   | inl is ↦ grind (arith, is)
   | inr is ↦ grind (arith, found_without (is_handle r) (is_handle g) (λ x here. grind (arith, nat_tests, here, is)) f.handles h)
 ]
 closed_keeps g f b l h = refl
 
-left_keeps : (s : StreamId) (c : Bool) (f : FileTable) (a : Option Object) → KeepsBut f (left s c f) a (Some (Object.Stream s))
+left_keeps : (s : StreamId) (c : Bool) (f : FileTable) (a : Option Object) → KeepsBut f (left s c f) a (Some s)
 left_keeps s c f a l h = grind (arith, h, torn_keeps s f a l h)
 
 opened_keeps : (s : StreamId) (f : FileTable) (l : Option Object) → is_there f l ≡ true → is_there (opened s f) l ≡ true
 opened_keeps s f (Some (Object.Stream r)) h = h
+opened_keeps s f (Some (Object.File r)) h = h
 opened_keeps s f (Some (Object.Handle g)) h = found_before (is_handle g) f.handles (fresh_handle s f.next ∷ []) h
 opened_keeps s f l h = refl
 
 marked_keeps : (b : Bool) (s : StreamId) (f : FileTable) (l : Option Object) → is_there f l ≡ true → is_there (marked b s f) l ≡ true
 marked_keeps b s f (Some (Object.Stream r)) h = found_changed (is_stream r) (is_stream s) (with_mark b) (λ x. refl) f.streams h
+marked_keeps b s f (Some (Object.File r)) h = found_changed (is_stream r) (is_stream s) (with_mark b) (λ x. refl) f.streams h
 marked_keeps b s f (Some (Object.Handle g)) h = h
 marked_keeps b s f l h = refl
 
 -- the base's answer takes away a close's handle at most, and the stream of a close or a create
 base_keeps : (k : Operation) (s : Option StreamId) (h : Option HandleId) (why : Status) (c : Bool) (f : FileTable)
     → KeepsBut f (after_base k s h why c f) (handle_lost_by k (record { operation = k; stream = s; handle = h }))
-    (stream_lost_by k (record { operation = k; stream = s; handle = h }))
+    (torn_by k (record { operation = k; stream = s; handle = h }))
 base_keeps kind.Create (Some s) h why c f = λ l there. grind (arith, there, opened_keeps s f l there, left_keeps s c f None l there)
 base_keeps kind.SetDelete (Some s) h why c f = λ l there. grind (arith, there, marked_keeps true s f l there)
 base_keeps kind.Restore (Some s) h why c f = λ l there. grind (arith, there, marked_keeps false s f l there)
 base_keeps kind.Close (Some s) (Some h) why c f =
-    keeps_then f (closed h f) (left s c (closed h f)) (Some (Object.Handle h)) (Some (Object.Stream s)) (closed_keeps h f (Some (Object.Stream s)))
+    keeps_then f (closed h f) (left s c (closed h f)) (Some (Object.Handle h)) (Some s) (closed_keeps h f (Some s))
     (left_keeps s c (closed h f) (Some (Object.Handle h)))
 base_keeps k s h why c f =
-    keeps_same f (handle_lost_by k (record { operation = k; stream = s; handle = h })) (stream_lost_by k (record { operation = k; stream = s; handle = h }))
+    keeps_same f (handle_lost_by k (record { operation = k; stream = s; handle = h })) (torn_by k (record { operation = k; stream = s; handle = h }))
 
 -- so does a filter's verdict
 pre_keeps : (given : PreState) (k : Operation) (s : Option StreamId) (h : Option HandleId) (c : Bool) (f : FileTable)
     → KeepsBut f (after_pre given k s c f) (handle_lost_by k (record { operation = k; stream = s; handle = h }))
-    (stream_lost_by k (record { operation = k; stream = s; handle = h }))
+    (torn_by k (record { operation = k; stream = s; handle = h }))
 pre_keeps (state.Completed why) kind.Create (Some s) h c f = left_keeps s c f None
 pre_keeps given k s h c f =
-    keeps_same f (handle_lost_by k (record { operation = k; stream = s; handle = h })) (stream_lost_by k (record { operation = k; stream = s; handle = h }))
+    keeps_same f (handle_lost_by k (record { operation = k; stream = s; handle = h })) (torn_by k (record { operation = k; stream = s; handle = h }))
 
-gone_but : (f g : FileTable) (x : Target) → KeepsBut f g (handle_lost x) (stream_lost x) → GoneAlone f g x
+gone_but : (f g : FileTable) (x : Target) → KeepsBut f g (handle_lost x) (torn x) → GoneAlone f g x
 gone_but f g x keeps y named = grind (arith, keeps y.link named)
 
 pub answer_gone : (f g : FileTable) (t : FlowTable) (why : Status) (x : Target) → g ≡ answered t why x f → GoneAlone f g x

@@ -40,7 +40,7 @@ use Rattle.fm_world.specs.Files.{stream_at}
 use Rattle.fm_callback_data.specs.Requests.{params_of}
 use Rattle.fm_world.proofs.Filing.{room_for}
 use Rattle.fm_core.specs.Targets.{HasRoom}
-use Rattle.fm_core.specs.Begun.{Asks}
+use Rattle.fm_core.specs.Begun.{Asks, BeginsUnnamed}
 
 -- ---- next
 
@@ -528,14 +528,14 @@ creates {old} v path mode result t f same free_now h files =
     (Params.Create path mode) result t f (created v path old.flow.next old.files) free (or_parts (is_full old.flow) (has_no_handle_left old)
     (full_from _ _ (is_full old.flow || has_no_handle_left old) free)).0 h files)
 
-pub lists : {old now : World} (v : VolumeId) (result : Result OpId Status) (t : FlowTable) → old ≡ now
+-- without a file: a listing, or a major function of a volume
+pub lists : {old now : World} (v : VolumeId) (p : Params) (result : Result OpId Status) (t : FlowTable) → old ≡ now
     → first_of (volume_refusals now v (is_full old.flow)) ≡ None
-    → Took old.flow v None None old.stack.births None Params.List result t → Begins now (Request.List v) result (record old { flow = t })
-unfolding Begins
-lists {old} v result t same free_now h =
+    → Took old.flow v None None old.stack.births None p result t → BeginsUnnamed now v p result (record old { flow = t })
+lists {old} v p result t same free_now h =
     let free = subst (λ (w : World). first_of (volume_refusals w v (is_full old.flow)) ≡ None) (sym same) free_now in
-    subst (λ (w : World). Begins w (Request.List v) result (record old { flow = t })) same
-    (begun_as old (first_of (volume_refusals old v (is_full old.flow))) v None None None Params.List result t old.files old.files free
+    subst (λ (w : World). BeginsUnnamed w v p result (record old { flow = t })) same
+    (begun_as old (first_of (volume_refusals old v (is_full old.flow))) v None None None p result t old.files old.files free
     (full_from _ _ (is_full old.flow) free) h (files_kept (is_ok result)))
   where
     files_kept : (b : Bool) → old.files ≡ cond b old.files old.files

@@ -8,6 +8,9 @@ use Rattle.fm_world.proofs.Words.{post_settled, PostHeld, PreHeld, ResumesPre, R
 use Rattle.fm_operations.specs.declared.hold.Hold.{Hold}
 use Rattle.fm_operations.specs.Holds.{is_held}
 use Rattle.fm_operations.proofs.Holds.{held_pre, held_post}
+use Rattle.fm_callback_data.specs.declared.params.Params.{Params}
+use Rattle.fm_operations.specs.Steps.{changed_held}
+use Rattle.fm_world.proofs.Changing.{changed_balance}
 use Rattle.fm_world.proofs.Resumes.{post_resumed_balance, resumed_balance}
 use Rattle.fm_core.proofs.Holding.{sent_slots, tied_sent}
 use Rattle.fm_core.proofs.Losing.{loses, verdict_gone}
@@ -85,6 +88,12 @@ pre_resumes {old} {now} {kept} k o i r given state m t after fs x s now_is place
     subst (λ (w : World). ResumesPre w k o given (Ok tt) new) now_is
     (subst (ResumesPreAt old k o given (Ok tt) new) (sym place)
     (free, subst (λ y. LosesLinks (pre_resumed old k o y) new) same (subst (λ (w : World). LosesLinks w new) whole lost)))
+
+-- other parameters go down: completions carry what they did
+pub change_tied : {old : World} {kept : ContextsKept} (o : OpId) (i : InstanceId) (params : Params) (t : FlowTable) → IsState old kept
+    → is_held_by old hold.Pre o i ≡ true → t ≡ changed o (changed_held params) old.flow → IsTied kept t
+change_tied {old} {kept} o i params t s held flow =
+    subst (IsTied kept) (sym flow) (λ c. s.tied c ∙ sym (changed_balance old o i params held s.sound.under_way c))
 
 -- ---- a postoperation
 

@@ -5,7 +5,7 @@ pub use Rattle.fm_core.specs.Descent.{FindsAt}
 pub use Rattle.fm_core.specs.Fields.{IsState, IsTied}
 pub use Rattle.fm_core.specs.FilesKept.{AreCounted, FilesKept, IsBefore, IsOlder, changed_at, is_own, stream_or}
 pub use Rattle.fm_core.specs.Hands.{Ends, MayBring, MaySend, SweptWhere, back_in, kept_brought, kept_sent}
-pub use Rattle.fm_core.specs.Lost.{Sweeping, handle_lost, is_lost, is_lost_of, stream_lost}
+pub use Rattle.fm_core.specs.Lost.{Sweeping, file_lost, handle_lost, is_lost, is_lost_of, stream_lost, torn}
 pub use Rattle.fm_core.specs.Passing.{ComesDown, ComesUp}
 pub use Rattle.fm_core.specs.Places.{base_of, complete_of, drain_of, drains_in, early_drain_of, post_of, pre_of, query_of, setup_of, start_of, unload_of}
 pub use Rattle.fm_core.specs.Targets.{answered, decided, known_in, target_in}

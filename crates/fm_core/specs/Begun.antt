@@ -1,6 +1,6 @@
 -- Beginning an operation, step by step.
 use Rattle.std.specs.Prelude.{◌≡◌, Bool, true, cond, [], Option, Some, None, Result, MatchResult}
-use Rattle.fm_types.specs.Refusals.{AnswersOrMemory}
+use Rattle.fm_types.specs.Refusals.{AnswersOrMemory, first_of}
 use Rattle.fm_types.specs.declared.ids.HandleId.{HandleId}
 use Rattle.fm_types.specs.declared.ids.OpId.{OpId}
 use Rattle.fm_types.specs.declared.ids.VolumeId.{VolumeId}
@@ -12,11 +12,11 @@ use Rattle.fm_stack.specs.Events.{is_mounted_phase}
 use Rattle.fm_world.specs.declared.file.FileHandle.{FileHandle}
 use Rattle.fm_world.specs.declared.file.FileStream.{FileStream}
 use Rattle.fm_world.specs.Files.{stream_at, handle_at}
-use Rattle.fm_world.specs.Events.{asked_refused_at, asked_begun}
+use Rattle.fm_world.specs.Events.{volume_refusals, asked_refused_at, asked_begun}
 use Rattle.fm_world.specs.World.{World}
 use Rattle.fm_types.specs.declared.ids.InstanceId.{InstanceId}
 use Rattle.fm_operations.specs.Record.{FlowRecord}
-use Rattle.fm_operations.specs.Table.{operation_at}
+use Rattle.fm_operations.specs.Table.{operation_at, is_full, begun}
 use Rattle.fm_operations.specs.declared.stage.Stage.TheVariants.{Descending}
 use Rattle.fm_world.specs.Owners.{is_left_by, row_at}
 use Rattle.fm_world.specs.declared.begins_from.BeginsFrom.{BeginsFrom}
@@ -26,6 +26,12 @@ use Rattle.fm_world.specs.declared.begins_from.BeginsFrom.TheVariants as from
 abbrev pub refusal_by : Option VolumePhase → Bool → Option Status
 refusal_by None is_too_many = Some status.NoVolume
 refusal_by (Some p) is_too_many = cond (is_mounted_phase p) (cond is_too_many (Some status.TooMany) None) (Some status.Dismounting)
+
+-- the event on a volume, without a file
+abbrev pub BeginsUnnamed : World → VolumeId → Params → Result OpId Status → World → Type 0
+BeginsUnnamed old v p result new =
+    AnswersOrMemory (first_of (volume_refusals old v (is_full old.flow))) result old new
+    (λ (o : OpId). (o.0 ≡ old.flow.next) × (new ≡ record old { flow = begun v None None old.stack.births None p old.flow }))
 
 -- the event on a handle, of parameters; lower says that a filter asks
 unfoldable pub Asks : Bool → World → HandleId → Params → Result OpId Status → World → Type 0

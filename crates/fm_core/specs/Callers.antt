@@ -39,6 +39,7 @@ object_for caller kind.Volume = Some (object.Volume caller.volume)
 object_for caller kind.Instance = Some (object.Instance caller.instance)
 object_for caller kind.Stream = option_map (λ f. object.Stream f.stream) caller.file
 object_for caller kind.Handle = option_map (λ f. object.Handle f.handle) caller.file
+object_for caller kind.File = option_map (λ f. object.File f.stream) caller.file
 
 abbrev pub has_kind_at : StackWorld → Option Instance → ContextKind → Bool
 has_kind_at s None kind = false

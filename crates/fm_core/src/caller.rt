@@ -45,6 +45,7 @@ impl Caller {
             ContextKind::Instance => Some(Object::Instance(self.instance)),
             ContextKind::Stream => Some(Object::Stream(self.file?.stream)),
             ContextKind::Handle => Some(Object::Handle(self.file?.handle)),
+            ContextKind::File => Some(Object::File(self.file?.stream)),
         }
     }
 }
@@ -113,7 +114,7 @@ pub(crate) fn is_there(files: &Files, object: Object) -> bool
 {
     match object {
         Object::Volume(_) | Object::Instance(_) => true,
-        Object::Stream(stream) => files.stream(stream).is_some(),
+        Object::Stream(stream) | Object::File(stream) => files.stream(stream).is_some(),
         Object::Handle(handle) => files.handle(handle).is_some(),
     }
 }

@@ -3,6 +3,8 @@
 ghost use Rattle.std.specs.Prelude.{◌≡◌, true, false, IfNone, IfSome, Some, None};
 ghost use Rattle.fm_operations.specs.Table.{operation_at, told};
 ghost use Rattle.fm_operations.specs.Holds.{is_held};
+ghost use Rattle.fm_operations.specs.Steps.{takes};
+ghost use Rattle.fm_world.specs.Changes.{ChangesHeld};
 ghost use Rattle.fm_world.specs.Events.{ResumesPre, ResumesPost, FindsHeld, lets_go, sync_worker};
 ghost use Rattle.fm_world.specs.Hands.{OnlyHandOf, KeepsHands, HoldsFewer};
 ghost use Rattle.fm_core.specs.Callers.{taken_at};
@@ -11,7 +13,7 @@ use crate::descent::{drains_next, has_post};
 use crate::references::{of_hand, send, sent_in};
 use crate::state::State;
 use crate::target::{note_verdict, target_of};
-use fm_callback_data::PreVerdict;
+use fm_callback_data::{Params, PreVerdict};
 use fm_operations::{Flow, Hold, OperationRecord, counted};
 use fm_types::{InstanceId, OpId, Status, WorkerId};
 
@@ -38,6 +40,13 @@ fn held_record(
     } else {
         None
     }
+}
+
+/// Whether those are parameters of the operation.
+fn takes(operation: &OperationRecord, params: &Params) -> bool
+    ensures { result ≡ takes params.now operation.now }
+{
+    params.fit(operation.operation(), operation.path())
 }
 
 impl State {
@@ -98,6 +107,33 @@ impl State {
             return Err(Status::NotPended);
         };
         self.flow.resume_post(operation);
+        Ok(())
+    }
+
+    /// Has other parameters go down of an operation that a preoperation callback held, in place of those that it received: those below receive them, and the
+    /// postoperations of that callback and of those above it see what they were to see. It may be done several times, and the last counts. The worker is in a
+    /// callback or a routine of the same instance, and stays there. Refused, nothing changed: 30 where the worker is in no callback of an instance, 28 where no
+    /// preoperation of the instance holds the operation, 32 for parameters of another operation, on another path of a create, or past a limit. It takes no memory.
+    #[tactic(auto, unfolding(fm_world::specs::Changes::ChangesHeld))]
+    pub fn change_held(
+        &mut self,
+        worker: WorkerId,
+        operation: OpId,
+        params: Params,
+    ) -> Result<(), Status>
+        ensures event { ChangesHeld self.old worker operation params result self.new }
+        ensures hand { KeepsHands self.old self.new }
+    {
+        let Some(instance) = self.instance_of(worker) else {
+            return Err(Status::WrongStep);
+        };
+        let Some(record) = held_record(&self.flow, Hold::Pre, operation, instance) else {
+            return Err(Status::NotPended);
+        };
+        if !takes(record, &params) {
+            return Err(Status::BadRequest);
+        }
+        self.flow.change_held(operation, params);
         Ok(())
     }
 

@@ -31,6 +31,7 @@ impl State {
     {
         match what {
             Request::List { volume } => Some(*volume),
+            Request::OnVolume { volume, .. } => Some(*volume),
             Request::Create { volume, .. } => Some(*volume),
             Request::OnHandle { handle, .. } => volume_by(&self.files, *handle),
         }

@@ -22,7 +22,7 @@ use fm_operations::Flow;
 use fm_stack::VolumePhase;
 use fm_types::limits::HANDLES;
 use fm_types::{
-    CreateMode, HandleId, OpId, Operation, Role, SharedPath, Status, StreamId, VolumeId,
+    CreateMode, HandleId, Major, OpId, Operation, Role, SharedPath, Status, StreamId, VolumeId,
 };
 use fm_world::{FileHandle, HandlePhase};
 
@@ -173,6 +173,11 @@ impl State {
     {
         match what {
             Request::List { volume } => self.begin_list(volume),
+            Request::OnVolume {
+                volume,
+                major,
+                number,
+            } => self.begin_other(volume, major, number),
             Request::Create { volume, path, mode } => self.begin_create(volume, path, mode),
             Request::OnHandle { handle, request } => self.begin_on(
                 is_lower,
@@ -198,6 +203,19 @@ impl State {
             return Err(refusal);
         }
         self.flow.begin(volume, None, None, self.stack.births(), None, Params::List)
+    }
+
+    /// Begins what a major function without a kind of its own asks of a volume.
+    #[tactic(auto, unfolding(fm_world::specs::Events::Begins))]
+    fn begin_other(&mut self, volume: VolumeId, major: Major, number: u64) -> Result<OpId, Status>
+        ensures { Begins self.old (Request.OnVolume volume major number) result self.new }
+    {
+        if let Some(refusal) = self.volume_refusal(volume, self.flow.is_full()) {
+            return Err(refusal);
+        }
+        let params = Params::Other { major, number };
+        self.flow
+            .begin(volume, None, None, self.stack.births(), None, params)
     }
 
     /// Whether a create has no room for its handle, or no number.

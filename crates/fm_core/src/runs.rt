@@ -177,6 +177,11 @@ impl State {
             Step::DropHandle { volume } => StepReply::Dropped(self.drop_handle(volume)),
             Step::EmptyVolume { volume } => StepReply::Done(self.empty_volume(volume)),
             Step::FinishVolume { volume } => StepReply::Done(self.finish_volume(volume)),
+            Step::ChangeHeld {
+                worker,
+                operation,
+                params,
+            } => StepReply::Done(self.change_held(worker, operation, params)),
             Step::Finish { instance } => StepReply::Done(self.finish(instance)),
         }
     }

@@ -3,7 +3,7 @@
 ghost use Rattle.std.specs.Prelude.{◌≡◌};
 ghost use Rattle.fm_world.specs.Events.{is_created_on};
 ghost use Rattle.fm_world.specs.Files.{after_pre};
-ghost use Rattle.fm_core.specs.Lost.{Sweeping, handle_lost, stream_lost, is_lost, is_lost_of};
+ghost use Rattle.fm_core.specs.Lost.{Sweeping, handle_lost, torn, stream_lost, file_lost, is_lost, is_lost_of};
 ghost use Rattle.fm_core.specs.Targets.{HasRoom, answered, decided, known_in, target_in, is_completed_create};
 
 use crate::caller::is_there;
@@ -116,13 +116,26 @@ fn handle_lost(target: Target) -> Option<Object>
 }
 
 /// The stream that an answer to an operation may have torn down.
+fn torn(target: Target) -> Option<StreamId>
+    ensures { result ≡ torn target }
+{
+    match target.operation.role() {
+        Role::Opens | Role::Closes => target.stream,
+        Role::Uses | Role::Marks | Role::Unmarks | Role::CleansUp => None,
+    }
+}
+
 fn stream_lost(target: Target) -> Option<Object>
     ensures { result ≡ stream_lost target }
 {
-    match target.operation.role() {
-        Role::Opens | Role::Closes => Some(Object::Stream(target.stream?)),
-        Role::Uses | Role::Marks | Role::Unmarks | Role::CleansUp => None,
-    }
+    Some(Object::Stream(torn(target)?))
+}
+
+/// The file of that stream, which goes with it.
+fn file_lost(target: Target) -> Option<Object>
+    ensures { result ≡ file_lost target }
+{
+    Some(Object::File(torn(target)?))
 }
 
 fn unlink_if_gone(contexts: &mut Contexts, files: &Files, object: Option<Object>)
@@ -141,4 +154,5 @@ fn unlink_lost(contexts: &mut Contexts, files: &Files, target: Target)
 {
     unlink_if_gone(contexts, files, handle_lost(target));
     unlink_if_gone(contexts, files, stream_lost(target));
+    unlink_if_gone(contexts, files, file_lost(target));
 }

@@ -1,7 +1,7 @@
 -- Seats: where linked contexts stand, and the chains in which they are found.
 use Rattle.std.specs.Prelude.{◌≡◌, ℕ, zero, suc, ◌%◌, ◌<◌, ◌≤◌, ◌==◌, ◌&&◌, Bool, true, false, cond, List, length, slice_index_or, slice_set, Option, Some, None, IfSome, option_map}
 use Rattle.fm_ctx.specs.declared.object.Object.{Object}
-use Rattle.fm_ctx.specs.declared.object.Object.TheVariants.{Volume, Instance, Stream, Handle}
+use Rattle.fm_ctx.specs.declared.object.Object.TheVariants.{Volume, Instance, Stream, File, Handle}
 use Rattle.fm_ctx.specs.declared.owner.Owner.{Owner}
 use Rattle.fm_ctx.specs.declared.seat.Seat.{Seat}
 use Rattle.fm_ctx.specs.Objects.{same_object, same_owner}
@@ -10,6 +10,7 @@ abbrev pub object_number : Object → ℕ
 object_number (Volume v) = v.0
 object_number (Instance i) = i.0
 object_number (Stream s) = s.0
+object_number (File s) = s.0
 object_number (Handle h) = h.0
 
 abbrev pub same_seat : Seat → Seat → Bool

@@ -11,6 +11,8 @@ pub enum Object {
     Volume(VolumeId),
     Instance(InstanceId),
     Stream(StreamId),
+    /// A file has one stream, whose number names it.
+    File(StreamId),
     Handle(HandleId),
 }
 
@@ -23,6 +25,7 @@ impl Object {
             (Object::Volume(a), Object::Volume(b)) => a.0 == b.0,
             (Object::Instance(a), Object::Instance(b)) => a.0 == b.0,
             (Object::Stream(a), Object::Stream(b)) => a.0 == b.0,
+            (Object::File(a), Object::File(b)) => a.0 == b.0,
             (Object::Handle(a), Object::Handle(b)) => a.0 == b.0,
             _ => false,
         }

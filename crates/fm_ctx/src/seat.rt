@@ -67,6 +67,7 @@ fn number_of(object: Object) -> u64
         Object::Volume(id) => id.0 as u64,
         Object::Instance(id) => id.0 as u64,
         Object::Stream(id) => id.0,
+        Object::File(id) => id.0,
         Object::Handle(id) => id.0,
     }
 }

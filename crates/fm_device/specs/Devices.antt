@@ -53,11 +53,12 @@ made_by path (params.SetSize size) folder = changed (resized size) path folder
 made_by path params.Close folder = unlinked path folder
 made_by path call folder = Ok folder
 
--- what a call on a file is answered, where memory isn't wanting
+-- what a call on a file is answered, where memory isn't wanting; a folder knows no major function without a kind of its own
 abbrev pub answer_to : List ℕ → Params → Folder → Answer
 answer_to path (params.Read offset len) folder = told_as (told (bytes_from offset len) path folder)
 answer_to path params.QuerySize folder = sized_as (told size_of path folder)
 answer_to path params.Flush folder = done_as (told presence_of path folder)
+answer_to path (params.Other major number) folder = bare BadRequest
 answer_to path call folder = made_as (made_by path call folder)
 
 -- whether a call changes its file

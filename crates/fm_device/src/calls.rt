@@ -10,7 +10,8 @@ use fm_types::{Bytes, RelPath, SharedPath, Status};
 use std::alloc::Global;
 
 /// The base of a volume carries out what an operation that reached it asks (`IoCallDriver`). A call that
-/// names no file and is no listing is answered with 32, and one past the limits too; these change nothing.
+/// names no file and is no listing is answered with 32, and one past the limits or of a major function
+/// without a kind of its own too; these change nothing.
 /// Any other is answered, and changes the folder, as that says, unless memory is wanting (1) or the device
 /// failed (18). Memory is wanting only if nothing else refuses the call, never for a size, a flush or an
 /// unlink, and then nothing changes. A fault is counted, and nothing else is; after it nothing is said of a
@@ -103,5 +104,6 @@ fn on_file<B: Base>(alloc: Global, base: &mut B, path: &RelPath, call: &Params) 
         Params::Flush => done(alloc, base.flush(path)),
         Params::Close => done(alloc, base.unlink(path)),
         Params::List | Params::SetDelete | Params::Restore | Params::Cleanup => done(alloc, Ok(())),
+        Params::Other { .. } => refused(alloc, Status::BadRequest),
     }
 }

@@ -1,12 +1,16 @@
 //! The trait of what a callback may call.
 
 ghost use Rattle.std.specs.Prelude.{◌≡◌, ◌%◌, ◌^◌, ◌-◌};
+ghost use Rattle.fm_callback_data.specs.declared.request.FileRequest.TheVariants as asks;
+ghost use Rattle.fm_callback_data.specs.declared.request.Request.TheVariants as request;
 ghost use Rattle.fm_filter.specs.Hands.{Gains, GainsOld, GainsSame, GainsSet, Loses, LosesSent, sent_by};
 
-use fm_callback_data::PreVerdict;
+use fm_callback_data::{Answer, FileRequest, PreVerdict, Request};
 use fm_ctx::SetMode;
 use fm_operations::Hold;
-use fm_types::{Bytes, ContextKind, CtxId, OpId, Status};
+use fm_types::{
+    Bytes, ContextKind, CreateMode, CtxId, HandleId, OpId, SharedPath, Status, VolumeId,
+};
 use fm_world::{About, SetAnswer};
 
 /// What a filter's callback may call of the filter manager while it runs (the `Flt` routines of the kit).
@@ -22,6 +26,8 @@ pub trait Port {
     ghost use Rattle.fm_types.specs.declared.ids.CtxId.{CtxId};
     ghost use Rattle.fm_types.specs.declared.ids.OpId.{OpId};
     ghost use Rattle.fm_types.specs.declared.status.Status.{Status};
+    ghost use Rattle.fm_callback_data.specs.declared.answer.Answer.{Answer};
+    ghost use Rattle.fm_callback_data.specs.declared.request.Request.{Request};
     ghost use Rattle.fm_callback_data.specs.declared.verdict.PreVerdict.{PreVerdict};
     ghost use Rattle.fm_ctx.specs.declared.set_reply.SetMode.{SetMode};
     ghost use Rattle.fm_operations.specs.declared.hold.Hold.{Hold};
@@ -68,6 +74,9 @@ pub trait Port {
 
     /// The same of `resume_post`.
     ghost resumes_post: { Self → OpId → Result (Unit {0}) Status → Self → Type 0 };
+
+    /// The same of `perform`.
+    ghost performs: { Self → Request → Result Answer Status → Self → Type 0 };
 
     /// The references that the callback holds, in the order in which it got them, if the port says it. A filter that promises to leave nothing behind says so
     /// by it.
@@ -189,4 +198,78 @@ pub trait Port {
         ensures event { resumes_post self.old operation result self.new }
         ensures hand { hand self.new ≡ hand self.old }
         ensures kept { kept self.new ≡ kept self.old };
+
+    /// Begins an operation of the filter's own, and waits for its answer (`FltPerformSynchronousIo`). The instances below the port's hear of it, and the others
+    /// don't. Refused with 30 outside of a callback of an instance, 29 where no other worker could carry it on, as while each of them waits for such an
+    /// operation, and as its beginning is: 8, 13, 32, 14, 30, 7, 33, 29, 1. An operation that a filter below holds is waited for until it is let go.
+    fn perform(&mut self, request: Request) -> Result<Answer, Status>
+        ensures event { performs self.old request result self.new }
+        ensures hand { hand self.new ≡ hand self.old }
+        ensures kept { kept self.new ≡ kept self.old };
+
+    /// Opens or makes a file of a volume (`FltCreateFileEx`): the answer's information is the handle's number. Nobody but the filter closes it. It is a
+    /// `perform`, and refused as one.
+    fn create(
+        &mut self,
+        volume: VolumeId,
+        path: SharedPath,
+        mode: CreateMode,
+    ) -> Result<Answer, Status>
+        ensures event { performs self.old (request.Create volume path mode) result self.new }
+        ensures hand { hand self.new ≡ hand self.old }
+        ensures kept { kept self.new ≡ kept self.old }
+    {
+        self.perform(Request::Create { volume, path, mode })
+    }
+
+    /// Reads at most `len` bytes from `offset` on (`FltReadFile`). It is a `perform`, and refused as one.
+    fn read(&mut self, handle: HandleId, offset: u64, len: u32) -> Result<Answer, Status>
+        ensures event { performs self.old (request.OnHandle handle (asks.Read offset len)) result self.new }
+        ensures hand { hand self.new ≡ hand self.old }
+        ensures kept { kept self.new ≡ kept self.old }
+    {
+        let request = FileRequest::Read { offset, len };
+        self.perform(Request::OnHandle { handle, request })
+    }
+
+    /// Writes bytes at `offset` (`FltWriteFile`). It is a `perform`, and refused as one.
+    fn write(&mut self, handle: HandleId, offset: u64, bytes: Bytes) -> Result<Answer, Status>
+        ensures event { performs self.old (request.OnHandle handle (asks.Write offset bytes)) result self.new }
+        ensures hand { hand self.new ≡ hand self.old }
+        ensures kept { kept self.new ≡ kept self.old }
+    {
+        let request = FileRequest::Write { offset, bytes };
+        self.perform(Request::OnHandle { handle, request })
+    }
+
+    /// Asks for a file's size, the answer's information (`FltQueryInformationFile`). It is a `perform`, and refused as one.
+    fn query_size(&mut self, handle: HandleId) -> Result<Answer, Status>
+        ensures event { performs self.old (request.OnHandle handle asks.QuerySize) result self.new }
+        ensures hand { hand self.new ≡ hand self.old }
+        ensures kept { kept self.new ≡ kept self.old }
+    {
+        let request = FileRequest::QuerySize;
+        self.perform(Request::OnHandle { handle, request })
+    }
+
+    /// Writes out what is buffered (`FltFlushBuffers`). It is a `perform`, and refused as one.
+    fn flush(&mut self, handle: HandleId) -> Result<Answer, Status>
+        ensures event { performs self.old (request.OnHandle handle asks.Flush) result self.new }
+        ensures hand { hand self.new ≡ hand self.old }
+        ensures kept { kept self.new ≡ kept self.old }
+    {
+        let request = FileRequest::Flush;
+        self.perform(Request::OnHandle { handle, request })
+    }
+
+    /// Closes a handle of the filter's own (`FltClose`): a cleanup and then the close. Each is a `perform`, and refused as one; the answer is the close's.
+    fn close(&mut self, handle: HandleId) -> Result<Answer, Status>
+        ensures hand { hand self.new ≡ hand self.old }
+        ensures kept { kept self.new ≡ kept self.old }
+    {
+        let request = FileRequest::Cleanup;
+        self.perform(Request::OnHandle { handle, request })?;
+        let request = FileRequest::Close;
+        self.perform(Request::OnHandle { handle, request })
+    }
 }

@@ -21,6 +21,7 @@ fn kind_word(kind: Option<ContextKind>) -> &'static str {
         Some(ContextKind::Instance) => "instance",
         Some(ContextKind::Stream) => "stream",
         Some(ContextKind::Handle) => "handle",
+        Some(ContextKind::File) => "file",
         None => "-",
     }
 }

@@ -8,7 +8,7 @@ ghost use Rattle.fm_local.specs.Waits.{standing_with};
 use crate::bounded::Bounded;
 use crate::parts::WORKER;
 use crate::refusal::{PortCall, Refusal};
-use fm_callback_data::PreVerdict;
+use fm_callback_data::{Answer, PreVerdict, Request};
 use fm_core::{About, Hold, Place, SetAnswer, SetMode, State};
 use fm_filter::Port;
 use fm_types::{Bytes, ContextKind, CtxId, OpId, Status};
@@ -81,7 +81,8 @@ impl Work {
 }
 
 impl Port for Work {
-    ghost use Rattle.std.specs.Prelude.{Some};
+    ghost use Rattle.std.specs.Prelude.{◌≡◌, Err, Some};
+    ghost use Rattle.fm_types.specs.declared.status.Status.TheVariants.{TooMany};
     ghost use Rattle.fm_world.specs.ContextEvents.{Allocates, Sets, Gets, Deletes, References, Releases, ReadsBody, WritesBody, Bumps};
     ghost use Rattle.fm_world.specs.About.{Tells};
     ghost use Rattle.fm_world.specs.Events.{FindsHeld};
@@ -114,6 +115,8 @@ impl Port for Work {
     ghost resumes_pre = { λ old operation verdict result new. ResumesPreIn old WORKER operation verdict result new };
 
     ghost resumes_post = { λ old operation result new. ResumesPostIn old WORKER operation result new };
+
+    ghost performs = { λ old request result new. (result ≡ Err TooMany) × (new.state ≡ old.state) × (new.resumed ≡ old.resumed) };
 
     ghost hand = { λ work. hand_at work.state WORKER };
 
@@ -207,5 +210,11 @@ impl Port for Work {
     fn resume_post(&mut self, operation: OpId) -> Result<(), Status> {
         let answer = self.resume_held_post(operation);
         self.answered(PortCall::ResumePost(operation), answer)
+    }
+
+    // The one worker is in the callback, so that nobody could carry the operation on.
+    fn perform(&mut self, _request: Request) -> Result<Answer, Status> {
+        self.note(PortCall::Perform, Status::TooMany);
+        Err(Status::TooMany)
     }
 }

@@ -31,6 +31,8 @@ pub enum PortCall {
     ResumePre(OpId),
     /// `FltCompletePendedPostOperation`.
     ResumePost(OpId),
+    /// `FltPerformSynchronousIo`, `FltReadFile` and their kin.
+    Perform,
 }
 
 /// A call of a port that was refused: the callback that made it, the call, and why.
@@ -58,6 +60,7 @@ impl fmt::Display for PortCall {
             PortCall::WriteBody(context) => write_of(f, "put", *context),
             PortCall::Bump(context) => write_of(f, "bump", *context),
             PortCall::FirstHeld => f.write_str("held"),
+            PortCall::Perform => f.write_str("own"),
             PortCall::ResumePre(operation) | PortCall::ResumePost(operation) => {
                 write!(f, "resume o{}", operation.0)
             }

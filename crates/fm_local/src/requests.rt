@@ -399,7 +399,7 @@ fn closed_handle(request: &Request) -> Option<HandleId>
             FileRequest::Close => Some(*handle),
             _ => None,
         },
-        Request::List { .. } | Request::Create { .. } => None,
+        Request::List { .. } | Request::OnVolume { .. } | Request::Create { .. } => None,
     }
 }
 

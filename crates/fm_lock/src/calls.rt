@@ -12,7 +12,7 @@ use crate::replies::{
     old_in, operation_in, set_in, volume_in,
 };
 use fm_altitude::Altitude;
-use fm_callback_data::{Completion, PreVerdict, Request};
+use fm_callback_data::{Completion, Params, PreVerdict, Request};
 use fm_ctx::{Due, SetMode};
 use fm_operations::Hold;
 use fm_rundown::Seen;
@@ -123,6 +123,29 @@ impl<F: Drop, L: Ledger> Manager<F, L> {
     {
         let worker = hand.worker();
         done_in(self.step(rt, hand, Step::ResumePost { worker, operation }))
+    }
+
+    /// Has other parameters go down of an operation that a preoperation held. It answers as the State does: 30, 28, 32.
+    #[tactic(auto, using(crate::proofs::AnswerKinds::stays))]
+    pub fn change_held<R: Wait>(
+        &self,
+        rt: &R,
+        hand: &mut Hand<L>,
+        operation: OpId,
+        params: Params,
+    ) -> Result<(), Status>
+        ensures { hand.new ≡ hand.old }
+    {
+        let worker = hand.worker();
+        done_in(self.step(
+            rt,
+            hand,
+            Step::ChangeHeld {
+                worker,
+                operation,
+                params,
+            },
+        ))
     }
 
     /// The first operation that a callback of that kind of the worker's instance holds. It answers as the State does: 30.

@@ -142,11 +142,30 @@ impl<F: Drop, L: Ledger> Manager<F, L> {
     /// Notes that the hand's worker takes jobs: an operation that is its turn alone may be left to it as a job.
     pub fn takes_jobs(&self, hand: &Hand<L>) {
         self.waiting.takes_jobs(hand.worker());
+        self.waiting.carriers.add(hand.worker());
     }
 
     /// Notes that it takes none any more.
     pub fn leaves_jobs(&self, hand: &Hand<L>) {
         self.waiting.leaves_jobs(hand.worker());
+        self.waiting.carriers.remove(hand.worker());
+    }
+
+    /// Whether the hand's worker may take no more jobs: not while a thread waits for what a filter began for itself, and no other worker could carry it on.
+    /// Such an operation isn't left to it any more then.
+    pub fn may_leave_jobs<R: Wait>(&self, rt: &R, hand: &Hand<L>) -> bool {
+        self.waiting.carriers.leave(rt, hand.worker())
+    }
+
+    /// The hand's thread begins to wait for what a filter began for itself. False if no other worker could carry it on: each takes no jobs, or waits too.
+    pub fn begins_own_wait<R: Wait>(&self, rt: &R, hand: &Hand<L>) -> bool {
+        self.waiting.carriers.begin_wait(rt, hand.worker())
+    }
+
+    /// It has waited.
+    pub fn ends_own_wait(&self, hand: &Hand<L>) {
+        let takes_jobs = self.is_taking_jobs(hand.worker());
+        self.waiting.carriers.end_wait(hand.worker(), takes_jobs);
     }
 
     /// Whether a worker takes jobs. If not, it is a client's, and looks itself for what is its turn alone.

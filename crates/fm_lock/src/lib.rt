@@ -7,6 +7,7 @@
 
 mod audit;
 mod calls;
+mod carriers;
 mod clients;
 mod ending;
 mod hand;

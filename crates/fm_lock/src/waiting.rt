@@ -2,6 +2,7 @@
 
 ghost use Rattle.std.specs.Prelude.{◌<◌};
 
+use crate::carriers::Carriers;
 use fm_spin::Looks;
 use fm_types::{OpId, WorkerId};
 use std::array;
@@ -52,10 +53,12 @@ pub(crate) struct Waiting {
     looks: Looks,
     // Which workers take jobs, a bit for each.
     workers: AtomicU64,
+    /// Who could carry on what a filter began for itself.
+    pub(crate) carriers: Carriers,
 }
 
-// The bit of a worker.
-fn bit_of(worker: WorkerId) -> u64 {
+/// The bit of a worker.
+pub(crate) fn bit_of(worker: WorkerId) -> u64 {
     1_u64.checked_shl(u32::from(worker.0)).unwrap_or(0)
 }
 
@@ -72,6 +75,7 @@ impl Waiting {
             clients: AtomicU64::new(0),
             looks: Looks::new(),
             workers: AtomicU64::new(0),
+            carriers: Carriers::new(),
         }
     }
 

@@ -19,8 +19,9 @@ use Rattle.fm_operations.proofs.Owed.{left_push_answer, instances_without, other
 use Rattle.fm_operations.proofs.Depths.{owes_counts}
 use Rattle.fm_operations.proofs.Course.{owed_once, course_drain, drains_push}
 use Rattle.fm_operations.proofs.Counting.{opens_push, flight_few, none_running, owed_drain_settled, opens_drain_settled, drains_drain_settled}
-use Rattle.fm_operations.proofs.Settled.{settles_drain, course_drain_over}
+use Rattle.fm_operations.proofs.Settled.{places_drained, settles_drain, course_drain_over}
 use Rattle.fm_operations.proofs.Soundness.{Stays, stays_so, sound_pushed, unspent}
+use Rattle.fm_operations.proofs.Placing.{placed_push, placed_still}
 use Rattle.fm_operations.proofs.Lowest.{none_passes, lowest_passes, others_above, rest_rises}
 use Rattle.fm_operations.proofs.Flows.{Found, IsKept, Follows, either_way, through, itself, operation_is, told_some, changed_some, flow_changes, total_changed}
 use Rattle.fm_operations.proofs.Requests.{flow_removed}
@@ -57,7 +58,8 @@ module _ (i : InstanceId) (r : FlowRecord) where
   pub sound_early : owes i.0 r ≡ true → IsSound r → IsSound (drained_early i r)
   sound_early some h =
       sound_pushed r r.stage r.stage (drain_of i) r.params r.answer r.handle refl h (owing_undone i.0 r.stage (owed r.entries) some)
-      (course_drain r.stage r.stage r.entries i (owed_one some h) refl refl (keeps_drain i r.stage r.entries) h.course) h.here h.params (omega arith) h.bytes
+      (course_drain r.stage r.stage r.entries i (owed_one some h) refl refl (keeps_drain i r.stage r.entries) h.course) h.here h.params (omega arith)
+      (placed_push r.stage r.entries (drain_of i) r.kept refl refl h.placed) h.bytes
 
   pub stays_early : Stays r (drained_early i r)
   stays_early = stays_so refl refl
@@ -133,6 +135,8 @@ module _ (i : InstanceId) (r : FlowRecord) where
     params = h.params;
     kept = h.kept;
     places = omega (arith, ap length (settles_drain i.0 r.entries).visits, h.places);
+    placed = placed_still r.stage r.entries (map (settle_drain i.0) r.entries) r.kept r.kept (omega arith) (places_drained i.0 r.entries)
+        (settles_drain i.0 r.entries).visits h.placed;
     bytes = h.bytes;
     collected = λ k. ap (done_at r.stage) owed_over ∙ h.collected k;
   }

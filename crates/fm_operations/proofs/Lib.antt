@@ -11,6 +11,7 @@ pub mod Counting
 pub mod Calm
 pub mod Noted
 pub mod Soundness
+pub mod Placing
 pub mod Next
 pub mod Returns
 pub mod Resumes

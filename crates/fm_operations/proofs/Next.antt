@@ -20,6 +20,7 @@ use Rattle.fm_operations.proofs.Course.{bare_ask_of, owed_visit, owed_answered, 
 use Rattle.fm_operations.proofs.Course.{course_post, course_drain, drains_push}
 use Rattle.fm_operations.proofs.Counting.{opens_push}
 use Rattle.fm_operations.proofs.Soundness.{Stays, stays_so, at_stage, sound_moved, sound_pushed}
+use Rattle.fm_operations.proofs.Placing.{placed_visit}
 use Rattle.fm_operations.proofs.Follows.{Leaves, number_of}
 use Rattle.fm_operations.specs.Tallied.{entered}
 use Rattle.fm_operations.specs.Counts.{enters, leaves_at}
@@ -31,7 +32,7 @@ pub sound_call_pre : (worker : WorkerId) (i : InstanceId) (r : FlowRecord) (p : 
 sound_call_pre worker i r p st fresh few h =
     sound_pushed r Descending PreRunning (pre_entry worker i pre.Running r) None r.answer r.handle st h (rw st refl)
     (course_visit r.entries worker i (length r.kept) (at_stage r Descending st h).0 fresh few)
-    refl tt (omega arith) h.bytes
+    refl tt (omega arith) (placed_visit worker i pre.Running r (omega (arith, (at_stage r Descending st h).2))) h.bytes
 
 pub sound_visit : (worker : WorkerId) (i : InstanceId) (completion : Completion) (r : FlowRecord) → r.stage ≡ Descending
     → times i.0 (visited r.entries) ≡ 0 → length (visited r.entries) < 32 → IsSound r
@@ -39,18 +40,18 @@ pub sound_visit : (worker : WorkerId) (i : InstanceId) (completion : Completion)
 sound_visit worker i completion r st fresh few h =
     sound_pushed r Descending Descending (pre_entry worker i (pre.Asked completion) r) r.params r.answer r.handle st h (rw st refl)
     (course_visit_ask r.entries worker i (length r.kept) (at_stage r Descending st h).0 fresh few completion)
-    (at_stage r Descending st h).1 h.params (omega arith) h.bytes
+    (at_stage r Descending st h).1 h.params (omega arith) tt h.bytes
 
 pub sound_call_base : (r : FlowRecord) (p : Params) → r.stage ≡ Descending → IsSound r → IsSound ((call_base r (Some p)).after)
 sound_call_base r p st h =
     sound_moved r InBase r.entries None r.kept r.answer r.handle h (rw st refl)
-    (course_in_base r.entries (at_stage r Descending st h).0) refl tt h.kept (at_stage r Descending st h).2 h.bytes
+    (course_in_base r.entries (at_stage r Descending st h).0) refl tt h.kept (at_stage r Descending st h).2 tt h.bytes
 
 pub sound_known : (status : Status) (r : FlowRecord) → r.stage ≡ Descending → IsSound r → IsSound (with_base (bare_answer status) r)
 sound_known status r st h =
     sound_pushed r Descending Ascending (Base status 0) r.params (bare_answer status) r.handle st h (rw st refl)
     (course_base Descending r.entries status 0 refl refl (at_stage r Descending st h).0)
-    (at_stage r Descending st h).1 h.params (omega arith) (omega arith)
+    (at_stage r Descending st h).1 h.params (omega arith) tt (omega arith)
 
 -- ---- up
 
@@ -76,6 +77,7 @@ unwinds place r (Some p) at st = record {
     params = all_at (λ q. fit r.operation r.path q ≡ true) r.kept place p h.kept at;
     kept = All-take (λ q. fit r.operation r.path q ≡ true) place r.kept h.kept;
     places = omega (arith, length-take place r.kept, h.places);
+    placed = rw st tt;
     bytes = h.bytes;
     collected = h.collected;
   };
@@ -95,14 +97,14 @@ pub sound_give_post : (worker : WorkerId) (ask : Ask) (rest : List Ask) (r : Flo
 sound_give_post worker ask rest r p st next may h =
     sound_pushed r Ascending PostRunning (post_entry worker ask.instance post.Running) None (left_answer r.operation r.answer) r.handle
     st h (ap₂ done_at st next)
-    (course_post post.Running r.entries worker ask rest next may (at_stage r Ascending st h).0) refl tt (omega arith) (left_short r.operation r.answer h.bytes)
+    (course_post post.Running r.entries worker ask rest next may (at_stage r Ascending st h).0) refl tt (omega arith) tt (left_short r.operation r.answer h.bytes)
 
 pub sound_passed_up : (worker : WorkerId) (ask : Ask) (rest : List Ask) (r : FlowRecord) → r.stage ≡ Ascending
     → owed r.entries ≡ ask ∷ rest → may_take worker ask ≡ true → IsSound r
     → IsSound (with_entry (post_entry worker ask.instance post.Finished) Ascending r)
 sound_passed_up worker ask rest r st next may h =
     sound_pushed r Ascending Ascending (post_entry worker ask.instance post.Finished) r.params r.answer r.handle st h (ap₂ done_at st next)
-    (course_post post.Finished r.entries worker ask rest next may (at_stage r Ascending st h).0) (at_stage r Ascending st h).1 h.params (omega arith) h.bytes
+    (course_post post.Finished r.entries worker ask rest next may (at_stage r Ascending st h).0) (at_stage r Ascending st h).1 h.params (omega arith) tt h.bytes
 
 pub sound_drain : (ask : Ask) (rest : List Ask) (r : FlowRecord) → r.stage ≡ Ascending → owed r.entries ≡ ask ∷ rest → IsSound r
     → IsSound (with_drain ask.instance (InDrain ask.instance) r)
@@ -111,7 +113,7 @@ sound_drain ask rest r st next h =
     sound_pushed r Ascending (InDrain ask.instance) (Drain (record { instance = ask.instance; is_running = true })) r.params r.answer
     r.handle st h (ap₂ done_at st next)
     (course_drain Ascending (InDrain ask.instance) r.entries ask.instance (owed_first Ascending r.entries ask rest c next) refl refl (λ opens before. opens) c)
-    (at_stage r Ascending st h).1 h.params (omega arith) h.bytes
+    (at_stage r Ascending st h).1 h.params (omega arith) tt h.bytes
 
 abbrev pub tail_of : List Ask → List Ask
 tail_of [] = []

@@ -128,7 +128,7 @@ ask_at_end es e = ap (option_and_then ask_of) (slice_get-push es e)
 
 -- ---- one more entry
 
-last_more : (f : Entry → Option ℕ) (es : List Entry) (e : Entry) → slice_get (reverse (filter_map f (es ++ e ∷ []))) 0
+pub last_more : (f : Entry → Option ℕ) (es : List Entry) (e : Entry) → slice_get (reverse (filter_map f (es ++ e ∷ []))) 0
     ≡ option_or (f e) (slice_get (reverse (filter_map f es)) 0)
 last_more f es e = ap (λ xs. slice_get (reverse xs) 0) (filter_map-push f es e) ∙ last_with (filter_map f es) (f e)
 

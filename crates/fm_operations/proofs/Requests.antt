@@ -33,6 +33,7 @@ sound_begun number v stream handle born path p on within = record {
   params = fit_own path p on within;
   kept = λ k d l. absurd (omega arith);
   places = omega arith;
+  placed = tt;
   bytes = omega arith;
   collected = λ e. absurd (false≢true e);
 }
@@ -60,6 +61,7 @@ sound_placed below born r h = record {
   params = h.params;
   kept = h.kept;
   places = h.places;
+  placed = h.placed;
   bytes = h.bytes;
   collected = h.collected;
 }
@@ -96,6 +98,7 @@ sound_marked r h e = record {
   params = h.params;
   kept = h.kept;
   places = h.places;
+  placed = h.placed;
   bytes = omega arith;
   collected = λ k. (and_parts (not r.collected) (is_done r) e).1;
 }

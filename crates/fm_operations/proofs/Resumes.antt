@@ -7,9 +7,10 @@ use Rattle.fm_operations.specs.declared.entry.PostState.TheVariants as post
 use Rattle.fm_operations.specs.Verdict.{is_counted}
 use Rattle.fm_operations.specs.Steps.{pre_settled, post_settled}
 use Rattle.fm_operations.specs.Counts.{carried_among, carried_by, taken_by, flight, leaves_by, leaves_at, post_leaves_by}
-use Rattle.fm_operations.proofs.Settled.{the_open_pre, settles_pre, settles_post, course_pre_settled, course_post_settled}
+use Rattle.fm_operations.proofs.Settled.{the_open_pre, places_settled, settles_pre, settles_post, course_pre_settled, course_post_settled}
 use Rattle.fm_operations.proofs.Counting.{flight_pre_settled, carried_pre_settled, flight_post_settled, owed_post_settled}
 use Rattle.fm_operations.proofs.Soundness.{at_stage, sound_moved}
+use Rattle.fm_operations.proofs.Placing.{placed_at, placed_settled}
 use Rattle.fm_operations.proofs.Returns.{returned}
 use Rattle.fm_operations.proofs.Follows.{Leaves, number_of, leaves_pre}
 use Rattle.fm_operations.specs.Tallied.{left_pre}
@@ -27,7 +28,9 @@ sound_pre_resumed state r st counted h =
     let short : length (answer_after state r.answer).bytes ≤ 32768 = grind (arith, h.bytes) in
     sound_moved r (pre_leads state) (map (settle_pre state) r.entries) r.params r.kept (answer_after state r.answer) r.handle h (rw st refl)
     (course_pre_settled PreHeld r.entries state refl at.0) (at.1 ∙ sym (ap not (returned state counted).0)) h.params h.kept
-    (omega (arith, a, at.2, (returned state counted).1)) short
+    (omega (arith, a, at.2, (returned state counted).1))
+    (placed_settled state r.entries (map (settle_pre state) r.entries) r.kept r.kept (omega arith) (places_settled r.entries state)
+    (settles_pre r.entries state (the_open_pre PreHeld r.entries at.0 refl)).visits (placed_at r PreHeld st h)) short
 
 pub pre_resumed_carries : (c : CtxId) (state : PreState) (r : FlowRecord) → r.stage ≡ PreHeld → IsSound r
     → carried_by c (pre_settled state r) ≡ carried_by c r + taken_by c state
@@ -44,7 +47,7 @@ sound_post_resumed r st h =
     let at = at_stage r PostHeld st h in
     sound_moved r Ascending (map (settle_post post.Finished) r.entries) r.params r.kept r.answer r.handle h (rw st refl)
     (course_post_settled PostHeld r.entries post.Finished refl at.0) at.1 h.params h.kept
-    (omega (arith, ap length (settles_post r.entries post.Finished).visits, at.2)) h.bytes
+    (omega (arith, ap length (settles_post r.entries post.Finished).visits, at.2)) tt h.bytes
 
 pub post_resumed_carries : (c : CtxId) (r : FlowRecord) → r.stage ≡ PostHeld → IsSound r → carried_by c (post_settled post.Finished r) ≡ carried_by c r
 post_resumed_carries c r st h = ap (carried_among c) (owed_post_settled PostHeld r.entries post.Finished refl (at_stage r PostHeld st h).0)

@@ -18,11 +18,12 @@ use Rattle.fm_operations.proofs.Flows.{either_way}
 use Rattle.fm_operations.specs.Counts.{carried_among, carried_by, taken_by, flight, leaves_by, leaves_at, post_leaves_by}
 use Rattle.fm_operations.proofs.Owed.{owed_push_none}
 use Rattle.fm_operations.proofs.Course.{course_base}
-use Rattle.fm_operations.proofs.Settled.{the_open_pre, settles_pre, settles_post, settles_drain, course_pre_settled, course_post_settled}
+use Rattle.fm_operations.proofs.Settled.{the_open_pre, places_settled, settles_pre, settles_post, settles_drain, course_pre_settled, course_post_settled}
 use Rattle.fm_operations.proofs.Settled.{course_drain_settled}
 use Rattle.fm_operations.proofs.Counting.{opens_push, flight_pre_settled, carried_pre_settled, flight_post_settled, owed_post_settled}
 use Rattle.fm_operations.proofs.Counting.{owed_drain_settled, opens_drain_settled}
 use Rattle.fm_operations.proofs.Soundness.{at_stage, sound_moved, sound_pushed}
+use Rattle.fm_operations.proofs.Placing.{placed_at, placed_settled, unplaced}
 use Rattle.fm_operations.proofs.Follows.{Leaves, number_of, leaves_pre, leaves_post, taken_leaves}
 use Rattle.fm_operations.specs.Tallied.{if_taken, left_pre, left_post}
 use Rattle.fm_operations.specs.Counts.{leaves_at, leaves_by, post_leaves_by}
@@ -66,7 +67,10 @@ sound_pre_returned state d r st counted fits h =
     (course_pre_settled PreRunning r.entries state refl at.0) (sym (ap not (returned state counted).0))
     (fit_change r.operation r.path d.received d.changed parts.0 parts.1)
     (All-append (λ p. fit r.operation r.path p ≡ true) r.kept (kept_of d.received d.changed) h.kept (fit_kept r.operation r.path d.received d.changed parts.0))
-    (omega (arith, a, at.2, length-append r.kept (kept_of d.received d.changed), few, (returned state counted).1)) short
+    (omega (arith, a, at.2, length-append r.kept (kept_of d.received d.changed), few, (returned state counted).1))
+    (placed_settled state r.entries (map (settle_pre state) r.entries) r.kept (r.kept ++ kept_of d.received d.changed)
+    (omega (arith, length-append r.kept (kept_of d.received d.changed))) (places_settled r.entries state)
+    (settles_pre r.entries state (the_open_pre PreRunning r.entries at.0 refl)).visits (placed_at r PreRunning st h)) short
 
 pub pre_returned_carries : (c : CtxId) (state : PreState) (d : Data) (r : FlowRecord) → r.stage ≡ PreRunning → IsSound r
     → carried_by c (pre_returned_of state d r) ≡ carried_by c r + taken_by c state
@@ -98,7 +102,7 @@ sound_base call answer handle r st fits h =
     (handle_given call.params answer.status handle r.handle) st h (rw st refl)
     (course_base InBase r.entries counts.status counts.information refl refl (at_stage r InBase st h).0) refl
     (and_parts (same_path call.path r.path) (fit r.operation r.path call.params) own.1).1
-    (omega arith) (counted_short call.params answer handle short)
+    (omega arith) tt (counted_short call.params answer handle short)
 
 base_owed : (call : BaseCall) (answer : Answer) (handle : HandleId) (r : FlowRecord) → owed (base_returned_of call answer handle r).entries ≡ owed r.entries
 base_owed call answer handle r =
@@ -127,7 +131,7 @@ sound_post_returned v d r st fits h =
     sound_moved r (post_leads (post_state v)) (map (settle_post (post_state v)) r.entries) (Some d.received) r.kept
     (returned_answer r.operation r.answer d) r.handle h (rw st refl)
     (course_post_settled PostRunning r.entries (post_state v) refl at.0) (sym (ap not back)) parts.0 h.kept
-    (omega (arith, ap length (settles_post r.entries (post_state v)).visits, at.2, few)) short
+    (omega (arith, ap length (settles_post r.entries (post_state v)).visits, at.2, few)) (unplaced (post_state v) (map (settle_post (post_state v)) r.entries) r.kept) short
 
 pub post_returned_carries : (c : CtxId) (v : PostVerdict) (d : Data) (r : FlowRecord) → r.stage ≡ PostRunning → IsSound r
     → carried_by c (post_returned_of v d r) ≡ carried_by c r
@@ -147,7 +151,7 @@ pub sound_drain_returned : (i : InstanceId) (r : FlowRecord) → r.stage ≡ InD
 sound_drain_returned i r st h =
     let at = at_stage r (InDrain i) st h in
     sound_moved r Ascending (map (settle_drain i.0) r.entries) r.params r.kept r.answer r.handle h (rw st refl) (course_drain_settled i r.entries at.0)
-    at.1 h.params h.kept (omega (arith, ap length (settles_drain i.0 r.entries).visits, at.2)) h.bytes
+    at.1 h.params h.kept (omega (arith, ap length (settles_drain i.0 r.entries).visits, at.2)) tt h.bytes
 
 pub drain_returned_carries : (c : CtxId) (i : InstanceId) (r : FlowRecord) → carried_by c (drain_returned_of i r) ≡ carried_by c r
 drain_returned_carries c i r = ap (carried_among c) (owed_drain_settled i.0 r.entries)

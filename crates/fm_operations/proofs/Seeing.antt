@@ -1,8 +1,8 @@
 -- What callbacks see of an operation's parameters, through its steps.
 use Rattle.fm_operations.proofs.Words.{ℕ, List, [], length, take, Option, Some, None, Ok, slice_get, refl, ap, ap₂, sym, arith, same_Some}
 use Rattle.fm_operations.proofs.Words.{WorkerId, Params, Ask, FlowRecord, unwound, unwound_to, give_post, unwrap_or, answered_data, kept_of}
-use Rattle.fm_operations.proofs.Words.{lent_answer}
-use Rattle.std.proofs.Common.{◌≡◌, ◌≤◌, ◌∷◌, ◌++◌, ◌∙◌, zero, suc}
+use Rattle.fm_operations.proofs.Words.{lent_answer, last_place, kept_held, changed_from, changed_held, subst, cond, cases_Bool, inl, inr, nat_tests}
+use Rattle.std.proofs.Common.{◌≡◌, ◌<◌, ◌≤◌, ◌∷◌, ◌++◌, ◌∙◌, nat_lt, zero, suc}
 use Rattle.fm_operations.specs.declared.action.FlowAction.TheVariants as action
 use Rattle.fm_operations.specs.Seen.{sees, ParametersSeen}
 
@@ -37,6 +37,35 @@ unwound_seen : (place at : ℕ) (r : FlowRecord) (current : Params) (m : Option 
 unwound_seen place at r current None found has below = (has, refl)
 unwound_seen place at r current (Some p) found has below = (refl, still_seen r.kept place at p current found below)
 
+-- what is kept is seen, whatever goes down
+kept_seen : (kept : List Params) (at : ℕ) (p q : Params) → at < length kept → sees kept at p ≡ sees kept at q
+kept_seen [] at p q inside = absurd (omega (arith, inside))
+kept_seen (x ∷ kept) zero p q inside = refl
+kept_seen (x ∷ kept) (suc at) p q inside = kept_seen kept at p q (omega (arith, inside))
+
+held_seen : (kept : List Params) (place at : ℕ) (params current : Params) → place ≤ length kept → at ≤ place
+    → sees (kept_held (Some place) kept current) at params ≡ sees kept at current
+held_seen kept place at params current few below = elim (cases_Bool (nat_lt place (length kept))) [
+  | inl is ↦
+      let inside : place < length kept = grind (arith, nat_tests, is) in
+      subst (λ b. sees (cond b kept (kept ++ current ∷ [])) at params ≡ sees kept at current) (sym is)
+      (kept_seen kept at params current (omega (arith, below, inside)))
+  | inr is ↦
+      subst (λ b. sees (cond b kept (kept ++ current ∷ [])) at params ≡ sees kept at current) (sym is)
+      (kept_here kept current (Some params) at (omega (arith, few, below)))
+]
+
+changed_seen : (params : Params) (r : FlowRecord) (current : Params) (place at : ℕ) → r.params ≡ Some current → last_place r.entries ≡ Some place
+    → place ≤ length r.kept → at ≤ place
+    → ((changed_held params r).params ≡ Some params) × (sees (changed_held params r).kept at params ≡ sees r.kept at current)
+changed_seen params r current place at has last few below =
+    subst (λ (m : Option Params). ((changed_from params r m).params ≡ Some params)
+    × (sees (changed_from params r m).kept at params ≡ sees r.kept at current)) (sym has) (
+      refl,
+      subst (λ (m : Option ℕ). sees (kept_held m r.kept current) at params ≡ sees r.kept at current) (sym last)
+          (held_seen r.kept place at params current few below),
+    )
+
 given : (worker : WorkerId) (ask : Ask) (r : FlowRecord) (m : Option Params) (p : Params) → m ≡ Some p
     → (give_post worker ask r m).reply ≡ Ok (action.Post ask.instance (answered_data p (lent_answer r.operation r.answer)) ask.completion)
 given worker ask r m p is = ap (λ x. (give_post worker ask r x).reply) is
@@ -57,5 +86,6 @@ seen = record {
       ∙ ap₂ (λ operation answer. Ok (action.Post ask.instance
       (answered_data (sees r.kept ask.place current) (lent_answer operation answer)) ask.completion)) same.0 same.1;
   later = λ place at r current has below. unwound_seen place at r current (slice_get r.kept place) refl has below;
+  changed = λ params r current place at has last few below. changed_seen params r current place at has last few below;
   held = λ state end r. (refl, refl, refl, refl);
 }

@@ -4,7 +4,7 @@ use Rattle.fm_operations.proofs.Words.{append-nil, cons_option, filter_map-appen
 use Rattle.fm_operations.proofs.Words.{Ascending, InDrain, PreState, PostState, PreVisit, PostVisit, Ask, Entry, Pre, Post, one, times}
 use Rattle.fm_operations.proofs.Words.{ask_in, ask_of, visit_of, post_of, answers, visited, asked, posted, instances, settle_pre}
 use Rattle.fm_operations.proofs.Words.{list_any, settle_post, settle_drain, pre_leads, post_leads, walk, way_of, answer_count, IsCourse}
-use Rattle.fm_operations.proofs.Words.{map-append, length-map, drains, after, slack, HasItsDrain}
+use Rattle.fm_operations.proofs.Words.{map-append, length-map, drains, after, slack, HasItsDrain, last_place, place_of, reverse, slice_get}
 use Rattle.std.proofs.Common.{◌≡◌, ◌+◌, ◌≤◌, ◌==◌, ◌||◌, ◌∷◌, ◌++◌, ◌∙◌, option_and_then, filter_map}
 use Rattle.fm_operations.specs.declared.entry.PreState.TheVariants as pre
 use Rattle.fm_operations.specs.declared.entry.PostState.TheVariants as post
@@ -60,6 +60,13 @@ settles f es o same asks = record {
 -- where no entry asks for more
 settles_none : (f : Entry → Entry) (es : List Entry) → ((e : Entry) → Alike (f e) e) → ((e : Entry) → ask_of (f e) ≡ ask_of e) → Settles es (map f es) None
 settles_none f es same asks = settles f es None same (map_alike ask_of f asks es ∙ sym (append-nil (asked es)))
+
+-- the place of the last visit stays
+pub places_settled : (es : List Entry) (state : PreState) → last_place (map (settle_pre state) es) ≡ last_place es
+places_settled es state = ap (λ (xs : List ℕ). slice_get (reverse xs) 0) (map_alike place_of (settle_pre state) (λ e. grind arith) es)
+
+pub places_drained : (i : ℕ) (es : List Entry) → last_place (map (settle_drain i) es) ≡ last_place es
+places_drained i es = ap (λ (xs : List ℕ). slice_get (reverse xs) 0) (map_alike place_of (settle_drain i) (λ e. grind arith) es)
 
 -- ---- the entry of a callback in the midst of a list
 

@@ -5,6 +5,7 @@ use Rattle.fm_operations.proofs.Words.{Bool, IfSome, cases_Bool, inl, inr, is_do
 use Rattle.std.proofs.Common.{◌≡◌, ◌+◌, ◌≤◌, ◌&&◌, ◌∷◌, ◌++◌, ◌∙◌, is_some}
 use Rattle.fm_callback_data.specs.Params.{fit}
 use Rattle.fm_operations.proofs.Owed.{filter_map-push}
+use Rattle.fm_operations.proofs.Words.{IsPlaced}
 
 -- a step leaves the number and the mark
 pub record Stays (r s : FlowRecord) : Type 0 where
@@ -31,17 +32,17 @@ at_stage r s st h = subst (λ t. IsCourse t r.entries × (is_some r.params ≡ n
 pub sound_moved : (r : FlowRecord) (t : Stage) (es : List Entry) (params : Option Params) (kept : List Params) (answer : Answer)
     (handle : Option HandleId) → IsSound r → is_done r ≡ false
     → IsCourse t es → is_some params ≡ not (lends t) → IfSome params (λ p. fit r.operation r.path p ≡ true) → All (λ p. fit r.operation r.path p ≡ true) kept
-    → length kept + keeps_more t ≤ length (visited es) → length answer.bytes ≤ 32768
+    → length kept + keeps_more t ≤ length (visited es) → IsPlaced t es kept → length answer.bytes ≤ 32768
     → IsSound (record r { stage = t; entries = es; params = params; kept = kept; answer = answer; handle = handle })
-sound_moved r t es params kept answer handle h undone course here fits all places bytes =
-    record { course = course; here = here; params = fits; kept = all; places = places; bytes = bytes; collected = λ k. let d = h.collected k in cc }
+sound_moved r t es params kept answer handle h undone course here fits all places placed bytes =
+    record { course = course; here = here; params = fits; kept = all; places = places; placed = placed; bytes = bytes; collected = λ k. let d = h.collected k in cc }
 
 -- by one more entry
 pub sound_pushed : (r : FlowRecord) (s t : Stage) (e : Entry) (params : Option Params) (answer : Answer) (handle : Option HandleId)
     → r.stage ≡ s → IsSound r → is_done r ≡ false
     → IsCourse t (r.entries ++ e ∷ []) → is_some params ≡ not (lends t) → IfSome params (λ p. fit r.operation r.path p ≡ true)
-    → keeps_more t ≤ keeps_more s + length (option_to_list (visit_of e)) → length answer.bytes ≤ 32768
+    → keeps_more t ≤ keeps_more s + length (option_to_list (visit_of e)) → IsPlaced t (r.entries ++ e ∷ []) r.kept → length answer.bytes ≤ 32768
     → IsSound (record (with_entry e t r) { params = params; answer = answer; handle = handle })
-sound_pushed r s t e params answer handle st h undone course here fits more bytes =
+sound_pushed r s t e params answer handle st h undone course here fits more placed bytes =
     let a = ap length (filter_map-push visit_of r.entries e) ∙ length-append (visited r.entries) (option_to_list (visit_of e)) in
-    sound_moved r t (r.entries ++ e ∷ []) params r.kept answer handle h undone course here fits h.kept (omega (arith, a, (at_stage r s st h).2, more)) bytes
+    sound_moved r t (r.entries ++ e ∷ []) params r.kept answer handle h undone course here fits h.kept (omega (arith, a, (at_stage r s st h).2, more)) placed bytes

@@ -7,16 +7,16 @@ pub use Rattle.fm_callback_data.specs.declared.verdict.PostVerdict.{PostVerdict}
 pub use Rattle.fm_operations.specs.Answered.{bare_answer, base_counted, handle_given}
 pub use Rattle.fm_operations.specs.Counts.{drain_opens, is_due, is_running_drain, is_running_drain_of, opens}
 pub use Rattle.fm_operations.specs.Entries.{answers, ask_at, ask_in, ask_of, asked, asks, drains, instances, is_answered, is_drained, is_open, is_post_open, is_pre_open}
-pub use Rattle.fm_operations.specs.Entries.{last_posted, last_visited, one, owed, post_of, posted, settle, settle_drain, settle_post, settle_pre, times}
+pub use Rattle.fm_operations.specs.Entries.{last_place, last_posted, last_visited, one, place_of, owed, post_of, posted, settle, settle_drain, settle_post, settle_pre, times}
 pub use Rattle.fm_operations.specs.Entries.{undrained, visit_of, visited, without}
 pub use Rattle.fm_operations.specs.Noted.{IsNoted}
 pub use Rattle.fm_operations.specs.Record.{FlowRecord}
-pub use Rattle.fm_operations.specs.Sound.{HasItsDrain, HasPath, IsCourse, IsSound, MadeAsAsked, after, answer_count, keeps_more, lends, slack, walk, way_of}
+pub use Rattle.fm_operations.specs.Sound.{HasItsDrain, HasPath, HasPlace, IsCourse, IsPlaced, IsSound, MadeAsAsked, after, answer_count, keeps_more, lends, slack, walk, way_of}
 pub use Rattle.fm_operations.specs.Steps.{MayLieBelow, Turned, answer_after, ascend, bare_ask, base_after, base_fits, base_reply}
-pub use Rattle.fm_operations.specs.Steps.{base_returned_of, call_base, call_post, call_pre, data_reply, descend, done_at, drain_returned_of}
-pub use Rattle.fm_operations.specs.Steps.{give_post, is_done, kept_of, left_answer, lent_answer, may_take, next_at, next_of, post_after}
+pub use Rattle.fm_operations.specs.Steps.{base_returned_of, call_base, call_post, call_pre, changed_from, changed_held, data_reply, descend, done_at, drain_returned_of}
+pub use Rattle.fm_operations.specs.Steps.{give_post, is_done, kept_held, kept_of, left_answer, lent_answer, may_take, next_at, next_of, post_after}
 pub use Rattle.fm_operations.specs.Steps.{post_entry, post_leads, post_returned_of, post_state, pre_after, pre_entry, pre_leads, pre_returned_of}
-pub use Rattle.fm_operations.specs.Steps.{returned_answer, turn, unwound, unwound_to, with_base, with_drain, with_entry, with_visit}
+pub use Rattle.fm_operations.specs.Steps.{returned_answer, turn, unwound, unwound_to, with_base, with_drain, with_entry, with_visit, takes}
 pub use Rattle.fm_operations.specs.Table.{FlowTable, IsFlow, MayLieBelowOf, StandsAt, begun, begun_record, change_first, changed, collect_reply}
 pub use Rattle.fm_operations.specs.Table.{collected_in, collected_of, is_collectable, is_full, is_number, marked, operation_at, placed, removed, told}
 pub use Rattle.fm_operations.specs.Table.{is_spent, total, under_way, without_first}

@@ -22,13 +22,14 @@ telling n = record { status = Success; information = n; bytes = [] }
 abbrev pub bringing : List ℕ → Answer
 bringing bytes = record { status = Success; information = length bytes; bytes = bytes }
 
--- a success says how many bytes were read, written or listed, the size, or the new handle, and else 0; a reading and a listing alone bring bytes
+-- a success says how many bytes were read, written or listed, the size, the new handle, or what a major function without a kind of its own says, and else 0; a reading and a listing alone bring bytes
 abbrev pub success_of : Params → Answer → HandleId → Answer
 success_of (params.Create path mode) answer handle = telling handle.0
 success_of (params.Read offset len) answer handle = bringing answer.bytes
 success_of (params.Write offset bytes) answer handle = telling (length bytes)
 success_of params.QuerySize answer handle = telling answer.information
 success_of params.List answer handle = bringing answer.bytes
+success_of (params.Other major number) answer handle = telling answer.information
 success_of _ answer handle = telling 0
 
 -- what counts of the answer to a call; a fault says nothing but its status

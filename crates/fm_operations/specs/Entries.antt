@@ -88,6 +88,15 @@ visited entries = filter_map visit_of entries
 abbrev pub last_visited : List Entry → Option ℕ
 last_visited entries = slice_get (reverse (visited entries)) 0
 
+-- the place of a visit on the way down: how many values were kept of what earlier visits received
+abbrev pub place_of : Entry → Option ℕ
+place_of (Pre visit) = Some visit.place
+place_of _ = None
+
+-- that of the last one
+abbrev pub last_place : List Entry → Option ℕ
+last_place entries = slice_get (reverse (filter_map place_of entries)) 0
+
 -- the postoperations that were asked for, in order
 abbrev pub asked : List Entry → List Ask
 asked entries = filter_map ask_of entries

@@ -1,12 +1,13 @@
 -- The laws of one operation: its entries come in order, and nobody is passed over on the way up.
-use Rattle.std.specs.Prelude.{◌≡◌, ℕ, ◌+◌, ◌-◌, ◌*◌, ◌≤◌, Bool, true, false, not, List, [], ◌∷◌, ◌++◌, length, All, Option, Some, None, IfSome, is_some, option_and_then, ⊤}
+use Rattle.std.specs.Prelude.{◌≡◌, ℕ, ◌+◌, ◌-◌, ◌*◌, ◌<◌, ◌≤◌, Bool, true, false, not, List, [], ◌∷◌, ◌++◌, length, All, Option, Some, None, IfSome, is_some, option_and_then, ⊤}
 use Rattle.fm_callback_data.specs.Params.{fit}
+use Rattle.fm_callback_data.specs.declared.params.Params.{Params}
 use Rattle.fm_operations.specs.declared.stage.Stage.{Stage}
 use Rattle.fm_operations.specs.declared.stage.Stage.TheVariants.{Descending, PreRunning, PreHeld, InBase, Ascending, PostRunning, InDrain}
 use Rattle.fm_operations.specs.declared.entry.Ask.{Ask}
 use Rattle.fm_operations.specs.declared.entry.Entry.{Entry}
 use Rattle.fm_operations.specs.declared.entry.Entry.TheVariants.{Pre, Base, Post, Drain}
-use Rattle.fm_operations.specs.Entries.{one, times, answers, visited, asked, posted, owed, undrained, instances}
+use Rattle.fm_operations.specs.Entries.{one, times, answers, visited, last_place, asked, posted, owed, undrained, instances}
 use Rattle.fm_operations.specs.Counts.{drain_opens}
 use Rattle.fm_operations.specs.Record.{FlowRecord}
 use Rattle.fm_operations.specs.Steps.{pre_leads, post_leads, is_done}
@@ -94,6 +95,16 @@ abbrev pub keeps_more : Stage → ℕ
 keeps_more PreRunning = 1
 keeps_more _ = 0
 
+-- the visit that came last has its place among those that were kept or right behind them, and so many came before it at least
+abbrev pub HasPlace : List Entry → List Params → Type 0
+HasPlace entries kept = IfSome (last_place entries) (λ place. (place ≤ length kept) × (place < length (visited entries)))
+
+-- where its preoperation runs or holds
+abbrev pub IsPlaced : Stage → List Entry → List Params → Type 0
+IsPlaced PreRunning entries kept = HasPlace entries kept
+IsPlaced PreHeld entries kept = HasPlace entries kept
+IsPlaced _ entries kept = ⊤
+
 -- the laws of an operation
 pub record IsSound (r : FlowRecord) : Type 0 where
   pub course : IsCourse r.stage r.entries
@@ -102,6 +113,7 @@ pub record IsSound (r : FlowRecord) : Type 0 where
   pub params : IfSome r.params (λ p. fit r.operation r.path p ≡ true)
   pub kept : All (λ p. fit r.operation r.path p ≡ true) r.kept
   pub places : length r.kept + keeps_more r.stage ≤ length (visited r.entries)
+  pub placed : IsPlaced r.stage r.entries r.kept
   pub bytes : length r.answer.bytes ≤ 32768
   -- only a done operation's answer is handed out
   pub collected : r.collected ≡ true → is_done r ≡ true

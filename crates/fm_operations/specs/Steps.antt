@@ -1,5 +1,5 @@
 -- What each step makes of an operation.
-use Rattle.std.specs.Prelude.{◌≡◌, ℕ, ◌<◌, ◌==◌, ⊤, Bool, true, false, cond, not, nat_le, ◌&&◌, ◌||◌, List, [], ◌∷◌, ◌++◌, length, take, map, Option, Some, None, Result, Ok, Err, slice_get}
+use Rattle.std.specs.Prelude.{◌≡◌, ℕ, ◌<◌, ◌==◌, ⊤, Bool, true, false, cond, not, nat_le, nat_lt, ◌&&◌, ◌||◌, List, [], ◌∷◌, ◌++◌, length, take, map, Option, Some, None, Result, Ok, Err, slice_get}
 use Rattle.fm_types.specs.declared.ids.InstanceId.{InstanceId}
 use Rattle.fm_types.specs.declared.ids.HandleId.{HandleId}
 use Rattle.fm_types.specs.declared.ids.WorkerId.{WorkerId}
@@ -12,7 +12,7 @@ use Rattle.fm_callback_data.specs.declared.params.Params.{Params}
 use Rattle.fm_callback_data.specs.declared.answer.Answer.{Answer}
 use Rattle.fm_callback_data.specs.declared.verdict.PostVerdict.{PostVerdict}
 use Rattle.fm_callback_data.specs.declared.verdict.PostVerdict.TheVariants as verdict
-use Rattle.fm_callback_data.specs.Params.{call_fits}
+use Rattle.fm_callback_data.specs.Params.{call_fits, fit}
 use Rattle.fm_callback_data.specs.Data.{Data, current_of, fresh_data, answered_data, data_fits}
 use Rattle.fm_operations.specs.declared.stage.Stage.{Stage}
 use Rattle.fm_operations.specs.declared.stage.Stage.TheVariants.{Descending, PreRunning, PreHeld, InBase, Ascending, PostRunning, PostHeld, InDrain}
@@ -27,7 +27,7 @@ use Rattle.fm_operations.specs.declared.action.Below.{Below}
 use Rattle.fm_operations.specs.declared.action.Below.TheVariants as below
 use Rattle.fm_operations.specs.declared.action.FlowAction.{FlowAction}
 use Rattle.fm_operations.specs.declared.action.FlowAction.TheVariants as action
-use Rattle.fm_operations.specs.Entries.{times, visited, owed, settle_pre, settle_post, settle_drain}
+use Rattle.fm_operations.specs.Entries.{times, visited, owed, last_place, settle_pre, settle_post, settle_drain}
 use Rattle.fm_operations.specs.Answered.{bare_answer, base_counted, handle_given}
 use Rattle.fm_operations.specs.Record.{FlowRecord}
 
@@ -194,6 +194,23 @@ pre_returned_of state returned r = record (pre_settled state r) {
   kept =
       r.kept ++ kept_of returned.received returned.changed;
 }
+
+-- whether those are parameters of the operation: of its kind, a create's on its path, and within the limits
+abbrev pub takes : Params → FlowRecord → Bool
+takes params r = fit r.operation r.path params
+
+-- what is kept where a preoperation that holds the operation has other parameters go down: what it received itself, which is kept once
+abbrev pub kept_held : Option ℕ → List Params → Params → List Params
+kept_held None kept current = kept
+kept_held (Some place) kept current = cond (nat_lt place (length kept)) kept (kept ++ current ∷ [])
+
+abbrev pub changed_from : Params → FlowRecord → Option Params → FlowRecord
+changed_from params r None = r
+changed_from params r (Some current) = record r { params = Some params; kept = kept_held (last_place r.entries) r.kept current }
+
+-- the preoperation that holds the operation has those parameters go down
+abbrev pub changed_held : Params → FlowRecord → FlowRecord
+changed_held params r = changed_from params r r.params
 
 -- the base answers, and gives the parameters back; a create's success gives the handle of that number
 abbrev pub base_returned_of : BaseCall → Answer → HandleId → FlowRecord → FlowRecord

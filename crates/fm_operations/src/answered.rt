@@ -51,14 +51,15 @@ fn success_of(alloc: Global, call: &Params, answer: Answer, handle: HandleId) ->
         Params::Create { .. } => telling(alloc, handle.0),
         Params::Read { .. } => bringing(answer.bytes),
         Params::Write { bytes, .. } => telling(alloc, bytes.len() as u64),
-        Params::QuerySize => telling(alloc, answer.information),
+        Params::QuerySize | Params::Other { .. } => telling(alloc, answer.information),
         Params::List => bringing(answer.bytes),
         _ => telling(alloc, 0),
     }
 }
 
 /// What counts of the answer to a call: of a success the number of bytes read, written or listed, the
-/// size, or the new handle; of a fault its status alone.
+/// size, the new handle, or the number that a major function without a kind of its own answers; of a
+/// fault its status alone.
 pub(crate) fn base_counted(alloc: Global, call: &Params, answer: Answer, handle: HandleId) -> Answer
     ensures { result ≡ base_counted call.now answer handle }
 {

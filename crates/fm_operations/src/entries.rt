@@ -2,7 +2,7 @@
 
 ghost use Rattle.std.specs.Prelude.{◌≡◌, ◌<◌, [], ◌∷◌, ◌++◌, length, drop, true, map, count_by, position, vec_capacity, slice_get, Some, option_map};
 ghost use Rattle.std.specs.List.{list_any};
-ghost use Rattle.fm_operations.specs.Entries.{ask_of, asks, ask_at, is_open, settle_pre, settle_post, settle_drain, settle, post_of, last_posted};
+ghost use Rattle.fm_operations.specs.Entries.{ask_of, asks, ask_at, is_open, settle_pre, settle_post, settle_drain, settle, post_of, last_posted, place_of, last_place};
 ghost use Rattle.fm_operations.specs.Counts.{is_running_drain, is_running_drain_of, is_due};
 ghost use Rattle.fm_operations.specs.Drains.{is_some_of};
 ghost use Rattle.fm_operations.specs.Flights.{is_at};
@@ -245,6 +245,30 @@ pub(crate) fn has_running_drain(entries: &[Entry]) -> bool
     ensures { result ≡ list_any is_running_drain entries.now }
 {
     entries.iter().any(|entry| is_running_drain(*entry))
+}
+
+fn place_of(entry: Entry) -> Option<u8>
+    ensures { result ≡ place_of entry }
+{
+    match entry {
+        Entry::Pre(visit) => Some(visit.place),
+        _ => None,
+    }
+}
+
+/// The place of the visit that came last on the way down: nearly always at the end.
+pub(crate) fn last_place(entries: &[Entry]) -> Option<u8>
+    ensures { result ≡ last_place entries.now }
+{
+    let mut count = entries.len();
+    while count > 0 {
+        count -= 1;
+        let place = place_of(entries[count]);
+        if place.is_some() {
+            return place;
+        }
+    }
+    None
 }
 
 fn post_of(entry: Entry) -> Option<InstanceId>

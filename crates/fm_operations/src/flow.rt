@@ -1,10 +1,10 @@
 //! All operations that were begun and not yet collected.
 
-ghost use Rattle.std.specs.Prelude.{◌≡◌, ◌+◌, ◌<◌, ◌≤◌, ◌^◌, ◌&&◌, ◌∷◌, [], ℕ, true, length, Option, Some, None, Ok, Err, IsTrue, IfOk, option_copied, is_some, position, count_by, find, if◌then◌else◌};
+ghost use Rattle.std.specs.Prelude.{◌≡◌, ◌+◌, ◌<◌, ◌≤◌, ◌^◌, ◌&&◌, ◌∷◌, [], ℕ, true, false, length, Option, Some, None, Ok, Err, IsTrue, IfOk, option_copied, is_some, position, count_by, find, if◌then◌else◌};
 ghost use Rattle.std.specs.List.{list_any};
 ghost use Rattle.fm_callback_data.specs.Params.{is_within_limits, are_on};
 ghost use Rattle.fm_operations.specs.Verdict.{is_counted};
-ghost use Rattle.fm_operations.specs.Steps.{next_of, may_take, passed_up, with_visit, data_reply, pre_after, base_reply, base_after, post_after, pre_settled, post_settled, drain_returned_of};
+ghost use Rattle.fm_operations.specs.Steps.{next_of, may_take, passed_up, with_visit, data_reply, pre_after, base_reply, base_after, post_after, takes, changed_held, pre_settled, post_settled, drain_returned_of};
 ghost use Rattle.fm_operations.specs.Holds.{is_held, IsFirstHeld};
 ghost use Rattle.fm_operations.specs.Creates.{is_creating, is_on_stream, has_create_on, creates, is_over};
 ghost use Rattle.fm_operations.specs.Tallied.{IsAscending, entered, left_pre, left_post, if_taken};
@@ -550,6 +550,17 @@ impl Flow {
         operation.resume_pre(state);
         self.creates = recounted(self.creates, was_creating, operation.is_creating());
         self.flights.leaves(left_pre(state, instance));
+    }
+
+    /// A preoperation that holds an operation has those parameters go down in place of what it received, which its own postoperation is to see still. The
+    /// operation has to be held in one, and the parameters to be its own. All other operations stay. It takes no memory.
+    pub fn change_held(&mut self, number: OpId, params: Params)
+        requires stage { StandsAt Stage.PreHeld (operation_at number self.old) }
+        requires fits { told (takes params) false number self.old ≡ true }
+        ensures { self.new ≡ changed number (changed_held params) self.old }
+    {
+        let place = standing(&self.operations, number);
+        self.operations[place].as_mut().change_held(params);
     }
 
     /// A held postoperation of an operation is over (`FltCompletePendedPostOperation`). The operation has to be held in one. All other operations

@@ -4,7 +4,8 @@ ghost use Rattle.fm_operations.specs.Flights.{InFlightOnce};
 ghost use Rattle.fm_operations.specs.Seen.{ParametersSeen};
 ghost use Rattle.fm_operations.specs.Turns.{SynchronizedTurn};
 
-/// A preoperation's change of parameters goes down; its own postoperation, and those above, see what their preoperations received.
+/// A preoperation's change of parameters goes down, also one that it makes while it holds the operation; its own postoperation, and those above, see what their
+/// preoperations received.
 pub fn parameters_seen()
     ensures { ParametersSeen }
 {}

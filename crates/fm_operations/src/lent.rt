@@ -1,9 +1,9 @@
 //! What a postoperation callback is lent: the parameters as its own preoperation received them, and
 //! the answer so far.
 
-ghost use Rattle.std.specs.Prelude.{◌≡◌, ◌<◌, ◌++◌, length, slice_get, take, vec_capacity, if◌then◌else◌};
+ghost use Rattle.std.specs.Prelude.{◌≡◌, ◌<◌, ◌++◌, IfSome, length, slice_get, take, vec_capacity, if◌then◌else◌};
 ghost use Rattle.fm_callback_data.specs.Data.{current_of, fresh_data};
-ghost use Rattle.fm_operations.specs.Steps.{stands, lent_answer, left_answer, kept_of, answer_after};
+ghost use Rattle.fm_operations.specs.Steps.{stands, lent_answer, left_answer, kept_of, kept_held, answer_after};
 
 use crate::entry::PreState;
 use fm_callback_data::{Answer, CallbackData, Params};
@@ -60,6 +60,19 @@ pub(crate) fn keep(alloc: Global, kept: &mut Vec<Params>, lent: &mut CallbackDat
 {
     if let Some(received) = lent.settle(alloc) {
         kept.push_reserved(received);
+    }
+}
+
+/// Keeps what a preoperation received that holds the operation and puts something else in its place: once.
+pub(crate) fn keep_held(kept: &mut Vec<Params>, place: Option<u8>, received: Params)
+    requires { IfSome place (λ p. p < vec_capacity kept.old) }
+    ensures items { kept.new.items ≡ kept_held place kept.old.items received }
+    ensures capacity { vec_capacity kept.new ≡ vec_capacity kept.old }
+{
+    if let Some(place) = place {
+        if kept.len() <= place as usize {
+            kept.push_reserved(received);
+        }
     }
 }
 

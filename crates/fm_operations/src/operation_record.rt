@@ -7,7 +7,7 @@ ghost use Rattle.fm_callback_data.specs.Data.{data_fits};
 ghost use Rattle.fm_operations.specs.Entries.{times, visited, last_visited, last_posted, owed};
 ghost use Rattle.fm_operations.specs.Verdict.{is_counted};
 ghost use Rattle.fm_operations.specs.Counts.{is_running_drain};
-ghost use Rattle.fm_operations.specs.Steps.{with_entry, with_visit, with_base, with_drain, post_entry, passed_up, call_pre, call_base, call_post, give_post, descend, ascend, unwound, may_take, next_of, MayLieBelow, pre_settled, pre_returned_of, base_returned_of, post_state, post_settled, post_returned_of, drain_returned_of, is_done, data_reply, pre_after, base_fits, base_reply, base_after, post_after, pre_leads, post_leads};
+ghost use Rattle.fm_operations.specs.Steps.{with_entry, with_visit, with_base, with_drain, post_entry, passed_up, call_pre, call_base, call_post, give_post, descend, ascend, unwound, may_take, next_of, MayLieBelow, takes, changed_held, pre_settled, pre_returned_of, base_returned_of, post_state, post_settled, post_returned_of, drain_returned_of, is_done, data_reply, pre_after, base_fits, base_reply, base_after, post_after, pre_leads, post_leads};
 ghost use Rattle.fm_operations.specs.Answered.{bare_answer};
 ghost use Rattle.fm_operations.specs.Creates.{is_creating, is_unanswered};
 ghost use Rattle.fm_operations.specs.Sound.{IsSound};
@@ -635,6 +635,19 @@ impl OperationRecord {
         let place = entries::settle_pre(&mut self.entries, state);
         self.owed.note(entries::asks(state), place);
         self.stage = pre_leads(state);
+    }
+
+    /// The preoperation that holds it has those parameters go down in place of what it received. It takes no memory.
+    pub(crate) fn change_held(&mut self, params: Params)
+        requires stage { self.old.stage ≡ Stage.PreHeld }
+        requires fits { takes params self.old ≡ true }
+        ensures { self.new ≡ changed_held params self.old }
+    {
+        let Some(data) = &mut self.data else {
+            unreachable!();
+        };
+        let received = data.receive(params);
+        lent::keep_held(&mut self.kept, entries::last_place(&self.entries), received);
     }
 
     /// The postoperation that holds it is over.

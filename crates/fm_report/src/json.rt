@@ -269,6 +269,10 @@ fn put_request(object: &mut JsonObject, notes: &Notes, operation: Option<u64>) {
             object.number("until", *until)
         }
         What::SetSize(_, size) => object.number("size", *size),
+        What::Other(_, major, number) | What::OtherV(_, major, number) => {
+            object.number("major", u64::from(major.code()));
+            object.number("parameters", *number)
+        }
         _ => {}
     }
 }

@@ -60,6 +60,8 @@ pub enum Kind {
     Resumed,
     /// A postoperation that held an operation was resumed.
     PostResumed,
+    /// A preoperation that held an operation put other parameters in place of what it received.
+    HeldChanged,
     /// How `go` answers for an instance was planned.
     Planned,
     /// A context was allocated.
@@ -215,6 +217,7 @@ impl Kind {
     fn name_of_few(self) -> &'static str {
         match self {
             Kind::PostResumed => "PostResumed",
+            Kind::HeldChanged => "HeldChanged",
             Kind::Planned => "Planned",
             Kind::Allocated => "Allocated",
             Kind::Set => "Set",
@@ -293,6 +296,7 @@ impl Kind {
     fn pattern_of_few(self) -> &'static str {
         match self {
             Kind::PostResumed => "%o goes on: the postoperation of %i is over",
+            Kind::HeldChanged => "%i changed the parameters of %o, which it holds",
             Kind::Planned => "in a go %i %V",
             Kind::Allocated => "%c",
             Kind::Set => "%c is set%D",

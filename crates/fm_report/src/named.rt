@@ -5,7 +5,7 @@ use crate::notes::{Notes, What};
 use crate::push::{push_ascii, push_id, push_number};
 use crate::text::Text;
 use fm_core::{Phase, Place};
-use fm_types::{ContextKind, CreateMode};
+use fm_types::{ContextKind, CreateMode, Major};
 
 /// Appends a filter: `f0 scanner`.
 pub fn push_filter(text: &mut Text, notes: &Notes, filter: u64) {
@@ -74,6 +74,7 @@ pub fn kind_word(kind: ContextKind) -> &'static str {
         ContextKind::Instance => "instance",
         ContextKind::Stream => "stream",
         ContextKind::Handle => "handle",
+        ContextKind::File => "file",
     }
 }
 
@@ -98,6 +99,55 @@ pub fn phase_word(phase: Phase) -> &'static str {
     }
 }
 
+/// The name of a major function (`IRP_MJ_..`).
+pub fn major_word(major: Major) -> &'static str {
+    match major {
+        Major::CreateNamedPipe => "CREATE_NAMED_PIPE",
+        Major::QueryInformation => "QUERY_INFORMATION",
+        Major::SetInformation => "SET_INFORMATION",
+        Major::QueryEa => "QUERY_EA",
+        Major::SetEa => "SET_EA",
+        Major::QueryVolumeInformation => "QUERY_VOLUME_INFORMATION",
+        Major::SetVolumeInformation => "SET_VOLUME_INFORMATION",
+        Major::DirectoryControl => "DIRECTORY_CONTROL",
+        Major::FileSystemControl => "FILE_SYSTEM_CONTROL",
+        Major::DeviceControl => "DEVICE_CONTROL",
+        Major::InternalDeviceControl => "INTERNAL_DEVICE_CONTROL",
+        Major::Shutdown => "SHUTDOWN",
+        Major::LockControl => "LOCK_CONTROL",
+        Major::CreateMailslot => "CREATE_MAILSLOT",
+        Major::QuerySecurity => "QUERY_SECURITY",
+        Major::SetSecurity => "SET_SECURITY",
+        Major::Power => "POWER",
+        Major::SystemControl => "SYSTEM_CONTROL",
+        Major::DeviceChange => "DEVICE_CHANGE",
+        Major::QueryQuota => "QUERY_QUOTA",
+        Major::SetQuota => "SET_QUOTA",
+        Major::Pnp => "PNP",
+        other => fast_word(other),
+    }
+}
+
+// Of one that is no IRP's: a fast I/O call, or a callback of the file systems' own.
+fn fast_word(major: Major) -> &'static str {
+    match major {
+        Major::VolumeDismount => "VOLUME_DISMOUNT",
+        Major::VolumeMount => "VOLUME_MOUNT",
+        Major::PrepareMdlWrite => "PREPARE_MDL_WRITE",
+        Major::MdlRead => "MDL_READ",
+        Major::NetworkQueryOpen => "NETWORK_QUERY_OPEN",
+        Major::FastIoCheckIfPossible => "FAST_IO_CHECK_IF_POSSIBLE",
+        Major::QueryOpen => "QUERY_OPEN",
+        Major::ReleaseForCcFlush => "RELEASE_FOR_CC_FLUSH",
+        Major::AcquireForCcFlush => "ACQUIRE_FOR_CC_FLUSH",
+        Major::ReleaseForModWrite => "RELEASE_FOR_MOD_WRITE",
+        Major::AcquireForModWrite => "ACQUIRE_FOR_MOD_WRITE",
+        Major::ReleaseForSectionSynchronization => "RELEASE_FOR_SECTION_SYNCHRONIZATION",
+        Major::AcquireForSectionSynchronization => "ACQUIRE_FOR_SECTION_SYNCHRONIZATION",
+        _ => "OTHER",
+    }
+}
+
 // Appends what an operation does: its word, what it is on, and between which offsets.
 fn push_what(text: &mut Text, what: &What) {
     text.push_str(what.title());
@@ -113,6 +163,15 @@ fn push_what(text: &mut Text, what: &What) {
             text.push_str(mode_word(*mode))
         }
         What::List(volume) => push_on(text, *volume),
+        What::Other(_, _, number) => {
+            text.push(' ');
+            push_number(text, *number)
+        }
+        What::OtherV(volume, _, number) => {
+            push_on(text, *volume);
+            text.push(' ');
+            push_number(text, *number)
+        }
         What::Read(_, from, until) | What::Write(_, from, until) => {
             push_range(text, *from, *until)
         }

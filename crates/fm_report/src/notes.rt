@@ -2,12 +2,14 @@
 
 use crate::event::Event;
 use crate::kind::Kind;
+use crate::named::major_word;
 use fm_altitude::Altitude;
 use fm_callback_data::{FileRequest, Request};
 use fm_core::{FilterPhase, Phase, Place, State, VolumePhase};
 use fm_types::limits::SCRIPT_WORKERS;
 use fm_types::{
-    ContextKind, CreateMode, FilterId, InstanceId, Name, SharedPath, Status, VolumeId, WorkerId,
+    ContextKind, CreateMode, FilterId, InstanceId, Major, Name, SharedPath, Status, VolumeId,
+    WorkerId,
 };
 use std::alloc::{AllocError, Global};
 
@@ -63,6 +65,9 @@ pub enum What {
     Restore(u64),
     Cleanup(u64),
     Close(u64),
+    /// What a major function without a kind of its own asks of a handle, and of a volume.
+    Other(u64, Major, u64),
+    OtherV(u8, Major, u64),
 }
 
 impl What {
@@ -80,6 +85,8 @@ impl What {
             What::Restore(_) => "restore",
             What::Cleanup(_) => "cleanup",
             What::Close(_) => "close",
+            What::Other(..) => "other",
+            What::OtherV(..) => "otherv",
         }
     }
 
@@ -97,13 +104,14 @@ impl What {
             What::Restore(_) => "RESTORE",
             What::Cleanup(_) => "CLEANUP",
             What::Close(_) => "CLOSE",
+            What::Other(_, major, _) | What::OtherV(_, major, _) => major_word(*major),
         }
     }
 
     /// The handle that it is on.
     pub fn handle(&self) -> Option<u64> {
         match self {
-            What::Create(..) | What::List(_) => None,
+            What::Create(..) | What::List(_) | What::OtherV(..) => None,
             What::Read(handle, ..)
             | What::Write(handle, ..)
             | What::SetSize(handle, _)
@@ -112,7 +120,8 @@ impl What {
             | What::Delete(handle)
             | What::Restore(handle)
             | What::Cleanup(handle)
-            | What::Close(handle) => Some(*handle),
+            | What::Close(handle)
+            | What::Other(handle, ..) => Some(*handle),
         }
     }
 }
@@ -349,7 +358,7 @@ impl Notes {
 
     /// The volume that a request is on: as it says itself, or that of its handle's create.
     pub fn volume_of_request(&self, what: &What) -> Option<u8> {
-        if let What::Create(volume, ..) | What::List(volume) = what {
+        if let What::Create(volume, ..) | What::List(volume) | What::OtherV(volume, ..) = what {
             return Some(*volume);
         }
         let handle = what.handle()?;
@@ -514,6 +523,11 @@ pub fn what_of(request: &Request) -> Result<What, AllocError> {
             Ok(What::Create(volume.0, path.share()?, *mode))
         }
         Request::List { volume } => Ok(What::List(volume.0)),
+        Request::OnVolume {
+            volume,
+            major,
+            number,
+        } => { Ok(What::OtherV(volume.0, *major, *number)) }
         Request::OnHandle { handle, request } => Ok(what_on(handle.0, request)),
     }
 }
@@ -538,5 +552,6 @@ fn what_on(handle: u64, request: &FileRequest) -> What {
         FileRequest::Restore => What::Restore(handle),
         FileRequest::Cleanup => What::Cleanup(handle),
         FileRequest::Close => What::Close(handle),
+        FileRequest::Other { major, number } => What::Other(handle, *major, *number),
     }
 }

@@ -42,6 +42,7 @@ shifted_plain params.List old answer new h = search rules
 shifted_plain params.SetDelete old answer new h = search rules
 shifted_plain params.Restore old answer new h = search rules
 shifted_plain params.Cleanup old answer new h = search rules
+shifted_plain (params.Other major number) old answer new h = search rules
 shifted_plain params.Close old answer new h = search rules
 
 pub plain_where_quiet : (f : Sample) → IsQuietSample f → IsPlainFilter SamplesPre SamplesPost IsQuietSample f
@@ -56,6 +57,7 @@ plain_where_quiet (sample.Meter filter) = elim [ ]
 plain_where_quiet (sample.Hold filter) = elim [ ]
 plain_where_quiet (sample.Carry filter) = elim [ ]
 plain_where_quiet (sample.Stay filter) = elim [ ]
+plain_where_quiet (sample.Scan filter) = elim [ ]
 
 byte_back : (byte : ℕ) → byte < 256 → lowered_byte (raised_byte byte) ≡ byte
 byte_back byte small = grind arith

@@ -6,5 +6,6 @@ pub mod Meter
 pub mod Hold
 pub mod Carry
 pub mod Stay
+pub mod Scan
 pub mod Sample
 pub mod Laws

@@ -10,7 +10,7 @@ use Rattle.fm_callback_data.specs.declared.verdict.PostVerdict.{PostVerdict}
 use Rattle.fm_operations.specs.declared.hold.Hold.TheVariants as callback
 use Rattle.fm_filter.specs.declared.port.Port as port
 use Rattle.fm_samples.specs.declared.sample.Sample.{Sample}
-use Rattle.fm_samples.specs.declared.sample.Sample.TheVariants.{Guard, Meter, Shift, Hold, Carry, Stay}
+use Rattle.fm_samples.specs.declared.sample.Sample.TheVariants.{Guard, Meter, Shift, Hold, Carry, Stay, Scan}
 use Rattle.fm_samples.specs.Calls.{ReleasesSent, ResumesAll}
 use Rattle.fm_samples.specs.Common.{IsBarePre, IsBarePost, CountsNothing}
 use Rattle.fm_samples.specs.Guard.{GuardsPre, guard_registers}
@@ -19,6 +19,7 @@ use Rattle.fm_samples.specs.Shift.{ShiftsPre, ShiftsPost, shift_registers}
 use Rattle.fm_samples.specs.Hold.{HoldsPre, HoldsCalls, hold_registers}
 use Rattle.fm_samples.specs.Carry.{CarriesPre, CarriesCalls, carry_registers}
 use Rattle.fm_samples.specs.Stay.{StaysPre, StaysPost, StaysCalls, stay_registers}
+use Rattle.fm_samples.specs.Scan.{ScansPre, ScansCalls, ScansOpened, scan_registers}
 
 abbrev pub sample_registers : Sample → Registration
 sample_registers (Guard filter) = guard_registers
@@ -27,6 +28,7 @@ sample_registers (Shift filter) = shift_registers
 sample_registers (Hold filter) = hold_registers
 sample_registers (Carry filter) = carry_registers
 sample_registers (Stay filter) = stay_registers
+sample_registers (Scan filter) = scan_registers
 
 abbrev pub SamplesPre : Sample → Data → PreVerdict → Data → Type 0
 SamplesPre (Guard filter) = GuardsPre
@@ -35,6 +37,7 @@ SamplesPre (Shift filter) = ShiftsPre
 SamplesPre (Hold filter) = HoldsPre
 SamplesPre (Carry filter) = CarriesPre
 SamplesPre (Stay filter) = StaysPre
+SamplesPre (Scan filter) = ScansPre
 
 abbrev pub SamplesPost : Sample → Data → Completion → PostVerdict → Data → Type 0
 SamplesPost (Guard filter) = IsBarePost
@@ -43,6 +46,7 @@ SamplesPost (Shift filter) = ShiftsPost
 SamplesPost (Hold filter) = IsBarePost
 SamplesPost (Carry filter) = IsBarePost
 SamplesPost (Stay filter) = StaysPost
+SamplesPost (Scan filter) = IsBarePost
 
 abbrev pub SamplesCleanup : Sample → ContextKind → List ℕ → ℕ → Type 0
 SamplesCleanup (Guard filter) = CountsNothing
@@ -51,6 +55,7 @@ SamplesCleanup (Shift filter) = CountsNothing
 SamplesCleanup (Hold filter) = CountsNothing
 SamplesCleanup (Carry filter) = CountsNothing
 SamplesCleanup (Stay filter) = CountsNothing
+SamplesCleanup (Scan filter) = CountsNothing
 
 -- guard and shift call nothing of the manager
 abbrev pub IsQuietSample : Sample → Type 0
@@ -60,6 +65,7 @@ IsQuietSample (Shift filter) = ⊤
 IsQuietSample (Hold filter) = ⊥
 IsQuietSample (Carry filter) = ⊥
 IsQuietSample (Stay filter) = ⊥
+IsQuietSample (Scan filter) = ⊥
 
 -- what its preoperation calls of its port
 abbrev pub SamplesCalls : {P : Type 0} → port.Ghosts P → Sample → Params → PreVerdict → P → P → Type 0
@@ -67,12 +73,18 @@ SamplesCalls p (Meter filter) given answer old new = MetersCalls p ⊤ given old
 SamplesCalls p (Hold filter) given answer old new = HoldsCalls p given old new
 SamplesCalls p (Carry filter) given answer old new = CarriesCalls p ⊤ given answer old new
 SamplesCalls p (Stay filter) given answer old new = StaysCalls p given old new
+SamplesCalls p (Scan filter) given answer old new = ScansCalls p given answer old new
 SamplesCalls p _ given answer old new = new ≡ old
 
--- what its postoperation calls, or its drain: carry releases what the completion brought, and the others call nothing
+-- what its drain calls: carry releases what the completion brought, and the others call nothing
 abbrev pub SamplesLetGo : {P : Type 0} → port.Ghosts P → Sample → Completion → P → P → Type 0
 SamplesLetGo p (Carry filter) completion old new = ReleasesSent p completion.context old new
 SamplesLetGo p _ completion old new = new ≡ old
+
+-- what its postoperation calls: scan scans what was opened, and the others do as in their drains
+abbrev pub SamplesUp : {P : Type 0} → port.Ghosts P → Sample → Completion → P → P → Type 0
+SamplesUp p (Scan filter) completion old new = ScansOpened p old new
+SamplesUp p filter completion old new = SamplesLetGo p filter completion old new
 
 -- what it calls if a teardown starts: hold and stay let all go on that they hold, and the others call nothing
 abbrev pub SamplesStart : {P : Type 0} → port.Ghosts P → Sample → P → P → Type 0

@@ -10,6 +10,7 @@ pub mod laws;
 mod memory;
 mod meter;
 mod sample;
+mod scan;
 mod shift;
 mod stay;
 
@@ -20,5 +21,6 @@ pub use crate::hold::Hold;
 pub use crate::memory::Memory;
 pub use crate::meter::Meter;
 pub use crate::sample::Sample;
+pub use crate::scan::Scan;
 pub use crate::shift::Shift;
 pub use crate::stay::Stay;

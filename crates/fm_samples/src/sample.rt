@@ -2,12 +2,13 @@
 
 ghost use Rattle.std.specs.Prelude.{◌≡◌};
 ghost use Rattle.fm_callback_data.specs.Data.{current_of};
-ghost use Rattle.fm_samples.specs.Sample.{IsQuietSample, SamplesCalls, SamplesLetGo, SamplesPre, SamplesPost, SamplesStart};
+ghost use Rattle.fm_samples.specs.Sample.{IsQuietSample, SamplesCalls, SamplesLetGo, SamplesPre, SamplesPost, SamplesStart, SamplesUp};
 
 use crate::carry::Carry;
 use crate::guard::Guard;
 use crate::hold::Hold;
 use crate::meter::Meter;
+use crate::scan::Scan;
 use crate::shift::Shift;
 use crate::stay::Stay;
 use fm_callback_data::{CallbackData, Completion, PostVerdict, PreVerdict};
@@ -30,6 +31,8 @@ pub enum Sample {
     Carry(Carry),
     /// Holds reads on the way up.
     Stay(Stay),
+    /// Scans what is opened.
+    Scan(Scan),
 }
 
 impl Agreeable for Sample {
@@ -53,6 +56,7 @@ impl Agreeable for Sample {
             Sample::Hold(filter) => filter.registration(),
             Sample::Carry(filter) => filter.registration(),
             Sample::Stay(filter) => filter.registration(),
+            Sample::Scan(filter) => filter.registration(),
         }
     }
 
@@ -70,6 +74,7 @@ impl Agreeable for Sample {
             Sample::Hold(filter) => filter.pre(lent, port),
             Sample::Carry(filter) => filter.pre(lent, port),
             Sample::Stay(filter) => filter.pre(lent, port),
+            Sample::Scan(filter) => filter.pre(lent, port),
         }
     }
 
@@ -81,7 +86,7 @@ impl Agreeable for Sample {
     ) -> PostVerdict
         ensures may { SamplesPost self.now lent.old completion result lent.new }
         ensures kept { lent.new.received ≡ lent.old.received }
-        ensures calls { SamplesLetGo P.Port self.now completion port.old port.new }
+        ensures calls { SamplesUp P.Port self.now completion port.old port.new }
         ensures quiet { IsQuietSample self.now → port.new ≡ port.old }
         ensures far { P.kept port.new ≡ P.kept port.old }
     {
@@ -92,6 +97,7 @@ impl Agreeable for Sample {
             Sample::Hold(filter) => filter.post(lent, completion, port),
             Sample::Carry(filter) => filter.post(lent, completion, port),
             Sample::Stay(filter) => filter.post(lent, completion, port),
+            Sample::Scan(filter) => filter.post(lent, completion, port),
         }
     }
 
@@ -107,7 +113,8 @@ impl Agreeable for Sample {
             | Sample::Meter(_)
             | Sample::Shift(_)
             | Sample::Hold(_)
-            | Sample::Stay(_) => {}
+            | Sample::Stay(_)
+            | Sample::Scan(_) => {}
         }
     }
 
@@ -120,7 +127,11 @@ impl Agreeable for Sample {
             Sample::Hold(filter) => filter.teardown_start(port),
             Sample::Stay(filter) => filter.teardown_start(port),
             // They have none of their own.
-            Sample::Guard(_) | Sample::Meter(_) | Sample::Shift(_) | Sample::Carry(_) => {}
+            Sample::Guard(_)
+            | Sample::Meter(_)
+            | Sample::Shift(_)
+            | Sample::Carry(_)
+            | Sample::Scan(_) => {}
         }
     }
 
@@ -132,6 +143,7 @@ impl Agreeable for Sample {
             Sample::Hold(filter) => filter.cleanup(kind, body),
             Sample::Carry(filter) => filter.cleanup(kind, body),
             Sample::Stay(filter) => filter.cleanup(kind, body),
+            Sample::Scan(filter) => filter.cleanup(kind, body),
         }
     }
 }

@@ -1,6 +1,6 @@
 -- What the words of a line stand for, and by which status a line is refused that stands for nothing.
 use Rattle.std.specs.Prelude.{◌≡◌, ℕ, Bool, true, false, List, [], ◌∷◌, Option, Some, None, Result, Ok, Err, MatchResult, codes, bytes_eq, cond, find}
-use Rattle.fm_script.specs.Words.{CtxId, OpId, WorkerId, Status, BadRequest, World, Keyword, Task, ◌>>=◌}
+use Rattle.fm_script.specs.Words.{CtxId, OpId, WorkerId, Status, BadRequest, World, Keyword, Task, number_read, ◌>>=◌}
 use Rattle.fm_types.specs.declared.operation.CreateMode.{CreateMode}
 use Rattle.fm_types.specs.declared.operation.CreateMode.TheVariants as create
 use Rattle.fm_types.specs.declared.registration.Registration.{Registration}
@@ -8,6 +8,8 @@ use Rattle.fm_types.specs.declared.status.Status.TheVariants.{BadAltitude, BadNa
 use Rattle.fm_types.specs.Paths.{IsPath}
 use Rattle.fm_types.specs.Names.{IsName}
 use Rattle.fm_altitude.specs.Grammar.{IsAltitude, canonical}
+use Rattle.fm_callback_data.specs.declared.params.Params.{Params}
+use Rattle.fm_callback_data.specs.declared.params.Params.TheVariants as params
 use Rattle.fm_callback_data.specs.declared.request.Request.TheVariants as request
 use Rattle.fm_world.specs.declared.begins_from.BeginsFrom.{BeginsFrom}
 use Rattle.fm_world.specs.declared.begins_from.BeginsFrom.TheVariants as begins
@@ -15,9 +17,9 @@ use Rattle.fm_world.specs.declared.step.Step.TheVariants as step
 use Rattle.fm_script.specs.declared.keyword.Keyword.TheVariants as keyword
 use Rattle.fm_script.specs.declared.task.Task.TheVariants as task
 use Rattle.fm_script.specs.Ids.{filter_in, instance_in, volume_in, operation_in, worker_in}
-use Rattle.fm_script.specs.Tasks.{instance_id, volume_id, worker_id, place_ids, turn_ids, turn_in, one_id, only_instance, only_volume, only_worker, answered_read, event}
+use Rattle.fm_script.specs.Tasks.{instance_id, volume_id, worker_id, numbers_read, or_bad, place_ids, turn_ids, turn_in, one_id, only_instance, only_volume, only_worker, answered_read, event}
 use Rattle.fm_script.specs.ContextCommands.{context_read, allocate_read, write_body_read}
-use Rattle.fm_script.specs.FileCommands.{file_read, write_read}
+use Rattle.fm_script.specs.FileCommands.{file_read, length_asked, major_read, write_read}
 use Rattle.fm_script.specs.TeardownCommands.{teardown_read}
 use Rattle.fm_script.specs.VerdictCommands.{AnswersPre, Plans, Resumes, post_read}
 
@@ -87,6 +89,9 @@ spelling keyword.FinishV = codes "finishv"
 spelling keyword.QuerySize = codes "querysize"
 spelling keyword.SetDelete = codes "setdelete"
 spelling keyword.Restore = codes "restore"
+spelling keyword.Other = codes "other"
+spelling keyword.OtherV = codes "otherv"
+spelling keyword.ChangeHeld = codes "change_held"
 spelling keyword.Below = codes "below"
 spelling keyword.AtBase = codes "atbase"
 
@@ -100,7 +105,7 @@ all_keywords =
     keyword.Query ∷ keyword.Queried ∷ keyword.Start ∷ keyword.Started ∷ keyword.Complete ∷ keyword.Completed ∷ keyword.Enter ∷ keyword.Left ∷ keyword.Unload ∷
     keyword.Unloaded ∷ keyword.EmptyF ∷ keyword.FinishF ∷ keyword.Flight ∷ keyword.Drain ∷ keyword.Drained ∷
     keyword.Dismount ∷ keyword.Drop ∷ keyword.EmptyV ∷ keyword.FinishV ∷ keyword.QuerySize ∷ keyword.SetDelete ∷ keyword.Restore ∷
-    keyword.Below ∷ keyword.AtBase ∷ []
+    keyword.Other ∷ keyword.OtherV ∷ keyword.ChangeHeld ∷ keyword.Below ∷ keyword.AtBase ∷ []
 
 -- the keyword that a word is
 unfoldable pub keyword_read : List ℕ → Option Keyword
@@ -116,18 +121,18 @@ IsNamed name t result = MatchResult result (λ read. IsName name × (read ≡ t)
 
 -- all operations, all kinds of contexts: each has its bit
 abbrev pub with_masks : ℕ → ℕ → Registration
-with_masks pre post = record { pre = record { 0 = pre }; post = record { 0 = post }; contexts = record { 0 = 15 }; query = true; unload = true }
+with_masks pre post = record { pre = record { 0 = pre }; post = record { 0 = post }; contexts = record { 0 = 31 }; query = true; unload = true }
 
 abbrev pub bare : Registration
-bare = record { pre = record { 0 = 2047 }; post = record { 0 = 2047 }; contexts = record { 0 = 0 }; query = false; unload = false }
+bare = record { pre = record { 0 = 576460752303423487 }; post = record { 0 = 576460752303423487 }; contexts = record { 0 = 0 }; query = false; unload = false }
 
 abbrev pub option_read : List ℕ → Result Registration Status
 option_read option =
-    cond (bytes_eq option (codes "only-pre")) (Ok (with_masks 2047 0)) (cond (bytes_eq option (codes "only-post")) (Ok (with_masks 0 2047))
+    cond (bytes_eq option (codes "only-pre")) (Ok (with_masks 576460752303423487 0)) (cond (bytes_eq option (codes "only-post")) (Ok (with_masks 0 576460752303423487))
     (cond (bytes_eq option (codes "bare")) (Ok bare) (Err BadRequest)))
 
 abbrev pub registration_read : List (List ℕ) → Result Registration Status
-registration_read [] = Ok (with_masks 2047 2047)
+registration_read [] = Ok (with_masks 576460752303423487 576460752303423487)
 registration_read (option ∷ []) = option_read option
 registration_read _ = Err BadRequest
 
@@ -305,6 +310,33 @@ below_read w (instance ∷ words) =
 abbrev pub at_base_read : World → List (List ℕ) → Result Task Status
 at_base_read w words = request_read w words >>= begun_from begins.Base
 
+-- ---- other parameters for an operation that is held
+
+-- those of a read, of a new size, and of a major function without a kind of its own
+abbrev pub span_read : List (List ℕ) → Result Params Status
+span_read (offset ∷ len ∷ []) = numbers_read offset len >>= λ n. Ok (params.Read n.0 (length_asked n.1))
+span_read _ = Err BadRequest
+
+abbrev pub size_read : List (List ℕ) → Result Params Status
+size_read (size ∷ []) = or_bad (number_read size) >>= λ n. Ok (params.SetSize n)
+size_read _ = Err BadRequest
+
+abbrev pub other_params_read : List (List ℕ) → Result Params Status
+other_params_read (code ∷ word ∷ []) = major_read code word >>= λ both. Ok (params.Other both.0 both.1)
+other_params_read _ = Err BadRequest
+
+abbrev pub params_read : Option Keyword → List (List ℕ) → Result Params Status
+params_read (Some keyword.Read) words = span_read words
+params_read (Some keyword.SetSize) words = size_read words
+params_read (Some keyword.Other) words = other_params_read words
+params_read _ words = Err BadRequest
+
+abbrev pub change_held_read : World → List (List ℕ) → Result Task Status
+change_held_read w (worker ∷ operation ∷ word ∷ words) =
+    turn_ids worker operation >>= λ ids. params_read (keyword_read word) words >>= λ own. turn_in w ids.0 ids.1
+    >>= λ turn. event (step.ChangeHeld turn.0 turn.1 own)
+change_held_read w _ = Err BadRequest
+
 -- the command whose path takes memory as it is read
 abbrev pub is_create : Keyword → Bool
 is_create keyword.Create = true
@@ -330,6 +362,7 @@ ReadsAs w contexts keyword.Collect words result = result ≡ collect_read w word
 ReadsAs w contexts keyword.Phase words result = result ≡ phase_read w words
 ReadsAs w contexts keyword.Below words result = result ≡ below_read w words
 ReadsAs w contexts keyword.AtBase words result = result ≡ at_base_read w words
+ReadsAs w contexts keyword.ChangeHeld words result = result ≡ change_held_read w words
 ReadsAs w contexts other words result =
     result ≡ cond (is_of_contexts other) (context_read contexts other words)
     (cond (is_of_teardowns other) (teardown_read w other words) (file_read w other words))

@@ -17,7 +17,8 @@ abbrev pub kind_read : List ℕ → Result ContextKind Status
 kind_read word =
     cond (bytes_eq word (codes "volume")) (Ok kind.Volume)
     (cond (bytes_eq word (codes "instance")) (Ok kind.Instance)
-    (cond (bytes_eq word (codes "stream")) (Ok kind.Stream) (cond (bytes_eq word (codes "handle")) (Ok kind.Handle) (Err BadRequest))))
+    (cond (bytes_eq word (codes "stream")) (Ok kind.Stream)
+    (cond (bytes_eq word (codes "handle")) (Ok kind.Handle) (cond (bytes_eq word (codes "file")) (Ok kind.File) (Err BadRequest)))))
 
 abbrev pub mode_read : List ℕ → Result SetMode Status
 mode_read word = cond (bytes_eq word (codes "keep")) (Ok mode.Keep) (cond (bytes_eq word (codes "replace")) (Ok mode.Replace) (Err BadRequest))

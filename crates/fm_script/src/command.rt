@@ -3,19 +3,19 @@
 //! that wasn't given is refused: 6, 7, 8, 14, 30 and 25 in this order, and 30 for a worker last.
 
 ghost use Rattle.std.specs.Prelude.{◌≡◌, IfOk, map};
-ghost use Rattle.fm_script.specs.Commands.{at_base_read, begun_from, below_read, request_read, Attaches, Creates, Loads, Mounts, ReadsAs, ReadsCreate, ReadsPlace, SetsUp, attach_at, base_read, collect_read, create_at, create_ids, create_mode_read, go_read, is_create, is_of_contexts, is_of_teardowns, list_read, next_read, option_read, phase_read, registration_read, resume_post_read, setup_at, setup_done_read, setup_ids, takes_bytes, turn_read, with_bytes_read};
+ghost use Rattle.fm_script.specs.Commands.{at_base_read, begun_from, below_read, request_read, span_read, size_read, other_params_read, params_read, change_held_read, Attaches, Creates, Loads, Mounts, ReadsAs, ReadsCreate, ReadsPlace, SetsUp, attach_at, base_read, collect_read, create_at, create_ids, create_mode_read, go_read, is_create, is_of_contexts, is_of_teardowns, list_read, next_read, option_read, phase_read, registration_read, resume_post_read, setup_at, setup_done_read, setup_ids, takes_bytes, turn_read, with_bytes_read};
 ghost use Rattle.fm_words.specs.Numbers.{id_read, number_read};
 ghost use Rattle.fm_script.specs.Tasks.{answered_read, ids_read, numbers_read, one_id, only_instance, only_volume, only_worker, or_bad, turn_in, with_worker, yes_or_no};
 
 use crate::context_command::{read_allocate, read_context_command, read_write_body};
-use crate::file_command::{read_file_command, read_write};
+use crate::file_command::{length_asked, read_file_command, read_major, read_write};
 use crate::ids::{filter_in, instance_in, operation_in, volume_in, worker_in};
 use crate::keyword::Keyword;
 use crate::task::Task;
 use crate::teardown_command::read_teardown_command;
 use crate::verdict_command::{read_plan, read_post, read_pre, read_resume};
 use fm_altitude::Altitude;
-use fm_callback_data::Request;
+use fm_callback_data::{Params, Request};
 use fm_core::{BeginsFrom, State, Step};
 use fm_types::{
     Bytes, ContextMask, CreateMode, CtxId, InstanceId, Name, OpId, OpMask, Registration, RelPath,
@@ -83,6 +83,7 @@ pub fn read_command(
         Keyword::Phase => read_phase(state, words),
         Keyword::Below => read_below(state, words),
         Keyword::AtBase => read_at_base(state, words),
+        Keyword::ChangeHeld => read_change_held(state, words),
         other if is_of_contexts(other) => read_context_command(contexts, other, words),
         other if is_of_teardowns(other) => read_teardown_command(state, other, words),
         other => read_file_command(state, other, words),
@@ -180,6 +181,69 @@ fn read_at_base(state: &State, words: &[&[u8]]) -> Result<Task, Status>
 {
     let asked = read_request(state, words)?;
     begun_from(BeginsFrom::Base, asked)
+}
+
+// `read OFFSET LEN`, without a handle.
+fn read_span(words: &[&[u8]]) -> Result<Params, Status>
+    ensures { result ≡ span_read (map (λ word. word.now) words.now) }
+{
+    let [offset, len] = words else {
+        return Err(Status::BadRequest);
+    };
+    let (offset, len) = numbers(offset, len)?;
+    let len = length_asked(len);
+    Ok(Params::Read { offset, len })
+}
+
+// `setsize N`.
+fn read_size(words: &[&[u8]]) -> Result<Params, Status>
+    ensures { result ≡ size_read (map (λ word. word.now) words.now) }
+{
+    let [size] = words else {
+        return Err(Status::BadRequest);
+    };
+    let size = number(size)?;
+    Ok(Params::SetSize { size })
+}
+
+// `other MAJOR N`.
+fn read_other_params(words: &[&[u8]]) -> Result<Params, Status>
+    ensures { result ≡ other_params_read (map (λ word. word.now) words.now) }
+{
+    let [code, word] = words else {
+        return Err(Status::BadRequest);
+    };
+    let (major, number) = read_major(code, word)?;
+    Ok(Params::Other { major, number })
+}
+
+// The parameters that such words spell.
+fn read_params(keyword: Option<Keyword>, words: &[&[u8]]) -> Result<Params, Status>
+    ensures { result ≡ params_read keyword (map (λ word. word.now) words.now) }
+{
+    match keyword {
+        Some(Keyword::Read) => read_span(words),
+        Some(Keyword::SetSize) => read_size(words),
+        Some(Keyword::Other) => read_other_params(words),
+        _ => Err(Status::BadRequest),
+    }
+}
+
+// `change_held W O PARAMS`: other parameters of a held operation go down.
+fn read_change_held(state: &State, words: &[&[u8]]) -> Result<Task, Status>
+    ensures { result ≡ change_held_read state.now (map (λ word. word.now) words.now) }
+{
+    let [worker, operation, word, words @ ..] = words else {
+        return Err(Status::BadRequest);
+    };
+    let (worker, operation) = two_ids(b'w', worker, b'o', operation)?;
+    let params = read_params(Keyword::read(word), words)?;
+    let (worker, operation) = turn_in(state, worker, operation)?;
+    Ok(Task::Event(Step::ChangeHeld {
+        worker,
+        operation,
+        params,
+    }))
 }
 
 // Whether the command is on contexts.

@@ -278,6 +278,8 @@ fn read_kind(word: &[u8]) -> Result<ContextKind, Status>
         Ok(ContextKind::Stream)
     } else if word == b"handle".as_slice() {
         Ok(ContextKind::Handle)
+    } else if word == b"file".as_slice() {
+        Ok(ContextKind::File)
     } else {
         Err(Status::BadRequest)
     }

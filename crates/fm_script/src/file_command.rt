@@ -1,15 +1,15 @@
 //! The commands on files and on the device.
 
 ghost use Rattle.std.specs.Prelude.{◌≡◌, map};
-ghost use Rattle.fm_script.specs.FileCommands.{asked, fail_read, failures_read, file_read, handle_and_number, length_asked, only_asked, read_read, set_size_read, with_handle, write_read};
+ghost use Rattle.fm_script.specs.FileCommands.{asked, fail_read, failures_read, file_read, handle_and_number, length_asked, major_read, only_asked, other_on_volume_read, other_read, read_read, set_size_read, with_handle, write_read};
 
 use crate::command::{id, number, numbers};
-use crate::ids::handle_in;
+use crate::ids::{handle_in, volume_in};
 use crate::keyword::Keyword;
 use crate::task::Task;
 use fm_callback_data::{FileRequest, Request};
 use fm_core::{State, Step};
-use fm_types::{Bytes, HandleId, Status};
+use fm_types::{Bytes, HandleId, Major, Status};
 
 /// What the words behind the keyword of a command on a handle or on the device stand for.
 pub(crate) fn read_file_command(
@@ -26,6 +26,8 @@ pub(crate) fn read_file_command(
         Keyword::Flush => only_asked(state, words, FileRequest::Flush),
         Keyword::Delete | Keyword::SetDelete => { only_asked(state, words, FileRequest::SetDelete) }
         Keyword::Restore => only_asked(state, words, FileRequest::Restore),
+        Keyword::Other => read_other(state, words),
+        Keyword::OtherV => read_other_on_volume(state, words),
         Keyword::Cleanup => only_asked(state, words, FileRequest::Cleanup),
         Keyword::Close => only_asked(state, words, FileRequest::Close),
         Keyword::Fail => read_fail(words),
@@ -89,6 +91,45 @@ pub(crate) fn read_write(state: &State, words: &[&[u8]], bytes: Bytes) -> Result
     Ok(Task::Event(Step::Begin(Request::OnHandle { handle, request })))
 }
 
+/// A major function by the kit's number, and what stands for its parameters.
+#[tactic(auto, unfolding(crate::specs::FileCommands::major_read))]
+pub(crate) fn read_major(code: &[u8], word: &[u8]) -> Result<(Major, u64), Status>
+    ensures { result ≡ major_read code.now word.now }
+{
+    let (code, number) = numbers(code, word)?;
+    let major = Major::at(code).ok_or(Status::BadRequest)?;
+    Ok((major, number))
+}
+
+// `other H MAJOR N`: what a major function without a kind of its own asks of a handle.
+fn read_other(state: &State, words: &[&[u8]]) -> Result<Task, Status>
+    ensures { result ≡ other_read state.now (map (λ word. word.now) words.now) }
+{
+    let [handle, code, word] = words else {
+        return Err(Status::BadRequest);
+    };
+    let handle = id(b'h', handle)?;
+    let (major, number) = read_major(code, word)?;
+    asked(state, handle, FileRequest::Other { major, number })
+}
+
+// `otherv V MAJOR N`: and of a volume.
+fn read_other_on_volume(state: &State, words: &[&[u8]]) -> Result<Task, Status>
+    ensures { result ≡ other_on_volume_read state.now (map (λ word. word.now) words.now) }
+{
+    let [volume, code, word] = words else {
+        return Err(Status::BadRequest);
+    };
+    let volume = id(b'v', volume)?;
+    let (major, number) = read_major(code, word)?;
+    let volume = volume_in(state, volume)?;
+    Ok(Task::Event(Step::Begin(Request::OnVolume {
+        volume,
+        major,
+        number,
+    })))
+}
+
 // `fail N`.
 fn read_fail(words: &[&[u8]]) -> Result<Task, Status>
     ensures { result ≡ fail_read (map (λ word. word.now) words.now) }
@@ -128,8 +169,8 @@ fn asked(state: &State, handle: u64, request: FileRequest) -> Result<Task, Statu
     Ok(Task::Event(Step::Begin(Request::OnHandle { handle, request })))
 }
 
-// A length past all bounds stands for one that is past the limit, so that the event refuses it.
-fn length_asked(len: u64) -> u32
+/// A length past all bounds stands for one that is past the limit, so that the event refuses it.
+pub(crate) fn length_asked(len: u64) -> u32
     ensures { result ≡ length_asked len }
 {
     u32::try_from(len).unwrap_or(u32::MAX)

@@ -71,6 +71,9 @@ pub enum Keyword {
     /// `delete` by the word of requests.
     SetDelete,
     Restore,
+    Other,
+    OtherV,
+    ChangeHeld,
     Below,
     AtBase,
 }
@@ -97,6 +100,7 @@ fn beginning_with(letter: u8) -> &'static [Keyword]
             Keyword::Close,
             Keyword::Complete,
             Keyword::Completed,
+            Keyword::ChangeHeld,
         ],
         b's' => &[
             Keyword::Setup,
@@ -138,6 +142,7 @@ fn beginning_with(letter: u8) -> &'static [Keyword]
         b'q' => &[Keyword::Query, Keyword::Queried, Keyword::QuerySize],
         b'u' => &[Keyword::Unload, Keyword::Unloaded],
         b'e' => &[Keyword::Enter, Keyword::EmptyF, Keyword::EmptyV],
+        b'o' => &[Keyword::Other, Keyword::OtherV],
         _ => &[],
     }
 }
@@ -154,7 +159,7 @@ fn spelled(keywords: &[Keyword], word: &[u8]) -> Option<Keyword>
 
 impl Keyword {
     /// All of them.
-    pub const ALL: [Keyword; 65] = [
+    pub const ALL: [Keyword; 68] = [
         Keyword::Load,
         Keyword::Mount,
         Keyword::Attach,
@@ -218,6 +223,9 @@ impl Keyword {
         Keyword::QuerySize,
         Keyword::SetDelete,
         Keyword::Restore,
+        Keyword::Other,
+        Keyword::OtherV,
+        Keyword::ChangeHeld,
         Keyword::Below,
         Keyword::AtBase,
     ];
@@ -309,6 +317,9 @@ impl Keyword {
             Keyword::QuerySize => b"querysize",
             Keyword::SetDelete => b"setdelete",
             Keyword::Restore => b"restore",
+            Keyword::Other => b"other",
+            Keyword::OtherV => b"otherv",
+            Keyword::ChangeHeld => b"change_held",
             Keyword::Below => b"below",
             Keyword::AtBase => b"atbase",
         }

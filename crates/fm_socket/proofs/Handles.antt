@@ -17,3 +17,4 @@ pub refused_keeps : (asked : Request) (status : Status) (information : ℕ) (old
 refused_keeps (request.Create volume path mode) status information old new refused same = record { opened = λ is. absurd (refused is); refused = λ _. same }
 refused_keeps (request.OnHandle handle what) status information old new refused same = on_handle (is_close what) handle status old new refused same
 refused_keeps (request.List volume) status information old new refused same = same
+refused_keeps (request.OnVolume volume major number) status information old new refused same = same

@@ -53,6 +53,7 @@ abbrev pub HandlesAfter : Request → Status → ℕ → List HandleId → List 
 HandlesAfter (request.Create volume path mode) status information old new = OpensHandle status information old new
 HandlesAfter (request.OnHandle handle what) status information old new = HandlesOn handle what status old new
 HandlesAfter (request.List volume) status information old new = new ≡ old
+HandlesAfter (request.OnVolume volume major number) status information old new = new ≡ old
 
 -- the same of a reply
 abbrev pub HandlesBy : Request → Reply → List HandleId → List HandleId → Type 0

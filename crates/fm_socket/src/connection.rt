@@ -35,7 +35,9 @@ pub(crate) struct Connection<'a, F: Drop, L: Ledger, R: Wait, D: Device> {
 // The volume that an operation is of: a handle's is the only one that there is.
 fn volume_of(request: &Request) -> VolumeId {
     match request {
-        Request::Create { volume, .. } | Request::List { volume } => *volume,
+        Request::Create { volume, .. }
+        | Request::List { volume }
+        | Request::OnVolume { volume, .. } => *volume,
         Request::OnHandle { .. } => VOLUME,
     }
 }

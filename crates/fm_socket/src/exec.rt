@@ -65,7 +65,7 @@ pub(crate) fn is_foreign(handles: &[HandleId], request: &Request) -> bool
 {
     match request {
         Request::OnHandle { handle, request: _ } => !has(handles, *handle),
-        Request::Create { .. } | Request::List { .. } => false,
+        Request::Create { .. } | Request::List { .. } | Request::OnVolume { .. } => false,
     }
 }
 
@@ -220,7 +220,9 @@ impl<F: Callbacks, L: Ledger, R: Wait + Clock, D: Device> ManagerExec<'_, F, L, 
         match request {
             Request::Create { .. } => self.create(request),
             Request::OnHandle { handle, request } => self.on_handle(handle, request),
-            Request::List { .. } => ask(&mut self.worker, &self.line, request),
+            Request::List { .. } | Request::OnVolume { .. } => {
+                ask(&mut self.worker, &self.line, request)
+            }
         }
     }
 

@@ -100,7 +100,7 @@ where
     }
 }
 
-/// `front_with` the six samples under their names.
+/// `front_with` the samples under their names.
 pub fn front<R, D, W>(rt: &R, alloc: Global, endpoint: Result<Endpoint<D>, Fault>, out: W) -> u8
 where
     R: Threads + Wait + Sync + Clock,

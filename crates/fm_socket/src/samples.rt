@@ -1,10 +1,10 @@
 //! The filters that the server has ready to load.
 
-use fm_samples::{Carry, Guard, Hold, Meter, Sample, Shift, Stay};
+use fm_samples::{Carry, Guard, Hold, Meter, Sample, Scan, Shift, Stay};
 use fm_types::{Name, Status};
 use std::alloc::Global;
 
-/// The six samples under their names. Refused with 1, if memory is refused.
+/// The seven samples under their names. Refused with 1, if memory is refused.
 pub(crate) fn samples(alloc: Global) -> Result<Vec<(Name, Sample)>, Status> {
     let mut filters = Vec::new(alloc);
     filters.push((Name::read(b"guard")?, Sample::Guard(Guard)))?;
@@ -13,5 +13,6 @@ pub(crate) fn samples(alloc: Global) -> Result<Vec<(Name, Sample)>, Status> {
     filters.push((Name::read(b"hold")?, Sample::Hold(Hold)))?;
     filters.push((Name::read(b"carry")?, Sample::Carry(Carry::new(alloc))))?;
     filters.push((Name::read(b"stay")?, Sample::Stay(Stay)))?;
+    filters.push((Name::read(b"scan")?, Sample::Scan(Scan::new(alloc))))?;
     Ok(filters)
 }

@@ -496,7 +496,7 @@ where
         listener,
         bell,
     } = endpoint;
-    let (queue, mut passes) = match JobQueue::new(alloc, JOBS, WORKERS) {
+    let (queue, mut passes) = match JobQueue::new(alloc, JOBS, 2 * WORKERS) {
         Ok(made) => made,
         Err(status) => return Err((status, out)),
     };

@@ -46,7 +46,9 @@ impl LineRequest {
 // What a request names.
 fn subject_of(request: &Request) -> Facts {
     match request {
-        Request::Create { volume, .. } | Request::List { volume } => Facts {
+        Request::Create { volume, .. }
+        | Request::List { volume }
+        | Request::OnVolume { volume, .. } => Facts {
             volume: Some(u64::from(volume.0)),
             ..Facts::none()
         },

@@ -1,5 +1,6 @@
 pub mod Statuses
 pub mod Refusals
+pub mod Majors
 pub mod Masks
 pub mod Texts
 pub mod Names

@@ -1,10 +1,11 @@
 -- Sets of operations and of kinds of contexts, as bits.
 use Rattle.std.specs.Prelude.{◌≡◌, ℕ, Bool, true, false, ◌==◌}
 use Rattle.std.specs.Int.RustNames.{bit_and}
+use Rattle.fm_types.specs.Majors.{major_bit}
 use Rattle.fm_types.specs.declared.operation.Operation.{Operation}
-use Rattle.fm_types.specs.declared.operation.Operation.TheVariants.{Create, Read, Write, QuerySize, SetSize, Flush, List, SetDelete, Restore, Cleanup, Close}
+use Rattle.fm_types.specs.declared.operation.Operation.TheVariants.{Create, Read, Write, QuerySize, SetSize, Flush, List, SetDelete, Restore, Cleanup, Close, Other}
 use Rattle.fm_types.specs.declared.context_kind.ContextKind.{ContextKind}
-use Rattle.fm_types.specs.declared.context_kind.ContextKind.TheVariants.{Volume, Instance, Stream, Handle}
+use Rattle.fm_types.specs.declared.context_kind.ContextKind.TheVariants.{Volume, Instance, Stream, Handle, File}
 
 -- the bit of an operation in a set of operations
 abbrev pub operation_bit : Operation → ℕ
@@ -19,6 +20,7 @@ operation_bit SetDelete = 128
 operation_bit Restore = 1024
 operation_bit Cleanup = 256
 operation_bit Close = 512
+operation_bit (Other m) = major_bit m
 
 -- whether a set of operations has that one
 abbrev pub has_operation : ℕ → Operation → Bool
@@ -38,6 +40,7 @@ context_bit Volume = 1
 context_bit Instance = 2
 context_bit Stream = 4
 context_bit Handle = 8
+context_bit File = 16
 
 -- whether a set of kinds has that one
 abbrev pub has_context : ℕ → ContextKind → Bool

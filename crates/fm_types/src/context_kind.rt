@@ -1,4 +1,4 @@
-//! The four kinds of objects that a filter's contexts may be set on, and sets of them.
+//! The five kinds of objects that a filter's contexts may be set on, and sets of them.
 
 ghost use Rattle.std.specs.Prelude.{⊤, ◌≡◌, ◌<◌, ◌^◌, [], ◌∷◌, codes};
 ghost use Rattle.fm_types.specs.Masks.{context_bit, has_context, HasEveryContext, HasNoContext};
@@ -12,6 +12,7 @@ pub enum ContextKind {
     Instance,
     Stream,
     Handle,
+    File,
 }
 
 /// A set of kinds of contexts (the entries of `FLT_CONTEXT_REGISTRATION`).
@@ -24,6 +25,7 @@ bitflag_items! {
         const INSTANCE = 2;
         const STREAM = 4;
         const HANDLE = 8;
+        const FILE = 16;
     }
 }
 
@@ -32,7 +34,7 @@ impl Flags for ContextMask {
 
     ghost exact = { ⊤ };
 
-    ghost table = { (codes "VOLUME", 1) ∷ (codes "INSTANCE", 2) ∷ (codes "STREAM", 4) ∷ (codes "HANDLE", 8) ∷ [] };
+    ghost table = { (codes "VOLUME", 1) ∷ (codes "INSTANCE", 2) ∷ (codes "STREAM", 4) ∷ (codes "HANDLE", 8) ∷ (codes "FILE", 16) ∷ [] };
 
     ghost set_of = { λ mask. mask.0 };
 
@@ -51,7 +53,7 @@ impl Flags for ContextMask {
 
 impl ContextMask {
     /// Every kind of context.
-    pub const ALL: ContextMask = ContextMask(15);
+    pub const ALL: ContextMask = ContextMask(31);
 
     /// No kind of context.
     pub const NONE: ContextMask = ContextMask(0);
@@ -65,13 +67,14 @@ impl ContextMask {
             ContextKind::Instance => ContextMask::INSTANCE,
             ContextKind::Stream => ContextMask::STREAM,
             ContextKind::Handle => ContextMask::HANDLE,
+            ContextKind::File => ContextMask::FILE,
         }
     }
 
     /// Every kind of context is in `ALL`, none is in `NONE`, and nothing else is in either.
     pub fn laws()
-        ensures all { HasEveryContext ContextMask.ALL.0 × (ContextMask.ALL.0 < 2 ^ 4) }
-        ensures none { HasNoContext ContextMask.NONE.0 × (ContextMask.NONE.0 < 2 ^ 4) }
+        ensures all { HasEveryContext ContextMask.ALL.0 × (ContextMask.ALL.0 < 2 ^ 5) }
+        ensures none { HasNoContext ContextMask.NONE.0 × (ContextMask.NONE.0 < 2 ^ 5) }
     {}
 
     /// Whether that kind of context is in the set.

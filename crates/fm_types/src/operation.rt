@@ -1,9 +1,10 @@
-//! The eleven kinds of operations, and sets of them: what a filter's callbacks are registered for.
+//! The kinds of operations, and sets of them: what a filter's callbacks are registered for.
 
 ghost use Rattle.std.specs.Prelude.{⊤, ◌≡◌, ◌<◌, ◌^◌, [], ◌∷◌, codes};
 ghost use Rattle.fm_types.specs.Roles.{role_of};
 ghost use Rattle.fm_types.specs.Masks.{operation_bit, has_operation, HasEveryOperation, HasNoOperation};
 
+use crate::major::Major;
 use bitflags::{Flag, Flags, bitflag_items};
 
 /// A kind of operation on a volume, as the major function of a callback data (`IRP_MJ_CREATE` ..).
@@ -20,6 +21,8 @@ pub enum Operation {
     Restore,
     Cleanup,
     Close,
+    /// Of a major function that the manager steps and doesn't look into: a number stands for its parameters, and what it does is the file system's.
+    Other(Major),
 }
 
 /// What an operation does with the file that it is on.
@@ -51,7 +54,8 @@ impl Operation {
             | Operation::QuerySize
             | Operation::SetSize
             | Operation::Flush
-            | Operation::List => Role::Uses,
+            | Operation::List
+            | Operation::Other(_) => Role::Uses,
             Operation::SetDelete => Role::Marks,
             Operation::Restore => Role::Unmarks,
             Operation::Cleanup => Role::CleansUp,
@@ -73,10 +77,10 @@ pub enum CreateMode {
 
 /// A set of kinds of operations (the entries of `FLT_OPERATION_REGISTRATION`).
 #[derive(Clone, Copy, Debug, PartialEq, Eq)]
-pub struct OpMask(pub u16);
+pub struct OpMask(pub u64);
 
 bitflag_items! {
-    impl OpMask: u16 {
+    impl OpMask: u64 {
         const CREATE = 1;
         const READ = 2;
         const WRITE = 4;
@@ -92,7 +96,7 @@ bitflag_items! {
 }
 
 impl Flags for OpMask {
-    type Bits = u16;
+    type Bits = u64;
 
     ghost exact = { ⊤ };
 
@@ -104,18 +108,18 @@ impl Flags for OpMask {
         OpMask::FLAGS
     }
 
-    fn bits(&self) -> u16 {
+    fn bits(&self) -> u64 {
         self.0
     }
 
-    fn from_bits_retain(bits: u16) -> OpMask {
+    fn from_bits_retain(bits: u64) -> OpMask {
         OpMask(bits)
     }
 }
 
 impl OpMask {
     /// Every kind of operation.
-    pub const ALL: OpMask = OpMask(2047);
+    pub const ALL: OpMask = OpMask(576460752303423487);
 
     /// No kind of operation.
     pub const NONE: OpMask = OpMask(0);
@@ -136,13 +140,14 @@ impl OpMask {
             Operation::Restore => OpMask::RESTORE,
             Operation::Cleanup => OpMask::CLEANUP,
             Operation::Close => OpMask::CLOSE,
+            Operation::Other(major) => OpMask(major.bit()),
         }
     }
 
-    /// Every kind of operation is in `ALL`, none is in `NONE`, and nothing else is in either.
+    /// Every kind of operation is in `ALL`, none is in `NONE`, and both are below 2^59.
     pub fn laws()
-        ensures all { HasEveryOperation OpMask.ALL.0 × (OpMask.ALL.0 < 2 ^ 11) }
-        ensures none { HasNoOperation OpMask.NONE.0 × (OpMask.NONE.0 < 2 ^ 11) }
+        ensures all { HasEveryOperation OpMask.ALL.0 × (OpMask.ALL.0 < 2 ^ 59) }
+        ensures none { HasNoOperation OpMask.NONE.0 × (OpMask.NONE.0 < 2 ^ 59) }
     {}
 
     /// Whether that kind of operation is in the set.

@@ -294,6 +294,11 @@ impl LineContext<'_> {
             Step::ResumePost { worker, operation } => {
                 Event::on(Kind::PostResumed, self.resumed(*worker, *operation))
             }
+            Step::ChangeHeld {
+                worker,
+                operation,
+                ..
+            } => Event::on(Kind::HeldChanged, self.resumed(*worker, *operation)),
             Step::Collect { operation } => self.stands(*operation, said),
             other => self.context_step(other, said),
         }

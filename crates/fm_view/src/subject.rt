@@ -49,6 +49,7 @@ pub fn operation_of(task: &Task, place: Place) -> Option<u64> {
         | Task::Event(
             Step::ResumePre { operation, .. }
             | Step::ResumePost { operation, .. }
+            | Step::ChangeHeld { operation, .. }
             | Step::Collect { operation },
         ) => Some(operation.0),
         _ => operation_in(place),
@@ -107,8 +108,17 @@ pub fn volume_of(task: &Task) -> Option<VolumeId> {
         Task::Attach { volume, .. }
         | Task::Event(
             Step::Attach { volume, .. }
-            | Step::Begin(Request::Create { volume, .. } | Request::List { volume })
-            | Step::BeginFrom(_, Request::Create { volume, .. } | Request::List { volume })
+            | Step::Begin(
+                Request::Create { volume, .. }
+                | Request::List { volume }
+                | Request::OnVolume { volume, .. },
+            )
+            | Step::BeginFrom(
+                _,
+                Request::Create { volume, .. }
+                | Request::List { volume }
+                | Request::OnVolume { volume, .. },
+            )
             | Step::StartDismount { volume }
             | Step::DropHandle { volume }
             | Step::EmptyVolume { volume }

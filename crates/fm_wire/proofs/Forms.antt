@@ -18,11 +18,13 @@ use Rattle.fm_wire.proofs.Bytes.{length-u16, length-u32, length-u64}
 
 pub file_apart : (r : FileRequest) → (file_code r ≢ 1) × (file_code r ≢ 7)
 file_apart file.Cleanup = (λ e. omega arith, λ e. omega arith)
+file_apart (file.Other major number) = (λ e. omega arith, λ e. omega arith)
 file_apart r = (λ e. omega arith, λ e. omega arith)
 
 pub request_codes : (r : Request) → request_code r ≤ 10
 request_codes (request.Create volume path mode) = omega arith
 request_codes (request.OnHandle handle file.Cleanup) = omega arith
+request_codes (request.OnHandle handle (file.Other major number)) = omega arith
 request_codes r = omega arith
 
 pub control_codes : (c : Control) → (16 ≤ control_code c) × (control_code c ≤ 21)
@@ -65,7 +67,9 @@ request_has_size (request.List volume) a b limits = refl
 request_has_size (request.OnHandle handle (file.Read offset len)) a b limits = simp (length-append, length-u64, length-u32)
 request_has_size (request.OnHandle handle (file.Write offset bytes)) a b limits = absurd (b refl)
 request_has_size (request.OnHandle handle (file.SetSize size)) a b limits = simp (length-append, length-u64)
+request_has_size (request.OnVolume volume major number) a b limits = absurd limits
 request_has_size (request.OnHandle handle file.Cleanup) a b limits = absurd limits
+request_has_size (request.OnHandle handle (file.Other major number)) a b limits = absurd limits
 request_has_size (request.OnHandle handle asked) a b limits = simp (length-append, length-u64)
 
 pub request_of_wrong_size : (code : ℕ) (fields : List ℕ) → code ≤ 10 → code ≢ 1 → code ≢ 3 → length fields ≢ request_size code → IsFormless code fields

@@ -20,7 +20,7 @@ use Rattle.fm_callback_data.specs.declared.request.Reply.TheVariants as reply
 use Rattle.fm_wire.specs.declared.frame.Control.{Control}
 use Rattle.fm_wire.specs.declared.frame.Control.TheVariants as control
 use Rattle.fm_wire.specs.declared.frame.Body.TheVariants as body
-use Rattle.fm_wire.specs.Grammar.{Fits, FitsFile, FitsRequest, FitsControl, FitsReply, KeepsLimits, KeepsReplyLimits, HasCount, Says}
+use Rattle.fm_wire.specs.Grammar.{Fits, FitsFile, FitsRequest, FitsControl, FitsReply, KeepsFileLimits, KeepsLimits, KeepsReplyLimits, KeepsRequestLimits, HasCount, Says}
 use Rattle.fm_wire.proofs.Parts.{same_parts, same_u16, same_u32, same_u64}
 use Rattle.fm_wire.proofs.Forms.{file_apart, request_codes, control_codes, reply_codes}
 
@@ -56,35 +56,40 @@ mode_again mode = refl
 one_mode : (a b : CreateMode) → mode_number a ≡ mode_number b → a ≡ b
 one_mode a b e = sym (mode_again a) ∙ ap (λ (n : ℕ). mode_of n) e ∙ mode_again b
 
-one_file : (r s : FileRequest) → file_code r ≡ file_code s → file_fields r ≡ file_fields s → FitsFile r → FitsFile s → r ≡ s
-one_file (file.Read offset len) (file.Read o l) c f x y =
-    let first = same_u64 offset o (bytes_of_u32 len) (bytes_of_u32 l) x.0 y.0 f in
-    rw (first.0, alone_u32 len l x.1 y.1 first.1) refl
-one_file (file.Write offset bytes) (file.Write o b) c f x y = let first = same_u64 offset o bytes b x y f in rw (first.0, first.1) refl
-one_file (file.SetSize size) (file.SetSize s) c f x y = rw (alone_u64 size s x y f) refl
-one_file file.QuerySize file.QuerySize c f x y = refl
-one_file file.Flush file.Flush c f x y = refl
-one_file file.SetDelete file.SetDelete c f x y = refl
-one_file file.Restore file.Restore c f x y = refl
-one_file file.Cleanup file.Cleanup c f x y = refl
-one_file file.Close file.Close c f x y = refl
-one_file _ _ c f x y = absurd (omega arith)
+one_file : (r s : FileRequest) → file_code r ≡ file_code s → file_fields r ≡ file_fields s → FitsFile r → FitsFile s → KeepsFileLimits r → KeepsFileLimits s → r ≡ s
+one_file (file.Read offset len) (file.Read o n) c f x y k l =
+    let first = same_u64 offset o (bytes_of_u32 len) (bytes_of_u32 n) x.0 y.0 f in
+    rw (first.0, alone_u32 len n x.1 y.1 first.1) refl
+one_file (file.Write offset bytes) (file.Write o b) c f x y k l = let first = same_u64 offset o bytes b x y f in rw (first.0, first.1) refl
+one_file (file.SetSize size) (file.SetSize s) c f x y k l = rw (alone_u64 size s x y f) refl
+one_file file.QuerySize file.QuerySize c f x y k l = refl
+one_file file.Flush file.Flush c f x y k l = refl
+one_file file.SetDelete file.SetDelete c f x y k l = refl
+one_file file.Restore file.Restore c f x y k l = refl
+one_file file.Cleanup s c f x y k l = absurd k
+one_file (file.Other major number) s c f x y k l = absurd k
+one_file r file.Cleanup c f x y k l = absurd l
+one_file r (file.Other major number) c f x y k l = absurd l
+one_file file.Close file.Close c f x y k l = refl
+one_file _ _ c f x y k l = absurd (omega arith)
 
-one_request : (r s : Request) → request_code r ≡ request_code s → request_fields r ≡ request_fields s → FitsRequest r → FitsRequest s → r ≡ s
-one_request (request.Create volume path mode) (request.Create w q n) c f x y =
+one_request : (r s : Request) → request_code r ≡ request_code s → request_fields r ≡ request_fields s → FitsRequest r → FitsRequest s → KeepsRequestLimits r → KeepsRequestLimits s → r ≡ s
+one_request (request.Create volume path mode) (request.Create w q n) c f x y k l =
     let v : volume ≡ w = volume_is volume w cc in
     let m : mode ≡ n = one_mode mode n cc in
     let p : path ≡ q = cc in
     rw (v, m, p) refl
-one_request (request.List volume) (request.List w) c f x y = rw (volume_is volume w cc) refl
-one_request (request.OnHandle handle r) (request.OnHandle h s) c f x y =
+one_request (request.OnVolume volume major number) s c f x y k l = absurd k
+one_request r (request.OnVolume volume major number) c f x y k l = absurd l
+one_request (request.List volume) (request.List w) c f x y k l = rw (volume_is volume w cc) refl
+one_request (request.OnHandle handle r) (request.OnHandle h s) c f x y k l =
     let first = same_u64 handle.0 h.0 (file_fields r) (file_fields s) x.0 y.0 f in
-    rw (handle_is handle h first.0, one_file r s c first.1 x.1 y.1) refl
-one_request (request.OnHandle handle r) (request.Create w q n) c f x y = absurd ((file_apart r).0 c)
-one_request (request.OnHandle handle r) (request.List w) c f x y = absurd ((file_apart r).1 c)
-one_request (request.Create w q n) (request.OnHandle handle r) c f x y = absurd ((file_apart r).0 (sym c))
-one_request (request.List w) (request.OnHandle handle r) c f x y = absurd ((file_apart r).1 (sym c))
-one_request _ _ c f x y = absurd (omega arith)
+    rw (handle_is handle h first.0, one_file r s c first.1 x.1 y.1 k l) refl
+one_request (request.OnHandle handle r) (request.Create w q n) c f x y k l = absurd ((file_apart r).0 c)
+one_request (request.OnHandle handle r) (request.List w) c f x y k l = absurd ((file_apart r).1 c)
+one_request (request.Create w q n) (request.OnHandle handle r) c f x y k l = absurd ((file_apart r).0 (sym c))
+one_request (request.List w) (request.OnHandle handle r) c f x y k l = absurd ((file_apart r).1 (sym c))
+one_request _ _ c f x y k l = absurd (omega arith)
 
 one_control : (r s : Control) → control_code r ≡ control_code s → control_fields r ≡ control_fields s → FitsControl r → FitsControl s → r ≡ s
 one_control (control.Load name) (control.Load n) c f x y = rw f refl
@@ -128,7 +133,7 @@ one_reply (reply.Held operation) (reply.Held o) c f x y has had = ap (λ (n : �
 one_reply _ _ c f x y has had = absurd (omega arith)
 
 one_body : (a b : Body) → code_of a ≡ code_of b → fields_of a ≡ fields_of b → Fits a → Fits b → KeepsLimits a → KeepsLimits b → a ≡ b
-one_body (body.Operation r) (body.Operation s) c f x y k l = ap (λ (t : Request). body.Operation t) (one_request r s c f x y)
+one_body (body.Operation r) (body.Operation s) c f x y k l = ap (λ (t : Request). body.Operation t) (one_request r s c f x y k l)
 one_body (body.Control r) (body.Control s) c f x y k l = ap (λ (t : Control). body.Control t) (one_control r s c f x y)
 one_body (body.Reply r) (body.Reply s) c f x y k l = ap (λ (t : Reply). body.Reply t) (one_reply r s c f x y k l)
 one_body (body.Operation r) (body.Control s) c f x y k l = let m = request_codes r in let n = control_codes s in absurd (omega arith)

@@ -30,6 +30,7 @@ FitsFile _ = Unit {0}
 abbrev pub FitsRequest : Request → Type 0
 FitsRequest (request.Create volume path mode) = volume.0 < 256
 FitsRequest (request.List volume) = volume.0 < 256
+FitsRequest (request.OnVolume volume major number) = volume.0 < 256
 FitsRequest (request.OnHandle handle asked) = (handle.0 < 2 ^ 64) × FitsFile asked
 
 abbrev pub FitsControl : Control → Type 0
@@ -51,15 +52,17 @@ Fits (body.Control c) = FitsControl c
 Fits (body.Reply r) = FitsReply r
 Fits (body.Refused status) = Unit {0}
 
--- a cleanup may not be said: a close brings it
+-- a cleanup may not be said, since a close brings it, and no major function without a kind of its own
 abbrev pub KeepsFileLimits : FileRequest → Type 0
 KeepsFileLimits (file.Read offset len) = len ≤ 32768
 KeepsFileLimits (file.Write offset bytes) = length bytes ≤ 32768
 KeepsFileLimits file.Cleanup = ⊥
+KeepsFileLimits (file.Other major number) = ⊥
 KeepsFileLimits _ = Unit {0}
 
 abbrev pub KeepsRequestLimits : Request → Type 0
 KeepsRequestLimits (request.OnHandle handle asked) = KeepsFileLimits asked
+KeepsRequestLimits (request.OnVolume volume major number) = ⊥
 KeepsRequestLimits _ = Unit {0}
 
 -- the information beside Busy is Busy's count

@@ -31,7 +31,7 @@ mode_number Existing = 0
 mode_number New = 1
 mode_number Always = 2
 
--- what is asked of a handle: its code, which a cleanup has none of, and the fields behind the handle
+-- what is asked of a handle: its code, which a cleanup and a major function without a kind of its own have none of, and the fields behind the handle
 abbrev pub file_code : FileRequest → ℕ
 file_code (file.Read offset len) = 2
 file_code (file.Write offset bytes) = 3
@@ -42,6 +42,7 @@ file_code file.SetDelete = 8
 file_code file.Close = 9
 file_code file.Restore = 10
 file_code file.Cleanup = 0
+file_code (file.Other major number) = 0
 
 abbrev pub file_fields : FileRequest → List ℕ
 file_fields (file.Read offset len) = bytes_of_u64 offset ++ bytes_of_u32 len
@@ -52,11 +53,13 @@ file_fields _ = []
 abbrev pub request_code : Request → ℕ
 request_code (request.Create volume path mode) = 1
 request_code (request.List volume) = 7
+request_code (request.OnVolume volume major number) = 0
 request_code (request.OnHandle handle asked) = file_code asked
 
 abbrev pub request_fields : Request → List ℕ
 request_fields (request.Create volume path mode) = volume.0 ∷ mode_number mode ∷ path
 request_fields (request.List volume) = volume.0 ∷ []
+request_fields (request.OnVolume volume major number) = volume.0 ∷ []
 request_fields (request.OnHandle handle asked) = bytes_of_u64 handle.0 ++ file_fields asked
 
 abbrev pub control_code : Control → ℕ

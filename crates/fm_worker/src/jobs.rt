@@ -102,7 +102,8 @@ impl<'a, F: Callbacks, L: Ledger, R: Wait, G: CallbackHook, D: Device> Worker<'a
     /// What a worker does until it takes a Stop: it takes jobs and carries their operations on, as far as they go. What callbacks resume becomes a job for any
     /// worker, or is carried on here if the queue is full; contexts that are due are cleaned up after each job. An operation that only another worker may
     /// carry on becomes a job again, or, if the queue is full, waits until it has room. From the first time on to the Stop operations that are its turn alone come
-    /// to it as jobs. At its Stop it carries on what is its turn alone by then, and puts what it had set aside, as far as the queue has room. What becomes its
+    /// to it as jobs. At its Stop it carries on what is its turn alone by then, and puts what it had set aside, as far as the queue has room. While a thread waits for what a
+    /// filter began for itself, and no other worker could carry that on, it works on. What becomes its
     /// turn alone later goes on once it works again, or as a client's does.
     pub fn work(&mut self) {
         let rt = self.shared.rt;
@@ -116,8 +117,41 @@ impl<'a, F: Callbacks, L: Ledger, R: Wait, G: CallbackHook, D: Device> Worker<'a
                 None => thread::yield_now(),
             }
         }
+        self.end_own_waits();
         self.shared.manager.leaves_jobs(&self.own.port.hand);
         self.put_aside();
+    }
+
+    // Takes jobs as long as a thread waits for what a filter began for itself, and no other worker could carry that on.
+    fn end_own_waits(&mut self) {
+        let rt = self.shared.rt;
+        let mut stops = 0_usize;
+        'jobs: for _ in rt.forever() {
+            if self.may_stop() {
+                break 'jobs;
+            }
+            match self.shared.queue.try_take(rt, &mut self.own.pass) {
+                Some(Job::Stop) => stops = stops.saturating_add(1),
+                Some(Job::Run(operation)) => self.carry_here(operation),
+                None => thread::yield_now(),
+            }
+        }
+        self.put_stops(stops);
+    }
+
+    // Whether no such thread needs this worker. From then on none relies on it.
+    fn may_stop(&self) -> bool {
+        let shared = &self.shared;
+        shared
+            .manager
+            .may_leave_jobs(shared.rt, &self.own.port.hand)
+    }
+
+    // Puts the Stops of other workers back, which came meanwhile.
+    fn put_stops(&mut self, stops: usize) {
+        for _ in 0..stops {
+            self.stop_worker();
+        }
     }
 
     // The job in front. It waits for one where none is queued, unless something is set aside here, of which nobody else knows: then there may be none.

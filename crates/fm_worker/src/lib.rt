@@ -11,6 +11,7 @@ mod instances;
 mod jobs;
 mod op_queue;
 mod own;
+mod own_jobs;
 mod port;
 mod routines;
 mod shared;

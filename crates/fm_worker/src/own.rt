@@ -4,6 +4,7 @@ ghost use Rattle.std.specs.Prelude.{◌≡◌};
 ghost use Rattle.fm_worker.specs.Ports.{WaitsOr};
 
 use crate::op_queue::OpQueue;
+use crate::own_jobs::OwnJobs;
 use crate::port::HandPort;
 use fm_device::Device;
 use fm_lock::{Hand, Manager};
@@ -31,13 +32,14 @@ pub(crate) struct WaitingOperations {
 }
 
 impl<'a, F: Drop, L: Ledger, R: Wait, D: Device> Own<'a, F, L, R, D> {
-    /// A thread's own: with its hand, its pass, its devices, room for what its callbacks resume, for jobs that are set aside and for operations that may become
+    /// A thread's own: with its hand, its pass, the one for what filters begin for themselves, its devices, room for what its callbacks resume, for jobs that are set aside and for operations that may become
     /// its turn alone.
     pub(crate) fn new(
         rt: &'a R,
         manager: &'a Manager<F, L>,
         hand: Hand<L>,
         pass: JobPass,
+        own_jobs: OwnJobs<'a>,
         devices: D,
         resumed: OpQueue,
         aside: OpQueue,
@@ -56,6 +58,7 @@ impl<'a, F: Drop, L: Ledger, R: Wait, D: Device> Own<'a, F, L, R, D> {
                 manager,
                 hand,
                 resumed,
+                own_jobs,
             },
             pass,
             devices,

@@ -4,24 +4,26 @@ ghost use Rattle.std.specs.Prelude.{◌≡◌};
 ghost use Rattle.fm_worker.specs.Ports.{lacks_room};
 
 use crate::op_queue::OpQueue;
-use fm_callback_data::PreVerdict;
+use crate::own_jobs::OwnJobs;
+use fm_callback_data::{Answer, PreVerdict, Request};
 use fm_ctx::SetMode;
 use fm_filter::Port;
 use fm_lock::{Hand, Manager};
 use fm_operations::Hold;
-use fm_types::{Bytes, ContextKind, CtxId, OpId, Status};
-use fm_world::{About, SetAnswer};
+use fm_types::{Bytes, ContextKind, CtxId, InstanceId, OpId, Status};
+use fm_world::{About, BeginsFrom, SetAnswer};
 use std::sync::Wait;
 use std::sync::ledger::Ledger;
 
-/// The port of the callbacks that one thread makes: its hand, and room for what they resume. Each call is one event of the manager, by the hand.
-/// A thread has one for its whole life.
+/// The port of the callbacks that one thread makes: its hand, room for what they resume, and the queue for what their filters begin for themselves. Each call
+/// but `perform` is one event of the manager, by the hand. A thread has one for its whole life.
 #[derive(Drop)]
 pub struct HandPort<'a, F: Drop, L: Ledger, R: Wait> {
     pub(crate) rt: &'a R,
     pub(crate) manager: &'a Manager<F, L>,
     pub(crate) hand: Hand<L>,
     pub(crate) resumed: OpQueue,
+    pub(crate) own_jobs: OwnJobs<'a>,
 }
 
 impl<'a, F: Drop, L: Ledger, R: Wait> HandPort<'a, F, L, R> {
@@ -30,6 +32,17 @@ impl<'a, F: Drop, L: Ledger, R: Wait> HandPort<'a, F, L, R> {
         ensures { result ≡ lacks_room operation self.now.resumed }
     {
         self.resumed.is_full() && !self.resumed.has(operation)
+    }
+
+    // Begins an operation below an instance, has a worker carry it on, and waits for its answer.
+    fn answer_below(&mut self, instance: InstanceId, request: Request) -> Result<Answer, Status>
+        ensures hand { self.new.hand ≡ self.old.hand }
+        ensures resumed { self.new.resumed ≡ self.old.resumed }
+    {
+        let from = BeginsFrom::Below(instance);
+        let operation = self.manager.begin_from(self.rt, from, request)?;
+        self.own_jobs.put(self.rt, operation);
+        self.manager.wait_reply(self.rt, operation)
     }
 }
 
@@ -65,6 +78,8 @@ impl<'a, F: Drop, L: Ledger, R: Wait> Port for HandPort<'a, F, L, R> {
     ghost resumes_pre = { λ old operation verdict result new. ResumesPre verdict operation old.hand old.resumed result new.hand new.resumed };
 
     ghost resumes_post = { λ old operation result new. ResumesPost operation old.hand old.resumed result new.hand new.resumed };
+
+    ghost performs = { λ old request result new. (new.hand ≡ old.hand) × (new.resumed ≡ old.resumed) };
 
     ghost hand = { λ port. None };
 
@@ -138,5 +153,15 @@ impl<'a, F: Drop, L: Ledger, R: Wait> Port for HandPort<'a, F, L, R> {
             .resume_post(self.rt, &mut self.hand, operation)?;
         self.resumed.put(operation);
         Ok(())
+    }
+
+    fn perform(&mut self, request: Request) -> Result<Answer, Status> {
+        let instance = self.about()?.instance;
+        if !self.manager.begins_own_wait(self.rt, &self.hand) {
+            return Err(Status::TooMany);
+        }
+        let answer = self.answer_below(instance, request);
+        self.manager.ends_own_wait(&self.hand);
+        answer
     }
 }

@@ -7,6 +7,7 @@ ghost use Rattle.fm_worker.specs.Between.{IsFree};
 use crate::hook::CallbackHook;
 use crate::op_queue::OpQueue;
 use crate::own::Own;
+use crate::own_jobs::OwnJobs;
 use crate::shared::WorkerShared;
 use fm_callback_data::{Answer, Request};
 use fm_device::Device;
@@ -38,9 +39,9 @@ fn take_pass(queue: &JobQueue, passes: &mut Vec<JobPass>) -> Option<JobPass>
 }
 
 impl<'a, F: Callbacks, L: Ledger, R: Wait, G: CallbackHook, D: Device> Worker<'a, F, L, R, G, D> {
-    /// A worker at a manager, its queue and the hook before callbacks: with a hand that is hired for it, the last of those passes, these devices, and memory
-    /// for operations that wait at it. Refused with 29 if no pass is left or all hands are out, and with 1 if memory is refused; a pass that was taken by then
-    /// is dropped.
+    /// A worker at a manager, its queue and the hook before callbacks: with a hand that is hired for it, the last two of those passes, these devices, and memory
+    /// for operations that wait at it. Refused with 29 if no two passes are left or all hands are out, and with 1 if memory is refused; passes that were taken
+    /// by then are dropped.
     pub fn new(
         rt: &'a R,
         manager: &'a Manager<F, L>,
@@ -59,6 +60,10 @@ impl<'a, F: Callbacks, L: Ledger, R: Wait, G: CallbackHook, D: Device> Worker<'a
         let Some(pass) = take_pass(queue, passes) else {
             return Err(Status::TooMany);
         };
+        let Some(own_pass) = take_pass(queue, passes) else {
+            return Err(Status::TooMany);
+        };
+        let own_jobs = OwnJobs::new(queue, own_pass);
         let hand = manager.hire(rt)?;
         Ok(Worker {
             shared: WorkerShared {
@@ -67,7 +72,9 @@ impl<'a, F: Callbacks, L: Ledger, R: Wait, G: CallbackHook, D: Device> Worker<'a
                 queue,
                 hook,
             },
-            own: Own::new(rt, manager, hand, pass, devices, resumed, aside, bound),
+            own: Own::new(
+                rt, manager, hand, pass, own_jobs, devices, resumed, aside, bound,
+            ),
         })
     }
 

@@ -6,7 +6,7 @@ use Rattle.fm_world.proofs.Words.{link_fits, may_link, owner_fits, place_in, row
 use Rattle.fm_world.proofs.Words.{Owner, Slot, StackWorld, WorkerId, hand_of, owed, updated, worker_at, Place, All, Bool, List, None, Option, Some, [], ap}
 use Rattle.fm_world.proofs.Words.{arith, cond, false, get_or, inl, inr, is_some, length, map, option_and_then, option_map, refl, slice_get, slice_set, subst}
 use Rattle.fm_world.proofs.Words.{sym, true, ℕ, ◌<◌, ◌==◌, ◌||◌, ◌∙◌, ◌∷◌, ◌≡◌, ◌≢◌, ◌≤◌, cases_eq, false≢true, common_steps, All-cons, All-head, All-map}
-use Rattle.fm_world.proofs.Words.{All-nil, All-tail, none-some}
+use Rattle.fm_world.proofs.Words.{All-nil, All-tail, All-weaker, get_or-set_other, get_or-set_same, none-some}
 use Rattle.fm_world.proofs.Cases.{by_bool, by_option}
 
 -- ---- contexts keep their kind and owner
@@ -99,12 +99,32 @@ pub all_hold_still : (s : StackWorld) (old : List Slot) (t : StackWorld) (new : 
     → BelongsStill s old t new → AllHold s old workers hands → AllHold t new workers hands
 all_hold_still s old t new workers hands h6 h7 = grind arith
 
+holds_still : (s : StackWorld) (old : List Slot) (t : StackWorld) (new : List Slot) → BelongsStill s old t new → (m : Option InstanceId) (c : CtxId)
+    → HoldsIn s old m c → HoldsIn t new m c
+holds_still s old t new still None c h = h
+holds_still s old t new still (Some i) c h = still i c h
+
+hold_set : (P Q : Option Place → CtxId → Type 0) (workers after : List Place) (hands : List (List CtxId)) (w : ℕ) (hand : List CtxId) → w < length hands
+    → ((m : Option Place) (c : CtxId) → P m c → Q m c) → ((k : ℕ) → k ≢ w → slice_get after k ≡ slice_get workers k) → All (Q (slice_get after w)) hand
+    → ((k : WorkerId) → All (P (worker_at workers k)) (hand_of hands k.0)) → (k : WorkerId) → All (Q (worker_at after k)) (hand_of (slice_set hands w hand) k.0)
+hold_set P Q workers after hands w hand inside still stays here all k = elim (cases_eq k.0 w) [
+  | inl same ↦
+      let own = ap (hand_of (slice_set hands w hand)) same ∙ get_or-set_same hands w hand [] inside in
+      subst (λ (cs : List CtxId). All (Q (slice_get after k.0)) cs) (sym own) (subst (λ n. All (Q (slice_get after n)) hand) (sym same) here)
+  | inr apart ↦
+      subst (λ (cs : List CtxId). All (Q (slice_get after k.0)) cs) (sym (get_or-set_other hands w k.0 hand [] apart))
+      (subst (λ m. All (Q m) (hand_of hands k.0)) (sym (stays k.0 apart))
+      (All-weaker (P (worker_at workers k)) (Q (worker_at workers k)) (λ c h. still (worker_at workers k) c h) (hand_of hands k.0) (all k)))
+]
+
 -- one worker goes elsewhere, with another hand; all others stay
 pub all_hold : (s : StackWorld) (old : List Slot) (t : StackWorld) (new : List Slot) (workers after : List Place)
     (hands : List (List CtxId)) (w : ℕ) (hand : List CtxId)
     → w < length hands → BelongsStill s old t new → ((k : ℕ) → k ≢ w → slice_get after k ≡ slice_get workers k)
     → All (HoldsIn t new (place_in (slice_get after w))) hand → AllHold s old workers hands → AllHold t new after (slice_set hands w hand)
-all_hold s old t new workers after hands w hand h9 h10 h11 h12 h13 = grind (arith, common_steps)
+all_hold s old t new workers after hands w hand inside still stays here all =
+    hold_set (λ m. HoldsIn s old (place_in m)) (λ m. HoldsIn t new (place_in m)) workers after hands w hand inside
+    (λ m c. holds_still s old t new still (place_in m) c) stays here all
 
 -- ---- completions
 

@@ -59,7 +59,7 @@ new_begun old v stream handle path p s =
 pub begun_there : (lower : Bool) (old : World) (what : Request) → begin_refused_at lower old what ≡ None → IsSound old
     → HasNew old (after_begin old what) × ((after_begin old what).stack ≡ old.stack)
 begun_there lower old what free s = begun_by (λ w. HasNew old w × (w.stack ≡ old.stack)) lower old what free
-    (λ v room. (new_begun old v None None None Params.List s, refl))
+    (λ v p none within room. (new_begun old v None None None p s, refl))
     (λ v path mode room. (new_begun old v _ None (Some path) (Params.Create path mode) s, refl))
     (λ h p x y none at within room. (new_begun old y.volume (Some x.stream) (Some h) (Some y.path) p s, refl))
 

@@ -25,6 +25,7 @@ pub mod Initiators
 pub mod Turns
 pub mod Returns
 pub mod Resumes
+pub mod Changing
 pub mod Staying
 pub mod Draining
 pub mod Detaching

@@ -21,6 +21,8 @@ use Rattle.fm_world.proofs.Cases.{by_bool}
 use Rattle.fm_world.proofs.Events.{memory_by}
 use Rattle.fm_world.proofs.Filed.{sound_from, stands_in, stands_same}
 use Rattle.fm_world.proofs.Filing.{Shrinks, shrinks_same}
+use Rattle.fm_callback_data.specs.Requests.{params_of}
+use Rattle.fm_callback_data.specs.declared.request.FileRequest.{FileRequest}
 use Rattle.fm_world.proofs.Flowing.{asks_of, carried_changed, carry_changed, flow_owned, quieter}
 use Rattle.fm_world.proofs.Losing.{created_there, moved_there, named_more}
 use Rattle.fm_world.proofs.Operations.{AreInStep, in_step}
@@ -51,14 +53,26 @@ asked_begun_by : (P : World → Type 0) (lower : Bool) (old : World) (h : Handle
     → P (begun_on old h p x (Some y))) → P (asked_begun old h p)
 asked_begun_by P lower old h p free event = grind arith
 
--- what begins: a listing, a create, or an operation on a handle
+-- what is asked of a handle is no create
+no_create : (asked : FileRequest) → is_create (operation_of (params_of asked)) ≡ false
+no_create asked = grind arith
+
+-- what begins without a file: a listing, or a major function of a volume
+abbrev pub unnamed_begun : World → VolumeId → Params → World
+unnamed_begun w v p = record w { flow = begun v None None w.stack.births None p w.flow }
+
+-- what begins: without a file, a create, or an operation on a handle
 pub begun_by : (P : World → Type 0) (lower : Bool) (old : World) (what : Request) → begin_refused_at lower old what ≡ None
-    → ((v : VolumeId) → is_full old.flow ≡ false → P (after_begin old (Request.List v)))
+    → ((v : VolumeId) (p : Params) → is_create (operation_of p) ≡ false → is_within_limits p ≡ true → is_full old.flow ≡ false → P (unnamed_begun old v p))
     → ((v : VolumeId) (path : List ℕ) (mode : CreateMode) → is_full old.flow || has_no_handle_left old ≡ false → P (created_begun old v path mode))
     → ((h : HandleId) (p : Params) (x : FileHandle) (y : FileStream) → is_create (operation_of p) ≡ false
     → handle_at h old.files ≡ Some x → is_within_limits p ≡ true
     → is_full old.flow ≡ false → P (begun_on old h p x (Some y))) → P (after_begin old what)
-begun_by P lower old what free lists h5 asks = grind arith
+begun_by P lower old (Request.List v) free lists h5 asks = lists v Params.List refl refl (full_from _ _ (is_full old.flow) free)
+begun_by P lower old (Request.OnVolume v m n) free lists h5 asks = lists v (Params.Other m n) refl refl (full_from _ _ (is_full old.flow) free)
+begun_by P lower old (Request.Create v path mode) free lists h5 asks = h5 v path mode (full_from _ _ (is_full old.flow || has_no_handle_left old) free)
+begun_by P lower old (Request.OnHandle h asked) free lists h5 asks =
+    asked_begun_by P lower old h (params_of asked) free (λ x y at within room. asks h (params_of asked) x y (no_create asked) at within room)
 
 -- ---- an operation comes
 
@@ -143,9 +157,10 @@ stands_begins : (f : FileTable) (t : FlowTable) (r : FlowRecord) → is_creating
     → Stands none_out f (t.operations ++ r ∷ []) (t.next + 1)
 stands_begins f t r none on h = grind (arith, common_steps)
 
--- a listing begins
-file_lists : (f : FileTable) (t : FlowTable) (v : VolumeId) (born : ℕ) → IsFileSound f t → IsFileSound f (begun v None None born None Params.List t)
-file_lists f t v born h = grind (arith, common_steps)
+-- what has no file begins
+file_lists : (f : FileTable) (t : FlowTable) (v : VolumeId) (born : ℕ) (p : Params) → is_create (operation_of p) ≡ false → IsFileSound f t
+    → IsFileSound f (begun v None None born None p t)
+file_lists f t v born p none h = grind (arith, common_steps)
 
 -- an operation on an open handle begins
 file_begins : (f : FileTable) (t : FlowTable) (v : VolumeId) (g : HandleId) (x : FileHandle) (born : ℕ) (name : Option (List ℕ))
@@ -205,10 +220,10 @@ asked_sound lower old h p free none s = asked_begun_by IsSound lower old h p fre
 pub begun_sound : (lower : Bool) (old : World) (what : Request) → begin_refused_at lower old what ≡ None
     → ((after_begin old what).contexts ≡ old.contexts) × (IsSound old → IsSound (after_begin old what))
 begun_sound lower old what free = begun_by (λ w. (w.contexts ≡ old.contexts) × (IsSound old → IsSound w)) lower old what free
-    (λ v room. (
+    (λ v p none within room. (
       refl,
-      λ s. operation_sound old v None None None Params.List old.files refl refl room
-          (file_lists old.files old.flow v old.stack.births s.filed) s.links s,
+      λ s. operation_sound old v None None None p old.files (names_none None p none) within room
+          (file_lists old.files old.flow v old.stack.births p none s.filed) s.links s,
     ))
     (λ v path mode room. (refl, λ s. creates_sound old v path mode room s))
     (λ h p x y none at within room. (refl, λ s. asks_sound old h p x y none at within room s))

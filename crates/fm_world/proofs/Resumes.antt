@@ -52,7 +52,7 @@ held_by w kind o i s h = by_row (operation_at o w.flow) refl h
 
 -- ---- one operation changes, and nobody goes anywhere
 
-step_stays : (w : World) (o : OpId) (r : FlowRecord) (f : FlowRecord → FlowRecord) → operation_at o w.flow ≡ Some r
+pub step_stays : (w : World) (o : OpId) (r : FlowRecord) (f : FlowRecord → FlowRecord) → operation_at o w.flow ≡ Some r
     → ((x : FlowRecord) → Stays x (f x)) → flow.IsSound (f r)
     → is_done r ≡ false → IsAmong w.stack (f r) → is_running r.stage ≡ false → is_running (f r).stage ≡ false
     → ((i : ℕ) → drain_opens i (f r).entries ≡ drain_opens i r.entries) → IsUnderWay w

@@ -11,8 +11,14 @@ use Rattle.fm_world.proofs.Words.{Ask, ContextTable, CtxId, FlowRecord, FlowTabl
 use Rattle.fm_world.proofs.Words.{PostRunning, PreRunning, PreState, Slot, StackWorld, Status, StreamId, WorkerId, changed, hand_of, is_create, one}
 use Rattle.fm_world.proofs.Words.{operation_at, owed, told, cleanup_in, worker_at, World, carries, Place, All, Bool, Err, List, None, Ok, Option, Result, Some}
 use Rattle.fm_world.proofs.Words.{[], ap, arith, cond, false, option_map, refl, slice_get, slice_set, subst, sym, true, ℕ, ◌++◌, ◌+◌, ◌<◌, ◌==◌, ◌∙◌, ◌≡◌, ◌≤◌}
-use Rattle.fm_world.proofs.Words.{and_from, common_steps, set-set, All-nil, same_Some}
+use Rattle.fm_world.proofs.Words.{and_from, and_parts, are_on, common_steps, eqb-true, is_within_limits, length, nat_le, set-set, ◌&&◌, All-nil, same_Some}
 use Rattle.std.proofs.Common.{option_to_list}
+use Rattle.fm_callback_data.specs.Params.{are_for, call_fits, fit, same_operation, same_path}
+use Rattle.fm_types.specs.Majors.{major_bit}
+use Rattle.fm_types.specs.Masks.{operation_bit}
+use Rattle.fm_types.specs.declared.major.Major.{Major}
+use Rattle.fm_types.specs.declared.major.Major.TheVariants as major
+use Rattle.fm_types.specs.declared.operation.Operation.TheVariants as kind
 use Rattle.fm_operations.proofs.Returns.{base_returned_carries, base_returned_flies, drain_returned_carries, drain_returned_flies, post_returned_carries}
 use Rattle.fm_operations.proofs.Returns.{post_returned_flies, pre_returned_carries, pre_returned_flies, sound_base, sound_drain_returned, sound_post_returned}
 use Rattle.fm_operations.proofs.Returns.{sound_pre_returned}
@@ -217,9 +223,27 @@ pre_does old k given lent result new h = by_place (worker_at old.workers k) refl
 
 -- ---- the base's call
 
+-- a create is told by its bit
+apart_create : (m : Major) → false ≡ (major_bit m == 1)
+apart_create major.Pnp = refl
+apart_create _ = refl
+
+create_bit : (k : Operation) → is_create k ≡ (operation_bit k == 1)
+create_bit (kind.Other m) = apart_create m
+create_bit _ = refl
+
+same_create : (a b : Operation) → same_operation a b ≡ true → is_create a ≡ is_create b
+same_create a b same = create_bit a ∙ ap (λ (n : ℕ). n == 1) (eqb-true (operation_bit a) (operation_bit b) same) ∙ sym (create_bit b)
+
 -- a call that fits an operation is a create's where that is one
 fits_create : (call : BaseCall) (given : Answer) (r : FlowRecord) → base_fits call given r ≡ true → is_create (operation_of call.params) ≡ is_create r.operation
-fits_create call given r h3 = grind arith
+fits_create call given r fits =
+    let whole = and_parts (call_fits r.operation r.volume r.path call) (nat_le (length given.bytes) 32768) fits in
+    let own = and_parts (call.volume.0 == r.volume.0) (same_path call.path r.path && fit r.operation r.path call.params) whole.0 in
+    let named = and_parts (same_path call.path r.path) (fit r.operation r.path call.params) own.1 in
+    let kinds = and_parts (are_for r.operation r.path call.params) (is_within_limits call.params) named.1 in
+    let alike = and_parts (same_operation (operation_of call.params) r.operation) (are_on r.path call.params) kinds.0 in
+    same_create (operation_of call.params) r.operation alike.0
 
 -- what the base's answer leaves of an operation
 base_answered : (f : FileTable) (call : BaseCall) (given : Answer) (r : FlowRecord) → is_create (operation_of call.params) ≡ is_create r.operation

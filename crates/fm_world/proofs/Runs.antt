@@ -14,6 +14,7 @@ use Rattle.fm_ctx.specs.Kept.{carried_of, nothing_kept}
 use Rattle.fm_world.proofs.Belonging.{AllCarry, AllPass, held_has}
 use Rattle.fm_world.proofs.Callbacks.{bump_does, callback_left, read_body_does, reference_does, release_does, write_body_does}
 use Rattle.fm_world.proofs.Cases.{by_bool, by_option, some_of}
+use Rattle.fm_world.proofs.Changing.{change_held_does}
 use Rattle.fm_world.proofs.Collected.{collected_few}
 use Rattle.fm_world.proofs.Cleanups.{cleaned_does, finish_does, none_one, take_due_does}
 use Rattle.fm_world.proofs.Detaching.{ask_detach_does, complete_returned_does, complete_teardown_does, query_does, start_returned_does, start_teardown_does}
@@ -268,6 +269,7 @@ step_does old (Step.StartDismount v) (StepReply.Done r) new h = start_dismount_d
 step_does old (Step.DropHandle v) (StepReply.Dropped r) new h = drop_handle_does old v r new h
 step_does old (Step.EmptyVolume v) (StepReply.Done r) new h = (empty_volume_does old v r new h).0
 step_does old (Step.FinishVolume v) (StepReply.Done r) new h = finish_volume_does old v r new h
+step_does old (Step.ChangeHeld k o params) (StepReply.Done r) new h = change_held_does old k o params r new h
 step_does old _ _ new h = absurd h
 
 pub step_keeps : (old : World) (s : Step) (r : StepReply) (new : World) → Steps old s r new → IsSound old → IsSound new

@@ -119,6 +119,7 @@ asked_refused_at lower w h p = cond (is_within_limits p) (refused_at_by lower w 
 abbrev pub begin_refused_at : Bool → World → Request → Option Status
 begin_refused_at lower w (request.List v) = first_of (volume_refusals w v (is_full w.flow))
 begin_refused_at lower w (request.Create v path mode) = first_of (volume_refusals w v (is_full w.flow || has_no_handle_left w))
+begin_refused_at lower w (request.OnVolume v major number) = first_of (volume_refusals w v (is_full w.flow))
 begin_refused_at lower w (request.OnHandle h asked) = asked_refused_at lower w h (params_of asked)
 
 -- what a client asks is refused so
@@ -154,6 +155,7 @@ created_begun w v path mode = record w {
 abbrev pub after_begin : World → Request → World
 after_begin w (request.List v) = record w { flow = begun v None None w.stack.births None params.List w.flow }
 after_begin w (request.Create v path mode) = created_begun w v path mode
+after_begin w (request.OnVolume v major number) = record w { flow = begun v None None w.stack.births None (params.Other major number) w.flow }
 after_begin w (request.OnHandle h asked) = asked_begun w h (params_of asked)
 
 abbrev pub BeginsAt : Bool → World → Request → Result OpId Status → World → Type 0

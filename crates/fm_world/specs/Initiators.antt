@@ -16,6 +16,7 @@ use Rattle.fm_world.specs.Events.{or_else, begin_refused_at, after_begin}
 abbrev pub requested_volume : World → Request → Option VolumeId
 requested_volume w (request.List v) = Some v
 requested_volume w (request.Create v path mode) = Some v
+requested_volume w (request.OnVolume v major number) = Some v
 requested_volume w (request.OnHandle h asked) = volume_by w.files h
 
 -- it is another one than the instance's

@@ -12,6 +12,7 @@ pub mod About
 pub mod Teardowns
 pub mod EarlyDrains
 pub mod Routines
+pub mod Changes
 pub mod Initiators
 pub mod Dismounts
 pub mod Steps

@@ -1,17 +1,18 @@
--- Links go with what they name: with a stream that is torn down, and with a handle that closes.
+-- Links go with what they name: with a stream that is torn down, and its file, and with a handle that closes.
 use Rattle.std.specs.Prelude.{◌≡◌, Bool, true, not, Option, Some, None, is_some}
 use Rattle.fm_world.specs.Words.{Object, Sweeps, Context}
 use Rattle.fm_ctx.specs.declared.object.Object.TheVariants as object
 use Rattle.fm_world.specs.Files.{FileTable, stream_at, handle_at}
 use Rattle.fm_world.specs.World.{World, carries}
 
--- what a link names is there: a stream that wasn't torn down, a handle that is open. (Volumes and instances stay.)
+-- what a link names is there: a stream that wasn't torn down, a handle that is open, a file whose stream is there. (Volumes and instances stay.)
 abbrev pub is_there : FileTable → Option Object → Bool
 is_there f None = true
 is_there f (Some (object.Volume v)) = true
 is_there f (Some (object.Instance i)) = true
 is_there f (Some (object.Stream s)) = is_some (stream_at s f)
 is_there f (Some (object.Handle h)) = is_some (handle_at h f)
+is_there f (Some (object.File s)) = is_some (stream_at s f)
 
 abbrev pub names_there : FileTable → Option Context → Bool
 names_there f None = true

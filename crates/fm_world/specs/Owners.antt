@@ -96,17 +96,22 @@ abbrev pub is_of_handle : ContextKind → Bool
 is_of_handle kind.Handle = true
 is_of_handle _ = false
 
+abbrev pub is_of_file : ContextKind → Bool
+is_of_file kind.File = true
+is_of_file _ = false
+
 -- what a callback allocates belongs to its instance; a volume context to its filter
 abbrev pub owner_by : Instance → InstanceId → ContextKind → Owner
 owner_by row i kind.Volume = owner.Filter row.filter
 owner_by row i _ = owner.Instance i
 
--- what the callback sets a context of that kind on, if it has such an object: a stream and a handle come with an operation on a file
+-- what the callback sets a context of that kind on, if it has such an object: a stream, a handle and a file come with an operation on a file. A file has one stream, whose number names it
 abbrev pub object_by : Instance → InstanceId → Option FileObject → ContextKind → Option Object
 object_by row i file kind.Volume = Some (object.Volume row.volume)
 object_by row i file kind.Instance = Some (object.Instance i)
 object_by row i file kind.Stream = option_map (λ f. object.Stream f.stream) file
 object_by row i file kind.Handle = option_map (λ f. object.Handle f.handle) file
+object_by row i file kind.File = option_map (λ f. object.File f.stream) file
 
 -- nothing more is set on an instance that is being torn down, or where its volume is dismounted
 abbrev pub is_closing : StackWorld → Instance → Bool
@@ -152,12 +157,13 @@ abbrev pub may_link : StackWorld → Owner → Bool
 may_link s (owner.Filter f) = true
 may_link s (owner.Instance i) = keeps_links_by (row_at s i)
 
--- an object of the context's kind: a volume that is there and wasn't emptied, the owner itself, a stream or a handle
+-- an object of the context's kind: a volume that is there and wasn't emptied, the owner itself, a stream, a handle or a file
 abbrev pub suits : StackWorld → Context → Object → Bool
 suits s x (object.Volume v) = is_volume x.kind && holds_links_by (slice_get s.volumes v.0)
 suits s x (object.Instance i) = is_instance x.kind && same_owner (owner.Instance i) x.owner
 suits s x (object.Stream r) = is_of_stream x.kind
 suits s x (object.Handle h) = is_of_handle x.kind
+suits s x (object.File r) = is_of_file x.kind
 
 abbrev pub link_fits : StackWorld → Context → Option Object → Bool
 link_fits s x None = true

@@ -59,6 +59,7 @@ worker_of (step.StartDismount v) = None
 worker_of (step.DropHandle v) = None
 worker_of (step.EmptyVolume v) = None
 worker_of (step.FinishVolume v) = None
+worker_of (step.ChangeHeld k o params) = Some k
 
 -- so many more where the event succeeds
 abbrev pub More : {T : Type 0} → Result T Status → (T → ℕ) → ℕ → ℕ → Type 0

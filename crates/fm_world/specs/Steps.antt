@@ -13,6 +13,7 @@ use Rattle.fm_world.specs.Teardowns.{AsksDetach, QueryReturns, StartsTeardown, S
 use Rattle.fm_world.specs.EarlyDrains.{TakesDrain, DrainReturns}
 use Rattle.fm_world.specs.Routines.{EntersRoutine, RoutineReturns}
 use Rattle.fm_world.specs.Initiators.{BeginsLower}
+use Rattle.fm_world.specs.Changes.{ChangesHeld}
 use Rattle.fm_world.specs.Dismounts.{StartsDismount, DropsHandle, EmptiesVolume, FinishesVolume}
 use Rattle.fm_world.specs.Teardowns.{AsksUnload, UnloadReturns, ForcesUnload, EmptiesFilter, FinishesFilter}
 use Rattle.fm_world.specs.Events.{Registers, Mounts, Attaches, SetsUp, Begins, Nexts, PreReturns, BaseReturns, PostReturns, ResumesPre, ResumesPost, FindsHeld, Collects}
@@ -129,6 +130,7 @@ Steps old (step.StartDismount v) answer new = OfDone answer (λ r. StartsDismoun
 Steps old (step.DropHandle v) answer new = OfDropped answer (λ r. DropsHandle old v r new)
 Steps old (step.EmptyVolume v) answer new = OfDone answer (λ r. EmptiesVolume old v r new)
 Steps old (step.FinishVolume v) answer new = OfDone answer (λ r. FinishesVolume old v r new)
+Steps old (step.ChangeHeld k o params) answer new = OfDone answer (λ r. ChangesHeld old k o params r new)
 
 -- the events in their order, each with its answer, lead from the old World to the new one
 abbrev pub Run : World → List Step → List StepReply → World → Type 0

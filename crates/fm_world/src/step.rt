@@ -7,7 +7,7 @@ use crate::begins_from::BeginsFrom;
 use crate::set_answer::SetAnswer;
 use fm_altitude::Altitude;
 use fm_callback_data::{
-    Answer, BaseCall, CallbackData, Completion, PostVerdict, PreVerdict, Request,
+    Answer, BaseCall, CallbackData, Completion, Params, PostVerdict, PreVerdict, Request,
 };
 use fm_ctx::{Due, SetMode};
 use fm_operations::{FlowAction, Hold};
@@ -238,6 +238,12 @@ pub enum Step {
     FinishVolume {
         volume: VolumeId,
     },
+    /// The callback that the worker is in has other parameters go down of an operation that a preoperation of its instance holds.
+    ChangeHeld {
+        worker: WorkerId,
+        operation: OpId,
+        params: Params,
+    },
 }
 
 impl Step {
@@ -290,7 +296,8 @@ impl Step {
             | Step::EnterRoutine { worker, .. }
             | Step::RoutineReturned { worker }
             | Step::AskUnload { worker, .. }
-            | Step::UnloadReturned { worker, .. } => Some(*worker),
+            | Step::UnloadReturned { worker, .. }
+            | Step::ChangeHeld { worker, .. } => Some(*worker),
         }
     }
 }

@@ -17,8 +17,8 @@ use Rattle.fm_types.specs.Statuses.{number_of}
 use Rattle.fm_callback_data.specs.declared.params.Params.{Params}
 use Rattle.fm_session.specs.declared.lent.Lent.{Lent}
 use Rattle.kazdrin_c.specs.declared.data.KazdrinData.{KazdrinData}
-use Rattle.kazdrin_c.specs.Data.{lent_bytes, lent_told, params_named}
-use Rattle.kazdrin_c.specs.Named.{attach_named, flag_in, operation_in, status_at, step_named, worker_in}
+use Rattle.kazdrin_c.specs.Data.{lent_bytes, lent_told}
+use Rattle.kazdrin_c.specs.Named.{attach_named, flag_in, operation_in, params_named, status_at, step_named, worker_in}
 use Rattle.kazdrin_c.specs.Refusals.{Unnamed, Unread, UnreadParams, UnreadTexts}
 use Rattle.kazdrin_c.specs.Told.{told_of, bytes_in, copied, due_code, reply_outcome, given_told, outcome_of}
 
@@ -99,7 +99,7 @@ LentTold e old before room result new told after (Some lent) =
 
 -- the callback puts those parameters in what it was lent, or what C passed is refused
 abbrev pub ChangesThat : KazdrinEvent → List ℕ → SessionHost → ℕ → SessionHost → Option Params → Type 0
-ChangesThat e bytes old result new None = RefusedFor (UnreadParams e bytes (params_named e bytes)) old result new
+ChangesThat e bytes old result new None = RefusedFor (UnreadParams e.event bytes (params_named e bytes)) old result new
 ChangesThat e bytes old result new (Some p) =
     (params_named e bytes ≡ Some p) × (r : Result (Unit {0}) Status) × LentChanges old.session (worker_in e) p r new.session
     × (result ≡ outcome_of r) × (new.devices ≡ old.devices)

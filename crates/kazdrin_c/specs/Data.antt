@@ -1,7 +1,8 @@
--- What C is told of what a worker was lent, and what parameters C names.
+-- What C is told of what a worker was lent.
 use Rattle.std.specs.Prelude.{ℕ, Bool, true, false, List, [], Option, Some, None, ◌==◌, cond, option_map}
 use Rattle.fm_types.specs.declared.operation.CreateMode.{CreateMode}
 use Rattle.fm_types.specs.declared.operation.CreateMode.TheVariants as create
+use Rattle.fm_types.specs.Majors.{major_code}
 use Rattle.fm_types.specs.Statuses.{number_of, information_of}
 use Rattle.fm_callback_data.specs.declared.params.Params.{Params}
 use Rattle.fm_callback_data.specs.declared.params.Params.TheVariants as params
@@ -11,7 +12,6 @@ use Rattle.fm_session.specs.declared.lent.Lent.{Lent}
 use Rattle.fm_session.specs.declared.lent.Lent.TheVariants as lent
 use Rattle.kazdrin_c.specs.declared.event.KazdrinEvent.{KazdrinEvent}
 use Rattle.kazdrin_c.specs.declared.data.KazdrinData.{KazdrinData}
-use Rattle.kazdrin_c.specs.Named.{create_mode_named}
 
 abbrev pub nothing_lent : KazdrinData
 nothing_lent = record {
@@ -45,6 +45,7 @@ params_told params.SetDelete = record nothing_lent { operation = 11 }
 params_told params.Cleanup = record nothing_lent { operation = 12 }
 params_told params.Close = record nothing_lent { operation = 13 }
 params_told params.Restore = record nothing_lent { operation = 49 }
+params_told (params.Other major number) = record nothing_lent { operation = 50; mode = major_code major; offset = number }
 
 -- a create's path, and what is written
 abbrev pub params_bytes : Params → List ℕ
@@ -84,18 +85,3 @@ lent_bytes true (lent.Post own) = own.out
 lent_bytes true (lent.Base call) = call_path call
 lent_bytes _ lent.Nothing = []
 lent_bytes _ lent.Drain = []
-
--- the parameters that the number names
-abbrev pub params_named : KazdrinEvent → List ℕ → Option Params
-params_named e bytes =
-    cond (e.event == 4) (option_map (params.Create bytes) (create_mode_named e.mode))
-    (cond (e.event == 5) (Some params.List)
-    (cond (e.event == 6) (Some (params.Read e.offset e.len))
-    (cond (e.event == 7) (Some (params.Write e.offset bytes))
-    (cond (e.event == 8) (Some params.QuerySize)
-    (cond (e.event == 9) (Some (params.SetSize e.offset))
-    (cond (e.event == 10) (Some params.Flush)
-    (cond (e.event == 11) (Some params.SetDelete)
-    (cond (e.event == 12) (Some params.Cleanup)
-    (cond (e.event == 13) (Some params.Close)
-    (cond (e.event == 49) (Some params.Restore) None))))))))))

@@ -1,5 +1,6 @@
 -- The event that C names by a number, with the fields that the event reads.
 use Rattle.std.specs.Prelude.{ℕ, ◌==◌, Bool, cond, not, List, [], ◌∷◌, Option, Some, None, option_and_then, option_map, slice_get}
+use Rattle.fm_types.specs.Majors.{major_at}
 use Rattle.fm_types.specs.declared.operation.CreateMode.{CreateMode}
 use Rattle.fm_types.specs.declared.operation.CreateMode.TheVariants as create
 use Rattle.fm_types.specs.declared.context_kind.ContextKind.{ContextKind}
@@ -15,6 +16,8 @@ use Rattle.fm_altitude.specs.Grammar.{canonical}
 use Rattle.fm_types.specs.declared.registration.Registration.{Registration}
 use Rattle.fm_types.specs.declared.status.Status.{Status}
 use Rattle.fm_types.specs.declared.status.Status.TheVariants.{Success, NoMemory, BadAltitude, BadName, NameCollision, AltitudeCollision, NoFilter, NoVolume, NoInstance, NotLoaded, AlreadyLoaded, DoNotAttach, DoNotDetach, DeletingObject, NoHandle, BadPath, DeletePending, AccessDenied, DeviceFault, FileNotFound, AlreadyExists, NotRegistered, AlreadyDefined, AlreadyLinked, NoContext, NotHeld, HandFull, NoObject, NotPended, TooMany, WrongStep, EndOfFile, BadRequest, Dismounting, Busy}
+use Rattle.fm_callback_data.specs.declared.params.Params.{Params}
+use Rattle.fm_callback_data.specs.declared.params.Params.TheVariants as params
 use Rattle.fm_callback_data.specs.declared.request.FileRequest.{FileRequest}
 use Rattle.fm_callback_data.specs.declared.request.FileRequest.TheVariants as file
 use Rattle.fm_callback_data.specs.declared.request.Request.{Request}
@@ -37,7 +40,8 @@ abbrev pub create_mode_named : ℕ → Option CreateMode
 create_mode_named n = cond (n == 0) (Some create.Existing) (cond (n == 1) (Some create.New) (cond (n == 2) (Some create.Always) None))
 
 abbrev pub kind_named : ℕ → Option ContextKind
-kind_named n = cond (n == 0) (Some kind.Volume) (cond (n == 1) (Some kind.Instance) (cond (n == 2) (Some kind.Stream) (cond (n == 3) (Some kind.Handle) None)))
+kind_named n = cond (n == 0) (Some kind.Volume) (cond (n == 1) (Some kind.Instance) (cond (n == 2) (Some kind.Stream)
+    (cond (n == 3) (Some kind.Handle) (cond (n == 4) (Some kind.File) None))))
 
 abbrev pub set_mode_named : ℕ → Option SetMode
 set_mode_named n = cond (n == 0) (Some set.Keep) (cond (n == 1) (Some set.Replace) None)
@@ -177,7 +181,32 @@ file_named e bytes =
     (cond (e.event == 11) (asks e file.SetDelete)
     (cond (e.event == 12) (asks e file.Cleanup)
     (cond (e.event == 13) (asks e file.Close)
-    (cond (e.event == 49) (asks e file.Restore) (context_named e bytes)))))))))
+    (cond (e.event == 49) (asks e file.Restore)
+    (cond (e.event == 50) (option_and_then (λ m. asks e (file.Other m e.offset)) (major_at e.mode)) (context_named e bytes))))))))))
+
+-- the parameters of the operation that begins by the event of that number
+abbrev pub params_at : ℕ → KazdrinEvent → List ℕ → Option Params
+params_at n e bytes =
+    cond (n == 4) (option_map (params.Create bytes) (create_mode_named e.mode))
+    (cond (n == 5) (Some params.List)
+    (cond (n == 6) (Some (params.Read e.offset e.len))
+    (cond (n == 7) (Some (params.Write e.offset bytes))
+    (cond (n == 8) (Some params.QuerySize)
+    (cond (n == 9) (Some (params.SetSize e.offset))
+    (cond (n == 10) (Some params.Flush)
+    (cond (n == 11) (Some params.SetDelete)
+    (cond (n == 12) (Some params.Cleanup)
+    (cond (n == 13) (Some params.Close)
+    (cond (n == 49) (Some params.Restore)
+    (cond (n == 50) (option_map (λ m. params.Other m e.offset) (major_at e.mode)) None)))))))))))
+
+-- those that the event's own number names
+abbrev pub params_named : KazdrinEvent → List ℕ → Option Params
+params_named e bytes = params_at e.event e bytes
+
+-- a held operation's change, whose kind is the number of the parameters
+abbrev pub change_named : KazdrinEvent → List ℕ → Option Step
+change_named e bytes = option_map (step.ChangeHeld (worker_in e) (operation_in e)) (params_at e.kind e bytes)
 
 -- the event of the number, with the bytes as its text, body or data; none for a number that names none
 abbrev pub step_named : KazdrinEvent → List ℕ → Option Step
@@ -186,7 +215,9 @@ step_named e bytes =
     (cond (e.event == 2) (Some (step.Mount bytes))
     (cond (e.event == 3) (Some (step.SetupDone (worker_in e) (flag_in e)))
     (cond (e.event == 4) (option_and_then (λ m. begun_named e (request.Create (volume_in e) bytes m)) (create_mode_named e.mode))
-    (cond (e.event == 5) (begun_named e (request.List (volume_in e))) (file_named e bytes)))))
+    (cond (e.event == 5) (begun_named e (request.List (volume_in e)))
+    (cond (e.event == 51) (option_and_then (λ m. begun_named e (request.OnVolume (volume_in e) m e.offset)) (major_at e.mode))
+    (cond (e.event == 52) (change_named e bytes) (file_named e bytes)))))))
 
 -- the attachment of the event's filter to its volume, under that name and at that altitude
 abbrev pub attach_named : KazdrinEvent → List ℕ → List ℕ → Step

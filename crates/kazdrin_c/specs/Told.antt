@@ -37,6 +37,7 @@ code_of kind.Volume = 0
 code_of kind.Instance = 1
 code_of kind.Stream = 2
 code_of kind.Handle = 3
+code_of kind.File = 4
 
 abbrev pub context_told : CtxId → KazdrinTold
 context_told c = record nothing_told { slot = c.slot; generation = c.generation; has = 1 }

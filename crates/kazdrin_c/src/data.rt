@@ -1,12 +1,12 @@
 //! What a worker was lent, as C sees it, and what C puts in its place.
 
 ghost use Rattle.std.specs.Prelude.{◌≡◌, IfErr, IfOk, Some};
-ghost use Rattle.kazdrin_c.specs.Data.{call_path, call_told, data_told, lent_bytes, lent_told, mode_number, nothing_lent, params_bytes, params_named, params_told};
+ghost use Rattle.kazdrin_c.specs.Data.{call_path, call_told, data_told, lent_bytes, lent_told, mode_number, nothing_lent, params_bytes, params_told};
 ghost use Rattle.kazdrin_c.specs.Refusals.{Unnamed, UnreadParams};
 ghost use Rattle.kazdrin_c.specs.Calls.{bytes_given};
-ghost use Rattle.kazdrin_c.specs.Named.{flag_in, status_at};
+ghost use Rattle.kazdrin_c.specs.Named.{flag_in, params_at, params_named, status_at};
 
-use crate::event::{KazdrinEvent, create_mode_of, named, status_of};
+use crate::event::{KazdrinEvent, create_mode_of, major_of, named, status_of};
 use fm_callback_data::{BaseCall, CallbackData, Params};
 use fm_session::Lent;
 use fm_types::{Bytes, CreateMode, RelPath, SharedPath, Status};
@@ -94,6 +94,11 @@ fn params_told(params: &Params) -> KazdrinData
         Params::Cleanup => told.operation = 12,
         Params::Close => told.operation = 13,
         Params::Restore => told.operation = 49,
+        Params::Other { major, number } => {
+            told.operation = 50;
+            told.mode = major.code();
+            told.offset = *number;
+        }
     }
     told
 }
@@ -185,9 +190,22 @@ impl KazdrinEvent {
     /// mode, with 15 for a text that is no path, and with 1 where memory was refused.
     pub fn params(&self, alloc: Global, bytes: &[u8]) -> Result<Params, Status>
         ensures named { IfOk result (λ params. params_named self.now bytes.now ≡ Some params) }
-        ensures refused { IfErr result (λ status. UnreadParams self.now bytes.now (params_named self.now bytes.now) status) }
+        ensures refused { IfErr result (λ status. UnreadParams self.now.event bytes.now (params_named self.now bytes.now) status) }
     {
-        let params = match self.event {
+        self.params_at(self.event, alloc, bytes)
+    }
+
+    /// Those that the number of another event names. It refuses as `params` does.
+    pub(crate) fn params_at(
+        &self,
+        number: u32,
+        alloc: Global,
+        bytes: &[u8],
+    ) -> Result<Params, Status>
+        ensures named { IfOk result (λ params. params_at number self.now bytes.now ≡ Some params) }
+        ensures refused { IfErr result (λ status. UnreadParams number bytes.now (params_at number self.now bytes.now) status) }
+    {
+        let params = match number {
             4 => Params::Create {
                 path: SharedPath::new(alloc, RelPath::read(bytes)?)?,
                 mode: named(create_mode_of(self.mode))?,
@@ -208,6 +226,10 @@ impl KazdrinEvent {
             12 => Params::Cleanup,
             13 => Params::Close,
             49 => Params::Restore,
+            50 => Params::Other {
+                major: named(major_of(self.mode))?,
+                number: self.offset,
+            },
             _ => return Err(Status::BadRequest),
         };
         Ok(params)

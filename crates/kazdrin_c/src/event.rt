@@ -1,6 +1,7 @@
 //! What C says of an event: one structure for all of them, and the event that it names.
 
 ghost use Rattle.std.specs.Prelude.{◌≡◌, IfErr, IfOk, None};
+ghost use Rattle.fm_types.specs.Majors.{major_at};
 ghost use Rattle.kazdrin_c.specs.Named.{attach_named, begun_named, completion_in, context_named, create_mode_named, file_named, kind_named, registration_in, request_named, set_mode_named, hold_named, status_at, step_named, teardown_named, unload_named, routine_named, file_handle_in, post_named, verdict_named, flag_in};
 ghost use Rattle.kazdrin_c.specs.Refusals.{Unnamed, Unread, UnreadTexts, takes_memory};
 
@@ -8,8 +9,8 @@ use fm_altitude::Altitude;
 use fm_callback_data::{Completion, FileRequest, PostVerdict, PreVerdict, Request};
 use fm_core::{BeginsFrom, Hold, SetMode, Step};
 use fm_types::{
-    Bytes, ContextKind, ContextMask, CreateMode, CtxId, FilterId, HandleId, InstanceId, Name, OpId,
-    OpMask, Registration, RelPath, SharedPath, Status, VolumeId, WorkerId,
+    Bytes, ContextKind, ContextMask, CreateMode, CtxId, FilterId, HandleId, InstanceId, Major,
+    Name, OpId, OpMask, Registration, RelPath, SharedPath, Status, VolumeId, WorkerId,
 };
 use std::alloc::Global;
 
@@ -25,9 +26,9 @@ pub struct KazdrinEvent {
     pub handle: u64,
     pub offset: u64,
     pub number: u64,
+    pub pre: u64,
+    pub post: u64,
     pub instance: u16,
-    pub pre: u16,
-    pub post: u16,
     pub contexts: u8,
     pub query: u8,
     pub unload: u8,
@@ -60,6 +61,7 @@ fn kind_of(number: u8) -> Option<ContextKind>
         1 => Some(ContextKind::Instance),
         2 => Some(ContextKind::Stream),
         3 => Some(ContextKind::Handle),
+        4 => Some(ContextKind::File),
         _ => None,
     }
 }
@@ -89,6 +91,13 @@ pub fn status_of(number: u8, count: u64) -> Option<Status>
     ensures { result ≡ status_at number count }
 {
     Status::from_number(number, count)
+}
+
+/// The major function of the kit's number.
+pub fn major_of(number: u8) -> Option<Major>
+    ensures { result ≡ major_at number }
+{
+    Major::at(u64::from(number))
 }
 
 /// What a postoperation's number says.
@@ -211,6 +220,16 @@ impl KazdrinEvent {
             5 => named(self.begun(Request::List {
                 volume: VolumeId(self.volume),
             }))?,
+            51 => named(self.begun(Request::OnVolume {
+                volume: VolumeId(self.volume),
+                major: named(major_of(self.mode))?,
+                number: self.offset,
+            }))?,
+            52 => Step::ChangeHeld {
+                worker: WorkerId(self.worker),
+                operation: OpId(self.operation),
+                params: self.params_at(u32::from(self.kind), alloc, bytes)?,
+            },
             _ => return self.file_step(alloc, bytes),
         };
         Ok(step)
@@ -251,6 +270,10 @@ impl KazdrinEvent {
             12 => FileRequest::Cleanup,
             13 => FileRequest::Close,
             49 => FileRequest::Restore,
+            50 => FileRequest::Other {
+                major: named(major_of(self.mode))?,
+                number: self.offset,
+            },
             _ => return self.context_step(alloc, bytes),
         };
         named(self.begun(Request::OnHandle {

@@ -62,6 +62,7 @@ fn code_of(kind: ContextKind) -> u8
         ContextKind::Instance => 1,
         ContextKind::Stream => 2,
         ContextKind::Handle => 3,
+        ContextKind::File => 4,
     }
 }
 

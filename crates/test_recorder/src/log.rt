@@ -125,6 +125,7 @@ fn for_word(what: For) -> &'static str {
         For::Context(ContextKind::Instance) => " instance",
         For::Context(ContextKind::Stream) => " stream",
         For::Context(ContextKind::Handle) => " handle",
+        For::Context(ContextKind::File) => " file",
     }
 }
 
@@ -141,5 +142,6 @@ fn operation_word(kind: Operation) -> &'static str {
         Operation::Restore => " restore",
         Operation::Cleanup => " cleanup",
         Operation::Close => " close",
+        Operation::Other(_) => " other",
     }
 }

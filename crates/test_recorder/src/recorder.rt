@@ -125,7 +125,7 @@ fn release<P: Port>(completion: Completion, port: &mut P)
 impl Minifilter for Recorder {
     ghost use Rattle.std.specs.Prelude.{⊤, true};
 
-    ghost registers = { λ _. record { pre = record { 0 = 2047 }; post = record { 0 = 2047 }; contexts = record { 0 = 14 }; query = true; unload = true } };
+    ghost registers = { λ _. record { pre = record { 0 = 576460752303423487 }; post = record { 0 = 576460752303423487 }; contexts = record { 0 = 14 }; query = true; unload = true } };
 
     ghost setup_may = { λ _ _. ⊤ };
 

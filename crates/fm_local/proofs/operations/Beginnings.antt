@@ -3,7 +3,7 @@ use Rattle.fm_local.proofs.Words.{[], ◌∷◌, ◌≡◌, Bool, FlowRecord, Li
 use Rattle.fm_local.proofs.Words.{false, true, worker_at, ℕ, ◌++◌, ◌+◌, ◌∙◌, ap, cond, eq-eqb, refl, subst, sym, is_within_limits, params_of, Request}
 use Rattle.fm_local.proofs.Words.{after_begin, begin_refused, begun_at, begun_on, Begins, handle_at, stream_at, HandleId, StreamId, FileHandle}
 use Rattle.fm_local.proofs.Words.{FileStream, subject_of, IsAtRest}
-use Rattle.fm_operations.specs.Table.{begun_record}
+use Rattle.fm_operations.specs.Table.{begun, begun_record}
 use Rattle.fm_world.specs.Events.{refused_at_by, refused_on_at}
 use Rattle.fm_world.specs.Files.{stream_for}
 use Rattle.fm_local.proofs.operations.TurnFolds.{IsGoing}
@@ -43,18 +43,23 @@ module _ (old : World) (rest : old.flow.operations ≡ []) where
   within true m none = none
   within false m none = cc
 
-  started : (what : Request) → begin_refused old what ≡ None → Started old (after_begin old what)
-  started (Request.List v) none = record {
+  -- without a file
+  started_unnamed : (v : VolumeId) (p : Params) → Started old (record old { flow = begun v None None old.stack.births None p old.flow })
+  started_unnamed v p = record {
     volume = v;
     stream = None;
     handle = None;
     path = None;
-    asks = Params.List;
-    operations = ap (λ rs. rs ++ begun_record old.flow.next v None None old.stack.births None Params.List ∷ []) rest;
+    asks = p;
+    operations = ap (λ rs. rs ++ begun_record old.flow.next v None None old.stack.births None p ∷ []) rest;
     next = refl;
     workers = refl;
     stack = refl;
   }
+
+  started : (what : Request) → begin_refused old what ≡ None → Started old (after_begin old what)
+  started (Request.List v) none = started_unnamed v Params.List
+  started (Request.OnVolume v m n) none = started_unnamed v (Params.Other m n)
   started (Request.Create v path mode) none = record {
     volume = v;
     stream = Some (stream_for v path old.flow.next old.files);

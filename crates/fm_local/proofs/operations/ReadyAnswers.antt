@@ -15,6 +15,7 @@ pub is_close : (what : Request) (h : HandleId) → closed_handle what ≡ Some h
 is_close (Request.OnHandle g FileRequest.Close) h is = cc
 is_close (Request.OnHandle g _) h is = cc
 is_close (Request.List v) h is = cc
+is_close (Request.OnVolume v m n) h is = cc
 is_close (Request.Create v path mode) h is = cc
 
 module _ {F B : Type 0} (own : filter.Ghosts F) (below : base.Ghosts B) (k : WorkerId) where
@@ -71,6 +72,7 @@ module _ {F B : Type 0} (own : filter.Ghosts F) (below : base.Ghosts B) (k : Wor
         → DoesTidily own.pre_may own.post_may (BasesCarry below.folder below.faults) (numbered old.filters) k what w d answer v e
         → DoesOne own.pre_may own.post_may (BasesCarry below.folder below.faults) (numbered old.filters) k what w d answer v e
     as_one (Request.List v) no_close w d answer u e does = does
+    as_one (Request.OnVolume v m n) no_close w d answer u e does = does
     as_one (Request.Create v path mode) no_close w d answer u e does = does
     as_one (Request.OnHandle h FileRequest.Close) no_close w d answer u e does = cc
     as_one (Request.OnHandle h _) no_close w d answer u e does = does

@@ -29,6 +29,7 @@ module _ {F B : Type 0} (old : Parts F B) where
   -- a request that is no close
   pub refuses_in : (what : Request) → closed_handle what ≡ None → (said : Reply) (new : Parts F B) → RefusesOne what old said new → RefusesIn what old said new
   refuses_in (Request.List v) no_close said new h why refused ends = h why refused
+  refuses_in (Request.OnVolume v m n) no_close said new h why refused ends = h why refused
   refuses_in (Request.Create v path mode) no_close said new h why refused ends = h why refused
   refuses_in (Request.OnHandle x FileRequest.Close) no_close said new h why refused ends = cc
   refuses_in (Request.OnHandle x _) no_close said new h why refused ends = h why refused

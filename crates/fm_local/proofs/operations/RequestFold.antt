@@ -30,6 +30,7 @@ module _ (old : World) (rest : old.flow.operations ≡ []) where
 
   refused_same : {D : Type 0} (d : D) (what : Request) → begin_refused old what ≡ begin_refused (at_rest old.stack old.flow.next (under d old)) what
   refused_same d (Request.List v) = ap (λ (t : FlowTable). begin_refused (record old { flow = t }) (Request.List v)) flow_is
+  refused_same d (Request.OnVolume v m n) = ap (λ (t : FlowTable). begin_refused (record old { flow = t }) (Request.OnVolume v m n)) flow_is
   refused_same d (Request.Create v path mode) = ap (λ (t : FlowTable). begin_refused (record old { flow = t }) (Request.Create v path mode)) flow_is
   refused_same d (Request.OnHandle h asked) = ap (λ (t : FlowTable). begin_refused (record old { flow = t }) (Request.OnHandle h asked)) flow_is
 
@@ -56,6 +57,7 @@ module _ (old : World) (rest : old.flow.operations ≡ []) where
         → ((after_begin emptied what).flow.operations ≡ (after_begin resting what).flow.operations)
         × ((after_begin emptied what).files ≡ (after_begin resting what).files)
     begun_same (Request.List v) = (refl, refl)
+    begun_same (Request.OnVolume v m n) = (refl, refl)
     begun_same (Request.Create v path mode) = (refl, refl)
     begun_same (Request.OnHandle h asked) = on_found h (params_of asked) (handle_at h old.files)
 

@@ -2,7 +2,7 @@
 use Rattle.fm_local.proofs.Words.{◌≡◌, OpId, Step, StepReply, World, false, IsSound}
 use Rattle.fm_world.specs.Steps.{Steps}
 use Rattle.fm_local.specs.Waits.{IsEnded, hands_out}
-use Rattle.fm_local.proofs.queues.LooseOperations.{base_ends, begins, begins_lower, collects_other, drain_over, drain_taken, nexts_ended, post_ends, post_resumes, pre_ends, pre_resumes}
+use Rattle.fm_local.proofs.queues.LooseOperations.{base_ends, begins, begins_lower, collects_other, drain_over, drain_taken, held_changes, nexts_ended, post_ends, post_resumes, pre_ends, pre_resumes}
 use Rattle.fm_local.proofs.queues.OtherRecords.{by_same}
 use Rattle.fm_local.proofs.queues.SameOperations as unmoved
 
@@ -56,4 +56,5 @@ ended_lasts old (Step.StartDismount v) (StepReply.Done r) new p s h other = (by_
 ended_lasts old (Step.DropHandle v) (StepReply.Dropped r) new p s h other = (by_same p old.flow new.flow (unmoved.handle_dropped old new v r h)).ended
 ended_lasts old (Step.EmptyVolume v) (StepReply.Done r) new p s h other = (by_same p old.flow new.flow (unmoved.volume_emptied old new v r h)).ended
 ended_lasts old (Step.FinishVolume v) (StepReply.Done r) new p s h other = (by_same p old.flow new.flow (unmoved.volume_finished old new v r h)).ended
+ended_lasts old (Step.ChangeHeld k o params) (StepReply.Done r) new p s h other = (held_changes p old k s r new o params h).ended
 ended_lasts old _ _ new p s h other = absurd h

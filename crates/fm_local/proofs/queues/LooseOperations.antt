@@ -10,8 +10,10 @@ use Rattle.fm_operations.proofs.Drains.{owed_over, owing_there}
 use Rattle.fm_operations.proofs.Holds.{held_post, held_pre}
 use Rattle.fm_operations.proofs.Next.{next_stays}
 use Rattle.fm_operations.specs.Drains.{DrainTaken, drain_done_in, drained_early, early_over, is_of, owed_to}
-use Rattle.fm_operations.specs.Steps.{done_at}
-use Rattle.fm_operations.specs.Table.{collected_in, is_collectable, is_number, is_spent, marked, removed}
+use Rattle.fm_callback_data.specs.declared.params.Params.{Params}
+use Rattle.fm_operations.proofs.Placing.{changed_stays}
+use Rattle.fm_operations.specs.Steps.{done_at, takes}
+use Rattle.fm_operations.specs.Table.{told, collected_in, is_collectable, is_number, is_spent, marked, removed}
 use Rattle.fm_operations.specs.Counts.{is_running_drain}
 use Rattle.fm_operations.specs.declared.hold.Hold.{Hold}
 use Rattle.std.specs.List.{list_any}
@@ -20,6 +22,8 @@ use Rattle.fm_world.proofs.Events.{answers_by, idle_by, memory_by, refused_by, u
 use Rattle.fm_world.proofs.Operations.{inside_base, inside_drain, inside_post, inside_pre}
 use Rattle.fm_world.proofs.Resumes.{held_by}
 use Rattle.fm_types.proofs.Firsts.{change_none}
+use Rattle.fm_world.specs.Changes.{ChangesHeldAt}
+unfoldable use Rattle.fm_world.specs.Changes.{ChangesHeld}
 use Rattle.fm_world.specs.EarlyDrains.{DrainReturns, DrainReturnsAt}
 use Rattle.fm_world.specs.Initiators.{BeginsLower, placed_at, placed_from}
 use Rattle.fm_world.specs.declared.begins_from.BeginsFrom.{BeginsFrom}
@@ -120,6 +124,7 @@ module _ (p : OpId) (old : World) where
 
   begun : (what : Request) → Keeps p old (after_begin old what)
   begun (Request.List v) = one_more p _ old.flow _
+  begun (Request.OnVolume v m n) = one_more p _ old.flow _
   begun (Request.Create v path mode) = one_more p _ old.flow _
   begun (Request.OnHandle h asked) = by_handle (handle_at h old.files)
     where
@@ -258,6 +263,19 @@ module _ (p : OpId) (old : World) where
             let x = held_by old Hold.Post o i sound.under_way (alone_granted (is_held_by old Hold.Post o i) Status.NotPended none) in
             by_flow new _ (ap flow_of event)
             (busy_changed p o x.row _ old.flow x.at (busy_at Stage.PostHeld x.row (held_post i.0 x.row x.sound x.held).0 refl) (λ r. refl)))
+
+    pub held_changes : (o : OpId) (params : Params) → ChangesHeld old k o params result new → Keeps p old new
+    unfolding ChangesHeld
+    held_changes o params h = by_place (place_in (worker_at old.workers k)) h
+      where
+        by_place : (m : Option InstanceId) → ChangesHeldAt old o params result new m → Keeps p old new
+        by_place None h = refused_by (After (Unit {0})) Status.WrongStep result old new h refused
+        by_place (Some i) h = answers_by (After (Unit {0})) _ result old new _ h refused (λ done none event.
+            let x = held_by old Hold.Pre o i sound.under_way (granted (is_held_by old Hold.Pre o i) (told (takes params) false o old.flow) Status.NotPended
+            Status.BadRequest none).0 in
+            by_flow new _ (ap flow_of event)
+            (busy_changed p o x.row _ old.flow x.at (busy_at Stage.PreHeld x.row (held_pre i.0 x.row x.sound x.held).0 refl)
+            (λ r. (changed_stays params r).number)))
 
   -- ---- drains before their turn
 

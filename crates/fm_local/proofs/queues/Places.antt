@@ -265,6 +265,7 @@ module _ (k : WorkerId) where
 
   begun_stays : (w : World) (what : Request) → (after_begin w what).workers ≡ w.workers
   begun_stays w (Request.List v) = refl
+  begun_stays w (Request.OnVolume v m n) = refl
   begun_stays w (Request.Create v path mode) = refl
   begun_stays w (Request.OnHandle h asked) = by_handle (handle_at h w.files)
     where

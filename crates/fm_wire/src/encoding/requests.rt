@@ -10,14 +10,14 @@ use fm_types::CreateMode;
 use fm_types::limits::TRANSFER;
 use std::alloc::AllocError;
 
-// Whether it may be said: no more bytes are read or written than an operation may, and it is no cleanup, which a close brings.
+// Whether it may be said: no more bytes are read or written than an operation may, it is no cleanup, which a close brings, and it has a kind of its own.
 fn keeps_file_limits(request: &FileRequest) -> bool
     ensures { IsTrue result ↔ KeepsFileLimits request.now }
 {
     match request {
         FileRequest::Read { len, .. } => *len as u64 <= TRANSFER,
         FileRequest::Write { bytes, .. } => bytes.len() as u64 <= TRANSFER,
-        FileRequest::Cleanup => false,
+        FileRequest::Cleanup | FileRequest::Other { .. } => false,
         _ => true,
     }
 }
@@ -29,6 +29,7 @@ pub(crate) fn keeps_request_limits(request: &Request) -> bool
     match request {
         Request::OnHandle { request, .. } => keeps_file_limits(request),
         Request::Create { .. } | Request::List { .. } => true,
+        Request::OnVolume { .. } => false,
     }
 }
 
@@ -44,7 +45,7 @@ fn file_code(request: &FileRequest) -> u8
         FileRequest::SetDelete => 8,
         FileRequest::Close => 9,
         FileRequest::Restore => 10,
-        FileRequest::Cleanup => 0,
+        FileRequest::Cleanup | FileRequest::Other { .. } => 0,
     }
 }
 
@@ -55,6 +56,7 @@ pub(crate) fn request_code(request: &Request) -> u8
     match request {
         Request::Create { .. } => 1,
         Request::List { .. } => 7,
+        Request::OnVolume { .. } => 0,
         Request::OnHandle { request, .. } => file_code(request),
     }
 }
@@ -80,7 +82,7 @@ pub(crate) fn request_len(request: &Request) -> usize
 {
     match request {
         Request::Create { path, .. } => 2 + path.path().text().len(),
-        Request::List { .. } => 1,
+        Request::List { .. } | Request::OnVolume { .. } => 1,
         Request::OnHandle { request, .. } => 8 + file_len(request),
     }
 }
@@ -126,7 +128,7 @@ pub(crate) fn put_request(out: &mut Vec<u8>, request: &Request) -> Result<(), Al
             out.push(mode_number(*mode))?;
             out.extend_from_slice(path.path().text())
         }
-        Request::List { volume } => Ok(out.push(volume.0)?),
+        Request::List { volume } | Request::OnVolume { volume, .. } => Ok(out.push(volume.0)?),
         Request::OnHandle { handle, request } => {
             put_u64(out, handle.0)?;
             put_file(out, request)

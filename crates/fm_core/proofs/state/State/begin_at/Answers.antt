@@ -13,6 +13,16 @@ pub returns-in-List-clause-hand : goal.returns-in-List-clause-hand
 returns-in-List-clause-hand c =
     (begin_at_does c.args.is_lower c.args.self.now c.args.what c.begin_list.result c.begin_list.new.self (returns-in-List-clause-event c)).1
 
+pub returns-in-OnVolume-clause-event : goal.returns-in-OnVolume-clause-event
+unfolding Begins
+returns-in-OnVolume-clause-event c =
+    subst (λ (b : Request). BeginsAt c.args.is_lower c.args.self.now b c.begin_other.result c.begin_other.new.self) (sym c.in-OnVolume.is)
+    c.begin_other.ensures
+
+pub returns-in-OnVolume-clause-hand : goal.returns-in-OnVolume-clause-hand
+returns-in-OnVolume-clause-hand c =
+    (begin_at_does c.args.is_lower c.args.self.now c.args.what c.begin_other.result c.begin_other.new.self (returns-in-OnVolume-clause-event c)).1
+
 pub returns-in-Create-clause-event : goal.returns-in-Create-clause-event
 unfolding Begins
 returns-in-Create-clause-event c =

@@ -1,10 +1,12 @@
 use Rattle.fm_core.proofs.Words.{begin_does, None, subst, sym, ◌∙◌, Params, IsSound}
+use Rattle.fm_world.proofs.Words.{Begins}
 use Rattle.fm_core.proofs.Operated.{lists, begin_tied}
 use Rattle.fm_core.proofs.state.State.begin_list.Goals as goal
 
 pub returns : goal.returns
+unfolding Begins
 returns c =
-    lists c.args.volume c.begin.result c.begin.new.self c.self.view_is (rw c.is_full.ensures at (sym c.volume_refusal.ensures ∙ c.in_default.is))
+    lists c.args.volume Params.List c.begin.result c.begin.new.self c.self.view_is (rw c.is_full.ensures at (sym c.volume_refusal.ensures ∙ c.in_default.is))
     (rw c.births.ensures at c.begin.ensures)
 
 pub invariant_of-self : goal.invariant_of-self

@@ -9,12 +9,12 @@ invariant_of-self-2 c =
     let stage = ap (λ (r : FlowRecord). r.stage) c.self.view_is ∙ c.requires in
     let back = unwinds c.args.place _ (Some c.in-Some.params) (sym c.unwind.ensures.value ∙ c.in-Some.is) stage in
     let bare = subst IsBare c.in-Some-data.is c.self.invariant.1.1.1.1.0 in (
-      rw (c.unwind.ensures.rest, c.receive.ensures) (back.sound c.self.invariant.0),
+      rw (c.unwind.ensures.rest, c.receive.ensures.after) (back.sound c.self.invariant.0),
       (
         omega arith,
         (
           omega arith,
-          (c.self.invariant.1.1.1.0, (rw c.receive.ensures (ap (λ (d : Data). record d { received = c.in-Some.params }) bare), c.self.invariant.1.1.1.1.1)),
+          (c.self.invariant.1.1.1.0, (rw c.receive.ensures.after (ap (λ (d : Data). record d { received = c.in-Some.params }) bare), c.self.invariant.1.1.1.1.1)),
         ),
       ),
     )

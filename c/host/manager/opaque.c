@@ -1,6 +1,5 @@
-/* Operations that ride on another one of the manager's. Each instance sees the parameters that are in force above it, and those below see what it left in them, if it marked them dirty. In its
- * postoperation it sees what it received. */
-#include "manager/carrier.h"
+/* Operations of major functions that the manager doesn't look into: their parameters, as callbacks see and change them, and their answers. */
+#include "manager/opaque.h"
 
 #include "core/client.h"
 #include "core/memory.h"
@@ -21,71 +20,76 @@
 #include "manager/fill.h"
 
 
-void kz_begin_carried(KzOp *op, const KzAsked *asked)
+void kz_begin_opaque(KzOp *op, const KzAsked *asked)
 {
-    op->carried = kz_memory(sizeof *op->carried);
-    *op->carried = (KzCarried){.major = asked->major,
+    op->opaque = kz_memory(sizeof *op->opaque);
+    *op->opaque = (KzOpaque){.major = asked->major,
                                .minor = asked->minor,
                                .operation_flags = asked->flags,
                                .irp_flags = IRP_SYNCHRONOUS_API | asked->irp_flags,
                                .data_flags = asked->data_flags ? asked->data_flags : FLTFL_CALLBACK_DATA_IRP_OPERATION,
                                .has_no_file = asked->has_no_file,
                                .input_size = asked->input_size};
-    if (op->carried->irp_flags & IRP_BUFFERED_IO)
-        op->carried->data_flags |= FLTFL_CALLBACK_DATA_SYSTEM_BUFFER;
-    kz_fill_carried(op, asked);
+    if (op->opaque->irp_flags & IRP_BUFFERED_IO)
+        op->opaque->data_flags |= FLTFL_CALLBACK_DATA_SYSTEM_BUFFER;
+    kz_fill_opaque(op, asked);
+    op->opaque->first = op->opaque->now;
 }
 
-static void leave_step(KzCarried *carried)
+KazdrinEvent kz_opaque_event(const KzAsked *asked, KazdrinEvent on)
 {
-    KzStep *gone = carried->steps;
-    carried->steps = gone->above;
-    free(gone);
+    on.mode = asked->major;
+    return on;
 }
 
-void kz_free_carried(KzOp *op)
+void kz_free_opaque(KzOp *op)
 {
-    while (op->carried && op->carried->steps)
-        leave_step(op->carried);
-    free(op->carried);
-    op->carried = NULL;
+    while (op->opaque && op->opaque->changed) {
+        KzChanged *gone = op->opaque->changed;
+        op->opaque->changed = gone->before;
+        free(gone);
+    }
+    free(op->opaque);
+    op->opaque = NULL;
+}
+
+/* Those that the manager says are seen there. */
+static const FLT_PARAMETERS *parameters_of(const KzOpaque *opaque, uint64_t number)
+{
+    const KzChanged *left = opaque->changed;
+    while (left && left->number != number)
+        left = left->before;
+    return left ? &left->parameters : &opaque->first;
 }
 
 /* ---- What a callback is shown. */
-static void fill(KzOp *op, PFLT_INSTANCE instance, const FLT_PARAMETERS *parameters)
+static void fill(KzOp *op, PFLT_INSTANCE instance)
 {
-    const KzCarried *carried = op->carried;
+    const KzOpaque *opaque = op->opaque;
     kazdrin_lent(&kz.manager, &(KazdrinEvent){.flag = 1, .worker = kz_worker()}, &op->lent, kz_me->room, sizeof kz_me->room);
     memset(op->iopb, 0, sizeof *op->iopb);
-    *op->iopb = (FLT_IO_PARAMETER_BLOCK){.IrpFlags = carried->irp_flags,
-                                         .MajorFunction = carried->major,
-                                         .MinorFunction = carried->minor,
-                                         .OperationFlags = carried->operation_flags,
-                                         .TargetFileObject = carried->has_no_file ? NULL : &op->file->object,
+    *op->iopb = (FLT_IO_PARAMETER_BLOCK){.IrpFlags = opaque->irp_flags,
+                                         .MajorFunction = opaque->major,
+                                         .MinorFunction = opaque->minor,
+                                         .OperationFlags = opaque->operation_flags,
+                                         .TargetFileObject = opaque->has_no_file ? NULL : &op->file->object,
                                          .TargetInstance = instance,
-                                         .Parameters = *parameters};
+                                         .Parameters = *parameters_of(opaque, op->lent.offset)};
     op->shown.asked = NULL;
     op->shown.asked_length = 0;
     op->shown.parameters = *op->iopb;
-    op->data->Flags = (kz_data_flags(op) & ~(ULONG)FLTFL_CALLBACK_DATA_IRP_OPERATION) | carried->data_flags;
+    op->data->Flags = (kz_data_flags(op) & ~(ULONG)FLTFL_CALLBACK_DATA_IRP_OPERATION) | opaque->data_flags;
     op->data->RequestorMode = kz_requestor_of(op);
 }
 
-void kz_show_carried(KzOp *op, PFLT_INSTANCE instance, bool is_post)
+void kz_show_opaque(KzOp *op, PFLT_INSTANCE instance, bool is_post)
 {
-    KzCarried *carried = op->carried;
-    while (is_post && carried->steps && carried->steps->instance != instance)
-        leave_step(carried);
-    if (!is_post) {
-        KzStep *made = kz_memory(sizeof *made);
-        *made = (KzStep){carried->steps, instance, carried->now};
-        carried->steps = made;
-    }
-    fill(op, instance, carried->steps ? &carried->steps->received : &carried->now);
+    KzOpaque *opaque = op->opaque;
+    fill(op, instance);
     op->data->IoStatus = (IO_STATUS_BLOCK){.Status = STATUS_SUCCESS};
     if (is_post) {
         op->data->Flags |= FLTFL_CALLBACK_DATA_POST_OPERATION;
-        op->data->IoStatus = (IO_STATUS_BLOCK){.Status = op->other ? op->other : kz_ntstatus(op->lent.status), .Information = carried->information};
+        op->data->IoStatus = (IO_STATUS_BLOCK){.Status = op->other ? op->other : kz_ntstatus(op->lent.status), .Information = opaque->information};
     }
     op->shown.status = op->data->IoStatus;
 }
@@ -121,7 +125,7 @@ static void check_swap(KzOp *op, bool has_post)
 {
     ULONG *length;
     PVOID *now = buffer_in(op->iopb, &length), *before = buffer_in(&op->shown.parameters, &length);
-    if (op->carried->output && !has_post && now && before && *now != *before)
+    if (op->opaque->output && !has_post && now && before && *now != *before)
         kz_tell(KZM_LOST_SWAP, "FltSetCallbackDataDirty", "a buffer was swapped and no postoperation is asked for: what comes into it never comes to the caller's");
 }
 
@@ -130,24 +134,34 @@ static void check_target(KzOp *op)
 {
     const FILE_RENAME_INFORMATION *said = op->iopb->Parameters.SetFileInformation.InfoBuffer;
     char now[600], opened[600];
-    if (!op->carried->target || op->carried->is_misled || !kz_name_in_target(op->carried->target, opened, sizeof opened))
+    if (!op->opaque->target || op->opaque->is_misled || !kz_name_in_target(op->opaque->target, opened, sizeof opened))
         return;
     bool is_same = kz_destination(op->file, said->RootDirectory, said->FileName, said->FileNameLength, now, sizeof now) && strcmp(now, opened) == 0;
-    op->carried->is_misled = !is_same;
+    op->opaque->is_misled = !is_same;
     if (!is_same)
         kz_tell(KZM_OTHER_TARGET, "FltSetCallbackDataDirty", "another name in a rename whose folder was opened: the name of ParentOfTarget counts");
 }
 
-void kz_take_carried_pre(KzOp *op, bool has_post, bool is_completed)
+/* Those below see what the callback left, by the next number. */
+static void keep_changed(KzOp *op, KzPut *put)
 {
-    KzCarried *carried = op->carried;
+    KzOpaque *opaque = op->opaque;
+    KzChanged *left = kz_memory(sizeof *left);
+    *left = (KzChanged){opaque->changed, opaque->changed ? opaque->changed->number + 1 : 1, op->iopb->TargetInstance, op->iopb->Parameters};
+    opaque->changed = left;
+    put(op, (KazdrinEvent){.event = KZE_OTHER, .worker = kz_worker(), .mode = opaque->major, .offset = left->number}, (const uint8_t *)"", 0);
+}
+
+void kz_take_opaque_pre(KzOp *op, bool has_post, bool is_completed, KzPut *put)
+{
+    KzOpaque *opaque = op->opaque;
     if (!(op->data->Flags & FLTFL_CALLBACK_DATA_DIRTY)) {
         if (kz_is_touched(op) && !is_completed)
             kz_tell(KZM_NOT_DIRTY, "FltSetCallbackDataDirty", "never called, though parameters were changed: they don't count");
         *op->iopb = op->shown.parameters;
         return;
     }
-    if (op->iopb->MajorFunction != carried->major || op->iopb->MinorFunction != carried->minor) {
+    if (op->iopb->MajorFunction != opaque->major || op->iopb->MinorFunction != opaque->minor) {
         kz_tell(KZM_OTHER_PARAMETERS, "FltSetCallbackDataDirty", "parameters of another operation: they don't count");
         *op->iopb = op->shown.parameters;
         return;
@@ -155,8 +169,8 @@ void kz_take_carried_pre(KzOp *op, bool has_post, bool is_completed)
     check_swap(op, has_post);
     check_target(op);
     keep_description(op);
-    carried->now = op->iopb->Parameters;
-    carried->operation_flags = op->iopb->OperationFlags;
+    keep_changed(op, put);
+    opaque->operation_flags = op->iopb->OperationFlags;
     op->shown.parameters = *op->iopb;
 }
 
@@ -164,25 +178,25 @@ void kz_take_carried_pre(KzOp *op, bool has_post, bool is_completed)
 static uint64_t most_of(KzOp *op)
 {
     ULONG *length = NULL;
-    return op->carried->output && buffer_in(&op->shown.parameters, &length) && length ? *length : UINT64_MAX;
+    return op->opaque->output && buffer_in(&op->shown.parameters, &length) && length ? *length : UINT64_MAX;
 }
 
 static void keep_information(KzOp *op, const char *call)
 {
     uint64_t said = op->data->IoStatus.Information, most = most_of(op);
-    bool has_room = op->carried->major != IRP_MJ_QUERY_SECURITY; /* there it may be how much is needed */
+    bool has_room = op->opaque->major != IRP_MJ_QUERY_SECURITY; /* there it may be how much is needed */
     if (has_room && said > most)
         kz_tell(KZM_PAST_LENGTH, call, "IoStatus.Information %llu is past the %llu bytes that were asked for", (unsigned long long)said, (unsigned long long)most);
-    op->carried->information = said;
+    op->opaque->information = said;
 }
 
-void kz_serve_carried(KzOp *op)
+void kz_serve_opaque(KzOp *op)
 {
     keep_information(op, "FLT_PREOP_COMPLETE");
 }
 
 /* The status is the manager's; the number beside it, and the bytes, are here. */
-void kz_take_carried_post(KzOp *op)
+void kz_take_opaque_post(KzOp *op)
 {
     bool is_exact;
     IO_STATUS_BLOCK said = op->data->IoStatus;
@@ -208,7 +222,7 @@ void kz_take_carried_post(KzOp *op)
 static void replace(FLT_PARAMETERS *parameters, KzOp *op, PVOID gone, PVOID fresh)
 {
     ULONG *length;
-    FLT_IO_PARAMETER_BLOCK block = {.MajorFunction = op->carried->major, .MinorFunction = op->carried->minor, .Parameters = *parameters};
+    FLT_IO_PARAMETER_BLOCK block = {.MajorFunction = op->opaque->major, .MinorFunction = op->opaque->minor, .Parameters = *parameters};
     PVOID *buffer = buffer_in(&block, &length);
     if (!buffer || *buffer != gone)
         return;
@@ -219,26 +233,25 @@ static void replace(FLT_PARAMETERS *parameters, KzOp *op, PVOID gone, PVOID fres
 static PVOID buffer_of(const KzOp *op, const FLT_PARAMETERS *parameters, ULONG *length)
 {
     ULONG *size = NULL;
-    FLT_IO_PARAMETER_BLOCK block = {.MajorFunction = op->carried->major, .MinorFunction = op->carried->minor, .Parameters = *parameters};
+    FLT_IO_PARAMETER_BLOCK block = {.MajorFunction = op->opaque->major, .MinorFunction = op->opaque->minor, .Parameters = *parameters};
     PVOID *buffer = buffer_in(&block, &size);
     *length = size ? *size : 0;
     return buffer ? *buffer : NULL;
 }
 
-void kz_forget_carried_swap(KzOp *op, PFLT_INSTANCE instance)
+void kz_forget_opaque_swap(KzOp *op, PFLT_INSTANCE instance)
 {
-    FLT_PARAMETERS *left = &op->carried->now;
-    KzStep *step = op->carried->steps;
-    for (; step && step->instance != instance; step = step->above)
-        left = &step->received;
+    KzChanged *own = op->opaque->changed;
+    while (own && own->by != instance)
+        own = own->before;
     ULONG length, received_length;
-    PVOID gone = step ? buffer_of(op, left, &length) : NULL;
-    if (!gone || gone == buffer_of(op, &step->received, &received_length))
+    PVOID gone = own ? buffer_of(op, &own->parameters, &length) : NULL;
+    if (!gone || gone == buffer_of(op, own->before ? &own->before->parameters : &op->opaque->first, &received_length))
         return;
     PVOID fresh = memcpy(kz_block(op, length), gone, kz_there(gone, length, "swapped buffer"));
-    replace(&op->carried->now, op, gone, fresh);
-    for (KzStep *lower = op->carried->steps; lower != step; lower = lower->above)
-        replace(&lower->received, op, gone, fresh);
+    for (KzChanged *lower = op->opaque->changed; lower != own->before; lower = lower->before)
+        replace(&lower->parameters, op, gone, fresh);
+    replace(&op->opaque->now, op, gone, fresh);
     replace(&op->iopb->Parameters, op, gone, fresh);
     op->shown.parameters = *op->iopb;
 }
@@ -246,29 +259,33 @@ void kz_forget_carried_swap(KzOp *op, PFLT_INSTANCE instance)
 /* ---- The file system's answer. What lies between its entries isn't the driver's: it is zeros where a run looks for what nobody wrote. */
 static void write_room(const KzOp *op)
 {
-    bool is_query = op->carried->output && (op->carried->major == IRP_MJ_QUERY_INFORMATION || op->carried->major == IRP_MJ_DIRECTORY_CONTROL);
+    bool is_query = op->opaque->output && (op->opaque->major == IRP_MJ_QUERY_INFORMATION || op->opaque->major == IRP_MJ_DIRECTORY_CONTROL);
     ULONG length = 0;
-    PVOID room = kz_unwritten(0) && is_query ? buffer_of(op, &op->carried->now, &length) : NULL;
+    PVOID room = kz_unwritten(0) && is_query ? buffer_of(op, &op->opaque->now, &length) : NULL;
     const KzPiece *piece = room ? kz_piece_of(room) : NULL;
     if (piece && piece->size >= length)
         memset(room, 0, length);
 }
 
-NTSTATUS kz_answer_carried(KzOp *op)
+NTSTATUS kz_answer_opaque(KzOp *op)
 {
-    op->carried->information = 0;
+    uint8_t none;
+    KazdrinData call = {0};
+    kazdrin_lent(&kz.manager, &(KazdrinEvent){.worker = kz_worker()}, &call, &none, 0);
+    op->opaque->now = *parameters_of(op->opaque, call.offset);
+    op->opaque->information = 0;
     write_room(op);
-    switch (op->carried->major) {
+    switch (op->opaque->major) {
     case IRP_MJ_QUERY_INFORMATION:
-        return kz_answer_query(op, &op->carried->now);
+        return kz_answer_query(op, &op->opaque->now);
     case IRP_MJ_SET_INFORMATION:
-        return kz_answer_set(op, &op->carried->now);
+        return kz_answer_set(op, &op->opaque->now);
     case IRP_MJ_DIRECTORY_CONTROL:
-        return kz_answer_directory(op, &op->carried->now);
+        return kz_answer_directory(op, &op->opaque->now);
     case IRP_MJ_QUERY_VOLUME_INFORMATION:
     case IRP_MJ_SET_VOLUME_INFORMATION:
-        return kz_answer_volume(op, &op->carried->now);
+        return kz_answer_volume(op, &op->opaque->now);
     default:
-        return kz_answer_other(op, &op->carried->now);
+        return kz_answer_other(op, &op->opaque->now);
     }
 }

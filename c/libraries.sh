@@ -35,13 +35,13 @@ if ! mkdir -p "$out" 2> /dev/null || [ ! -w "$out" ]; then
     make=("${make[@]::${#make[@]}-1}" "$out" -f src/Makefile SRC=src OUT=.)
 fi
 folder=$out/$("${make[@]}" key "${words[@]}")
-# Where all is made, and there for the next tree, as many as ask are told so at once.
+# Where all is made, and still there for the next tree, as many as ask are told so at once: .kept names the copy, which newer ones may have pushed out.
 exec 9> "$out/.lock"
 flock -s -w 1 9 || {
     echo 'c/libraries.sh: waiting for another build of the host' >&2
     flock -s 9
 }
-if [ -e "$folder/.kept" ] && "${make[@]}" -q libraries "${words[@]}" 2> /dev/null; then
+if [ -e "$folder/.kept" ] && { [ $# -gt 0 ] || [ -d "$(cat "$folder/.kept")" ]; } && "${make[@]}" -q libraries "${words[@]}" 2> /dev/null; then
     echo "$folder"
     exit
 fi
@@ -74,5 +74,5 @@ if [ -n "$kept" ] && [ ! -f "$kept/libkazdrin_libfuzzer.a" ] && mkdir -p "$cache
     mv -T "$kept.new" "$kept"
     find "$cache/host" -mindepth 1 -maxdepth 1 -printf '%T@ %p\n' | sort -rn | tail -n +5 | cut -d' ' -f2- | xargs -r -d '\n' rm -rf --
 fi
-[ -z "$kept" ] || [ ! -f "$kept/libkazdrin_libfuzzer.a" ] || touch "$folder/.kept"
+[ -z "$kept" ] || [ ! -f "$kept/libkazdrin_libfuzzer.a" ] || echo "$kept" > "$folder/.kept"
 echo "$folder"

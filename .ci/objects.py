@@ -93,7 +93,11 @@ def words_of(cell):
 def schema():
     """What each member is; for each event what it has and may have, and whether a printed line is told by it; and the events that come in trials alone."""
     members, upper, lower, trial, driver = tables((TOP / "docs" / "JSON.md").read_text())
-    kinds = {name: row[1] for row in members for name in words_of(row[0])}
+    named = [(name, row[1]) for row in members for name in words_of(row[0])]
+    kinds = dict(named)
+    twice = sorted({name for name, _ in named if [other for other, _ in named].count(name) > 1})
+    if twice:
+        sys.exit(f"docs/JSON.md says twice what is a member {', '.join(twice)}")
     events = {}
     for rows, more, is_printed in ((upper, ["command", "words"], True), (lower + trial, [], False)):
         for names, has, may, _ in rows:

@@ -270,7 +270,7 @@ fn put_request(object: &mut JsonObject, notes: &Notes, operation: Option<u64>) {
         }
         What::SetSize(_, size) => object.number("size", *size),
         What::Other(_, major, number) | What::OtherV(_, major, number) => {
-            object.number("major", u64::from(major.code()));
+            object.major("major", *major);
             object.number("parameters", *number)
         }
         _ => {}

@@ -1,7 +1,9 @@
 //! An object of the JSON that a run is told in.
 
+use crate::named::major_word;
 use crate::push::{is_plain, push_ascii, push_hex, push_id};
 use crate::text::Text;
+use fm_types::Major;
 use serde_json::{Map, Value, json, put};
 use std::alloc::{AllocError, Global};
 
@@ -65,6 +67,14 @@ impl JsonObject {
     pub fn id(&mut self, key: &str, letter: char, number: u64) {
         let mut text = Text::new(self.alloc);
         push_id(&mut text, letter, number);
+        self.put_text(key, text)
+    }
+
+    /// Puts the kit's name of a major function, as `FltGetIrpName` has it.
+    pub fn major(&mut self, key: &str, major: Major) {
+        let mut text = Text::new(self.alloc);
+        text.push_str("IRP_MJ_");
+        text.push_str(major_word(major));
         self.put_text(key, text)
     }
 

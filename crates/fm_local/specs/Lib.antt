@@ -14,6 +14,7 @@ pub mod Places
 pub mod Ports
 pub mod Quietly
 pub mod Requests
+pub mod Steps
 pub mod Shifts
 pub mod Turns
 pub mod Visits

@@ -2,7 +2,9 @@
 
 ghost use Rattle.std.specs.Prelude.{◌≡◌, ◌⊎◌, ◌↔◌, ◌<◌, ◌≤◌, ◌+◌, ◌-◌, ◌^◌, ◌++◌, ◌∷◌, [], IfOk, IsTrue, cond, drop, length, min, nat_le, slice_get};
 ghost use Rattle.std.specs.VecDeque.{deque_capacity};
+ghost use Rattle.fm_local.specs.Waits.{is_among};
 
+use fm_types::OpId;
 use std::alloc::{AllocError, Global};
 use std::collections::VecDeque;
 
@@ -90,5 +92,14 @@ impl<T: Copy> Bounded<T> {
     {
         self.items.clear();
         self.dropped = 0;
+    }
+}
+
+impl Bounded<OpId> {
+    /// Whether that operation waits.
+    pub fn has(&self, operation: OpId) -> bool
+        ensures { result ≡ is_among operation self.now.items.items }
+    {
+        self.items.contains(&operation)
     }
 }

@@ -12,10 +12,12 @@ mod parts;
 mod refusal;
 mod requests;
 mod routines;
+mod steps;
 mod teardowns;
 mod trace;
 
 pub use crate::leak::Leak;
 pub use crate::manager::LocalManager;
 pub use crate::refusal::{PortCall, Refusal};
+pub use crate::steps::Stepped;
 pub use crate::trace::{PostAnswer, PreAnswer, Traced, Visit};

@@ -7,11 +7,13 @@ ghost use Rattle.fm_local.specs.Actions.{GivesFinished, RefusesIn};
 ghost use Rattle.fm_local.specs.Between.{IsBetween};
 ghost use Rattle.fm_local.specs.Lending.{LendsBase};
 ghost use Rattle.fm_local.specs.Managers.{HasRooms};
+ghost use Rattle.fm_local.specs.Steps.{BeginsAlone, StepsOne, TakesResumed};
 ghost use Rattle.fm_local.specs.Offered.{AnswersAny, AnswersReady, AttachesAny, AttachesAs, AttachesReady, DetachesAny, DetachesAs, DetachesReady, ForgetsReport, HandsOutFirst, HasNoReport, IsNew, LoadsAs, MountsAs, Numbers, Places, Ready, SameAround, SameFilters, SameHanded, StaysReady, StaysReadyAlike, StaysReadyIfPlain, UnloadsAny, UnloadsAs, UnloadsReady, WorksAny, dropped_count, file_systems, leaks, refused_calls, steps, world};
 
 use crate::leak::Leak;
 use crate::parts::Parts;
 use crate::refusal::Refusal;
+use crate::steps::Stepped;
 use crate::trace::Traced;
 use fm_altitude::Altitude;
 use fm_base::Base;
@@ -195,6 +197,31 @@ impl<F: Minifilter, B: Base> LocalManager<F, B> {
         ensures requests { AnswersAny F.Minifilter B.Base request self.old result self.new }
     {
         self.parts.answer(request)
+    }
+
+    /// Begins an operation that goes on by `step`, so that several are under way beside each other. Unlike `answer` it takes a close for the close alone: its
+    /// cleanup is one of its own. Refused, nothing changed, as `State::begin`.
+    pub fn begin(&mut self, request: Request) -> Result<OpId, Status>
+        ensures { BeginsAlone request self.old result self.new }
+    {
+        self.parts.begin(request)
+    }
+
+    /// One step of an operation that `begin` began, or that `resumed` named: a callback that is next, with all that it calls, or the call of the file system;
+    /// or, where it is done, its reply, which isn't given again. What is due after that is cleaned up. An operation that a filter holds, that waits for
+    /// `resumed` or `finished`, or that isn't there is `Held`, and nothing happens then. What a callback resumes waits for `resumed`; a call that carries
+    /// requests on (`answer`, `attach`, `detach`, `unload`, `run_work`) carries it on too, and its reply is for `finished` then.
+    pub fn step(&mut self, operation: OpId) -> Stepped
+        ensures { StepsOne F.Minifilter B.Base operation self.old result self.new }
+    {
+        self.parts.step(operation)
+    }
+
+    /// The operation that callbacks resumed first, of those that wait to be carried on: it waits no more, and goes on by `step`. None where none waits.
+    pub fn resumed(&mut self) -> Option<OpId>
+        ensures { TakesResumed self.old result self.new }
+    {
+        self.parts.resumed()
     }
 
     /// The reply of an operation that was held, in the order in which they ended. It is never a refusal: of a manager that `new` made, whatever was called

@@ -27,7 +27,7 @@ pub(crate) const RESUMPTIONS: usize = OPERATIONS * 64;
 
 /// How a turn of an operation leaves it.
 #[derive(Clone, Copy, PartialEq, Eq)]
-enum Turn {
+pub(crate) enum Turn {
     /// There is more to do.
     Goes,
     /// A filter holds it.
@@ -215,8 +215,8 @@ impl<F: Minifilter, B: Base> Parts<F, B> {
         }
     }
 
-    // Hands out the answer of a done operation.
-    fn reply(&mut self, operation: OpId) -> Reply
+    /// Hands out the answer of a done operation.
+    pub(crate) fn reply(&mut self, operation: OpId) -> Reply
         ensures answer { HandsOutAnswer operation self.old result self.new }
         ensures kept { StateTraced self.old self.new }
         ensures out { StaysOut self.old self.new }
@@ -266,8 +266,8 @@ impl<F: Minifilter, B: Base> Parts<F, B> {
         Turn::Held
     }
 
-    // What is next for an operation, done.
-    fn turn(&mut self, operation: OpId) -> Turn
+    /// What is next for an operation, done.
+    pub(crate) fn turn(&mut self, operation: OpId) -> Turn
         ensures turned { TurnsAs F.Minifilter B.Base operation self.old result self.new }
         ensures quiet { StaysQuiet F.Minifilter self.old self.new }
         ensures kept { TurnsOnly self.old self.new }

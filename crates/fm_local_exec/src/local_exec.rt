@@ -3,13 +3,14 @@
 ghost use Rattle.std.specs.Prelude.{◌≡◌};
 ghost use Rattle.fm_local_exec.specs.Locals.{Answers, AnswersControl, Loads};
 ghost use Rattle.fm_local.specs.Actions.{GivesFinished};
+ghost use Rattle.fm_local.specs.Steps.{BeginsAlone, StepsOne, TakesResumed};
 ghost use Rattle.fm_local.specs.Offered.{ForgetsReport, HandsOutFirst, HasNoReport, SameAround};
 
 use crate::said::{filter_reply, instance_reply, number_reply, status_reply, unit_reply};
 use fm_base::Base;
 use fm_callback_data::{Reply, Request};
 use fm_filter::Minifilter;
-use fm_local::LocalManager;
+use fm_local::{LocalManager, Stepped};
 use fm_samples::Sample;
 use fm_server::Exec;
 use fm_types::{FilterId, Name, OpId, Status};
@@ -59,6 +60,30 @@ impl<F: Minifilter, B: Base> LocalExec<F, B> {
         ensures same { self.new.alloc ≡ self.old.alloc }
     {
         self.manager.finished()
+    }
+
+    /// Begins an operation that goes on by `step`, as the manager's `begin`.
+    pub fn begin(&mut self, request: Request) -> Result<OpId, Status>
+        ensures begins { BeginsAlone request self.old.manager result self.new.manager }
+        ensures same { self.new.alloc ≡ self.old.alloc }
+    {
+        self.manager.begin(request)
+    }
+
+    /// One step of an operation, as the manager's `step`.
+    pub fn step(&mut self, operation: OpId) -> Stepped
+        ensures steps { StepsOne F.Minifilter B.Base operation self.old.manager result self.new.manager }
+        ensures same { self.new.alloc ≡ self.old.alloc }
+    {
+        self.manager.step(operation)
+    }
+
+    /// The operation that callbacks resumed first, as the manager's `resumed`.
+    pub fn resumed(&mut self) -> Option<OpId>
+        ensures takes { TakesResumed self.old.manager result self.new.manager }
+        ensures same { self.new.alloc ≡ self.old.alloc }
+    {
+        self.manager.resumed()
     }
 
     fn load(&mut self, name: &Name) -> Result<FilterId, Status>

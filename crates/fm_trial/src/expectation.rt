@@ -10,7 +10,7 @@ use std::alloc::{AllocError, Global};
 
 /// What the last request must have come to.
 #[derive(Drop)]
-pub(crate) enum Expectation {
+pub enum Expectation {
     /// Its reply has the status of that number.
     Status(u64),
     /// Its reply has these bytes.
@@ -47,7 +47,7 @@ fn read_plain(words: &[&str]) -> Option<Expectation>
 
 impl Expectation {
     /// Reads the words behind `expect`: `N` or `status N`, `bytes HEX`, `held`, `told KZ0101`. None if they are others. Fails if memory is refused.
-    pub(crate) fn read(alloc: Global, words: &[&str]) -> Result<Option<Expectation>, AllocError>
+    pub fn read(alloc: Global, words: &[&str]) -> Result<Option<Expectation>, AllocError>
         ensures { IfOk result (λ read. IfSome read (λ expected. IsSpelled expected (map (λ word. word.now) words.now))) }
     {
         if let ["bytes", bytes] = words {
@@ -60,7 +60,7 @@ impl Expectation {
     }
 
     /// Whether a reply is as expected. What was told with it isn't its own.
-    pub(crate) fn is_met(&self, reply: &Reply) -> bool
+    pub fn is_met(&self, reply: &Reply) -> bool
         ensures { result ≡ reply_meets self.now reply.now }
     {
         match (self, reply) {

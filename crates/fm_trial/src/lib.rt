@@ -17,4 +17,8 @@ mod text;
 mod trial_format;
 mod words;
 
+pub use crate::expectation::Expectation;
+pub use crate::line::ScenarioLine;
 pub use crate::program::{show_usage, trial};
+pub use crate::report::{TrialManager, write_reply};
+pub use crate::text::{lines_of, without_return};

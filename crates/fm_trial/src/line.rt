@@ -12,7 +12,7 @@ use std::alloc::{AllocError, Global};
 
 /// What a line says.
 #[derive(Drop)]
-pub(crate) enum ScenarioLine {
+pub enum ScenarioLine {
     /// Nothing: it is empty, or a remark.
     Nothing,
     /// A request.
@@ -42,7 +42,7 @@ fn read_words(alloc: Global, words: &[&str]) -> Result<ScenarioLine, Status>
 
 impl ScenarioLine {
     /// Reads a line. Refused with 1, if memory is refused.
-    pub(crate) fn read(alloc: Global, text: &str) -> Result<ScenarioLine, Status>
+    pub fn read(alloc: Global, text: &str) -> Result<ScenarioLine, Status>
         ensures { IfOk result (Says text.now) }
     {
         let words = words_of(alloc, text)?;

@@ -12,7 +12,7 @@ use std::alloc::AllocError;
 use std::fmt::Write;
 
 /// The only file system of a trial.
-pub(crate) type TrialManager<F> = LocalManager<F, MemoryBase>;
+pub type TrialManager<F> = LocalManager<F, MemoryBase>;
 
 // The bytes as two digits each, or a dash.
 fn write_bytes(text: &mut String, bytes: &[u8]) -> Result<(), AllocError> {
@@ -26,7 +26,7 @@ fn write_bytes(text: &mut String, bytes: &[u8]) -> Result<(), AllocError> {
 }
 
 /// Appends a reply.
-pub(crate) fn write_reply(text: &mut String, reply: &Reply) -> Result<(), AllocError> {
+pub fn write_reply(text: &mut String, reply: &Reply) -> Result<(), AllocError> {
     match reply {
         Reply::Done {
             status,

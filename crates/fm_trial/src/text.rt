@@ -6,7 +6,7 @@ ghost use Rattle.fm_trial.specs.Lines.{AreWords, IsWithoutReturn, text_lines};
 use std::alloc::{AllocError, Global};
 
 /// What stands between the line feeds of a text: at least one line. Fails if memory is refused.
-pub(crate) fn lines_of<'a>(alloc: Global, text: &'a str) -> Result<Vec<&'a str>, AllocError>
+pub fn lines_of<'a>(alloc: Global, text: &'a str) -> Result<Vec<&'a str>, AllocError>
     ensures { IfOk result (λ lines. map (λ line. line.now) lines.items ≡ text_lines text.now) }
 {
     let mut lines = Vec::new(alloc);
@@ -20,7 +20,7 @@ pub(crate) fn lines_of<'a>(alloc: Global, text: &'a str) -> Result<Vec<&'a str>,
 }
 
 /// A line without the carriage return at its end, if it has one.
-pub(crate) fn without_return(line: &str) -> &str
+pub fn without_return(line: &str) -> &str
     ensures { IsWithoutReturn line.now result.now }
 {
     line.strip_suffix('\r').unwrap_or(line)

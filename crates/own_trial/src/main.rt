@@ -2,7 +2,7 @@
 //! `--help` it prints how it is used.
 #![tactic(auto)]
 
-use fm_trial::{show_usage, trial};
+use fm_explore::{show_usage, trial};
 use own_filter::filters;
 use std::io;
 use std::process::ExitCode;

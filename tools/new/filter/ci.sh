@@ -3,3 +3,4 @@
 set -eu
 cd "$(dirname "$0")"
 "${KAZDRIN:?a checkout of Kazdrin}/flt" run "$PWD" requests.txt held.txt
+"$KAZDRIN/flt" run "$PWD" --explore orders.txt

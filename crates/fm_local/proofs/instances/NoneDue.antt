@@ -8,6 +8,7 @@ use Rattle.std.specs.Prelude.{IfErr}
 use Rattle.fm_world.specs.World.{empty_world}
 use Rattle.fm_local.specs.Calls.{EndsTidily, UnloadsWith}
 use Rattle.fm_local.specs.Cleanups.{LeavesNoneDue}
+use Rattle.fm_local.proofs.queues.Places.{begun_stays}
 use Rattle.fm_local.proofs.instances.Detaches.{start_refused}
 use Rattle.fm_local.proofs.instances.Rest.{ask_refused, attach_refused, complete_refused, happened, is_in, is_out, ask_unload_refused, work_refused}
 
@@ -42,6 +43,12 @@ module _ (k : WorkerId) where
   pub none_begun : (old : World) (what : Request) (why : Status) (new : World) → Begins old what (Err why) new → LeavesNoneDue k old new
   unfolding Begins
   none_begun old what why new h = none_same old new h.1
+
+  pub none_begins : (old : World) (what : Request) (result : Result OpId Status) (new : World) → Begins old what result new → LeavesNoneDue k old new
+  unfolding Begins
+  none_begins old what (Err why) new h = none_same old new h.1
+  none_begins old what (Ok o) new h =
+      none_still old new (ap (λ (w : World). w.workers) h.1.1 ∙ (begun_stays k old what).0) (ap (λ (w : World). w.contexts) h.1.1 ∙ (begun_stays k old what).1)
 
   pub none_finished : (old : World) (i : InstanceId) (result : Result (Unit {0}) Status) (new : World) → Finishes old i result new → LeavesNoneDue k old new
   unfolding Finishes

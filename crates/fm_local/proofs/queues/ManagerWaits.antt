@@ -180,3 +180,7 @@ take_waits t o resumed left ended is h = taken t o left ended (subst (λ (os : L
 
 pub emptied_waits : (t : FlowTable) (resumed left ended : List OpId) → (resumed ≡ []) × (left ≡ []) → Wait t resumed ended → Wait t left ended
 emptied_waits t resumed left ended is h = subst (λ (os : List OpId). Wait t os ended) (is.0 ∙ sym is.1) h
+
+pub taken_waits : (t : FlowTable) (resumed left ended : List OpId) → left ≡ drop 1 resumed → Wait t resumed ended → Wait t left ended
+taken_waits t [] left ended is h = emptied_waits t [] left ended (refl, is) h
+taken_waits t (o ∷ os) left ended is h = (take_waits t o (o ∷ os) left ended (ap (λ (l : List OpId). o ∷ l) (sym is)) h).0

@@ -263,24 +263,24 @@ module _ (k : WorkerId) where
   unfolding Collects
   collected_out old o result new h = still_out old new (ap (λ (w : World). w.workers) h.1)
 
-  begun_stays : (w : World) (what : Request) → (after_begin w what).workers ≡ w.workers
-  begun_stays w (Request.List v) = refl
-  begun_stays w (Request.OnVolume v m n) = refl
-  begun_stays w (Request.Create v path mode) = refl
+  pub begun_stays : (w : World) (what : Request) → ((after_begin w what).workers ≡ w.workers) × ((after_begin w what).contexts ≡ w.contexts)
+  begun_stays w (Request.List v) = (refl, refl)
+  begun_stays w (Request.OnVolume v m n) = (refl, refl)
+  begun_stays w (Request.Create v path mode) = (refl, refl)
   begun_stays w (Request.OnHandle h asked) = by_handle (handle_at h w.files)
     where
-      by_stream : (x : FileHandle) (m : Option FileStream) → (begun_on w h (params_of asked) x m).workers ≡ w.workers
-      by_stream x None = refl
-      by_stream x (Some y) = refl
+      by_stream : (x : FileHandle) (m : Option FileStream) → ((begun_on w h (params_of asked) x m).workers ≡ w.workers) × ((begun_on w h (params_of asked) x m).contexts ≡ w.contexts)
+      by_stream x None = (refl, refl)
+      by_stream x (Some y) = (refl, refl)
 
-      by_handle : (m : Option FileHandle) → (begun_at w h (params_of asked) m).workers ≡ w.workers
-      by_handle None = refl
+      by_handle : (m : Option FileHandle) → ((begun_at w h (params_of asked) m).workers ≡ w.workers) × ((begun_at w h (params_of asked) m).contexts ≡ w.contexts)
+      by_handle None = (refl, refl)
       by_handle (Some x) = by_stream x (stream_at x.stream w.files)
 
   pub begun_out : (old : World) (what : Request) (result : Result OpId Status) (new : World) → Begins old what result new → StaysOut k old new
   unfolding Begins
   begun_out old what (Err why) new h = same_out old new h.1
-  begun_out old what (Ok o) new h = still_out old new (ap (λ (w : World). w.workers) h.1.1 ∙ begun_stays old what)
+  begun_out old what (Ok o) new h = still_out old new (ap (λ (w : World). w.workers) h.1.1 ∙ (begun_stays old what).0)
 
   pub finished_out : (old : World) (i : InstanceId) (result : Result (Unit {0}) Status) (new : World) → Finishes old i result new → StaysOut k old new
   unfolding Finishes

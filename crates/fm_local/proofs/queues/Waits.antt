@@ -18,7 +18,7 @@ both a b h g = grind arith
 parts : (a b : Bool) → a && b ≡ true → (a ≡ true) × (b ≡ true)
 parts a b h = grind arith
 
-none_of : (a b : Bool) → a || b ≡ false → (a ≡ false) × (b ≡ false)
+pub none_of : (a b : Bool) → a || b ≡ false → (a ≡ false) × (b ≡ false)
 none_of a b h = grind arith
 
 neither : (a b : Bool) → a ≡ false → b ≡ false → a || b ≡ false

@@ -5,7 +5,7 @@ use std::alloc::{AllocError, Global};
 /// The preemptions of a search that no word bounds.
 const BOUND: u32 = 2;
 
-/// What the words behind `--explore` ask for.
+/// What the words after `--explore` ask for.
 #[derive(Drop)]
 pub(crate) struct Options {
     /// How many preemptions a schedule may have; without a bound as many as there can be.

@@ -37,15 +37,16 @@ fn failed(status: Status) -> io::Error {
 }
 
 /// Runs scenarios as `fm_trial::trial` does; or, with the word `--explore`, one scenario in every order in which its clients' callbacks can come, and tells what was
-/// found, each with the schedule that is best to look at.
+/// found, each with the schedule that is best to look at. Its contract says that it is safe and ends: what status 0 of a trial promises is the clause of
+/// `fm_trial::trial`, and what a search finds is tested by rows.
 ///
 /// `--bound N` runs all schedules with at most N preemptions (2 without the word), `--bound all` each schedule. `--ends` shows each end that differs, by what clients
 /// were answered and by the filters' totals. `--replay SCHEDULE` runs one schedule, and shows its steps.
 ///
 /// The exit status of a search: 0; 5 if a mistake was told or an expectation wasn't met; 6 if a client was stuck and nothing else was found; 4 if it isn't whole, since
-/// a run has no end, filters don't repeat themselves, or not all that was noted was kept; 1 if a load or an attach before the clients is refused, or if no callback was called and no line expects anything; 2 with a sentence on
-/// standard error for wrong words, for a file that can't be read, for a line that isn't understood, and for a schedule of another scenario. It fails if memory is
-/// refused, if the filters can't be made, or if a write fails.
+/// a run has no end, filters don't repeat themselves, or not all that was noted was kept; 1 if a load or an attach before the clients is refused, or if no callback
+/// was called and no line expects anything; 2 with a sentence on standard error for wrong words, for a file that can't be read, for a line that isn't understood, and
+/// for a schedule of another scenario. It fails if memory is refused, if the filters can't be made, or if a write fails.
 pub fn trial<R, I, F, E, W>(rt: &R, input: I, make: E, out: &mut W) -> io::Result<u8>
 where
     R: Env + Eprint + Files + AllocGlobal,

@@ -108,7 +108,7 @@ impl<'a, F: Minifilter> ScheduleRun<'a, F> {
         Ok(None)
     }
 
-    /// Goes on until nobody can, with the requests of `finally` behind that. Refused with 1, if memory is refused.
+    /// Goes on until nobody can, and then makes the requests of `finally`. Refused with 1, if memory is refused.
     pub(crate) fn play(&mut self) -> Result<End, Status> {
         for _ in 0..STEPS {
             let options = self.options()?;
@@ -380,7 +380,7 @@ impl<'a, F: Minifilter> ScheduleRun<'a, F> {
         self.answer(client, reply)
     }
 
-    // A client's operation goes on, up to behind the next callback or call.
+    // A client's operation goes on, until the next callback or call has returned.
     fn go_on(&mut self, client: usize, operation: OpId) -> Result<(), Status> {
         for _ in 0..TURNS {
             let before = self.visits();
@@ -403,7 +403,7 @@ impl<'a, F: Minifilter> ScheduleRun<'a, F> {
         (manager.traced() as u64).saturating_add(manager.dropped())
     }
 
-    // Behind a callback or a call: an operation that is done is answered, and one that is held waits.
+    // After a callback or a call: an operation that is done is answered, and one that is held waits.
     fn stop_behind(&mut self, client: usize, operation: OpId) -> Result<(), Status> {
         let state = self.exec.manager().state();
         if held_at(state, operation).is_some() {
@@ -435,7 +435,7 @@ impl<'a, F: Minifilter> ScheduleRun<'a, F> {
         self.end_request(client, reply)
     }
 
-    // Begins the close behind a cleanup.
+    // Begins the close that follows a cleanup.
     fn begin_close(&mut self, client: usize, close: Request) -> Result<(), Status> {
         match self.exec.begin(close) {
             Ok(operation) => {

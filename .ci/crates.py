@@ -22,3 +22,13 @@ def above(crate):
         if not more:
             return found
         found |= more
+
+
+def below(crate):
+    """A crate with those that it stands on, directly or not."""
+    stands, found = stands_on("tests/uses.txt"), set()
+    more = {crate}
+    while more:
+        found |= more
+        more = {lower for name in more for lower in stands[name]} - found
+    return found

@@ -2,6 +2,7 @@
 """Checks the JSON of scripts against the tables of docs/JSON.md, and each run's objects against what the run printed.
 
     .ci/objects.py --program FLTVIEW [--trial PROGRAM] [--random COUNT [SEED]] [SCRIPT ..]     of these scripts; else of all stored ones
+    .ci/objects.py --schema     reads the tables of the page alone
     .ci/objects.py --objects FILE [--objects FILE ..]     the objects that drivers' programs in C wrote to these files
 
 With --random it checks so many random scripts too (.ci/scripts.py), from that seed on or from 1.
@@ -362,6 +363,9 @@ def check_drivers(paths):
 
 
 def main():
+    if sys.argv[1:] == ["--schema"]:
+        schema()
+        sys.exit(0)
     if sys.argv[1:2] == ["--objects"]:
         if sys.argv[1::2] != ["--objects"] * (len(sys.argv) // 2) or len(sys.argv) % 2 == 0:
             sys.exit(__doc__)

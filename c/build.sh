@@ -25,6 +25,11 @@ usage() {
     sed -n '2,3s/^# //p' "$here/build.sh" >&2
     exit 2
 }
+# no_word WORD: says that it is none of the words above, and which is nearest.
+no_word() {
+    sed -n '2,/^set/s/^#   \(-.*\)/\1/p' "$here/build.sh" | grep -oE '^--[a-z]+|, --[a-z]+' | tr -d ', ' | awk -v what=word -v typed="${1%%=*}" -v program=c/build.sh -f "$here/../tools/nearest.awk" >&2
+    exit 2
+}
 kind=""
 sanitizers=""
 main=""
@@ -50,7 +55,7 @@ while [ $# -gt 0 ]; do
     --flags | --flags=user) flags=$1 ;;
     -[ID]?*) own+=("$1") ;;
     --driver | [!-]*) break ;;
-    *) usage ;;
+    *) no_word "$1" ;;
     esac
     shift
 done
@@ -65,6 +70,15 @@ if [ -n "$image" ] && [ "$(uname -m)" != x86_64 ]; then
 fi
 program=${1:-}
 [ $# = 0 ] || shift
+# Another file that is there, or that is named as a source is, was meant as a driver: what is built would take its place.
+is_program() {
+    case $1 in *.[cChH] | *.cc | *.cpp | *.cxx | *.txt | *.[sS][yY][sS]) return 1 ;; esac
+    [ ! -e "$1" ] || { [ -f "$1" ] && { [ ! -s "$1" ] || [ "$(head -c 4 "$1")" = $'\x7fELF' ]; }; }
+}
+[ -z "$program" ] || is_program "$program" || {
+    say "$program isn't written, since it is no program: the program to be built is the first of the words, as in c/build.sh ./p driver.c"
+    exit 2
+}
 cc=${CC:-cc}
 cflags=${CFLAGS:-}
 for tool in "${cc%% *}" objcopy; do

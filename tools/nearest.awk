@@ -1,4 +1,4 @@
-# Says what is no word, which of the lines of standard input comes nearest to it by how many letters differ, if one is near, and all of them; `what` is what it was to be.
+# Says what is no word, which of the lines of standard input comes nearest to it by how many letters differ, if one is near, and all of them; `what` is what it was to be, `program` who says it.
 function least(a, b) { return a < b ? a : b }
 function distance(a, b, i, j, rows) {
     for (j = 0; j <= length(b); j++) rows[0, j] = j
@@ -14,4 +14,4 @@ function distance(a, b, i, j, rows) {
     if (NR == 1 || away < far) { nearest = $0; far = away }
     all = all " " $0
 }
-END { print "flt: there is no " what " " typed (far <= 2 ? "; the nearest is " nearest : "") "; there are:" all }
+END { print (program ? program : "flt") ": there is no " what " " typed (far <= 2 ? "; the nearest is " nearest : "") "; there are:" all }

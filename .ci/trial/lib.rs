@@ -1,11 +1,13 @@
 //! Filters that do what none of test_trial does: one declines its instances, the other holds a read on its way up, and makes mistakes of its own.
 #![tactic(auto)]
 
+mod opens;
 mod orders;
 
 ghost use Rattle.std.specs.Prelude.{◌≡◌};
 
 use fm_callback_data::{CallbackData, Completion, Params, PostVerdict, PreVerdict};
+use crate::opens::Opens;
 use crate::orders::Orders;
 use fm_filter::{Agreeable, Either, Port};
 use fm_types::{Bytes, ContextKind, ContextMask, CtxId, Name, OpMask, Registration, Status};
@@ -25,11 +27,15 @@ pub enum Slips {
 }
 
 /// The filters under the names by which they are loaded.
-pub fn filters(alloc: Global) -> Result<Vec<(Name, Either<Slips, Orders>)>, Status> {
+pub fn filters(
+    alloc: Global,
+) -> Result<Vec<(Name, Either<Slips, Either<Orders, Opens>>)>, Status> {
     let mut filters = Vec::new(alloc);
     filters.push((Name::read(b"slips")?, Either::Left(Slips::Slips(alloc))))?;
     filters.push((Name::read(b"declines")?, Either::Left(Slips::Declines)))?;
-    filters.push((Name::read(b"orders")?, Either::Right(Orders { alloc })))?;
+    let orders = Either::Left(Orders { alloc });
+    filters.push((Name::read(b"orders")?, Either::Right(orders)))?;
+    filters.push((Name::read(b"opens")?, Either::Right(Either::Right(Opens))))?;
     Ok(filters)
 }
 

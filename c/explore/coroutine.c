@@ -71,6 +71,15 @@ static bool is_finally(const Runner *one)
     return one->script && one->script->is_finally;
 }
 
+/* Of the scenario's clients. */
+static bool is_any_left(void)
+{
+    for (int at = 1; at <= ex->run.runners_count; at++)
+        if (!ex_runners[at].is_worker && ex_runners[at].state != ENDED)
+            return true;
+    return false;
+}
+
 typedef struct {
     int clients[RUNNERS];
     unsigned count;
@@ -98,7 +107,7 @@ static Options options_of(Runner *me)
     for (int at = 1; at <= ex->run.runners_count && !options.count; at++)
         if (is_finally(&ex_runners[at]) && can_go_on(&ex_runners[at]))
             add(&options, &ex_runners[at]);
-    bool is_over = !options.count && !ex_is_stuck(); /* whoever is beside the clients alone waits on */
+    bool is_over = !options.count && !is_any_left(); /* whoever is beside the clients alone waits on */
     for (int at = 1; at <= ex->run.runners_count && !options.count; at++)
         if (ex_runners[at].state == WAITING && ex_runners[at].client->timeout && !(is_over && ex_runners[at].thread)) {
             ex_runners[at].timed_out = true;
@@ -177,11 +186,10 @@ static int choose(Runner *me)
     if (ex->path.goes_to && ex->path.depth >= ex->path.goes_to)
         ex_give_up();
     Options options = options_of(me);
+    ex_note_able(options.clients, options.count);
     if (!options.count)
         return 0;
-    ex->run.able = ex->run.stayed_at = ex->run.chose_at = 0;
-    for (unsigned at = 0; at < options.count; at++)
-        ex->run.able |= 1U << options.clients[at];
+    ex->run.stayed_at = ex->run.chose_at = 0;
     bool is_bound = options.may_stay && ex->run.preemptions >= ex->search.bound && !ex->search.replay;
     if (ex->run.pair)
         return begin_step(options.clients[ex_choose_for_pair(options.clients, options.count)], false);
@@ -610,10 +618,27 @@ void ex_run(int stood)
     kz_me = &kz_first;
 }
 
+const Runner *ex_holder_of(const Runner *one)
+{
+    KzOwnerOf *owner_of = one->state == WAITING && !one->client->timeout ? one->client->owner_of : NULL;
+    const KzClient *owner = owner_of ? owner_of(one->client->owned) : NULL;
+    return owner && owner != one->client ? &ex_runners[owner->number] : NULL;
+}
+
+/* Who has what it waits for waits for what another has, and so on, up to what it has itself. */
+static bool is_in_circle(const Runner *one)
+{
+    const Runner *at = ex_holder_of(one);
+    for (int links = 0; at && at != one && links < RUNNERS; links++)
+        at = ex_holder_of(at);
+    return at == one;
+}
+
+/* A thread beside the clients may wait for what never comes, as a service does, but not in a circle. */
 bool ex_is_stuck(void)
 {
-    for (int at = 1; at <= ex->run.runners_count; at++)
-        if (!ex_runners[at].is_worker && ex_runners[at].state != ENDED)
-            return true;
-    return false;
+    bool is_stuck = is_any_left();
+    for (int at = 1; at <= ex->run.runners_count && !is_stuck; at++)
+        is_stuck = ex_runners[at].thread && is_in_circle(&ex_runners[at]);
+    return is_stuck;
 }

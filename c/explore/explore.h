@@ -375,6 +375,7 @@ void ex_go_on_in_order(void);
 bool ex_do_steps_depend(uint32_t a, uint32_t b);
 bool ex_is_asleep(int client);
 void ex_end_step(void);
+void ex_note_able(const int *clients, unsigned count);
 void ex_break_step(void);
 bool ex_begin_choice(Node *node, const int *clients, bool may_stay);
 void ex_note_choice(Node *node, const int *clients);
@@ -392,7 +393,10 @@ void ex_clear_stacks(void);
 bool ex_is_stack(const void *address);
 uint64_t ex_stacks_hash(void);
 void ex_run(int stood);
+/* Nobody can go on: whether somebody waits who shouldn't. */
 bool ex_is_stuck(void);
+/* Who has what it waits for, for no time; NULL if that isn't known. */
+const Runner *ex_holder_of(const Runner *one);
 bool ex_is_busy(const Runner *one);
 uint64_t ex_stands_hash(void);
 /* Before an access of the driver's code: another client may go on first. */

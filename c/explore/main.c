@@ -25,7 +25,7 @@ static void begin_run(void)
     ex->path.hash = 0;
     ex->run.unmet[0] = 0;
     ex->run.is_given_up = ex->run.is_alone = false;
-    ex->run.asleep = ex->run.stayed_at = ex->run.chose_at = 0;
+    ex->run.able = ex->run.asleep = ex->run.stayed_at = ex->run.chose_at = 0;
     memset(ex->run.seen, 0, sizeof ex->run.seen);
     ex->run.runners_count = ex->run.usual_count;
     memset(ex->run.patience, 0, sizeof ex->run.patience[0] * ((size_t)ex->run.most_runners + 1));
@@ -48,15 +48,31 @@ static int start_run(void)
     return stood;
 }
 
+/* Whether another waits for what it has. */
+static bool is_waited_for(const Runner *holder)
+{
+    for (int at = 1; at <= ex->run.runners_count; at++)
+        if (ex_holder_of(&ex_runners[at]) == holder)
+            return true;
+    return false;
+}
+
+/* Those that are beside the clients and in nobody's way wait as they should. */
+static bool is_told(const Runner *one)
+{
+    bool is_idle = one->is_worker && !ex_is_busy(one), is_in_way = one->thread && (ex_holder_of(one) || is_waited_for(one));
+    return one->state != ENDED && (!is_idle || is_in_way);
+}
+
 static void tell_stuck(void)
 {
     char text[TEXT];
     size_t used = (size_t)snprintf(text, sizeof text, "STUCK");
-    for (int at = 1; at <= ex->run.runners_count; at++) {
+    for (int at = 1; at <= ex->run.runners_count && used + 1 < sizeof text; at++) {
         const Runner *one = &ex_runners[at];
-        bool is_idle = one->is_worker && !ex_is_busy(one);
-        if (!is_idle && one->state != ENDED && used + 1 < sizeof text)
-            used += (size_t)snprintf(text + used, sizeof text - used, "\n  %s waits for %s", one->name, one->client->waits);
+        const Runner *holder = is_told(one) && !one->client->names_owner ? ex_holder_of(one) : NULL;
+        if (is_told(one))
+            used += (size_t)snprintf(text + used, sizeof text - used, "\n  %s waits for %s%s%s%s", one->name, one->client->waits, holder ? ": " : "", holder ? holder->name : "", holder ? " has it" : "");
     }
     ex_found_lines(STUCK, text);
 }
@@ -435,11 +451,11 @@ static int end(int ended)
     return 3;
 }
 
-/* Of a binary it isn't known what its steps use. */
+/* Of a binary it isn't known what its steps use. For pairs of steps it has to be known, however the search is asked for. */
 static bool is_to_be_thinned(const Asked *asked)
 {
-    bool is_drawn = asked->replay || ex->search.asked_seed;
-    return !ex->search.is_whole && !is_drawn && !ex->search.is_reduced && !kz_binaries.put_back;
+    bool is_drawn = asked->replay || ex->search.asked_seed, is_searched = !is_drawn && !ex->search.is_whole && !ex->search.is_reduced;
+    return (is_searched || asked->commutes) && !kz_binaries.put_back;
 }
 
 int main(int count, char **words)
@@ -472,7 +488,7 @@ int main(int count, char **words)
     ex_open_places();
     ex_open_order();
     ex_watch_faults();
-    if (asked.replay || ex->search.asked_seed)
+    if (asked.replay || ex->search.asked_seed || asked.commutes)
         ex->search.is_reduced = ex->search.has_no_bound = false;
     ex->search.is_thinned = is_to_be_thinned(&asked);
     ex->search.is_spread = ex->search.shards || asked.jobs > 1;

@@ -1,6 +1,19 @@
 /* Which schedules are searched: of those that differ only by the order of steps that come to the same in either order, one. A client that could go on is interrupted only before a step that some
  * later step of another client, in some schedule in which it goes on, doesn't come behind by itself, though both use the same. And where it is interrupted it sleeps: it doesn't go on before
- * another client's step used what it is about to use, for else it might have gone on at first, with no more preemptions. */
+ * another client's step used what it is about to use, for else it might have gone on at first, with no more preemptions. Nothing is lost by that:
+ *
+ * Who sleeps. A client went on at a choice, and all that comes after that was searched. Where another goes on in its place, the first one sleeps, and what its step used is kept. As long as the
+ * others' steps use nothing of that, its step may as well have come before theirs: so what comes if it goes on now was searched. It wakes at the first step that uses the same, and at one that
+ * stops it. So the set holds those whose next step leads to nothing but what was searched.
+ *
+ * Who is met. A choice at which a client stays has its other options only if something meets the client's step. Else each schedule in which others go first has the same steps as one in which they
+ * come behind it. But a client that waits has a next step as well, which perhaps never comes: it could have gone on, and a step of another took away what it waited for. Those two use the same,
+ * and in the other order both come. So whoever could go on at the last choice, neither went nor can now, counts as if his step had come and met the one that is through. For that a wait that looks
+ * at several things needs steps that meet one another: those that change what it looks at write the same, or are taken to use everything.
+ *
+ * What a bound adds. Of two schedules that come to the same one may have more preemptions. To stay costs none: if a client's step moves to where it stayed, the switch away from it comes behind that
+ * step, and no other is added. So the first option alone is searched by itself, or sleeps. Where a client comes newly, by a preemption or since another waits or ended, each option is searched:
+ * which of their orders has fewer preemptions isn't known. Where none is left there is no choice. Without a bound each option may sleep. */
 #include "explore.h"
 
 enum { TAGS = 1 << 15, TRIES = 64, STEPS_USES = 1 << 18, MOST_BEFORE = RUNNERS + 1 + USES * (2 * RUNNERS + 1) };
@@ -219,14 +232,33 @@ void ex_end_step(void)
     ex_begin_footprint();
 }
 
+/* The client that stayed for this step is interrupted before it, too. */
+static void meet_this_step(void)
+{
+    if (ex->run.stayed_at)
+        ex->path.nodes[ex->run.stayed_at - 1].is_met = true;
+}
+
+/* Those clients can go on now. Whoever could before the step that is through, and neither went nor can any more, was stopped by it. His own step would have met that one, and perhaps never comes. */
+void ex_note_able(const int *clients, unsigned count)
+{
+    uint32_t able = 0;
+    for (unsigned at = 0; at < count; at++)
+        able |= 1U << clients[at];
+    uint32_t stopped = ex->run.able & ~able & ~(1U << ex->run.current);
+    ex->run.able = able;
+    ex->run.asleep &= ~stopped;
+    if (stopped)
+        meet_this_step();
+}
+
 /* It broke off within a step: what that would have used isn't known. */
 void ex_break_step(void)
 {
     if (!ex->search.is_thinned || order->length >= ex->run.steps)
         return;
     ex_footprint()->is_all = true;
-    if (ex->run.stayed_at)
-        ex->path.nodes[ex->run.stayed_at - 1].is_met = true;
+    meet_this_step();
     ex_end_step();
 }
 

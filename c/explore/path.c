@@ -1,4 +1,4 @@
-/* Which choice is taken: by the search's path, by a schedule that is played again, or by a seed. */
+/* Which choice is taken: by the search's path, by a schedule that is played again, or by a seed. Why the options that the path leaves out are missed by nobody stands in order.c. */
 #include "explore.h"
 
 #include <stdlib.h>

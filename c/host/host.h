@@ -50,7 +50,7 @@ struct _FLT_VOLUME {
     SHARE_ACCESS share;           /* of those that opened the volume itself */
     const struct KzFile *locker;  /* by FSCTL_LOCK_VOLUME; NULL if nobody has locked it */
     bool is_to_go;                /* FSCTL_DISMOUNT_VOLUME was sent: it goes with that handle */
-    bool has_moved; /* a name isn't its file's key any more */
+    bool makes_folders; /* those above a new name, as no file system of the kit does */
     bool is_case_sensitive; /* names that differ by it alone are two */
 };
 
@@ -78,8 +78,11 @@ typedef struct KzFile {
     unsigned maker; /* the number of the client: lists are in this order, so that they are the same whoever came first */
     PFLT_VOLUME volume;
     char path[256];      /* by which it was opened */
+    struct {
+        NTSTATUS status;               /* why that is no name; STATUS_SUCCESS: it is one */
+        bool is_of_directory, is_data, has_stream; /* what it says of what it opens */
+    } spelt;
     struct KzName *name; /* that leads to it now; NULL of a volume, of a listing, and of a path that is none */
-    bool is_by_key;      /* it is opened by its key, whatever the names are */
     uint8_t cached;      /* formats in which its name was asked for while its create was under way, a bit each */
     bool is_counted;     /* among its file's open handles */
     uint8_t refusal;     /* the status with which a folder of the host machine refused to delete it */
@@ -112,6 +115,7 @@ typedef struct {
     KzCounts counts;
     uint64_t changes; /* how often something ended that somebody may wait for */
     LONGLONG passed;  /* since the run began, in units of 100 nanoseconds */
+    unsigned waiters, fires_left; /* who waits while timers may fire, and how many of these may yet (core/clock.h) */
     ULONG uuids;      /* that were made */
     /* What each module keeps of a run: a structure that its own file knows, made as the run begins and zero. */
     struct KzAccessState *access;
@@ -127,19 +131,20 @@ typedef struct {
     struct KzLentState *lent;
     struct KzMadeState *made;
     struct KzNameState *name;
-    struct KzNodeState *node;
     struct KzNoticeState *notice;
     struct KzPieceState *piece;
     struct KzPortState *port;
     struct KzProcessState *process;
     struct KzProgramState *program;
     struct KzRangeState *range;
+    struct KzRecordState *record;
     struct KzReferenceState *reference;
     struct KzRefusalState *refusal;
     struct KzRegistryState *registry;
     struct KzRoutineState *routine;
     struct KzSectionState *section;
     struct KzStackState *stack;
+    struct KzStreamState *stream;
     struct KzThreadState *thread;
     struct KzTimerState *timer;
     struct KzToldState *told;

@@ -34,7 +34,7 @@ typedef struct {
 } KazdrinTold;
 
 /* What a worker was lent, in `lent`: nothing, the data of a preoperation, a call of the base, the data of a postoperation, a drain. Of data and of a call:
- * the operation by its event's number; its offset, len and mode as its event has them; and the answer so far, status with number, and information. */
+ * the operation by its event's number (KZE_OTHER for one that KZE_ON_VOLUME began); its offset, len and mode as its event has them; and the answer so far, status with number, and information. */
 typedef struct {
     uint64_t offset, information, number, length;
     uint32_t len;
@@ -105,7 +105,7 @@ enum {
     KZE_RESTORE = 49,           /* handle */
     KZE_OTHER = 50,             /* handle, mode: the major function, by the kit's number; offset: a number that stands for its parameters */
     KZE_ON_VOLUME = 51,         /* volume, mode, offset: the same without a file */
-    KZE_CHANGE_HELD = 52        /* worker, operation; kind: the number of the parameters' event, with its fields; bytes: its path or data */
+    KZE_CHANGE_HELD = 52        /* worker, operation; kind: the operation's number as KazdrinData has it, with its fields; bytes: its path or data */
 };
 
 /* Operations in `pre` and `post` of KZE_REGISTER. */
@@ -162,7 +162,7 @@ uint32_t kazdrin_post_returned(Kazdrin *kazdrin, const KazdrinEvent *event);
 uint32_t kazdrin_base(Kazdrin *kazdrin, const KazdrinEvent *event);
 /* worker; flag: 0 the bytes that are asked for (a create's path, what is written), else those of the answer so far, and of a call its file's path */
 uint32_t kazdrin_lent(Kazdrin *kazdrin, const KazdrinEvent *event, KazdrinData *told, uint8_t *room, size_t size);
-/* worker, and other parameters: event is the operation's own number, with its fields; bytes: its path or data */
+/* worker, and other parameters: event is the operation's number as KazdrinData has it, with its fields; bytes: its path or data */
 uint32_t kazdrin_change(Kazdrin *kazdrin, const KazdrinEvent *event, const uint8_t *bytes, size_t length);
 /* worker, status with number, offset: the information, flag: whether there are bytes */
 uint32_t kazdrin_answer(Kazdrin *kazdrin, const KazdrinEvent *event, const uint8_t *bytes, size_t length);

@@ -628,9 +628,12 @@ VOID SeReleaseSubjectContext(PSECURITY_SUBJECT_CONTEXT SubjectContext);
 #define SeUnlockSubjectContext(context) ((void)(context))
 #define SeQuerySubjectContextToken(context) ((context)->PrimaryToken)
 
-/* ---- Expressions with * and ?, names with a dot. */
+/* ---- Expressions of names, with * and ?, and <, > and " as MS-DOS has them. Without case the letters of the expression have to be capital ones, but of the second. */
 BOOLEAN FsRtlIsNameInExpression(PUNICODE_STRING Expression, PUNICODE_STRING Name, BOOLEAN IgnoreCase, PWCH UpcaseTable);
+BOOLEAN FsRtlIsNameInUnUpcasedExpression(PUNICODE_STRING Expression, PUNICODE_STRING Name, BOOLEAN IgnoreCase, PWCH UpcaseTable);
+BOOLEAN FsRtlIsDbcsInExpression(PANSI_STRING Expression, PANSI_STRING Name);
 BOOLEAN FsRtlDoesNameContainWildCards(PUNICODE_STRING Name);
+BOOLEAN FsRtlDoesDbcsContainWildCards(PANSI_STRING Name);
 #define FsRtlIsNtstatusExpected(status) TRUE
 LOGICAL FsRtlIsPagingFile(PFILE_OBJECT FileObject);
 #define FsRtlIsTotalDeviceFailure(status) FALSE

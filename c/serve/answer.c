@@ -4,7 +4,9 @@
 #include "core/client.h"
 #include "core/clock.h"
 #include "core/memory.h"
+#include "core/spell.h"
 #include "core/state.h"
+#include "manager/disposition.h"
 #include "manager/filter.h"
 #include "manager/instance.h"
 #include "manager/mount.h"
@@ -36,17 +38,30 @@ static bool is_ascii(const uint8_t *bytes, size_t length)
     return at == length;
 }
 
+/* A name of UTF-8 as a frame has it, with the letters that Windows has in no name. */
+static size_t put_name(char *room, size_t size, const uint8_t *name, size_t length)
+{
+    char text[4 * LONGEST_PATH], letters[5 * sizeof text];
+    snprintf(text, sizeof text, "%.*s", (int)length, (const char *)name);
+    if (!kz_unspell(letters, sizeof letters, text))
+        return 0;
+    kz_spell_outside(room, size, letters);
+    return strlen(room);
+}
+
 /* The names of a list that a frame may have: a path has no letters beyond ASCII there. */
 static size_t ascii_names(uint8_t *room, const uint8_t *bytes, size_t length)
 {
+    char name[4 * LONGEST_PATH];
     size_t used = 0;
     for (size_t from = 0, count; from < length; from += count) {
         const uint8_t *end = memchr(bytes + from, '\n', length - from);
         count = end ? (size_t)(end - bytes) + 1 - from : length - from;
-        if (!is_ascii(bytes + from, count))
+        size_t put = put_name(name, sizeof name, bytes + from, count);
+        if (!is_ascii((const uint8_t *)name, put))
             continue;
-        memcpy(room + used, bytes + from, count);
-        used += count;
+        memcpy(room + used, name, put);
+        used += put;
     }
     return used;
 }
@@ -93,10 +108,14 @@ void answer_begin(Link *links, size_t count)
 
 static void create(Link *link, const Frame *frame)
 {
-    char path[LONGEST_PATH + 1] = "";
-    memcpy(path, frame->text, frame->text_length);
+    char text[LONGEST_PATH + 1] = "", path[5 * LONGEST_PATH + 1];
+    memcpy(text, frame->text, frame->text_length);
+    kz_unspell_outside(path, sizeof path, text);
+    KzCreate asked = kz_usual_create(kz_disposition_of(frame->mode), false);
+    if (frame->mode == CREATE_NEW)
+        asked.options &= ~FILE_NON_DIRECTORY_FILE; /* a folder of that name is in the way as a file is */
     asking = link;
-    kz_perform((KazdrinEvent){.event = KZE_CREATE, .volume = frame->volume, .mode = frame->mode}, path, frame->text_length, path);
+    kz_perform_create(frame->volume, path, &asked);
 }
 
 static void close_handle(Link *link)

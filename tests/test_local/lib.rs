@@ -24,6 +24,8 @@ mod order_tests;
 #[cfg(test)]
 mod own_filter_rows;
 #[cfg(test)]
+mod random_lists;
+#[cfg(test)]
 mod report_tests;
 #[cfg(test)]
 mod sample_tests;

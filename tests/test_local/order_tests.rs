@@ -1,5 +1,6 @@
-//! What filters see of the one-thread manager, by the lists that all managers are held to.
+//! What filters see of the one-thread manager, by the lists that all managers are held to: those written by hand, and those of tests/model/lists.py.
 
+use crate::random_lists::RANDOM;
 use fm_base::MemoryBase;
 use fm_callback_data::Reply;
 use fm_local::LocalManager;
@@ -88,15 +89,25 @@ fn differs(alloc: Global, list: &str, differing: &mut String) -> Result<(), Stat
     Ok(())
 }
 
-// This manager has no dismount.
-#[test]
-fn order_of_callbacks(rt: HostRuntime) -> Result<(), Fail> {
-    let mut differing = String::new(rt.alloc());
-    for list in ORDER.trim().split("\n\n") {
-        if !list.starts_with("# a dismount ") {
-            differs(rt.alloc(), list, &mut differing)?;
+// The lists that come out otherwise. This manager has no dismount.
+fn differing(alloc: Global, lists: &str) -> Result<String, Status> {
+    let mut differing = String::new(alloc);
+    for list in lists.trim().split("\n\n") {
+        if !list.starts_with("# a dismount") {
+            differs(alloc, list, &mut differing)?;
         }
     }
-    assert_eq!(rt; differing.as_str(), "");
+    Ok(differing)
+}
+
+#[test]
+fn order_of_callbacks(rt: HostRuntime) -> Result<(), Fail> {
+    assert_eq!(rt; differing(rt.alloc(), ORDER)?.as_str(), "");
+    Ok(())
+}
+
+#[test]
+fn order_of_random_lists(rt: HostRuntime) -> Result<(), Fail> {
+    assert_eq!(rt; differing(rt.alloc(), RANDOM)?.as_str(), "");
     Ok(())
 }

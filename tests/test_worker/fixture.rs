@@ -14,6 +14,7 @@ use fm_queue::{JobPass, JobQueue};
 use fm_samples::{Sample, Shift};
 use fm_types::{
     Bytes, CreateMode, HandleId, InstanceId, Name, OpId, RelPath, SharedPath, Status, VolumeId,
+    WorkerId,
 };
 use fm_worker::{CallbackHook, Worker};
 use std::alloc::Global;
@@ -201,6 +202,21 @@ pub fn collect<F: Minifilter, L: Ledger, R: Wait + Clock>(
     for _ in 0..LOOKS {
         if let Some(true) = manager.is_done(rt, operation) {
             return manager.wait_reply(rt, operation);
+        }
+        thread::sleep(rt, Duration::from_millis(1));
+    }
+    Err(Status::WrongStep)
+}
+
+/// Waits until the first workers, so many, take jobs. Refused with 30 if one doesn't in ten seconds.
+pub fn await_workers<F: Minifilter, L: Ledger, R: Wait + Clock>(
+    rt: &R,
+    manager: &Manager<F, L>,
+    workers: u8,
+) -> Result<(), Status> {
+    for _ in 0..LOOKS {
+        if (0..workers).all(|worker| manager.is_taking_jobs(WorkerId(worker))) {
+            return Ok(());
         }
         thread::sleep(rt, Duration::from_millis(1));
     }

@@ -4,7 +4,7 @@ ghost use Rattle.std.specs.Prelude.{◌≡◌, All};
 ghost use Rattle.fm_queue.specs.Passes.{IsPassOf};
 ghost use Rattle.fm_lock.specs.Blanks.{IsBlankOf};
 
-use crate::fixture::{attach, create, mounted, on_file, read};
+use crate::fixture::{attach, await_workers, create, mounted, on_file, read};
 use fm_callback_data::{Answer, BaseCall, FileRequest, Params};
 use fm_device::Device;
 use fm_lock::{Hand, Manager};
@@ -19,6 +19,7 @@ use std::sync::Wait;
 use std::sync::ledger::{Blank, Ledger};
 use std::thread;
 use std::thread::Threads;
+use std::time::Clock;
 
 /// A file system in which each file has the same bytes, whichever thread asks.
 #[derive(Drop)]
@@ -127,20 +128,23 @@ fn scan_between<L: Ledger, R: Wait>(
     Ok((status, manager.total(rt, FilterId(2))))
 }
 
-// The client asks, and then has both workers end.
-fn ask_two<L: Ledger, R: Wait>(
+// The client asks once both workers take jobs, without whom nobody could carry the scanner's read on. Then it has both end.
+fn ask_two<L: Ledger, R: Wait + Clock>(
     rt: &R,
     alloc: Global,
     manager: &Manager<Sample, L>,
     client: &mut SameWorker<'_, L, R>,
 ) -> Result<(Status, u64), Status> {
-    let seen = scan_between(rt, alloc, manager, client);
+    let seen = match await_workers(rt, manager, 2) {
+        Ok(()) => scan_between(rt, alloc, manager, client),
+        Err(late) => Err(late),
+    };
     client.stop_worker();
     client.stop_worker();
     seen
 }
 
-fn scan_day<L: Ledger + Send + Sync, R: Threads + Wait + Sync>(
+fn scan_day<L: Ledger + Send + Sync, R: Threads + Wait + Sync + Clock>(
     rt: &R,
     alloc: Global,
     bytes: [u8; 4],

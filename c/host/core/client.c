@@ -37,6 +37,7 @@ void kz_new_client(KzClient *client, const char *name, unsigned number)
     client->names_count = 0;
     client->says[0] = 0;
     client->waits[0] = 0;
+    client->owner_of = NULL;
     client->beside = NULL;
     client->request = NULL;
     client->line_number = 0;
@@ -188,17 +189,30 @@ void kz_pause(const char *name)
     kz_driver_returned(step_out(name), NULL);
 }
 
+void kz_waits_for_owner(KzOwnerOf *owner_of, const void *what, bool is_named)
+{
+    kz_me->owner_of = owner_of;
+    kz_me->owned = what;
+    kz_me->names_owner = is_named;
+}
+
+static bool end_wait(bool is_over)
+{
+    kz_me->owner_of = NULL;
+    return is_over;
+}
+
 bool kz_wait(KzCan *can, void *what, const char *format, ...)
 {
     char text[160];
     va_list arguments;
     if (can(what) || !kz_has_others())
-        return can(what);
+        return end_wait(can(what));
     va_start(arguments, format);
     vsnprintf(text, sizeof text, format, arguments);
     va_end(arguments);
     kz_me->until = kz_now() + kz_me->timeout;
-    return kz_scheduler->wait(can, what, text);
+    return end_wait(kz_scheduler->wait(can, what, text));
 }
 
 /* Whether a call that may be refused is: then it answers as it does where there is no memory. */
@@ -232,9 +246,9 @@ bool kz_wait_for(KzCan *can, void *what, int64_t milliseconds, const char *text)
 {
     uint64_t until = kz_now() + (milliseconds < 0 ? EVER : (uint64_t)milliseconds);
     if (can(what) || !milliseconds)
-        return can(what);
+        return end_wait(can(what));
     if (kz_has_others())
-        return wait_beside(can, what, milliseconds, text);
+        return end_wait(wait_beside(can, what, milliseconds, text));
     while (!can(what) && (kz_let_others() || kz_pass_to_next(until)))
         ;
     if (!can(what) && milliseconds > 0 && kz_now() < until)

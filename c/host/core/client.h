@@ -25,6 +25,9 @@ typedef struct {
 } KzHandled;
 enum { KZ_HANDLED = 16 };
 
+/* Who has what is waited for, and would have to give it; NULL if that isn't known. */
+typedef const KzClient *KzOwnerOf(const void *what);
+
 struct KzClient {
     const char *name;
     KzPlace place;
@@ -63,6 +66,9 @@ struct KzClient {
     uint64_t until;   /* and when it is over, by the clock */
     KzThread *beside; /* the thread that it is, beside the requests; NULL for those of requests and of work items */
     char waits[160];  /* what it waits for */
+    KzOwnerOf *owner_of; /* of its wait; NULL if nobody has that */
+    const void *owned;
+    bool names_owner; /* what it waits for says who has it */
     char says[4096]; /* its last answer as text, up to its reply */
     char reparsed[320]; /* the name that its last create was answered with, and what that asked for at its beginning */
     KzCreate reparsed_create;
@@ -147,6 +153,8 @@ void kz_end_inside(unsigned *depth);
 void kz_driver_returned(unsigned depth, const char *name);
 /* The client steps out of the host for a moment. */
 void kz_pause(const char *name);
+/* The next wait is for what somebody has. */
+void kz_waits_for_owner(KzOwnerOf *owner_of, const void *what, bool is_named);
 bool kz_wait(KzCan *can, void *what, const char *format, ...) __attribute__((format(printf, 3, 4)));
 /* The same in order as well: what runs beside goes on, and time passes as far as it is to; for ever with -1. */
 bool kz_wait_for(KzCan *can, void *what, int64_t milliseconds, const char *text);

@@ -41,3 +41,16 @@ void kz_tick(void)
 {
     kz.passed += KZ_MILLISECOND;
 }
+
+enum { FIRES = 16 };
+
+void kz_begin_to_fire(void)
+{
+    kz.waiters++;
+    kz.fires_left = FIRES;
+}
+
+void kz_end_to_fire(void)
+{
+    kz.waiters--;
+}

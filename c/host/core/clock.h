@@ -15,5 +15,8 @@ bool kz_pass_to_next(uint64_t until);
 void kz_pass(uint64_t milliseconds);
 /* Lets that many units of 100 nanoseconds pass; what is due meanwhile comes, one after the other. */
 void kz_pass_units(LONGLONG units);
+/* A client waits from now on, in which timers that are set may fire: so many of them, since one that fires again and again need not end the wait. It waits no more. */
+void kz_begin_to_fire(void);
+void kz_end_to_fire(void);
 
 #endif

@@ -92,6 +92,13 @@ static bool is_free(void *asked)
     return !other(one->lock, one->client, is_shared(one->how)) && !before(one);
 }
 
+static const KzClient *owner_of(const void *asked)
+{
+    const Wanted *one = asked;
+    const Held *owner = other(one->lock, one->client, is_shared(one->how));
+    return owner ? owner->client : NULL;
+}
+
 static void leave_line(Wanted *one)
 {
     Wanted **at = &kz.held->wanted;
@@ -109,6 +116,7 @@ static void wait_in_line(Wanted *one, const char *call)
     *at = one;
     const Held *owner = other(one->lock, one->client, is_shared(one->how));
     const Wanted *writer = before(one);
+    kz_waits_for_owner(owner_of, one, true);
     if (owner)
         kz_wait(is_free, one, "%s of a lock that %s holds", call, owner->client->name);
     else
@@ -242,6 +250,14 @@ const char *kz_waits_for_mine(void)
 bool kz_is_taken(const void *lock)
 {
     return other(lock, kz_me, false) != NULL;
+}
+
+const KzClient *kz_holder_of(const void *lock)
+{
+    for (size_t at = 0; at < kz.held->count; at++)
+        if (kz.held->all[at].lock == lock)
+            return kz.held->all[at].client;
+    return NULL;
 }
 
 BOOLEAN KzIsHeldAlone(const VOID *Lock)

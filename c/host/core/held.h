@@ -11,6 +11,8 @@ const char *kz_waits_for_mine(void);
 bool kz_are_apcs_disabled(void);
 /* What it holds alone it shares from now on; false if it doesn't. */
 bool kz_share_lock(const void *lock);
+/* Who holds it, the first of several; NULL if nobody does. */
+const KzClient *kz_holder_of(const void *lock);
 bool kz_is_taken(const void *lock);
 void kz_tell_locks(void);
 extern const struct KzModule kz_held_module;

@@ -117,6 +117,7 @@ static const Rule rules[] = {
     {"FsRtlDoesNameContainWildCards", APC_LEVEL},
     {"FsRtlGetFileSize", PASSIVE_LEVEL},
     {"FsRtlIsNameInExpression", APC_LEVEL},
+    {"FsRtlIsNameInUnUpcasedExpression", APC_LEVEL},
     {"IoCreateDevice", APC_LEVEL},
     {"IoCreateSymbolicLink", APC_LEVEL},
     {"IoDeleteDevice", APC_LEVEL},

@@ -93,10 +93,10 @@ void kz_operation_ends(KzOp *op)
             (*one)->operation_ends(op);
 }
 
-bool kz_is_mapped(KzOp *op, const void *node, uint64_t size)
+bool kz_is_mapped(KzOp *op, const void *stream, uint64_t size)
 {
     for EACH (one)
-        if ((*one)->is_mapped && (*one)->is_mapped(op, node, size))
+        if ((*one)->is_mapped && (*one)->is_mapped(op, stream, size))
             return true;
     return false;
 }

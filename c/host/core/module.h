@@ -20,7 +20,7 @@ typedef struct KzModule {
     bool (*has_any_of)(PFLT_FILTER filter);         /* that could run code of its driver */
     void (*memory_goes)(const void *memory, size_t size); /* it is given back: nothing that is in use may lie in it */
     void (*operation_ends)(KzOp *op);
-    bool (*is_mapped)(KzOp *op, const void *node, uint64_t size); /* the file is to be cut to that size: whether something still needs what is behind it */
+    bool (*is_mapped)(KzOp *op, const void *stream, uint64_t size); /* the file is to be cut to that size: whether something still needs what is behind it */
     bool (*goes_on)(void);                          /* what runs beside the requests; false if nothing could */
     bool (*passes)(LONGLONG until);                 /* the next that is due up to then comes; false if nothing is */
     void (*left)(void);                             /* what is left at the end of a run is told */
@@ -47,7 +47,7 @@ bool kz_has_any_of(PFLT_FILTER filter);
 /* The last module first: what stands on another one looks before it. */
 void kz_memory_goes(const void *memory, size_t size);
 void kz_operation_ends(KzOp *op);
-bool kz_is_mapped(KzOp *op, const void *node, uint64_t size);
+bool kz_is_mapped(KzOp *op, const void *stream, uint64_t size);
 bool kz_goes_on(void);
 bool kz_passes(LONGLONG until);
 void kz_tell_left(void);

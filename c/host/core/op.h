@@ -123,7 +123,7 @@ typedef struct {
 
 /* Of an operation that a driver began itself: who hears of it, and what comes of one that nobody waits for. */
 typedef struct {
-    bool is_own, is_unheard, is_waited_for;
+    bool is_own, is_waited_for;
     bool is_user;     /* a program began it */
     bool is_fast;     /* it has no IRP */
     bool is_reissued; /* a filter sent it down again */

@@ -5,6 +5,7 @@
 #include "core/client.h"
 #include "core/irql.h"
 #include "core/piece.h"
+#include "core/raise.h"
 #include "core/told.h"
 #include "core/unwritten.h"
 
@@ -21,40 +22,56 @@ static PVOID take_pool(const char *call, bool is_paged, SIZE_T size, int fill, U
     return made;
 }
 
+/* A caller that asks for it gets an exception in place of NULL. */
+static PVOID or_raise(PVOID made, bool raises, const char *call, const void *from)
+{
+    if (!made && raises)
+        kz_raise_for(call, STATUS_INSUFFICIENT_RESOURCES, from);
+    return made;
+}
+
+static PVOID take_plain(const char *call, const void *from, POOL_TYPE type, SIZE_T size, int fill, ULONG tag)
+{
+    KZ_INSIDE_FROM(call, from);
+    kz_uses_own();
+    return take_pool(call, type & PagedPool, size, fill, tag);
+}
+
 PVOID ExAllocatePoolWithTag(POOL_TYPE PoolType, SIZE_T NumberOfBytes, ULONG Tag)
 {
-    KZ_INSIDE_ALONE();
-    return take_pool(__func__, PoolType & PagedPool, NumberOfBytes, kz_unwritten(0xcd), Tag);
+    PVOID made = take_plain(__func__, KZ_CALLER(), PoolType, NumberOfBytes, kz_unwritten(0xcd), Tag);
+    return or_raise(made, PoolType & POOL_RAISE_IF_ALLOCATION_FAILURE, __func__, KZ_CALLER());
 }
 
 PVOID ExAllocatePool(POOL_TYPE PoolType, SIZE_T NumberOfBytes)
 {
-    KZ_INSIDE_ALONE();
-    return ExAllocatePoolWithTag(PoolType, NumberOfBytes, 'enoN');
+    PVOID made = take_plain(__func__, KZ_CALLER(), PoolType, NumberOfBytes, kz_unwritten(0xcd), 'enoN');
+    return or_raise(made, PoolType & POOL_RAISE_IF_ALLOCATION_FAILURE, __func__, KZ_CALLER());
 }
 
 PVOID ExAllocatePoolWithQuotaTag(POOL_TYPE PoolType, SIZE_T NumberOfBytes, ULONG Tag)
 {
-    KZ_INSIDE_ALONE();
-    return ExAllocatePoolWithTag(PoolType, NumberOfBytes, Tag);
+    PVOID made = take_plain(__func__, KZ_CALLER(), PoolType, NumberOfBytes, kz_unwritten(0xcd), Tag);
+    return or_raise(made, !(PoolType & POOL_QUOTA_FAIL_INSTEAD_OF_RAISE), __func__, KZ_CALLER());
 }
 
 PVOID ExAllocatePoolUninitialized(POOL_TYPE PoolType, SIZE_T NumberOfBytes, ULONG Tag)
 {
-    KZ_INSIDE_ALONE();
-    return ExAllocatePoolWithTag(PoolType, NumberOfBytes, Tag);
+    PVOID made = take_plain(__func__, KZ_CALLER(), PoolType, NumberOfBytes, kz_unwritten(0xcd), Tag);
+    return or_raise(made, PoolType & POOL_RAISE_IF_ALLOCATION_FAILURE, __func__, KZ_CALLER());
 }
 
 PVOID ExAllocatePoolZero(POOL_TYPE PoolType, SIZE_T NumberOfBytes, ULONG Tag)
 {
-    KZ_INSIDE_ALONE();
-    return take_pool(__func__, PoolType & PagedPool, NumberOfBytes, 0, Tag);
+    PVOID made = take_plain(__func__, KZ_CALLER(), PoolType, NumberOfBytes, 0, Tag);
+    return or_raise(made, PoolType & POOL_RAISE_IF_ALLOCATION_FAILURE, __func__, KZ_CALLER());
 }
 
 PVOID ExAllocatePool2(POOL_FLAGS Flags, SIZE_T NumberOfBytes, ULONG Tag)
 {
-    KZ_INSIDE_ALONE();
-    return take_pool(__func__, Flags & POOL_FLAG_PAGED, NumberOfBytes, Flags & POOL_FLAG_UNINITIALIZED ? kz_unwritten(0xcd) : 0, Tag);
+    POOL_TYPE type = Flags & POOL_FLAG_PAGED ? PagedPool : NonPagedPool;
+    PVOID made = take_plain(__func__, KZ_CALLER(), type, NumberOfBytes, Flags & POOL_FLAG_UNINITIALIZED ? kz_unwritten(0xcd) : 0, Tag);
+    return or_raise(made, Flags & POOL_FLAG_RAISE_ON_FAILURE, __func__, KZ_CALLER());
 }
 
 /* Only what a file object's name lies in may be freed by a driver as well. */

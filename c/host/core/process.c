@@ -192,3 +192,17 @@ static void free_processes(void)
 }
 
 const KzModule kz_process_module = {KZ_STATE(process), .free = free_processes};
+
+/* ---- A thread in another process: its addresses are that one's, and so is what PsGetCurrentProcess answers. */
+VOID KeStackAttachProcess(PKPROCESS Process, PRKAPC_STATE ApcState)
+{
+    KZ_INSIDE_ALONE();
+    ApcState->Process = kz_process(kz_me->process);
+    kz_me->process = Process->id;
+}
+
+VOID KeUnstackDetachProcess(PRKAPC_STATE ApcState)
+{
+    KZ_INSIDE_ALONE();
+    kz_me->process = ((PEPROCESS)ApcState->Process)->id;
+}

@@ -9,11 +9,12 @@
 
 extern const Elf64_Ehdr __ehdr_start __attribute__((visibility("hidden")));
 
-enum { KNOWN = 256, LONGEST = 80, CALLERS = 2 };
+enum { KNOWN = 256, LONGEST = 80, LONGEST_PATH = 400, CALLERS = 2 };
 
 typedef struct {
     uintptr_t address;
-    char line[LONGEST];             /* empty if there is none */
+    char line[LONGEST];           /* empty if there is none */
+    char path[LONGEST_PATH];      /* the same with the file's whole path; empty if that isn't known */
     char outer[CALLERS][LONGEST]; /* which its code was put into */
 } Known;
 
@@ -89,8 +90,14 @@ bool kz_is_left_out(const char *path)
     return path[0] == '?';
 }
 
-/* The next one that isn't left out, the innermost first; what is behind it. */
-static char *take_line(char *all, char *line, size_t size)
+static void keep(char *room, size_t size, const char *text, size_t length)
+{
+    if (length < size)
+        ((char *)memcpy(room, text, length))[length] = 0;
+}
+
+/* The next one that isn't left out, the innermost first, and with its path if one is asked for; what is after it. */
+static char *take_line(char *all, char *line, size_t size, char *path)
 {
     line[0] = 0;
     while (*all && !*line) {
@@ -101,8 +108,11 @@ static char *take_line(char *all, char *line, size_t size)
         while (name > all && name[-1] != '/' && name[-1] != '\\')
             name--;
         size_t length = strcspn(name, " ");
-        if (!kz_is_left_out(all) && length && length < size && name[length - 1] != '?')
-            ((char *)memcpy(line, name, length))[length] = 0;
+        if (!kz_is_left_out(all) && length && length < size && name[length - 1] != '?') {
+            keep(line, size, name, length);
+            if (path)
+                keep(path, LONGEST_PATH, all, (size_t)(name - all) + length);
+        }
         all = end;
     }
     return all;
@@ -112,7 +122,7 @@ bool kz_ask_line(const char *reader, const char *program, uintptr_t address, cha
 {
     char all[4096];
     ask(reader, program, address, all, sizeof all);
-    take_line(all, line, size);
+    take_line(all, line, size, NULL);
     return line[0];
 }
 
@@ -122,9 +132,9 @@ static void find(uintptr_t address, Known *one)
     ssize_t length = readlink("/proc/self/exe", program, sizeof program - 1);
     program[length > 0 ? length : 0] = 0;
     ask("addr2line", program, address, all, sizeof all);
-    rest = take_line(rest, one->line, LONGEST);
+    rest = take_line(rest, one->line, LONGEST, one->path);
     for (unsigned outer = 0; outer < CALLERS; outer++)
-        rest = take_line(rest, one->outer[outer], LONGEST);
+        rest = take_line(rest, one->outer[outer], LONGEST, NULL);
 }
 
 /* Threads may look for the same at once: what is kept is whole before its address says so. */
@@ -145,6 +155,13 @@ bool kz_find_source(uintptr_t address, char *room, size_t size)
     Known one = look_up(address);
     snprintf(room, size, "%s", one.line);
     return one.line[0];
+}
+
+bool kz_find_path(uintptr_t address, char *room, size_t size)
+{
+    Known one = look_up(address);
+    snprintf(room, size, "%s", one.path[0] ? one.path : one.line);
+    return room[0];
 }
 
 /* ---- Who called it. */

@@ -6,6 +6,8 @@
 
 /* The line of the driver's source in which the code stands before that address of the program, as file.c:12; false if it isn't known. Of a function's own address it is where it begins. */
 bool kz_find_source(uintptr_t address, char *room, size_t size);
+/* The same with the file's whole path, if that is known. */
+bool kz_find_path(uintptr_t address, char *room, size_t size);
 /* A file of the kit's headers, or of the host: a function of theirs that was put in place of its call isn't said. */
 bool kz_is_left_out(const char *path);
 /* The same by a program as addr2line is one, of a file that it reads. */

@@ -71,16 +71,35 @@ void kz_put_utf8(char *room, size_t size, size_t *used, WCHAR letter)
     room[*used] = 0;
 }
 
-void kz_spell(char *room, size_t size, const char *text)
+/* ---- Letters that Windows has in no name are U+F000 and the letter in those of other systems. */
+enum { OUTSIDE = 0xf000 };
+
+static bool is_outside(WCHAR letter)
+{
+    return letter > 0 && letter < 128 && strchr("\"*<>?|:\\", letter);
+}
+
+static void spell(char *room, size_t size, const char *text, bool is_path)
 {
     size_t used = 0;
     room[0] = 0;
     while (*text) {
         WCHAR letter;
         size_t length = kz_take_letter(text, &letter);
-        kz_put_utf8(room, size, &used, length == 1 ? (WCHAR)(*text & 255) : letter);
+        bool is_other = is_path && length > 1 && letter >= OUTSIDE && is_outside((WCHAR)(letter - OUTSIDE));
+        kz_put_utf8(room, size, &used, length == 1 ? (WCHAR)(*text & 255) : is_other ? (WCHAR)(letter - OUTSIDE) : letter);
         text += length;
     }
+}
+
+void kz_spell(char *room, size_t size, const char *text)
+{
+    spell(room, size, text, false);
+}
+
+void kz_spell_outside(char *room, size_t size, const char *path)
+{
+    spell(room, size, path, true);
 }
 
 /* How many bytes a letter takes; 0 if that is no UTF-8. */
@@ -99,7 +118,7 @@ static size_t take_point(const uint8_t *text, unsigned *point)
     return *point < least[more] || *point > 0x10ffff || is_first_half(*point) || is_second_half(*point) ? 0 : more + 1;
 }
 
-bool kz_unspell(char *room, size_t size, const char *text)
+static bool unspell(char *room, size_t size, const char *text, bool is_path)
 {
     size_t used = 0;
     room[0] = 0;
@@ -108,11 +127,14 @@ bool kz_unspell(char *room, size_t size, const char *text)
         size_t length = take_point((const uint8_t *)text, &point);
         if (!length)
             return false;
-        if (length == 1 && used + 1 < size) { /* as it is: `|` stands between words too */
+        bool is_other = is_path && length == 1 && is_outside((WCHAR)point);
+        if (is_other)
+            kz_put_letter(room, size, &used, (WCHAR)(OUTSIDE + point));
+        else if (length == 1 && used + 1 < size) { /* as it is: `|` stands between words too */
             room[used] = *text;
             room[used + 1] = 0;
         }
-        used += length == 1;
+        used += length == 1 && !is_other;
         if (point >= 0x10000)
             kz_put_letter(room, size, &used, (WCHAR)(0xd800 + ((point - 0x10000) >> 10)));
         if (length > 1)
@@ -120,4 +142,14 @@ bool kz_unspell(char *room, size_t size, const char *text)
         text += length;
     }
     return used < size;
+}
+
+bool kz_unspell(char *room, size_t size, const char *text)
+{
+    return unspell(room, size, text, false);
+}
+
+bool kz_unspell_outside(char *room, size_t size, const char *path)
+{
+    return unspell(room, size, path, true);
 }

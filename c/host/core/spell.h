@@ -15,5 +15,8 @@ void kz_spell(char *room, size_t size, const char *text);
 void kz_put_utf8(char *room, size_t size, size_t *used, WCHAR letter);
 /* From UTF-8. False if it is none, or doesn't fit. */
 bool kz_unspell(char *room, size_t size, const char *text);
+/* The same of paths of another system: letters that Windows has in no name, `"*<>?|:\\`, are U+F000 and the letter here, as mounts of other systems have them. */
+void kz_spell_outside(char *room, size_t size, const char *path);
+bool kz_unspell_outside(char *room, size_t size, const char *path);
 
 #endif

@@ -8,8 +8,7 @@
 bool kz_answers_call(KzOp *op, const KazdrinData *call, NTSTATUS *status);
 /* The file system that has the bytes took it. */
 void kz_note_call(KzOp *op, const KazdrinData *call);
-/* The names of the files at the root, where the manager's paths aren't names any more. */
+/* The names of the files at the root, a line each; false: there are more than fit. */
 bool kz_list_names_of(PFLT_VOLUME volume, uint8_t *room, size_t size, size_t *length);
-void kz_names_moved(PFLT_VOLUME volume);
 
 #endif

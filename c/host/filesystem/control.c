@@ -6,7 +6,7 @@
 #include "core/told.h"
 #include "filesystem/fsctl.h"
 #include "filesystem/name.h"
-#include "filesystem/node.h"
+#include "filesystem/record.h"
 #include "filesystem/notice.h"
 #include "filesystem/query.h"
 #include "filesystem/ranges.h"
@@ -40,14 +40,14 @@ static NTSTATUS set_ea(KzOp *op, const FLT_PARAMETERS *now)
         op->opaque->information = wrong;
         return STATUS_EA_LIST_INCONSISTENT;
     }
-    kz_keep_bytes(&name->node->ea, now->SetEa.EaBuffer, now->SetEa.Length);
+    kz_keep_bytes(&name->file->ea, now->SetEa.EaBuffer, now->SetEa.Length);
     kz_notify(name, FILE_NOTIFY_CHANGE_EA, FILE_ACTION_MODIFIED);
     return STATUS_SUCCESS;
 }
 
 static NTSTATUS query_ea(KzOp *op, const FLT_PARAMETERS *now)
 {
-    const KzBytes *kept = &op->file->name->node->ea;
+    const KzBytes *kept = &op->file->name->file->ea;
     if (!kept->length)
         return STATUS_NO_EAS_ON_FILE;
     if (now->QueryEa.Length < kept->length)
@@ -60,7 +60,7 @@ static NTSTATUS query_ea(KzOp *op, const FLT_PARAMETERS *now)
 static NTSTATUS set_security(KzOp *op, const FLT_PARAMETERS *now)
 {
     size_t length = op->opaque->input_size;
-    KzBytes *kept = &op->file->name->node->security;
+    KzBytes *kept = &op->file->name->file->security;
     SECURITY_INFORMATION what = now->SetSecurity.SecurityInformation;
     if (!kz_is_descriptor(now->SetSecurity.SecurityDescriptor, length))
         return STATUS_INVALID_SECURITY_DESCR;
@@ -74,7 +74,7 @@ static NTSTATUS set_security(KzOp *op, const FLT_PARAMETERS *now)
 
 static NTSTATUS query_security(KzOp *op, const FLT_PARAMETERS *now)
 {
-    const KzBytes *kept = &op->file->name->node->security;
+    const KzBytes *kept = &op->file->name->file->security;
     uint8_t *made = kz_memory(kept->length + sizeof KZ_NO_DESCRIPTOR);
     size_t length = kz_join_descriptors(kept->length ? kept->bytes : KZ_NO_DESCRIPTOR, now->QuerySecurity.SecurityInformation, NULL, 0, made);
     bool has_room = now->QuerySecurity.Length >= length;
@@ -183,7 +183,7 @@ static NTSTATUS network_open(KzOp *op, const FLT_PARAMETERS *now)
     KzName *name = op->file->name;
     if (!name || !kz_is_there(name))
         return STATUS_OBJECT_NAME_NOT_FOUND;
-    kz_show_network(name->node, now->NetworkQueryOpen.NetworkInformation);
+    kz_show_network(name->stream, now->NetworkQueryOpen.NetworkInformation);
     op->opaque->information = sizeof(FILE_NETWORK_OPEN_INFORMATION);
     return STATUS_SUCCESS;
 }

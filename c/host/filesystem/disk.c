@@ -7,7 +7,6 @@
 
 static struct {
     KzFolder folder;
-    uint8_t path[KZ_BYTES + 1], bytes[KZ_BYTES]; /* of the call that is answered */
 } disk = {.folder = {-1}};
 
 int kz_use_folder(const char *path)
@@ -65,15 +64,7 @@ uint8_t kz_unlink_in_folder(uint8_t volume, const char *name)
 }
 
 /* ---- Calls. Below the folder a file is what its name leads to now. */
-bool kz_call_in_folder(uint8_t worker, const KzFile *file)
+KzFolderAnswer kz_call_in_folder(const KzFile *file, const KazdrinData *call, const uint8_t *bytes)
 {
-    KazdrinData call = {0};
-    if (disk.folder.descriptor == -1 || kazdrin_lent(&kz.manager, &(KazdrinEvent){.flag = 1, .worker = worker}, &call, disk.path, KZ_BYTES) != KZS_OK || call.lent != KZ_LENT_BASE || call.volume != 0)
-        return false;
-    disk.path[call.length < KZ_BYTES ? call.length : 0] = '\0';
-    if (kazdrin_lent(&kz.manager, &(KazdrinEvent){.worker = worker}, &call, disk.bytes, sizeof disk.bytes) != KZS_OK)
-        return false;
-    KzFolderAnswer answer = kz_call_folder(&disk.folder, &call, file->name ? file->name->text : (const char *)disk.path, disk.bytes);
-    KazdrinEvent returned = {.worker = worker, .status = answer.status, .offset = answer.information, .flag = answer.length > 0};
-    return kazdrin_based(&kz.manager, &returned, answer.length > 0 ? answer.bytes : (const uint8_t *)"", answer.length) == KZS_OK;
+    return kz_call_folder(&disk.folder, call, file->name ? file->name->text : "", bytes);
 }

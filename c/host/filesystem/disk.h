@@ -13,8 +13,8 @@ void kz_enter_folder(PFLT_VOLUME volume, const char *name);
 NTSTATUS kz_rename_in_folder(uint8_t volume, const char *from, const char *to, bool is_link);
 NTSTATUS kz_make_in_folder(uint8_t volume, const char *name);
 bool kz_is_in_folder(uint8_t volume);
-/* A call of the base of that worker; false if it is none of the folder's. */
-bool kz_call_in_folder(uint8_t worker, const KzFile *file);
+/* A call of the base about its file's bytes, or about the folder's names. */
+KzFolderAnswer kz_call_in_folder(const KzFile *file, const KazdrinData *call, const uint8_t *bytes);
 /* A status of the manager's. */
 uint8_t kz_unlink_in_folder(uint8_t volume, const char *name);
 

@@ -38,7 +38,7 @@ static const Shape *shape_of(int class)
 /* ---- The scan of a handle: its pattern stays, and so does the last name that it answered. */
 typedef struct {
     const char *name;
-    const KzNode *node;
+    const KzRecord *file;
 } Entry;
 
 static const char *part_of(const KzName *name, const char *directory)
@@ -60,16 +60,16 @@ static bool fits(const KzFile *file, const char *text)
     UNICODE_STRING wide = {0, 0, pattern}, own = {0, 0, name};
     wide.Length = wide.MaximumLength = (USHORT)kz_widen(pattern, file->scan.pattern);
     own.Length = own.MaximumLength = (USHORT)kz_widen(name, text);
-    return FsRtlIsNameInExpression(&wide, &own, !file->volume->is_case_sensitive, NULL);
+    return FsRtlIsNameInUnUpcasedExpression(&wide, &own, !file->volume->is_case_sensitive, NULL);
 }
 
-/* Those of the directory itself and of the one above come first, but at the root. */
+/* Those of the directory itself and of the one above come first, but at the root. As in NTFS an expression that fits the one fits the other. */
 static bool dots(const KzFile *file, Entry *found)
 {
     static const char *const names[] = {".", ".."};
     for (unsigned at = file->scan.dots; *file->name->text && at < 2; at++)
-        if (fits(file, names[at])) {
-            *found = (Entry){names[at], file->name->node};
+        if (fits(file, ".")) {
+            *found = (Entry){names[at], file->name->file};
             return true;
         }
     return false;
@@ -81,12 +81,12 @@ static bool next_entry(const KzFile *file, Entry *found)
     if (dots(file, found))
         return true;
     for (const KzName *one = kz_all_names(); one; one = one->next) {
-        if (!kz_is_below(one, file->volume, file->name->text) || !one->node->exists)
+        if (!kz_is_below(one, file->volume, file->name->text) || !one->file->exists)
             continue;
         const char *part = part_of(one, file->name->text);
         bool is_behind = part && (!file->scan.is_begun || compare(part, file->scan.last) > 0);
         if (is_behind && (!found->name || compare(part, found->name) < 0) && fits(file, part))
-            *found = (Entry){part, one->node};
+            *found = (Entry){part, one->file};
     }
     return found->name != NULL;
 }
@@ -109,14 +109,14 @@ static void show(uint8_t *to, const Shape *shape, const Entry *entry)
     if (shape->class == FileNamesInformation)
         return;
     FILE_NETWORK_OPEN_INFORMATION said;
-    kz_show_network(entry->node, &said);
+    kz_show_network(entry->file->streams, &said);
     FILE_DIRECTORY_INFORMATION head = {0, 0, said.CreationTime, said.LastAccessTime, said.LastWriteTime, said.ChangeTime, said.EndOfFile, said.AllocationSize, said.FileAttributes, length, {0}};
     memcpy(to, &head, offsetof(FILE_DIRECTORY_INFORMATION, FileName));
-    ULONG ea = entry->node->reparse.length ? kz_tag_of(entry->node) : (ULONG)entry->node->ea.length;
+    ULONG ea = entry->file->reparse.length ? kz_tag_of(entry->file) : (ULONG)entry->file->ea.length;
     if (shape->ea)
         memcpy(to + shape->ea, &ea, sizeof ea);
     if (shape->id)
-        memcpy(to + shape->id, &entry->node->id, sizeof entry->node->id);
+        memcpy(to + shape->id, &entry->file->id, sizeof entry->file->id);
 }
 
 static void begin_scan(KzFile *file, const FLT_PARAMETERS *now, bool is_restart)

@@ -9,6 +9,7 @@
 #include "filesystem/deletion.h"
 #include "filesystem/name.h"
 #include "filesystem/sharing.h"
+#include "filesystem/spelling.h"
 
 #include <stdlib.h>
 
@@ -63,7 +64,7 @@ KzFile *kz_new_file(PFLT_VOLUME volume, const char *path, bool is_directory)
     KzFile *file = kz_memory(sizeof *file);
     file->volume = volume;
     file->is_directory = is_directory;
-    strncpy(file->path, path, sizeof file->path - 1);
+    kz_spell_file(file, path);
     kz_name_object(file, file->path);
     file->object.Type = 5;
     file->object.Size = sizeof(FILE_OBJECT);

@@ -46,7 +46,7 @@ static KzFolderAnswer refused(int error)
 static int open_below(const KzFolder *folder, const char *path, int flags)
 {
     char spelt[1024];
-    kz_spell(spelt, sizeof spelt, path);
+    kz_spell_outside(spelt, sizeof spelt, path);
     struct open_how how = {.flags = (uint64_t)(flags | O_CLOEXEC), .mode = flags & O_CREAT ? 0666 : 0, .resolve = RESOLVE_BENEATH | RESOLVE_NO_MAGICLINKS};
     return (int)syscall(SYS_openat2, folder->descriptor, spelt, &how, sizeof how);
 }
@@ -218,11 +218,14 @@ void kz_folder_look(const KzFolder *folder, const char *path, KzFound *found)
 {
     struct stat is;
     int file = open_below(folder, *path ? path : ".", O_PATH);
-    *found = (KzFound){0};
+    *found = (KzFound){.is_other = file == -1 && errno != ENOENT && errno != ENOTDIR};
     if (file == -1)
         return;
-    if (fstat(file, &is) == 0 && (S_ISREG(is.st_mode) || S_ISDIR(is.st_mode)))
-        *found = (KzFound){true, S_ISDIR(is.st_mode), S_ISREG(is.st_mode) ? (uint64_t)is.st_size : 0, time_of(&is.st_mtim)};
+    bool is_seen = fstat(file, &is) == 0, is_directory = is_seen && S_ISDIR(is.st_mode), is_file = is_seen && S_ISREG(is.st_mode);
+    if (is_directory || is_file)
+        *found = (KzFound){.is_there = true, .is_directory = is_directory, .size = is_file ? (uint64_t)is.st_size : 0, .written = time_of(&is.st_mtim)};
+    else
+        found->is_other = true;
     close(file);
 }
 
@@ -232,7 +235,7 @@ void kz_folder_entries(const KzFolder *folder, const char *path, void (*say)(voi
     DIR *place = file == -1 ? NULL : fdopendir(file);
     char name[1300];
     for (const struct dirent *entry = place ? readdir(place) : NULL; entry; entry = readdir(place))
-        if (kz_unspell(name, sizeof name, entry->d_name) && is_path((const uint8_t *)name, strlen(name)))
+        if (kz_unspell_outside(name, sizeof name, entry->d_name) && is_path((const uint8_t *)name, strlen(name)))
             say(given, name);
     if (place)
         closedir(place);
@@ -245,7 +248,7 @@ typedef struct {
 static const char *last_of(const char *path, Spelt *room)
 {
     const char *slash = strrchr(path, '/');
-    kz_spell(room->text, sizeof room->text, slash ? slash + 1 : path);
+    kz_spell_outside(room->text, sizeof room->text, slash ? slash + 1 : path);
     return room->text;
 }
 

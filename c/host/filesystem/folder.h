@@ -25,6 +25,7 @@ KzFolderAnswer kz_call_folder(KzFolder *folder, const KazdrinData *call, const c
 /* What is below it by that name. */
 typedef struct {
     bool is_there, is_directory;
+    bool is_other; /* what is there is neither a file nor a directory of the folder: a pipe, a link that leads out */
     uint64_t size;
     int64_t written; /* as the kit counts time */
 } KzFound;

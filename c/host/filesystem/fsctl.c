@@ -3,8 +3,8 @@
 
 #include "core/op.h"
 #include "filesystem/name.h"
-#include "filesystem/node.h"
-#include "filesystem/store.h"
+#include "filesystem/record.h"
+#include "filesystem/stream.h"
 #include "filesystem/volumes.h"
 #include "lib/letters.h"
 
@@ -39,11 +39,11 @@ static NTSTATUS set_zeros(KzOp *op, const Buffers *said)
     const FILE_ZERO_DATA_INFORMATION *range = said->in;
     if (said->in_length < sizeof *range || range->FileOffset.QuadPart < 0 || range->BeyondFinalZero.QuadPart < range->FileOffset.QuadPart)
         return STATUS_INVALID_PARAMETER;
-    uint64_t size = op->file->name->node->size, at = (uint64_t)range->FileOffset.QuadPart, end = (uint64_t)range->BeyondFinalZero.QuadPart;
+    uint64_t size = op->file->name->stream->size, at = (uint64_t)range->FileOffset.QuadPart, end = (uint64_t)range->BeyondFinalZero.QuadPart;
     NTSTATUS status = STATUS_SUCCESS;
     for (end = end < size ? end : size; at < end && NT_SUCCESS(status);) {
         size_t part = end - at < sizeof zeros ? end - at : sizeof zeros;
-        status = kz.store->write(op->file, at, zeros, part);
+        status = kz_write_stream(op->file, at, zeros, part);
         at += part;
     }
     return status;
@@ -55,7 +55,7 @@ static NTSTATUS query_ranges(KzOp *op, const Buffers *said)
     const FILE_ALLOCATED_RANGE_BUFFER *asked = said->in;
     if (said->in_length < sizeof *asked || asked->FileOffset.QuadPart < 0 || asked->Length.QuadPart < 0)
         return STATUS_INVALID_PARAMETER;
-    LONGLONG size = (LONGLONG)op->file->name->node->size, begin = asked->FileOffset.QuadPart, length = asked->Length.QuadPart;
+    LONGLONG size = (LONGLONG)op->file->name->stream->size, begin = asked->FileOffset.QuadPart, length = asked->Length.QuadPart;
     if (begin >= size || !length)
         return STATUS_SUCCESS;
     FILE_ALLOCATED_RANGE_BUFFER range = {.FileOffset.QuadPart = begin, .Length.QuadPart = length < size - begin ? length : size - begin};
@@ -64,45 +64,45 @@ static NTSTATUS query_ranges(KzOp *op, const Buffers *said)
 
 static NTSTATUS set_sparse(KzOp *op, const Buffers *said)
 {
-    KzNode *node = op->file->name->node;
+    KzRecord *record = op->file->name->file;
     const FILE_SET_SPARSE_BUFFER *asked = said->in;
     bool is_sparse = said->in_length < sizeof *asked || asked->SetSparse;
-    if (node->is_directory)
+    if (kz_is_directory(op->file->name))
         return STATUS_INVALID_PARAMETER;
-    node->attributes &= ~(ULONG)(FILE_ATTRIBUTE_SPARSE_FILE | FILE_ATTRIBUTE_NORMAL);
-    node->attributes |= is_sparse ? FILE_ATTRIBUTE_SPARSE_FILE : node->attributes ? 0 : FILE_ATTRIBUTE_NORMAL;
+    record->attributes &= ~(ULONG)(FILE_ATTRIBUTE_SPARSE_FILE | FILE_ATTRIBUTE_NORMAL);
+    record->attributes |= is_sparse ? FILE_ATTRIBUTE_SPARSE_FILE : record->attributes ? 0 : FILE_ATTRIBUTE_NORMAL;
     return STATUS_SUCCESS;
 }
 
 /* ---- Object IDs: one that is asked for is made of the file's number. */
 static NTSTATUS get_object_id(KzOp *op, const Buffers *to, bool is_made)
 {
-    KzNode *node = op->file->name->node;
+    KzRecord *record = op->file->name->file;
     FILE_OBJECTID_BUFFER fresh = {0};
-    if (!node->object_id.length && !is_made)
+    if (!record->object_id.length && !is_made)
         return STATUS_OBJECTID_NOT_FOUND;
-    if (!node->object_id.length) {
-        memcpy(fresh.ObjectId, &node->id, sizeof node->id);
-        fresh.ObjectId[15] = (UCHAR)(node->volume->id + 1);
-        kz_keep_bytes(&node->object_id, &fresh, sizeof fresh);
+    if (!record->object_id.length) {
+        memcpy(fresh.ObjectId, &record->id, sizeof record->id);
+        fresh.ObjectId[15] = (UCHAR)(record->volume->id + 1);
+        kz_keep_bytes(&record->object_id, &fresh, sizeof fresh);
     }
-    return give(op, to, node->object_id.bytes, sizeof fresh);
+    return give(op, to, record->object_id.bytes, sizeof fresh);
 }
 
 static NTSTATUS set_object_id(KzOp *op, const Buffers *said)
 {
-    KzNode *node = op->file->name->node;
+    KzRecord *record = op->file->name->file;
     if (said->in_length != sizeof(FILE_OBJECTID_BUFFER))
         return STATUS_INVALID_PARAMETER;
-    if (node->object_id.length)
+    if (record->object_id.length)
         return STATUS_OBJECT_NAME_COLLISION;
-    kz_keep_bytes(&node->object_id, said->in, said->in_length);
+    kz_keep_bytes(&record->object_id, said->in, said->in_length);
     return STATUS_SUCCESS;
 }
 
 static NTSTATUS delete_object_id(KzOp *op)
 {
-    kz_keep_bytes(&op->file->name->node->object_id, NULL, 0);
+    kz_keep_bytes(&op->file->name->file->object_id, NULL, 0);
     return STATUS_SUCCESS;
 }
 
@@ -114,7 +114,7 @@ static NTSTATUS read_record(KzOp *op, const Buffers *to)
     struct {
         USN_RECORD_V2 record;
         WCHAR rest[260];
-    } said = {.record = {.MajorVersion = 2, .FileReferenceNumber = name->node->id, .FileAttributes = name->node->attributes, .FileNameOffset = offsetof(USN_RECORD_V2, FileName)}};
+    } said = {.record = {.MajorVersion = 2, .FileReferenceNumber = name->file->id, .FileAttributes = name->file->attributes, .FileNameOffset = offsetof(USN_RECORD_V2, FileName)}};
     said.record.FileNameLength = (USHORT)kz_widen(said.record.FileName, slash ? slash + 1 : name->text);
     said.record.RecordLength = (ULONG)((offsetof(USN_RECORD_V2, FileName) + said.record.FileNameLength + 7) & ~(size_t)7);
     return give(op, to, &said, said.record.RecordLength);

@@ -8,7 +8,9 @@
 #include "lib/upcase.h"
 #include "filesystem/disk.h"
 #include "filesystem/folder.h"
-#include "filesystem/node.h"
+#include "filesystem/record.h"
+#include "filesystem/spelling.h"
+#include "filesystem/stream.h"
 #include "filesystem/tree.h"
 #include "wire/frame.h"
 
@@ -17,7 +19,6 @@
 struct KzTreeState {
     KzName *first, *places[KZ_NAME_PLACES];
     bool is_sorted;
-    unsigned streams; /* names with a colon */
 };
 
 /* The first so many of a list in the order of their bytes, those that are alike as they stood; `rest` is what stands behind them. */
@@ -49,11 +50,6 @@ static void sort(void)
     for (KzName *one = kz.tree->first, *before = NULL; one; before = one, one = one->next)
         one->before = before;
     kz.tree->is_sorted = true;
-}
-
-bool kz_has_streams(void)
-{
-    return kz.tree->streams > 0;
 }
 
 KzName *kz_all_names(void)
@@ -104,7 +100,6 @@ static void put_in(KzName *name)
         kz.tree->first->before = name;
     kz.tree->first = name;
     kz.tree->is_sorted = false;
-    kz.tree->streams += strchr(name->text, ':') != NULL;
 }
 
 static void take_out(KzName *name)
@@ -119,16 +114,17 @@ static void take_out(KzName *name)
         kz.tree->first = name->next;
     if (name->next)
         name->next->before = name->before;
-    kz.tree->streams -= strchr(name->text, ':') != NULL;
 }
 
-KzName *kz_add_name(PFLT_VOLUME volume, const char *text, KzNode *node)
+KzName *kz_add_name(const char *text, KzStream *stream)
 {
     KzName *made = kz_memory(sizeof *made);
-    made->volume = volume;
-    made->node = node;
+    made->volume = stream->file->volume;
+    made->file = stream->file;
+    made->stream = stream;
     snprintf(made->text, sizeof made->text, "%s", text);
-    node->names++;
+    made->file->names++;
+    stream->names++;
     put_in(made);
     return made;
 }
@@ -145,26 +141,28 @@ void kz_move_name(KzName *name, const char *text)
 static void look_below(KzName *name)
 {
     KzFound found;
-    KzNode *node = name->node;
+    KzRecord *record = name->file;
     if (!kz_look_in_folder(name->volume->id, name->text, &found))
         return;
-    bool is_new = found.is_there && !node->id;
+    bool is_new = found.is_there && !record->id;
     if (is_new)
-        kz_begin_node(node, found.is_directory);
-    node->exists = found.is_there;
-    node->is_directory = found.is_directory;
-    node->size = found.size;
+        kz_begin_record(record, found.is_directory);
+    record->exists = record->streams->exists = found.is_there;
+    record->is_directory = found.is_directory;
+    record->streams->size = found.size;
     if (is_new)
-        node->created = node->accessed = node->written = node->changed = found.written;
+        record->created = record->accessed = record->written = record->changed = found.written;
 }
 
 bool kz_is_there(KzName *name)
 {
-    if (!*name->text && !name->node->exists)
-        kz_begin_node(name->node, true); /* the root */
-    if (!name->is_gone)
+    if (!*name->text && !name->file->exists)
+        kz_begin_record(name->file, true); /* the root */
+    if (name->base)
+        kz_is_there(name->base);
+    else if (!name->is_gone)
         look_below(name);
-    return name->node->exists;
+    return kz_exists(name);
 }
 
 void kz_tell_long_path(const char *text, const char *call)
@@ -173,18 +171,43 @@ void kz_tell_long_path(const char *text, const char *call)
         kz_tell(KZM_LONG_PATH, call, "a path that counts %zu letters, and 255 are taken: it answers STATUS_OBJECT_NAME_INVALID", strlen(text));
 }
 
+/* The name of a file with one of its streams keeps the file's own name. */
+static KzName *add_stream_name(PFLT_VOLUME volume, const KzSpelling *read)
+{
+    char text[sizeof read->text];
+    const char *name = read->text + read->file + 1;
+    snprintf(text, sizeof text, "%.*s", (int)read->file, read->text);
+    KzName *base = kz_take_name(volume, text);
+    KzStream *stream = kz_stream_of(base->file, name);
+    KzName *made = kz_add_name(read->text, stream ? stream : kz_add_stream(base->file, name, strlen(name)));
+    made->base = base;
+    return made;
+}
+
 KzName *kz_take_name(PFLT_VOLUME volume, const char *text)
 {
-    if (*text && !is_path((const uint8_t *)text, strlen(text))) {
+    KzSpelling read;
+    if (!NT_SUCCESS(kz_read_spelling(text, &read))) {
         kz_tell_long_path(text, "a create");
         return NULL;
     }
-    KzName *found = kz_find_name(volume, text);
+    KzName *found = kz_find_name(volume, read.text);
     if (!found)
-        found = kz_add_name(volume, text, kz_new_node(volume, text));
+        found = read.text[read.file] ? add_stream_name(volume, &read) : kz_add_name(read.text, kz_new_record(volume, read.text)->streams);
     kz_keep_name(found);
     kz_is_there(found);
     return found;
+}
+
+KzName *kz_take_any_name(PFLT_VOLUME volume, const char *text)
+{
+    KzName *name = kz_take_name(volume, text);
+    if (name || strlen(text) > LONGEST_PATH)
+        return name;
+    name = kz_add_name(text, kz_new_record(volume, text)->streams);
+    name->is_gone = true;
+    kz_keep_name(name);
+    return name;
 }
 
 void kz_keep_name(KzName *name)
@@ -194,17 +217,22 @@ void kz_keep_name(KzName *name)
 
 static void free_name(KzName *name)
 {
-    KzNode *node = name->node;
+    KzRecord *record = name->file;
+    KzStream *stream = name->stream;
+    KzName *base = name->base;
     take_out(name);
     free(name);
-    if (--node->names == 0 && !node->is_abandoned)
-        kz_free_node(node);
+    if (--stream->names == 0 && *stream->name && !stream->exists)
+        kz_free_stream(stream);
+    if (--record->names == 0)
+        kz_free_record(record);
+    kz_let_go_name(base);
 }
 
-/* One that nobody uses, and by which no file is found, is forgotten. */
+/* One that nobody uses, and by which no file is found, is forgotten; so is one of a stream, which its file has. */
 void kz_let_go_name(KzName *name)
 {
-    if (name && --name->users == 0 && (name->is_gone || !name->node->exists))
+    if (name && --name->users == 0 && (name->is_gone || name->base || !name->file->exists))
         free_name(name);
 }
 
@@ -216,12 +244,6 @@ bool kz_is_below(const KzName *name, PFLT_VOLUME volume, const char *directory)
     return !length || (kz_is_same_name(volume, name->text, directory, length) && name->text[length] == '/');
 }
 
-bool kz_is_stream_of(const KzName *name, const KzName *file)
-{
-    size_t length = strlen(file->text);
-    return !name->is_gone && name->volume == file->volume && kz_is_same_name(name->volume, name->text, file->text, length) && name->text[length] == ':';
-}
-
 const char *kz_name_now(const KzFile *file)
 {
     return file->name ? file->name->text : file->path;
@@ -229,7 +251,7 @@ const char *kz_name_now(const KzFile *file)
 
 const char *kz_key_of(const KzFile *file)
 {
-    return file->name ? file->name->node->key : file->path;
+    return file->name ? file->name->stream->key : file->path;
 }
 
 static void free_tree(void)

@@ -8,8 +8,10 @@
 extern const struct KzModule kz_tree_module;
 /* If it has more than 255 letters. */
 void kz_tell_long_path(const char *text, const char *call);
-/* The name, which has one user more; its file may be none yet. NULL if it is no path. */
+/* The name, which has one user more; its file may be none yet. NULL if it is no name. */
 KzName *kz_take_name(PFLT_VOLUME volume, const char *text);
+/* The same for what may be no name: no client finds that one, and the file system refuses what opens it. NULL if it is too long. */
+KzName *kz_take_any_name(PFLT_VOLUME volume, const char *text);
 void kz_keep_name(KzName *name);
 void kz_let_go_name(KzName *name);
 /* NULL if no file, no directory and no create under way has it. */
@@ -18,16 +20,13 @@ KzName *kz_find_name(PFLT_VOLUME volume, const char *text);
 KzName *kz_first_name(void);
 /* In no order. */
 KzName *kz_all_names(void);
-/* Whether there is a name of a stream. */
-bool kz_has_streams(void);
-KzName *kz_add_name(PFLT_VOLUME volume, const char *text, KzNode *node);
+KzName *kz_add_name(const char *text, KzStream *stream);
 /* It is called otherwise from now on. */
 void kz_move_name(KzName *name, const char *text);
 /* Whether two names of the volume are the same one. */
 bool kz_is_same_name(PFLT_VOLUME volume, const char *a, const char *b, size_t length);
 /* Whether it lies below that directory, however deep, or is a stream of what does. */
 bool kz_is_below(const KzName *name, PFLT_VOLUME volume, const char *directory);
-bool kz_is_stream_of(const KzName *name, const KzName *file);
 /* Whether its file is there now; a folder of the host machine is asked. */
 bool kz_is_there(KzName *name);
 /* The name that the file has now, and its path in the manager. */

@@ -59,8 +59,26 @@ static void tell(Notice *notice, const char *rest, ULONG action)
     make_due(notice, has_room ? STATUS_SUCCESS : STATUS_NOTIFY_ENUM_DIR);
 }
 
+/* Of a stream there are filters and actions of its own. */
+static ULONG filter_of_stream(ULONG filter)
+{
+    static const ULONG all[][2] = {{FILE_NOTIFY_CHANGE_FILE_NAME, FILE_NOTIFY_CHANGE_STREAM_NAME}, {FILE_NOTIFY_CHANGE_SIZE, FILE_NOTIFY_CHANGE_STREAM_SIZE}, {FILE_NOTIFY_CHANGE_LAST_WRITE, FILE_NOTIFY_CHANGE_STREAM_WRITE}};
+    ULONG own = 0;
+    for (size_t at = 0; at < sizeof all / sizeof all[0]; at++)
+        own |= filter & all[at][0] ? all[at][1] : 0;
+    return own;
+}
+
+static ULONG action_of_stream(ULONG action)
+{
+    bool is_new = action == FILE_ACTION_ADDED || action == FILE_ACTION_RENAMED_NEW_NAME;
+    return is_new ? FILE_ACTION_ADDED_STREAM : action == FILE_ACTION_MODIFIED ? FILE_ACTION_MODIFIED_STREAM : FILE_ACTION_REMOVED_STREAM;
+}
+
 void kz_notify(const KzName *name, ULONG filter, ULONG action)
 {
+    filter = name->base ? filter_of_stream(filter) : filter;
+    action = name->base ? action_of_stream(action) : action;
     for (Notice *one = kz.notice->first; one; one = one->next) {
         const KzFile *file = one->op->file;
         const char *directory = kz_name_now(file);

@@ -4,7 +4,7 @@
 #include "lib/letters.h"
 #include "filesystem/deletion.h"
 #include "filesystem/name.h"
-#include "filesystem/node.h"
+#include "filesystem/record.h"
 #include "filesystem/tag.h"
 #include "filesystem/tree.h"
 
@@ -14,8 +14,7 @@ static ULONG mode_of(const KzFile *file)
 {
     static const ULONG all[][2] = {{FO_WRITE_THROUGH, FILE_WRITE_THROUGH},
                                    {FO_SEQUENTIAL_ONLY, FILE_SEQUENTIAL_ONLY},
-                                   {FO_NO_INTERMEDIATE_BUFFERING, FILE_NO_INTERMEDIATE_BUFFERING},
-                                   {FO_DELETE_ON_CLOSE, FILE_DELETE_ON_CLOSE}};
+                                   {FO_NO_INTERMEDIATE_BUFFERING, FILE_NO_INTERMEDIATE_BUFFERING}};
     ULONG flags = file->object.Flags, wait = flags & FO_ALERTABLE_IO ? FILE_SYNCHRONOUS_IO_ALERT : FILE_SYNCHRONOUS_IO_NONALERT;
     ULONG mode = flags & FO_SYNCHRONOUS_IO ? wait : 0;
     for (size_t at = 0; at < sizeof all / sizeof all[0]; at++)
@@ -24,32 +23,43 @@ static ULONG mode_of(const KzFile *file)
     return mode;
 }
 
-static void show_basic(const KzNode *node, FILE_BASIC_INFORMATION *to)
+static void show_basic(const KzRecord *record, FILE_BASIC_INFORMATION *to)
 {
     memset(to, 0, sizeof *to);
-    to->CreationTime.QuadPart = node->created;
-    to->LastAccessTime.QuadPart = node->accessed;
-    to->LastWriteTime.QuadPart = node->written;
-    to->ChangeTime.QuadPart = node->changed;
-    to->FileAttributes = node->attributes;
+    to->CreationTime.QuadPart = record->created;
+    to->LastAccessTime.QuadPart = record->accessed;
+    to->LastWriteTime.QuadPart = record->written;
+    to->ChangeTime.QuadPart = record->changed;
+    to->FileAttributes = record->attributes;
 }
 
-uint64_t kz_allocation_of(const KzNode *node)
+static bool has_bytes(const KzStream *stream)
 {
-    uint64_t size = node->allocation > node->size ? node->allocation : node->size;
-    return node->is_directory ? 0 : kz_allocated(node->volume, size);
+    return !stream->file->is_directory || *stream->name;
+}
+
+uint64_t kz_allocation_of(const KzStream *stream)
+{
+    uint64_t size = stream->allocation > stream->size ? stream->allocation : stream->size;
+    return has_bytes(stream) ? kz_allocated(stream->file->volume, size) : 0;
+}
+
+static LONGLONG size_of(const KzStream *stream)
+{
+    return has_bytes(stream) ? (LONGLONG)stream->size : 0;
 }
 
 void kz_show_standard(const KzFile *file, FILE_STANDARD_INFORMATION *to)
 {
-    const KzNode *node = file->name->node;
-    bool is_pending = node->is_marked || !node->links;
+    const KzName *name = file->name;
+    const KzRecord *record = name->file;
+    bool is_pending = record->marked || name->stream->is_marked || !record->links;
     memset(to, 0, sizeof *to);
-    to->AllocationSize.QuadPart = (LONGLONG)kz_allocation_of(node);
-    to->EndOfFile.QuadPart = node->is_directory ? 0 : (LONGLONG)node->size;
-    to->NumberOfLinks = node->links - (is_pending && node->links > 0);
+    to->AllocationSize.QuadPart = (LONGLONG)kz_allocation_of(name->stream);
+    to->EndOfFile.QuadPart = size_of(name->stream);
+    to->NumberOfLinks = record->links - ((record->marked || !record->links) && record->links > 0);
     to->DeletePending = is_pending;
-    to->Directory = node->is_directory;
+    to->Directory = kz_is_directory(name);
 }
 
 /* The size is the manager's. */
@@ -64,16 +74,17 @@ void kz_show_size(const KzFile *file, uint64_t size, FILE_STANDARD_INFORMATION *
         to->AllocationSize.QuadPart = (LONGLONG)kz_allocated(file->volume, size);
 }
 
-void kz_show_network(const KzNode *node, FILE_NETWORK_OPEN_INFORMATION *to)
+void kz_show_network(const KzStream *stream, FILE_NETWORK_OPEN_INFORMATION *to)
 {
+    const KzRecord *record = stream->file;
     memset(to, 0, sizeof *to);
-    to->CreationTime.QuadPart = node->created;
-    to->LastAccessTime.QuadPart = node->accessed;
-    to->LastWriteTime.QuadPart = node->written;
-    to->ChangeTime.QuadPart = node->changed;
-    to->AllocationSize.QuadPart = (LONGLONG)kz_allocation_of(node);
-    to->EndOfFile.QuadPart = node->is_directory ? 0 : (LONGLONG)node->size;
-    to->FileAttributes = node->attributes;
+    to->CreationTime.QuadPart = record->created;
+    to->LastAccessTime.QuadPart = record->accessed;
+    to->LastWriteTime.QuadPart = record->written;
+    to->ChangeTime.QuadPart = record->changed;
+    to->AllocationSize.QuadPart = (LONGLONG)kz_allocation_of(stream);
+    to->EndOfFile.QuadPart = size_of(stream);
+    to->FileAttributes = record->attributes;
 }
 
 /* As much as there is room for; the status says whether that is all. */
@@ -111,13 +122,13 @@ static NTSTATUS query_all(const KzFile *file, const KzRoom *room)
         FILE_ALL_INFORMATION all;
         uint8_t bytes[sizeof(FILE_ALL_INFORMATION) + 600];
     } said;
-    const KzNode *node = file->name->node;
+    const KzRecord *record = file->name->file;
     WCHAR name[300];
     memset(&said, 0, sizeof said);
-    show_basic(node, &said.all.BasicInformation);
+    show_basic(record, &said.all.BasicInformation);
     kz_show_standard(file, &said.all.StandardInformation);
-    said.all.InternalInformation.IndexNumber.QuadPart = (LONGLONG)node->id;
-    said.all.EaInformation.EaSize = (ULONG)node->ea.length;
+    said.all.InternalInformation.IndexNumber.QuadPart = (LONGLONG)record->id;
+    said.all.EaInformation.EaSize = (ULONG)record->ea.length;
     said.all.AccessInformation.AccessFlags = file->access;
     said.all.PositionInformation.CurrentByteOffset = file->object.CurrentByteOffset;
     said.all.ModeInformation.Mode = mode_of(file);
@@ -133,17 +144,17 @@ typedef struct {
     size_t place;
 } Streams;
 
-static bool put_stream(Streams *streams, const KzNode *node, const char *name)
+static bool put_stream(Streams *streams, const KzStream *stream)
 {
     WCHAR wide[300];
     char text[300];
-    snprintf(text, sizeof text, "%s:$DATA", *name ? name : ":");
+    snprintf(text, sizeof text, ":%s:$DATA", stream->name);
     ULONG length = kz_widen(wide, text);
     size_t size = offsetof(FILE_STREAM_INFORMATION, StreamName) + length;
     if (streams->place + size > streams->room->size)
         return false;
     PFILE_STREAM_INFORMATION entry = (PFILE_STREAM_INFORMATION)(streams->room->bytes + streams->place);
-    FILE_STREAM_INFORMATION head = {.StreamNameLength = length, .StreamSize.QuadPart = (LONGLONG)node->size, .StreamAllocationSize.QuadPart = (LONGLONG)kz_allocation_of(node)};
+    FILE_STREAM_INFORMATION head = {.StreamNameLength = length, .StreamSize.QuadPart = (LONGLONG)stream->size, .StreamAllocationSize.QuadPart = (LONGLONG)kz_allocation_of(stream)};
     memcpy(entry, &head, offsetof(FILE_STREAM_INFORMATION, StreamName));
     memcpy(entry->StreamName, wide, length);
     if (streams->before)
@@ -157,16 +168,9 @@ static bool put_stream(Streams *streams, const KzNode *node, const char *name)
 static NTSTATUS query_streams(const KzFile *file, const KzRoom *room)
 {
     Streams streams = {.room = room};
-    KzName own = *file->name;
-    own.text[strcspn(own.text, ":")] = 0;
-    size_t length = strlen(own.text);
-    for (const KzName *one = kz_first_name(); one; one = one->next) {
-        bool is_own = !one->is_gone && one->volume == own.volume && kz_is_same_name(own.volume, one->text, own.text, sizeof own.text);
-        if (!one->node->exists || one->node->is_directory || !(is_own || kz_is_stream_of(one, &own)))
-            continue;
-        if (!put_stream(&streams, one->node, one->text + length))
+    for (const KzStream *one = file->name->file->streams; one; one = one->next)
+        if (one->exists && has_bytes(one) && !put_stream(&streams, one))
             return STATUS_BUFFER_OVERFLOW;
-    }
     return STATUS_SUCCESS;
 }
 
@@ -188,23 +192,23 @@ typedef union {
 /* How large it is; 0: it is none of these. */
 static size_t show_fixed(const KzFile *file, int class, Fixed *said)
 {
-    const KzNode *node = file->name->node;
+    const KzRecord *record = file->name->file;
     memset(said, 0, sizeof *said);
     switch (class) {
     case FileBasicInformation:
-        show_basic(node, &said->basic);
+        show_basic(record, &said->basic);
         return sizeof said->basic;
     case FileStandardInformation:
         kz_show_standard(file, &said->standard);
         return sizeof said->standard;
     case FileNetworkOpenInformation:
-        kz_show_network(node, &said->network);
+        kz_show_network(file->name->stream, &said->network);
         return sizeof said->network;
     case FileInternalInformation:
-        said->internal.IndexNumber.QuadPart = (LONGLONG)node->id;
+        said->internal.IndexNumber.QuadPart = (LONGLONG)record->id;
         return sizeof said->internal;
     case FileEaInformation:
-        said->ea.EaSize = (ULONG)node->ea.length;
+        said->ea.EaSize = (ULONG)record->ea.length;
         return sizeof said->ea;
     case FileAccessInformation:
         said->access.AccessFlags = file->access;
@@ -218,12 +222,12 @@ static size_t show_fixed(const KzFile *file, int class, Fixed *said)
     case FileAlignmentInformation:
         return sizeof said->alignment;
     case FileAttributeTagInformation:
-        said->tag.FileAttributes = node->attributes;
-        said->tag.ReparseTag = kz_tag_of(node);
+        said->tag.FileAttributes = record->attributes;
+        said->tag.ReparseTag = kz_tag_of(record);
         return sizeof said->tag;
     case FileIdInformation:
-        said->id.VolumeSerialNumber = node->volume->id + 1u;
-        memcpy(said->id.FileId.Identifier, &node->id, sizeof node->id);
+        said->id.VolumeSerialNumber = record->volume->id + 1u;
+        memcpy(said->id.FileId.Identifier, &record->id, sizeof record->id);
         return sizeof said->id;
     default:
         return 0;

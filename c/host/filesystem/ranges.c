@@ -21,7 +21,7 @@ static bool meets(const Lock *one, const KzFile *file, uint64_t from, uint64_t l
 {
     const KzRange *held = &one->range;
     bool is_apart = !length || !held->length || from >= held->from + held->length || held->from >= from + length;
-    return one->file->name->node == file->name->node && !is_apart;
+    return one->file->name->stream == file->name->stream && !is_apart;
 }
 
 NTSTATUS kz_lock_range(KzFile *file, const KzRange *range)

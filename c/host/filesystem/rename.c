@@ -10,8 +10,10 @@
 #include "filesystem/folder.h"
 #include "filesystem/handle.h"
 #include "filesystem/name.h"
-#include "filesystem/node.h"
+#include "filesystem/record.h"
 #include "filesystem/notice.h"
+#include "filesystem/spelling.h"
+#include "filesystem/stream.h"
 #include "filesystem/tree.h"
 #include "filesystem/tunnel.h"
 #include "filesystem/volumes.h"
@@ -26,6 +28,16 @@ static const char *below_device(PFLT_VOLUME volume, const char *text)
     if (named)
         return named == volume && *rest == '/' ? rest + 1 : NULL;
     return *text == '/' ? text + 1 : text;
+}
+
+/* Whether it is a name, which is then as the tree has it. */
+static bool is_name(char *text)
+{
+    KzSpelling read;
+    bool is = NT_SUCCESS(kz_read_spelling(text, &read)) && !read.has_end && !read.is_index;
+    if (is)
+        strcpy(text, read.text);
+    return is;
 }
 
 static KzFile *root_of(HANDLE root)
@@ -57,7 +69,7 @@ bool kz_destination(const KzFile *file, HANDLE root, const WCHAR *name, ULONG le
     }
     if (put > 0 && (size_t)put < size)
         kz_tell_long_path(text, "a rename or a link");
-    return put > 0 && (size_t)put < size && put <= LONGEST_PATH;
+    return put > 0 && (size_t)put < size && is_name(text);
 }
 
 bool kz_name_in_target(const KzFile *folder, char *text, size_t size)
@@ -67,27 +79,31 @@ bool kz_name_in_target(const KzFile *folder, char *text, size_t size)
         return false;
     const char *slash = strrchr(said, '/'), *above = folder->name->text;
     int put = snprintf(text, size, "%s%s%s", above, *above ? "/" : "", slash ? slash + 1 : said);
-    return put > 0 && (size_t)put < size && put <= LONGEST_PATH;
+    return put > 0 && (size_t)put < size && is_name(text);
 }
 
 /* ---- What stands in the way: the refusals in the order of the kit's file systems. */
 static bool has_open_below(PFLT_VOLUME volume, const char *text)
 {
     for (const KzName *one = kz_all_names(); one; one = one->next)
-        if (kz_is_below(one, volume, text) && one->node->opens)
+        if (kz_is_below(one, volume, text) && one->file->opens)
             return true;
     return false;
 }
 
 static NTSTATUS source_status(const KzName *from, bool is_link)
 {
-    if (from->is_gone || from->node->is_marked)
+    if (from->is_gone || from->file->marked || from->stream->is_marked)
         return STATUS_ACCESS_DENIED;
     if (!*from->text)
         return STATUS_INVALID_PARAMETER;
-    if (is_link && from->node->is_directory)
+    if (is_link && from->base)
+        return STATUS_INVALID_PARAMETER;
+    if (!is_link && !from->base && from->file->opens > from->file->streams->opens) /* a named stream is open */
+        return STATUS_ACCESS_DENIED;
+    if (is_link && kz_is_directory(from))
         return STATUS_FILE_IS_A_DIRECTORY;
-    return !is_link && from->node->is_directory && has_open_below(from->volume, from->text) ? STATUS_ACCESS_DENIED : STATUS_SUCCESS;
+    return !is_link && kz_is_directory(from) && has_open_below(from->volume, from->text) ? STATUS_ACCESS_DENIED : STATUS_SUCCESS;
 }
 
 static bool is_over_memory(PFLT_VOLUME volume)
@@ -103,13 +119,13 @@ static NTSTATUS target_status(const KzName *from, KzName *to, ULONG flags, bool 
         return STATUS_SUCCESS;
     if (!(flags & FILE_RENAME_REPLACE_IF_EXISTS))
         return STATUS_OBJECT_NAME_COLLISION;
-    if (to->node->is_directory || to->node->attributes & FILE_ATTRIBUTE_READONLY)
+    if (kz_is_directory(to) || to->file->attributes & FILE_ATTRIBUTE_READONLY)
         return STATUS_ACCESS_DENIED;
-    if (to->node == from->node)
+    if (to->stream == from->stream)
         return STATUS_SUCCESS;
-    if (to->node->is_marked)
+    if (to->file->marked || to->stream->is_marked)
         return STATUS_DELETE_PENDING;
-    if (!to->node->opens)
+    if (!(to->base ? to->stream->opens : to->file->opens))
         return STATUS_SUCCESS;
     if (is_posix && !is_over_memory(to->volume))
         return STATUS_NOT_SUPPORTED; /* the machine's folder would lose the bytes that handles still read */
@@ -117,17 +133,31 @@ static NTSTATUS target_status(const KzName *from, KzName *to, ULONG flags, bool 
 }
 
 /* ---- What moves. */
-bool kz_has_file_above(PFLT_VOLUME volume, const char *text)
+static bool has_file_above(PFLT_VOLUME volume, const char *text)
 {
     char above[256];
     bool has_file = false;
     for (const char *slash = is_over_memory(volume) ? strchr(text, '/') : NULL; slash && !has_file; slash = strchr(slash + 1, '/')) {
         snprintf(above, sizeof above, "%.*s", (int)(slash - text), text);
         KzName *name = kz_take_name(volume, above);
-        has_file = name && kz_is_there(name) && !name->node->is_directory;
+        has_file = name && kz_is_there(name) && !kz_is_directory(name);
         kz_let_go_name(name);
     }
     return has_file;
+}
+
+/* A folder of the machine is asked as the name is made in it. */
+NTSTATUS kz_check_above(PFLT_VOLUME volume, const char *text, bool makes)
+{
+    char above[256];
+    const char *slash = strrchr(text, '/');
+    if (!slash || !is_over_memory(volume))
+        return STATUS_SUCCESS;
+    snprintf(above, sizeof above, "%.*s", (int)(slash - text), text);
+    const KzName *folder = kz_find_name(volume, above);
+    if (folder && folder->file->exists && folder->file->is_directory)
+        return folder->file->marked ? STATUS_DELETE_PENDING : STATUS_SUCCESS;
+    return makes && volume->makes_folders && !has_file_above(volume, text) ? STATUS_SUCCESS : STATUS_OBJECT_PATH_NOT_FOUND;
 }
 
 void kz_make_above(PFLT_VOLUME volume, const char *text)
@@ -137,18 +167,18 @@ void kz_make_above(PFLT_VOLUME volume, const char *text)
         snprintf(above, sizeof above, "%.*s", (int)(slash - text), text);
         KzName *name = kz_take_name(volume, above);
         if (name && !kz_is_there(name))
-            kz_begin_node(name->node, true);
+            kz_begin_record(name->file, true);
         kz_let_go_name(name);
     }
 }
 
-/* The names below a folder, and those of a file's streams: first all are marked, since one that was moved may be below the old name too. */
-void kz_move_with(PFLT_VOLUME volume, const char *from, const char *to, bool is_streams)
+/* The names below a folder, and those with a file's streams: first all are marked, since one that was moved may be below the old name too. */
+static void move_with(PFLT_VOLUME volume, const char *from, const char *to)
 {
     char text[600];
     size_t length = strlen(from);
     for (KzName *one = kz_all_names(); one; one = one->next)
-        one->is_to_move = !one->is_gone && one->volume == volume && kz_is_same_name(volume, one->text, from, length) && (one->text[length] == ':' || (one->text[length] == '/' && !is_streams));
+        one->is_to_move = !one->is_gone && one->volume == volume && kz_is_same_name(volume, one->text, from, length) && (one->text[length] == ':' || one->text[length] == '/');
     for (KzName *one = kz_all_names(), *next; one; one = next) {
         next = one->next;
         if (!one->is_to_move)
@@ -163,21 +193,40 @@ void kz_move_with(PFLT_VOLUME volume, const char *from, const char *to, bool is_
 
 static NTSTATUS link_to(KzName *from, const char *text)
 {
-    from->node->links++;
-    kz_notify(kz_add_name(from->volume, text, from->node), FILE_NOTIFY_CHANGE_FILE_NAME, FILE_ACTION_ADDED);
+    from->file->links++;
+    kz_notify(kz_add_name(text, from->stream), FILE_NOTIFY_CHANGE_FILE_NAME, FILE_ACTION_ADDED);
     return STATUS_SUCCESS;
 }
 
 static NTSTATUS move_to(KzName *from, const char *text)
 {
     char old[256];
-    ULONG filter = from->node->is_directory ? FILE_NOTIFY_CHANGE_DIR_NAME : FILE_NOTIFY_CHANGE_FILE_NAME;
+    ULONG filter = kz_is_directory(from) ? FILE_NOTIFY_CHANGE_DIR_NAME : FILE_NOTIFY_CHANGE_FILE_NAME;
     memcpy(old, from->text, sizeof old);
     kz_notify(from, filter, FILE_ACTION_RENAMED_OLD_NAME);
     kz_put_in_tunnel(from);
     kz_move_name(from, text);
-    kz_move_with(from->volume, old, text, false);
+    move_with(from->volume, old, text);
     kz_notify(from, filter, FILE_ACTION_RENAMED_NEW_NAME);
+    return STATUS_SUCCESS;
+}
+
+/* A stream is called otherwise, by each of its names. */
+static NTSTATUS name_stream(KzName *from, const char *text)
+{
+    KzStream *stream = from->stream;
+    char fresh[256], whole[600];
+    snprintf(fresh, sizeof fresh, "%s", text + strlen(from->base->text) + 1);
+    kz_notify(from, FILE_NOTIFY_CHANGE_FILE_NAME, FILE_ACTION_RENAMED_OLD_NAME);
+    kz_name_stream(stream, fresh);
+    for (KzName *one = kz_all_names(), *next; one; one = next) {
+        next = one->next;
+        if (one->stream != stream || one->is_gone || snprintf(whole, sizeof whole, "%s:%s", one->base->text, fresh) > LONGEST_PATH || strcmp(one->text, whole) == 0)
+            continue;
+        kz_move_name(one, whole);
+        next = kz_all_names();
+    }
+    kz_notify(from, FILE_NOTIFY_CHANGE_FILE_NAME, FILE_ACTION_RENAMED_NEW_NAME);
     return STATUS_SUCCESS;
 }
 
@@ -187,15 +236,14 @@ static NTSTATUS put_in_place(KzName *from, KzName *to, const char *text, bool is
     NTSTATUS status = kz_rename_in_folder(from->volume->id, from->text, text, is_link);
     if (!NT_SUCCESS(status))
         return status;
-    kz_names_moved(from->volume);
     kz_make_above(from->volume, text);
     if (to != from) {
-        if (to->node->exists && to->node != from->node)
+        if (kz_exists(to) && to->stream != from->stream)
             kz_notify(to, FILE_NOTIFY_CHANGE_FILE_NAME, FILE_ACTION_REMOVED);
         kz_take_away(to);
     }
-    from->node->changed = kz_time();
-    return is_link ? link_to(from, text) : move_to(from, text);
+    from->file->changed = kz_time();
+    return is_link ? link_to(from, text) : from->base ? name_stream(from, text) : move_to(from, text);
 }
 
 NTSTATUS kz_rename(KzFile *file, const char *text, bool is_link, ULONG flags)
@@ -207,10 +255,14 @@ NTSTATUS kz_rename(KzFile *file, const char *text, bool is_link, ULONG flags)
     KzName *to = *text ? kz_take_name(from->volume, text) : NULL;
     if (!to)
         return STATUS_OBJECT_NAME_INVALID;
-    if (from->node->is_directory && kz_is_below(to, from->volume, from->text))
+    if (!from->base != !to->base || (from->base && from->file != to->file))
+        status = STATUS_OBJECT_NAME_INVALID; /* a stream stays with its file */
+    else if (kz_is_directory(from) && kz_is_below(to, from->volume, from->text))
         status = STATUS_ACCESS_DENIED;
     else
-        status = kz_has_file_above(from->volume, text) ? STATUS_OBJECT_PATH_NOT_FOUND : target_status(from, to, flags, is_link);
+        status = kz_check_above(from->volume, text, true);
+    if (NT_SUCCESS(status))
+        status = target_status(from, to, flags, is_link);
     bool is_as_it_was = to == from && (is_link || strcmp(from->text, text) == 0);
     if (NT_SUCCESS(status) && !is_as_it_was)
         status = put_in_place(from, to, text, is_link);

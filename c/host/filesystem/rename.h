@@ -9,9 +9,8 @@
 bool kz_name_in_target(const KzFile *folder, char *text, size_t size);
 bool kz_destination(const KzFile *file, HANDLE root, const WCHAR *name, ULONG length, char *text, size_t size);
 NTSTATUS kz_rename(KzFile *file, const char *text, bool is_link, ULONG flags);
-/* What lies below a name, and its streams, go along; or the streams alone. */
-void kz_move_with(PFLT_VOLUME volume, const char *from, const char *to, bool is_streams);
-bool kz_has_file_above(PFLT_VOLUME volume, const char *text);
+/* Whether a name may be there: the folder above it is one, and stays; or one that is to be made, since the volume makes those above it. */
+NTSTATUS kz_check_above(PFLT_VOLUME volume, const char *text, bool makes);
 /* The folders above a name are there. */
 void kz_make_above(PFLT_VOLUME volume, const char *text);
 

@@ -9,7 +9,7 @@
 #include "filesystem/notice.h"
 #include "filesystem/query.h"
 #include "filesystem/rename.h"
-#include "filesystem/store.h"
+#include "filesystem/stream.h"
 #include "filesystem/tree.h"
 
 NTSTATUS kz_answer_query(KzOp *op, const FLT_PARAMETERS *now)
@@ -21,25 +21,32 @@ NTSTATUS kz_answer_query(KzOp *op, const FLT_PARAMETERS *now)
     return kz_query_file(op->file, now->QueryFileInformation.FileInformationClass, &room);
 }
 
+/* What a file is stays, whatever is said; it is normal if nothing else is said of it. */
+static void set_attributes(KzRecord *record, ULONG said)
+{
+    const ULONG kinds = FILE_ATTRIBUTE_DIRECTORY | FILE_ATTRIBUTE_REPARSE_POINT | FILE_ATTRIBUTE_SPARSE_FILE | FILE_ATTRIBUTE_COMPRESSED | FILE_ATTRIBUTE_ENCRYPTED;
+    record->attributes = (record->attributes & kinds) | (said & ~(kinds | FILE_ATTRIBUTE_NORMAL));
+    record->attributes |= record->attributes ? 0 : FILE_ATTRIBUTE_NORMAL;
+}
+
 /* A time of 0 or less stays, and so do attributes of 0. */
 static NTSTATUS set_basic(KzName *name, const FILE_BASIC_INFORMATION *said)
 {
-    KzNode *node = name->node;
+    KzRecord *record = name->file;
     const struct {
         LONGLONG said, *kept;
-    } times[] = {{said->CreationTime.QuadPart, &node->created},
-                 {said->LastAccessTime.QuadPart, &node->accessed},
-                 {said->LastWriteTime.QuadPart, &node->written},
-                 {said->ChangeTime.QuadPart, &node->changed}};
-    if (said->FileAttributes & FILE_ATTRIBUTE_DIRECTORY && !node->is_directory)
+    } times[] = {{said->CreationTime.QuadPart, &record->created},
+                 {said->LastAccessTime.QuadPart, &record->accessed},
+                 {said->LastWriteTime.QuadPart, &record->written},
+                 {said->ChangeTime.QuadPart, &record->changed}};
+    if (said->FileAttributes & (record->is_directory ? FILE_ATTRIBUTE_TEMPORARY : FILE_ATTRIBUTE_DIRECTORY))
         return STATUS_INVALID_PARAMETER;
     for (size_t at = 0; at < sizeof times / sizeof times[0]; at++)
         if (times[at].said > 0)
             *times[at].kept = times[at].said;
     if (said->FileAttributes)
-        node->attributes = (said->FileAttributes & ~(ULONG)(FILE_ATTRIBUTE_DIRECTORY | FILE_ATTRIBUTE_REPARSE_POINT)) | (node->is_directory ? FILE_ATTRIBUTE_DIRECTORY : 0) |
-                           (node->reparse.length ? FILE_ATTRIBUTE_REPARSE_POINT : 0);
-    kz_notify(name, FILE_NOTIFY_CHANGE_ATTRIBUTES, FILE_ACTION_MODIFIED);
+        set_attributes(record, said->FileAttributes);
+    kz_notify(name->base ? name->base : name, FILE_NOTIFY_CHANGE_ATTRIBUTES, FILE_ACTION_MODIFIED);
     return STATUS_SUCCESS;
 }
 
@@ -58,25 +65,24 @@ static NTSTATUS set_name(KzFile *file, const FLT_PARAMETERS *now, bool is_link, 
     return kz_rename(file, text, is_link, is_extended ? said->Flags : said->ReplaceIfExists ? FILE_RENAME_REPLACE_IF_EXISTS : 0);
 }
 
-/* The bytes aren't here: what cuts a file goes to the file system that has them, by an operation that no instance hears. */
 static NTSTATUS set_end(KzOp *op, LONGLONG size)
 {
     KzFile *file = op->file;
-    if (size < 0 || file->name->node->is_directory)
+    if (size < 0 || kz_is_directory(file->name))
         return STATUS_INVALID_PARAMETER;
-    return kz_is_mapped(op, file->name->node, (uint64_t)size) ? STATUS_USER_MAPPED_FILE : kz.store->cut(file, (uint64_t)size);
+    return kz_is_mapped(op, file->name->stream, (uint64_t)size) ? STATUS_USER_MAPPED_FILE : kz_resize(file, (uint64_t)size);
 }
 
 static NTSTATUS set_allocation(KzOp *op, LONGLONG size)
 {
     KzFile *file = op->file;
-    KzNode *node = file->name->node;
-    if (size < 0 || node->is_directory)
+    KzStream *stream = file->name->stream;
+    if (size < 0 || kz_is_directory(file->name))
         return STATUS_INVALID_PARAMETER;
-    if ((uint64_t)size < node->size && kz_is_mapped(op, node, (uint64_t)size))
+    if ((uint64_t)size < stream->size && kz_is_mapped(op, stream, (uint64_t)size))
         return STATUS_USER_MAPPED_FILE;
-    node->allocation = (uint64_t)size;
-    return (uint64_t)size < node->size ? kz.store->cut(file, (uint64_t)size) : STATUS_SUCCESS;
+    stream->allocation = (uint64_t)size;
+    return (uint64_t)size < stream->size ? kz_resize(file, (uint64_t)size) : STATUS_SUCCESS;
 }
 
 static NTSTATUS set_position(KzFile *file, LARGE_INTEGER place)
@@ -128,7 +134,7 @@ NTSTATUS kz_answer_set(KzOp *op, const FLT_PARAMETERS *now)
     case FileEndOfFileInformation:
         return set_end(op, ((const FILE_END_OF_FILE_INFORMATION *)said)->EndOfFile.QuadPart);
     case FileValidDataLengthInformation:
-        return (uint64_t)((const FILE_VALID_DATA_LENGTH_INFORMATION *)said)->ValidDataLength.QuadPart > file->name->node->size ? STATUS_INVALID_PARAMETER : STATUS_SUCCESS;
+        return (uint64_t)((const FILE_VALID_DATA_LENGTH_INFORMATION *)said)->ValidDataLength.QuadPart > file->name->stream->size ? STATUS_INVALID_PARAMETER : STATUS_SUCCESS;
     case FileDispositionInformation:
         return kz_dispose(file, ((const FILE_DISPOSITION_INFORMATION *)said)->DeleteFile ? FILE_DISPOSITION_DELETE : 0);
     case FileDispositionInformationEx:

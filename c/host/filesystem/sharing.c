@@ -7,8 +7,9 @@
 #include "filesystem/control.h"
 #include "filesystem/deletion.h"
 #include "filesystem/name.h"
-#include "filesystem/node.h"
-#include "filesystem/store.h"
+#include "filesystem/record.h"
+#include "filesystem/spelling.h"
+#include "filesystem/stream.h"
 #include "lib/share.h"
 
 /* Those of a file that a create may give it. */
@@ -17,7 +18,7 @@
 /* Those who opened the volume itself share it among themselves. */
 static PSHARE_ACCESS share_of(KzFile *file)
 {
-    return file->is_volume ? &file->volume->share : &file->name->node->share;
+    return file->is_volume ? &file->volume->share : &file->name->stream->share;
 }
 
 static ULONG disposition_of(const KzCreate *create)
@@ -25,33 +26,26 @@ static ULONG disposition_of(const KzCreate *create)
     return create->options >> 24;
 }
 
-static bool is_emptied(const KzCreate *create)
+bool kz_is_emptied(const KzCreate *create)
 {
     ULONG disposition = disposition_of(create);
     return disposition == FILE_SUPERSEDE || disposition == FILE_OVERWRITE || disposition == FILE_OVERWRITE_IF;
 }
 
-/* What a file that is overwritten keeps hidden, or of the system, has to be asked for so. */
-static bool changes_kind(const KzNode *node, const KzCreate *create)
+/* Streams share each by itself. But who opens the file to delete it, and not its bytes by their type, deletes them all. */
+static bool may_delete(const KzFile *file)
 {
-    return node->attributes & ~create->attributes & (FILE_ATTRIBUTE_HIDDEN | FILE_ATTRIBUTE_SYSTEM);
+    bool is_of_all = file->object.DeleteAccess && !file->spelt.is_data;
+    const KzStream *one = is_of_all ? file->name->file->streams->next : NULL;
+    while (one && one->share.SharedDelete == one->share.OpenCount)
+        one = one->next;
+    return !one;
 }
 
-NTSTATUS kz_may_open(KzOp *op)
+bool kz_may_share_file(KzFile *file, const KzCreate *create)
 {
-    const KzCreate *create = &op->create;
-    const KzNode *node = op->file->name->node;
-    bool is_read_only = !node->is_directory && node->attributes & FILE_ATTRIBUTE_READONLY;
-    if (is_read_only && create->options & FILE_DELETE_ON_CLOSE)
-        return STATUS_CANNOT_DELETE;
-    if (is_read_only && (create->access & (FILE_WRITE_DATA | FILE_APPEND_DATA) || is_emptied(create)))
-        return STATUS_ACCESS_DENIED;
-    if (is_emptied(create) && changes_kind(node, create))
-        return STATUS_ACCESS_DENIED;
-    if (is_emptied(create) && !node->is_directory && kz_is_mapped(op, node, 0))
-        return STATUS_USER_MAPPED_FILE;
-    kz_grant(&op->file->object, create->access, create->share);
-    return create->ignores_sharing || kz_may_share(&op->file->object, share_of(op->file)) ? STATUS_SUCCESS : STATUS_SHARING_VIOLATION;
+    kz_grant(&file->object, create->access, create->share);
+    return create->ignores_sharing || (kz_may_share(&file->object, share_of(file)) && may_delete(file));
 }
 
 /* ---- It was opened. */
@@ -90,28 +84,32 @@ void kz_stop_sharing(KzFile *file)
     kz_count_share(&file->object, share_of(file), -1);
 }
 
-static void give_attributes(KzNode *node, const KzCreate *create)
+/* A file is to be archived once it is made, emptied or replaced; of one that is emptied the other attributes stay. */
+static void give_attributes(KzRecord *record, const KzCreate *create, bool was_there)
 {
-    ULONG given = create->attributes & GIVEN;
-    if (given || is_emptied(create))
-        node->attributes = given ? given | (node->is_directory ? FILE_ATTRIBUTE_DIRECTORY : 0) : node->is_directory ? FILE_ATTRIBUTE_DIRECTORY : FILE_ATTRIBUTE_NORMAL;
-    if (create->allocation > 0 && !node->is_directory)
-        node->allocation = kz_allocated(node->volume, (uint64_t)create->allocation);
+    ULONG given = create->attributes & GIVEN, kept = was_there && disposition_of(create) != FILE_SUPERSEDE ? record->attributes & ~(ULONG)FILE_ATTRIBUTE_NORMAL : 0;
+    record->attributes = given | kept | (record->is_directory ? FILE_ATTRIBUTE_DIRECTORY : FILE_ATTRIBUTE_ARCHIVE);
+}
+
+static void give_allocation(KzName *name, const KzCreate *create)
+{
+    if (create->allocation > 0 && !kz_is_directory(name))
+        name->stream->allocation = kz_allocated(name->volume, (uint64_t)create->allocation);
 }
 
 static ULONG_PTR result_of(const KzCreate *create, PFLT_VOLUME volume, bool was_there)
 {
     const KzName *target = create->target ? kz_find_name(volume, create->target) : NULL;
     if (create->target)
-        return target && target->node->exists ? FILE_EXISTS : FILE_DOES_NOT_EXIST;
+        return target && kz_exists(target) ? FILE_EXISTS : FILE_DOES_NOT_EXIST;
     if (!was_there)
         return FILE_CREATED;
-    if (!is_emptied(create))
+    if (!kz_is_emptied(create))
         return FILE_OPENED;
     return disposition_of(create) == FILE_SUPERSEDE ? FILE_SUPERSEDED : FILE_OVERWRITTEN;
 }
 
-void kz_note_opened(KzOp *op, bool was_there)
+void kz_note_opened(KzOp *op, bool was_there, bool had_file)
 {
     KzFile *file = op->file;
     const KzCreate *create = &op->create;
@@ -121,24 +119,20 @@ void kz_note_opened(KzOp *op, bool was_there)
     share(file, create);
     if (file->created == FILE_OPENED || create->target)
         return;
-    KzNode *node = file->name ? file->name->node : NULL;
-    if (was_there && node && !node->is_directory) {
-        kz.store->cut(file, 0);
-        kz_keep_bytes(&node->ea, NULL, 0);
-        kz_forget_tag(node);
+    KzName *name = file->name;
+    if (!name)
+        return;
+    bool is_cut = was_there && !kz_is_directory(name);
+    if (is_cut)
+        kz_resize(file, 0);
+    give_allocation(name, create);
+    if (name->base && had_file)
+        return; /* what else there is is the file's, and stays */
+    if (is_cut) {
+        kz_keep_bytes(&name->file->ea, NULL, 0);
+        kz_forget_tag(name->file);
     }
-    if (node)
-        give_attributes(node, create);
-    if (node && create->ea_length)
-        kz_keep_bytes(&node->ea, create->ea, create->ea_length);
-}
-
-bool kz_opens_directory(const KzCreate *create, PFLT_VOLUME volume, const char *path)
-{
-    if (create->options & (FILE_DIRECTORY_FILE | FILE_NON_DIRECTORY_FILE))
-        return create->options & FILE_DIRECTORY_FILE;
-    KzName *name = kz_take_name(volume, path);
-    bool is_directory = name && kz_is_there(name) && name->node->is_directory;
-    kz_let_go_name(name);
-    return is_directory;
+    give_attributes(name->file, create, was_there);
+    if (create->ea_length)
+        kz_keep_bytes(&name->file->ea, create->ea, create->ea_length);
 }

@@ -5,13 +5,13 @@
 #include "host.h"
 #include "core/create.h"
 
-/* Whether a file that is there may be opened so; else why not. */
-NTSTATUS kz_may_open(KzOp *op);
-/* It was opened, and was there before or wasn't. */
-void kz_note_opened(KzOp *op, bool was_there);
+/* Whether those that have the file open share it with a create, and it with them. */
+bool kz_may_share_file(KzFile *file, const KzCreate *create);
+/* A create empties the file that it opens, or replaces it. */
+bool kz_is_emptied(const KzCreate *create);
+/* It was opened, and was there before or wasn't; of a stream the file was or wasn't. */
+void kz_note_opened(KzOp *op, bool was_there, bool had_file);
 /* No other looks at its sharing any more. */
 void kz_stop_sharing(KzFile *file);
-/* A create that doesn't say what it opens opens a directory where there is one. */
-bool kz_opens_directory(const KzCreate *create, PFLT_VOLUME volume, const char *path);
 
 #endif

@@ -5,19 +5,19 @@
 #include "lib/letters.h"
 #include "filesystem/deletion.h"
 #include "filesystem/name.h"
-#include "filesystem/node.h"
+#include "filesystem/record.h"
 #include "filesystem/notice.h"
 #include "filesystem/sharing.h"
 
 /* As it was set: a header, with a GUID where the tag isn't Microsoft's, and its data. */
-static const REPARSE_DATA_BUFFER *point_of(const KzNode *node)
+static const REPARSE_DATA_BUFFER *point_of(const KzRecord *record)
 {
-    return node->reparse.length ? (const REPARSE_DATA_BUFFER *)node->reparse.bytes : NULL;
+    return record->reparse.length ? (const REPARSE_DATA_BUFFER *)record->reparse.bytes : NULL;
 }
 
-ULONG kz_tag_of(const KzNode *node)
+ULONG kz_tag_of(const KzRecord *record)
 {
-    const REPARSE_DATA_BUFFER *point = point_of(node);
+    const REPARSE_DATA_BUFFER *point = point_of(record);
     return point ? point->ReparseTag : 0;
 }
 
@@ -81,12 +81,12 @@ static NTSTATUS set(KzName *name, const REPARSE_DATA_BUFFER *said, size_t length
         return status;
     if (is_followed(said->ReparseTag) && !has_target(said->ReparseTag, said->ReparseDataLength, &said->GenericReparseBuffer))
         return STATUS_IO_REPARSE_DATA_INVALID;
-    if (point_of(name->node) && !NT_SUCCESS(status = check_owner(point_of(name->node), said->ReparseTag, guid_of(said))))
+    if (point_of(name->file) && !NT_SUCCESS(status = check_owner(point_of(name->file), said->ReparseTag, guid_of(said))))
         return status;
-    if (name->node->is_directory && !IsReparseTagDirectory(said->ReparseTag) && !kz_is_empty(name))
+    if (kz_is_directory(name) && !IsReparseTagDirectory(said->ReparseTag) && !kz_is_empty(name))
         return STATUS_DIRECTORY_NOT_EMPTY;
-    kz_keep_bytes(&name->node->reparse, said, length);
-    name->node->attributes = (name->node->attributes & ~(ULONG)FILE_ATTRIBUTE_NORMAL) | FILE_ATTRIBUTE_REPARSE_POINT;
+    kz_keep_bytes(&name->file->reparse, said, length);
+    name->file->attributes = (name->file->attributes & ~(ULONG)FILE_ATTRIBUTE_NORMAL) | FILE_ATTRIBUTE_REPARSE_POINT;
     kz_notify(name, FILE_NOTIFY_CHANGE_ATTRIBUTES, FILE_ACTION_MODIFIED);
     return STATUS_SUCCESS;
 }
@@ -97,19 +97,19 @@ static NTSTATUS take_off(KzName *name, const REPARSE_DATA_BUFFER *said, size_t l
     NTSTATUS status = check(said, length);
     if (!NT_SUCCESS(status) || said->ReparseDataLength)
         return NT_SUCCESS(status) ? STATUS_IO_REPARSE_DATA_INVALID : status;
-    if (!point_of(name->node))
+    if (!point_of(name->file))
         return STATUS_NOT_A_REPARSE_POINT;
-    status = check_owner(point_of(name->node), said->ReparseTag, guid_of(said));
+    status = check_owner(point_of(name->file), said->ReparseTag, guid_of(said));
     if (!NT_SUCCESS(status))
         return status;
-    kz_forget_tag(name->node);
+    kz_forget_tag(name->file);
     kz_notify(name, FILE_NOTIFY_CHANGE_ATTRIBUTES, FILE_ACTION_MODIFIED);
     return STATUS_SUCCESS;
 }
 
 static NTSTATUS get(KzOp *op, const FLT_PARAMETERS *now)
 {
-    const KzBytes *kept = &op->file->name->node->reparse;
+    const KzBytes *kept = &op->file->name->file->reparse;
     ULONG room = now->FileSystemControl.Common.OutputBufferLength;
     if (!kept->length)
         return STATUS_NOT_A_REPARSE_POINT;
@@ -121,19 +121,19 @@ static NTSTATUS get(KzOp *op, const FLT_PARAMETERS *now)
 }
 
 /* ---- The extended codes say which tag has to be there, if one is. */
-static NTSTATUS check_existing(const KzNode *node, const REPARSE_DATA_BUFFER_EX *said, size_t length)
+static NTSTATUS check_existing(const KzRecord *record, const REPARSE_DATA_BUFFER_EX *said, size_t length)
 {
     if (length < offsetof(REPARSE_DATA_BUFFER_EX, ReparseDataBuffer) || said->Flags & ~(ULONG)REPARSE_DATA_EX_FLAG_GIVEN_TAG_OR_NONE)
         return STATUS_INVALID_PARAMETER;
-    if (!point_of(node))
+    if (!point_of(record))
         return said->Flags & REPARSE_DATA_EX_FLAG_GIVEN_TAG_OR_NONE || !said->ExistingReparseTag ? STATUS_SUCCESS : STATUS_IO_REPARSE_TAG_MISMATCH;
-    return check_owner(point_of(node), said->ExistingReparseTag, &said->ExistingReparseGuid);
+    return check_owner(point_of(record), said->ExistingReparseTag, &said->ExistingReparseGuid);
 }
 
 /* The one that it names goes, whatever the new one is. */
 static NTSTATUS control_extended(KzName *name, const REPARSE_DATA_BUFFER_EX *said, size_t length, bool is_set)
 {
-    NTSTATUS status = check_existing(name->node, said, length);
+    NTSTATUS status = check_existing(name->file, said, length);
     size_t rest = length - offsetof(REPARSE_DATA_BUFFER_EX, ReparseDataBuffer);
     if (!NT_SUCCESS(status))
         return status;
@@ -141,7 +141,7 @@ static NTSTATUS control_extended(KzName *name, const REPARSE_DATA_BUFFER_EX *sai
         return take_off(name, &said->ReparseDataBuffer, rest);
     status = check(&said->ReparseDataBuffer, rest);
     if (NT_SUCCESS(status))
-        kz_forget_tag(name->node);
+        kz_forget_tag(name->file);
     return NT_SUCCESS(status) ? set(name, &said->ReparseDataBuffer, rest) : status;
 }
 
@@ -171,11 +171,11 @@ NTSTATUS kz_control_tag(KzOp *op, const FLT_PARAMETERS *now)
 }
 
 /* ---- A create that comes upon one. */
-static bool meet(KzOp *op, const KzNode *node, size_t rest)
+static bool meet(KzOp *op, const KzRecord *record, size_t rest)
 {
-    op->met.point = &node->reparse;
+    op->met.point = &record->reparse;
     op->met.rest = rest;
-    op->file->created = kz_tag_of(node);
+    op->file->created = kz_tag_of(record);
     return true;
 }
 
@@ -186,8 +186,8 @@ static bool meets_above(KzOp *op, const KzName *name)
     for (const char *slash = strchr(name->text, '/'); slash; slash = strchr(slash + 1, '/')) {
         snprintf(above, sizeof above, "%.*s", (int)(slash - name->text), name->text);
         const KzName *one = kz_find_name(name->volume, above);
-        if (one && one->node->exists && one->node->reparse.length)
-            return meet(op, one->node, strlen(slash));
+        if (one && one->file->exists && one->file->reparse.length)
+            return meet(op, one->file, strlen(slash));
     }
     return false;
 }
@@ -198,7 +198,7 @@ bool kz_meets_tag(KzOp *op, uint8_t mode)
     bool is_link_itself = op->create.options & FILE_OPEN_REPARSE_POINT || mode == 1;
     if (meets_above(op, name))
         return true;
-    return !is_link_itself && name->node->exists && name->node->reparse.length && meet(op, name->node, 0);
+    return !is_link_itself && name->file->exists && name->file->reparse.length && meet(op, name->file, 0);
 }
 
 /* ---- Where the system goes on. */

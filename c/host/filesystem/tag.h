@@ -6,7 +6,7 @@
 #include "filesystem/tree.h"
 
 /* The tag; 0 if the file has none. */
-ULONG kz_tag_of(const KzNode *node);
+ULONG kz_tag_of(const KzRecord *record);
 /* Whether a create comes upon a tag, on its way or at its end: its answer is STATUS_REPARSE then, and the operation has the tag's data. */
 bool kz_meets_tag(KzOp *op, uint8_t mode);
 /* Where the system goes on by itself, with a link or a mount point: the name, as a driver would write it. False: another tag, which nobody took. */

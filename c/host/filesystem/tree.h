@@ -1,7 +1,7 @@
-/* What the file system here knows beside the bytes of its files: names, and the files that they stand for.
+/* What the file system here knows: names, the files that they stand for, and the streams of these.
  *
- * A file's key is the first name that it had. It is what the manager sees as the file's path, and stays as long as the file is there. A rename moves the name alone, so that all that
- * the manager keeps with the key follows the file: contexts, handles, a mark of deletion. Until the first rename each name is its file's key. */
+ * The manager sees a stream by its key, a serial number. A rename moves the name alone, so that all that the manager keeps with the key follows the file: contexts, handles, a mark of
+ * deletion. */
 #ifndef KZ_FILESYSTEM_TREE_H
 #define KZ_FILESYSTEM_TREE_H
 
@@ -26,34 +26,57 @@ typedef struct KzBytes {
     size_t length;
 } KzBytes;
 
-/* Memory in which a file's bytes are seen, as far as it reaches: what is written to the file is written there too. */
+/* Bytes in memory (bytes.h), a page each, in the order of their numbers. */
+typedef struct {
+    uint64_t number;
+    uint8_t *bytes;
+} KzPage;
+typedef struct {
+    KzPage *all;
+    size_t count, room;
+} KzPages;
+
+/* Memory in which a stream's bytes are seen, as far as it reaches: what is written to it is written there too. */
 typedef struct KzView {
     struct KzView *next;
-    struct KzNode *node; /* NULL once the file is gone */
+    struct KzStream *stream; /* NULL once it is gone */
     uint8_t *bytes;
     uint64_t size;
 } KzView;
 
-/* A file, a directory, or a stream of a file that has a name of its own. */
-typedef struct KzNode {
-    struct KzNode *next, *before;
-    struct KzNode *same; /* the next one of the same place by its key */
+/* Bytes of a file, with their name and sharing. NTFS's SCB. */
+typedef struct KzStream {
+    struct KzStream *next;
+    struct KzRecord *file;
+    char *name;     /* as it was spelt; empty of the file's own bytes, and of a directory itself */
+    char key[24];   /* the manager's path of it: a serial number, which no other one has in this run */
+    bool exists;    /* else a create that is under way speaks of it */
+    bool is_gone;   /* deleted or replaced while it was open: no client finds it any more */
+    bool is_marked; /* it goes with its last handle, and the file stays */
+    unsigned names; /* that lead to it */
+    unsigned opens; /* handles whose cleanup isn't over */
+    uint64_t size, allocation;
+    SHARE_ACCESS share;
+    KzPages pages; /* of a volume in memory */
+    KzView *views;
+} KzStream;
+
+/* A file or a directory, whatever it is called. NTFS's FCB. */
+typedef struct KzRecord {
+    struct KzRecord *next, *before;
     PFLT_VOLUME volume;
-    char key[256];
+    uint64_t born; /* of the first name that it had: its ID is made of it */
+    uint64_t id;
     bool exists, is_directory;
-    bool is_marked;        /* it goes with its last handle */
-    bool is_abandoned;     /* its bytes couldn't be taken away: nobody has its key any more */
-    unsigned links;        /* names by which it is found */
-    unsigned names;        /* all that are kept */
-    unsigned opens;        /* handles whose cleanup isn't over */
-    struct KzName *marked; /* the name that goes with the mark */
-    uint64_t id, size, allocation;
     LONGLONG created, accessed, written, changed;
     ULONG attributes;
     KzBytes ea, security, reparse, object_id;
-    SHARE_ACCESS share;
-    KzView *views;
-} KzNode;
+    KzStream *streams;     /* the unnamed one first, and then in the order of their names */
+    struct KzName *marked; /* the name that goes with the last handle; NULL: the file is to stay */
+    unsigned links;        /* names by which it is found */
+    unsigned names;        /* all that are kept, with those of its streams */
+    unsigned opens;        /* handles of any stream whose cleanup isn't over */
+} KzRecord;
 
 /* A name as a client says it. A handle points to the one by which it was opened: so a rename is seen by all its handles, and by those of no other link. */
 typedef struct KzName {
@@ -61,11 +84,24 @@ typedef struct KzName {
     struct KzName *same; /* the next one of the same place by its text */
     PFLT_VOLUME volume;
     char text[256];
-    KzNode *node;
-    bool is_gone; /* replaced or deleted while it was open: nobody finds the file by it any more */
+    KzRecord *file;
+    KzStream *stream;
+    struct KzName *base; /* of a name with a stream: that of the file alone; else NULL */
+    bool is_gone; /* replaced or deleted while it was open: no client finds the file by it any more */
     bool is_to_move;
     uint8_t cached; /* formats in which the cache of names has it, a bit each */
     unsigned users;
 } KzName;
+
+/* Whether what it leads to is there, as far as is known. */
+static inline bool kz_exists(const KzName *name)
+{
+    return name->file->exists && (!name->base || name->stream->exists);
+}
+
+static inline bool kz_is_directory(const KzName *name)
+{
+    return name->file->is_directory && !name->base;
+}
 
 #endif

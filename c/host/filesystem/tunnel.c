@@ -26,7 +26,7 @@ void kz_put_in_tunnel(const KzName *name)
     Tunneled *one = &kz.tunnel->kept[kz.tunnel->next++ % KEPT];
     one->volume = name->volume;
     memcpy(one->text, name->text, sizeof one->text);
-    one->created = name->node->created;
+    one->created = name->file->created;
     one->when = kz_time();
 }
 
@@ -35,7 +35,7 @@ void kz_take_from_tunnel(KzName *name)
     for (Tunneled *one = kz.tunnel->kept; one < kz.tunnel->kept + KEPT; one++)
         if (one->volume == name->volume && kz_is_same_name(name->volume, one->text, name->text, sizeof one->text)) {
             if (kz_time() - one->when <= 15 * SECONDS)
-                name->node->created = one->created;
+                name->file->created = one->created;
             one->volume = NULL;
         }
 }

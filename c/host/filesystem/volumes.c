@@ -5,8 +5,8 @@
 #include "core/module.h"
 #include "core/op.h"
 #include "lib/letters.h"
-#include "filesystem/name.h"
 #include "filesystem/query.h"
+#include "filesystem/record.h"
 #include "filesystem/tree.h"
 
 enum { UNITS = 65536, LETTERS = 32 };
@@ -20,12 +20,20 @@ LONGLONG kz_units(void)
     return UNITS;
 }
 
+static uint64_t allocation_of(const KzRecord *record)
+{
+    uint64_t used = 0;
+    for (const KzStream *one = record->streams; one; one = one->next)
+        used += one->exists ? kz_allocation_of(one) : 0;
+    return used;
+}
+
 LONGLONG kz_free_units(PFLT_VOLUME volume)
 {
     uint64_t used = 0;
-    for (const KzName *one = kz_all_names(); one; one = one->next)
-        if (!one->is_gone && one->volume == volume && one->node->exists)
-            used += kz_allocation_of(one->node) / volume->sector;
+    for (const KzRecord *one = kz_first_record(); one; one = one->next)
+        if (one->volume == volume && one->exists)
+            used += allocation_of(one) / volume->sector;
     return used < UNITS ? (LONGLONG)(UNITS - used) : 0;
 }
 

@@ -7,6 +7,7 @@
 #include "core/place.h"
 #include "core/state.h"
 #include "core/told.h"
+#include "kit/extimer.h"
 
 struct KzDpcState {
     PRKDPC queue[64];
@@ -77,17 +78,22 @@ bool kz_run_dpc(void)
         return false;
     PRKDPC dpc = kz.dpc->queue[0];
     PFLT_FILTER filter = dpc->DpcData == dpc ? NULL : dpc->DpcData;
+    PEX_TIMER timer = kz_timer_of(dpc); /* the routine may give the call's memory back */
     KeRemoveQueueDpc(dpc);
     kz.dpc->running++;
     KzPlace before = kz_enter(KZ_IN_TIMER, kz_worker(), filter, NULL, NULL, NULL);
     kz_call_at(DISPATCH_LEVEL);
-    unsigned depth = kz_let_driver("timer", dpc->DeferredRoutine);
-    KZ_CALL_DRIVER(dpc->DeferredRoutine, dpc, dpc->DeferredContext, dpc->SystemArgument1, dpc->SystemArgument2);
+    if (timer)
+        kz_timer_begins(timer);
+    unsigned depth = kz_let_driver("timer", kz_dpc_routine(dpc));
+    kz_call_dpc(dpc);
     kz_driver_returned(depth, "timer returns");
     kz_leave(before);
     kz.dpc->running--;
     kz.changes++;
     kz_scheduler->touch(&dpcs_ended, 0, KZT_GIVES);
+    if (timer)
+        kz_timer_is_over(timer);
     return true;
 }
 

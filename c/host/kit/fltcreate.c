@@ -8,6 +8,7 @@
 #include "filesystem/fileobject.h"
 #include "filesystem/handle.h"
 #include "filesystem/name.h"
+#include "filesystem/create.h"
 #include "filesystem/sharing.h"
 #include "filesystem/tree.h"
 #include "filesystem/volumes.h"
@@ -94,7 +95,7 @@ static KzAnswer begin(void *given, KazdrinEvent asked, const char *path)
 static const KzName *name_with(PFLT_VOLUME volume, ULONGLONG id)
 {
     for (const KzName *one = kz_all_names(); one; one = one->next)
-        if (!one->is_gone && one->volume == volume && one->node->exists && one->node->id == id)
+        if (!one->is_gone && !one->base && one->volume == volume && one->file->exists && one->file->id == id)
             return one;
     return NULL;
 }

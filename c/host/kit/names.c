@@ -100,7 +100,7 @@ static void normalize(PFLT_VOLUME volume, const char *path, char *text, size_t s
             continue;
         snprintf(part, sizeof part, "%.*s", (int)(end - path), path);
         const KzName *found = kz_find_name(volume, part);
-        if (found && found->node->exists)
+        if (found && kz_exists(found))
             used = (size_t)snprintf(text, size, "%s", found->text);
         else
             used += (size_t)snprintf(text + used, size - used, "%s", part + (used < strlen(part) ? used : strlen(part)));

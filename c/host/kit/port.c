@@ -301,6 +301,12 @@ static bool is_over(void *given)
     return message->is_over || kz_is_port_over(message->port);
 }
 
+/* Who has taken it. */
+static const KzClient *owner_of(const void *given)
+{
+    return ((const KzPortMessage *)given)->taker;
+}
+
 static void add(KzPortMessage *message)
 {
     KzPortMessage **at = &message->port->messages;
@@ -351,6 +357,7 @@ NTSTATUS FltSendMessage(PFLT_FILTER Filter, PFLT_PORT *ClientPort, PVOID SenderB
     int64_t milliseconds = milliseconds_of(Timeout);
     kz_say_given("FltSendMessage", SenderBuffer, SenderBufferLength);
     add(&message);
+    kz_waits_for_owner(owner_of, &message, false);
     kz_wait_for(is_over, &message, milliseconds, ReplyBuffer ? "FltSendMessage, which is to be answered" : "FltSendMessage");
     take_out(&message);
     kz_scheduler->touch(&message, 0, KZT_TAKES);

@@ -15,6 +15,7 @@ typedef struct KzPortMessage {
     ULONG room, answered; /* of the reply, and how much of it there is */
     NTSTATUS status;
     bool is_taken, is_over;
+    const KzClient *taker; /* the thread that waited for it, and has it; NULL if it came to none that waited */
 } KzPortMessage;
 
 extern const struct KzModule kz_port_module;

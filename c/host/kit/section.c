@@ -63,15 +63,15 @@ static NTSTATUS read_all(PFLT_INSTANCE instance, PFILE_OBJECT object, Section *m
 static void show(Section *made)
 {
     const KzFile *file = kz_file_with(made->file);
-    KzNode *node = file && file->name ? file->name->node : NULL;
-    made->view = (KzView){node ? node->views : NULL, node, made->bytes, made->size};
-    if (node)
-        node->views = &made->view;
+    KzStream *stream = file && file->name ? file->name->stream : NULL;
+    made->view = (KzView){stream ? stream->views : NULL, stream, made->bytes, made->size};
+    if (stream)
+        stream->views = &made->view;
 }
 
 static void hide(Section *gone)
 {
-    KzView **at = gone->view.node ? &gone->view.node->views : NULL;
+    KzView **at = gone->view.stream ? &gone->view.stream->views : NULL;
     while (at && *at != &gone->view)
         at = &(*at)->next;
     if (at)
@@ -158,21 +158,21 @@ static void notify(const Section *one, KzOp *op)
     kz_clean_up();
 }
 
-static Section *in_the_way(const void *node, uint64_t size)
+static Section *in_the_way(const void *stream, uint64_t size)
 {
     Section *one = kz.section->first;
-    while (one && !(one->context && one->view.node == node && one->size > size))
+    while (one && !(one->context && one->view.stream == stream && one->size > size))
         one = one->next;
     return one;
 }
 
-static bool is_mapped(KzOp *op, const void *node, uint64_t size)
+static bool is_mapped(KzOp *op, const void *stream, uint64_t size)
 {
-    Section *one = in_the_way(node, size), *last = NULL;
+    Section *one = in_the_way(stream, size), *last = NULL;
     while (one && one != last && one->filter->registration.SectionNotificationCallback) {
         notify(one, op);
         last = one;
-        one = in_the_way(node, size);
+        one = in_the_way(stream, size);
     }
     return one != NULL;
 }

@@ -11,6 +11,7 @@
 #include "manager/work.h"
 #include "kit/dispatcher.h"
 #include "kit/dpc.h"
+#include "kit/extimer.h"
 
 struct KzTimerState {
     struct {
@@ -18,7 +19,6 @@ struct KzTimerState {
         KzPlace place; /* where it was set */
     } set[64];
     size_t count;
-    unsigned waiters, fires_left;
 };
 
 bool kz_has_timer(void)
@@ -26,7 +26,7 @@ bool kz_has_timer(void)
     return kz.timer->count > 0;
 }
 
-static bool is_set(const KTIMER *timer)
+bool kz_is_set(const KTIMER *timer)
 {
     size_t at = 0;
     while (at < kz.timer->count && kz.timer->set[at].timer != timer)
@@ -37,7 +37,7 @@ static bool is_set(const KTIMER *timer)
 VOID KeInitializeTimerEx(PKTIMER Timer, TIMER_TYPE Type)
 {
     KZ_INSIDE();
-    if (is_set(Timer)) {
+    if (kz_is_set(Timer)) {
         kz_tell_of(Timer, KZM_STILL_MADE, __func__, "a timer that is set");
         KeCancelTimer(Timer);
     }
@@ -164,7 +164,7 @@ static void forget_timers(PFLT_FILTER filter)
     for (size_t at = kz.timer->count; at-- > 0;)
         if ((PFLT_FILTER)kz.timer->set[at].timer->TimerListEntry.Flink == filter) {
             KzPlace before = kz_enter_again(&kz.timer->set[at].place);
-            kz_tell(KZM_TIMER_LEFT, "KeCancelTimer", "never called for a timer that is set: it would fire in a driver that is gone");
+            kz_tell(KZM_TIMER_LEFT, kz_ends_timer(kz.timer->set[at].timer), "never called for a timer that is set: it would fire in a driver that is gone");
             kz_me->place = before;
             KeCancelTimer(kz.timer->set[at].timer);
         }
@@ -174,7 +174,7 @@ static void check_memory(const void *memory, size_t size)
 {
     for (size_t at = kz.timer->count; at-- > 0;)
         if ((uintptr_t)kz.timer->set[at].timer - (uintptr_t)memory < size) {
-            kz_tell_of(kz.timer->set[at].timer, KZM_TIMER_LEFT, "KeCancelTimer", "never called for a timer that is set, whose memory is freed");
+            kz_tell_of(kz.timer->set[at].timer, KZM_TIMER_LEFT, kz_ends_timer(kz.timer->set[at].timer), "never called for a timer that is set, whose memory is freed");
             KeCancelTimer(kz.timer->set[at].timer);
         }
     kz_check_dpcs(memory, size);
@@ -185,12 +185,9 @@ static void free_timers(void)
     kz.passed = 0;
 }
 
-/* Timers fire while somebody waits: so many of them, since one that fires again and again need not end the wait. */
-enum { FIRES = 16 };
-
 bool kz_may_fire(void)
 {
-    return kz.timer->waiters > 0 && kz.timer->fires_left > 0 && kz.timer->count > 0;
+    return kz.waiters > 0 && kz.fires_left > 0 && kz.timer->count > 0;
 }
 
 void kz_fire(void)
@@ -198,7 +195,7 @@ void kz_fire(void)
     PKTIMER next = next_due(INT64_MAX);
     if (!next)
         return;
-    kz.timer->fires_left--;
+    kz.fires_left--;
     fire(next);
 }
 
@@ -206,17 +203,6 @@ bool kz_can_run(void *unused)
 {
     (void)unused;
     return kz_has_dpc() || kz_has_work() || kz_may_fire();
-}
-
-void kz_begin_to_fire(void)
-{
-    kz.timer->waiters++;
-    kz.timer->fires_left = FIRES;
-}
-
-void kz_end_to_fire(void)
-{
-    kz.timer->waiters--;
 }
 
 const KzModule kz_timer_module = {KZ_STATE(timer), .free = free_timers, .filter_ends = forget_timers, .memory_goes = check_memory, .passes = pass_to_next};

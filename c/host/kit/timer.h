@@ -5,14 +5,12 @@
 #include "host.h"
 
 bool kz_has_timer(void);
+bool kz_is_set(const KTIMER *timer);
 /* A client waits, and the next timer that is set may fire meanwhile. */
 bool kz_may_fire(void);
 /* What somebody waits for who runs work items, DPCs and timers: that there is one. */
 bool kz_can_run(void *unused);
 void kz_fire(void);
-/* A client waits from now on, in which timers fire; it does no more. */
-void kz_begin_to_fire(void);
-void kz_end_to_fire(void);
 extern const struct KzModule kz_timer_module;
 
 #endif

@@ -80,11 +80,19 @@ static NTSTATUS take_awaited(const Awaited *one)
     return (NTSTATUS)first;
 }
 
+/* Whoever has the mutex that it waits for. */
+static const KzClient *owner_of(const void *mutex)
+{
+    return kz_holder_of(mutex);
+}
+
 /* Beside other clients it waits for one of them, or for as long as it is to. */
 static NTSTATUS wait_beside(Awaited *one, LONGLONG units)
 {
     kz_me->timeout = units > 0 ? (uint64_t)(units / KZ_MILLISECOND) + 1 : 0;
     kz_begin_to_fire();
+    if (one->count == 1 && ((const DISPATCHER_HEADER *)one->objects[0])->Type == KZ_MUTANT)
+        kz_waits_for_owner(owner_of, one->objects[0], false);
     const char *which = one->count < 2 ? "" : one->is_all ? ", of all its objects" : ", of any of its objects";
     bool is_late = (kz_me->timeout && kz_scheduler->choose(2, KZ_CHOICE_TIME, "the time is over")) || !kz_wait(is_wait_over, one, "%s%s", one->call, which);
     kz_me->timeout = 0;

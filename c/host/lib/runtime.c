@@ -108,11 +108,6 @@ NTSTATUS RtlCharToInteger(PCSZ String, ULONG Base, PULONG Value)
     return STATUS_SUCCESS;
 }
 
-BOOLEAN RtlIsNameInExpression(PCUNICODE_STRING Expression, PCUNICODE_STRING Name, BOOLEAN IgnoreCase, PWCH UpcaseTable)
-{
-    return FsRtlIsNameInExpression((PUNICODE_STRING)Expression, (PUNICODE_STRING)Name, IgnoreCase, UpcaseTable);
-}
-
 /* The first part of a path, up to its `\`, and the rest behind that. */
 VOID FsRtlDissectName(UNICODE_STRING Name, PUNICODE_STRING FirstPart, PUNICODE_STRING RemainingPart)
 {

@@ -391,39 +391,3 @@ NTSTATUS RtlUnicodeStringCatString(PUNICODE_STRING To, NTSTRSAFE_PCWSTR From)
     RtlInitUnicodeString(&text, From);
     return put(To, To->Length, &text);
 }
-
-/* ---- Expressions: * is any letters, ? is one. */
-static bool matches(const WCHAR *expression, size_t left, const WCHAR *name, size_t length, BOOLEAN is_loose)
-{
-    for (; left; expression++, left--) {
-        if (*expression == '*' || *expression == '<') {
-            for (size_t skipped = 0; skipped <= length; skipped++)
-                if (matches(expression + 1, left - 1, name + skipped, length - skipped, is_loose))
-                    return true;
-            return false;
-        }
-        if (!length)
-            return false;
-        if (*expression != '?' && *expression != '>' && *expression != *name && !(is_loose && kz_upcase(*expression) == kz_upcase(*name)))
-            return false;
-        name++;
-        length--;
-    }
-    return length == 0;
-}
-
-BOOLEAN FsRtlIsNameInExpression(PUNICODE_STRING Expression, PUNICODE_STRING Name, BOOLEAN IgnoreCase, PWCH UpcaseTable)
-{
-    KZ_INSIDE_AS_DRIVER();
-    (void)UpcaseTable;
-    return matches(Expression->Buffer, Expression->Length / sizeof(WCHAR), Name->Buffer, Name->Length / sizeof(WCHAR), IgnoreCase);
-}
-
-BOOLEAN FsRtlDoesNameContainWildCards(PUNICODE_STRING Name)
-{
-    KZ_INSIDE_AS_DRIVER();
-    for (USHORT at = 0; at < Name->Length / sizeof(WCHAR); at++)
-        if (Name->Buffer[at] && KzWcschr(L"*?<>\"", Name->Buffer[at]))
-            return TRUE;
-    return FALSE;
-}

@@ -10,8 +10,10 @@
 #include "filesystem/deletion.h"
 #include "filesystem/disk.h"
 #include "filesystem/name.h"
-#include "filesystem/node.h"
+#include "filesystem/record.h"
 #include "filesystem/sharing.h"
+#include "filesystem/spelling.h"
+#include "filesystem/stream.h"
 #include "filesystem/ranges.h"
 #include "filesystem/tree.h"
 #include "manager/below.h"
@@ -35,13 +37,13 @@ static void answer(KzOp *op, NTSTATUS status, const uint8_t *bytes, size_t lengt
 /* What the virtual memory writes never makes a file larger: what stands past its end is nothing. */
 static bool is_past_end(KzOp *op, const KazdrinData *call, NTSTATUS *status)
 {
-    uint64_t size = op->file->name ? op->file->name->node->size : 0;
+    uint64_t size = op->file->name ? op->file->name->stream->size : 0;
     *status = STATUS_SUCCESS;
     if (!(op->own.irp_flags & IRP_PAGING_IO) || call->operation != KZE_WRITE || call->offset + call->length <= size)
         return false;
     kazdrin_lent(&kz.manager, &(KazdrinEvent){.worker = kz_worker()}, &(KazdrinData){0}, kz_me->room, sizeof kz_me->room);
     if (call->offset < size)
-        *status = kz_write_unheard(op->file, call->offset, kz_me->room, size - call->offset);
+        *status = kz_write_stream(op->file, call->offset, kz_me->room, size - call->offset);
     return true;
 }
 
@@ -58,47 +60,44 @@ static bool answers(KzOp *op, const KazdrinData *call, NTSTATUS *answered)
 {
     NTSTATUS status = STATUS_FILE_LOCK_CONFLICT;
     size_t length = 0;
-    bool is_listed = call->operation == KZE_LIST && !kz_is_in_folder(op->volume->id) && kz_list_names_of(op->volume, kz_me->room, KZ_BYTES, &length);
-    if (is_listed)
-        status = STATUS_SUCCESS;
-    if (!is_listed && !is_locked(op, call) && !is_past_end(op, call, &status) && !kz_answers_call(op, call, &status))
+    bool is_listed = call->operation == KZE_LIST && !kz_is_in_folder(op->volume->id);
+    if (is_listed) {
+        bool fits = kz_list_names_of(op->volume, kz_me->room, KZ_BYTES, &length);
+        status = fits ? STATUS_SUCCESS : kz_ntstatus(KZS_TOO_MANY);
+        length = fits ? length : 0;
+    } else if (!is_locked(op, call) && !is_past_end(op, call, &status) && !kz_answers_call(op, call, &status)) {
         return false;
+    }
     answer(op, status, kz_me->room, length);
     *answered = status;
     return true;
 }
 
-/* What is written is seen where the file is mapped. */
-static void write_views(const KzOp *op, const KazdrinData *call, uint8_t worker)
-{
-    if (call->operation != KZE_WRITE || !op->file->name || !op->file->name->node->views)
-        return;
-    kazdrin_lent(&kz.manager, &(KazdrinEvent){.worker = worker}, &(KazdrinData){0}, kz_me->room, sizeof kz_me->room);
-    kz_write_views(op->file->name->node, call->offset, kz_me->room, call->length);
-}
-
-/* Of a file in memory, or below the folder. */
+/* What is written, if anything is, and what is read lie in the client's room. */
 static void call_bytes(KzOp *op, const KazdrinData *call, uint8_t worker)
 {
-    write_views(op, call, worker);
-    if (!kz_call_in_folder(worker, op->file))
-        kazdrin_base(&kz.manager, &(KazdrinEvent){.worker = worker});
+    if (call->operation == KZE_WRITE)
+        kazdrin_lent(&kz.manager, &(KazdrinEvent){.worker = worker}, &(KazdrinData){0}, kz_me->room, sizeof kz_me->room);
+    KzFolderAnswer answer = kz_call_stream(op->file, call, kz_me->room, kz_me->room);
+    KazdrinEvent returned = {.worker = worker, .status = answer.status, .offset = answer.information, .flag = answer.length > 0};
+    kazdrin_based(&kz.manager, &returned, answer.length > 0 ? answer.bytes : (const uint8_t *)"", answer.length);
     kz_note_call(op, call);
 }
 
 /* Whether it gives the file a handle, as far as the names say. */
 static bool opens_bytes(const KzOp *op, uint8_t mode, bool was_there)
 {
-    return op->file->name->node->exists && (mode == 0 ? was_there : mode == 1 ? !was_there : true);
+    return kz_exists(op->file->name) && (mode == 0 ? was_there : mode == 1 ? !was_there : true);
 }
 
 /* A create that some instance may hear of. */
 static void call_create(KzOp *op, const KazdrinData *call, uint8_t worker)
 {
     NTSTATUS status;
-    bool was_there = kz_is_there(op->file->name), is_opened;
-    if (op->is_misnamed) {
-        answer(op, STATUS_OBJECT_NAME_INVALID, NULL, 0);
+    bool was_there = kz_is_there(op->file->name), had_file = op->file->name->file->exists, is_opened;
+    NTSTATUS refused = op->is_misnamed ? STATUS_OBJECT_NAME_INVALID : kz_spelling_refuses(op->file, &op->create, was_there, kz_is_directory(op->file->name));
+    if (!NT_SUCCESS(refused)) {
+        answer(op, refused, NULL, 0);
         return;
     }
     if (answers(op, call, &status)) {
@@ -112,7 +111,7 @@ static void call_create(KzOp *op, const KazdrinData *call, uint8_t worker)
     if (!is_opened)
         return;
     kz_count_open(op->file);
-    kz_note_opened(op, was_there);
+    kz_note_opened(op, was_there, had_file);
 }
 
 static bool call_opaque(KzOp *op)
@@ -128,16 +127,23 @@ static bool call_opaque(KzOp *op)
     return false;
 }
 
-/* The file's bytes, size and times; a create makes or finds it among the volume's. */
+/* Its bytes and size, and the times of its file. */
+static void use_stream(const KzName *name, KzUse how)
+{
+    kz_scheduler->uses(&name->stream->size, how);
+    kz_scheduler->uses(name->file, how);
+    if (name->stream->views)
+        kz_uses_all();
+}
+
+/* A create makes or finds its file among the volume's. */
 static void note_uses(const KzOp *op)
 {
     bool is_create = op->event == KZE_CREATE, is_changed = is_create || op->event == KZE_WRITE;
     if (is_create)
         kz_scheduler->uses(&kz.files, KZU_WRITES);
     if (op->file->name)
-        kz_scheduler->uses(&op->file->name->node->size, is_changed ? KZU_WRITES : KZU_READS);
-    if (op->file->name && op->file->name->node->views)
-        kz_uses_all();
+        use_stream(op->file->name, is_changed ? KZU_WRITES : KZU_READS);
 }
 
 bool kz_call_base(KzOp *op)
@@ -154,10 +160,10 @@ bool kz_call_base(KzOp *op)
         return call_opaque(op);
     note_uses(op);
     kazdrin_lent(&kz.manager, &(KazdrinEvent){.worker = worker}, &call, &none, 0);
-    bool cuts = call.operation == KZE_SET_SIZE && !op->own.is_unheard && op->file->name;
-    if (cuts && kz_is_mapped(op, op->file->name->node, call.offset))
+    bool cuts = call.operation == KZE_SET_SIZE && op->file->name;
+    if (cuts && kz_is_mapped(op, op->file->name->stream, call.offset))
         answer(op, STATUS_USER_MAPPED_FILE, NULL, 0);
-    else if (call.operation == KZE_CREATE && op->file->name && !op->own.is_unheard)
+    else if (call.operation == KZE_CREATE && op->file->name)
         call_create(op, &call, worker);
     else if (!answers(op, &call, &status))
         call_bytes(op, &call, worker);

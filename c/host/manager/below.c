@@ -58,21 +58,21 @@ KzReply kz_cancelled(const KzOp *op, NTSTATUS *other)
     return reply;
 }
 
-/* A create's file is known by its key; one that is opened unheard has its name already. */
+/* A create's file is known by its key. */
 static void name_file(KzFile *file, const char *path, const void **bytes, size_t *length)
 {
-    if (!file->name && !file->is_by_key)
-        file->name = kz_take_name(file->volume, path);
+    if (!file->name)
+        file->name = kz_take_any_name(file->volume, path);
     if (!file->name)
         return;
-    *bytes = file->name->node->key;
-    *length = strlen(file->name->node->key);
+    *bytes = file->name->stream->key;
+    *length = strlen(file->name->stream->key);
 }
 
 /* Where it begins. What an instance that is gone has left open is cleaned up and closed at the base. */
 static KzTold begin_at(const KzOwn *own, KazdrinEvent asked, const void *bytes, size_t length)
 {
-    asked.kind = own->is_unheard ? KZB_BASE : own->initiator ? KZB_BELOW : KZB_TOP;
+    asked.kind = own->initiator ? KZB_BELOW : KZB_TOP;
     asked.instance = own->initiator ? own->initiator->id : 0;
     KzTold begun = kz_event_with(kz_worker(), asked, bytes, length);
     bool ends = asked.event == KZE_CLEANUP || asked.event == KZE_CLOSE;
@@ -154,38 +154,10 @@ void kz_end_below(KzOp *op)
         own.done(own.given, kz_status_of(answer), answer.reply.information, kz_me->room, answer.length);
 }
 
-/* A file object that nobody hears of, for a file by its key. */
-static KzFile *new_hidden(PFLT_VOLUME volume, const char *path, KzName *name)
-{
-    KzFile *hidden = kz_new_file(volume, path, false);
-    hidden->users++;
-    hidden->is_own = true;
-    hidden->name = name;
-    if (name)
-        kz_keep_name(name);
-    return hidden;
-}
-
-/* Of a file by a handle that goes at once: one that has none of the manager's. */
-static KzAnswer opened(const KzOwn *own, KzFile *file, KazdrinEvent asked, const void *bytes, size_t length)
-{
-    const KzOwn unheard = {.is_unheard = true, .is_waited_for = true};
-    KzFile *hidden = new_hidden(file->volume, file->path, file->name);
-    KzAnswer answer = kz_below(&unheard, hidden, (KazdrinEvent){.event = KZE_CREATE, .volume = file->volume->id}, file->path, strlen(file->path));
-    if (answer.reply.status == KZS_OK) {
-        asked.handle = hidden->handle;
-        answer = kz_below(own, file, asked, bytes, length);
-        kz_below(&unheard, hidden, (KazdrinEvent){.event = KZE_CLEANUP, .handle = hidden->handle}, "", 0);
-        kz_below(&unheard, hidden, (KazdrinEvent){.event = KZE_CLOSE, .handle = hidden->handle}, "", 0);
-    }
-    kz_let_go_file(hidden);
-    return answer;
-}
-
 /* Its handle's cleanup took the name, and nobody has the file open. */
 static bool is_deleted(const KzFile *file)
 {
-    return file->object.Flags & FO_CLEANUP_COMPLETE && file->name && file->name->is_gone && !file->name->node->opens;
+    return file->object.Flags & FO_CLEANUP_COMPLETE && file->name && file->name->is_gone && !file->name->file->opens;
 }
 
 KzAnswer kz_below_file(const KzOwn *own, KzFile *file, KazdrinEvent asked, const void *bytes, size_t length)
@@ -195,40 +167,6 @@ KzAnswer kz_below_file(const KzOwn *own, KzFile *file, KazdrinEvent asked, const
     if (is_deleted(file) && asked.event != KZE_CLOSE)
         return (KzAnswer){.other = STATUS_FILE_DELETED, .reply.status = KZS_DELETE_PENDING};
     return kz_below(own, file, asked, bytes, length);
-}
-
-static bool drop(KzName *name)
-{
-    const KzOwn unheard = {.is_unheard = true, .is_waited_for = true};
-    KzFile *hidden = new_hidden(name->volume, name->text, name);
-    bool is_open = kz_below(&unheard, hidden, (KazdrinEvent){.event = KZE_CREATE, .volume = name->volume->id}, name->text, strlen(name->text)).reply.status == KZS_OK;
-    bool is_gone = is_open && kz_below(&unheard, hidden, (KazdrinEvent){.event = KZE_SET_DELETE, .handle = hidden->handle}, "", 0).reply.status == KZS_OK;
-    if (is_open) {
-        kz_hide_number(hidden->handle);
-        kz_below(&unheard, hidden, (KazdrinEvent){.event = KZE_CLEANUP, .handle = hidden->handle}, "", 0);
-        is_gone &= kz_below(&unheard, hidden, (KazdrinEvent){.event = KZE_CLOSE, .handle = hidden->handle}, "", 0).reply.status == KZS_OK;
-    }
-    kz_let_go_file(hidden);
-    return is_gone;
-}
-
-NTSTATUS kz_write_unheard(KzFile *file, uint64_t offset, const uint8_t *bytes, size_t length)
-{
-    const KzOwn unheard = {.is_unheard = true, .is_waited_for = true};
-    uint8_t *copy = kz_memory(length);
-    memcpy(copy, bytes, length);
-    NTSTATUS status = kz_status_of(kz_below_file(&unheard, file, (KazdrinEvent){.event = KZE_WRITE, .offset = offset}, copy, length));
-    free(copy);
-    return status;
-}
-
-static NTSTATUS cut(KzFile *file, uint64_t size)
-{
-    const KzOwn unheard = {.is_unheard = true, .is_waited_for = true};
-    const KazdrinEvent asked = {.event = KZE_SET_SIZE, .offset = size};
-    uint64_t handle;
-    bool has_handle = kz_handle_of(file, &handle);
-    return kz_status_of(has_handle ? kz_below_file(&unheard, file, asked, "", 0) : opened(&unheard, file, asked, "", 0));
 }
 
 NTSTATUS kz_ask_below(PFLT_INSTANCE initiator, KzFile *file, const KzAsked *asked, void *to, uint64_t *information)
@@ -281,4 +219,4 @@ void kz_close_if_due(KzFile *file)
     kz_below(&own, file, (KazdrinEvent){.event = KZE_CLOSE, .handle = file->handle}, "", 0);
 }
 
-const KzStore kz_manager_store = {drop, cut, kz_write_unheard, kz_go_on_from_base};
+const KzStore kz_manager_store = {kz_go_on_from_base};

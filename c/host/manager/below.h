@@ -16,7 +16,6 @@ extern const KzStore kz_manager_store;
 KzAnswer kz_below(const KzOwn *own, KzFile *file, KazdrinEvent asked, const void *bytes, size_t length);
 /* The same on an open file, by the handle that the manager knows; up to its close it may be used behind its cleanup too. */
 KzAnswer kz_below_file(const KzOwn *own, KzFile *file, KazdrinEvent asked, const void *bytes, size_t length);
-NTSTATUS kz_write_unheard(KzFile *file, uint64_t offset, const uint8_t *bytes, size_t length);
 void kz_close_below(PFLT_INSTANCE initiator, KzFile *file);
 void kz_clean_up_below(KzFile *file);
 void kz_close_if_due(KzFile *file);

@@ -108,20 +108,60 @@ bool kz_take_create(KzOp *op)
     return true;
 }
 
-/* ---- What a handle is good for. */
-static ACCESS_MASK needed_to_set(ULONG class)
+/* ---- What a handle has to be opened for, one of several bits. Information by its class, and what has no class by its major function. */
+typedef struct {
+    UCHAR major;
+    ULONG class;
+    ACCESS_MASK any;
+} Needs;
+
+enum { ANY_CLASS = 0 };
+
+static const Needs needs[] = {
+    {IRP_MJ_QUERY_INFORMATION, FileBasicInformation, FILE_READ_ATTRIBUTES},
+    {IRP_MJ_QUERY_INFORMATION, FileAllInformation, FILE_READ_ATTRIBUTES},
+    {IRP_MJ_QUERY_INFORMATION, FileNetworkOpenInformation, FILE_READ_ATTRIBUTES},
+    {IRP_MJ_QUERY_INFORMATION, FileAttributeTagInformation, FILE_READ_ATTRIBUTES},
+    {IRP_MJ_SET_INFORMATION, FileBasicInformation, FILE_WRITE_ATTRIBUTES},
+    {IRP_MJ_SET_INFORMATION, FileRenameInformation, DELETE},
+    {IRP_MJ_SET_INFORMATION, FileRenameInformationEx, DELETE},
+    {IRP_MJ_SET_INFORMATION, FileDispositionInformation, DELETE},
+    {IRP_MJ_SET_INFORMATION, FileDispositionInformationEx, DELETE},
+    {IRP_MJ_SET_INFORMATION, FileEndOfFileInformation, FILE_WRITE_DATA},
+    {IRP_MJ_SET_INFORMATION, FileAllocationInformation, FILE_WRITE_DATA},
+    {IRP_MJ_SET_INFORMATION, FileValidDataLengthInformation, FILE_WRITE_DATA},
+    {IRP_MJ_DIRECTORY_CONTROL, ANY_CLASS, FILE_LIST_DIRECTORY},
+    {IRP_MJ_QUERY_EA, ANY_CLASS, FILE_READ_EA},
+    {IRP_MJ_SET_EA, ANY_CLASS, FILE_WRITE_EA},
+    {IRP_MJ_QUERY_SECURITY, ANY_CLASS, READ_CONTROL},
+    {IRP_MJ_LOCK_CONTROL, ANY_CLASS, FILE_READ_DATA | FILE_WRITE_DATA},
+};
+
+/* A control code of a file system says it by itself. */
+static ACCESS_MASK needed_by_code(ULONG code)
 {
-    switch (class) {
-    case FileBasicInformation:
-        return FILE_WRITE_ATTRIBUTES;
-    case FileRenameInformation:
-    case FileRenameInformationEx:
-    case FileDispositionInformation:
-    case FileDispositionInformationEx:
-        return DELETE;
-    case FileEndOfFileInformation:
-    case FileAllocationInformation:
-    case FileValidDataLengthInformation:
+    return (code >> 14 & FILE_READ_ACCESS ? FILE_READ_DATA : 0) | (code >> 14 & FILE_WRITE_ACCESS ? FILE_WRITE_DATA : 0);
+}
+
+static ACCESS_MASK needed_by(const KzAsked *opaque)
+{
+    if (opaque->major == IRP_MJ_FILE_SYSTEM_CONTROL)
+        return needed_by_code(opaque->code);
+    for (size_t at = 0; at < sizeof needs / sizeof needs[0]; at++)
+        if (needs[at].major == opaque->major && (needs[at].class == ANY_CLASS || needs[at].class == opaque->code))
+            return needs[at].any;
+    return 0;
+}
+
+static ACCESS_MASK needed_for(uint8_t event)
+{
+    switch (event) {
+    case KZE_READ:
+        return FILE_READ_DATA | FILE_EXECUTE;
+    case KZE_WRITE:
+    case KZE_FLUSH:
+        return FILE_WRITE_DATA | FILE_APPEND_DATA;
+    case KZE_SET_SIZE:
         return FILE_WRITE_DATA;
     default:
         return 0;
@@ -130,10 +170,7 @@ static ACCESS_MASK needed_to_set(ULONG class)
 
 bool kz_is_granted(const KzFile *file, const KazdrinEvent *asked, const KzAsked *opaque)
 {
-    ACCESS_MASK needed = opaque && opaque->major == IRP_MJ_SET_INFORMATION ? needed_to_set(opaque->code) : asked->event == KZE_SET_SIZE ? FILE_WRITE_DATA : 0;
-    if (asked->event == KZE_READ)
-        return file->access & (FILE_READ_DATA | FILE_EXECUTE);
-    if (asked->event == KZE_WRITE)
-        return file->access & (FILE_WRITE_DATA | FILE_APPEND_DATA);
-    return (file->access & needed) == needed;
+    ACCESS_MASK needed = opaque ? needed_by(opaque) : needed_for(asked->event);
+    bool needs_all = opaque && opaque->major == IRP_MJ_FILE_SYSTEM_CONTROL;
+    return !needed || (needs_all ? (file->access & needed) == needed : (file->access & needed) != 0);
 }

@@ -26,17 +26,12 @@ struct KzFileContextState {
     Link *first;
 };
 
-/* ---- Which file. The streams of one have the key of its first one. */
+/* ---- Which file: all its streams have the key of the unnamed one. */
 static bool key_of(const KzFile *file, char *key, size_t size)
 {
-    char text[256];
-    if (!file->name)
-        return false;
-    const char *now = file->name->text, *slash = strrchr(now, '/'), *colon = strchr(slash ? slash : now, ':');
-    snprintf(text, sizeof text, "%.*s", colon ? (int)(colon - now) : (int)strlen(now), now);
-    const KzName *base = colon ? kz_find_name(file->volume, text) : file->name;
-    snprintf(key, size, "%s", base ? base->node->key : text);
-    return true;
+    if (file->name)
+        snprintf(key, size, "%s", file->name->file->streams->key);
+    return file->name;
 }
 
 static Link **place_of(PFLT_INSTANCE instance, const char *key)

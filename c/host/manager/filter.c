@@ -221,17 +221,17 @@ NTSTATUS FltStartFiltering(PFLT_FILTER Filter)
     return STATUS_SUCCESS;
 }
 
-/* ---- The end of a filter. */
+/* ---- The end of a filter: of its instances one after the other, up to the first that something is in the way of. Called again it goes on there. */
 static uint32_t end_instances(PFLT_FILTER filter)
 {
     FLT_INSTANCE_TEARDOWN_FLAGS reason = filter->is_mandatory ? FLTFL_INSTANCE_TEARDOWN_MANDATORY_FILTER_UNLOAD : FLTFL_INSTANCE_TEARDOWN_FILTER_UNLOAD;
-    uint32_t first = KZS_OK;
-    for (size_t at = 0; at < kz.instances_count; at++) {
+    uint32_t status = KZS_OK;
+    for (size_t at = 0; status == KZS_OK && at < kz.instances_count; at++) {
         PFLT_INSTANCE instance = kz.instances[at];
-        uint32_t status = instance->filter == filter && kz_phase(instance) != KZP_INSTANCE_DETACHED ? kz_tear_down(instance, reason) : KZS_OK;
-        first = first == KZS_OK ? status : first;
+        if (instance->filter == filter && kz_phase(instance) != KZP_INSTANCE_DETACHED)
+            status = kz_tear_down(instance, reason);
     }
-    return first;
+    return status;
 }
 
 /* From where its end is: the status that stops it, or 0. What else runs here, work items above all, goes on while it waits. */

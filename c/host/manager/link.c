@@ -124,7 +124,7 @@ static const void *owner_of(uint8_t kind)
         return kind ? (const void *)kz_me->place.instance : kz_me->place.instance->volume;
     if (!op || !op->file->name)
         return NULL;
-    return kind == 2 ? (const void *)op->file->name->node : &op->file->sections;
+    return kind == 2 ? (const void *)op->file->name->stream : &op->file->sections;
 }
 
 static void use_owner(uint8_t kind, KzUse how)

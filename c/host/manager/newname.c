@@ -12,7 +12,9 @@
 #include "lib/letters.h"
 #include "filesystem/fileobject.h"
 #include "filesystem/name.h"
+#include "filesystem/create.h"
 #include "filesystem/sharing.h"
+#include "filesystem/spelling.h"
 #include "filesystem/tree.h"
 #include "manager/context.h"
 #include "manager/disposition.h"
@@ -114,7 +116,7 @@ static bool are_attached(const KzOp *op)
 static void take(KzOp *op, PFLT_INSTANCE instance, const char *path)
 {
     Passed passed = {.count = 0};
-    KzName *name = kz_take_name(op->volume, path);
+    KzName *name = kz_take_any_name(op->volume, path);
     op->is_misnamed = name == NULL;
     if (!name)
         return;
@@ -122,7 +124,7 @@ static void take(KzOp *op, PFLT_INSTANCE instance, const char *path)
     kz_let_go_name(op->file->name);
     op->file->name = name;
     op->file->cached = 0;
-    snprintf(op->file->path, sizeof op->file->path, "%.255s", path);
+    kz_spell_file(op->file, path);
     op->file->is_directory = kz_opens_directory(&op->create, op->volume, path);
     begin_again(op, instance, &passed);
 }
@@ -131,7 +133,7 @@ void kz_take_new_name(KzOp *op, PFLT_INSTANCE instance)
 {
     char said[300], own[300];
     WCHAR letters[300];
-    if (op->event != KZE_CREATE || op->create.target || op->own.is_unheard || op->file->is_volume || !op->file->name)
+    if (op->event != KZE_CREATE || op->create.target || op->file->is_volume || !op->file->name)
         return;
     size_t length = kz_narrow(said, sizeof said, &op->file->object.FileName);
     bool has_root = said[0] == '/';

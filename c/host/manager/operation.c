@@ -2,6 +2,7 @@
 #include "manager/operation.h"
 
 #include "core/client.h"
+#include "core/clock.h"
 #include "core/kept.h"
 #include "core/memory.h"
 #include "core/module.h"
@@ -140,7 +141,8 @@ static void use_closing(const KzFile *file)
     kz_scheduler->uses(&file->handle, KZU_WRITES);
     kz_scheduler->uses(&file->object.Flags, KZU_WRITES);
     kz_scheduler->uses(&file->sections, KZU_WRITES);
-    kz_scheduler->uses(&file->name->node->size, KZU_WRITES);
+    kz_scheduler->uses(&file->name->stream->size, KZU_WRITES);
+    kz_scheduler->uses(file->name->file, KZU_WRITES);
 }
 
 /* Whoever completes it for its holder changes it as well. */
@@ -229,6 +231,11 @@ bool kz_is_held(const KzOp *op)
     return op->stage == KZ_HELD_BY_PRE || op->stage == KZ_HELD_BY_POST;
 }
 
+bool kz_may_be_held(const KzOp *op)
+{
+    return !op->own.is_fast && !(op->opaque && !(op->opaque->data_flags & FLTFL_CALLBACK_DATA_IRP_OPERATION));
+}
+
 static bool is_resumed(void *op)
 {
     return ((KzOp *)op)->stage == KZ_RESUMED;
@@ -243,7 +250,9 @@ static bool waits_for(KzOp *op)
     while (op->own.is_waited_for && !is_resumed(op) && kz_let_others())
         ;
     op->is_awaited = true;
+    kz_begin_to_fire(); /* a timer's routine may let it go on */
     bool goes_on = kz_wait(is_resumed, op, KZ_OPERATION ", which a %soperation holds", (unsigned long long)op->id, side);
+    kz_end_to_fire();
     op->is_awaited = false;
     return goes_on;
 }

@@ -5,6 +5,8 @@
 #include "host.h"
 
 bool kz_is_held(const KzOp *op);
+/* A callback may hold it: it is an IRP, and no fast or FSFilter call. */
+bool kz_may_be_held(const KzOp *op);
 FLT_RELATED_OBJECTS kz_objects(PFLT_INSTANCE instance, KzFile *file);
 /* NULL if it is none that is under way. */
 KzOp *kz_op_of(uint64_t id);

@@ -13,6 +13,7 @@
 #include "filesystem/fileobject.h"
 #include "filesystem/name.h"
 #include "filesystem/notice.h"
+#include "filesystem/create.h"
 #include "filesystem/sharing.h"
 #include "filesystem/ranges.h"
 #include "filesystem/tree.h"
@@ -70,8 +71,7 @@ static void open_handle(KzOp *op, KzReply *reply)
     reply->is_handle = 1;
     op->file->has_handle = true;
     op->file->users++;
-    if (!op->own.is_unheard)
-        kz_count_open(op->file);
+    kz_count_open(op->file);
     kz_scheduler->touch(&op->file->handle, 0, KZT_GIVES);
 }
 
@@ -259,10 +259,10 @@ static bool find_file(KazdrinEvent *asked, KzFile **file)
 static KzName *name_of(KzBegin *asked)
 {
     PFLT_VOLUME volume = asked->event.event == KZE_CREATE && asked->event.volume < kz.volumes_count ? kz.volumes[asked->event.volume] : NULL;
-    KzName *name = volume ? kz_take_name(volume, asked->path) : NULL;
+    KzName *name = volume ? kz_take_any_name(volume, asked->path) : NULL;
     if (name) {
-        asked->bytes = name->node->key;
-        asked->length = strlen(name->node->key);
+        asked->bytes = name->stream->key;
+        asked->length = strlen(name->stream->key);
     }
     return name;
 }
@@ -298,6 +298,12 @@ static bool is_unaligned(const KzFile *file, const KzBegin *asked)
     return is_data && file->object.Flags & FO_NO_INTERMEDIATE_BUFFERING && (asked->event.offset % file->volume->sector || length % file->volume->sector);
 }
 
+/* By a handle that may append and not write, each write is at the end. */
+static bool appends(const KzFile *file, const KazdrinEvent *asked)
+{
+    return asked->event == KZE_WRITE && file->name && (file->access & (FILE_WRITE_DATA | FILE_APPEND_DATA)) == FILE_APPEND_DATA;
+}
+
 /* A create takes its name among those of the volume, and each looks whether the file is open still. */
 static void note_begun(const KzOp *op)
 {
@@ -318,6 +324,8 @@ static KzAnswer begin(const KzBegin *begun)
         return refused(KZS_ACCESS_DENIED);
     if (file && is_unaligned(file, &asked)) /* this too */
         return kz_refused(STATUS_INVALID_PARAMETER);
+    if (file && appends(file, &asked.event))
+        asked.event.offset = file->name->stream->size;
     if (!asked.create)
         asked.create = &usual;
     KzAsked renames;

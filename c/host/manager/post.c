@@ -106,6 +106,10 @@ void kz_post(KzOp *op, PFLT_INSTANCE instance, PVOID completion)
     kz_take_post(op);
     kz_keep_rest(NULL);
     bool is_more = said == FLT_POSTOP_MORE_PROCESSING_REQUIRED;
+    if (is_more && !kz_may_be_held(op)) {
+        kz_tell(KZM_NO_VERDICT, "FLT_POSTOP_MORE_PROCESSING_REQUIRED", "of what is no IRP, and can't be held: it counts as FLT_POSTOP_FINISHED_PROCESSING");
+        is_more = false, said = FLT_POSTOP_FINISHED_PROCESSING;
+    }
     if (is_more && is_completed)
         is_more = false, said = FLT_POSTOP_FINISHED_PROCESSING;
     else if (is_completed)

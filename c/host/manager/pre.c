@@ -111,7 +111,7 @@ KazdrinEvent kz_verdict_of(KzOp *op, PFLT_INSTANCE instance, FLT_PREOP_CALLBACK_
     case FLT_PREOP_SUCCESS_NO_CALLBACK:
         break;
     case FLT_PREOP_PENDING:
-        if (op->own.is_fast || (op->opaque && !(op->opaque->data_flags & FLTFL_CALLBACK_DATA_IRP_OPERATION)))
+        if (!kz_may_be_held(op))
             kz_tell(KZM_NO_VERDICT, "FLT_PREOP_PENDING", "of what is no IRP, and can't be held: it counts as FLT_PREOP_SUCCESS_NO_CALLBACK");
         else
             verdict.mode = KZV_PENDING;

@@ -36,7 +36,7 @@ static bool leads_to(const KzFile *file, const KzAsked *asked, char *text, size_
 static bool is_folder(PFLT_VOLUME volume, const char *path)
 {
     KzName *name = kz_take_name(volume, path);
-    bool is_there = name && kz_is_there(name) && name->node->is_directory;
+    bool is_there = name && kz_is_there(name) && kz_is_directory(name);
     kz_let_go_name(name);
     return is_there;
 }

@@ -70,6 +70,12 @@ static void enqueue(PFLT_GENERIC_WORKITEM item)
     kz_scheduler->touch(item, 0, KZT_GIVES);
 }
 
+/* From the teardown's start on none is queued: the teardown waits for those that are there. */
+static bool is_torn_down(PVOID object)
+{
+    return kz_is_instance(object) && kz_phase(object) >= KZP_INSTANCE_STOPPING;
+}
+
 static NTSTATUS queue(PFLT_GENERIC_WORKITEM item, Kind kind, PVOID object, PVOID routine, PVOID context, const char *call)
 {
     if (item->is_queued) {
@@ -104,7 +110,7 @@ NTSTATUS FltQueueGenericWorkItem(PFLT_GENERIC_WORKITEM FltWorkItem, PVOID FltObj
     }
     if (kz_is_instance(FltObject) && !kz_may_use(__func__, FltObject))
         return STATUS_FLT_DELETING_OBJECT;
-    if (kz_is_instance(FltObject) && kz_phase(FltObject) > KZP_INSTANCE_STOPPING)
+    if (is_torn_down(FltObject))
         return STATUS_FLT_DELETING_OBJECT;
     return queue(FltWorkItem, GENERIC, FltObject, (PVOID)WorkerRoutine, Context, __func__);
 }
@@ -139,6 +145,8 @@ NTSTATUS FltQueueDeferredIoWorkItem(PFLT_DEFERRED_IO_WORKITEM FltWorkItem, PFLT_
     }
     if (!is_safe_to_post(Data))
         return STATUS_FLT_NOT_SAFE_TO_POST_OPERATION;
+    if (is_torn_down(Data->Iopb->TargetInstance))
+        return STATUS_FLT_DELETING_OBJECT;
     PFLT_GENERIC_WORKITEM item = (PFLT_GENERIC_WORKITEM)FltWorkItem;
     NTSTATUS status = queue(item, DEFERRED, Data->Iopb->TargetInstance, (PVOID)WorkerRoutine, Context, __func__);
     item->item = Data;

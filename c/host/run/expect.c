@@ -2,6 +2,7 @@
 #include "run/expect.h"
 
 #include "core/status.h"
+#include "run/explain.h"
 #include "run/read.h"
 #include "run/report.h"
 #include "run/seen.h"
@@ -96,6 +97,18 @@ static bool expects_one_word(const char *kind)
     return is_kind(kind) && strcmp(kind, "says") != 0 && strcmp(kind, "callbacks") != 0;
 }
 
+/* A status is a number or a name of the kit's, and what is told is `nothing` or a number of a report. */
+static bool is_value(const char *kind, const char *value)
+{
+    char *end;
+    if (strcmp(kind, "told") == 0)
+        return strcmp(value, "nothing") == 0 || kz_is_explained(value) || kz_refuse_word("there is no report `%.40s`: docs/TOLD.md has all", value);
+    if (strcmp(kind, "status") != 0 || kz_status_named(value) >= 0 || (strtoul(value, &end, 0), end > value && !*end))
+        return true;
+    const char *near = kz_nearest_status(value);
+    return kz_refuse_word("there is no status `%.60s`%s%s", value, near ? "; the nearest is " : "", near ? near : "");
+}
+
 static void say_unmet(const char *words)
 {
     kz_seen.unmet++;
@@ -119,6 +132,8 @@ bool kz_expect(const char *words)
         return kz_refuse_word("`%s` is none of status, info, bytes, says, callbacks, told, held", kind);
     if (!is_held && (!*value || (expects_one_word(kind) && strpbrk(value, " \t"))))
         return kz_refuse_word("expect %s has %s", kind, expects_one_word(kind) ? "one word behind it, and each expectation a line of its own" : "words behind it");
+    if (!is_held && !is_value(kind, value))
+        return false;
     kz_seen.expected++;
     kz_seen.looked_for += strcmp(kind, "callbacks") == 0;
     bool is_right = is_held ? kz_seen.reply.held : is_met(kind, value, now, sizeof now);

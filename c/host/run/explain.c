@@ -1,4 +1,6 @@
 /* What each number that is told means: what was done, what Windows does, and how it is mended. The rows are those of docs/TOLD.md, which the Makefile lists. */
+#include "run/explain.h"
+
 #include "host.h"
 #include "core/messages.h"
 
@@ -32,6 +34,17 @@ static const Meaning *meaning_of(const char *id)
         if (strcmp(meanings[at].id, id) == 0)
             return &meanings[at];
     return NULL;
+}
+
+bool kz_is_explained(const char *id)
+{
+    return meaning_of(id) != NULL;
+}
+
+void kz_each_meaning(void (*say)(const char *id, const char *done, const char *windows, const char *mend, bool is_limit))
+{
+    for (size_t at = 0; at < COUNT; at++)
+        say(meanings[at].id, meanings[at].done, meanings[at].windows, meanings[at].mend, KZ_IS_LIMIT(atoi(meanings[at].id + 2)));
 }
 
 bool kz_explain(const char *id)

@@ -17,6 +17,12 @@ static const char *nearest(const char *word)
     return near.best;
 }
 
+/* A line of a scenario, which another program runs. */
+static bool is_of_scenario(const char *word)
+{
+    return strcmp(word, "client") == 0 || strcmp(word, "finally:") == 0;
+}
+
 static void say_count(const KzRequest *one, char *why, size_t size)
 {
     size_t from = one->least - 1, to = one->most - 1;
@@ -60,6 +66,8 @@ bool kz_is_request(const char *line, char *why, size_t size)
     *why = 0;
     if (!is_right && one)
         say_count(one, why, size);
+    else if (!is_right && is_of_scenario(words[0]))
+        snprintf(why, size, ": this is a scenario: --load plays it by threads, and a program that c/build.sh --explore builds plays it in every order");
     else if (!is_right)
         snprintf(why, size, ": there is no request %.40s%s%s", words[0], near ? "; the nearest is " : "", near ? near : "");
     free(copy);

@@ -1,5 +1,7 @@
 /* The program of c/build.sh: it runs the requests of files, each as a run of its own, or of its standard input, through the drivers that are linked with it; or a load with
  * threads. */
+#include "../core/near.h"
+#include "report.h"
 #include "kzflt.h"
 
 #include <stdlib.h>
@@ -25,6 +27,7 @@ static int usage(const char *name, FILE *to)
             "  what is played     REQUESTS.. or else the standard input, --folder FOLDER, --dispatch none|data|all\n"
             "                     --fill: under two fills of memory that nobody wrote, and what differs is reported\n"
             "  what is shown      --explain KZ0000, --quiet, --json, --junit FILE, --allow KZ0000, --strict,\n"
+            "                     --format gcc|github|sarif: what was found alone, as a compiler, a job of GitHub's or SARIF has it,\n"
             "                     --refusals: each call of a driver that is refused, once for its line\n"
             "  threads            --load SCENARIO [--threads N] [--seconds S] [--seed N]\n"
             "  a callback's end   --patience S: so many seconds of the processor's time it may take (3)\n",
@@ -32,55 +35,178 @@ static int usage(const char *name, FILE *to)
     return to == stdout ? 0 : 2;
 }
 
-/* A word that has another behind it. */
-static bool read_pair(const char *word, const char *value, Asked *asked)
+static bool read_number(const char *value, unsigned *number)
 {
-    char *end = "";
-    if (strcmp(word, "--threads") == 0)
-        asked->threads = (unsigned)strtoul(value, &end, 10);
-    else if (strcmp(word, "--seconds") == 0)
-        asked->seconds = strtod(value, &end);
-    else if (strcmp(word, "--seed") == 0)
-        asked->seed = strtoull(value, &end, 10);
-    else if (strcmp(word, "--patience") == 0)
-        kz_be_patient((unsigned)strtoul(value, &end, 10));
-    else if (strcmp(word, "--load") == 0)
-        asked->load = value;
-    else if (strcmp(word, "--junit") == 0)
-        asked->junit = value;
-    else if (strcmp(word, "--folder") == 0)
-        asked->folder = value;
-    else if (strcmp(word, "--dispatch") == 0)
-        return kz_dispatch_as(value);
-    else
-        return strcmp(word, "--allow") == 0 && kz_allow(value);
-    return !*end;
+    char *end;
+    *number = (unsigned)strtoul(value, &end, 10);
+    return *value && !*end;
+}
+
+static bool read_strict(const char *value, Asked *asked)
+{
+    (void)value, (void)asked;
+    kz_be_strict(true);
+    return true;
+}
+
+static bool read_quiet(const char *value, Asked *asked)
+{
+    (void)value, (void)asked;
+    kz_is_quiet = 1;
+    return true;
+}
+
+static bool read_fill(const char *value, Asked *asked)
+{
+    (void)value;
+    asked->is_filled = true;
+    return true;
+}
+
+static bool read_refusals(const char *value, Asked *asked)
+{
+    (void)value, (void)asked;
+    kz_show_refusals();
+    return true;
+}
+
+static bool read_json(const char *value, Asked *asked)
+{
+    (void)value, (void)asked;
+    kz_use_json(true);
+    return true;
+}
+
+static bool read_threads(const char *value, Asked *asked)
+{
+    return read_number(value, &asked->threads);
+}
+
+static bool read_seconds(const char *value, Asked *asked)
+{
+    char *end;
+    asked->seconds = strtod(value, &end);
+    return *value && !*end;
+}
+
+static bool read_seed(const char *value, Asked *asked)
+{
+    char *end;
+    asked->seed = strtoull(value, &end, 10);
+    return *value && !*end;
+}
+
+static bool read_patience(const char *value, Asked *asked)
+{
+    unsigned seconds;
+    (void)asked;
+    if (!read_number(value, &seconds))
+        return false;
+    kz_be_patient(seconds);
+    return true;
+}
+
+static bool read_load(const char *value, Asked *asked)
+{
+    asked->load = value;
+    return true;
+}
+
+static bool read_junit(const char *value, Asked *asked)
+{
+    asked->junit = value;
+    return true;
+}
+
+static bool read_folder(const char *value, Asked *asked)
+{
+    asked->folder = value;
+    return true;
+}
+
+static bool read_dispatch(const char *value, Asked *asked)
+{
+    (void)asked;
+    return kz_dispatch_as(value);
+}
+
+static bool read_format(const char *value, Asked *asked)
+{
+    (void)asked;
+    return kz_use_format(value);
+}
+
+static bool read_allow(const char *value, Asked *asked)
+{
+    (void)asked;
+    return kz_allow(value);
+}
+
+/* The words: whether a value follows, and what reads it; false if it is none of its values. */
+static const struct {
+    const char *name;
+    enum { ALONE, VALUE } takes;
+    bool (*ask)(const char *value, Asked *asked);
+} known[] = {
+    {"--strict", ALONE, read_strict},       {"--quiet", ALONE, read_quiet},   {"--fill", ALONE, read_fill},         {"--refusals", ALONE, read_refusals},
+    {"--json", ALONE, read_json},           {"--load", VALUE, read_load},     {"--threads", VALUE, read_threads},   {"--seconds", VALUE, read_seconds},
+    {"--seed", VALUE, read_seed},           {"--junit", VALUE, read_junit},   {"--folder", VALUE, read_folder},     {"--dispatch", VALUE, read_dispatch},
+    {"--patience", VALUE, read_patience},   {"--allow", VALUE, read_allow},   {"--format", VALUE, read_format},
+};
+
+/* Why a word isn't understood, in a sentence: false. */
+static bool refuse(const char *word, const char *why, const char *more)
+{
+    fprintf(stderr, "%s%s%s (--help shows all)\n", word, why, more);
+    return false;
+}
+
+static bool refuse_unknown(const char *word)
+{
+    KzNear near = kz_near(word);
+    for (size_t at = 0; at < sizeof known / sizeof known[0]; at++)
+        kz_try_near(&near, known[at].name);
+    fprintf(stderr, "there is no word %s%s%s (--help shows all)\n", word, near.best ? "; the nearest is " : "", near.best ? near.best : "");
+    return false;
+}
+
+/* The word at that place, with its value: how many words it took, 0 if it isn't understood. */
+static int read_word(int left, char **words, Asked *asked)
+{
+    for (size_t at = 0; at < sizeof known / sizeof known[0]; at++) {
+        if (strcmp(known[at].name, words[0]) != 0)
+            continue;
+        if (known[at].takes == ALONE)
+            return known[at].ask(NULL, asked) ? 1 : 0;
+        if (left == 1)
+            return refuse(words[0], ": a value is missing after it", "");
+        return known[at].ask(words[1], asked) ? 2 : refuse(words[0], ": this is none of its values: ", words[1]);
+    }
+    return refuse_unknown(words[0]);
+}
+
+/* Whether the words go together. A fill is of requests whose replies are read, and that change no folder. A file of JUnit is one run's. */
+static bool go_together(const Asked *asked)
+{
+    if (asked->is_filled && (!asked->files_count || asked->load || asked->folder || asked->junit || kz_is_quiet))
+        return refuse("--fill", " wants files of requests, and goes with none of --load, --folder, --junit and --quiet", "");
+    if (asked->load && asked->files_count)
+        return refuse("--load", " plays its scenario alone, without files of requests", "");
+    if (asked->junit && asked->files_count > 1)
+        return refuse("--junit", " writes the report of one file of requests", "");
+    return true;
 }
 
 static bool read_words(int count, char **words, Asked *asked)
 {
-    for (int at = 1; at < count; at++) {
-        if (strcmp(words[at], "--strict") == 0)
-            kz_be_strict(true);
-        else if (strcmp(words[at], "--quiet") == 0)
-            kz_is_quiet = 1;
-        else if (strcmp(words[at], "--fill") == 0)
-            asked->is_filled = true;
-        else if (strcmp(words[at], "--refusals") == 0)
-            kz_show_refusals();
-        else if (strcmp(words[at], "--json") == 0)
-            kz_use_json(true);
-        else if (strncmp(words[at], "--", 2) != 0)
+    for (int at = 1, taken; at < count; at += taken) {
+        taken = 1;
+        if (strncmp(words[at], "--", 2) != 0)
             asked->files[asked->files_count++] = words[at];
-        else if (at + 1 == count || !read_pair(words[at], words[at + 1], asked))
+        else if (!(taken = read_word(count - at, words + at, asked)))
             return false;
-        else
-            at++;
     }
-    /* A fill is of requests whose replies are read, and that change no folder. A file of JUnit is one run's. */
-    if (asked->is_filled && (!asked->files_count || asked->load || asked->folder || asked->junit || kz_is_quiet))
-        return false;
-    return asked->files_count == 0 || (!asked->load && !(asked->junit && asked->files_count > 1));
+    return go_together(asked);
 }
 
 /* The first status that isn't 0. */
@@ -93,6 +219,16 @@ static int run_files(const Asked *asked)
         status = status ? status : own;
     }
     return status;
+}
+
+static int play(const void *words)
+{
+    const Asked *asked = words;
+    if (asked->load)
+        return kz_run_load(kz_drivers, kz_drivers_count, asked->load, asked->threads, asked->seconds, asked->seed);
+    if (asked->files_count)
+        return run_files(asked);
+    return kz_run_file(kz_drivers, kz_drivers_count, stdin);
 }
 
 static int explain(const char *id)
@@ -112,16 +248,12 @@ int main(int count, char **words)
         return usage(name, stdout);
     Asked asked = {.threads = 4, .seconds = 10, .seed = 1, .files = words}; /* those that are read make room for those that are files */
     if (!read_words(count, words, &asked))
-        return usage(name, stderr);
+        return 2;
     kz_use_junit(asked.junit);
     int error = asked.folder ? kz_use_folder(asked.folder) : 0;
     if (error) {
         fprintf(stderr, "%s: %s\n", asked.folder, strerror(error));
         return 3;
     }
-    if (asked.load)
-        return kz_run_load(kz_drivers, kz_drivers_count, asked.load, asked.threads, asked.seconds, asked.seed);
-    if (asked.files_count)
-        return run_files(&asked);
-    return kz_run_file(kz_drivers, kz_drivers_count, stdin);
+    return kz_run_reported(play, &asked);
 }

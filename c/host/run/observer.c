@@ -22,7 +22,7 @@ static bool told(const KzSaid *said, bool is_counted)
     if (said->kind != KZ_SAID_AGAIN)
         kz_note_told(said, is_counted);
     kz_report_told(said);
-    return !kz_is_json();
+    return !kz_is_json() && !kz_has_format();
 }
 
 const KzObserver kz_observer = {entered, told, kz_print_reply, kz_fails, kz_note_answer};

@@ -4,27 +4,59 @@
 #include "core/client.h"
 #include "core/memory.h"
 #include "core/source.h"
+#include "run/finding.h"
 #include "run/seen.h"
 
 #include <stdarg.h>
 #include <stdlib.h>
+#include <time.h>
 
 typedef struct Case {
     struct Case *next;
-    char *name, *unmet;
+    char *name, *unmet, *path; /* the path and the line of what is reported */
+    unsigned line;
+    double seconds;
 } Case;
 
 static struct {
     bool is_json;
     const char *junit;
     Case *cases, **last;
-    unsigned count;
-} report = {.last = &report.cases};
+    unsigned count, failed;
+    struct timespec since;
+    KzFindings found;
+} report = {.last = &report.cases, .found.last = &report.found.first};
+
+static double seconds_since(struct timespec *since)
+{
+    struct timespec now;
+    clock_gettime(CLOCK_MONOTONIC, &now);
+    double seconds = (double)(now.tv_sec - since->tv_sec) + (double)(now.tv_nsec - since->tv_nsec) / 1e9;
+    *since = now;
+    return seconds;
+}
 
 void kz_use_json(bool is)
 {
     report.is_json = is;
     kz_is_quiet |= is;
+}
+
+bool kz_use_format(const char *name)
+{
+    bool is_one = kz_read_format(name, &report.found.format);
+    kz_is_quiet |= is_one;
+    return is_one;
+}
+
+bool kz_has_format(void)
+{
+    return report.found.format != KZ_NO_FORMAT;
+}
+
+int kz_run_reported(int (*perform)(const void *asked), const void *asked)
+{
+    return kz_run_found(report.found.format, perform, asked);
 }
 
 bool kz_is_json(void)
@@ -67,6 +99,7 @@ void kz_report_event(const char *event, const char *members)
 void kz_report_begin(const char *file)
 {
     char name[600];
+    seconds_since(&report.since);
     if (!report.is_json)
         return;
     kz_json_text(name, sizeof name, file);
@@ -145,7 +178,10 @@ void kz_report_told(const KzSaid *said)
 {
     Members members = {.used = 0};
     char text[1800];
-    if (!report.is_json || kz_scheduler != &kz_in_order)
+    if (kz_scheduler != &kz_in_order)
+        return;
+    kz_find(&report.found, said);
+    if (!report.is_json)
         return;
     kz_readable(text, sizeof text, said->text);
     text[strcspn(text, "\n")] = 0;
@@ -155,24 +191,49 @@ void kz_report_told(const KzSaid *said)
     kz_report_event(said->kind == KZ_SAID_AGAIN ? "Again" : "Told", members.text);
 }
 
-static void add_case(const char *name, const char *why)
+static Case *add_case(const char *name, const char *why)
 {
     Case *made = kz_memory(sizeof *made);
-    made->name = kz_copy_of(name);
-    made->unmet = why ? kz_copy_of(why) : NULL;
+    *made = (Case){.name = kz_copy_of(name), .unmet = why ? kz_copy_of(why) : NULL, .seconds = seconds_since(&report.since)};
     *report.last = made;
     report.last = &made->next;
     report.count++;
+    report.failed += why != NULL;
+    return made;
+}
+
+/* What is found is a case that fails; of a limit it is none. */
+static void add_found(const KzFinding *one)
+{
+    char name[600];
+    if (one->is_limit)
+        return;
+    if (one->request)
+        snprintf(name, sizeof name, "line %u: %s", one->request, one->rule);
+    else
+        snprintf(name, sizeof name, "%s", one->rule);
+    Case *made = add_case(name, one->text);
+    made->path = one->path ? kz_copy_of(one->path) : NULL;
+    made->line = one->line;
+}
+
+void kz_report_requests(void)
+{
+    kz_put_findings(&report.found, kz_seen.file ? kz_seen.file : "requests", add_found);
 }
 
 void kz_report_expectation(const char *words, const char *why)
 {
     char name[400], members[2200], quoted[1000], instead[1000];
-    snprintf(name, sizeof name, "line %u: expect %.300s", kz_line(), words);
-    name[strcspn(name, "\r\n")] = 0;
-    add_case(name, why);
-    if (!why)
+    if (!why) {
+        snprintf(name, sizeof name, "line %u: expect %.300s", kz_line(), words);
+        name[strcspn(name, "\r\n")] = 0;
+        add_case(name, NULL);
+        if (sscanf(words, "told %15s", name) == 1)
+            kz_find_meant(&report.found, name);
         return;
+    }
+    kz_find_unmet(&report.found, words, why);
     kz_json_text(quoted, sizeof quoted, words);
     kz_json_text(instead, sizeof instead, why);
     snprintf(members, sizeof members, "\"expected\": %s, \"answered\": [%s]", quoted, instead);
@@ -194,11 +255,17 @@ static void put_case(FILE *file, const Case *one)
 {
     fputs("  <testcase name=\"", file);
     put_xml(file, one->name);
+    fprintf(file, "\" time=\"%.3f\"", one->seconds);
+    if (one->path) {
+        fputs(" file=\"", file);
+        put_xml(file, one->path);
+        fprintf(file, "\" line=\"%u\"", one->line);
+    }
     if (!one->unmet) {
-        fputs("\"/>\n", file);
+        fputs("/>\n", file);
         return;
     }
-    fputs("\"><failure message=\"", file);
+    fputs("><failure message=\"", file);
     put_xml(file, one->unmet);
     fputs("\"/></testcase>\n", file);
 }
@@ -207,7 +274,7 @@ static void put_suite(FILE *file, const char *name)
 {
     fputs("<?xml version=\"1.0\" encoding=\"UTF-8\"?>\n<testsuite name=\"", file);
     put_xml(file, name);
-    fprintf(file, "\" tests=\"%u\" failures=\"%u\">\n", report.count, kz_unmet() + (kz.counts.told > 0));
+    fprintf(file, "\" tests=\"%u\" failures=\"%u\">\n", report.count, report.failed);
     for (const Case *one = report.cases; one; one = one->next)
         put_case(file, one);
     fputs("</testsuite>\n", file);
@@ -234,10 +301,11 @@ static void free_cases(void)
         report.cases = one->next;
         free(one->name);
         free(one->unmet);
+        free(one->path);
         free(one);
     }
     report.last = &report.cases;
-    report.count = 0;
+    report.count = report.failed = 0;
 }
 
 /* How a run went, in the words of docs/JSON.md. */
@@ -259,9 +327,10 @@ static const char *verdict_of(int status)
 
 int kz_report_end(const char *name, int status)
 {
-    char members[400], text[64];
-    snprintf(text, sizeof text, "told %llu", (unsigned long long)kz.counts.told);
-    add_case("nothing is reported", kz.counts.told ? text : NULL);
+    char members[400];
+    kz_report_requests();
+    if (!kz.counts.told)
+        add_case("nothing is reported", NULL);
     if (report.junit && !is_junit_put(name) && status == 0)
         status = 3;
     snprintf(members, sizeof members, "\"verdict\": \"%s\", \"born\": %llu, \"cleaned\": %llu, \"leaks\": %llu, \"told\": %llu, \"limits\": %llu, \"unmet\": %u, \"status\": %d",

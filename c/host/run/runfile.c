@@ -23,6 +23,7 @@ static struct {
     bool is_refused;    /* the last one was a load, an attach or a mount which was refused, or was of a handle that isn't there */
     unsigned line;      /* where one was that no expectation stands behind; 0 if there is none */
     char words[200];
+    char near[100]; /* the driver whose name is nearest to that of a load which names none */
     bool is_wrong; /* the last line isn't understood */
     char text[KZ_LINE];
 } seen;
@@ -37,6 +38,12 @@ void kz_note_refused(uint32_t status)
     seen.is_refused = status != KZS_OK;
 }
 
+void kz_note_near(const char *name)
+{
+    if (!seen.line)
+        snprintf(seen.near, sizeof seen.near, "%s", name ? name : "");
+}
+
 /* No expectation stands behind the last request. */
 static void note_unexpected(void)
 {
@@ -46,6 +53,8 @@ static void note_unexpected(void)
     }
     seen.is_refused = false;
 }
+
+#define BLANKS " \t\r\n"
 
 static void say_bad(void)
 {
@@ -59,12 +68,24 @@ KzReply kz_wrong(void)
     return bad;
 }
 
+/* The end of a word: its closing quote, or the blank after it. */
+static char *end_of(char *word, bool *is_quoted)
+{
+    char *end = *word == '"' ? strchr(word + 1, '"') : NULL;
+    *is_quoted = end && end > word + 1 && strchr(BLANKS, end[1]); /* one that has letters after it is an expression's */
+    return *is_quoted ? end : word + strcspn(word, BLANKS);
+}
+
 size_t kz_split(char *line, char **words)
 {
     size_t count = 0;
-    char *rest = NULL;
-    for (char *word = strtok_r(line, " \t\r\n", &rest); word && count < KZ_WORDS; word = strtok_r(NULL, " \t\r\n", &rest))
-        words[count++] = word;
+    bool is_quoted;
+    for (char *word = line + strspn(line, BLANKS), *end; *word && count < KZ_WORDS; word = end + strspn(end, BLANKS)) {
+        end = end_of(word, &is_quoted);
+        words[count++] = word + is_quoted;
+        if (*end)
+            *end++ = 0;
+    }
     words[count] = NULL;
     return count;
 }
@@ -115,7 +136,8 @@ KzReply kz_request_as(const char *line, const char *asked)
         return kz_wrong();
     if (strncmp(expected, "expect ", 7) == 0) {
         kz_say(KZ_SAID_REQUEST, "> %.900s%s", expected, strchr(expected, '\n') ? "" : "\n");
-        seen.is_refused = false;
+        /* what is expected of a status speaks of a refusal, and what is expected of another thing doesn't */
+        seen.is_refused &= strncmp(expected + 7, "status ", 7) != 0;
         return is_read(expected + 7) ? (KzReply){0} : kz_wrong();
     }
     strcpy(kz_me->line, line);
@@ -126,6 +148,7 @@ KzReply kz_request_as(const char *line, const char *asked)
     if (is_of_file())
         note_unexpected();
     seen.requests++;
+    kz_report_requests();
     kz_note_request(line);
     kz_me->request = asked ? asked : kz_kept_text(expected);
     kz_me->line_number = kz_scheduler == &kz_in_order ? kz_line() : 0;
@@ -134,7 +157,7 @@ KzReply kz_request_as(const char *line, const char *asked)
         kz_tick();
     kz_say(KZ_SAID_REQUEST, ">");
     for (size_t at = 0; at < count; at++)
-        kz_say(KZ_SAID_REQUEST, " %s", words[at]);
+        kz_say(KZ_SAID_REQUEST, strchr(words[at], ' ') ? " \"%s\"" : " %s", words[at]);
     kz_say(KZ_SAID_REQUEST, "\n");
     return are_letters(words, kz_me->line + strlen(line) + 1) ? asked_of(kz_request_of(words[0]), words, count) : kz_wrong();
 }
@@ -216,13 +239,13 @@ static void tell_idle(const char *name, const char *driver, bool was_set_up)
 /* A run that tried nothing, or not what was meant, is no success. */
 static int judged(int status, const char *name, const char *idle, bool was_set_up)
 {
+    if (seen.line)
+        fprintf(stderr, "%s:%u: `%s` was refused, and no `expect status` after it says so%s%s\n", name, seen.line, seen.words, *seen.near ? "; the nearest is " : "", seen.near);
     if (status != 0)
         return status;
     if (!seen.requests)
         fprintf(stderr, "%s: there is no request in it\n", name);
-    else if (seen.line)
-        fprintf(stderr, "%s:%u: `%s` was refused, and no `expect` behind it says so\n", name, seen.line, seen.words);
-    else if (idle)
+    else if (!seen.line && idle)
         tell_idle(name, idle, was_set_up);
     return !seen.requests || seen.line || idle ? 1 : 0;
 }

@@ -12,6 +12,8 @@ size_t kz_split(char *line, char **words);
 KzReply kz_wrong(void);
 /* What a load, an attach or a mount came to. */
 void kz_note_refused(uint32_t status);
+/* Of a load that names no driver: the one whose name is nearest, or NULL. */
+void kz_note_near(const char *name);
 /* The requests of a set-up, in order: 0, or a sentence says which one isn't understood (2), or which load, attach or mount is refused with no `expect` behind it (1). */
 int kz_set_up(char *const *lines, size_t count);
 

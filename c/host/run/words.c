@@ -2,6 +2,7 @@
 #include "run/words.h"
 
 #include "core/clock.h"
+#include "core/near.h"
 #include "filesystem/deletion.h"
 #include "filesystem/fileobject.h"
 #include "manager/busy.h"
@@ -24,6 +25,7 @@
 #include "run/runfile.h"
 
 #include <stdlib.h>
+#include <strings.h>
 
 /* ---- Requests. Each answers; `words` has the word that names it first. */
 static KzReply said(KzReply reply)
@@ -37,11 +39,27 @@ static KzReply outcome(uint32_t status, uint64_t number)
     return said((KzReply){.status = status, .information = status == KZS_OK ? number : 0});
 }
 
+/* The driver of that name, whatever the case of its letters; else the nearest one is noted. */
+static const char *driver_named(const char *name)
+{
+    KzNear near = kz_near(name);
+    const char *found = NULL;
+    for (size_t at = 0; at < kz.drivers_count; at++) {
+        const char *own = kz.drivers[at].name;
+        if (strcmp(own, name) == 0)
+            return own;
+        found = strcasecmp(own, name) == 0 ? own : found;
+        kz_try_near(&near, own);
+    }
+    kz_note_near(near.best);
+    return found ? found : name;
+}
+
 static KzReply ask_load(char **words)
 {
     uint64_t number = 0;
     NTSTATUS other;
-    uint32_t status = kz_load(words[1], words[2] ? words[2] : "", &number, &other);
+    uint32_t status = kz_load(driver_named(words[1]), words[2] ? words[2] : "", &number, &other);
     KzReply reply = {.status = status, .information = status == KZS_OK ? number : 0};
     kz_note_refused(status);
     kz_print_reply(reply, other, NULL, 0);

@@ -8,6 +8,7 @@
 #include "user/error.h"
 #include "user/file.h"
 #include "user/object.h"
+#include "user/path.h"
 
 #include <stdlib.h>
 
@@ -16,16 +17,14 @@ enum { MOST = 260, ROOM = 4096 };
 
 static void path_of(char *room, const char *name)
 {
-    snprintf(room, MOST, "%s", name);
-    for (char *letter = room; *letter; letter++)
-        *letter = *letter == '\\' ? '/' : *letter;
+    kz_letters_of(room, KZ_PROGRAM_PATH, name);
+    kz_plain_path(room);
 }
 
 static void path_of_wide(char *room, const WCHAR *name)
 {
-    UNICODE_STRING wide;
-    RtlInitUnicodeString(&wide, name);
-    kz_narrow(room, MOST, &wide);
+    kz_letters_of_wide(room, KZ_PROGRAM_PATH, name);
+    kz_plain_path(room);
 }
 
 static KzCreate opening(ACCESS_MASK access, ULONG disposition, ULONG options)
@@ -88,9 +87,9 @@ static uint32_t set_attributes(const char *path, uint32_t attributes)
 /* To a whole name, on the same volume. */
 static uint32_t move(const char *from, const char *to, uint32_t flags)
 {
-    uint8_t bytes[sizeof(FILE_RENAME_INFORMATION) + MOST * sizeof(WCHAR) + 16] = {0};
+    uint8_t bytes[sizeof(FILE_RENAME_INFORMATION) + (KZ_PROGRAM_PATH + 8) * sizeof(WCHAR)] = {0};
     PFILE_RENAME_INFORMATION said = (PFILE_RENAME_INFORMATION)bytes;
-    char whole[MOST + 8];
+    char whole[KZ_PROGRAM_PATH + 8];
     if (from[0] != to[0] || from[1] != to[1])
         return 17; /* ERROR_NOT_SAME_DEVICE */
     snprintf(whole, sizeof whole, "/?" "?/%s", to);
@@ -130,7 +129,7 @@ static void put_data(FileData *to, const FILE_NETWORK_OPEN_INFORMATION *from)
         uint32_t error;                                                                                                                                          \
         {                                                                                                                                                        \
             KZ_CALL();                                                                                                                                           \
-            char path[MOST];                                                                                                                                     \
+            char path[KZ_PROGRAM_PATH];                                                                                                                          \
             convert(path, file_name);                                                                                                                            \
             error = __VA_ARGS__;                                                                                                                                 \
             if (error)                                                                                                                                           \
@@ -151,14 +150,14 @@ static uint32_t query_data(const char *path, FileData *to)
 
 static uint32_t move_to(const char *path, const char *to, uint32_t flags)
 {
-    char whole[MOST];
+    char whole[KZ_PROGRAM_PATH];
     path_of(whole, to);
     return move(path, whole, flags);
 }
 
 static uint32_t move_to_wide(const char *path, const WCHAR *to, uint32_t flags)
 {
-    char whole[MOST];
+    char whole[KZ_PROGRAM_PATH];
     path_of_wide(whole, to);
     return move(path, whole, flags);
 }
@@ -205,7 +204,7 @@ uint32_t GetFileAttributesW(const WCHAR *name)
 /* ---- Searches: the first entry is asked for alone, and then as many as a buffer holds. */
 typedef struct KzSearch {
     KzFile *file;
-    char pattern[MOST];
+    char pattern[KZ_PROGRAM_PATH];
     uint8_t bytes[ROOM];
     size_t place, length; /* the next entry, and how many bytes there are; none is left at the end */
 } KzSearch;
@@ -277,20 +276,26 @@ static void put_entry_wide(void *to, const FILE_BOTH_DIR_INFORMATION *entry)
 
 typedef void PutEntry(void *to, const FILE_BOTH_DIR_INFORMATION *entry);
 
-static uint32_t begin_search(const char *path, KzSearch *search)
+/* What stands behind the last separator is looked for; `.` and `..` name the folder itself, and the one above, in the one that it is in. */
+static uint32_t begin_search(char *path, KzSearch *search)
 {
-    char folder[MOST];
     const char *slash = strrchr(path, '/');
-    if (!slash || !slash[1])
-        return slash ? 2 : 3;
-    snprintf(folder, sizeof folder, "%.*s", (int)(slash - path) + (slash - path == 2), path); /* `C:/` is a root */
-    snprintf(search->pattern, sizeof search->pattern, "%s", slash + 1);
+    if (slash && (strcmp(slash, "/.") == 0 || strcmp(slash, "/..") == 0))
+        kz_plain_path(path);
+    char *last = strrchr(path, '/');
+    if (!last)
+        return 3;
+    kz_search_expression(search->pattern, sizeof search->pattern, last + 1);
+    if (!search->pattern[0])
+        return 2;
+    last[last > path && last[-1] == ':'] = 0; /* `C:/` is a root */
+    kz_plain_path(path);
     const KzCreate create = opening(FILE_LIST_DIRECTORY, FILE_OPEN, FILE_DIRECTORY_FILE);
-    uint32_t error = kz_open_path(folder, &create, &search->file);
+    uint32_t error = kz_open_path(path, &create, &search->file);
     return error == 2 ? 3 : error; /* it is the path that isn't there */
 }
 
-static void *find_first(const char *path, void *to, PutEntry *put)
+static void *find_first(char *path, void *to, PutEntry *put)
 {
     const FILE_BOTH_DIR_INFORMATION *entry = NULL;
     KzSearch *search = kz_memory(sizeof *search);
@@ -328,8 +333,8 @@ static int find_next(void *handle, void *to, PutEntry *put)
         void *found;                                                                                                                                             \
         {                                                                                                                                                        \
             KZ_CALL();                                                                                                                                           \
-            char path[MOST];                                                                                                                                     \
-            convert(path, name);                                                                                                                                 \
+            char path[KZ_PROGRAM_PATH];                                                                                                                          \
+            convert(path, sizeof path, name);                                                                                                                    \
             found = find_first(path, data, put);                                                                                                                 \
         }                                                                                                                                                        \
         kz_go_on_or_end();                                                                                                                                       \
@@ -346,8 +351,8 @@ static int find_next(void *handle, void *to, PutEntry *put)
         kz_go_on_or_end();                                                                                                                                       \
         return is_right;                                                                                                                                         \
     }
-SEARCH(A, char, path_of, put_entry_narrow)
-SEARCH(W, WCHAR, path_of_wide, put_entry_wide)
+SEARCH(A, char, kz_letters_of, put_entry_narrow)
+SEARCH(W, WCHAR, kz_letters_of_wide, put_entry_wide)
 
 int FindClose(void *handle);
 int FindClose(void *handle)

@@ -5,6 +5,7 @@
 #include "core/op.h"
 #include "lib/letters.h"
 #include "filesystem/fileobject.h"
+#include "filesystem/create.h"
 #include "filesystem/sharing.h"
 #include "manager/below.h"
 #include "manager/opaque.h"
@@ -14,6 +15,7 @@
 #include "user/completion.h"
 #include "user/error.h"
 #include "user/object.h"
+#include "user/path.h"
 #include "user/program.h"
 
 static const KzOwn requests = {.is_waited_for = true, .is_user = true};
@@ -99,7 +101,8 @@ static PFLT_VOLUME split(const char *name, const char **path)
         char device[64], letter[] = {(char)('C' + at), ':', '/', 0};
         int length = snprintf(device, sizeof device, "//?/GLOBALROOT/Device/%s/", kz.volumes[at]->name);
         bool is_device = KzStrnicmp(name, device, (size_t)length) == 0;
-        const char *begin = strncmp(name, "//?/", 4) == 0 && !is_device ? name + 4 : name;
+        bool is_whole = strncmp(name, "//?/", 4) == 0 || strncmp(name, "/?" "?/", 4) == 0;
+        const char *begin = is_whole && !is_device ? name + 4 : name;
         *path = is_device ? name + length : begin + 3;
         if (is_device || KzStrnicmp(begin, letter, 3) == 0)
             return kz.volumes[at];
@@ -215,16 +218,13 @@ static KzObject *open_any(const char *name, const Asked *asked)
     return object;
 }
 
-static void *create(const char *name, const Asked *asked)
+static void *create(char *path, const Asked *asked)
 {
     void *handle = (void *)(intptr_t)-1;
     {
         KZ_CALL_OF("CreateFile");
-        char text[320];
-        snprintf(text, sizeof text, "%s", name);
-        for (char *letter = text; *letter; letter++)
-            *letter = *letter == '\\' ? '/' : *letter;
-        KzObject *object = open_any(text, asked);
+        kz_plain_path(path);
+        KzObject *object = open_any(path, asked);
         handle = object ? object : handle;
     }
     kz_go_on_or_end();
@@ -235,18 +235,18 @@ void *CreateFileA(const char *name, uint32_t access, uint32_t share, const void 
 void *CreateFileA(const char *name, uint32_t access, uint32_t share, const void *attributes, uint32_t disposition, uint32_t flags, void *template)
 {
     (void)attributes, (void)template;
-    return create(name, &(Asked){access, share, disposition, flags});
+    char path[KZ_PROGRAM_PATH];
+    kz_letters_of(path, sizeof path, name);
+    return create(path, &(Asked){access, share, disposition, flags});
 }
 
 void *CreateFileW(const WCHAR *name, uint32_t access, uint32_t share, const void *attributes, uint32_t disposition, uint32_t flags, void *template);
 void *CreateFileW(const WCHAR *name, uint32_t access, uint32_t share, const void *attributes, uint32_t disposition, uint32_t flags, void *template)
 {
     (void)attributes, (void)template;
-    char text[320];
-    UNICODE_STRING wide;
-    RtlInitUnicodeString(&wide, name);
-    kz_narrow(text, sizeof text, &wide);
-    return create(text, &(Asked){access, share, disposition, flags});
+    char path[KZ_PROGRAM_PATH];
+    kz_letters_of_wide(path, sizeof path, name);
+    return create(path, &(Asked){access, share, disposition, flags});
 }
 
 /* ---- Reading and writing. */

@@ -85,6 +85,8 @@ static NTSTATUS get(PFLT_PORT port, uint8_t *room, uint32_t size)
     if (!kz_user_waits(has_come, port, UINT32_MAX, "FilterGetMessage"))
         return STATUS_CANCELLED;
     KzPortMessage *message = kz_is_port_over(port) ? NULL : kz_next_message(port);
+    if (message)
+        message->taker = kz_me;
     return message ? give(message, room, size, &bytes) : STATUS_PORT_DISCONNECTED;
 }
 

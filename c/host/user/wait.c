@@ -52,8 +52,18 @@ static bool is_there(void *given)
     return wanted->wants_all ? signalled == wanted->count : signalled > 0;
 }
 
+/* The owner of a mutex, or the thread itself. */
+static const KzClient *owner_of(const void *object)
+{
+    const KzObject *one = object;
+    bool has_owner = one->kind == KZU_MUTEX || one->kind == KZU_THREAD;
+    return has_owner && one->owner ? &one->owner->thread->client : NULL;
+}
+
 static uint32_t wait_for(Wanted *wanted, uint32_t milliseconds)
 {
+    if (wanted->count == 1)
+        kz_waits_for_owner(owner_of, wanted->objects[0], false);
     if (!kz_user_waits(is_there, wanted, milliseconds, "an object of the program"))
         return KZ_WAIT_TIMEOUT;
     for (uint32_t at = 0; wanted->wants_all && at < wanted->count; at++)
@@ -239,9 +249,16 @@ void DeleteCriticalSection(Section *section)
     (void)section;
 }
 
+static const KzClient *owner_of_section(const void *section)
+{
+    const KzUser *owner = ((const Section *)section)->owner;
+    return owner ? &owner->thread->client : NULL;
+}
+
 static int enter(Section *section, uint32_t milliseconds)
 {
     KZ_CALL_OF("EnterCriticalSection");
+    kz_waits_for_owner(owner_of_section, section, false);
     if (!kz_user_waits(is_free, section, milliseconds, "EnterCriticalSection"))
         return 0;
     section->owner = kz_user();

@@ -5,6 +5,7 @@
 #   legal     right drivers, of which nothing is reported: in order, under every schedule, by threads
 #   misuse    drivers with mistakes, under threads and schedules
 #   explore   schedules
+#   sound     what the default search leaves out, by the ends of --whole: all scenarios, and random ones
 #   spread    a search in parts, by jobs, by GNU parallel and by shards, and one that is interrupted
 #   threads   drivers under real threads
 #   names     names, and major functions without a kind of their own: compared with a model, under schedules and refusals, by threads
@@ -46,14 +47,15 @@ least() {
     case $1 in
         host) echo 125 ;;
         legal) echo 105 ;;
-        explore) echo 170 ;;
+        explore) echo 300 ;;
+        sound) echo 100 ;;
         headers) echo 10000 ;;
         image) echo 60 ;; # with one of the toolchains
         cache) echo 20 ;;
         misuse) echo 16 ;;
         names) echo 28 ;;
         script) echo 47 ;;
-        order) echo 14 ;;
+        order) echo 200 ;;
         mount) echo 1250 ;;
         programs) echo 35 ;;
         serve) echo 1100 ;;

@@ -40,7 +40,7 @@ play() {
     [ "$count" -gt 0 ]
 }
 
-# Known states, and orders that come to the same, are left out soundly: a program finds the kinds of ends in "$room/kinds" without them, too.
+# Known states are left out soundly: a program finds the kinds of ends in "$room/kinds" without them, too. Orders that come to the same are sound.sh's.
 reduce() {
     local words=$1 scenario=$2 way
     shift 2
@@ -48,7 +48,7 @@ reduce() {
     for way in "$@"; do
         search "$scenario" --ends "$words" "$way" > "$room/reduced"
         kinds "$room/reduced" | diff "$room/kinds" - || return 1
-        [ -z "$way" ] || grep -q "^[a-z 0-9]*: .* [1-9][0-9]* given up, [1-9][0-9]* states" "$room/reduced" || return 1
+        grep -q "^[a-z 0-9]*: .* [1-9][0-9]* given up, [1-9][0-9]* states" "$room/reduced" || return 1
     done
 }
 # What steps use is known: of those that come to the same in either order, by that, each pair that is drawn does.
@@ -74,14 +74,12 @@ searched() {
     fi
     tell $? "$name"
     [ "$status" != 4 ] && [ "$name" != barriers ] || return # that one has many schedules, and a row of its own
-    case "$name" in polls | settwice) ways=(--reduce) ;; teardowns) ways=(--states) ;; *) ways=(--reduce --states) ;; esac
+    case "$name" in polls | settwice | starves) ways=(--reduce) ;; teardowns) ways=(--states) ;; *) ways=(--reduce --states) ;; esac
     words="--bound 3 $(other_words_of "$scenario") $(words_of "$scenario" | grep -q -e --fail-each && echo --fails 1)"
     search "$scenario" --ends --whole "$words" > "$room/plain"
     kinds "$room/plain" > "$room/kinds"
     reduce "$words" "$scenario" "${ways[@]}"
     tell $? "$name with known states left out"
-    reduce "$words" "$scenario" ""
-    tell $? "$name with orders left out that come to the same"
     commute "$scenario" 1000 "$words"
     tell $? "$name, steps in both orders,"
     grep -q -e --replay "$built/$name.out" || return
@@ -178,6 +176,13 @@ tell $? "races that are shown once"
 "$program" --seed 1 --runs 500 --pct 2 --shrink $scenarios/stuckdetach-long.txt > "$room/out"
 [ $? = 6 ] && grep -q '^  the shortest: 1 preemptions' "$room/out" && grep -A 2 '^    STUCK' "$room/out" | grep -q '^    client r: read 0 0 8$' && grep -q '^    client d: detach 0$' "$room/out"
 tell $? "shrunk"
+
+# Steps are known for pairs of them, however the search is asked for.
+for way in "" --whole --states --reduce; do
+    search $scenarios/lockorder.txt --commute 300 "$way" > "$room/pairs.${way#--}"
+    [ $? = 0 ] && grep -q '^[1-9][0-9]* pairs, .* [1-9][0-9]* are taken to, 0 of them wrongly$' "$room/pairs.${way#--}" && cmp "$room/pairs." "$room/pairs.${way#--}"
+    tell $? "pairs of steps with '$way'"
+done
 
 # What can't be searched says why.
 refuses() {
@@ -323,8 +328,6 @@ sampled() {
     kinds "$room/plain" > "$room/kinds"
     reduce "--bound $bound" "$room/scenario" --reduce
     tell $? "$name with known states left out"
-    reduce "--bound $bound" "$room/scenario" ""
-    tell $? "$name with orders left out that come to the same"
     commute "$room/scenario" 1000
     tell $? "$name, steps in both orders,"
     sed "s/DRIVER/$name/" $scenarios/refusals.txt > "$room/scenario"

@@ -196,7 +196,7 @@ printf 'expect status 0\nload opens\n' > "$room/early.txt"
 tell $? "an expectation before any request"
 printf 'load opens\nattach 0 0 o 100\ncreate 0 new y\nread 7 0 1\nexpect status 14\n' > "$room/absent.txt"
 "$room/drivers" --quiet "$room/absent.txt" > /dev/null && sed -i '$d' "$room/absent.txt" && ! "$room/drivers" --quiet "$room/absent.txt" > /dev/null 2> "$room/absent.out" &&
-    grep -qxF "$room/absent.txt:4: \`read 7 0 1\` was refused, and no \`expect\` behind it says so" "$room/absent.out"
+    grep -qxF "$room/absent.txt:4: \`read 7 0 1\` was refused, and no \`expect status\` after it says so" "$room/absent.out"
 tell $? "a request of a handle that isn't there"
 sed -i '$d' "$room/absent.txt"
 "$room/drivers" --quiet --junit "$room/nowhere/report.xml" "$room/absent.txt" > /dev/null 2> "$room/absent.out"
@@ -257,6 +257,30 @@ printf 'load ctx\nattach 0 0 one\nattach 0 0 two 1x\n' > "$room/green.txt"
 sed -i '2d' "$room/green.txt"
 says 1 'green.txt:2: `attach 0 0 two 1x` was refused' "$room/green.txt"
 tell $? "an attach that is refused"
+printf 'load ctxx\nexpect info 0\n' > "$room/green.txt"
+says 1 'green.txt:1: `load ctxx` was refused, and no `expect status` after it says so; the nearest is ctx$' "$room/green.txt"
+tell $? "a load that is refused, with an expectation of something else"
+printf 'load CTX\nattach 0 0 c 100\ncreate 0 new a\nexpect status STATUS_ACESS_DENIED\n' > "$room/green.txt"
+says 2 'green.txt:4: not understood: there is no status `STATUS_ACESS_DENIED`; the nearest is STATUS_ACCESS_DENIED$' "$room/green.txt"
+tell $? "a status that isn't there, and a driver in other letters"
+printf 'load ctx\nexpect told KZ0999\n' > "$room/green.txt"
+says 2 'green.txt:2: not understood: there is no report `KZ0999`: docs/TOLD.md has all$' "$room/green.txt"
+tell $? "a report that isn't there"
+printf 'load ctx\nclient a: read 0 0 1\n' > "$room/green.txt"
+says 2 'green.txt:2: not understood: this is a scenario: --load plays it by threads, and a program that c/build.sh --explore builds plays it in every order$' "$room/green.txt"
+tell $? "a scenario as requests"
+# A word that isn't one is named, with the nearest.
+names_word() {
+    "$room/drivers" "${@:2}" < /dev/null > "$room/word.out" 2> "$room/word.err"
+    [ $? = 2 ] && [ ! -s "$room/word.out" ] && grep -qF -e "$1" "$room/word.err"
+    tell $? "the words ${*:2}"
+}
+names_word 'there is no word --qiet; the nearest is --quiet (--help shows all)' --qiet
+names_word '--load: a value is missing after it (--help shows all)' --load
+names_word '--threads: this is none of its values: x (--help shows all)' --threads x
+names_word '--dispatch: this is none of its values: some (--help shows all)' --dispatch some
+names_word '--format: this is none of its values: xml (--help shows all)' --format xml
+names_word '--junit writes the report of one file of requests (--help shows all)' --junit a b c
 printf 'load none\n# it is none\n\nexpect status 6\n' > "$room/green.txt"
 "$room/drivers" "$room/green.txt" > "$room/green.out" 2> "$room/green.err" && [ ! -s "$room/green.err" ]
 tell $? "a load that is to be refused"
@@ -312,14 +336,44 @@ tell $? "a set-up that is refused"
 tell $? "what a reply says, in JSON"
 printf 'create 0 new a as a\nquery a name\nexpect says name /b\nexpect status STATUS_ACCESS_DENIED\n' > "$room/says.txt"
 "$room/drivers" --junit "$room/says.xml" "$room/says.txt" > "$room/says.out"
-[ $? = 1 ] && grep -q '^unmet: says name /a$' "$room/says.out" && grep -q '^unmet: status 0x00000000$' "$room/says.out" && grep -q 'failure message="says name /a"' "$room/says.xml"
+[ $? = 1 ] && grep -q '^unmet: says name /a$' "$room/says.out" && grep -q '^unmet: status 0x00000000$' "$room/says.out" && grep -q 'failure message="expected says name /b, and there is says name /a"' "$room/says.xml"
 tell $? "what a reply says, where it isn't met"
+# What is found, for a compiler's readers, a job of GitHub's and SARIF: an expectation that isn't met, a report with its line and its request, and a crash in a second file.
+{ cat $tests/requests/first.txt; echo 'expect info 9'; } > "$room/found it.txt"
+for format in gcc github sarif; do
+    "$room/drivers" --format $format "$room/found it.txt" "$room/crash.txt" > "$room/found.$format" 2> /dev/null
+done
+printf '%s\n' 'found it.txt:9:1: error: expected info 9, and there is info 2 [expect]' 'first.c:12:1: error: FltReleaseFileNameInformation: never called for a name: [KZ0151]' \
+    'found it.txt:4:1: note: the request' 'crash.c:13:1: error: SIGSEGV: [CRASH]' | diff - <(sed -E 's,^.*/([^/:]+:[0-9]+:1),\1,; s,: filter .* (\[.*),: \1,' "$room/found.gcc")
+tell $? "what is found, as a compiler says it"
+grep -q '^::error file=.*/first\.c,line=12,title=KZ0151::FltRelease' "$room/found.github" && grep -q 'found it\.txt,line=9,title=expect::expected info 9, and there is info 2$' "$room/found.github"
+tell $? "what is found, for a job"
+"$room/drivers" --quiet --junit "$room/found.xml" $tests/requests/first.txt > /dev/null
 if command -v python3 > /dev/null; then
     "$room/drivers" --json $tests/requests/leaks.txt > "$room/leaks.json"
     python3 .ci/objects.py --objects "$room/expects.json" --objects "$room/leaks.json"
     tell $? "JSON beside docs/JSON.md"
     python3 $tests/scripts/reports.py "$room"
     tell $? "JSON and JUnit, as they are read,"
+fi
+
+# A log of Process Monitor: each row that can be said becomes a request, and the results are met. Of its 50 rows one is paging I/O, two are closes that another row makes, one is of a share and one of the network;
+# one write is said in two parts.
+if command -v python3 > /dev/null; then
+    ./flt import --driver nullfilter $tests/logs/desk.csv > "$room/desk.txt" && "$room/drivers" --quiet "$room/desk.txt" && grep -q '^# 50 rows: 46 requests with 46 expectations; ' "$room/desk.txt"
+    tell $? "a log that is played again"
+    # 500 files of four rows each: none is lost.
+    python3 -c "
+print('\"Time of Day\",\"Process Name\",\"PID\",\"TID\",\"Operation\",\"Path\",\"Result\",\"Detail\"')
+for file in range(500):
+    made = 'Desired Access: Generic Read/Write, Disposition: Create, Options: Non-Directory File, Attributes: N, ShareMode: None, AllocationSize: 0, OpenResult: Created'
+    for what, detail in (('CreateFile', made), ('WriteFile', 'Offset: 0, Length: 8'), ('ReadFile', 'Offset: 4, Length: 4'), ('CloseFile', '')):
+        print(f'\"1:00:00.0000000 AM\",\"a.exe\",\"{8 + 4 * (file % 3)}\",\"{20 + 4 * (file % 5)}\",\"{what}\",\"C:\\\\d\\\\f{file}\",\"SUCCESS\",\"{detail}\"')
+" > "$room/long.csv"
+    ./flt import --driver nullfilter "$room/long.csv" > "$room/long.txt" && "$room/drivers" --quiet "$room/long.txt" && [ "$(tail -n 1 "$room/long.txt")" = '# 2000 rows: 2000 requests with 2000 expectations' ]
+    tell $? "a log of 2,000 rows"
+    ./flt import --clients --driver ctx "$room/long.csv" > "$room/clients.txt" && [ "$(grep -c '^client ' "$room/clients.txt")" = 15 ]
+    tell $? "a log as a scenario"
 fi
 
 # A folder of the host machine as volume 0: regular files below it alone, and what is written stands in them.
@@ -430,6 +484,24 @@ done
 missing no-cc env CC=no-cc c/build.sh "$room/none" c/samples/ctx.c
 missing make env -u CC PATH="$room/few" c/build.sh "$room/none" c/samples/ctx.c
 missing nosuch.c c/build.sh "$room/none" nosuch.c
+# What is there already, and is no program, stays as it is.
+cp c/samples/ctx.c "$room/own.c"
+mkdir "$room/own"
+# refused TEXT COMMAND: it ends with 2, and says that in one line.
+refused() {
+    "${@:2}" > /dev/null 2> "$room/refused.err"
+    [ $? = 2 ] && [ "$(wc -l < "$room/refused.err")" = 1 ] && grep -qF "$1" "$room/refused.err" || { cat "$room/refused.err"; false; }
+    tell $? "$1"
+}
+for own in own.c own a.sys; do
+    refused "$room/$own isn't written, since it is no program" c/build.sh "$room/$own" c/samples/nullfilter.c
+done
+cmp c/samples/ctx.c "$room/own.c"
+tell $? "a source in the program's place, as it was"
+refused 'there is no word --sanitise; the nearest is --sanitize; there are:' c/build.sh --sanitise=address "$room/none" c/samples/ctx.c
+# A compiler by another name has the same libraries.
+[ "$(c/libraries.sh host)" = "$(CC=$(command -v "${CC:-cc}") c/libraries.sh host)" ]
+tell $? "a compiler by its path"
 missing "folder $room/nofolder" c/build.sh "$room/nofolder/none" c/samples/ctx.c
 # Without a compiler the tests of an installation aren't passed.
 if command -v rt > /dev/null; then
@@ -451,8 +523,8 @@ random() {
 }
 long() {
     case $1 in
-    requests) # it tells of what a try block takes too
-        mapfile -t all < <(find $tests/requests -name '*.txt' ! -name guards.txt ! -name swallows.txt | LC_ALL=C sort)
+    requests) # it tells of what a try block takes too, and of what is read past its end by one byte
+        mapfile -t all < <(find $tests/requests -name '*.txt' ! -name guards.txt ! -name swallows.txt ! -name past.txt | LC_ALL=C sort)
         look "all requests" "$built/drivers" "${all[@]}"
         ;;
     valgrind) look "random requests" "$built/samples" 1000 2 "${never[@]}" ;;

@@ -42,7 +42,8 @@ class Handle:
 class Model:
     """Answers as (status, kit's status or None, what the answer says or None)."""
 
-    def __init__(self):
+    def __init__(self, makes_folders):
+        self.makes_folders = makes_folders
         self.names = {}
         self.handles = {}
         self.root = File(True)
@@ -69,6 +70,13 @@ class Model:
         parts = text.split("/")[:-1]
         return any((found := self.find("/".join(parts[:count]))) and not found.file.is_directory for count in range(1, len(parts) + 1))
 
+    def above(self, text, makes=True):
+        """Why no name is made there; None if one may be: what it would be in is a folder, and stays one, or is made."""
+        folder = self.find(text[: text.rindex("/")]) if "/" in text else None
+        if "/" not in text or (folder and folder.file.is_directory):
+            return (MARKED, None, None) if folder and folder.file.is_pending() else None
+        return None if makes and self.makes_folders and not self.has_file_above(text) else (DEVICE, NO_PATH, None)
+
     def remove(self, name):
         name.is_gone = True
         del self.names[name.text.upper()]
@@ -79,8 +87,10 @@ class Model:
         found = self.find(text)
         if found and found.file.is_pending():
             return MARKED, None, None
-        if self.has_file_above(text):
-            return DEVICE, NO_PATH, None
+        if self.above(text, mode != "existing"):
+            return self.above(text, mode != "existing")
+        if found and found.file.is_directory and not is_directory:
+            return DEVICE, IS_DIRECTORY, None
         if found and mode == "new":
             return THERE, None, None
         if found and found.file.is_directory != is_directory:
@@ -141,8 +151,8 @@ class Model:
             return DENIED, None, None
         if file.is_directory and text.upper().startswith(source.text.upper() + "/"):
             return DENIED, None, None
-        if self.has_file_above(text):
-            return DEVICE, NO_PATH, None
+        if self.above(text):
+            return self.above(text)
         if target and (is_link or target is not source):
             if not is_replace:
                 return THERE, None, None
@@ -224,9 +234,9 @@ def sign(answer):
 def session(seed):
     """The lines of a session, and what each is to be answered; None where nothing is looked at."""
     draw = random.Random(seed)
-    model = Model()
-    lines = ["load passthrough", "load ctx", "attach passthrough 0 top 200", "attach ctx 0 low 100"]
-    wanted = [None] * 4
+    model = Model(seed % 2 == 1)
+    lines = ["load passthrough", "load ctx", "attach passthrough 0 top 200", "attach ctx 0 low 100"] + ["volume 0 nofolders"] * (seed % 2 == 0)
+    wanted = [None] * len(lines)
 
     def ask(line, answer):
         lines.append(line)

@@ -1,13 +1,14 @@
 #!/usr/bin/env bash
-# The lists of crates/test_recorder/src/order.rt through the host: c/tests/drivers/recorder.c under each name that a list loads plays each list, and what the filters see, request by
-# request, is compared with what stands there.
+# The lists of crates/test_recorder/src/order.rt and those of tests/model/lists.py through the host: c/tests/drivers/recorder.c under each name that a list loads plays each list, and what
+# the filters see, request by request, is compared with what stands there.
 set -u
 . "$(dirname "$0")/tally.sh" order
+tests/model/lists.py --constant RANDOM > "$room/random" || finish
 awk -v room="$room" '
-    /^pub const ORDER/ { on = 1; next }
+    /^pub const / { on = 1; next }
     /^";/ { on = 0 }
-    on && /^# / { file = sprintf("%s/%02d.list", room, ++count) }
-    on && NF { print > file }' crates/test_recorder/src/order.rt
+    on && /^# / { close(file); file = sprintf("%s/%03d.list", room, ++count) }
+    on && NF { print > file }' crates/test_recorder/src/order.rt "$room/random"
 drivers=()
 while read -r name; do
     cp $tests/drivers/recorder.c "$room/$name.c"

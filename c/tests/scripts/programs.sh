@@ -44,4 +44,21 @@ build "all of them for the explorer" --explore "$room/explore" "${drivers[@]}" "
 ! has_sanitizers address,undefined || build "all of them for the address sanitizer" --sanitize=address,undefined "$room/address" "${drivers[@]}" c/samples/passthrough.c "${users[@]}"
 ! has_sanitizers thread || build "all of them for the thread sanitizer" --sanitize=thread "$room/threads" "${drivers[@]}" "${users[@]}"
 rows played "${names[@]}"
+
+# waiting NAME WORD..: nobody can go on, and each who waits is named, with who has what he waits for.
+build "portlock" --explore "$room/portlock" $tests/misuse/portlock.c --user $tests/user/peer.c
+waiting() {
+    "$room/portlock" --bound 1 "$room/waiting.txt" > "$room/out"
+    [ $? = 6 ] && grep -A 2 '^    STUCK' "$room/out" | diff - <(printf '    STUCK\n      %s\n      %s\n' "$@")
+}
+printf 'load portlock\nattach 0 0 p 200\ncreate 0 new f\nstart peer\nclient r: read 0 0 8\n' > "$room/waiting.txt"
+waiting 'r waits for FltSendMessage, which is to be answered: peer has it' 'peer waits for KeWaitForSingleObject: r has it'
+tell $? "a message and a mutex that wait for one another"
+printf 'load portlock\nclient p: start peer circle\n' > "$room/waiting.txt"
+waiting 'peer waits for EnterCriticalSection: peer.2 has it' 'peer.2 waits for EnterCriticalSection: peer has it'
+tell $? "two threads of a program that wait for one another"
+# A program that waits for a message, as it should, is in nobody's way.
+printf 'load portlock\nattach 0 0 p 200\ncreate 0 new f\nclient p: start peer\nclient f: flush 0\n' > "$room/waiting.txt"
+"$room/portlock" --bound 1 "$room/waiting.txt" > "$room/out"
+tell $? "a program that waits for a message"
 finish

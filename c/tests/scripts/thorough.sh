@@ -3,6 +3,7 @@
 #
 #   host        160,000 random requests through all samples, with the part host
 #   explore     each sample with four clients, under every schedule with at most two preemptions
+#   sound       20,000 random scenarios, each with the ends of --whole: some hours of a processor
 #   lines       lines of drivers by gcc and clang at several optimizations, and the headers compared with those of mingw-w64
 #   threads     each sample for ten seconds with eight threads
 #   names       3,000 random sessions of names, compared with a model of their own
@@ -29,6 +30,11 @@ host() {
 explore() {
     "$here/explore.sh" --whole
     tell $? explore
+}
+
+sound() {
+    "$here/sound.sh" 20000
+    tell $? sound
 }
 
 # The lines of a driver are the same by each compiler and at each optimization; so are the headers as mingw-w64 has them.
@@ -125,10 +131,10 @@ mount() {
     fi
 }
 
-[ $# -gt 0 ] || set -- host explore lines threads names programs image binaries libfuzzer real release mount
+[ $# -gt 0 ] || set -- host explore sound lines threads names programs image binaries libfuzzer real release mount
 for part in "$@"; do
     case $part in
-    host | explore | lines | threads | names | programs | image | binaries | libfuzzer | real | release | mount) "$part" ;;
+    host | explore | sound | lines | threads | names | programs | image | binaries | libfuzzer | real | release | mount) "$part" ;;
     *)
         echo "there is no part $part" >&2
         exit 2

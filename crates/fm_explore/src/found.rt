@@ -44,6 +44,8 @@ pub(crate) struct Found {
     pub(crate) finding: RunFinding,
     /// In how many schedules.
     pub(crate) count: u64,
+    /// The number of the last of these.
+    pub(crate) last: u64,
     /// The one that is best to look at, of those so far.
     pub(crate) best: BestSchedule,
 }
@@ -100,16 +102,14 @@ fn write_run(words: &mut String, name: &str, steps: usize) -> Result<(), AllocEr
 fn words_of(alloc: Global, schedule: &Schedule, names: &[&str]) -> Result<String, AllocError> {
     let mut words = String::new(alloc);
     let mut last: Option<(usize, usize)> = None;
-    for choice in &schedule.choices {
+    for next in &schedule.clients {
         last = match last {
-            Some((client, steps)) if client == choice.client => {
-                Some((client, steps.saturating_add(1)))
-            }
+            Some((client, steps)) if client == *next => Some((client, steps.saturating_add(1))),
             Some((client, steps)) => {
                 write_run(&mut words, name_in(names, client), steps)?;
-                Some((choice.client, 1))
+                Some((*next, 1))
             }
-            None => Some((choice.client, 1)),
+            None => Some((*next, 1)),
         };
     }
     if let Some((client, steps)) = last {

@@ -13,5 +13,6 @@ mod run;
 mod scenario;
 mod schedule;
 mod search;
+mod verdict;
 
-pub use crate::program::{show_usage, trial};
+pub use crate::program::{Ran, show_usage, trial};

@@ -1,11 +1,16 @@
 //! The program: a trial, or a search.
 
-use crate::found::{Found, FoundKind};
+ghost use Rattle.std.specs.Prelude.{◌≡◌, ◌<◌, true, All, IfOk, List, None, Ok, length};
+ghost use Rattle.fm_trial.specs.Verdicts.{PassesText};
+ghost use Rattle.fm_explore.specs.Verdicts.{nothing_found, ran_status, search_status, stopped_by, with_found};
+
+use crate::found::{Found, FoundKind, RunFinding};
 use crate::options::{Options, asks_search};
 use crate::run::{End, ScheduleRun};
 use crate::scenario::{ClientScenario, ScenarioFault};
 use crate::schedule::Chooser;
-use crate::search::{Search, Stopped};
+use crate::search::{Search, Stopped, UNTESTED, exit_status, stopped_by};
+use crate::verdict::Verdict;
 use fm_cli::asks_usage;
 use fm_filter::Minifilter;
 use fm_types::{Name, Status};
@@ -17,16 +22,28 @@ use std::fs;
 use std::io::{self, Read, Write};
 use std::rt::Files;
 
-// The exit statuses: a file that can't be read or isn't understood, or wrong words; a set-up that is refused; what isn't whole; something told or unmet; somebody stuck.
+// The exit status if a file can't be read or isn't understood, or for wrong words.
 const WRONG: u8 = 2;
 
-const UNTESTED: u8 = 1;
+/// What the words of a program asked for, with its exit status.
+#[derive(Clone, Copy, Debug, PartialEq, Eq)]
+pub enum Ran {
+    /// Scenarios were tried.
+    Trial(u8),
+    /// A scenario was searched, or one schedule of it was run.
+    Search(u8),
+}
 
-const PARTIAL: u8 = 4;
-
-const FOUND: u8 = 5;
-
-const STUCK: u8 = 6;
+impl Ran {
+    /// The exit status.
+    pub fn status(self) -> u8
+        ensures { result ≡ ran_status self }
+    {
+        match self {
+            Ran::Trial(status) | Ran::Search(status) => status,
+        }
+    }
+}
 
 // The error of a program whose memory is refused, or whose filters can't be made.
 fn failed(status: Status) -> io::Error {
@@ -37,8 +54,8 @@ fn failed(status: Status) -> io::Error {
 }
 
 /// Runs scenarios as `fm_trial::trial` does; or, with the word `--explore`, one scenario in every order in which its clients' callbacks can come, and tells what was
-/// found, each with the schedule that is best to look at. Its contract says that it is safe and ends: what status 0 of a trial promises is the clause of
-/// `fm_trial::trial`, and what a search finds is tested by rows.
+/// found, each with the schedule that is best to look at. It says which of these it did. A trial that ends with 0 promises what `fm_trial::trial` does; which findings
+/// give which status of a search is proved below, and that all orders are run is tested by rows.
 ///
 /// `--bound N` runs all schedules with at most N preemptions (2 without the word), `--bound all` each schedule. `--ends` shows each end that differs, by what clients
 /// were answered and by the filters' totals. `--replay SCHEDULE` runs one schedule, and shows its steps.
@@ -47,7 +64,7 @@ fn failed(status: Status) -> io::Error {
 /// a run has no end, filters don't repeat themselves, or not all that was noted was kept; 1 if a load or an attach before the clients is refused, or if no callback
 /// was called and no line expects anything; 2 with a sentence on standard error for wrong words, for a file that can't be read, for a line that isn't understood, and
 /// for a schedule of another scenario. It fails if memory is refused, if the filters can't be made, or if a write fails.
-pub fn trial<R, I, F, E, W>(rt: &R, input: I, make: E, out: &mut W) -> io::Result<u8>
+pub fn trial<R, I, F, E, W>(rt: &R, input: I, make: E, out: &mut W) -> io::Result<Ran>
 where
     R: Env + Eprint + Files + AllocGlobal,
     I: Read + Drop,
@@ -55,13 +72,28 @@ where
     E: Fn(Global) -> Result<Vec<(Name, F)>, Status>,
     W: Write,
     requires { E.IsAlwaysCallable make }
+    ensures { IfOk result (λ ran. ran ≡ Ran.Trial 0 → (texts : List _) × (0 < length texts) × All (PassesText F.Minifilter (λ filters. (alloc : _) × E.post make alloc (Ok filters))) texts) }
 {
     let alloc = rt.alloc();
     let words: Vec<String> = env::args(rt)?.skip(1).collect(alloc)?;
     if !asks_search(words.as_slice()) {
-        return fm_trial::trial(rt, input, make, out);
+        let status = fm_trial::trial(rt, input, make, out)?;
+        return Ok(Ran::Trial(status));
     }
-    let Some(options) = Options::read(alloc, words.as_slice())? else {
+    let status = search(rt, words.as_slice(), &make, out)?;
+    Ok(Ran::Search(status))
+}
+
+// Searches the scenario that the words name, or runs one schedule of it: its exit status.
+fn search<R, F, E, W>(rt: &R, words: &[String], make: &E, out: &mut W) -> io::Result<u8>
+where
+    R: Eprint + Files + AllocGlobal,
+    F: Minifilter,
+    E: Fn(Global) -> Result<Vec<(Name, F)>, Status>,
+    W: Write,
+    requires { E.IsAlwaysCallable make.now }
+{
+    let Some(options) = Options::read(rt.alloc(), words)? else {
         eprintln!(rt;
             "behind --explore there are --bound N, --ends, --replay SCHEDULE and one file"
         )?;
@@ -70,7 +102,7 @@ where
     let Some(scenario) = read_scenario(rt, options.file.as_str())? else {
         return Ok(WRONG);
     };
-    explore(rt, &options, &scenario, &make, out)
+    explore(rt, &options, &scenario, make, out)
 }
 
 /// Whether the program of that name was asked how it is used, by `--help` or `-h` and no other word; it has said so then. Fails if the words can't be read, if memory is
@@ -154,24 +186,7 @@ where
     write_search(&mut text, options, &search)?;
     out.write_all(text.as_bytes())?;
     out.flush()?;
-    Ok(status_of(&search))
-}
-
-// The exit status of a search.
-fn status_of(search: &Search) -> u8 {
-    if let Some(Stopped::SetUp(_)) = search.stopped {
-        UNTESTED
-    } else if search.count_of(FoundKind::Told) > 0 || search.count_of(FoundKind::Unmet) > 0 {
-        FOUND
-    } else if search.count_of(FoundKind::Stuck) > 0 {
-        STUCK
-    } else if search.stopped.is_some() {
-        PARTIAL
-    } else if !search.is_tested {
-        UNTESTED
-    } else {
-        0
-    }
+    Ok(exit_status(search.verdict, search.stopped, search.is_tested))
 }
 
 // Appends what a search came to.
@@ -304,32 +319,34 @@ where
         return Ok(WRONG);
     }
     run.finish().map_err(failed)?;
-    let status = write_run(rt.alloc(), run, out)?;
+    write_run(rt.alloc(), run, out)?;
     out.flush()?;
-    Ok(status)
+    let stopped = stopped_by(None, end, run.dropped());
+    Ok(replay_status(run.found.as_slice(), stopped))
 }
 
-// Writes the steps of a run, and what was found: its exit status.
+// Writes the steps of a run, and what was found.
 fn write_run<F: Minifilter, W: Write>(
     alloc: Global,
     run: &ScheduleRun<'_, F>,
     out: &mut W,
-) -> io::Result<u8> {
+) -> io::Result<()> {
     if let Some(shown) = &run.shown {
         out.write_all(shown.as_bytes())?;
     }
-    let mut status = 0;
     for finding in &run.found {
         let line = match finding.kind {
             FoundKind::End => format!(in alloc; "{}", finding.words.as_str())?,
             kind => format!(in alloc; "{}{}\n", kind.word(), finding.words.as_str())?,
         };
         out.write_all(line.as_bytes())?;
-        status = match finding.kind {
-            FoundKind::Told | FoundKind::Unmet => FOUND,
-            FoundKind::Stuck if status == 0 => STUCK,
-            _ => status,
-        };
     }
-    Ok(status)
+    Ok(())
+}
+
+// The exit status of one schedule, by what was found in it and by why it isn't whole.
+fn replay_status(found: &[RunFinding], stopped: Option<Stopped>) -> u8
+    ensures { result ≡ search_status (with_found nothing_found found.now) stopped true }
+{
+    exit_status(Verdict::new().with_found(found), stopped, true)
 }

@@ -1,9 +1,12 @@
 //! One run of a scenario, in one order.
 
+ghost use Rattle.std.specs.Prelude.{◌≡◌, IfOk};
+ghost use Rattle.fm_explore.specs.Verdicts.{Expected, is_met_by};
+
 use crate::client::{Client, Stand};
 use crate::found::{FoundKind, RunFinding};
 use crate::scenario::{ClientScenario, ScenarioRequest, read_line};
-use crate::schedule::{Choice, Chooser, Schedule};
+use crate::schedule::{Chooser, Schedule};
 use fm_base::MemoryBase;
 use fm_callback_data::{FileRequest, Reply, Request};
 use fm_core::Place;
@@ -178,8 +181,7 @@ impl<'a, F: Minifilter> ScheduleRun<'a, F> {
                 Ok(!(is_set_up && is_refused))
             }
             ScenarioLine::Expect(expected) => {
-                let is_met = is_met(&expected, &self.last);
-                self.expect(line, is_met)?;
+                expect(self.alloc, line, &expected, &self.last, &mut self.found)?;
                 Ok(true)
             }
             ScenarioLine::Nothing | ScenarioLine::Unknown => Ok(true),
@@ -256,12 +258,7 @@ impl<'a, F: Minifilter> ScheduleRun<'a, F> {
                 }
             }
         }
-        let options = options.len();
-        self.schedule.choices.push(Choice {
-            client,
-            taken,
-            options,
-        })?;
+        self.schedule.note(client, taken, options.len())?;
         Ok(Some(client))
     }
 
@@ -486,8 +483,7 @@ impl<'a, F: Minifilter> ScheduleRun<'a, F> {
             };
             match read_line(self.alloc, line.words.as_str(), own.handle)? {
                 ScenarioLine::Expect(expected) => {
-                    let is_met = is_met(&expected, &own.reply);
-                    self.expect(line, is_met)?;
+                    expect(self.alloc, line, &expected, &own.reply, &mut self.found)?;
                 }
                 _ => return Ok(()),
             }
@@ -548,15 +544,6 @@ impl<'a, F: Minifilter> ScheduleRun<'a, F> {
     fn note(&mut self, kind: FoundKind, words: String) -> Result<(), AllocError> {
         self.found.push(RunFinding { kind, words })?;
         Ok(())
-    }
-
-    // Notes a line that isn't met.
-    fn expect(&mut self, line: &ScenarioRequest, is_met: bool) -> Result<(), AllocError> {
-        if is_met {
-            return Ok(());
-        }
-        let words = format!(in self.alloc; "line {}: {}", line.line, line.words.as_str())?;
-        self.note(FoundKind::Unmet, words)
     }
 
     // Notes who waits at the end, and for what.
@@ -687,8 +674,29 @@ impl<'a, F: Minifilter> ScheduleRun<'a, F> {
     }
 }
 
+// Looks whether the last request came to what the line expects: where it didn't, or there was none, that is found. Fails if memory is refused.
+fn expect(
+    alloc: Global,
+    line: &ScenarioRequest,
+    expected: &Expectation,
+    last: &Option<Reply>,
+    found: &mut Vec<RunFinding>,
+) -> Result<(), AllocError>
+    ensures { IfOk result (λ done. Expected (is_met_by expected.now last.now) found.old.items found.new.items) }
+{
+    if is_met(expected, last) {
+        return Ok(());
+    }
+    let words = format!(in alloc; "line {}: {}", line.line, line.words.as_str())?;
+    let kind = FoundKind::Unmet;
+    found.push(RunFinding { kind, words })?;
+    Ok(())
+}
+
 // Whether the last request came to what is expected.
-fn is_met(expected: &Expectation, last: &Option<Reply>) -> bool {
+fn is_met(expected: &Expectation, last: &Option<Reply>) -> bool
+    ensures { result ≡ is_met_by expected.now last.now }
+{
     match last {
         Some(reply) => expected.is_met(reply),
         None => false,

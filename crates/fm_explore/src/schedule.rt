@@ -1,17 +1,7 @@
 //! The order of a run, and which one comes next.
 
+use fm_choice::Choice;
 use std::alloc::{AllocError, Global};
-
-/// A choice that was made of those that could go on.
-#[derive(Clone, Copy, Debug, PartialEq, Eq)]
-pub(crate) struct Choice {
-    /// The client that was taken.
-    pub(crate) client: usize,
-    /// Its place among those that could be.
-    pub(crate) taken: usize,
-    /// How many could be, within the bound.
-    pub(crate) options: usize,
-}
 
 /// What picks one of those that can go on.
 #[derive(Drop)]
@@ -45,8 +35,10 @@ impl Chooser {
 /// The order of a run.
 #[derive(Drop)]
 pub(crate) struct Schedule {
-    /// Its choices.
+    /// Its choices: how many clients could go on, within the bound, and which of these was taken.
     pub(crate) choices: Vec<Choice>,
+    /// The client that was taken at each.
+    pub(crate) clients: Vec<usize>,
     /// How often a client was left that could go on.
     pub(crate) preemptions: u32,
     /// How often another client went on than before.
@@ -58,6 +50,7 @@ impl Schedule {
     pub(crate) fn new(alloc: Global) -> Schedule {
         Schedule {
             choices: Vec::new(alloc),
+            clients: Vec::new(alloc),
             preemptions: 0,
             switches: 0,
         }
@@ -65,32 +58,18 @@ impl Schedule {
 
     /// The client that went on last.
     pub(crate) fn last(&self) -> Option<usize> {
-        match self.choices.as_slice() {
-            [.., last] => Some(last.client),
-            [] => None,
-        }
+        self.clients.as_slice().last().copied()
     }
 
-    /// The path to the next schedule of a search by depth. None if this was the last one. Fails if memory is refused.
-    pub(crate) fn next_path(&self, alloc: Global) -> Result<Option<Vec<usize>>, AllocError> {
-        let mut path = Vec::new(alloc);
-        let Some(open) = self.last_open() else {
-            return Ok(None);
-        };
-        for (place, choice) in self.choices.iter().enumerate() {
-            if place >= open {
-                path.push(choice.taken.saturating_add(1))?;
-                return Ok(Some(path));
-            }
-            path.push(choice.taken)?;
-        }
-        Ok(None)
-    }
-
-    // The place of the last choice that has an option which wasn't tried.
-    fn last_open(&self) -> Option<usize> {
-        self.choices
-            .iter()
-            .rposition(|choice| choice.taken.saturating_add(1) < choice.options)
+    /// Notes a choice of so many clients. Fails if memory is refused.
+    pub(crate) fn note(
+        &mut self,
+        client: usize,
+        taken: usize,
+        options: usize,
+    ) -> Result<(), AllocError> {
+        self.choices.push(Choice { options, taken })?;
+        self.clients.push(client)?;
+        Ok(())
     }
 }

@@ -1,18 +1,31 @@
 //! All orders of a scenario.
 
+ghost use Rattle.std.specs.Prelude.{◌≡◌, IfOk};
+ghost use Rattle.fm_explore.specs.Verdicts.{search_status, stopped_by, with_found};
+
 use crate::found::{BestSchedule, Found, FoundKind, RunFinding};
 use crate::run::{End, ScheduleRun};
 use crate::scenario::ClientScenario;
 use crate::schedule::{Chooser, Schedule};
+use crate::verdict::Verdict;
+use fm_choice::next_path;
 use fm_filter::Minifilter;
 use fm_types::{Name, Status};
 use std::alloc::Global;
+
+/// The exit status if nothing was tested.
+pub(crate) const UNTESTED: u8 = 1;
+
+/// The exit status of a search that isn't whole.
+pub(crate) const PARTIAL: u8 = 4;
 
 /// What a search came to.
 #[derive(Drop)]
 pub(crate) struct Search {
     /// What was found, in the order of its first schedules.
     pub(crate) found: Vec<Found>,
+    /// What that comes to.
+    pub(crate) verdict: Verdict,
     /// How many schedules were run.
     pub(crate) schedules: u64,
     /// How many steps the longest has.
@@ -36,6 +49,38 @@ pub(crate) enum Stopped {
     Dropped,
 }
 
+/// Why a search isn't whole after a run that ended so and of which so much wasn't kept.
+pub(crate) fn stopped_by(before: Option<Stopped>, end: End, dropped: u64) -> Option<Stopped>
+    ensures { result ≡ stopped_by before end dropped }
+{
+    match end {
+        End::Strayed => Some(Stopped::Strayed),
+        _ if dropped > 0 => Some(Stopped::Dropped),
+        End::Endless => Some(Stopped::Endless),
+        End::Over => before,
+    }
+}
+
+/// The exit status by what was found, by why not all was run, and by whether something was tested: 1 if nothing could be set up; else 5 if something is wrong, else 6 if
+/// a client was stuck; else 4 if it isn't whole; else 1 if nothing was tested; else 0.
+pub(crate) fn exit_status(verdict: Verdict, stopped: Option<Stopped>, is_tested: bool) -> u8
+    ensures { result ≡ search_status verdict stopped is_tested }
+{
+    if let Some(Stopped::SetUp(_)) = stopped {
+        return UNTESTED;
+    }
+    let found = verdict.status();
+    if found != 0 {
+        found
+    } else if stopped.is_some() {
+        PARTIAL
+    } else if !is_tested {
+        UNTESTED
+    } else {
+        0
+    }
+}
+
 impl Search {
     /// Runs a scenario in every order with at most so many preemptions, each over filters that are made for it. Refused with 1, if memory is refused, or with what
     /// the filters are refused.
@@ -52,6 +97,7 @@ impl Search {
     {
         let mut search = Search {
             found: Vec::new(alloc),
+            verdict: Verdict::new(),
             schedules: 0,
             longest: 0,
             is_tested: scenario.expects(),
@@ -94,30 +140,38 @@ impl Search {
             return Ok(None);
         }
         let end = run.play()?;
-        match end {
-            End::Over => {}
-            End::Endless => self.stopped = Some(Stopped::Endless),
-            End::Strayed => {
-                self.stopped = Some(Stopped::Strayed);
-                return Ok(None);
-            }
-        }
-        if run.dropped() > 0 {
-            self.stopped = Some(Stopped::Dropped);
+        self.stopped = stopped_by(self.stopped, end, run.dropped());
+        if end == End::Strayed {
+            return Ok(None);
         }
         run.finish()?;
         self.is_tested = self.is_tested || run.is_heard();
         self.schedules = self.schedules.saturating_add(1);
         self.longest = self.longest.max(run.schedule.choices.len());
+        self.note_run(alloc, scenario, run)?;
+        let next = next_path(alloc, run.schedule.choices.as_slice())?;
+        Ok(next)
+    }
+
+    // Notes what a run found, and what that comes to.
+    fn note_run<F: Minifilter>(
+        &mut self,
+        alloc: Global,
+        scenario: &ClientScenario,
+        run: &mut ScheduleRun<'_, F>,
+    ) -> Result<(), Status>
+        ensures verdict { IfOk result (λ done. self.new.verdict ≡ with_found self.old.verdict run.old.found.items) }
+    {
+        let verdict = self.verdict.with_found(run.found.as_slice());
         let names = scenario.names(alloc)?;
         for finding in take_found(alloc, run) {
             self.count(alloc, finding, &run.schedule, names.as_slice())?;
         }
-        let next = run.schedule.next_path(alloc)?;
-        Ok(next)
+        self.verdict = verdict;
+        Ok(())
     }
 
-    // Counts a finding, and keeps the schedule that is best to look at.
+    // Counts a finding once a schedule, and keeps the schedule that is best to look at.
     fn count(
         &mut self,
         alloc: Global,
@@ -127,6 +181,10 @@ impl Search {
     ) -> Result<(), Status> {
         for found in &mut self.found {
             if found.is_same(&finding) {
+                if found.last == self.schedules {
+                    return Ok(());
+                }
+                found.last = self.schedules;
                 found.count = found.count.saturating_add(1);
                 if found.best.is_behind(schedule) {
                     found.best = BestSchedule::of(alloc, schedule, names)?;
@@ -138,6 +196,7 @@ impl Search {
         self.found.push(Found {
             finding,
             count: 1,
+            last: self.schedules,
             best,
         })?;
         Ok(())

@@ -12,6 +12,6 @@ fn main(rt: HostRuntime) -> io::Result<ExitCode> {
     if show_usage(&rt, "own_trial", &mut out)? {
         return Ok(ExitCode::SUCCESS);
     }
-    let status = trial(&rt, rt.stdin(), |alloc| filters(alloc), &mut out)?;
-    Ok(ExitCode::from(status))
+    let ran = trial(&rt, rt.stdin(), |alloc| filters(alloc), &mut out)?;
+    Ok(ExitCode::from(ran.status()))
 }

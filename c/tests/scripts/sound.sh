@@ -1,0 +1,85 @@
+#!/usr/bin/env bash
+# c/tests/scripts/sound.sh [COUNT [FIRST]] : nothing is lost by what the default search leaves out. It has the ends of --whole, each of them and no other:
+#   - for each scenario of c/tests and c/samples, at a bound at which --whole ends soon;
+#   - for COUNT random scenarios from number FIRST on, 48 from 1 on without the words (c/tests/sound/draw.py).
+set -u
+case ${1:-} in -h | --help) sed -n '2,/^[^#]/s/^#\( \|$\)//p' "$0"; exit ;; esac
+COUNT=${1:-48}
+FIRST=${2:-1}
+. "$(dirname "$0")/tally.sh" sound
+sound=$tests/sound
+
+# ends WORD..: what a search finds, each end in a line, without the numbers in which two of the same differ. It has to come to its end.
+ends() {
+    rm -f "$room/learned"
+    "$program" "$@" --learn "$room/learned" "$room/scenario" > "$room/out" 2>&1 && awk -v RS= '{ gsub(/\n/, "|"); gsub(/operation [0-9]+/, "operation N"); print }' "$room/learned" | sort -u || { cat "$room/out"; false; }
+}
+# compared 'PROGRAM BOUND SCENARIO DRIVER': both searches find the same, and something.
+compared() {
+    local program bound scenario name words
+    read -r program bound scenario name <<< "$1"
+    program=$built/$program
+    sed "s/DRIVER/$name/" "$scenario" > "$room/scenario"
+    read -r -a words <<< "--bound $bound $(sed -n 's/^# words: //p' "$scenario" | sed 's/--fail-each/--fails 1/' | grep -oE -e '--(workers|late|fails) [0-9]+|--inline|--coarse' | tr '\n' ' ')"
+    ends "${words[@]}" --whole > "$room/whole" && ends "${words[@]}" > "$room/found" && [ -s "$room/whole" ] && diff "$room/whole" "$room/found"
+    tell $? "$name by $scenario"
+}
+drawn() {
+    local begin=$1 count=$((COUNT / PARTS))
+    "$sound/draw.py" "$built/drawn" $((FIRST + begin * count)) $count > "$room/drawn" && grep -q ' comparisons, [1-9]' "$room/drawn" || { cat "$room/drawn"; false; }
+    tell $? "random scenarios from $((FIRST + begin * count)) on"
+}
+
+# A scenario's driver, by its first load.
+driver_of() {
+    sed -n 's/^\(.*: \)\?load \([a-z]*\).*/\2/p' "$1" | head -n 1
+}
+of_schedules=()
+for scenario in "$tests"/scenarios/*.txt; do
+    name=$(driver_of "$scenario")
+    [ -f "$tests/misuse/schedules/$name.c" ] || continue
+    case $name in
+        byclock | unknownwait) ;; # no search of them ends as the other does: they end as a limit
+        barriers | teardowns) of_schedules+=("schedules 1 $scenario $name") ;;
+        *) of_schedules+=("schedules 3 $scenario $name") ;;
+    esac
+done
+others=()
+for driver in c/samples/*.c; do
+    others+=("samples 1 $tests/scenarios/four-clients.txt $(basename "$driver" .c)")
+done
+for scenario in "$tests"/scenarios/programs/*.txt; do
+    case $scenario in *-load.txt | *-refusals.txt) ;; *) others+=("samples 1 $scenario $(basename "$scenario" .txt)") ;; esac
+done
+for scenario in "$tests"/legal/*.scenario "$tests"/misuse/*.scenario; do
+    others+=("$(basename "$(dirname "$scenario")") 1 $scenario $(basename "$scenario" .scenario)")
+done
+users=(--user)
+for user in c/samples/user/*.c; do
+    users+=("$user" --user)
+done
+unset 'users[-1]'
+build "drivers of schedules" --explore "$room/schedules" "$tests"/misuse/schedules/*.c
+build "samples" --explore "$room/samples" c/samples/*.c "${users[@]}"
+build "right drivers" --explore "$room/legal" "$tests"/legal/*.c
+build "wrong drivers" --explore "$room/misuse" "$tests"/misuse/{access,freed,gone,irql,kept,made,past,strings}.c
+build "drivers that are drawn for" --explore "$room/drawn" "$sound/drawn.c" "$sound/portbusy.c" --user "$sound/program.c"
+rows compared "drawn 2 $sound/portbusy.txt portbusy" "${of_schedules[@]}" "${others[@]}"
+
+# A port's callback that is over, and another that begins: what is found is what portbusy.txt says.
+"$room/drawn" --bound 2 "$sound/portbusy.txt" > "$room/out"
+[ $? = 5 ] && grep -q "^    $(finds_of "$sound/portbusy.txt")" "$room/out"
+tell $? "an unload that goes on between two callbacks of a port"
+
+# Of the scenarios in which a waiter is stopped again no mistake is lost without a bound either.
+unbound() {
+    local program=$built/schedules
+    "$program" --bound all "$tests/scenarios/$1.txt" > "$room/out"
+    [ $? = 5 ] && grep -q "^    $(finds_of "$tests/scenarios/$1.txt")" "$room/out"
+    tell $? "$1 without a bound"
+}
+rows unbound starves setandcleared setandtaken
+PARTS=$((COUNT < 8 ? 1 : 8))
+mapfile -t parts < <(seq 0 $((PARTS - 1)))
+rows drawn "${parts[@]}"
+finish

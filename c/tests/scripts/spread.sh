@@ -98,24 +98,38 @@ if [ -c /dev/full ]; then
     tell $? "standard output that can't be written"
 fi
 
-# A part that is killed is told, and Ctrl-C stops the others: what was found is shown, and that it isn't whole.
+# A part that is killed is told, and Ctrl-C stops the others: what was found is shown, and that it isn't whole. Each is given work by its processor's time, whatever else the machine does.
 build kitfreed --explore "$room/kitfreed" "$schedules/kitfreed.c"
-"$room/kitfreed" --bound 9 --jobs 2 "$scenarios/kitfreed.txt" > "$room/out" 2>&1 &
+long=(--whole --bound 9 "$scenarios/kitfreed.txt")
+# worked PROCESS: it has used a second of a processor. False if it has ended.
+worked() {
+    local used=0
+    while [ "$used" -lt "$(getconf CLK_TCK)" ]; do
+        used=$(sed 's/.*) //' "/proc/$1/stat" 2> /dev/null | cut -d ' ' -f 12)
+        [ -n "$used" ] || return 1
+    done
+}
+"$room/kitfreed" --jobs 2 "${long[@]}" > "$room/out" 2>&1 &
 search=$!
-for _ in $(seq 100); do
-    parts=$(cat "/proc/$search/task/$search/children")
-    [ "$(wc -w <<< "$parts")" != 2 ] || break
-    sleep 0.2
+parts=
+until [ "$(wc -w <<< "$parts")" = 2 ]; do
+    parts=$(cat "/proc/$search/task/$search/children") || break
 done
-sleep 2
+worked "${parts%% *}"
 kill -KILL "${parts%% *}"
+read -r _ second <<< "$parts"
+worked "${second% }"
 kill -INT $search
 wait $search
 [ $? = 5 ] && grep -q '^part 0/2 was ended by signal 9: what it found is lost$' "$room/out" && grep -q "^part 0/2 isn't there$" "$room/out" && grep -q "part 1/2 isn't whole$" "$room/out" &&
     grep -q '^    USE AFTER FREE' "$room/out" && ! grep -q '^0 schedules' "$room/out"
 tell $? "a part that is killed, and Ctrl-C"
-timeout --foreground -s INT 2 "$room/kitfreed" --whole --bound 9 "$scenarios/kitfreed.txt" > "$room/out" 2>&1
-[ $? = 124 ] && grep -q "^interrupted: the search isn't whole" "$room/out" && grep -q '^    USE AFTER FREE' "$room/out" && ! grep -q '^0 schedules' "$room/out"
+"$room/kitfreed" "${long[@]}" > "$room/out" 2>&1 &
+search=$!
+worked $search
+kill -INT $search
+wait $search
+[ $? = 5 ] && grep -q "^interrupted: the search isn't whole" "$room/out" && grep -q '^    USE AFTER FREE' "$room/out" && ! grep -q '^0 schedules' "$room/out"
 tell $? "Ctrl-C"
 
 # GNU parallel, by the line of docs/EXPLORE.md.

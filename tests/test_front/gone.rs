@@ -1,7 +1,7 @@
 //! A create whose client is gone before a filter lets it go: the handle that it opens is closed by whoever takes its answer. That is seen by another client, who
 //! marks the file for deletion: it goes with its last handle.
 
-use crate::peer::{Step, exchange, follow, is_done, send, taken};
+use crate::peer::{Step, exchange, follow, is_done, send, take_places, taken};
 use crate::server::{Filters, goes_well};
 use fm_cli::Front;
 use std::alloc::Global;
@@ -9,9 +9,6 @@ use std::net::{Net, TcpListener, TcpStream};
 use std::os::unix::net::UnixStream;
 use std::thread;
 use std::time::{Clock, Duration};
-
-/// How many milliseconds the server has to see that a client is gone, and to end its connection. Where it takes longer, its answer is taken in another way.
-const REST: u64 = 500;
 
 /// How often something is looked for, ten milliseconds apart.
 const ASKS: usize = 1_000;
@@ -38,16 +35,21 @@ fn word(alloc: Global, number: u64) -> Option<String> {
     format!(in alloc; "{}", number).ok()
 }
 
-// A client asks for a new file of that name, and is gone.
-fn leave_create<R>(rt: &R, alloc: Global, at: &Front, name: &str) -> Option<()>
+// A client asks for a new file of that name, and is gone. The others that come then take every place, so the server has seen it.
+fn leave_create<R>(
+    rt: &R,
+    alloc: Global,
+    at: &Front,
+    name: &str,
+    streams: &mut Vec<UnixStream>,
+) -> Option<()>
 where
     R: Net<Listener = TcpListener, Stream = TcpStream> + Clock,
 {
     let stream = taken(rt, alloc, at)?;
     send(alloc, &stream, &["create", "0", "new", name])?;
     drop(stream);
-    thread::sleep(rt, Duration::from_millis(REST));
-    Some(())
+    take_places(rt, alloc, at, streams)
 }
 
 // Whether the file of that name is there. Its name is one letter.
@@ -121,7 +123,8 @@ where
     let mut streams = Vec::new(alloc);
     streams.push(taken(rt, alloc, at)?).ok()?;
     let is_begun = follow(alloc, streams.as_slice(), &FLUSHED);
-    leave_create(rt, alloc, at, "x")?;
+    leave_create(rt, alloc, at, "x", &mut streams)?;
+    streams.truncate(1);
     let stream = streams.first()?;
     Some(
         is_begun
@@ -139,7 +142,7 @@ where
     let mut streams = Vec::new(alloc);
     streams.push(taken(rt, alloc, at)?).ok()?;
     let is_begun = follow(alloc, streams.as_slice(), &FLUSHED);
-    leave_create(rt, alloc, at, "x")?;
+    leave_create(rt, alloc, at, "x", &mut streams)?;
     let stream = streams.first()?;
     exchange(alloc, stream, &["detach", "0"])?;
     Some(
@@ -149,8 +152,8 @@ where
     )
 }
 
-// The end of another connection lets it go, as its first handle is closed, and takes its answer, as a later one is closed. On a machine that is slow the answer may
-// come too late for that, so there are many handles, and there is more than one try.
+// The end of another connection lets it go, as its first handle is closed, and takes its answer after the last: each cleanup goes on once the create has come back.
+// The answer may still be on its way for a moment, so there is more than one try.
 fn cleaned_up<R>(rt: &R, alloc: Global, at: &Front) -> Option<bool>
 where
     R: Net<Listener = TcpListener, Stream = TcpStream> + Clock,
@@ -158,18 +161,20 @@ where
     let mut streams = Vec::new(alloc);
     streams.push(taken(rt, alloc, at)?).ok()?;
     let is_begun = follow(alloc, streams.as_slice(), &CLEANED_UP);
-    let stream = streams.first()?;
     for name in NAMES {
         let other = taken(rt, alloc, at)?;
         for file in FILES {
             exchange(alloc, &other, &["create", "0", "always", file])?;
         }
-        leave_create(rt, alloc, at, name)?;
-        drop(other);
-        thread::sleep(rt, Duration::from_millis(REST));
+        streams.push(other).ok()?;
+        leave_create(rt, alloc, at, name, &mut streams)?;
+        streams.swap_remove(1);
+        take_places(rt, alloc, at, &mut streams)?;
+        let stream = streams.first()?;
         if delete(rt, alloc, stream, name, &["list", "0"])? && !is_there(alloc, stream, name)? {
             return Some(is_begun);
         }
+        streams.truncate(1);
         goes_with_others(rt, alloc, at, name)?;
     }
     Some(false)

@@ -1,10 +1,9 @@
 //! As many reads as may be there of clients that are gone, by the number. One client stays, and hears by its own connection alone what has become of them: at the
 //! end of another one the server would look at them too.
 
-use crate::peer::{Step, exchange, follow, is_done, send, taken};
+use crate::peer::{Step, exchange, follow, is_done, send, take_places, taken};
 use crate::server::{Filters, goes_well};
 use fm_cli::Front;
-use fm_types::limits::CONNECTIONS;
 use std::alloc::Global;
 use std::net::{Net, TcpListener, TcpStream};
 use std::os::unix::net::UnixStream;
@@ -52,17 +51,6 @@ fn hears<R: Clock>(rt: &R, alloc: Global, stream: &UnixStream, status: u8) -> Op
         thread::sleep(rt, Duration::from_millis(10));
     }
     Some(false)
-}
-
-// Takes every place that is left: by then the threads of all clients that are gone have come to their ends.
-fn take_places<R>(rt: &R, alloc: Global, at: &Front, streams: &mut Vec<UnixStream>) -> Option<()>
-where
-    R: Net<Listener = TcpListener, Stream = TcpStream> + Clock,
-{
-    for _ in 1..CONNECTIONS {
-        streams.push(taken(rt, alloc, at)?).ok()?;
-    }
-    Some(())
 }
 
 // Once 192 are there a listing is refused, and a close isn't. A flush lets them go, and then a listing isn't refused any more.

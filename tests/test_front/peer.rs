@@ -2,6 +2,7 @@
 
 use crate::lines::LOOKS;
 use fm_cli::{Front, request_of};
+use fm_types::limits::CONNECTIONS;
 use fm_wire::encode;
 use std::alloc::Global;
 use std::io::{Read, Write};
@@ -62,6 +63,17 @@ where
         thread::sleep(rt, Duration::from_millis(1));
     }
     None
+}
+
+/// Takes every place that is left: by then the threads of all clients that are gone have come to their ends.
+pub fn take_places<R>(rt: &R, alloc: Global, at: &Front, streams: &mut Vec<UnixStream>) -> Option<()>
+where
+    R: Net<Listener = TcpListener, Stream = TcpStream> + Clock,
+{
+    for _ in streams.len()..CONNECTIONS {
+        streams.push(taken(rt, alloc, at)?).ok()?;
+    }
+    Some(())
 }
 
 /// Whether a request is done, and its reply says no more.

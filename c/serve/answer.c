@@ -103,6 +103,8 @@ void answer_begin(Link *links, size_t count)
 {
     all = links;
     all_count = count;
+    for (size_t at = 0; at < kz.volumes_count; at++)
+        kz.volumes[at]->makes_folders = true; /* as frames have it: the folder itself says what it lacks */
     kz_set_sink(take_reply);
 }
 

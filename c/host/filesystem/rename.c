@@ -146,14 +146,24 @@ static bool has_file_above(PFLT_VOLUME volume, const char *text)
     return has_file;
 }
 
-/* A folder of the machine is asked as the name is made in it. */
+/* Whether a folder of the machine has no such folder. What is neither a file nor a folder it refuses itself. */
+static bool is_lacking(PFLT_VOLUME volume, const char *above)
+{
+    KzFound found;
+    kz_look_in_folder(volume->id, above, &found);
+    return !found.is_other && !(found.is_there && found.is_directory);
+}
+
+/* Where folders are made a folder of the machine is asked as the name is made in it. */
 NTSTATUS kz_check_above(PFLT_VOLUME volume, const char *text, bool makes)
 {
     char above[256];
     const char *slash = strrchr(text, '/');
-    if (!slash || !is_over_memory(volume))
+    if (!slash)
         return STATUS_SUCCESS;
     snprintf(above, sizeof above, "%.*s", (int)(slash - text), text);
+    if (!is_over_memory(volume))
+        return !volume->makes_folders && is_lacking(volume, above) ? STATUS_OBJECT_PATH_NOT_FOUND : STATUS_SUCCESS;
     const KzName *folder = kz_find_name(volume, above);
     if (folder && folder->file->exists && folder->file->is_directory)
         return folder->file->marked ? STATUS_DELETE_PENDING : STATUS_SUCCESS;

@@ -87,10 +87,8 @@ bool kz_set_volume(PFLT_VOLUME volume, const char *word)
         return volume->is_read_only = true;
     if (strcmp(word, "snapshot") == 0)
         return volume->is_snapshot = true;
-    if (strcmp(word, "nofolders") == 0) {
-        volume->makes_folders = false;
-        return true;
-    }
+    if (strcmp(word, "makesfolders") == 0)
+        return volume->makes_folders = true;
     if (strcmp(word, "case") == 0)
         return volume->is_case_sensitive = true;
     if (strcmp(word, "removable") == 0) {
@@ -105,7 +103,6 @@ void kz_new_volume(PFLT_VOLUME volume)
 {
     volume->type = FLT_FSTYPE_NTFS;
     volume->sector = 512;
-    volume->makes_folders = true;
     volume->device = (DEVICE_OBJECT){.Type = 3, .Size = sizeof(DEVICE_OBJECT), .DeviceType = FILE_DEVICE_DISK_FILE_SYSTEM};
     volume->disk = (DEVICE_OBJECT){.Type = 3, .Size = sizeof(DEVICE_OBJECT), .DeviceType = FILE_DEVICE_DISK, .SectorSize = 512};
 }

@@ -235,7 +235,7 @@ def session(seed):
     """The lines of a session, and what each is to be answered; None where nothing is looked at."""
     draw = random.Random(seed)
     model = Model(seed % 2 == 1)
-    lines = ["load passthrough", "load ctx", "attach passthrough 0 top 200", "attach ctx 0 low 100"] + ["volume 0 nofolders"] * (seed % 2 == 0)
+    lines = ["load passthrough", "load ctx", "attach passthrough 0 top 200", "attach ctx 0 low 100"] + ["volume 0 makesfolders"] * (seed % 2 == 1)
     wanted = [None] * len(lines)
 
     def ask(line, answer):

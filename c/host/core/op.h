@@ -27,6 +27,18 @@ struct KzOpaque {
     bool is_misled; /* a filter put another name into its buffer */
 };
 
+/* A write at the end of its file, wherever that is once it comes there: the manager has this offset for it, the last at which the largest file takes any bytes, and filters see
+ * FILE_WRITE_TO_END_OF_FILE. No other write may be there. */
+#define KZ_AT_END (((uint64_t)1 << 40) - KZ_BYTES)
+static inline uint64_t kz_offset_of(LONGLONG said)
+{
+    return said == -1 ? KZ_AT_END : (uint64_t)said == KZ_AT_END ? UINT64_MAX : (uint64_t)said;
+}
+static inline LONGLONG kz_shown_offset(uint64_t offset)
+{
+    return offset == KZ_AT_END ? -1 : (LONGLONG)offset;
+}
+
 /* What is asked for. */
 struct KzAsked {
     UCHAR major, minor, flags;

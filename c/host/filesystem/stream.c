@@ -152,6 +152,14 @@ KzFolderAnswer kz_call_stream(KzFile *file, const KazdrinData *call, const uint8
     return name ? call_memory(name, call, bytes, room) : (KzFolderAnswer){.status = KZS_FILE_NOT_FOUND};
 }
 
+uint64_t kz_size_of(const KzFile *file)
+{
+    if (!file->name)
+        return 0;
+    kz_is_there(file->name);
+    return file->name->stream->size;
+}
+
 static void note_change(const KzFile *file, ULONG what)
 {
     KzRecord *record = file->name->file;

@@ -9,7 +9,9 @@
 #include "core/told.h"
 #include "filesystem/fileobject.h"
 #include "filesystem/handle.h"
+#include "filesystem/stream.h"
 #include "manager/below.h"
+#include "manager/disposition.h"
 #include "manager/hand.h"
 #include "manager/instance.h"
 
@@ -24,9 +26,15 @@ typedef struct {
     ULONG length, done;
 } Transfer;
 
+/* Where its next part is: each at the end, where the first one is there. */
+static uint64_t place_of(const Transfer *one)
+{
+    return one->offset == KZ_AT_END ? KZ_AT_END : one->offset + one->done;
+}
+
 static NTSTATUS read_part(Transfer *one, ULONG size)
 {
-    KazdrinEvent asked = {.event = KZE_READ, .offset = one->offset + one->done, .len = size};
+    KazdrinEvent asked = {.event = KZE_READ, .offset = place_of(one), .len = size};
     KzAnswer answer = kz_below_file(&one->own, one->file, asked, "", 0);
     NTSTATUS status = kz_status_of(answer);
     size_t there = NT_SUCCESS(status) && answer.length < size ? answer.length : size;
@@ -41,7 +49,7 @@ static NTSTATUS read_part(Transfer *one, ULONG size)
 
 static NTSTATUS write_part(Transfer *one, ULONG size)
 {
-    KazdrinEvent asked = {.event = KZE_WRITE, .offset = one->offset + one->done};
+    KazdrinEvent asked = {.event = KZE_WRITE, .offset = place_of(one)};
     NTSTATUS status = kz_status_of(kz_below_file(&one->own, one->file, asked, one->buffer + one->done, size));
     one->done += NT_SUCCESS(status) ? size : 0;
     return status;
@@ -166,10 +174,11 @@ NTSTATUS kz_transfer(const KzTransfer *asked, bool is_write)
     if (!file)
         return STATUS_INVALID_PARAMETER;
     bool keeps_offset = asked->flags & FLTFL_IO_OPERATION_DO_NOT_UPDATE_BYTE_OFFSET;
+    LONGLONG offset = (asked->offset ? asked->offset : &asked->object->CurrentByteOffset)->QuadPart;
     Transfer one = {.own = {.initiator = asked->instance, .is_waited_for = true, .irp_flags = irp_flags_of(asked->flags)},
                     .file = file,
                     .buffer = asked->buffer,
-                    .offset = (uint64_t)(asked->offset ? asked->offset : &asked->object->CurrentByteOffset)->QuadPart,
+                    .offset = is_write ? kz_offset_of(offset) : (uint64_t)offset,
                     .length = asked->length};
     if (!is_aligned(&one))
         return STATUS_INVALID_PARAMETER;
@@ -179,7 +188,7 @@ NTSTATUS kz_transfer(const KzTransfer *asked, bool is_write)
     if (asked->done)
         *asked->done = one.done;
     if (NT_SUCCESS(status) && !keeps_offset && !(one.own.irp_flags & IRP_PAGING_IO))
-        asked->object->CurrentByteOffset.QuadPart = (LONGLONG)(one.offset + one.done);
+        asked->object->CurrentByteOffset.QuadPart = (LONGLONG)(one.offset == KZ_AT_END ? kz_size_of(file) : one.offset + one.done);
     return status;
 }
 
@@ -233,6 +242,11 @@ static NTSTATUS by_handle(HANDLE handle, PIO_STATUS_BLOCK status, PVOID buffer, 
         return STATUS_INVALID_HANDLE;
     ULONG done = 0;
     bool is_current = !offset || (offset->HighPart == -1 && offset->LowPart == FILE_USE_FILE_POINTER_POSITION);
+    LARGE_INTEGER end = {.QuadPart = -1};
+    if (is_write && kz_offset_by(file, 0) == KZ_AT_END) {
+        offset = &end;
+        is_current = false;
+    }
     *status = (IO_STATUS_BLOCK){.Status = kz_transfer(&(KzTransfer){NULL, &file->object, is_current ? NULL : offset, length, buffer, 0, &done, NULL, NULL, call, NULL}, is_write)};
     status->Information = done;
     return status->Status;

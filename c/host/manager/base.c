@@ -160,6 +160,8 @@ bool kz_call_base(KzOp *op)
         return call_opaque(op);
     note_uses(op);
     kazdrin_lent(&kz.manager, &(KazdrinEvent){.worker = worker}, &call, &none, 0);
+    if (call.operation == KZE_WRITE && call.offset == KZ_AT_END)
+        call.offset = kz_size_of(op->file);
     bool cuts = call.operation == KZE_SET_SIZE && op->file->name;
     if (cuts && kz_is_mapped(op, op->file->name->stream, call.offset))
         answer(op, STATUS_USER_MAPPED_FILE, NULL, 0);

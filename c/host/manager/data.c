@@ -84,7 +84,7 @@ static void show_parameters(KzOp *op, FLT_PARAMETERS *shown)
         op->shown.asked_length = op->lent.length;
         own(op, op->shown.asked);
         shown->Write.Length = (ULONG)op->shown.asked_length;
-        shown->Write.ByteOffset.QuadPart = (LONGLONG)op->lent.offset;
+        shown->Write.ByteOffset.QuadPart = kz_shown_offset(op->lent.offset);
         shown->Write.WriteBuffer = op->shown.asked;
         shown->Write.MdlAddress = kz_description_of(op, op->shown.asked, op->shown.asked_length);
         break;
@@ -188,7 +188,7 @@ static bool changed(KzOp *op, KazdrinEvent *event, const uint8_t **bytes, size_t
     case KZE_WRITE:
         *bytes = written(op);
         *length = kz_there(*bytes, now->Write.Length, "WriteBuffer");
-        event->offset = (uint64_t)now->Write.ByteOffset.QuadPart;
+        event->offset = kz_offset_of(now->Write.ByteOffset.QuadPart);
         return true;
     case KZE_SET_SIZE:
         event->offset = (uint64_t)((PFILE_END_OF_FILE_INFORMATION)now->SetFileInformation.InfoBuffer)->EndOfFile.QuadPart;

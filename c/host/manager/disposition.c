@@ -54,6 +54,7 @@ NTSTATUS kz_check_create(const KzCreate *create)
     bool is_wrong = disposition > FILE_MAXIMUM_DISPOSITION || create->share & ~(ULONG)FILE_SHARE_VALID_FLAGS || create->attributes & ~(ULONG)FILE_ATTRIBUTE_VALID_FLAGS;
     is_wrong |= (options & SYNCHRONOUS) == SYNCHRONOUS || (options & SYNCHRONOUS && !(create->access & SYNCHRONIZE));
     is_wrong |= options & FILE_DELETE_ON_CLOSE && !(create->access & DELETE);
+    is_wrong |= options & FILE_COMPLETE_IF_OPLOCKED && options & FILE_RESERVE_OPFILTER;
     is_wrong |= options & FILE_NO_INTERMEDIATE_BUFFERING && create->access & FILE_APPEND_DATA;
     is_wrong |= !is_right_directory(options, disposition);
     return is_wrong ? STATUS_INVALID_PARAMETER : STATUS_SUCCESS;
@@ -133,7 +134,7 @@ static const Needs needs[] = {
     {IRP_MJ_DIRECTORY_CONTROL, ANY_CLASS, FILE_LIST_DIRECTORY},
     {IRP_MJ_QUERY_EA, ANY_CLASS, FILE_READ_EA},
     {IRP_MJ_SET_EA, ANY_CLASS, FILE_WRITE_EA},
-    {IRP_MJ_QUERY_SECURITY, ANY_CLASS, READ_CONTROL},
+    {IRP_MJ_SET_VOLUME_INFORMATION, ANY_CLASS, FILE_WRITE_DATA},
     {IRP_MJ_LOCK_CONTROL, ANY_CLASS, FILE_READ_DATA | FILE_WRITE_DATA},
 };
 
@@ -143,10 +144,26 @@ static ACCESS_MASK needed_by_code(ULONG code)
     return (code >> 14 & FILE_READ_ACCESS ? FILE_READ_DATA : 0) | (code >> 14 & FILE_WRITE_ACCESS ? FILE_WRITE_DATA : 0);
 }
 
+/* A descriptor by its parts. */
+static ACCESS_MASK needed_by_parts(ULONG parts, bool is_set)
+{
+    ACCESS_MASK owner = is_set ? WRITE_OWNER : READ_CONTROL, list = is_set ? WRITE_DAC : READ_CONTROL;
+    return (parts & (OWNER_SECURITY_INFORMATION | GROUP_SECURITY_INFORMATION | LABEL_SECURITY_INFORMATION) ? owner : 0) | (parts & DACL_SECURITY_INFORMATION ? list : 0) |
+           (parts & SACL_SECURITY_INFORMATION ? ACCESS_SYSTEM_SECURITY : 0);
+}
+
+/* What a handle needs all of; else one bit is enough. */
+static bool needs_all(const KzAsked *opaque)
+{
+    return opaque && (opaque->major == IRP_MJ_FILE_SYSTEM_CONTROL || opaque->major == IRP_MJ_QUERY_SECURITY || opaque->major == IRP_MJ_SET_SECURITY);
+}
+
 static ACCESS_MASK needed_by(const KzAsked *opaque)
 {
     if (opaque->major == IRP_MJ_FILE_SYSTEM_CONTROL)
         return needed_by_code(opaque->code);
+    if (needs_all(opaque))
+        return needed_by_parts(opaque->code, opaque->major == IRP_MJ_SET_SECURITY);
     for (size_t at = 0; at < sizeof needs / sizeof needs[0]; at++)
         if (needs[at].major == opaque->major && (needs[at].class == ANY_CLASS || needs[at].class == opaque->code))
             return needs[at].any;
@@ -168,9 +185,13 @@ static ACCESS_MASK needed_for(uint8_t event)
     }
 }
 
+uint64_t kz_offset_by(const KzFile *file, LONGLONG said)
+{
+    return (file->access & (FILE_WRITE_DATA | FILE_APPEND_DATA)) == FILE_APPEND_DATA ? KZ_AT_END : kz_offset_of(said);
+}
+
 bool kz_is_granted(const KzFile *file, const KazdrinEvent *asked, const KzAsked *opaque)
 {
     ACCESS_MASK needed = opaque ? needed_by(opaque) : needed_for(asked->event);
-    bool needs_all = opaque && opaque->major == IRP_MJ_FILE_SYSTEM_CONTROL;
-    return !needed || (needs_all ? (file->access & needed) == needed : (file->access & needed) != 0);
+    return !needed || (needs_all(opaque) ? (file->access & needed) == needed : (file->access & needed) != 0);
 }

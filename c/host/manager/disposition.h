@@ -21,6 +21,8 @@ void kz_show_tag(KzOp *op);
 /* What the callback left in them; false if it is nothing that a create may ask for. */
 bool kz_take_create(KzOp *op);
 /* Whether a handle with that access lets its user make the operation. */
+/* Where a write by that handle is: one that may append and not write has all at the end. */
+uint64_t kz_offset_by(const KzFile *file, LONGLONG said);
 bool kz_is_granted(const KzFile *file, const KazdrinEvent *asked, const KzAsked *opaque);
 
 #endif

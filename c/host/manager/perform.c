@@ -298,12 +298,6 @@ static bool is_unaligned(const KzFile *file, const KzBegin *asked)
     return is_data && file->object.Flags & FO_NO_INTERMEDIATE_BUFFERING && (asked->event.offset % file->volume->sector || length % file->volume->sector);
 }
 
-/* By a handle that may append and not write, each write is at the end. */
-static bool appends(const KzFile *file, const KazdrinEvent *asked)
-{
-    return asked->event == KZE_WRITE && file->name && (file->access & (FILE_WRITE_DATA | FILE_APPEND_DATA)) == FILE_APPEND_DATA;
-}
-
 /* A create takes its name among those of the volume, and each looks whether the file is open still. */
 static void note_begun(const KzOp *op)
 {
@@ -322,10 +316,10 @@ static KzAnswer begin(const KzBegin *begun)
         return refused(KZS_NO_HANDLE);
     if (file && !kz_is_granted(file, &asked.event, asked.opaque)) /* the system refuses it, before any filter hears of it */
         return refused(KZS_ACCESS_DENIED);
-    if (file && is_unaligned(file, &asked)) /* this too */
+    if (file && asked.event.event == KZE_WRITE)
+        asked.event.offset = kz_offset_by(file, (LONGLONG)asked.event.offset);
+    if (file && is_unaligned(file, &asked)) /* the system refuses this too */
         return kz_refused(STATUS_INVALID_PARAMETER);
-    if (file && appends(file, &asked.event))
-        asked.event.offset = file->name->stream->size;
     if (!asked.create)
         asked.create = &usual;
     KzAsked renames;

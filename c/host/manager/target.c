@@ -50,7 +50,6 @@ static KzAnswer begin(void *given, KazdrinEvent asked, const char *path)
     const KzCreate create = {.access = (opening->renamed->is_directory ? FILE_ADD_SUBDIRECTORY : FILE_ADD_FILE) | SYNCHRONIZE,
                              .options = FILE_OPEN << 24 | FILE_OPEN_FOR_BACKUP_INTENT,
                              .share = FILE_SHARE_READ | FILE_SHARE_WRITE,
-                             .ignores_sharing = true,
                              .target = kz_kept_text(path)};
     const KzOwn own = {.initiator = opening->initiator, .is_waited_for = true, .create = &create};
     snprintf(above, sizeof above, "%.*s", slash ? (int)(slash - path) : 0, path);
@@ -72,12 +71,13 @@ static KzAnswer begin(void *given, KazdrinEvent asked, const char *path)
 
 static NTSTATUS open_folder(Opening *opening, const char *text)
 {
-    const KazdrinEvent event = {.event = KZE_CREATE, .volume = opening->renamed->volume->id};
+    PFLT_VOLUME volume = opening->renamed->volume;
+    const KazdrinEvent event = {.event = KZE_CREATE, .volume = volume->id};
     char above[600];
     memcpy(above, text, sizeof above);
     char *slash = strrchr(above, '/');
     *(slash ? slash : above) = '\0';
-    if (!is_folder(opening->renamed->volume, above))
+    if (volume->makes_folders && !is_folder(volume, above))
         return STATUS_SUCCESS; /* what stands above is made with the name */
     return kz_status_of(kz_follow(begin(opening, event, text), opening, begin));
 }

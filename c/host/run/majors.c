@@ -433,7 +433,7 @@ static KzReply ask_fast_write(char **words)
 {
     uint64_t handle, offset;
     size_t length;
-    if (!kz_read_handle(words[1], &handle) || !kz_read_number(words[2], UINT64_MAX, &offset) || !kz_read_hex(words[3], kz_me->bytes, &length))
+    if (!kz_read_handle(words[1], &handle) || !kz_read_place(words[2], &offset) || !kz_read_hex(words[3], kz_me->bytes, &length))
         return kz_wrong();
     return kz_perform_fast(&(KzBegin){.event = {.event = KZE_WRITE, .handle = handle, .offset = offset}, .bytes = kz_me->bytes, .length = length});
 }

@@ -38,6 +38,13 @@ bool kz_read_number(const char *word, uint64_t limit, uint64_t *number)
     return (!*at && *number < limit) || kz_refuse_word("%.40s is more than %llu", word, (unsigned long long)limit - 1);
 }
 
+bool kz_read_place(const char *word, uint64_t *place)
+{
+    bool is_end = strcmp(word, "end") == 0;
+    *place = UINT64_MAX;
+    return is_end || kz_read_number(word, UINT64_MAX, place);
+}
+
 static int digit(char letter)
 {
     const char *digits = "0123456789abcdef", *found = letter ? strchr(digits, letter) : NULL;

@@ -5,6 +5,8 @@
 #include "host.h"
 
 bool kz_read_number(const char *word, uint64_t limit, uint64_t *number);
+/* Where a write is: `end` is the end of the file. */
+bool kz_read_place(const char *word, uint64_t *place);
 bool kz_read_hex(const char *word, uint8_t *bytes, size_t *length);
 bool kz_read_filter(const char *word, uint64_t *number);
 bool kz_read_volume(const char *word, uint64_t *number);

@@ -309,7 +309,7 @@ static KzReply ask_write(char **words)
     uint8_t *bytes = kz_me->bytes;
     uint64_t handle, offset;
     size_t length;
-    if (!kz_read_handle(words[1], &handle) || !kz_read_number(words[2], UINT64_MAX, &offset) || !kz_read_hex(words[3], bytes, &length))
+    if (!kz_read_handle(words[1], &handle) || !kz_read_place(words[2], &offset) || !kz_read_hex(words[3], bytes, &length))
         return kz_wrong();
     return kz_perform((KazdrinEvent){.event = KZE_WRITE, .handle = handle, .offset = offset}, bytes, length, NULL);
 }

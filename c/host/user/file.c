@@ -7,6 +7,7 @@
 #include "filesystem/fileobject.h"
 #include "filesystem/create.h"
 #include "filesystem/sharing.h"
+#include "filesystem/stream.h"
 #include "manager/below.h"
 #include "manager/opaque.h"
 #include "manager/disposition.h"
@@ -172,7 +173,9 @@ uint32_t kz_open_path(const char *name, const KzCreate *create, KzFile **file)
 NTSTATUS kz_ask_opened(KzFile *file, const KzAsked *asked, KzAnswer *answer)
 {
     const KzOwn own = {.is_waited_for = true, .is_user = true, .opaque = asked};
-    *answer = kz_below(&own, file, kz_opaque_event(asked, (KazdrinEvent){.event = KZE_OTHER, .handle = file->handle}), "", 0);
+    *answer = (KzAnswer){.reply.status = KZS_ACCESS_DENIED, .is_refused = true};
+    if (kz_is_granted(file, &(KazdrinEvent){.event = KZE_OTHER}, asked))
+        *answer = kz_below(&own, file, kz_opaque_event(asked, (KazdrinEvent){.event = KZE_OTHER, .handle = file->handle}), "", 0);
     return kz_status_of(*answer);
 }
 
@@ -260,7 +263,8 @@ typedef struct {
 
 static uint32_t transfer_part(Transfer *one, uint32_t size)
 {
-    KazdrinEvent asked = {.event = one->is_write ? KZE_WRITE : KZE_READ, .offset = one->offset + one->done, .len = one->is_write ? 0 : size};
+    uint64_t offset = one->offset == KZ_AT_END ? KZ_AT_END : one->offset + one->done;
+    KazdrinEvent asked = {.event = one->is_write ? KZE_WRITE : KZE_READ, .offset = offset, .len = one->is_write ? 0 : size};
     KzAnswer answer = ask(one->object->file, asked, one->is_write ? one->buffer + one->done : (uint8_t *)"", one->is_write ? size : 0);
     NTSTATUS status = kz_status_of(answer);
     if (status == STATUS_END_OF_FILE && !one->is_write)
@@ -354,10 +358,12 @@ static int move(void *handle, void *buffer, uint32_t length, uint32_t *done, KzO
             kz_failed(KZ_ERROR_INVALID_HANDLE);
         } else if (object) {
             Transfer one = {object, overlapped ? overlapped->offset : object->offset, buffer, length, 0, is_write};
+            if (is_write && object->kind == KZU_FILE)
+                one.offset = kz_offset_by(object->file, (LONGLONG)one.offset);
             if (overlapped)
                 kz_begin_overlapped(object, overlapped);
             uint32_t error = object->kind == KZU_FILE ? transfer(&one) : transfer_of_device(&one);
-            object->offset = one.offset + one.done;
+            object->offset = is_write && one.offset == KZ_AT_END ? kz_size_of(object->file) : one.offset + one.done;
             if (done)
                 *done = one.done;
             if (overlapped)

@@ -9,7 +9,7 @@ import subprocess
 import sys
 
 OK, MARKED, DENIED, DEVICE, MISSING, THERE, END, INVALID = 0, 16, 17, 18, 19, 20, 31, 32
-IS_DIRECTORY, NOT_DIRECTORY, NOT_EMPTY, NO_PATH = "0xc00000ba", "0xc0000103", "0xc0000101", "0xc000003a"
+IS_DIRECTORY, NOT_DIRECTORY, NOT_EMPTY, NO_PATH, SHARING = "0xc00000ba", "0xc0000103", "0xc0000101", "0xc000003a", "0xc0000043"
 FILES = ["a", "B", "b", "c", "d/a", "d/B", "D/c", "e", "g/a"]
 FOLDERS = ["d", "D", "g", "g/h", "k"]
 SLOTS = 12
@@ -140,7 +140,11 @@ class Model:
         if folder and folder.file.is_directory:
             if folder.file.is_pending():
                 return MARKED, None, None
+            if folder.file.handles:  # each has DELETE, which the folder's opening doesn't share
+                return DEVICE, SHARING, None
             text = folder.text + "/" + text.split("/")[-1]
+        elif "/" in text and not self.makes_folders:
+            return (MARKED, None, None) if folder and folder.file.is_pending() else (DEVICE, NO_PATH, None)
         if source.is_gone or file.is_pending():
             return DENIED, None, None
         if not source.text:

@@ -36,6 +36,7 @@ struct KzClient {
     KazdrinEvent busy;     /* the event that was refused with 34; event 0 if none was */
     uint64_t busy_number;  /* how many were in its way */
     uint64_t process, thread; /* who asks */
+    bool has_pended; /* its last operation did, before it was over */
     PIRP top_level;
     int region;      /* stands for its critical region */
     uint64_t calls;  /* that its drivers' code has made */

@@ -197,6 +197,7 @@ struct KzOp {
     bool is_awaited;  /* and waits until it is let go on */
     KzOwn own;
     KzOpaque *opaque; /* NULL: it is one of the manager's own */
+    bool has_pended;    /* a filter or the file system kept it for a while */
     bool is_waiting;    /* the file system keeps it; it has a worker of its own */
     bool is_returning;  /* and that it waits is told still: nobody else carries it on before that is over */
     PECP_LIST ecps; /* that a filter put into a create */

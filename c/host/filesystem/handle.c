@@ -39,6 +39,15 @@ KzFile *kz_own_file(HANDLE handle)
     return one ? one->file : NULL;
 }
 
+KzFile *kz_asked_file(HANDLE handle, const char *call)
+{
+    KzFile *file = kz_own_file(handle);
+    kz_me->has_pended = false;
+    if (!file)
+        kz_tell(KZM_NO_HANDLE, call, "a handle that isn't open (closed twice?)");
+    return file;
+}
+
 /* Its number is as handles of the kernel are: none of a program's. */
 static Handle *new_handle(const char *call)
 {

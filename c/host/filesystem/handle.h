@@ -6,6 +6,8 @@
 
 /* Handles of a driver's own files, and of what else it opens. */
 KzFile *kz_own_file(HANDLE handle);
+/* The same for a call that begins an operation of it; where there is none, that is told. */
+KzFile *kz_asked_file(HANDLE handle, const char *call);
 HANDLE kz_open_handle(PVOID object, const char *what, ULONG attributes);
 /* With the call that is to close it. */
 HANDLE kz_file_handle(KzFile *file, const char *closed_by);

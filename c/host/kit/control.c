@@ -30,14 +30,11 @@ static NTSTATUS ask(PFLT_INSTANCE instance, PFILE_OBJECT object, const KzAsked *
 static NTSTATUS ask_by_handle(HANDLE handle, PIO_STATUS_BLOCK to, const KzAsked *asked, PVOID buffer, const char *call)
 {
     ULONG returned = 0;
-    KzFile *file = kz_own_file(handle);
-    if (!file) {
-        kz_tell(KZM_NO_HANDLE, call, "a handle that isn't open (closed twice?)");
+    KzFile *file = kz_asked_file(handle, call);
+    if (!file)
         return STATUS_INVALID_HANDLE;
-    }
-    *to = (IO_STATUS_BLOCK){.Status = ask(NULL, &file->object, asked, buffer, &returned, call)};
-    to->Information = returned;
-    return to->Status;
+    NTSTATUS status = ask(NULL, &file->object, asked, buffer, &returned, call);
+    return kz_put_status(to, status, returned);
 }
 
 /* ---- Directories. */

@@ -219,6 +219,7 @@ static NTSTATUS dispatch(KzDevice *device, Request *one)
     kz_leave(before);
     kz_helped(worker);
     kz_clean_up();
+    kz_me->has_pended = said == STATUS_PENDING;
     if (said == STATUS_PENDING && !one->is_completed)
         kz_wait_for(is_completed, one, -1, "an IRP to be completed");
     kz_scheduler->touch(one, 0, KZT_TAKES);
@@ -308,6 +309,7 @@ NTSTATUS kz_ask_device(KzDeviceFile *file, const KzDeviceAsk *asked, ULONG_PTR *
 {
     KZ_CALL();
     IO_STATUS_BLOCK fast;
+    kz_me->has_pended = false;
     if (asks_fast(file, asked, &fast)) {
         *information = fast.Information;
         return fast.Status;

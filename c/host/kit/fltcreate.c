@@ -200,14 +200,14 @@ static NTSTATUS open_file(const Wanted *wanted, PHANDLE handle, PFILE_OBJECT *ob
     if (object)
         *object = NULL;
     if (!kz_may_use(wanted->call, wanted->instance))
-        return status->Status = STATUS_INVALID_PARAMETER;
+        return STATUS_INVALID_PARAMETER;
     if (is_too_deep(wanted))
-        return status->Status = STATUS_INSUFFICIENT_RESOURCES;
+        return STATUS_INSUFFICIENT_RESOURCES;
     check_handle(wanted);
-    *status = (IO_STATUS_BLOCK){.Status = create(wanted, &file)};
-    if (!NT_SUCCESS(status->Status))
-        return status->Status;
-    status->Information = file->created;
+    NTSTATUS opened = create(wanted, &file);
+    if (!NT_SUCCESS(opened)) /* the block is as it was, whether it pended or not */
+        return opened;
+    *status = (IO_STATUS_BLOCK){.Status = opened, .Information = file->created};
     *handle = kz_file_handle(file, wanted->closed_by);
     if (object) {
         *object = &file->object;

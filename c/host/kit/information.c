@@ -89,9 +89,7 @@ NTSTATUS FltSetInformationFile(PFLT_INSTANCE Instance, PFILE_OBJECT FileObject, 
 /* ---- By a handle, from the top of the stack. */
 static PFILE_OBJECT object_of(HANDLE handle, const char *call)
 {
-    KzFile *file = kz_own_file(handle);
-    if (!file)
-        kz_tell(KZM_NO_HANDLE, call, "a handle that isn't open (closed twice?)");
+    KzFile *file = kz_asked_file(handle, call);
     return file ? &file->object : NULL;
 }
 
@@ -102,9 +100,8 @@ NTSTATUS ZwQueryInformationFile(HANDLE FileHandle, PIO_STATUS_BLOCK IoStatusBloc
     PFILE_OBJECT object = object_of(FileHandle, __func__);
     if (!object)
         return STATUS_INVALID_HANDLE;
-    *IoStatusBlock = (IO_STATUS_BLOCK){.Status = kz_query_below(NULL, object, FileInformation, Length, FileInformationClass, &used, __func__)};
-    IoStatusBlock->Information = used;
-    return IoStatusBlock->Status;
+    NTSTATUS status = kz_query_below(NULL, object, FileInformation, Length, FileInformationClass, &used, __func__);
+    return kz_put_status(IoStatusBlock, status, used);
 }
 
 NTSTATUS ZwSetInformationFile(HANDLE FileHandle, PIO_STATUS_BLOCK IoStatusBlock, PVOID FileInformation, ULONG Length, FILE_INFORMATION_CLASS FileInformationClass)
@@ -113,6 +110,5 @@ NTSTATUS ZwSetInformationFile(HANDLE FileHandle, PIO_STATUS_BLOCK IoStatusBlock,
     PFILE_OBJECT object = object_of(FileHandle, __func__);
     if (!object)
         return STATUS_INVALID_HANDLE;
-    *IoStatusBlock = (IO_STATUS_BLOCK){.Status = kz_set_below(NULL, object, FileInformation, Length, FileInformationClass, __func__)};
-    return IoStatusBlock->Status;
+    return kz_put_status(IoStatusBlock, kz_set_below(NULL, object, FileInformation, Length, FileInformationClass, __func__), 0);
 }

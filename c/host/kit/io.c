@@ -227,17 +227,9 @@ NTSTATUS FltFlushBuffers2(PFLT_INSTANCE Instance, PFILE_OBJECT FileObject, ULONG
 }
 
 /* ---- By a handle, from the top of the stack. */
-static KzFile *file_of(HANDLE handle, const char *call)
-{
-    KzFile *file = kz_own_file(handle);
-    if (!file)
-        kz_tell(KZM_NO_HANDLE, call, "a handle that isn't open (closed twice?)");
-    return file;
-}
-
 static NTSTATUS by_handle(HANDLE handle, PIO_STATUS_BLOCK status, PVOID buffer, ULONG length, PLARGE_INTEGER offset, bool is_write, const char *call)
 {
-    KzFile *file = file_of(handle, call);
+    KzFile *file = kz_asked_file(handle, call);
     if (!file)
         return STATUS_INVALID_HANDLE;
     ULONG done = 0;
@@ -247,9 +239,9 @@ static NTSTATUS by_handle(HANDLE handle, PIO_STATUS_BLOCK status, PVOID buffer, 
         offset = &end;
         is_current = false;
     }
-    *status = (IO_STATUS_BLOCK){.Status = kz_transfer(&(KzTransfer){NULL, &file->object, is_current ? NULL : offset, length, buffer, 0, &done, NULL, NULL, call, NULL}, is_write)};
-    status->Information = done;
-    return status->Status;
+    NTSTATUS came = kz_transfer(&(KzTransfer){NULL, &file->object, is_current ? NULL : offset, length, buffer, 0, &done, NULL, NULL, call, NULL}, is_write);
+    kz_me->has_pended |= came == STATUS_END_OF_FILE && file->object.PrivateCacheMap && file->object.Flags & FO_SYNCHRONOUS_IO; /* fast I/O says so in the block */
+    return kz_put_status(status, came, done);
 }
 
 NTSTATUS ZwReadFile(HANDLE FileHandle, HANDLE Event, PVOID ApcRoutine, PVOID ApcContext, PIO_STATUS_BLOCK IoStatusBlock, PVOID Buffer, ULONG Length,
@@ -271,9 +263,8 @@ NTSTATUS ZwWriteFile(HANDLE FileHandle, HANDLE Event, PVOID ApcRoutine, PVOID Ap
 NTSTATUS ZwFlushBuffersFile(HANDLE FileHandle, PIO_STATUS_BLOCK IoStatusBlock)
 {
     KZ_CALL();
-    KzFile *file = file_of(FileHandle, __func__);
+    KzFile *file = kz_asked_file(FileHandle, __func__);
     if (!file)
         return STATUS_INVALID_HANDLE;
-    *IoStatusBlock = (IO_STATUS_BLOCK){.Status = kz_flush_below(NULL, &file->object, __func__)};
-    return IoStatusBlock->Status;
+    return kz_put_status(IoStatusBlock, kz_flush_below(NULL, &file->object, __func__), 0);
 }

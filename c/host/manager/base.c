@@ -117,7 +117,7 @@ static void call_create(KzOp *op, const KazdrinData *call, uint8_t worker)
 static bool call_opaque(KzOp *op)
 {
     NTSTATUS status = kz_answer_opaque(op);
-    op->is_waiting = status == STATUS_PENDING;
+    op->is_waiting = op->has_pended = status == STATUS_PENDING;
     if (!op->is_waiting) {
         answer(op, status, NULL, 0);
         return true;

@@ -95,6 +95,7 @@ static KzAnswer begin(const KzOwn *own, KzFile *file, KazdrinEvent asked, const 
         answer.is_refused = true;
         return answer;
     }
+    kz_me->has_pended = false;
     KzTold begun = begin_at(own, asked, bytes, length);
     answer.reply.status = begun.status;
     answer.is_refused = begun.status != KZS_OK;
@@ -139,6 +140,13 @@ KzAnswer kz_below(const KzOwn *own, KzFile *file, KazdrinEvent asked, const void
     else if (own->is_waited_for)
         kz_tell(KZM_NOBODY_SETS, "FltReadFile", "another filter holds " KZ_OPERATION ", which this one waits for, and nobody else runs here who would let it go on", (unsigned long long)answer.reply.operation);
     return answer;
+}
+
+NTSTATUS kz_put_status(PIO_STATUS_BLOCK to, NTSTATUS status, ULONG_PTR information)
+{
+    if (!NT_ERROR(status) || kz_me->has_pended)
+        *to = (IO_STATUS_BLOCK){.Status = status, .Information = information};
+    return status;
 }
 
 /* Of an operation that its caller didn't wait for. */

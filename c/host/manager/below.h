@@ -21,6 +21,8 @@ void kz_clean_up_below(KzFile *file);
 void kz_close_if_due(KzFile *file);
 void kz_end_below(KzOp *op);
 NTSTATUS kz_status_of(KzAnswer answer);
+/* What a call leaves in its caller's block, as the I/O manager does: one that failed, and never pended, leaves it alone. That status. */
+NTSTATUS kz_put_status(PIO_STATUS_BLOCK to, NTSTATUS status, ULONG_PTR information);
 /* What is answered to a create that a filter cancelled. */
 KzReply kz_cancelled(const KzOp *op, NTSTATUS *other);
 /* One of a driver's own. What is answered comes into `to`. */

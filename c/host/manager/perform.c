@@ -121,6 +121,7 @@ KzAnswer kz_collect(KzOp *op)
     kz_goes_alone(op);
     KazdrinTold told = kz_event_into(kz_worker(), (KazdrinEvent){.event = KZE_COLLECT, .operation = op->id}, kz_me->room, sizeof kz_me->room).told;
     KzAnswer answer = {.reply = {.status = told.status, .information = told.information, .operation = op->id}, .other = op->other, .length = told.length};
+    kz_me->has_pended = op->has_pended;
     if (op->served.is_there)
         put_served(op, &answer);
     kz_tell_outcome(op, op->is_answered ? op->answered : answer.other ? answer.other : kz_ntstatus(answer.reply.status));

@@ -122,6 +122,7 @@ void kz_post(KzOp *op, PFLT_INSTANCE instance, PVOID completion)
     kz.changes++;
     if (kazdrin_post_returned(&kz.manager, &verdict) == KZS_OK && is_more) {
         op->stage = KZ_HELD_BY_POST;
+        op->has_pended = true;
         op->holder = instance;
         op->holder_function = kz_registered(instance->filter, kz_major_of(op))->PostOperation;
     } else {

@@ -242,6 +242,7 @@ void kz_pre(KzOp *op, PFLT_INSTANCE instance)
     kz.changes++;
     if (kazdrin_pre_returned(&kz.manager, &verdict) == KZS_OK && verdict.mode == KZV_PENDING) {
         op->stage = KZ_HELD_BY_PRE;
+        op->has_pended = true;
         op->holder = instance;
         op->holder_function = kz_registered(instance->filter, kz_major_of(op))->PreOperation;
     }

@@ -46,6 +46,12 @@ void kz_complete(KzObject *object, KzOverlapped *overlapped, uint32_t bytes, NTS
         post(object->completion, (KzPacket){.bytes = bytes, .error = kz_win32_of(status), .key = object->key, .overlapped = overlapped});
 }
 
+void kz_end_overlapped(KzObject *object, KzOverlapped *overlapped, uint32_t bytes, NTSTATUS status)
+{
+    if (!NT_ERROR(status) || kz_me->has_pended)
+        kz_complete(object, overlapped, bytes, status);
+}
+
 void *CreateIoCompletionPort(void *file, void *existing, uintptr_t key, uint32_t threads);
 void *CreateIoCompletionPort(void *file, void *existing, uintptr_t key, uint32_t threads)
 {

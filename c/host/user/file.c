@@ -261,35 +261,35 @@ typedef struct {
     bool is_write;
 } Transfer;
 
-static uint32_t transfer_part(Transfer *one, uint32_t size)
+static NTSTATUS transfer_part(Transfer *one, uint32_t size)
 {
     uint64_t offset = one->offset == KZ_AT_END ? KZ_AT_END : one->offset + one->done;
     KazdrinEvent asked = {.event = one->is_write ? KZE_WRITE : KZE_READ, .offset = offset, .len = one->is_write ? 0 : size};
     KzAnswer answer = ask(one->object->file, asked, one->is_write ? one->buffer + one->done : (uint8_t *)"", one->is_write ? size : 0);
     NTSTATUS status = kz_status_of(answer);
-    if (status == STATUS_END_OF_FILE && !one->is_write)
-        return 0; /* as where no byte is there */
     if (!NT_SUCCESS(status))
-        return kz_win32_of(status);
+        return status;
     uint32_t moved = one->is_write || answer.length > size ? size : (uint32_t)answer.length;
     if (!one->is_write)
         memcpy(one->buffer + one->done, kz_me->room, moved);
     one->done += moved;
-    return 0;
+    return status;
 }
 
-static uint32_t transfer(Transfer *one)
+static NTSTATUS transfer(Transfer *one)
 {
-    uint32_t error, before;
+    NTSTATUS status;
+    uint32_t before;
+    kz_me->has_pended = false;
     do {
         uint32_t rest = one->length - one->done;
         before = one->done;
-        error = transfer_part(one, rest < KZ_BYTES ? rest : KZ_BYTES);
-    } while (!error && one->done > before && one->done < one->length);
-    return error;
+        status = transfer_part(one, rest < KZ_BYTES ? rest : KZ_BYTES);
+    } while (NT_SUCCESS(status) && one->done > before && one->done < one->length);
+    return status == STATUS_END_OF_FILE && one->done ? STATUS_SUCCESS : status; /* a part of it was there */
 }
 
-static uint32_t transfer_of_device(Transfer *one)
+static NTSTATUS transfer_of_device(Transfer *one)
 {
     KzDeviceAsk asked = {.major = one->is_write ? IRP_MJ_WRITE : IRP_MJ_READ, .offset = one->offset};
     ULONG_PTR information = 0;
@@ -299,7 +299,7 @@ static uint32_t transfer_of_device(Transfer *one)
         asked.out = one->buffer, asked.out_length = one->length;
     NTSTATUS status = kz_ask_device(&one->object->device, &asked, &information);
     one->done = (uint32_t)information;
-    return NT_SUCCESS(status) ? 0 : kz_win32_of(status);
+    return status;
 }
 
 /* Of a file, or of a volume: codes of file systems are theirs, others a device's. */
@@ -310,6 +310,7 @@ static int control_file(KzObject *object, uint32_t code, void *in, uint32_t in_l
                            .irp_flags = code & 3 ? 0 : IRP_BUFFERED_IO};
     if (overlapped)
         kz_begin_overlapped(object, overlapped);
+    kz_me->has_pended = false;
     NTSTATUS status = kz_ask_opened(object->file, &asked, &answer);
     uint32_t length = answer.length < out_length ? (uint32_t)answer.length : out_length;
     if (length)
@@ -317,7 +318,7 @@ static int control_file(KzObject *object, uint32_t code, void *in, uint32_t in_l
     if (done)
         *done = (uint32_t)answer.reply.information;
     if (overlapped)
-        kz_complete(object, overlapped, (uint32_t)answer.reply.information, status);
+        kz_end_overlapped(object, overlapped, (uint32_t)answer.reply.information, status);
     return NT_SUCCESS(status) ? 1 : kz_failed(kz_win32_of(status));
 }
 
@@ -340,7 +341,7 @@ int DeviceIoControl(void *handle, uint32_t code, void *in, uint32_t in_length, v
             if (done)
                 *done = (uint32_t)information;
             if (overlapped)
-                kz_complete(object, overlapped, (uint32_t)information, status);
+                kz_end_overlapped(object, overlapped, (uint32_t)information, status);
             is_right = NT_SUCCESS(status) ? 1 : kz_failed(kz_win32_of(status));
         }
     }
@@ -362,13 +363,14 @@ static int move(void *handle, void *buffer, uint32_t length, uint32_t *done, KzO
                 one.offset = kz_offset_by(object->file, (LONGLONG)one.offset);
             if (overlapped)
                 kz_begin_overlapped(object, overlapped);
-            uint32_t error = object->kind == KZU_FILE ? transfer(&one) : transfer_of_device(&one);
+            NTSTATUS status = object->kind == KZU_FILE ? transfer(&one) : transfer_of_device(&one);
+            bool is_at_end = status == STATUS_END_OF_FILE && !is_write && !overlapped; /* then no byte was read, and that is no error */
             object->offset = is_write && one.offset == KZ_AT_END ? kz_size_of(object->file) : one.offset + one.done;
             if (done)
                 *done = one.done;
             if (overlapped)
-                kz_complete(object, overlapped, one.done, error ? STATUS_UNSUCCESSFUL : STATUS_SUCCESS);
-            is_right = error ? kz_failed(error) : 1;
+                kz_end_overlapped(object, overlapped, one.done, status);
+            is_right = NT_SUCCESS(status) || is_at_end ? 1 : kz_failed(kz_win32_of(status));
         }
     }
     kz_go_on_or_end();

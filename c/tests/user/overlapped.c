@@ -1,4 +1,4 @@
-/* A program that says what the event of an overlapped structure is once a message is asked for, and which errors two creates leave. */
+/* A program that says what the event of an overlapped structure is once a message is asked for, and where a call fails at once, and which errors two creates leave. */
 #include <windows.h>
 #include <fltUser.h>
 #include <stdio.h>
@@ -12,6 +12,8 @@ int main(void)
     OVERLAPPED overlapped = {0};
     HANDLE port, file;
     HRESULT result;
+    DWORD count = 0;
+    CHAR room[8];
 
     if (FAILED(FilterConnectCommunicationPort(L"\\Statements", 0, NULL, 0, NULL, &port))) {
         return 1;
@@ -25,6 +27,22 @@ int main(void)
     CloseHandle(CreateFileA("C:\\kept", GENERIC_WRITE, 0, NULL, CREATE_NEW, 0, NULL));
     file = CreateFileA("C:\\kept", GENERIC_WRITE, 0, NULL, CREATE_ALWAYS, 0, NULL);
     printf("15 CREATE_ALWAYS of a file that is there: %s, error %lu\n", file == INVALID_HANDLE_VALUE ? "not opened" : "opened", GetLastError());
+    CloseHandle(file);
+    /* By a handle that doesn't wait: a write at the end, and a read past it, which fails without ever pending. */
+    file = CreateFileA("C:\\kept", GENERIC_READ | GENERIC_WRITE, 0, NULL, OPEN_EXISTING, FILE_FLAG_OVERLAPPED, NULL);
+    for (int at = 0; at < 2; at++) {
+        overlapped.Offset = overlapped.OffsetHigh = 0xffffffff;
+        BOOL isWritten = WriteFile(file, "abc", 3, &count, &overlapped);
+        printf("16 a write at the end: %d, %lu bytes, file of %lu\n", isWritten, count, GetFileSize(file, NULL));
+    }
+    overlapped.Offset = 6;
+    overlapped.OffsetHigh = 0;
+    SetEvent(overlapped.hEvent);
+    BOOL isRead = ReadFile(file, room, sizeof room, &count, &overlapped);
+    printf("17 a read past the end: %d, error %lu, status %lx, the event is %s\n", isRead, GetLastError(), (unsigned long)overlapped.Internal, WaitForSingleObject(overlapped.hEvent, 0) == WAIT_TIMEOUT ? "reset" : "set");
+    overlapped.Offset = 4;
+    isRead = ReadFile(file, room, sizeof room, &count, &overlapped);
+    printf("18 a read up to the end: %d, %lu bytes, status %lx, the event is %s\n", isRead, count, (unsigned long)overlapped.Internal, WaitForSingleObject(overlapped.hEvent, 0) == WAIT_TIMEOUT ? "reset" : "set");
     CloseHandle(file);
     CloseHandle(overlapped.hEvent);
     CloseHandle(port);

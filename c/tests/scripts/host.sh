@@ -41,6 +41,17 @@ for requests in "$tests"/requests/*.txt; do
     fi
 done
 
+# Tables of what NTFS answers: each row as requests, all by one program.
+if command -v python3 > /dev/null; then
+    mkdir "$room/tables"
+    $tests/scripts/tables.py $tests/tables "$room/tables" > "$room/tables.out" || { cat "$room/tables.out"; false; }
+    tell $? "tables, as requests"
+    for table in creates names access sharing; do
+        "$room/drivers" --quiet "$room/tables/$table.txt" && grep -q "^$table: [0-9]* rows" "$room/tables.out"
+        tell $? "the table of $table"
+    done
+fi
+
 build run --main $tests/programs/run.c "$room/run" c/samples/passthrough.c
 try run "$room/run"
 [ -z "${KAZDRIN_QUICK:-}" ] || {

@@ -18,7 +18,7 @@ static VOID Open(_In_ PCFLT_RELATED_OBJECTS FltObjects, _In_ PCWSTR Name, _In_ A
 {
     UNICODE_STRING name;
     OBJECT_ATTRIBUTES attributes;
-    IO_STATUS_BLOCK io;
+    IO_STATUS_BLOCK io = {0};
     HANDLE file;
     LARGE_INTEGER allocation = {.QuadPart = 4096};
     NTSTATUS status;

@@ -27,9 +27,9 @@ struct KzOpaque {
     bool is_misled; /* a filter put another name into its buffer */
 };
 
-/* A write at the end of its file, wherever that is once it comes there: the manager has this offset for it, the last at which the largest file takes any bytes, and filters see
+/* A write at the end of its file, wherever that is once it comes there: the manager has this offset for it, an odd one close to the largest, and filters see
  * FILE_WRITE_TO_END_OF_FILE. No other write may be there. */
-#define KZ_AT_END (((uint64_t)1 << 40) - KZ_BYTES)
+#define KZ_AT_END (((uint64_t)1 << 40) - KZ_BYTES - 1)
 static inline uint64_t kz_offset_of(LONGLONG said)
 {
     return said == -1 ? KZ_AT_END : (uint64_t)said == KZ_AT_END ? UINT64_MAX : (uint64_t)said;

@@ -133,7 +133,8 @@ static KazdrinEvent event_of(const Frame *frame)
         [FRAME_READ] = KZE_READ,         [FRAME_WRITE] = KZE_WRITE, [FRAME_QUERY_SIZE] = KZE_QUERY_SIZE, [FRAME_SET_SIZE] = KZE_SET_SIZE,
         [FRAME_FLUSH] = KZE_FLUSH,       [FRAME_LIST] = KZE_LIST,
     };
-    return (KazdrinEvent){.event = events[frame->code], .volume = frame->volume, .handle = frame->handle, .offset = frame->offset, .len = frame->length};
+    uint64_t offset = frame->offset - (frame->offset == UINT64_MAX); /* no frame says that it is at the end of the file: it is refused */
+    return (KazdrinEvent){.event = events[frame->code], .volume = frame->volume, .handle = frame->handle, .offset = offset, .len = frame->length};
 }
 
 static bool is_of_handle(uint8_t code)

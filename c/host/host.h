@@ -51,6 +51,7 @@ struct _FLT_VOLUME {
     const struct KzFile *locker;  /* by FSCTL_LOCK_VOLUME; NULL if nobody has locked it */
     bool is_to_go;                /* FSCTL_DISMOUNT_VOLUME was sent: it goes with that handle */
     bool makes_folders; /* those above a new name, as no file system of the kit does */
+    bool is_cached;     /* reads and writes go by its files' pages, unless they say otherwise */
     bool is_case_sensitive; /* names that differ by it alone are two */
 };
 
@@ -120,6 +121,7 @@ typedef struct {
     /* What each module keeps of a run: a structure that its own file knows, made as the run begins and zero. */
     struct KzAccessState *access;
     struct KzEdgeState *edge;
+    struct KzCacheState *cache;
     struct KzContextState *context;
     struct KzDeviceState *device;
     struct KzDpcState *dpc;

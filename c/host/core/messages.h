@@ -1,4 +1,4 @@
-/* What can be told, by numbers that stay: KZ0101 and on are mistakes on Windows too (TOLD), KZ0201 and on are where Kazdrin differs (LIMIT). docs/TOLD.md has a line for each,
+/* What can be told, by numbers that stay: KZ0101 and on are mistakes on Windows too (TOLD), KZ0201 and on are where Kazdrin differs (LIMIT), and KZ0301 and on are mistakes again. docs/TOLD.md has a line for each,
  * with what the kit does. A number that was given is never used for anything else. */
 #ifndef KZ_MESSAGES_H
 #define KZ_MESSAGES_H
@@ -150,9 +150,13 @@ enum {
     KZM_NO_SUCH_ROUTINE = 257,
     /* Names. */
     KZM_LONG_PATH = 258,
-    KZM_MESSAGES = 300
+    /* Paging I/O: from here on they are mistakes again. */
+    KZM_PAGE_WAITS = 301,
+    KZM_PAGE_SHORT = 302,
+    KZM_PAGE_LOST = 303,
+    KZM_MESSAGES = 320
 };
 
-#define KZ_IS_LIMIT(message) ((message) >= 200)
+#define KZ_IS_LIMIT(message) ((message) >= 200 && (message) <= 300)
 
 #endif

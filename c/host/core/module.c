@@ -101,6 +101,13 @@ bool kz_is_mapped(KzOp *op, const void *stream, uint64_t size)
     return false;
 }
 
+void kz_stream_is_cut(const void *stream, uint64_t size)
+{
+    for EACH (one)
+        if ((*one)->cut)
+            (*one)->cut(stream, size);
+}
+
 bool kz_goes_on(void)
 {
     for EACH (one)

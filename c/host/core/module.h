@@ -21,6 +21,7 @@ typedef struct KzModule {
     void (*memory_goes)(const void *memory, size_t size); /* it is given back: nothing that is in use may lie in it */
     void (*operation_ends)(KzOp *op);
     bool (*is_mapped)(KzOp *op, const void *stream, uint64_t size); /* the file is to be cut to that size: whether something still needs what is behind it */
+    void (*cut)(const void *stream, uint64_t size); /* it was */
     bool (*goes_on)(void);                          /* what runs beside the requests; false if nothing could */
     bool (*passes)(LONGLONG until);                 /* the next that is due up to then comes; false if nothing is */
     void (*left)(void);                             /* what is left at the end of a run is told */
@@ -48,6 +49,7 @@ bool kz_has_any_of(PFLT_FILTER filter);
 void kz_memory_goes(const void *memory, size_t size);
 void kz_operation_ends(KzOp *op);
 bool kz_is_mapped(KzOp *op, const void *stream, uint64_t size);
+void kz_stream_is_cut(const void *stream, uint64_t size);
 bool kz_goes_on(void);
 bool kz_passes(LONGLONG until);
 void kz_tell_left(void);

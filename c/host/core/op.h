@@ -50,6 +50,7 @@ struct KzAsked {
     const char *pattern;
     KzFile *target; /* as the rename that has it */
     bool has_no_file, waits; /* it may wait in the file system */
+    bool advances; /* a size: up to there something was written */
 };
 
 /* Memory that lives as long as its operation. */

@@ -37,7 +37,7 @@ typedef struct {
 #define KZ_OPERATION "operation " KZ_MARK "%llu" KZ_MARK
 
 /* Of what a call asks how it is answered. */
-typedef enum { KZ_CHOICE_DEVICE, KZ_CHOICE_POOL, KZ_CHOICE_CONTEXT, KZ_CHOICE_NAME, KZ_CHOICE_TIME, KZ_CHOICE_INSIDE } KzChoice;
+typedef enum { KZ_CHOICE_DEVICE, KZ_CHOICE_PAGING, KZ_CHOICE_POOL, KZ_CHOICE_CONTEXT, KZ_CHOICE_NAME, KZ_CHOICE_TIME, KZ_CHOICE_INSIDE } KzChoice;
 
 extern bool kz_is_deaf; /* nobody reads what requests and drivers say */
 void kz_say(KzKind kind, const char *format, ...) __attribute__((format(printf, 2, 3)));

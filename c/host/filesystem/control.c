@@ -222,6 +222,10 @@ NTSTATUS kz_answer_other(KzOp *op, const FLT_PARAMETERS *now)
     case IRP_MJ_PNP:
     case IRP_MJ_ACQUIRE_FOR_SECTION_SYNCHRONIZATION:
     case IRP_MJ_RELEASE_FOR_SECTION_SYNCHRONIZATION:
+    case IRP_MJ_ACQUIRE_FOR_CC_FLUSH:
+    case IRP_MJ_RELEASE_FOR_CC_FLUSH:
+    case IRP_MJ_ACQUIRE_FOR_MOD_WRITE:
+    case IRP_MJ_RELEASE_FOR_MOD_WRITE:
         return STATUS_SUCCESS;
     default: /* a device's own codes, and quotas, which nobody set up */
         return STATUS_INVALID_DEVICE_REQUEST;

@@ -94,6 +94,8 @@ void kz_file_opened(KzFile *file)
     PFILE_OBJECT object = &file->object;
     object->FsContext = file;
     object->FsContext2 = &file->sections;
+    if (file->name)
+        object->SectionObjectPointer = &file->name->stream->sections;
     object->Flags |= FO_HANDLE_CREATED | (object->Flags & FO_NO_INTERMEDIATE_BUFFERING ? 0 : FO_CACHE_SUPPORTED);
 }
 

@@ -150,6 +150,8 @@ static void look_below(KzName *name)
     record->exists = record->streams->exists = found.is_there;
     record->is_directory = found.is_directory;
     record->streams->size = found.size;
+    if (!record->streams->cache)
+        record->streams->valid = found.size;
     if (is_new)
         record->created = record->accessed = record->written = record->changed = found.written;
 }

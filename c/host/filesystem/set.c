@@ -85,6 +85,15 @@ static NTSTATUS set_allocation(KzOp *op, LONGLONG size)
     return (uint64_t)size < stream->size ? kz_resize(file, (uint64_t)size) : STATUS_SUCCESS;
 }
 
+/* It never becomes less. */
+static NTSTATUS set_valid(KzStream *stream, uint64_t length)
+{
+    if (length > stream->size)
+        return STATUS_INVALID_PARAMETER;
+    stream->valid = length > stream->valid ? length : stream->valid;
+    return STATUS_SUCCESS;
+}
+
 static NTSTATUS set_position(KzFile *file, LARGE_INTEGER place)
 {
     file->object.CurrentByteOffset = place;
@@ -132,9 +141,9 @@ NTSTATUS kz_answer_set(KzOp *op, const FLT_PARAMETERS *now)
     case FileAllocationInformation:
         return set_allocation(op, ((const FILE_ALLOCATION_INFORMATION *)said)->AllocationSize.QuadPart);
     case FileEndOfFileInformation:
-        return set_end(op, ((const FILE_END_OF_FILE_INFORMATION *)said)->EndOfFile.QuadPart);
+        return now->SetFileInformation.AdvanceOnly ? STATUS_SUCCESS : set_end(op, ((const FILE_END_OF_FILE_INFORMATION *)said)->EndOfFile.QuadPart);
     case FileValidDataLengthInformation:
-        return (uint64_t)((const FILE_VALID_DATA_LENGTH_INFORMATION *)said)->ValidDataLength.QuadPart > file->name->stream->size ? STATUS_INVALID_PARAMETER : STATUS_SUCCESS;
+        return set_valid(file->name->stream, (uint64_t)((const FILE_VALID_DATA_LENGTH_INFORMATION *)said)->ValidDataLength.QuadPart);
     case FileDispositionInformation:
         return kz_dispose(file, ((const FILE_DISPOSITION_INFORMATION *)said)->DeleteFile ? FILE_DISPOSITION_DELETE : 0);
     case FileDispositionInformationEx:

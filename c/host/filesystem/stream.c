@@ -74,12 +74,13 @@ void kz_begin_stream(KzStream *stream)
 {
     stream->exists = true;
     stream->is_marked = false;
-    stream->size = stream->allocation = 0;
+    stream->size = stream->allocation = stream->valid = 0;
 }
 
 void kz_end_stream(KzStream *stream)
 {
     stream->exists = stream->is_marked = false;
+    kz_stream_is_cut(stream, 0);
     kz_cut_bytes(&stream->pages, 0);
     stream->is_gone = *stream->name;
     if (stream->is_gone && !stream->names)
@@ -172,12 +173,17 @@ void kz_note_written(const KzFile *file, uint64_t offset, size_t length)
     KzStream *stream = file->name->stream;
     if (length && offset + length > stream->size)
         stream->size = offset + length;
+    if (length && offset + length > stream->valid)
+        stream->valid = offset + length;
     note_change(file, FILE_NOTIFY_CHANGE_LAST_WRITE | FILE_NOTIFY_CHANGE_SIZE);
 }
 
 void kz_note_size(const KzFile *file, uint64_t size)
 {
-    file->name->stream->size = size;
+    KzStream *stream = file->name->stream;
+    stream->size = size;
+    stream->valid = stream->valid < size ? stream->valid : size;
+    kz_stream_is_cut(stream, size);
     note_change(file, FILE_NOTIFY_CHANGE_SIZE);
 }
 

@@ -56,6 +56,9 @@ typedef struct KzStream {
     unsigned names; /* that lead to it */
     unsigned opens; /* handles whose cleanup isn't over */
     uint64_t size, allocation;
+    uint64_t valid; /* up to where something was written: what lies from there to its end is zeros */
+    struct KzCache *cache; /* NULL: nothing of it is cached */
+    SECTION_OBJECT_POINTERS sections;
     SHARE_ACCESS share;
     KzPages pages; /* of a volume in memory */
     KzView *views;

@@ -1,10 +1,12 @@
-/* Files are neither cached nor mapped. */
+/* The calls of the cache manager and the memory manager on files that the file system caches. Those of a filter's own file objects are in unmodelled.c. */
+#include "cache/paging.h"
 #include "core/client.h"
+#include "kit/section.h"
 
 BOOLEAN CcIsFileCached(PFILE_OBJECT FileObject)
 {
-    (void)FileObject;
-    return FALSE;
+    KZ_INSIDE();
+    return FileObject->SectionObjectPointer && FileObject->SectionObjectPointer->SharedCacheMap;
 }
 
 LOGICAL FsRtlIsPagingFile(PFILE_OBJECT FileObject)
@@ -13,11 +15,11 @@ LOGICAL FsRtlIsPagingFile(PFILE_OBJECT FileObject)
     return FALSE;
 }
 
+/* Whether no section has something of what would be cut off; with no size, whether none has anything. */
 BOOLEAN MmCanFileBeTruncated(PSECTION_OBJECT_POINTERS SectionPointer, PLARGE_INTEGER NewFileSize)
 {
     KZ_INSIDE();
-    (void)SectionPointer, (void)NewFileSize;
-    return TRUE;
+    return !kz_has_section_past(SectionPointer, NewFileSize ? (uint64_t)NewFileSize->QuadPart : 0);
 }
 
 BOOLEAN MmFlushImageSection(PSECTION_OBJECT_POINTERS SectionObjectPointer, ULONG FlushType)
@@ -27,17 +29,24 @@ BOOLEAN MmFlushImageSection(PSECTION_OBJECT_POINTERS SectionObjectPointer, ULONG
     return TRUE;
 }
 
+/* With no offset it is about all of the file. */
+static uint64_t from_of(const LARGE_INTEGER *offset)
+{
+    return offset ? (uint64_t)offset->QuadPart : 0;
+}
+
 VOID CcFlushCache(PSECTION_OBJECT_POINTERS SectionObjectPointer, PLARGE_INTEGER FileOffset, ULONG Length, PIO_STATUS_BLOCK IoStatus)
 {
-    KZ_INSIDE();
-    (void)SectionObjectPointer, (void)FileOffset, (void)Length;
+    KZ_CALL();
+    KzCache *cache = kz_cache_with(SectionObjectPointer);
+    NTSTATUS status = cache ? kz_flush_cache(cache, from_of(FileOffset), FileOffset ? Length : 0) : STATUS_SUCCESS;
     if (IoStatus)
-        *IoStatus = (IO_STATUS_BLOCK){.Status = STATUS_SUCCESS};
+        *IoStatus = (IO_STATUS_BLOCK){.Status = status};
 }
 
 BOOLEAN CcPurgeCacheSection(PSECTION_OBJECT_POINTERS SectionObjectPointer, PLARGE_INTEGER FileOffset, ULONG Length, ULONG UninitializeCacheMaps)
 {
-    KZ_INSIDE();
-    (void)SectionObjectPointer, (void)FileOffset, (void)Length, (void)UninitializeCacheMaps;
-    return TRUE;
+    KZ_CALL();
+    KzCache *cache = kz_cache_with(SectionObjectPointer);
+    return !cache || kz_purge_cache(cache, from_of(FileOffset), FileOffset ? Length : 0, UninitializeCacheMaps != 0);
 }

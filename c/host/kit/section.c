@@ -166,6 +166,14 @@ static Section *in_the_way(const void *stream, uint64_t size)
     return one;
 }
 
+bool kz_has_section_past(const SECTION_OBJECT_POINTERS *sections, uint64_t size)
+{
+    const Section *one = kz.section->first;
+    while (one && !(one->context && one->view.stream && &one->view.stream->sections == sections && one->size > size))
+        one = one->next;
+    return one != NULL;
+}
+
 static bool is_mapped(KzOp *op, const void *stream, uint64_t size)
 {
     Section *one = in_the_way(stream, size), *last = NULL;

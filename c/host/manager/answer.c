@@ -1,6 +1,7 @@
 /* The answer of an operation: shown to a postoperation in the kit's structures, and taken as a callback left it. */
 #include "manager/answer.h"
 
+#include "cache/cache.h"
 #include "core/client.h"
 #include "core/op.h"
 #include "core/piece.h"
@@ -8,6 +9,7 @@
 #include "core/status.h"
 #include "core/told.h"
 #include "filesystem/query.h"
+#include "filesystem/tree.h"
 #include "lib/letters.h"
 #include "manager/block.h"
 #include "manager/buffer.h"
@@ -169,9 +171,32 @@ static size_t most_of(KzOp *op)
     return kz_has_buffer(op) ? op->visits->room : op->event == KZE_WRITE ? op->shown.parameters.Parameters.Write.Length : SIZE_MAX;
 }
 
-static void check_length(KzOp *op, const char *call)
+/* How much of a paging read or write the file has, which its answer has to say. */
+static uint64_t least_of_page(const KzOp *op)
+{
+    uint64_t begin = op->lent.offset, size = op->file->name->stream->size;
+    uint64_t asked = op->event == KZE_READ ? op->lent.len : op->shown.parameters.Parameters.Write.Length, there = begin < size ? size - begin : 0;
+    return op->event == KZE_WRITE || asked < there ? asked : there;
+}
+
+/* Pages are whole: nobody asks for the rest. */
+static void check_page(KzOp *op, const char *call, uint64_t said)
+{
+    bool is_data = op->event == KZE_READ || op->event == KZE_WRITE;
+    if (!is_data || !kz_is_for_cache(op) || !NT_SUCCESS(op->data->IoStatus.Status) || said >= least_of_page(op))
+        return;
+    if (op->event == KZE_READ)
+        kz_tell(KZM_PAGE_SHORT, call, "IoStatus.Information of a paging read is %llu, and the file has %llu bytes there: the rest of the page is zeros from then on", (unsigned long long)said,
+                (unsigned long long)least_of_page(op));
+    else
+        kz_tell(KZM_PAGE_LOST, call, "IoStatus.Information of a paging write is %llu of %llu bytes: the rest counts as written, and is lost", (unsigned long long)said, (unsigned long long)least_of_page(op));
+}
+
+static void check_length(KzOp *op, const char *call, bool is_changed)
 {
     uint64_t said = op->data->IoStatus.Information;
+    if (is_changed)
+        check_page(op, call, said);
     if (said > most_of(op))
         kz_tell(KZM_PAST_LENGTH, call, "IoStatus.Information %llu is past the %llu bytes that were asked for", (unsigned long long)said,
                 (unsigned long long)most_of(op));
@@ -185,7 +210,7 @@ void kz_serve(KzOp *op)
         return;
     }
     uint64_t said = op->data->IoStatus.Information;
-    check_length(op, "FLT_PREOP_COMPLETE");
+    check_length(op, "FLT_PREOP_COMPLETE", true);
     if (!NT_SUCCESS(op->data->IoStatus.Status) || op->event == KZE_CREATE || op->event == KZE_CLEANUP || op->event == KZE_CLOSE)
         return;
     const uint8_t *bytes = answer_in(op, least(said, most_of(op)), &op->served.number, &op->served.length);
@@ -215,7 +240,7 @@ static bool changes_answer(KzOp *op, KzServed *now)
     uint64_t information, said = op->data->IoStatus.Information;
     size_t length;
     kz_check_target(op, op->data->Flags & FLTFL_CALLBACK_DATA_DIRTY);
-    check_length(op, "FLT_CALLBACK_DATA");
+    check_length(op, "FLT_CALLBACK_DATA", said != op->shown.status.Information);
     const uint8_t *bytes = answer_in(op, said, &information, &length);
     if (!kz_has_buffer(op) && said == op->shown.status.Information)
         information = op->lent.information;

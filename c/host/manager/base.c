@@ -1,6 +1,7 @@
 /* Calls of the base. */
 #include "manager/base.h"
 
+#include "cache/cache.h"
 #include "core/client.h"
 #include "core/module.h"
 #include "core/op.h"
@@ -18,6 +19,7 @@
 #include "filesystem/tree.h"
 #include "manager/below.h"
 #include "manager/opaque.h"
+#include "manager/paging.h"
 #include "manager/disposition.h"
 #include "manager/perform.h"
 
@@ -35,16 +37,11 @@ static void answer(KzOp *op, NTSTATUS status, const uint8_t *bytes, size_t lengt
 }
 
 /* What the virtual memory writes never makes a file larger: what stands past its end is nothing. */
-static bool is_past_end(KzOp *op, const KazdrinData *call, NTSTATUS *status)
+static void cut_past_end(const KzOp *op, KazdrinData *call)
 {
     uint64_t size = op->file->name ? op->file->name->stream->size : 0;
-    *status = STATUS_SUCCESS;
-    if (!(op->own.irp_flags & IRP_PAGING_IO) || call->operation != KZE_WRITE || call->offset + call->length <= size)
-        return false;
-    kazdrin_lent(&kz.manager, &(KazdrinEvent){.worker = kz_worker()}, &(KazdrinData){0}, kz_me->room, sizeof kz_me->room);
-    if (call->offset < size)
-        *status = kz_write_stream(op->file, call->offset, kz_me->room, size - call->offset);
-    return true;
+    if (op->own.irp_flags & IRP_PAGING_IO && call->operation == KZE_WRITE && call->offset + call->length > size)
+        call->length = call->offset < size ? size - call->offset : 0;
 }
 
 static bool is_locked(const KzOp *op, const KazdrinData *call)
@@ -65,7 +62,7 @@ static bool answers(KzOp *op, const KazdrinData *call, NTSTATUS *answered)
         bool fits = kz_list_names_of(op->volume, kz_me->room, KZ_BYTES, &length);
         status = fits ? STATUS_SUCCESS : kz_ntstatus(KZS_TOO_MANY);
         length = fits ? length : 0;
-    } else if (!is_locked(op, call) && !is_past_end(op, call, &status) && !kz_answers_call(op, call, &status)) {
+    } else if (!is_locked(op, call) && !kz_answers_call(op, call, &status)) {
         return false;
     }
     answer(op, status, kz_me->room, length);
@@ -81,7 +78,24 @@ static void call_bytes(KzOp *op, const KazdrinData *call, uint8_t worker)
     KzFolderAnswer answer = kz_call_stream(op->file, call, kz_me->room, kz_me->room);
     KazdrinEvent returned = {.worker = worker, .status = answer.status, .offset = answer.information, .flag = answer.length > 0};
     kazdrin_based(&kz.manager, &returned, answer.length > 0 ? answer.bytes : (const uint8_t *)"", answer.length);
-    kz_note_call(op, call);
+    if (!kz_is_for_cache(op)) /* the times are those of the write that changed the page */
+        kz_note_call(op, call);
+}
+
+/* A read or a write: by the stream's pages, or by the file itself. */
+static void call_data(KzOp *op, const KazdrinData *call, uint8_t worker)
+{
+    size_t length = 0;
+    bool is_past = call->operation == KZE_READ ? call->offset >= op->file->name->stream->size || !call->len : !call->length;
+    bool is_by_pages = kz_goes_by_pages(op) && !is_past;
+    NTSTATUS status = is_by_pages ? kz_call_pages(op, call, &length) : kz_goes_by_pages(op) ? STATUS_SUCCESS : kz_begin_uncached(op, call);
+    if (is_by_pages || !NT_SUCCESS(status)) {
+        answer(op, status, kz_me->room, NT_SUCCESS(status) ? length : 0);
+        return;
+    }
+    call_bytes(op, call, worker);
+    if (!kz_goes_by_pages(op))
+        kz_end_uncached(op, call);
 }
 
 /* Whether it gives the file a handle, as far as the names say. */
@@ -114,9 +128,24 @@ static void call_create(KzOp *op, const KazdrinData *call, uint8_t worker)
     kz_note_opened(op, was_there, had_file);
 }
 
+/* It goes to the file itself, below its pages. */
+static bool is_of_zeros(const KzOp *op)
+{
+    return op->opaque->major == IRP_MJ_FILE_SYSTEM_CONTROL && op->opaque->first.FileSystemControl.Common.FsControlCode == FSCTL_SET_ZERO_DATA;
+}
+
+static NTSTATUS answer_zeros(KzOp *op)
+{
+    NTSTATUS status = kz_begin_control(op->file);
+    if (NT_SUCCESS(status))
+        status = kz_answer_opaque(op);
+    kz_note_zeros(op->file);
+    return status;
+}
+
 static bool call_opaque(KzOp *op)
 {
-    NTSTATUS status = kz_answer_opaque(op);
+    NTSTATUS status = is_of_zeros(op) ? answer_zeros(op) : kz_answer_opaque(op);
     op->is_waiting = op->has_pended = status == STATUS_PENDING;
     if (!op->is_waiting) {
         answer(op, status, NULL, 0);
@@ -146,13 +175,19 @@ static void note_uses(const KzOp *op)
         use_stream(op->file->name, is_changed ? KZU_WRITES : KZU_READS);
 }
 
+/* What goes by the stream's pages needs no device; what the cache itself asks for does if it is of pages. */
+static bool reaches_device(const KzOp *op)
+{
+    return op->event != KZE_CLEANUP && op->event != KZE_CLOSE && !kz_goes_by_pages(op) && !(op->opaque && kz_is_for_cache(op));
+}
+
 bool kz_call_base(KzOp *op)
 {
     uint8_t none, worker = kz_worker();
     NTSTATUS status;
     KazdrinData call = {0};
     KazdrinEvent failed = {.worker = worker, .status = KZS_DEVICE_FAULT};
-    bool is_failed = op->event != KZE_CLEANUP && op->event != KZE_CLOSE && kz_refuses(KZ_CHOICE_DEVICE, "the device");
+    bool is_failed = reaches_device(op) && (kz_is_for_cache(op) ? kz_refuses(KZ_CHOICE_PAGING, "paging I/O") : kz_refuses(KZ_CHOICE_DEVICE, "the device"));
     if (is_failed && kazdrin_based(&kz.manager, &failed, (const uint8_t *)"", 0) == KZS_OK)
         return true;
     op->comes_from_device = true;
@@ -162,12 +197,17 @@ bool kz_call_base(KzOp *op)
     kazdrin_lent(&kz.manager, &(KazdrinEvent){.worker = worker}, &call, &none, 0);
     if (call.operation == KZE_WRITE && call.offset == KZ_AT_END)
         call.offset = kz_size_of(op->file);
+    cut_past_end(op, &call);
     bool cuts = call.operation == KZE_SET_SIZE && op->file->name;
     if (cuts && kz_is_mapped(op, op->file->name->stream, call.offset))
         answer(op, STATUS_USER_MAPPED_FILE, NULL, 0);
     else if (call.operation == KZE_CREATE && op->file->name)
         call_create(op, &call, worker);
-    else if (!answers(op, &call, &status))
+    else if (answers(op, &call, &status))
+        return true;
+    else if (op->file->name)
+        call_data(op, &call, worker);
+    else
         call_bytes(op, &call, worker);
     return true;
 }

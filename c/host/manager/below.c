@@ -2,6 +2,7 @@
  * hears of one is its, as their order, counts, contexts and drains are. */
 #include "manager/below.h"
 
+#include "cache/paging.h"
 #include "core/client.h"
 #include "core/memory.h"
 #include "core/op.h"
@@ -16,6 +17,7 @@
 #include "manager/opaque.h"
 #include "manager/disposition.h"
 #include "manager/operation.h"
+#include "manager/paging.h"
 #include "manager/perform.h"
 #include "manager/reparse.h"
 #include "manager/target.h"
@@ -207,6 +209,8 @@ void kz_close_below(PFLT_INSTANCE initiator, KzFile *file)
 {
     const KzOwn own = {.initiator = initiator, .is_waited_for = true};
     kz_below(&own, file, (KazdrinEvent){.event = KZE_CLEANUP, .handle = file->handle}, "", 0);
+    if (kz_holds_cache(file))
+        kz_end_idle_cache(kz_cache_of(file));
     kz_below(&own, file, (KazdrinEvent){.event = KZE_CLOSE, .handle = file->handle}, "", 0);
 }
 
@@ -227,4 +231,4 @@ void kz_close_if_due(KzFile *file)
     kz_below(&own, file, (KazdrinEvent){.event = KZE_CLOSE, .handle = file->handle}, "", 0);
 }
 
-const KzStore kz_manager_store = {kz_go_on_from_base};
+const KzStore kz_manager_store = {kz_go_on_from_base, kz_open_for_paging, kz_close_for_paging, kz_page, kz_ask_for_cache};

@@ -83,6 +83,7 @@ static void fill_set(KzOp *op, const KzAsked *asked, FLT_PARAMETERS *now)
     now->SetFileInformation.Length = (ULONG)asked->input_size;
     now->SetFileInformation.FileInformationClass = (FILE_INFORMATION_CLASS)asked->code;
     now->SetFileInformation.InfoBuffer = name;
+    now->SetFileInformation.AdvanceOnly = asked->advances;
     if (is_name && asked->input_size >= sizeof(FILE_RENAME_INFORMATION))
         now->SetFileInformation.ReplaceIfExists = name->ReplaceIfExists;
     now->SetFileInformation.ParentOfTarget = asked->target ? &asked->target->object : NULL;

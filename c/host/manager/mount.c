@@ -1,6 +1,7 @@
 /* Volumes: how they come and go, and the properties that a test gives them. */
 #include "manager/mount.h"
 
+#include "cache/paging.h"
 #include "core/memory.h"
 #include "core/state.h"
 #include "core/told.h"
@@ -89,6 +90,10 @@ bool kz_set_volume(PFLT_VOLUME volume, const char *word)
         return volume->is_snapshot = true;
     if (strcmp(word, "makesfolders") == 0)
         return volume->makes_folders = true;
+    if (strcmp(word, "cached") == 0 || strcmp(word, "uncached") == 0) {
+        volume->is_cached = *word == 'c';
+        return true;
+    }
     if (strcmp(word, "case") == 0)
         return volume->is_case_sensitive = true;
     if (strcmp(word, "removable") == 0) {
@@ -138,6 +143,7 @@ uint32_t kz_mount(const char *name, uint64_t *number)
 static uint32_t start_dismount(PFLT_VOLUME volume)
 {
     kz_end_notices(NULL, volume); /* a file system that goes answers who waits in it */
+    kz_end_caches(volume);
     kz_settle();
     uint32_t status = kz_event(kz_worker(), (KazdrinEvent){.event = KZE_START_DISMOUNT, .volume = volume->id}).status;
     if (status != KZS_OK)

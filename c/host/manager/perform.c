@@ -1,6 +1,7 @@
 /* Requests, from their beginning to their reply; and what goes on behind them: operations that were let go, closes that are due, what waits for its turn. */
 #include "manager/perform.h"
 
+#include "cache/cache.h"
 #include "core/client.h"
 #include "core/module.h"
 #include "core/op.h"
@@ -88,6 +89,7 @@ void kz_cleanup_over(KzFile *file)
     kz_unlock_ranges(file, NULL);
     kz_stop_sharing(file);
     kz_unlock_volume(file);
+    kz_cache_cleaned_up(file);
     kz_end_cleanup(file);
 }
 
@@ -404,9 +406,18 @@ KzReply kz_perform_fast(const KzBegin *asked)
     return answer.reply;
 }
 
+/* A handle that caches has its reads and writes without an IRP first. */
+static bool is_cached_by(const KazdrinEvent *asked)
+{
+    bool is_data = asked->event == KZE_READ || asked->event == KZE_WRITE;
+    const KzFile *file = is_data ? kz_file_of(asked->handle) : NULL;
+    return file && file->object.PrivateCacheMap;
+}
+
 KzReply kz_perform(KazdrinEvent asked, const void *bytes, size_t length, const char *path)
 {
-    return kz_perform_as(&(KzBegin){.event = asked, .bytes = bytes, .length = length, .path = path});
+    const KzBegin one = {.event = asked, .bytes = bytes, .length = length, .path = path};
+    return is_cached_by(&asked) ? kz_perform_fast(&one) : kz_perform_as(&one);
 }
 
 /* The system asks for what its generic bits stand for. */
@@ -493,7 +504,7 @@ KzReply kz_close_file(uint64_t handle)
     KzFile *file = !reply.held && reply.status == KZS_OK ? kz_file_of(handle) : NULL;
     const KzFile *open = kz_file_of(handle);
     uint8_t refusal = open ? open->refusal : KZS_OK;
-    if (file && file->users > 1 && (kz_has_others() || kz_is_referenced(&file->object)))
+    if (file && file->users > 1 && (kz_has_others() || kz_is_referenced(&file->object) || kz_holds_cache(file)))
         kz_uses_all(), file->is_close_due = true; /* as in the kit: whoever ends the last operation of a file object closes it */
     else if (!reply.held && (reply.status == KZS_OK || reply.status == KZS_WRONG_STEP))
         answer = run(&(KzBegin){.event = {.event = KZE_CLOSE, .handle = handle}, .bytes = ""});

@@ -10,6 +10,7 @@
 #include "core/status.h"
 #include "core/told.h"
 #include "filesystem/fileobject.h"
+#include "filesystem/tree.h"
 #include "manager/answer.h"
 #include "manager/context.h"
 #include "manager/data.h"
@@ -132,13 +133,20 @@ KazdrinEvent kz_verdict_of(KzOp *op, PFLT_INSTANCE instance, FLT_PREOP_CALLBACK_
     return verdict;
 }
 
+/* They are the stream's once the file system has opened it, which a create that is sent down again does inside the callback. */
+static bool is_its_sections(const KzFile *file, const FILE_OBJECT *before)
+{
+    const SECTION_OBJECT_POINTERS *now = file->object.SectionObjectPointer;
+    return now == before->SectionObjectPointer || (file->name && now == &file->name->stream->sections);
+}
+
 void kz_look_at_file(KzOp *op, const FILE_OBJECT *before)
 {
     FILE_OBJECT *now = &op->file->object;
     const char *changed = now->FsContext && now->FsContext != op->file                    ? "FsContext"
                           : now->FsContext2 && now->FsContext2 != &op->file->sections     ? "FsContext2"
-                          : now->SectionObjectPointer != before->SectionObjectPointer ? "SectionObjectPointer"
-                                                                                      : NULL;
+                          : !is_its_sections(op->file, before)                           ? "SectionObjectPointer"
+                                                                                         : NULL;
     if (!changed)
         return;
     kz_tell(KZM_NOT_OWN_MEMORY, "FILE_OBJECT", "%s was changed: it is the file system's", changed);

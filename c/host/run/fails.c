@@ -7,7 +7,7 @@
 static const struct {
     const char *word;
     KzChoice what;
-} kinds[] = {{"device", KZ_CHOICE_DEVICE}, {"pool", KZ_CHOICE_POOL}, {"context", KZ_CHOICE_CONTEXT}, {"name", KZ_CHOICE_NAME}};
+} kinds[] = {{"device", KZ_CHOICE_DEVICE}, {"paging", KZ_CHOICE_PAGING}, {"pool", KZ_CHOICE_POOL}, {"context", KZ_CHOICE_CONTEXT}, {"name", KZ_CHOICE_NAME}};
 
 enum { KINDS = sizeof kinds / sizeof kinds[0] };
 static unsigned after[KINDS]; /* how many calls are left up to that one; 0 if there is none */

@@ -1,6 +1,7 @@
 /* A run: how it begins, and what is looked at and given back at its end. */
 #include "run/open.h"
 
+#include "cache/paging.h"
 #include "core/client.h"
 #include "core/crash.h"
 #include "core/late.h"
@@ -13,6 +14,7 @@
 #include "manager/filter.h"
 #include "manager/mount.h"
 #include "manager/operation.h"
+#include "manager/perform.h"
 #include "kit/names.h"
 #include "user/program.h"
 #include "run/fails.h"
@@ -83,6 +85,8 @@ void kz_end(void)
 {
     kz_me->request = NULL;
     kz_me->line_number = 0;
+    kz_end_caches(NULL);
+    kz_settle();
     kz_unload_all();
     kz_end_programs();
     kz_tell_held();

@@ -1,6 +1,7 @@
 /* Requests in words. */
 #include "run/words.h"
 
+#include "cache/paging.h"
 #include "core/clock.h"
 #include "core/near.h"
 #include "filesystem/deletion.h"
@@ -163,6 +164,15 @@ static KzReply ask_time(char **words)
     if (!kz_read_number(words[1], (uint64_t)1 << 40, &milliseconds))
         return kz_wrong();
     kz_pass(milliseconds);
+    kz_settle();
+    return outcome(KZS_OK, 0);
+}
+
+/* The lazy writer's turn. */
+static KzReply ask_lazy(char **words)
+{
+    (void)words;
+    kz_write_lazily(true);
     kz_settle();
     return outcome(KZS_OK, 0);
 }
@@ -369,7 +379,7 @@ static const KzRequest requests[] = {
     {"registry", 2, 5, ask_registry, false},   {"fail", 3, 3, ask_fail, false},           {"start", 2, KZ_WORDS, ask_start, false},
     {"type", 3, KZ_WORDS, ask_type, false},    {"cancel", 2, 2, ask_cancel, false},       {"process", 3, 5, ask_process, false},
     {"thread", 3, 5, kz_ask_thread, false},    {"image", 4, 4, kz_ask_image, false},      {"open", 4, 6, kz_ask_open, false},
-    {"restore", 2, 2, ask_restore, true},
+    {"restore", 2, 2, ask_restore, true},      {"lazy", 1, 1, ask_lazy, false},
 };
 
 const KzRequest *kz_request_at(size_t at)

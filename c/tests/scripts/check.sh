@@ -9,6 +9,7 @@
 #   spread    a search in parts, by jobs, by GNU parallel and by shards, and one that is interrupted
 #   threads   drivers under real threads
 #   names     names, and major functions without a kind of their own: compared with a model, under schedules and refusals, by threads
+#   paging    volumes that cache: compared with a list of bytes, under schedules and refusals, by threads
 #   programs  samples with programs, threads, processes: schedules, refusals, threads
 #   cache     what is built without proofs, and who takes it from where: by stand-ins of the kit
 #   script    scripts above the archive, and threads of scenarios in every order
@@ -54,6 +55,7 @@ least() {
         cache) echo 20 ;;
         misuse) echo 16 ;;
         names) echo 28 ;;
+        paging) echo 7 ;;
         script) echo 47 ;;
         order) echo 200 ;;
         mount) echo 1250 ;;

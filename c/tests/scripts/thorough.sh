@@ -7,6 +7,7 @@
 #   lines       lines of drivers by gcc and clang at several optimizations, and the headers compared with those of mingw-w64
 #   threads     each sample for ten seconds with eight threads
 #   names       3,000 random sessions of names, compared with a model of their own
+#   paging      300 random sessions above a volume that caches
 #   programs    samples with programs of their own, as both
 #   image       a minute of changed binaries under the sanitizers, with the part image
 #   binaries    all samples as binaries in all words, and below a mount; the binaries of Wine, if they are here: ten minutes
@@ -58,6 +59,11 @@ threads() {
 names() {
     "$here/names.sh" --whole
     tell $? names
+}
+
+paging() {
+    "$here/paging.sh" --whole
+    tell $? paging
 }
 
 programs() {
@@ -131,10 +137,10 @@ mount() {
     fi
 }
 
-[ $# -gt 0 ] || set -- host explore sound lines threads names programs image binaries libfuzzer real release mount
+[ $# -gt 0 ] || set -- host explore sound lines threads names paging programs image binaries libfuzzer real release mount
 for part in "$@"; do
     case $part in
-    host | explore | sound | lines | threads | names | programs | image | binaries | libfuzzer | real | release | mount) "$part" ;;
+    host | explore | sound | lines | threads | names | paging | programs | image | binaries | libfuzzer | real | release | mount) "$part" ;;
     *)
         echo "there is no part $part" >&2
         exit 2

@@ -1,0 +1,82 @@
+/* The cache of a stream's pages: which are there, which were changed, and whose file object they are read and written by. */
+#ifndef KZ_CACHE_CACHE_H
+#define KZ_CACHE_CACHE_H
+
+#include "host.h"
+#include "filesystem/tree.h"
+
+/* One paging read or write has up to a cluster of pages, as the lazy writer's have in the kit. */
+enum { KZ_PAGE = 4096, KZ_CLUSTER = KZ_BYTES / KZ_PAGE, KZ_SEATS = 16 };
+
+/* On its way in; as the file has it; changed. One that isn't there has no place. */
+typedef enum { KZG_COMING, KZG_CLEAN, KZG_DIRTY } KzPageState;
+
+typedef struct {
+    uint64_t number;
+    uint8_t *bytes;
+    KzPageState state;
+    bool is_going;  /* what it held is being written */
+    LONGLONG since; /* when it was changed first, or when that was written in vain */
+} KzCachedPage;
+
+typedef struct KzCache {
+    struct KzCache *next;
+    KzStream *stream;
+    KzFile *holder;  /* the file object that cached first: paging I/O goes by it, after its cleanup too, and its close waits for the cache's end */
+    uint64_t handle; /* that paging I/O goes by, and which no cleanup ends */
+    KzCachedPage *pages; /* in the order of their numbers */
+    size_t count, room;
+    uint64_t told;   /* up to where the file system was told that something was written */
+    unsigned maps;   /* handles that cached, and whose cleanup isn't over */
+    unsigned users;  /* who is at it, or waits to be */
+    unsigned round;  /* of the lazy writer, that came to it last */
+    LONGLONG idle;   /* since when nothing needs it */
+    uint64_t last, ahead, ahead_count; /* where the last read ended, and pages that are to be read ahead of the next */
+    struct {
+        const void *by; /* NULL: the seat is free */
+        bool is_alone;
+        unsigned depth;
+    } seats[KZ_SEATS]; /* who has the file system's lock of the stream */
+} KzCache;
+
+/* ---- Caches. */
+extern const struct KzModule kz_cache_module, kz_writer_module;
+KzCache *kz_first_cache(void);
+/* By which the lazy writer knows to which it has come. */
+unsigned kz_next_round(void);
+/* NULL: the stream has none. */
+KzCache *kz_cache_of(const KzFile *file);
+KzCache *kz_cache_with(const SECTION_OBJECT_POINTERS *pointers);
+/* The stream's, which begins with the first cached read or write; NULL if there is no memory for it. The handle caches from then on. */
+KzCache *kz_begin_cache(KzFile *file);
+/* The same for who only has zeros written: the handle doesn't cache. */
+KzCache *kz_stream_cache(KzFile *file);
+/* What isn't written by then is lost. */
+void kz_end_cache(KzCache *cache);
+bool kz_holds_cache(const KzFile *file);
+/* Paging I/O and what else the cache and the memory manager ask for, of a stream that is cached. */
+bool kz_is_for_cache(const KzOp *op);
+/* The cleanup of a file's handle is over. */
+void kz_cache_cleaned_up(KzFile *file);
+
+/* ---- Pages. A pointer to one is good until the next one is made or goes. */
+KzCachedPage *kz_page_of(const KzCache *cache, uint64_t number); /* NULL if it isn't there */
+KzCachedPage *kz_make_cached_page(KzCache *cache, uint64_t number, KzPageState state);
+void kz_soil_page(KzCachedPage *page);
+/* The first dirty page from `first` on that nobody writes, and how many follow it, up to a cluster; 0 if there is none before `end`. */
+unsigned kz_dirty_run(const KzCache *cache, uint64_t *first, uint64_t end);
+bool kz_has_dirty(const KzCache *cache);
+/* Pages go, but for those that come or are written; false if there are some of these. */
+bool kz_forget_pages(KzCache *cache, uint64_t first, uint64_t end);
+static inline uint64_t kz_pages_of(uint64_t bytes)
+{
+    return (bytes + KZ_PAGE - 1) / KZ_PAGE;
+}
+
+/* ---- The file system's lock of a stream: shared by who reads, and by who changes what is there; else one has it alone. False: it would wait for itself. */
+bool kz_lock_stream(KzCache *cache, bool is_alone);
+/* At once, by what runs beside the requests. */
+bool kz_try_stream(KzCache *cache, const void *by);
+void kz_unlock_stream(KzCache *cache, const void *by);
+
+#endif

@@ -1,0 +1,100 @@
+/* The pages of a cache, in the order of their numbers. */
+#include "cache/cache.h"
+
+#include "core/memory.h"
+
+#include <stdlib.h>
+
+/* Where the page of that number is, or would be. */
+static size_t place_of(const KzCache *cache, uint64_t number)
+{
+    size_t low = 0, high = cache->count;
+    while (low < high) {
+        size_t middle = low + (high - low) / 2;
+        if (cache->pages[middle].number < number)
+            low = middle + 1;
+        else
+            high = middle;
+    }
+    return low;
+}
+
+KzCachedPage *kz_page_of(const KzCache *cache, uint64_t number)
+{
+    size_t at = place_of(cache, number);
+    return at < cache->count && cache->pages[at].number == number ? &cache->pages[at] : NULL;
+}
+
+static void grow(KzCache *cache)
+{
+    size_t room = cache->room * 2 + KZ_CLUSTER;
+    KzCachedPage *pages = kz_memory(room * sizeof *pages);
+    if (cache->count)
+        memcpy(pages, cache->pages, cache->count * sizeof *pages);
+    free(cache->pages);
+    cache->pages = pages;
+    cache->room = room;
+}
+
+KzCachedPage *kz_make_cached_page(KzCache *cache, uint64_t number, KzPageState state)
+{
+    size_t at = place_of(cache, number);
+    if (cache->count == cache->room)
+        grow(cache);
+    memmove(cache->pages + at + 1, cache->pages + at, (cache->count - at) * sizeof *cache->pages);
+    cache->pages[at] = (KzCachedPage){.number = number, .bytes = kz_memory(KZ_PAGE), .state = state, .since = kz.passed};
+    cache->count++;
+    return &cache->pages[at];
+}
+
+void kz_soil_page(KzCachedPage *page)
+{
+    if (page->state == KZG_DIRTY)
+        return;
+    page->state = KZG_DIRTY;
+    page->since = kz.passed;
+}
+
+static bool is_due(const KzCachedPage *page)
+{
+    return page->state == KZG_DIRTY && !page->is_going;
+}
+
+unsigned kz_dirty_run(const KzCache *cache, uint64_t *first, uint64_t end)
+{
+    unsigned count = 0;
+    size_t at = place_of(cache, *first);
+    while (at < cache->count && cache->pages[at].number < end && !is_due(&cache->pages[at]))
+        at++;
+    if (at == cache->count || cache->pages[at].number >= end)
+        return 0;
+    *first = cache->pages[at].number;
+    while (at + count < cache->count && count < KZ_CLUSTER && cache->pages[at + count].number == *first + count && *first + count < end && is_due(&cache->pages[at + count]))
+        count++;
+    return count;
+}
+
+bool kz_has_dirty(const KzCache *cache)
+{
+    for (size_t at = 0; at < cache->count; at++)
+        if (cache->pages[at].state == KZG_DIRTY || cache->pages[at].is_going)
+            return true;
+    return false;
+}
+
+bool kz_forget_pages(KzCache *cache, uint64_t first, uint64_t end)
+{
+    size_t to = place_of(cache, first);
+    bool are_all = true;
+    for (size_t at = to; at < cache->count; at++) {
+        KzCachedPage one = cache->pages[at];
+        bool is_meant = one.number < end, is_busy = one.state == KZG_COMING || one.is_going;
+        are_all &= !is_meant || !is_busy;
+        if (is_meant && !is_busy)
+            free(one.bytes);
+        else
+            cache->pages[to++] = one;
+    }
+    cache->count = to;
+    return are_all;
+}

@@ -1,0 +1,27 @@
+/* How the file system goes by a stream's pages, and how their reads and writes become operations. */
+#ifndef KZ_MANAGER_PAGING_H
+#define KZ_MANAGER_PAGING_H
+
+#include "host.h"
+#include "core/op.h"
+#include "filesystem/store.h"
+
+/* ---- What the cache asks of the manager. */
+bool kz_open_for_paging(const KzFile *file, uint64_t *handle);
+void kz_close_for_paging(const KzFile *file, uint64_t handle);
+NTSTATUS kz_page(KzFile *file, uint64_t handle, const KzPaging *asked, uint64_t *there);
+NTSTATUS kz_ask_for_cache(KzFile *file, uint64_t handle, const KzAsked *asked);
+
+/* ---- What the file system does. */
+/* A read or a write that goes by the stream's pages, if there is any of the file where it is. */
+bool kz_goes_by_pages(const KzOp *op);
+/* A read leaves its bytes in the client's room. */
+NTSTATUS kz_call_pages(KzOp *op, const KazdrinData *call, size_t *length);
+/* Before a call that goes to the file itself, and after it: pages are written and go, and nobody else is at the stream. */
+NTSTATUS kz_begin_uncached(KzOp *op, const KazdrinData *call);
+void kz_end_uncached(KzOp *op, const KazdrinData *call);
+/* The same around a control code that writes zeros. */
+NTSTATUS kz_begin_control(KzFile *file);
+void kz_note_zeros(KzFile *file);
+
+#endif

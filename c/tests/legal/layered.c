@@ -1,0 +1,2 @@
+/* The layer of c/tests/drivers, by every scheduler. */
+#include "../drivers/layer.c"

@@ -1,4 +1,4 @@
-/* Pends reads in a queue, in the order in which they came, and lets them go on when the file's data is flushed. It holds the postoperation of a query of the
+/* Pends reads of programs in a queue, in the order in which they came, and lets them go on when the file's data is flushed. It holds the postoperation of a query of the
  * size in the same way. At the teardown of its instance it completes what is left. */
 #include <fltKernel.h>
 
@@ -86,6 +86,12 @@ static NTSTATUS InstanceSetup(_In_ PCFLT_RELATED_OBJECTS FltObjects, _In_ FLT_IN
     return status;
 }
 
+/* Only an IRP may be pended, and no paging I/O, nor what the file system itself waits for. */
+static BOOLEAN MayBePended(_In_ PFLT_CALLBACK_DATA Data)
+{
+    return FLT_IS_IRP_OPERATION(Data) && !FlagOn(Data->Iopb->IrpFlags, IRP_PAGING_IO) && IoGetTopLevelIrp() == NULL;
+}
+
 static FLT_PREOP_CALLBACK_STATUS PreRead(_Inout_ PFLT_CALLBACK_DATA Data, _In_ PCFLT_RELATED_OBJECTS FltObjects,
                                          _Flt_CompletionContext_Outptr_ PVOID *CompletionContext)
 {
@@ -95,7 +101,10 @@ static FLT_PREOP_CALLBACK_STATUS PreRead(_Inout_ PFLT_CALLBACK_DATA Data, _In_ P
 
     UNREFERENCED_PARAMETER(CompletionContext);
 
-    if (!NT_SUCCESS(FltGetInstanceContext(FltObjects->Instance, (PFLT_CONTEXT *)&instCtx))) {
+    if (FLT_IS_FASTIO_OPERATION(Data)) {
+        return FLT_PREOP_DISALLOW_FASTIO; /* it comes again as an IRP */
+    }
+    if (!MayBePended(Data) || !NT_SUCCESS(FltGetInstanceContext(FltObjects->Instance, (PFLT_CONTEXT *)&instCtx))) {
         return FLT_PREOP_SUCCESS_NO_CALLBACK;
     }
     status = FltCbdqInsertIo(&instCtx->Cbdq, Data, NULL, NULL);

@@ -1,5 +1,7 @@
 /* An encryption layer: each file whose name ends in .doc has a header of 512 bytes before its own, which nobody above sees, and its bytes are turned by a key from that header. The header is
- * hidden in reads and writes, also those of the virtual memory, in every size that is asked for or set, in directories' entries, and in locks of bytes. */
+ * hidden in reads and writes, in every size that is asked for or set, in directories' entries, and in locks of bytes: these come 512 bytes farther.
+ * Bytes are turned between the cache and the disk, that is in paging I/O and in what isn't cached: the cache has the header, and then plain text. Paging I/O has the places of the file below, and stays
+ * where it is. Who maps such a file would see the header: sections of it are refused. */
 #include <fltKernel.h>
 
 #define CIPHER_HEADER 512
@@ -22,19 +24,33 @@ typedef struct _CIPHER_CONTEXT {
 typedef struct _CIPHER_SWAP {
     PCIPHER_CONTEXT Context; /* has a reference */
     PVOID Original;          /* the caller's own buffer, where that isn't in the parameters */
-    LONGLONG Offset;         /* as the caller has it */
+    LONGLONG Offset;         /* in the file below; of a size that is set, the size before */
     UCHAR Buffer[ANYSIZE_ARRAY];
 } CIPHER_SWAP, *PCIPHER_SWAP;
 
 PFLT_FILTER gFilterHandle;
 static const UNICODE_STRING gExtension = RTL_CONSTANT_STRING(L"doc");
 
-static VOID CipherTurn(_Out_ PUCHAR To, _In_ const UCHAR *From, _In_ SIZE_T Length, _In_ LONGLONG Offset, _In_ ULONG Key)
+/* The offset is that of the file below. The header stays as it is, and a sector of zeros is one that was never written. */
+static VOID CipherTurnSector(_Out_ PUCHAR To, _In_ const UCHAR *From, _In_ SIZE_T Length, _In_ LONGLONG Offset, _In_ ULONG Key, _In_ BOOLEAN IsRead)
 {
     SIZE_T i;
+    UCHAR any = !IsRead;
 
+    for (i = 0; i < Length && any == 0; i++) {
+        any = From[i];
+    }
     for (i = 0; i < Length; i++) {
-        To[i] = From[i] ^ (UCHAR)(Key >> 8 * ((Offset + i) % 4)) ^ (UCHAR)(Offset + i);
+        To[i] = Offset < CIPHER_HEADER || any == 0 ? From[i] : From[i] ^ (UCHAR)(Key >> 8 * ((Offset + i) % 4)) ^ (UCHAR)(Offset + i);
+    }
+}
+
+static VOID CipherTurn(_Out_ PUCHAR To, _In_ const UCHAR *From, _In_ SIZE_T Length, _In_ LONGLONG Offset, _In_ ULONG Key, _In_ BOOLEAN IsRead)
+{
+    SIZE_T at;
+
+    for (at = 0; at < Length; at += CIPHER_HEADER) {
+        CipherTurnSector(To + at, From + at, min(Length - at, CIPHER_HEADER), Offset + at, Key, IsRead);
     }
 }
 
@@ -45,12 +61,12 @@ static BOOLEAN CipherIsName(_In_ PCUNICODE_STRING Name)
     return NT_SUCCESS(FltParseFileName(Name, &extension, NULL, NULL)) && RtlEqualUnicodeString(&extension, &gExtension, TRUE);
 }
 
-/* ---- The header of a file, read or written below the filter. */
+/* ---- The header of a file, read or written below the filter, and not by the cache: what that read before the key is known would stay as it is. */
 static NTSTATUS CipherReadHeader(_In_ PCFLT_RELATED_OBJECTS FltObjects, _Out_ PCIPHER_FILE_HEADER Header)
 {
     LARGE_INTEGER offset = {0};
     ULONG done = 0;
-    NTSTATUS status = FltReadFile(FltObjects->Instance, FltObjects->FileObject, &offset, sizeof(*Header), Header, FLTFL_IO_OPERATION_DO_NOT_UPDATE_BYTE_OFFSET, &done, NULL, NULL);
+    NTSTATUS status = FltReadFile(FltObjects->Instance, FltObjects->FileObject, &offset, sizeof(*Header), Header, FLTFL_IO_OPERATION_NON_CACHED | FLTFL_IO_OPERATION_DO_NOT_UPDATE_BYTE_OFFSET, &done, NULL, NULL);
 
     if (!NT_SUCCESS(status)) {
         return status;
@@ -65,7 +81,7 @@ static NTSTATUS CipherWriteHeader(_In_ PCFLT_RELATED_OBJECTS FltObjects, _Inout_
     RtlZeroMemory(Header, sizeof(*Header));
     Header->Signature = CIPHER_SIGNATURE;
     Header->Key = 0x5a17c33e;
-    return FltWriteFile(FltObjects->Instance, FltObjects->FileObject, &offset, sizeof(*Header), Header, FLTFL_IO_OPERATION_DO_NOT_UPDATE_BYTE_OFFSET, NULL, NULL, NULL);
+    return FltWriteFile(FltObjects->Instance, FltObjects->FileObject, &offset, sizeof(*Header), Header, FLTFL_IO_OPERATION_NON_CACHED | FLTFL_IO_OPERATION_DO_NOT_UPDATE_BYTE_OFFSET, NULL, NULL, NULL);
 }
 
 static NTSTATUS CipherOpen(_In_ PCFLT_RELATED_OBJECTS FltObjects, _Out_ PULONG Key)
@@ -168,7 +184,26 @@ static FLT_PREOP_CALLBACK_STATUS CipherFail(_Inout_ PFLT_CALLBACK_DATA Data, _In
     return FLT_PREOP_COMPLETE;
 }
 
-/* ---- Reads and writes: 512 bytes farther, and by another buffer. */
+/* ---- Reads and writes: 512 bytes farther, and those of the disk by another buffer. */
+static BOOLEAN CipherIsPaging(_In_ PFLT_CALLBACK_DATA Data)
+{
+    return FlagOn(Data->Iopb->IrpFlags, IRP_PAGING_IO) != 0;
+}
+
+static BOOLEAN CipherIsOfDisk(_In_ PFLT_CALLBACK_DATA Data)
+{
+    return FlagOn(Data->Iopb->IrpFlags, IRP_NOCACHE | IRP_PAGING_IO) != 0;
+}
+
+/* What goes between a program and the cache needs no other buffer. */
+static FLT_PREOP_CALLBACK_STATUS CipherMove(_Inout_ PFLT_CALLBACK_DATA Data, _In_ PCIPHER_CONTEXT Context, _Inout_ PLARGE_INTEGER Offset)
+{
+    Offset->QuadPart += CIPHER_HEADER;
+    FltSetCallbackDataDirty(Data);
+    FltReleaseContext(Context);
+    return FLT_PREOP_SUCCESS_NO_CALLBACK;
+}
+
 static FLT_PREOP_CALLBACK_STATUS CipherPreRead(_Inout_ PFLT_CALLBACK_DATA Data, _In_ PCFLT_RELATED_OBJECTS FltObjects, _Flt_CompletionContext_Outptr_ PVOID *CompletionContext)
 {
     PFLT_IO_PARAMETER_BLOCK iopb = Data->Iopb;
@@ -178,12 +213,17 @@ static FLT_PREOP_CALLBACK_STATUS CipherPreRead(_Inout_ PFLT_CALLBACK_DATA Data, 
     if (context == NULL) {
         return FLT_PREOP_SUCCESS_NO_CALLBACK;
     }
+    if (!CipherIsOfDisk(Data)) {
+        return CipherMove(Data, context, &iopb->Parameters.Read.ByteOffset);
+    }
     swap = CipherNewSwap(context, max(iopb->Parameters.Read.Length, 1));
     if (swap == NULL) {
         return CipherFail(Data, context);
     }
+    if (!CipherIsPaging(Data)) {
+        iopb->Parameters.Read.ByteOffset.QuadPart += CIPHER_HEADER;
+    }
     swap->Offset = iopb->Parameters.Read.ByteOffset.QuadPart;
-    iopb->Parameters.Read.ByteOffset.QuadPart += CIPHER_HEADER;
     iopb->Parameters.Read.ReadBuffer = swap->Buffer;
     iopb->Parameters.Read.MdlAddress = NULL;
     FltSetCallbackDataDirty(Data);
@@ -197,7 +237,7 @@ static VOID CipherTurnRead(_Inout_ PFLT_CALLBACK_DATA Data, _In_ PCIPHER_SWAP Sw
     PVOID original = NT_SUCCESS(Status) ? MmGetSystemAddressForMdlSafe(Data->Iopb->Parameters.Read.MdlAddress, NormalPagePriority) : NULL;
 
     if (original != NULL) {
-        CipherTurn(original, Swap->Buffer, Data->IoStatus.Information, Swap->Offset, Swap->Context->Key);
+        CipherTurn(original, Swap->Buffer, Data->IoStatus.Information, Swap->Offset, Swap->Context->Key, TRUE);
     } else {
         Data->IoStatus.Status = NT_SUCCESS(Status) ? STATUS_INSUFFICIENT_RESOURCES : Status;
         Data->IoStatus.Information = 0;
@@ -241,14 +281,19 @@ static FLT_PREOP_CALLBACK_STATUS CipherPreWrite(_Inout_ PFLT_CALLBACK_DATA Data,
     if (context == NULL) {
         return FLT_PREOP_SUCCESS_NO_CALLBACK;
     }
-    swap = CipherNewSwap(context, max(length, 1));
+    if (!CipherIsOfDisk(Data)) {
+        return CipherMove(Data, context, &iopb->Parameters.Write.ByteOffset);
+    }
+    original = iopb->Parameters.Write.MdlAddress != NULL ? MmGetSystemAddressForMdlSafe(iopb->Parameters.Write.MdlAddress, NormalPagePriority) : iopb->Parameters.Write.WriteBuffer;
+    swap = original == NULL ? NULL : CipherNewSwap(context, max(length, 1));
     if (swap == NULL) {
         return CipherFail(Data, context);
     }
+    if (!CipherIsPaging(Data)) {
+        iopb->Parameters.Write.ByteOffset.QuadPart += CIPHER_HEADER;
+    }
     swap->Offset = iopb->Parameters.Write.ByteOffset.QuadPart;
-    original = iopb->Parameters.Write.MdlAddress != NULL ? MmGetSystemAddressForMdlSafe(iopb->Parameters.Write.MdlAddress, NormalPagePriority) : iopb->Parameters.Write.WriteBuffer;
-    CipherTurn(swap->Buffer, original, length, swap->Offset, context->Key);
-    iopb->Parameters.Write.ByteOffset.QuadPart += CIPHER_HEADER;
+    CipherTurn(swap->Buffer, original, length, swap->Offset, context->Key, FALSE);
     iopb->Parameters.Write.WriteBuffer = swap->Buffer;
     iopb->Parameters.Write.MdlAddress = NULL;
     FltSetCallbackDataDirty(Data);
@@ -329,6 +374,36 @@ static FLT_PREOP_CALLBACK_STATUS CipherPreNetworkOpen(_Inout_ PFLT_CALLBACK_DATA
 }
 
 /* ---- Sizes that are set: by a buffer of the filter's own. All three have the one number. */
+static LONGLONG CipherSizeBelow(_In_ PCFLT_RELATED_OBJECTS FltObjects)
+{
+    FILE_STANDARD_INFORMATION standard;
+    NTSTATUS status = FltQueryInformationFile(FltObjects->Instance, FltObjects->FileObject, &standard, sizeof(standard), FileStandardInformation, NULL);
+
+    return NT_SUCCESS(status) ? standard.EndOfFile.QuadPart : MAXLONGLONG;
+}
+
+/* Of a file that was made larger the rest of the last sector is zeros that nobody turned. Paging I/O makes no file larger, and the cache has zeros there as well. */
+static VOID CipherZeroTail(_In_ PCFLT_RELATED_OBJECTS FltObjects, _In_ PCIPHER_SWAP Swap)
+{
+    const ULONG flags = FLTFL_IO_OPERATION_NON_CACHED | FLTFL_IO_OPERATION_PAGING | FLTFL_IO_OPERATION_SYNCHRONOUS_PAGING | FLTFL_IO_OPERATION_DO_NOT_UPDATE_BYTE_OFFSET;
+    ULONG kept = (ULONG)(Swap->Offset % CIPHER_HEADER), done;
+    PUCHAR sector = ExAllocatePoolWithTag(NonPagedPool, CIPHER_HEADER, CIPHER_BUFFER_TAG);
+    LARGE_INTEGER begin;
+
+    if (sector == NULL) {
+        return;
+    }
+    RtlZeroMemory(sector, CIPHER_HEADER);
+    begin.QuadPart = Swap->Offset - kept;
+    if (NT_SUCCESS(FltReadFile(FltObjects->Instance, FltObjects->FileObject, &begin, CIPHER_HEADER, sector, flags, &done, NULL, NULL))) {
+        CipherTurn(sector, sector, kept, begin.QuadPart, Swap->Context->Key, TRUE);
+        RtlZeroMemory(sector + kept, CIPHER_HEADER - kept);
+        CipherTurn(sector, sector, CIPHER_HEADER, begin.QuadPart, Swap->Context->Key, FALSE);
+        FltWriteFile(FltObjects->Instance, FltObjects->FileObject, &begin, CIPHER_HEADER, sector, flags, &done, NULL, NULL);
+    }
+    ExFreePoolWithTag(sector, CIPHER_BUFFER_TAG);
+}
+
 static FLT_PREOP_CALLBACK_STATUS CipherPreSet(_Inout_ PFLT_CALLBACK_DATA Data, _In_ PCFLT_RELATED_OBJECTS FltObjects, _Flt_CompletionContext_Outptr_ PVOID *CompletionContext)
 {
     PFLT_IO_PARAMETER_BLOCK iopb = Data->Iopb;
@@ -338,6 +413,9 @@ static FLT_PREOP_CALLBACK_STATUS CipherPreSet(_Inout_ PFLT_CALLBACK_DATA Data, _
     LARGE_INTEGER size;
 
     if (class != FileEndOfFileInformation && class != FileAllocationInformation && class != FileValidDataLengthInformation) {
+        return FLT_PREOP_SUCCESS_NO_CALLBACK;
+    }
+    if (CipherIsPaging(Data)) { /* the lazy writer has the sizes of the file below */
         return FLT_PREOP_SUCCESS_NO_CALLBACK;
     }
     context = CipherGetContext(FltObjects);
@@ -351,10 +429,25 @@ static FLT_PREOP_CALLBACK_STATUS CipherPreSet(_Inout_ PFLT_CALLBACK_DATA Data, _
     size = *(PLARGE_INTEGER)iopb->Parameters.SetFileInformation.InfoBuffer;
     size.QuadPart += CIPHER_HEADER;
     RtlCopyMemory(swap->Buffer, &size, sizeof(size));
+    swap->Offset = class == FileEndOfFileInformation ? CipherSizeBelow(FltObjects) : MAXLONGLONG;
     iopb->Parameters.SetFileInformation.InfoBuffer = swap->Buffer;
     FltSetCallbackDataDirty(Data);
     *CompletionContext = swap;
-    return FLT_PREOP_SUCCESS_WITH_CALLBACK;
+    return FLT_PREOP_SYNCHRONIZE;
+}
+
+static FLT_POSTOP_CALLBACK_STATUS CipherPostSet(_Inout_ PFLT_CALLBACK_DATA Data, _In_ PCFLT_RELATED_OBJECTS FltObjects, _In_opt_ PVOID CompletionContext,
+                                                _In_ FLT_POST_OPERATION_FLAGS Flags)
+{
+    PCIPHER_SWAP swap = CompletionContext;
+    LARGE_INTEGER size;
+
+    RtlCopyMemory(&size, swap->Buffer, sizeof(size));
+    if (!FlagOn(Flags, FLTFL_POST_OPERATION_DRAINING) && NT_SUCCESS(Data->IoStatus.Status) && size.QuadPart > swap->Offset && swap->Offset % CIPHER_HEADER != 0) {
+        CipherZeroTail(FltObjects, swap);
+    }
+    CipherFreeSwap(swap);
+    return FLT_POSTOP_FINISHED_PROCESSING;
 }
 
 /* ---- Entries of directories. */
@@ -432,6 +525,24 @@ static FLT_PREOP_CALLBACK_STATUS CipherPreLock(_Inout_ PFLT_CALLBACK_DATA Data, 
     return FLT_PREOP_SUCCESS_NO_CALLBACK;
 }
 
+/* ---- Sections: who maps the file would see the header, and all of it 512 bytes too far. */
+static FLT_PREOP_CALLBACK_STATUS CipherPreSection(_Inout_ PFLT_CALLBACK_DATA Data, _In_ PCFLT_RELATED_OBJECTS FltObjects, _Flt_CompletionContext_Outptr_ PVOID *CompletionContext)
+{
+    PCIPHER_CONTEXT context = CipherGetContext(FltObjects);
+
+    UNREFERENCED_PARAMETER(CompletionContext);
+    if (context == NULL || Data->Iopb->Parameters.AcquireForSectionSynchronization.SyncType != SyncTypeCreateSection) {
+        if (context != NULL) {
+            FltReleaseContext(context);
+        }
+        return FLT_PREOP_SUCCESS_NO_CALLBACK;
+    }
+    FltReleaseContext(context);
+    Data->IoStatus.Status = STATUS_ACCESS_DENIED;
+    Data->IoStatus.Information = 0;
+    return FLT_PREOP_COMPLETE;
+}
+
 /* ---- The filter. */
 static NTSTATUS CipherQueryTeardown(_In_ PCFLT_RELATED_OBJECTS FltObjects, _In_ FLT_INSTANCE_QUERY_TEARDOWN_FLAGS Flags)
 {
@@ -451,10 +562,11 @@ CONST FLT_OPERATION_REGISTRATION Callbacks[] = {{IRP_MJ_CREATE, 0, NULL, CipherP
                                                 {IRP_MJ_READ, 0, CipherPreRead, CipherPostRead},
                                                 {IRP_MJ_WRITE, 0, CipherPreWrite, CipherPostFree},
                                                 {IRP_MJ_QUERY_INFORMATION, 0, CipherPreQuery, CipherPostQuery},
-                                                {IRP_MJ_SET_INFORMATION, 0, CipherPreSet, CipherPostFree},
+                                                {IRP_MJ_SET_INFORMATION, 0, CipherPreSet, CipherPostSet},
                                                 {IRP_MJ_DIRECTORY_CONTROL, 0, CipherPreDirectory, CipherPostDirectory},
                                                 {IRP_MJ_LOCK_CONTROL, 0, CipherPreLock, NULL},
                                                 {IRP_MJ_NETWORK_QUERY_OPEN, 0, CipherPreNetworkOpen, NULL},
+                                                {IRP_MJ_ACQUIRE_FOR_SECTION_SYNCHRONIZATION, 0, CipherPreSection, NULL},
                                                 {IRP_MJ_OPERATION_END}};
 CONST FLT_CONTEXT_REGISTRATION Contexts[] = {{FLT_STREAM_CONTEXT, 0, NULL, sizeof(CIPHER_CONTEXT), CIPHER_CONTEXT_TAG}, {FLT_CONTEXT_END}};
 CONST FLT_REGISTRATION FilterRegistration = {sizeof(FLT_REGISTRATION), FLT_REGISTRATION_VERSION, 0, Contexts, Callbacks, CipherUnload, NULL, CipherQueryTeardown};

@@ -1,5 +1,5 @@
-/* Swaps the buffers of reads and writes. What is written goes down from a buffer of its own, with each byte turned by a key. What is read comes up into a buffer of
- * its own, is turned back and copied into the caller's. A volume context keeps the volume's name and the counts. */
+/* Swaps the buffers of reads and writes that go to the disk: of paging I/O, and of what isn't cached. What is written goes down from a buffer of its own, with each byte turned by a key. What is read
+ * comes up into a buffer of its own, is turned back and copied into the caller's. So the cache has plain text. A volume context keeps the volume's name and the counts. */
 #include <fltKernel.h>
 #include <dontuse.h>
 #include <suppress.h>
@@ -123,6 +123,12 @@ static VOID LetGo(_In_ PPRE_2_POST_CONTEXT P2pCtx)
     ExFreeToNPagedLookasideList(&Pre2PostContextList, P2pCtx);
 }
 
+/* What goes between a program and the cache is neither. */
+static BOOLEAN IsOfDisk(_In_ PFLT_CALLBACK_DATA Data)
+{
+    return FlagOn(Data->Iopb->IrpFlags, IRP_NOCACHE | IRP_PAGING_IO) != 0;
+}
+
 static FLT_PREOP_CALLBACK_STATUS SwapPreReadBuffers(_Inout_ PFLT_CALLBACK_DATA Data, _In_ PCFLT_RELATED_OBJECTS FltObjects,
                                                     _Flt_CompletionContext_Outptr_ PVOID *CompletionContext)
 {
@@ -131,7 +137,7 @@ static FLT_PREOP_CALLBACK_STATUS SwapPreReadBuffers(_Inout_ PFLT_CALLBACK_DATA D
     PVOLUME_CONTEXT volCtx;
     PMDL newMdl;
 
-    if (iopb->Parameters.Read.Length == 0 || !NT_SUCCESS(FltGetVolumeContext(FltObjects->Filter, FltObjects->Volume, (PFLT_CONTEXT *)&volCtx))) {
+    if (!IsOfDisk(Data) || iopb->Parameters.Read.Length == 0 || !NT_SUCCESS(FltGetVolumeContext(FltObjects->Filter, FltObjects->Volume, (PFLT_CONTEXT *)&volCtx))) {
         return FLT_PREOP_SUCCESS_NO_CALLBACK;
     }
     p2pCtx = NewSwap(volCtx, iopb->Parameters.Read.Length, &newMdl);
@@ -206,16 +212,18 @@ static FLT_PREOP_CALLBACK_STATUS SwapPreWriteBuffers(_Inout_ PFLT_CALLBACK_DATA 
     PFLT_IO_PARAMETER_BLOCK iopb = Data->Iopb;
     PPRE_2_POST_CONTEXT p2pCtx;
     PVOLUME_CONTEXT volCtx;
+    PVOID origBuf;
     PMDL newMdl;
 
-    if (iopb->Parameters.Write.Length == 0 || !NT_SUCCESS(FltGetVolumeContext(FltObjects->Filter, FltObjects->Volume, (PFLT_CONTEXT *)&volCtx))) {
+    if (!IsOfDisk(Data) || iopb->Parameters.Write.Length == 0 || !NT_SUCCESS(FltGetVolumeContext(FltObjects->Filter, FltObjects->Volume, (PFLT_CONTEXT *)&volCtx))) {
         return FLT_PREOP_SUCCESS_NO_CALLBACK;
     }
-    p2pCtx = NewSwap(volCtx, iopb->Parameters.Write.Length, &newMdl);
+    origBuf = iopb->Parameters.Write.MdlAddress != NULL ? MmGetSystemAddressForMdlSafe(iopb->Parameters.Write.MdlAddress, NormalPagePriority) : iopb->Parameters.Write.WriteBuffer;
+    p2pCtx = origBuf == NULL ? NULL : NewSwap(volCtx, iopb->Parameters.Write.Length, &newMdl);
     if (p2pCtx == NULL) {
         return Fail(Data, volCtx);
     }
-    TurnBytes(p2pCtx->SwappedBuffer, iopb->Parameters.Write.WriteBuffer, iopb->Parameters.Write.Length);
+    TurnBytes(p2pCtx->SwappedBuffer, origBuf, iopb->Parameters.Write.Length);
     iopb->Parameters.Write.WriteBuffer = p2pCtx->SwappedBuffer;
     iopb->Parameters.Write.MdlAddress = newMdl;
     FltSetCallbackDataDirty(Data);

@@ -1,6 +1,7 @@
 /* The host is one thread's, and so is all of this. */
 #include "answer.h"
 
+#include "cache/paging.h"
 #include "core/client.h"
 #include "core/clock.h"
 #include "core/memory.h"
@@ -278,6 +279,13 @@ void answer_due_closes(void)
             all[at].is_close_due = false;
             close_handle(&all[at]);
         }
+}
+
+void answer_lazily(void)
+{
+    KZ_CALL_OF("the lazy writer");
+    kz_write_lazily(true);
+    kz_settle();
 }
 
 /* A handle that is there no more is closed, too. */

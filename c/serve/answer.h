@@ -10,6 +10,8 @@ void answer_begin(Link *links, size_t count);
 bool answer_frame(Link *link, const uint8_t *body, size_t length);
 /* Closes behind cleanups that were held. */
 void answer_due_closes(void);
+/* The lazy writer's turn. */
+void answer_lazily(void);
 /* The link has ended: its handles are closed. */
 void answer_end(Link *link);
 /* Tries again to close what couldn't be. */

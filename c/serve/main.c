@@ -1,4 +1,4 @@
-/* kz_serve: the drivers that are linked with it, behind the frames of docs/FRAMES.md: PROGRAM FOLDER SOCKET. One thread answers all connections.
+/* kz_serve: the drivers that are linked with it, behind the frames of docs/FRAMES.md: PROGRAM [--cached] FOLDER SOCKET. One thread answers all connections.
  * Exit status: 0, or 5 where a driver's mistake was told, 1 for want of memory, 2 for wrong words, 3 where the folder or the socket isn't to be had. */
 #define _GNU_SOURCE
 #include "answer.h"
@@ -11,6 +11,7 @@
 #include <signal.h>
 #include <sys/socket.h>
 #include <sys/un.h>
+#include <time.h>
 #include <unistd.h>
 
 extern const KzDriver kz_drivers[];
@@ -19,7 +20,7 @@ extern const size_t kz_drivers_count;
 static Link links[LINKS];
 
 /* Besides those of connections: for the folder's files, of which one is open at a time, and for what a driver's test opens. */
-enum { SPARE_DESCRIPTORS = 8, REST_MILLISECONDS = 20 };
+enum { SPARE_DESCRIPTORS = 8, REST_MILLISECONDS = 20, LAZY_MILLISECONDS = 1000 };
 
 /* Whether there are descriptors for all connections: they are opened once, and closed again. */
 static bool has_descriptors(int listener)
@@ -173,14 +174,33 @@ static bool serve_links(const struct pollfd *places)
     return is_stop;
 }
 
+static long long now(void)
+{
+    struct timespec time;
+    clock_gettime(CLOCK_MONOTONIC, &time);
+    return time.tv_sec * 1000LL + time.tv_nsec / 1000000;
+}
+
+/* The lazy writer comes each second. */
+static void write_lazily(void)
+{
+    static long long last;
+    if (now() - last < LAZY_MILLISECONDS)
+        return;
+    last = now();
+    answer_lazily();
+}
+
 /* Until a Stop was answered and the last client is gone. Where no connection can be had, the listener rests for a moment, since it stays readable. */
-static void serve(int listener)
+static void serve(int listener, bool is_cached)
 {
     bool is_stopping = false, is_resting = false;
     struct pollfd places[1 + LINKS];
     while (watch(places + 1) > 0 || !is_stopping) {
         places[0] = (struct pollfd){is_stopping || is_resting ? -1 : listener, POLLIN, 0};
-        if (poll(places, 1 + used(), is_resting ? REST_MILLISECONDS : -1) == -1)
+        if (is_cached)
+            write_lazily();
+        if (poll(places, 1 + used(), is_resting ? REST_MILLISECONDS : is_cached ? LAZY_MILLISECONDS : -1) == -1)
             continue;
         is_stopping |= serve_links(places + 1);
         is_resting = !is_stopping && places[0].revents && !accept_one(listener);
@@ -189,11 +209,13 @@ static void serve(int listener)
 
 int main(int count, char **words)
 {
-    if (count != 3) {
+    bool is_cached = count == 4 && strcmp(words[1], "--cached") == 0;
+    if (count != 3 + is_cached) {
         bool is_asked = count == 2 && strcmp(words[1], "--help") == 0;
-        fprintf(is_asked ? stdout : stderr, "usage: %s FOLDER SOCKET\n  serves FOLDER through its drivers to those who connect to SOCKET, until one asks it to stop\n", words[0]);
+        fprintf(is_asked ? stdout : stderr, "usage: %s [--cached] FOLDER SOCKET\n  serves FOLDER through its drivers to those who connect to SOCKET, until one asks it to stop\n  --cached: reads and writes go by the files' pages\n", words[0]);
         return is_asked ? 0 : 2;
     }
+    words += is_cached;
     for (size_t at = 0; at < LINKS; at++)
         links[at].socket = -1;
     int error = kz_use_folder(words[1]);
@@ -210,9 +232,11 @@ int main(int count, char **words)
         return 1;
     kz_is_quiet = 1;
     setvbuf(stdout, NULL, _IOLBF, 0);
+    if (is_cached)
+        kz_request("volume 0 cached");
     answer_begin(links, LINKS);
     puts("ready");
-    serve(listener);
+    serve(listener, is_cached);
     close(listener);
     int status = kz_close();
     KzCounts counts = kz_counts();

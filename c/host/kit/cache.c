@@ -5,7 +5,7 @@
 
 BOOLEAN CcIsFileCached(PFILE_OBJECT FileObject)
 {
-    KZ_INSIDE();
+    KZ_CALL();
     return FileObject->SectionObjectPointer && FileObject->SectionObjectPointer->SharedCacheMap;
 }
 
@@ -18,7 +18,7 @@ LOGICAL FsRtlIsPagingFile(PFILE_OBJECT FileObject)
 /* Whether no section has something of what would be cut off; with no size, whether none has anything. */
 BOOLEAN MmCanFileBeTruncated(PSECTION_OBJECT_POINTERS SectionPointer, PLARGE_INTEGER NewFileSize)
 {
-    KZ_INSIDE();
+    KZ_CALL();
     return !kz_has_section_past(SectionPointer, NewFileSize ? (uint64_t)NewFileSize->QuadPart : 0);
 }
 

@@ -1,5 +1,5 @@
-/* An encryption layer, in the manner of products: what is written to a file with the extension `sec` is enciphered by a key of its own, which lies beside its bytes as an extended attribute, and what
- * is read is deciphered, also by pages. AES makes a stream of the place, so that sizes stay as they are. The volume's sector says how buffers are rounded for I/O that isn't cached. */
+/* An encryption layer, in the manner of products: what is written to a file with the extension `sec` is enciphered on its way to the disk, by a key of its own, which lies beside its bytes as an
+ * extended attribute, and what is read there is deciphered. That is paging I/O and what isn't cached: the cache has plain text. AES makes a stream of the place, so that sizes stay as they are. The volume's sector says how buffers are rounded for I/O that isn't cached. */
 #include <fltKernel.h>
 #include <bcrypt.h>
 
@@ -214,6 +214,12 @@ static FLT_PREOP_CALLBACK_STATUS VaultFail(_Inout_ PFLT_CALLBACK_DATA Data, _In_
     return FLT_PREOP_COMPLETE;
 }
 
+/* What goes between a program and the cache is neither. */
+static BOOLEAN VaultIsOfDisk(_In_ PFLT_CALLBACK_DATA Data)
+{
+    return FlagOn(Data->Iopb->IrpFlags, IRP_NOCACHE | IRP_PAGING_IO) != 0;
+}
+
 /* ---- Reads. */
 static FLT_PREOP_CALLBACK_STATUS VaultPreRead(_Inout_ PFLT_CALLBACK_DATA Data, _In_ PCFLT_RELATED_OBJECTS FltObjects, _Flt_CompletionContext_Outptr_ PVOID *CompletionContext)
 {
@@ -222,12 +228,8 @@ static FLT_PREOP_CALLBACK_STATUS VaultPreRead(_Inout_ PFLT_CALLBACK_DATA Data, _
     PVAULT_STREAM stream;
     PMDL mdl;
 
-    if (length == 0 || !NT_SUCCESS(FltGetStreamContext(FltObjects->Instance, FltObjects->FileObject, (PFLT_CONTEXT *)&stream))) {
+    if (length == 0 || !VaultIsOfDisk(Data) || !NT_SUCCESS(FltGetStreamContext(FltObjects->Instance, FltObjects->FileObject, (PFLT_CONTEXT *)&stream))) {
         return FLT_PREOP_SUCCESS_NO_CALLBACK;
-    }
-    if (FLT_IS_FASTIO_OPERATION(Data)) {
-        FltReleaseContext(stream);
-        return FLT_PREOP_DISALLOW_FASTIO;
     }
     read = ExAllocateFromNPagedLookasideList(&gReads);
     if (read == NULL) {
@@ -334,12 +336,8 @@ static FLT_PREOP_CALLBACK_STATUS VaultPreWrite(_Inout_ PFLT_CALLBACK_DATA Data, 
     PMDL mdl;
     NTSTATUS status = STATUS_INSUFFICIENT_RESOURCES;
 
-    if (asked->Write.Length == 0 || !NT_SUCCESS(FltGetStreamContext(FltObjects->Instance, FltObjects->FileObject, (PFLT_CONTEXT *)&stream))) {
+    if (asked->Write.Length == 0 || !VaultIsOfDisk(Data) || !NT_SUCCESS(FltGetStreamContext(FltObjects->Instance, FltObjects->FileObject, (PFLT_CONTEXT *)&stream))) {
         return FLT_PREOP_SUCCESS_NO_CALLBACK;
-    }
-    if (FLT_IS_FASTIO_OPERATION(Data)) {
-        FltReleaseContext(stream);
-        return FLT_PREOP_DISALLOW_FASTIO;
     }
     made = VaultBuffer(Data, FltObjects, asked->Write.Length);
     mdl = made == NULL ? NULL : VaultDescribe(made, asked->Write.Length);

@@ -28,11 +28,20 @@ static VOID Expire(_In_ PVOID StartContext)
     }
 }
 
+/* Only an IRP may be pended, and no paging I/O, nor what the file system itself waits for. */
+static BOOLEAN MayBePended(_In_ PFLT_CALLBACK_DATA Data)
+{
+    return FLT_IS_IRP_OPERATION(Data) && !FlagOn(Data->Iopb->IrpFlags, IRP_PAGING_IO) && IoGetTopLevelIrp() == NULL;
+}
+
 static FLT_PREOP_CALLBACK_STATUS PreRead(_Inout_ PFLT_CALLBACK_DATA Data, _In_ PCFLT_RELATED_OBJECTS FltObjects, _Flt_CompletionContext_Outptr_ PVOID *CompletionContext)
 {
     UNREFERENCED_PARAMETER(FltObjects);
     UNREFERENCED_PARAMETER(CompletionContext);
-    if (InterlockedCompareExchangePointer((PVOID *)&gPended, Data, NULL) != NULL) {
+    if (FLT_IS_FASTIO_OPERATION(Data)) {
+        return FLT_PREOP_DISALLOW_FASTIO;
+    }
+    if (!MayBePended(Data) || InterlockedCompareExchangePointer((PVOID *)&gPended, Data, NULL) != NULL) {
         return FLT_PREOP_SUCCESS_NO_CALLBACK;
     }
     KeSetEvent(&gWake, IO_NO_INCREMENT, FALSE);

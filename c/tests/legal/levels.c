@@ -26,7 +26,8 @@ static FLT_POSTOP_CALLBACK_STATUS SafePostRead(_Inout_ PFLT_CALLBACK_DATA Data, 
     UNREFERENCED_PARAMETER(CompletionContext);
     UNREFERENCED_PARAMETER(Flags);
     PAGED_CODE();
-    if (NT_SUCCESS(FltGetFileNameInformation(Data, FLT_FILE_NAME_NORMALIZED | FLT_FILE_NAME_QUERY_DEFAULT, &name))) {
+    /* In paging I/O no name may be asked for. */
+    if (!FlagOn(Data->Iopb->IrpFlags, IRP_PAGING_IO) && NT_SUCCESS(FltGetFileNameInformation(Data, FLT_FILE_NAME_NORMALIZED | FLT_FILE_NAME_QUERY_DEFAULT, &name))) {
         ExAcquireFastMutex(&gMutex);
         gNames++;
         ExReleaseFastMutex(&gMutex);

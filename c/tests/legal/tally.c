@@ -27,11 +27,21 @@ static VOID Count(_In_ PFLT_GENERIC_WORKITEM FltWorkItem, _In_ PVOID FltObject, 
     }
 }
 
+/* Only an IRP may be pended, and no paging I/O, nor what the file system itself waits for. */
+static BOOLEAN MayBePended(_In_ PFLT_CALLBACK_DATA Data)
+{
+    return FLT_IS_IRP_OPERATION(Data) && !FlagOn(Data->Iopb->IrpFlags, IRP_PAGING_IO) && IoGetTopLevelIrp() == NULL;
+}
+
 static FLT_PREOP_CALLBACK_STATUS PreRead(_Inout_ PFLT_CALLBACK_DATA Data, _In_ PCFLT_RELATED_OBJECTS FltObjects, _Flt_CompletionContext_Outptr_ PVOID *CompletionContext)
 {
-    PFLT_GENERIC_WORKITEM item = FltAllocateGenericWorkItem();
+    PFLT_GENERIC_WORKITEM item;
 
     UNREFERENCED_PARAMETER(CompletionContext);
+    if (FLT_IS_FASTIO_OPERATION(Data)) {
+        return FLT_PREOP_DISALLOW_FASTIO;
+    }
+    item = MayBePended(Data) ? FltAllocateGenericWorkItem() : NULL;
     if (item == NULL) {
         return FLT_PREOP_SUCCESS_NO_CALLBACK;
     }

@@ -9,7 +9,7 @@ static FLT_PREOP_CALLBACK_STATUS PreWrite(PFLT_CALLBACK_DATA Data, PCFLT_RELATED
     UNICODE_STRING secret = RTL_CONSTANT_STRING(L"secret");
     PFLT_FILE_NAME_INFORMATION name;
 
-    if (!NT_SUCCESS(FltGetFileNameInformation(Data, FLT_FILE_NAME_NORMALIZED, &name))) {
+    if (FlagOn(Data->Iopb->IrpFlags, IRP_PAGING_IO) || !NT_SUCCESS(FltGetFileNameInformation(Data, FLT_FILE_NAME_NORMALIZED, &name))) {
         return FLT_PREOP_SUCCESS_NO_CALLBACK;
     }
     FltParseFileNameInformation(name);

@@ -348,7 +348,13 @@ BOOL FindNextFileA(HANDLE Find, LPWIN32_FIND_DATAA Data);
 BOOL FindNextFileW(HANDLE Find, LPWIN32_FIND_DATAW Data);
 BOOL FindClose(HANDLE Find);
 
+#define FILE_MAP_COPY 1
+#define FILE_MAP_WRITE 2
 #define FILE_MAP_READ 4
+#define FILE_MAP_ALL_ACCESS 0xf001f
+HANDLE CreateFileMappingA(HANDLE File, LPSECURITY_ATTRIBUTES Attributes, DWORD Protect, DWORD SizeHigh, DWORD SizeLow, LPCSTR Name);
+HANDLE CreateFileMappingW(HANDLE File, LPSECURITY_ATTRIBUTES Attributes, DWORD Protect, DWORD SizeHigh, DWORD SizeLow, LPCWSTR Name);
+BOOL FlushViewOfFile(LPCVOID Address, SIZE_T Size);
 LPVOID MapViewOfFile(HANDLE Section, DWORD Access, DWORD OffsetHigh, DWORD OffsetLow, SIZE_T Size);
 BOOL UnmapViewOfFile(LPCVOID Address);
 

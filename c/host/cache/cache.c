@@ -80,6 +80,8 @@ void kz_end_cache(KzCache *cache)
             file->object.PrivateCacheMap = NULL;
     cache->stream->cache = NULL;
     cache->stream->sections.DataSectionObject = cache->stream->sections.SharedCacheMap = NULL;
+    while (cache->mapped)
+        kz_unmap_view(cache, cache->mapped);
     for (size_t page = 0; page < cache->count; page++)
         free(cache->pages[page].bytes);
     kz.store->close(holder, cache->handle);
@@ -113,6 +115,14 @@ void kz_cache_cleaned_up(KzFile *file)
     cache->idle = kz.passed;
 }
 
+/* Who has a section of it would see what is cut off. */
+static bool is_mapped(KzOp *op, const void *stream, uint64_t size)
+{
+    (void)op;
+    const KzStream *one = stream;
+    return one->cache && one->cache->views && kz_pages_of(size) < kz_pages_of(one->size);
+}
+
 /* The stream was cut: what lies past its end is zeros, should it grow again. */
 static void cut(const void *stream, uint64_t size)
 {
@@ -125,8 +135,10 @@ static void cut(const void *stream, uint64_t size)
         if (cache->pages[at].number >= kz_pages_of(size)) /* one that is in use stays */
             memset(cache->pages[at].bytes, 0, KZ_PAGE);
     kz_forget_pages(cache, kz_pages_of(size), UINT64_MAX);
-    if (last)
+    if (last) {
         memset(last->bytes + size % KZ_PAGE, 0, KZ_PAGE - size % KZ_PAGE);
+        kz_show_page(cache, last);
+    }
     cache->told = cache->told < size ? cache->told : size;
 }
 
@@ -134,6 +146,8 @@ static void free_caches(void)
 {
     while (kz.cache->first) {
         KzCache *gone = kz.cache->first;
+        while (gone->mapped)
+            kz_unmap_view(gone, gone->mapped);
         kz.cache->first = gone->next;
         for (size_t at = 0; at < gone->count; at++)
             free(gone->pages[at].bytes);
@@ -142,4 +156,4 @@ static void free_caches(void)
     }
 }
 
-const KzModule kz_cache_module = {KZ_STATE(cache), .free = free_caches, .cut = cut};
+const KzModule kz_cache_module = {KZ_STATE(cache), .free = free_caches, .is_mapped = is_mapped, .cut = cut};

@@ -16,8 +16,19 @@ typedef struct {
     uint8_t *bytes;
     KzPageState state;
     bool is_going;  /* what it held is being written */
+    bool is_by_view; /* it was changed by a view: the modified page writer's, not the lazy writer's */
     LONGLONG since; /* when it was changed first, or when that was written in vain */
 } KzCachedPage;
+
+/* Memory in which a program sees pages. */
+typedef struct KzMapped {
+    struct KzMapped *next;
+    uint8_t *memory, *bytes;
+    uint64_t first, count; /* pages */
+    bool is_written;       /* what is changed there comes to the file */
+    bool is_copy;          /* what is changed there is nobody else's, nor is it seen there what others change */
+    const void *owner;     /* the process */
+} KzMapped;
 
 typedef struct KzCache {
     struct KzCache *next;
@@ -27,6 +38,8 @@ typedef struct KzCache {
     KzCachedPage *pages; /* in the order of their numbers */
     size_t count, room;
     uint64_t told;   /* up to where the file system was told that something was written */
+    KzMapped *mapped;
+    unsigned views;  /* and sections */
     unsigned maps;   /* handles that cached, and whose cleanup isn't over */
     unsigned users;  /* who is at it, or waits to be */
     unsigned round;  /* of the lazy writer, that came to it last */
@@ -72,6 +85,19 @@ static inline uint64_t kz_pages_of(uint64_t bytes)
 {
     return (bytes + KZ_PAGE - 1) / KZ_PAGE;
 }
+
+/* ---- Views. One that is asked for has its pages, and what a program may do there. */
+NTSTATUS kz_map_view(KzCache *cache, const KzMapped *asked, KzMapped **made);
+void kz_unmap_view(KzCache *cache, KzMapped *gone);
+/* Of a process that ends. */
+void kz_unmap_all(const void *owner);
+/* NULL if there is none. */
+KzMapped *kz_view_at(const void *address, KzCache **cache);
+bool kz_is_in_view(const KzCache *cache, uint64_t number);
+/* The page was changed: views see it. */
+void kz_show_page(const KzCache *cache, const KzCachedPage *page);
+/* What programs changed in their views comes to the pages. */
+void kz_take_views(KzCache *cache);
 
 /* ---- The file system's lock of a stream: shared by who reads, and by who changes what is there; else one has it alone. False: it would wait for itself. */
 bool kz_lock_stream(KzCache *cache, bool is_alone);

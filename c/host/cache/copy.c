@@ -74,6 +74,7 @@ NTSTATUS kz_write_pages(KzCache *cache, uint64_t offset, const uint8_t *from, si
         part = part_of(offset, length);
         memcpy(page->bytes + offset % KZ_PAGE, from, part);
         kz_soil_page(page);
+        kz_show_page(cache, page);
     }
     return status;
 }
@@ -93,6 +94,7 @@ NTSTATUS kz_zero_pages(KzCache *cache, uint64_t offset, PIRP top)
         KzCachedPage *page = kz_page_of(cache, *valid / KZ_PAGE);
         memset(page->bytes + *valid % KZ_PAGE, 0, part);
         kz_soil_page(page);
+        kz_show_page(cache, page);
         *valid += part;
     }
     return STATUS_SUCCESS;

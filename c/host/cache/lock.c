@@ -51,6 +51,7 @@ bool kz_lock_stream(KzCache *cache, bool is_alone)
     cache->users--;
     if (has_it)
         sit_down(&wanted);
+    kz_take_views(cache);
     return has_it;
 }
 
@@ -60,6 +61,7 @@ bool kz_try_stream(KzCache *cache, const void *by)
     bool has_it = is_free(&wanted);
     if (has_it)
         sit_down(&wanted);
+    kz_take_views(cache);
     return has_it;
 }
 

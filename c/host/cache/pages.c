@@ -52,6 +52,7 @@ void kz_soil_page(KzCachedPage *page)
     if (page->state == KZG_DIRTY)
         return;
     page->state = KZG_DIRTY;
+    page->is_by_view = false;
     page->since = kz.passed;
 }
 
@@ -60,6 +61,7 @@ static bool is_due(const KzCachedPage *page)
     return page->state == KZG_DIRTY && !page->is_going;
 }
 
+/* A run has pages of one kind. */
 unsigned kz_dirty_run(const KzCache *cache, uint64_t *first, uint64_t end)
 {
     unsigned count = 0;
@@ -69,7 +71,8 @@ unsigned kz_dirty_run(const KzCache *cache, uint64_t *first, uint64_t end)
     if (at == cache->count || cache->pages[at].number >= end)
         return 0;
     *first = cache->pages[at].number;
-    while (at + count < cache->count && count < KZ_CLUSTER && cache->pages[at + count].number == *first + count && *first + count < end && is_due(&cache->pages[at + count]))
+    while (at + count < cache->count && count < KZ_CLUSTER && cache->pages[at + count].number == *first + count && *first + count < end && is_due(&cache->pages[at + count]) &&
+           cache->pages[at + count].is_by_view == cache->pages[at].is_by_view)
         count++;
     return count;
 }
@@ -88,7 +91,7 @@ bool kz_forget_pages(KzCache *cache, uint64_t first, uint64_t end)
     bool are_all = true;
     for (size_t at = to; at < cache->count; at++) {
         KzCachedPage one = cache->pages[at];
-        bool is_meant = one.number < end, is_busy = one.state == KZG_COMING || one.is_going;
+        bool is_meant = one.number < end, is_busy = one.state == KZG_COMING || one.is_going || kz_is_in_view(cache, one.number);
         are_all &= !is_meant || !is_busy;
         if (is_meant && !is_busy)
             free(one.bytes);

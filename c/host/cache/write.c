@@ -37,31 +37,35 @@ static void end_run(KzCache *cache, uint64_t first, unsigned count, bool is_writ
     for (unsigned at = 0; at < count; at++) {
         KzCachedPage *page = kz_page_of(cache, first + at);
         page->is_going = false;
-        if (!is_written && (first + at) * KZ_PAGE < cache->stream->size)
+        if (!is_written && page->state == KZG_CLEAN && (first + at) * KZ_PAGE < cache->stream->size) {
+            bool is_by_view = page->is_by_view;
             kz_soil_page(page);
+            page->is_by_view = is_by_view;
+        }
     }
     kz_forget_pages(cache, kz_pages_of(cache->stream->size), first + count);
     kz.changes++;
 }
 
-static NTSTATUS write_run(KzCache *cache, uint64_t first, unsigned count)
+static NTSTATUS write_run(KzCache *cache, uint64_t first, unsigned count, ULONG flags)
 {
     uint8_t *bytes = take_run(cache, first, count);
     uint64_t written = 0;
-    const KzPaging asked = {.is_write = true, .offset = first * KZ_PAGE, .bytes = bytes, .length = count * (uint32_t)KZ_PAGE, .flags = IRP_PAGING_IO | IRP_NOCACHE | IRP_SYNCHRONOUS_PAGING_IO};
+    const KzPaging asked = {.is_write = true, .offset = first * KZ_PAGE, .bytes = bytes, .length = count * (uint32_t)KZ_PAGE, .flags = IRP_PAGING_IO | IRP_NOCACHE | flags};
     NTSTATUS status = kz.store->page(cache->holder, cache->handle, &asked, &written);
     free(bytes);
     end_run(cache, first, count, NT_SUCCESS(status));
     return status;
 }
 
-/* The first that fails is told, and the others are tried. */
-static NTSTATUS write_range(KzCache *cache, uint64_t first, uint64_t end)
+/* The first that fails is told, and the others are tried. With no synchronous paging I/O it is the modified page writer. */
+static NTSTATUS write_range(KzCache *cache, uint64_t first, uint64_t end, ULONG flags)
 {
     NTSTATUS status = STATUS_SUCCESS;
     unsigned count;
     while ((count = kz_dirty_run(cache, &first, end))) {
-        NTSTATUS one = write_run(cache, first, count);
+        bool is_by_view = kz_page_of(cache, first)->is_by_view, is_meant = flags & IRP_SYNCHRONOUS_PAGING_IO || is_by_view;
+        NTSTATUS one = is_meant ? write_run(cache, first, count, flags) : STATUS_SUCCESS;
         status = NT_SUCCESS(status) ? one : status;
         first += count;
     }
@@ -107,7 +111,7 @@ static NTSTATUS flush_locked(KzCache *cache, uint64_t first, uint64_t end)
         kz_tell(KZM_PAGE_WAITS, "paging I/O", "a flush of \\%s waits for the file system's lock of it, and who has that waits for the flush: it waits for ever", cache->holder->path);
         return STATUS_TIMEOUT;
     }
-    NTSTATUS status = write_range(cache, first, end);
+    NTSTATUS status = write_range(cache, first, end, IRP_SYNCHRONOUS_PAGING_IO);
     bool is_out = wait_until_out(cache, first, end);
     kz_unlock_stream(cache, kz_me);
     return is_out ? status : STATUS_TIMEOUT;
@@ -118,6 +122,7 @@ NTSTATUS kz_flush_cache(KzCache *cache, uint64_t from, uint64_t length)
     uint64_t first = from / KZ_PAGE, end = end_of(from, length), at = first;
     Range range = {cache, first, end};
     NTSTATUS status, ignored;
+    kz_take_views(cache);
     if (!kz_dirty_run(cache, &at, end) && are_out(&range))
         return STATUS_SUCCESS;
     KzAsker before = kz_ask_as(kz_me->top_level ? kz_me->top_level : KZ_TOP_REQUEST, false);
@@ -174,12 +179,31 @@ static void put_off(KzCache *cache)
     cache->idle = kz.passed;
 }
 
+/* What views changed is the modified page writer's. */
+static NTSTATUS write_modified(KzCache *cache)
+{
+    NTSTATUS status = STATUS_SUCCESS, ignored;
+    bool is_any = false;
+    for (size_t at = 0; at < cache->count; at++)
+        is_any |= cache->pages[at].state == KZG_DIRTY && cache->pages[at].is_by_view;
+    if (!is_any)
+        return status;
+    kz_me->top_level = (PIRP)(ULONG_PTR)FSRTL_MOD_WRITE_TOP_LEVEL_IRP;
+    ask_filters(cache, IRP_MJ_ACQUIRE_FOR_MOD_WRITE, &status);
+    if (NT_SUCCESS(status)) {
+        status = write_range(cache, 0, UINT64_MAX, 0);
+        ask_filters(cache, IRP_MJ_RELEASE_FOR_MOD_WRITE, &ignored);
+    }
+    kz_me->top_level = (PIRP)(ULONG_PTR)FSRTL_CACHE_TOP_LEVEL_IRP;
+    return status;
+}
+
 static void write_out(KzCache *cache, bool waits)
 {
     const void *by = waits ? (const void *)kz_me : (const void *)kz.cache;
     KzAsker before = kz_ask_as((PIRP)(ULONG_PTR)FSRTL_CACHE_TOP_LEVEL_IRP, true);
     if (waits ? kz_lock_stream(cache, false) : kz_try_stream(cache, by)) {
-        if (!NT_SUCCESS(write_range(cache, 0, UINT64_MAX)))
+        if (!NT_SUCCESS(write_modified(cache)) | !NT_SUCCESS(write_range(cache, 0, UINT64_MAX, IRP_SYNCHRONOUS_PAGING_IO)))
             put_off(cache);
         advance(cache);
         kz_unlock_stream(cache, by);
@@ -191,13 +215,13 @@ static void write_out(KzCache *cache, bool waits)
 
 void kz_end_idle_cache(KzCache *cache)
 {
-    if (!cache->maps && !cache->users && !kz_has_dirty(cache))
+    if (!cache->maps && !cache->views && !cache->users && !kz_has_dirty(cache))
         kz_end_cache(cache);
 }
 
 static LONGLONG due_of(const KzCache *cache)
 {
-    LONGLONG first = cache->maps || cache->users || kz_has_dirty(cache) ? INT64_MAX : cache->idle;
+    LONGLONG first = cache->maps || cache->views || cache->users || kz_has_dirty(cache) ? INT64_MAX : cache->idle;
     for (size_t at = 0; at < cache->count; at++)
         if (cache->pages[at].state == KZG_DIRTY && cache->pages[at].since < first)
             first = cache->pages[at].since;
@@ -220,6 +244,7 @@ static void write_caches(bool is_all, bool waits)
     while ((one = next_of(round, is_all))) {
         one->round = round;
         kz_uses_all();
+        kz_take_views(one);
         if (kz_has_dirty(one))
             write_out(one, waits);
         kz_end_idle_cache(one);
@@ -235,8 +260,10 @@ void kz_write_lazily(bool is_all)
 static bool pass(LONGLONG until)
 {
     LONGLONG first = INT64_MAX;
-    for (const KzCache *one = kz_first_cache(); one; one = one->next)
+    for (KzCache *one = kz_first_cache(); one; one = one->next) {
+        kz_take_views(one);
         first = due_of(one) < first ? due_of(one) : first;
+    }
     if (first > until)
         return false;
     kz.passed = first > kz.passed ? first : kz.passed;
@@ -253,7 +280,7 @@ void kz_end_caches(PFLT_VOLUME volume)
             continue;
         if (kz_has_dirty(one))
             kz_say(KZ_SAID_ELSE, "lost: what was written to \\%s never came to the file\n", one->holder->path);
-        if (!one->users && (volume || !one->maps))
+        if (!one->users && (volume || !(one->maps || one->views)))
             kz_end_cache(one);
     }
 }

@@ -96,8 +96,7 @@ void kz_name_stream(KzStream *stream, const char *name)
 }
 
 /* ---- Bytes. */
-/* What is about to be written to it is seen in its views. */
-static void write_views(const KzStream *stream, uint64_t offset, const uint8_t *bytes, size_t length)
+void kz_write_views(const KzStream *stream, uint64_t offset, const uint8_t *bytes, size_t length)
 {
     for (KzView *one = stream->views; one; one = one->next)
         if (offset < one->size)
@@ -146,8 +145,8 @@ static KzFolderAnswer call_memory(const KzName *name, const KazdrinData *call, c
 KzFolderAnswer kz_call_stream(KzFile *file, const KazdrinData *call, const uint8_t *bytes, uint8_t *room)
 {
     const KzName *name = file->name;
-    if (name && call->operation == KZE_WRITE)
-        write_views(name->stream, call->offset, bytes, call->length);
+    if (name && call->operation == KZE_WRITE && !name->stream->cache) /* else the pages are what is seen */
+        kz_write_views(name->stream, call->offset, bytes, call->length);
     if (kz_is_in_folder(file->volume->id))
         return kz_call_in_folder(file, call, bytes);
     return name ? call_memory(name, call, bytes, room) : (KzFolderAnswer){.status = KZS_FILE_NOT_FOUND};

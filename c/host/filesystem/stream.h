@@ -28,6 +28,8 @@ uint64_t kz_size_of(const KzFile *file);
 NTSTATUS kz_resize(KzFile *file, uint64_t size);
 NTSTATUS kz_write_stream(KzFile *file, uint64_t offset, const uint8_t *bytes, size_t length);
 /* Its bytes were written, or it has another size: times, notices. */
+/* What was written is seen in its views. */
+void kz_write_views(const KzStream *stream, uint64_t offset, const uint8_t *bytes, size_t length);
 void kz_note_written(const KzFile *file, uint64_t offset, size_t length);
 void kz_note_size(const KzFile *file, uint64_t size);
 

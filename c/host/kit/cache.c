@@ -19,7 +19,10 @@ LOGICAL FsRtlIsPagingFile(PFILE_OBJECT FileObject)
 BOOLEAN MmCanFileBeTruncated(PSECTION_OBJECT_POINTERS SectionPointer, PLARGE_INTEGER NewFileSize)
 {
     KZ_CALL();
-    return !kz_has_section_past(SectionPointer, NewFileSize ? (uint64_t)NewFileSize->QuadPart : 0);
+    uint64_t size = NewFileSize ? (uint64_t)NewFileSize->QuadPart : 0;
+    const KzCache *cache = kz_cache_with(SectionPointer);
+    bool is_viewed = cache && cache->views && kz_pages_of(size) < kz_pages_of(cache->stream->size);
+    return !is_viewed && !kz_has_section_past(SectionPointer, size);
 }
 
 BOOLEAN MmFlushImageSection(PSECTION_OBJECT_POINTERS SectionObjectPointer, ULONG FlushType)

@@ -139,6 +139,7 @@ static NTSTATUS write_locked(KzOp *op, KzCache *cache, const KazdrinData *call, 
         kz_resize(file, size);
     if (!NT_SUCCESS(status))
         return status;
+    kz_write_views(cache->stream, call->offset, bytes, call->length);
     kz_note_written(file, call->offset, call->length);
     return file->object.Flags & FO_WRITE_THROUGH ? kz_flush_cache(cache, call->offset, call->length) : status;
 }

@@ -9,6 +9,7 @@
 #include "user/directory.h"
 #include "user/file.h"
 #include "user/manage.h"
+#include "user/mapping.h"
 #include "user/message.h"
 #include "user/program.h"
 
@@ -82,6 +83,8 @@ void kz_close_object(KzObject *object)
         kz_free_search(object);
     } else if (object->kind == KZU_KEY) {
         ZwClose(object->system);
+    } else if (object->kind == KZU_SECTION) {
+        kz_close_section(object);
     } else if (object->kind == KZU_THREAD) {
         object->owner->object = NULL;
     }

@@ -1,6 +1,8 @@
 /* The life of programs: a process begins by a request, and ends with its main or by ExitProcess. Its other threads end where they next come out of a call. */
 #include "user/program.h"
 
+#include "cache/cache.h"
+
 #include "core/beside.h"
 #include "core/client.h"
 #include "core/memory.h"
@@ -71,6 +73,7 @@ static void end_process(KzProcess *process)
     process->is_over = true;
     kz.changes++;
     kz_cancel_of(process->id);
+    kz_unmap_all(process);
     while (process->objects)
         kz_close_object(process->objects);
     kz_close_handles_of(process->id);

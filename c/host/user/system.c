@@ -3,7 +3,6 @@
 #include "core/clock.h"
 #include "core/memory.h"
 #include "lib/format.h"
-#include "kit/section.h"
 #include "user/object.h"
 #include "user/program.h"
 
@@ -56,26 +55,6 @@ int VirtualFree(void *address, size_t size, uint32_t type)
 {
     (void)size, (void)type;
     free(address);
-    return 1;
-}
-
-/* Of a section whose handle a filter opened for the program. */
-void *MapViewOfFile(void *section, uint32_t access, uint32_t high, uint32_t low, size_t size);
-void *MapViewOfFile(void *section, uint32_t access, uint32_t high, uint32_t low, size_t size)
-{
-    KZ_CALL();
-    (void)access, (void)size;
-    size_t there;
-    void *bytes = kz_section_bytes(section, (uint64_t)high << 32 | low, &there);
-    if (!bytes)
-        kz_failed(KZ_ERROR_INVALID_HANDLE);
-    return bytes;
-}
-
-int UnmapViewOfFile(const void *address);
-int UnmapViewOfFile(const void *address)
-{
-    (void)address;
     return 1;
 }
 

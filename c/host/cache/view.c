@@ -1,0 +1,104 @@
+/* Views: memory of a program with what the stream's pages have. What the program changes there is found when somebody next comes to the stream, and is dirty from then on. */
+#include "cache/paging.h"
+
+#include "core/client.h"
+#include "core/memory.h"
+
+#include <stdlib.h>
+
+NTSTATUS kz_map_view(KzCache *cache, const KzMapped *asked, KzMapped **made)
+{
+    KzMapped *one = kz_memory(sizeof *one);
+    *one = *asked;
+    one->memory = kz_memory((asked->count + 1) * KZ_PAGE);
+    one->bytes = one->memory + (KZ_PAGE - (uintptr_t)one->memory % KZ_PAGE);
+    one->next = cache->mapped;
+    cache->mapped = one; /* from here on its pages stay */
+    cache->views++;
+    NTSTATUS status = kz_bring_pages(cache, one->first, one->first + one->count, NULL);
+    if (!NT_SUCCESS(status)) {
+        kz_unmap_view(cache, one);
+        return status;
+    }
+    for (uint64_t at = 0; at < one->count; at++)
+        memcpy(one->bytes + at * KZ_PAGE, kz_page_of(cache, one->first + at)->bytes, KZ_PAGE);
+    *made = one;
+    return status;
+}
+
+void kz_unmap_view(KzCache *cache, KzMapped *gone)
+{
+    KzMapped **at = &cache->mapped;
+    kz_take_views(cache);
+    while (*at != gone)
+        at = &(*at)->next;
+    *at = gone->next;
+    free(gone->memory);
+    free(gone);
+    cache->views--;
+    cache->idle = kz.passed;
+    kz.changes++;
+}
+
+KzMapped *kz_view_at(const void *address, KzCache **cache)
+{
+    for (*cache = kz_first_cache(); *cache; *cache = (*cache)->next)
+        for (KzMapped *one = (*cache)->mapped; one; one = one->next)
+            if ((uintptr_t)address - (uintptr_t)one->bytes < one->count * KZ_PAGE)
+                return one;
+    return NULL;
+}
+
+void kz_unmap_all(const void *owner)
+{
+    for (KzCache *cache = kz_first_cache(); cache; cache = cache->next)
+        for (KzMapped *one = cache->mapped, *next; one; one = next) {
+            next = one->next;
+            if (one->owner == owner)
+                kz_unmap_view(cache, one);
+        }
+}
+
+static bool has_page(const KzMapped *view, uint64_t number)
+{
+    return number >= view->first && number - view->first < view->count;
+}
+
+bool kz_is_in_view(const KzCache *cache, uint64_t number)
+{
+    const KzMapped *one = cache->mapped;
+    while (one && !has_page(one, number))
+        one = one->next;
+    return one != NULL;
+}
+
+void kz_show_page(const KzCache *cache, const KzCachedPage *page)
+{
+    for (const KzMapped *one = cache->mapped; one; one = one->next)
+        if (has_page(one, page->number) && !one->is_copy)
+            memcpy(one->bytes + (page->number - one->first) * KZ_PAGE, page->bytes, KZ_PAGE);
+}
+
+/* What lies past the file's end in its last page is nothing. */
+static void take_page(KzCache *cache, KzCachedPage *page, const uint8_t *bytes)
+{
+    uint64_t begin = page->number * KZ_PAGE, size = cache->stream->size, end = begin + KZ_PAGE < size ? begin + KZ_PAGE : size;
+    if (begin >= size || memcmp(page->bytes, bytes, (size_t)(end - begin)) == 0)
+        return;
+    memcpy(page->bytes, bytes, (size_t)(end - begin));
+    bool was_dirty = page->state == KZG_DIRTY;
+    kz_soil_page(page);
+    page->is_by_view |= !was_dirty;
+    kz_show_page(cache, page);
+    cache->stream->valid = cache->stream->valid > end ? cache->stream->valid : end;
+}
+
+void kz_take_views(KzCache *cache)
+{
+    for (KzMapped *one = cache->mapped; one; one = one->next)
+        for (uint64_t at = 0; one->is_written && at < one->count; at++) {
+            KzCachedPage *page = kz_page_of(cache, one->first + at);
+            if (page && page->state != KZG_COMING)
+                take_page(cache, page, one->bytes + at * KZ_PAGE);
+        }
+}

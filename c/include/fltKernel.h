@@ -947,6 +947,10 @@ NTSTATUS FltQuerySecurityObject(PFLT_INSTANCE Instance, PFILE_OBJECT FileObject,
 NTSTATUS FltSetSecurityObject(PFLT_INSTANCE Instance, PFILE_OBJECT FileObject, SECURITY_INFORMATION SecurityInformation,
                               PSECURITY_DESCRIPTOR SecurityDescriptor);
 NTSTATUS FltFlushBuffers(PFLT_INSTANCE Instance, PFILE_OBJECT FileObject);
+#define FLT_FLUSH_TYPE_FLUSH_AND_PURGE 0x00000001
+#define FLT_FLUSH_TYPE_FILE_DATA_ONLY 0x00000002
+#define FLT_FLUSH_TYPE_NO_SYNC 0x00000004
+#define FLT_FLUSH_TYPE_DATA_SYNC_ONLY 0x00000008
 NTSTATUS FltFlushBuffers2(PFLT_INSTANCE Instance, PFILE_OBJECT FileObject, ULONG FlushType, PFLT_CALLBACK_DATA CallbackData);
 NTSTATUS FltNotifyFilterChangeDirectory(PVOID NotifySync, PLIST_ENTRY NotifyList, PVOID FsContext, PVOID FullDirectoryName, BOOLEAN WatchTree,
                                         BOOLEAN IgnoreBuffer, ULONG CompletionFilter, PFLT_CALLBACK_DATA NotifyCallbackData, PVOID TraverseCallback,

@@ -1,6 +1,7 @@
 /* Reads, writes and flushes that a driver begins by itself. Those of more bytes than the manager takes at once are several operations. */
 #include "kit/io.h"
 
+#include "cache/paging.h"
 #include "core/client.h"
 #include "core/memory.h"
 #include "core/op.h"
@@ -222,8 +223,12 @@ NTSTATUS FltFlushBuffers(PFLT_INSTANCE Instance, PFILE_OBJECT FileObject)
 NTSTATUS FltFlushBuffers2(PFLT_INSTANCE Instance, PFILE_OBJECT FileObject, ULONG FlushType, PFLT_CALLBACK_DATA CallbackData)
 {
     KZ_CALL();
-    (void)FlushType, (void)CallbackData;
-    return kz_flush_below(Instance, FileObject, __func__);
+    (void)CallbackData;
+    NTSTATUS status = kz_flush_below(Instance, FileObject, __func__);
+    KzFile *file = NT_SUCCESS(status) && FlushType & FLT_FLUSH_TYPE_FLUSH_AND_PURGE ? kz_file_with(FileObject) : NULL;
+    if (file && kz_cache_of(file))
+        kz_purge_cache(kz_cache_of(file), 0, 0, false);
+    return status;
 }
 
 /* ---- By a handle, from the top of the stack. */

@@ -1,6 +1,7 @@
 /* Expectations: what the last request answered, which callbacks it called, and what was told. What is unmet is said in words. */
 #include "run/expect.h"
 
+#include "core/memory.h"
 #include "core/status.h"
 #include "run/explain.h"
 #include "run/read.h"
@@ -117,14 +118,13 @@ static void say_unmet(const char *words)
         fprintf(stderr, "%s:%u: expected %.*s, and there is %.900s\n", kz_seen.file, kz_seen.line, (int)strcspn(words, "\r\n"), words, now);
 }
 
-
-bool kz_expect(const char *words)
+/* With room for all that is said of a kind. */
+static bool expect(const char *words, char *value)
 {
     char kind[16] = "", *end;
     size_t used = strcspn(words, " \t\r\n");
-    char value[2048];
     snprintf(kind, sizeof kind, "%.*s", (int)used, words);
-    snprintf(value, sizeof value, "%s", words + used + strspn(words + used, " \t"));
+    strcpy(value, words + used + strspn(words + used, " \t"));
     for (end = value + strlen(value); end > value && strchr(" \t\r\n", end[-1]); end--)
         end[-1] = 0;
     bool is_held = strncmp(words, "held", 4) == 0 && !*value;
@@ -144,4 +144,12 @@ bool kz_expect(const char *words)
         return true;
     say_unmet(words);
     return true;
+}
+
+bool kz_expect(const char *words)
+{
+    char *value = kz_memory(strlen(words) + 1);
+    bool is_understood = expect(words, value);
+    free(value);
+    return is_understood;
 }

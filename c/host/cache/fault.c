@@ -76,7 +76,7 @@ NTSTATUS kz_bring_pages(KzCache *cache, uint64_t first, uint64_t end, PIRP top)
         if (count)
             status = bring(cache, first, count);
         else if (!wait_for(cache, first))
-            status = STATUS_TIMEOUT;
+            status = STATUS_POSSIBLE_DEADLOCK;
         first += count ? count : kz_page_of(cache, first) != NULL;
     }
     kz_ask_again(&before);

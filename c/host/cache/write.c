@@ -109,12 +109,12 @@ static NTSTATUS flush_locked(KzCache *cache, uint64_t first, uint64_t end)
 {
     if (!kz_lock_stream(cache, false)) {
         kz_tell(KZM_PAGE_WAITS, "paging I/O", "a flush of \\%s waits for the file system's lock of it, and who has that waits for the flush: it waits for ever", cache->holder->path);
-        return STATUS_TIMEOUT;
+        return STATUS_POSSIBLE_DEADLOCK;
     }
     NTSTATUS status = write_range(cache, first, end, IRP_SYNCHRONOUS_PAGING_IO);
     bool is_out = wait_until_out(cache, first, end);
     kz_unlock_stream(cache, kz_me);
-    return is_out ? status : STATUS_TIMEOUT;
+    return is_out ? status : STATUS_POSSIBLE_DEADLOCK;
 }
 
 NTSTATUS kz_flush_cache(KzCache *cache, uint64_t from, uint64_t length)

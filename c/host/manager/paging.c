@@ -55,7 +55,7 @@ NTSTATUS kz_page(KzFile *file, uint64_t handle, const KzPaging *asked, uint64_t 
     KazdrinEvent event = {.event = asked->is_write ? KZE_WRITE : KZE_READ, .handle = handle, .offset = asked->offset, .len = asked->is_write ? 0 : asked->length};
     KzAnswer answer = kz_below(&own, file, event, asked->is_write ? asked->bytes : (const uint8_t *)"", asked->is_write ? asked->length : 0);
     *there = asked->is_write ? answer.reply.information : answer.length;
-    return kz_status_of(answer);
+    return answer.reply.held ? STATUS_POSSIBLE_DEADLOCK : kz_status_of(answer); /* nobody lets it go on */
 }
 
 NTSTATUS kz_ask_for_cache(KzFile *file, uint64_t handle, const KzAsked *asked)
@@ -97,7 +97,7 @@ static bool needs_irp(const KzOp *op, const KazdrinData *call)
 static NTSTATUS cannot_lock(const KzFile *file)
 {
     kz_tell(KZM_PAGE_WAITS, "the file system", "the lock of \\%s is held by an operation that waits for this one: it waits for ever", file->path);
-    return STATUS_TIMEOUT;
+    return STATUS_POSSIBLE_DEADLOCK;
 }
 
 /* One who reads on and on has the next pages read beside it. */

@@ -52,7 +52,12 @@ typedef struct KzCache {
     } seats[KZ_SEATS]; /* who has the file system's lock of the stream */
 } KzCache;
 
-/* ---- Caches. */
+/* ---- Caches. RAW has none. */
+static inline bool kz_is_caching(PFLT_VOLUME volume)
+{
+    return volume->is_cached && volume->type != FLT_FSTYPE_RAW;
+}
+
 extern const struct KzModule kz_cache_module, kz_writer_module;
 KzCache *kz_first_cache(void);
 /* By which the lazy writer knows to which it has come. */

@@ -68,7 +68,7 @@ NTSTATUS kz_ask_for_cache(KzFile *file, uint64_t handle, const KzAsked *asked)
 static bool has_pages(const KzOp *op)
 {
     const KzFile *file = op->file;
-    return file->volume->is_cached && file->name && !file->is_volume && !kz_is_directory(file->name);
+    return kz_is_caching(file->volume) && file->name && !file->is_volume && !kz_is_directory(file->name);
 }
 
 bool kz_goes_by_pages(const KzOp *op)

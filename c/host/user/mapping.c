@@ -64,7 +64,7 @@ static uint32_t refuse(const KzFile *file, ULONG protection, uint64_t size)
         return ERROR_ACCESS;
     if (!size || size > KZ_LARGEST)
         return size ? ERROR_PARAMETER : ERROR_EMPTY;
-    if (file->volume->is_cached)
+    if (kz_is_caching(file->volume))
         return 0;
     kz_tell(KZM_SECTION, "CreateFileMapping", "a file of a volume that doesn't cache has no section: it answers ERROR_NOT_SUPPORTED");
     return ERROR_NONE;

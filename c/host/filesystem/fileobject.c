@@ -92,7 +92,7 @@ void kz_be_volume(KzFile *file)
 void kz_file_opened(KzFile *file)
 {
     PFILE_OBJECT object = &file->object;
-    object->FsContext = file;
+    object->FsContext = file->name ? (PVOID)file->name->stream : (PVOID)file; /* all handles of a stream have the same */
     object->FsContext2 = &file->sections;
     if (file->name)
         object->SectionObjectPointer = &file->name->stream->sections;

@@ -140,10 +140,16 @@ static bool is_its_sections(const KzFile *file, const FILE_OBJECT *before)
     return now == before->SectionObjectPointer || (file->name && now == &file->name->stream->sections);
 }
 
+static bool is_its_context(const KzFile *file, const FILE_OBJECT *before)
+{
+    const void *now = file->object.FsContext, *own = file->name ? (const void *)file->name->stream : (const void *)file;
+    return !now || now == before->FsContext || now == own;
+}
+
 void kz_look_at_file(KzOp *op, const FILE_OBJECT *before)
 {
     FILE_OBJECT *now = &op->file->object;
-    const char *changed = now->FsContext && now->FsContext != op->file                    ? "FsContext"
+    const char *changed = !is_its_context(op->file, before)                               ? "FsContext"
                           : now->FsContext2 && now->FsContext2 != &op->file->sections     ? "FsContext2"
                           : !is_its_sections(op->file, before)                           ? "SectionObjectPointer"
                                                                                          : NULL;

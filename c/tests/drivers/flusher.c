@@ -2,6 +2,7 @@
 #include <fltKernel.h>
 
 static PFLT_FILTER gFilter;
+static PVOID gContext; /* of the first file that was asked for them */
 
 static FLT_PREOP_CALLBACK_STATUS PreEa(PFLT_CALLBACK_DATA Data, PCFLT_RELATED_OBJECTS FltObjects, PVOID *CompletionContext)
 {
@@ -11,6 +12,7 @@ static FLT_PREOP_CALLBACK_STATUS PreEa(PFLT_CALLBACK_DATA Data, PCFLT_RELATED_OB
 
     UNREFERENCED_PARAMETER(Data);
     UNREFERENCED_PARAMETER(CompletionContext);
+    gContext = gContext == NULL ? file->FsContext : gContext;
     CcFlushCache(file->SectionObjectPointer, NULL, 0, &io);
     isPurged = CcPurgeCacheSection(file->SectionObjectPointer, NULL, 0, FALSE);
     DbgPrint("  cached %u, flushed 0x%08x, purged %u, may be cut %u\n", isCached, io.Status, isPurged, MmCanFileBeTruncated(file->SectionObjectPointer, NULL));
@@ -20,7 +22,8 @@ static FLT_PREOP_CALLBACK_STATUS PreEa(PFLT_CALLBACK_DATA Data, PCFLT_RELATED_OB
 static FLT_PREOP_CALLBACK_STATUS PreSecurity(PFLT_CALLBACK_DATA Data, PCFLT_RELATED_OBJECTS FltObjects, PVOID *CompletionContext)
 {
     UNREFERENCED_PARAMETER(CompletionContext);
-    DbgPrint("  flushed and purged 0x%08x\n", FltFlushBuffers2(FltObjects->Instance, FltObjects->FileObject, FLT_FLUSH_TYPE_FLUSH_AND_PURGE, Data));
+    DbgPrint("  the same stream %u, flushed and purged 0x%08x\n", FltObjects->FileObject->FsContext == gContext,
+             FltFlushBuffers2(FltObjects->Instance, FltObjects->FileObject, FLT_FLUSH_TYPE_FLUSH_AND_PURGE, Data));
     return FLT_PREOP_SUCCESS_NO_CALLBACK;
 }
 

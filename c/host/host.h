@@ -91,6 +91,7 @@ typedef struct KzFile {
     bool is_posix;       /* a deletion takes its name away with the handle's cleanup */
     bool is_sharing;     /* it counts in its file's share access */
     ACCESS_MASK access;  /* that its create was granted */
+    PKTRANSACTION transaction; /* in which it was opened; NULL if in none */
     ULONG_PTR created;   /* what the file system made of its create: FILE_OPENED and its kin */
     struct {             /* of a directory */
         char pattern[256], last[256];
@@ -128,6 +129,7 @@ typedef struct {
     struct KzFileContextState *filecontext;
     struct KzHandleState *handle;
     struct KzHeldState *held;
+    struct KzJournalState *journal;
     struct KzKeptState *kept;
     struct KzLabelState *label;
     struct KzLentState *lent;
@@ -152,6 +154,8 @@ typedef struct {
     struct KzToldState *told;
     struct KzTreeState *tree;
     struct KzTunnelState *tunnel;
+    struct KzVersionState *version;
+    struct KzWaitingState *waiting;
     struct KzWorkState *work;
     /* What is above the core, as run/open.c hands it down. */
     const struct KzModule *const *modules; /* up to NULL */

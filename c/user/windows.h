@@ -290,6 +290,8 @@ BOOL CancelIoEx(HANDLE File, LPOVERLAPPED Overlapped);
 #define INVALID_FILE_SIZE 0xffffffff
 #define INVALID_SET_FILE_POINTER 0xffffffff
 HANDLE CreateFileA(LPCSTR Name, DWORD Access, DWORD Share, LPSECURITY_ATTRIBUTES Attributes, DWORD Disposition, DWORD Flags, HANDLE Template);
+HANDLE CreateFileTransactedA(LPCSTR Name, DWORD Access, DWORD Share, LPSECURITY_ATTRIBUTES Attributes, DWORD Disposition, DWORD Flags, HANDLE Template, HANDLE Transaction, PUSHORT MiniVersion, PVOID Extended);
+HANDLE CreateFileTransactedW(LPCWSTR Name, DWORD Access, DWORD Share, LPSECURITY_ATTRIBUTES Attributes, DWORD Disposition, DWORD Flags, HANDLE Template, HANDLE Transaction, PUSHORT MiniVersion, PVOID Extended);
 HANDLE CreateFileW(LPCWSTR Name, DWORD Access, DWORD Share, LPSECURITY_ATTRIBUTES Attributes, DWORD Disposition, DWORD Flags, HANDLE Template);
 BOOL ReadFile(HANDLE File, LPVOID Buffer, DWORD Length, LPDWORD Done, LPOVERLAPPED Overlapped);
 BOOL WriteFile(HANDLE File, LPCVOID Buffer, DWORD Length, LPDWORD Done, LPOVERLAPPED Overlapped);
@@ -419,6 +421,7 @@ char *gets_s(char *Room, size_t Size);
 #define CreateSemaphore CreateSemaphoreW
 #define CreateMutex CreateMutexW
 #define CreateFile CreateFileW
+#define CreateFileTransacted CreateFileTransactedW
 #define CreateDirectory CreateDirectoryW
 #define RemoveDirectory RemoveDirectoryW
 #define GetFileAttributes GetFileAttributesW
@@ -438,6 +441,7 @@ char *gets_s(char *Room, size_t Size);
 #define CreateSemaphore CreateSemaphoreA
 #define CreateMutex CreateMutexA
 #define CreateFile CreateFileA
+#define CreateFileTransacted CreateFileTransactedA
 #define CreateDirectory CreateDirectoryA
 #define RemoveDirectory RemoveDirectoryA
 #define GetFileAttributes GetFileAttributesA

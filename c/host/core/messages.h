@@ -110,7 +110,7 @@ enum {
     KZM_HAND_IS_FULL = 201,
     KZM_TOO_MANY_CONTEXTS = 202,
     KZM_NOT_OWN_OBJECT = 203,
-    KZM_NO_SUCH_CONTEXTS = 204,
+    /* 204 was contexts of transactions. */
     KZM_KEPT_SET = 205,
     /* Held operations. */
     KZM_UNREGISTER_WAITS = 213,

@@ -78,6 +78,12 @@ void kz_put_bytes(KzPages *pages, uint64_t offset, const uint8_t *from, size_t l
     }
 }
 
+void kz_copy_pages(KzPages *to, const KzPages *from)
+{
+    for (size_t at = 0; at < from->count; at++)
+        memcpy(make_page(to, from->all[at].number), from->all[at].bytes, PAGE);
+}
+
 void kz_cut_bytes(KzPages *pages, uint64_t size)
 {
     size_t at = place_of(pages, size / PAGE), kept = size % PAGE;

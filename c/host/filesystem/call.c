@@ -15,6 +15,7 @@
 #include "filesystem/tag.h"
 #include "filesystem/tree.h"
 #include "filesystem/tunnel.h"
+#include "filesystem/version.h"
 
 bool kz_answers_call(KzOp *op, const KazdrinData *call, NTSTATUS *status)
 {
@@ -52,7 +53,7 @@ bool kz_list_names_of(PFLT_VOLUME volume, uint8_t *room, size_t size, size_t *le
     *length = 0;
     for (const KzName *one = kz_first_name(); one; one = one->next) {
         size_t letters = strlen(one->text);
-        bool is_shown = !one->is_gone && one->volume == volume && !one->base && one->file->exists && !one->file->is_directory && !strchr(one->text, '/');
+        bool is_shown = !one->is_gone && one->volume == volume && !one->base && one->file->exists && !kz_is_hidden(one, NULL) && !one->file->is_directory && !strchr(one->text, '/');
         if (!is_shown)
             continue;
         if (*length + letters + 1 > size)

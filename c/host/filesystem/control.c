@@ -5,6 +5,7 @@
 #include "core/op.h"
 #include "core/told.h"
 #include "filesystem/fsctl.h"
+#include "filesystem/journal.h"
 #include "filesystem/name.h"
 #include "filesystem/record.h"
 #include "filesystem/notice.h"
@@ -41,7 +42,7 @@ static NTSTATUS set_ea(KzOp *op, const FLT_PARAMETERS *now)
         return STATUS_EA_LIST_INCONSISTENT;
     }
     kz_keep_bytes(&name->file->ea, now->SetEa.EaBuffer, now->SetEa.Length);
-    kz_notify(name, FILE_NOTIFY_CHANGE_EA, FILE_ACTION_MODIFIED);
+    kz_changed(name, FILE_NOTIFY_CHANGE_EA, FILE_ACTION_MODIFIED);
     return STATUS_SUCCESS;
 }
 
@@ -68,7 +69,7 @@ static NTSTATUS set_security(KzOp *op, const FLT_PARAMETERS *now)
     length = kz_join_descriptors(now->SetSecurity.SecurityDescriptor, what, kept->length ? kept->bytes : KZ_NO_DESCRIPTOR, ~what, made);
     kz_keep_bytes(kept, made, length);
     free(made);
-    kz_notify(op->file->name, FILE_NOTIFY_CHANGE_SECURITY, FILE_ACTION_MODIFIED);
+    kz_changed(op->file->name, FILE_NOTIFY_CHANGE_SECURITY, FILE_ACTION_MODIFIED);
     return STATUS_SUCCESS;
 }
 
@@ -86,6 +87,17 @@ static NTSTATUS query_security(KzOp *op, const FLT_PARAMETERS *now)
 }
 
 /* ---- Locks of bytes. */
+/* A driver that waits for its own request isn't let wait here. */
+static NTSTATUS take_range(KzOp *op, const KzRange *range, bool fails)
+{
+    if (!fails && !op->own.is_waited_for)
+        return kz_wait_for_range(op, range);
+    NTSTATUS status = kz_lock_range(op->file, range);
+    if (!fails && status == STATUS_LOCK_NOT_GRANTED)
+        kz_tell(KZM_NOBODY_SETS, "IRP_MJ_LOCK_CONTROL", "a lock that another handle has, which a driver's own request would wait for: it answers STATUS_LOCK_NOT_GRANTED");
+    return status;
+}
+
 static NTSTATUS lock(KzOp *op, const FLT_PARAMETERS *now)
 {
     const KzRange range = {(uint64_t)now->LockControl.ByteOffset.QuadPart, now->LockControl.Length ? (uint64_t)now->LockControl.Length->QuadPart : 0, now->LockControl.ExclusiveLock, now->LockControl.Key};
@@ -93,7 +105,7 @@ static NTSTATUS lock(KzOp *op, const FLT_PARAMETERS *now)
         return STATUS_INVALID_PARAMETER;
     switch (op->opaque->minor) {
     case IRP_MN_LOCK:
-        return kz_lock_range(op->file, &range);
+        return take_range(op, &range, now->LockControl.FailImmediately);
     case IRP_MN_UNLOCK_SINGLE:
         return kz_unlock_range(op->file, &range);
     case IRP_MN_UNLOCK_ALL:
@@ -183,7 +195,7 @@ static NTSTATUS network_open(KzOp *op, const FLT_PARAMETERS *now)
     KzName *name = op->file->name;
     if (!name || !kz_is_there(name))
         return STATUS_OBJECT_NAME_NOT_FOUND;
-    kz_show_network(name->stream, now->NetworkQueryOpen.NetworkInformation);
+    kz_show_network(name->stream, NULL, now->NetworkQueryOpen.NetworkInformation);
     op->opaque->information = sizeof(FILE_NETWORK_OPEN_INFORMATION);
     return STATUS_SUCCESS;
 }

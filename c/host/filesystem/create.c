@@ -6,6 +6,7 @@
 #include "core/op.h"
 #include "filesystem/disk.h"
 #include "filesystem/folder.h"
+#include "filesystem/journal.h"
 #include "filesystem/name.h"
 #include "filesystem/notice.h"
 #include "filesystem/record.h"
@@ -15,6 +16,7 @@
 #include "filesystem/stream.h"
 #include "filesystem/tag.h"
 #include "filesystem/tunnel.h"
+#include "filesystem/version.h"
 
 typedef enum { IS_NOTHING, IS_BYTES, IS_FOLDER } There;
 
@@ -98,15 +100,19 @@ static NTSTATUS check_there(KzOp *op, const KzName *name)
 static NTSTATUS check(KzOp *op, uint8_t mode, There there)
 {
     KzName *name = op->file->name;
+    bool is_made = there == IS_NOTHING && NT_SUCCESS(answers[IS_NOTHING][disposition_of(&op->create)]);
     if (op->volume->locker)
         return STATUS_ACCESS_DENIED;
-    if (name->file->marked || name->stream->is_marked)
+    NTSTATUS status = kz_check_version(op->file, &op->create, is_made);
+    if (!NT_SUCCESS(status))
+        return status;
+    if (kz_is_marked_for(name, op->file->transaction))
         return STATUS_DELETE_PENDING;
     if (kz_meets_tag(op, mode))
         return STATUS_REPARSE;
     if (op->create.target && there != IS_FOLDER) /* what a rename leads to lies in no folder */
         return STATUS_OBJECT_PATH_NOT_FOUND;
-    NTSTATUS status = kz_check_above(name->volume, name->text, NT_SUCCESS(answers[IS_NOTHING][disposition_of(&op->create)]));
+    status = kz_check_above(name->volume, name->text, NT_SUCCESS(answers[IS_NOTHING][disposition_of(&op->create)]));
     if (NT_SUCCESS(status))
         status = check_kind(&op->create, there);
     if (NT_SUCCESS(status))
@@ -124,7 +130,7 @@ static NTSTATUS make_directory(KzName *name)
     kz_make_above(name->volume, name->text);
     kz_begin_record(name->file, true);
     kz_take_from_tunnel(name);
-    kz_notify(name, FILE_NOTIFY_CHANGE_DIR_NAME, FILE_ACTION_ADDED);
+    kz_changed(name, FILE_NOTIFY_CHANGE_DIR_NAME, FILE_ACTION_ADDED);
     return STATUS_SUCCESS;
 }
 
@@ -142,7 +148,7 @@ bool kz_answers_create(KzOp *op, uint8_t mode, NTSTATUS *status)
         return true;
     if (is_foreign(name))
         return false;
-    There there = !kz_is_there(name) ? IS_NOTHING : kz_is_directory(name) ? IS_FOLDER : IS_BYTES;
+    There there = !kz_is_there(name) || kz_is_hidden(name, op->file->transaction) ? IS_NOTHING : kz_is_directory(name) ? IS_FOLDER : IS_BYTES;
     *status = check(op, mode, there);
     if (*status != STATUS_SUCCESS)
         return true;
@@ -159,7 +165,7 @@ static void make_file(KzName *name)
     kz_make_above(name->volume, name->text);
     kz_begin_record(name->file, false);
     kz_take_from_tunnel(name);
-    kz_notify(name, FILE_NOTIFY_CHANGE_FILE_NAME, FILE_ACTION_ADDED);
+    kz_changed(name, FILE_NOTIFY_CHANGE_FILE_NAME, FILE_ACTION_ADDED);
 }
 
 /* A stream makes its file, where that isn't there. */
@@ -175,7 +181,7 @@ void kz_note_create(KzName *name, uint8_t mode)
     if (!name->base)
         return;
     kz_begin_stream(name->stream);
-    kz_notify(name, FILE_NOTIFY_CHANGE_FILE_NAME, FILE_ACTION_ADDED);
+    kz_changed(name, FILE_NOTIFY_CHANGE_FILE_NAME, FILE_ACTION_ADDED);
 }
 
 bool kz_opens_directory(const KzCreate *create, PFLT_VOLUME volume, const char *path)

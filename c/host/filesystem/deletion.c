@@ -4,6 +4,7 @@
 
 #include "core/client.h"
 #include "filesystem/disk.h"
+#include "filesystem/journal.h"
 #include "filesystem/name.h"
 #include "filesystem/notice.h"
 #include "filesystem/record.h"
@@ -11,6 +12,7 @@
 #include "filesystem/stream.h"
 #include "filesystem/tree.h"
 #include "filesystem/tunnel.h"
+#include "filesystem/version.h"
 
 bool kz_is_empty(const KzName *directory)
 {
@@ -110,7 +112,7 @@ uint8_t kz_delete_name(KzName *name)
     uint8_t status = kz_unlink_in_folder(name->volume->id, name->text);
     if (status != KZS_OK && status != KZS_FILE_NOT_FOUND)
         return status;
-    kz_notify(name, kz_is_directory(name) ? FILE_NOTIFY_CHANGE_DIR_NAME : FILE_NOTIFY_CHANGE_FILE_NAME, FILE_ACTION_REMOVED);
+    kz_changed(name, kz_is_directory(name) ? FILE_NOTIFY_CHANGE_DIR_NAME : FILE_NOTIFY_CHANGE_FILE_NAME, FILE_ACTION_REMOVED);
     if (!name->base)
         kz_put_in_tunnel(name);
     kz_take_away(name);
@@ -134,6 +136,8 @@ void kz_end_cleanup(KzFile *file)
     if (file->object.Flags & FO_DELETE_ON_CLOSE)
         kz_dispose(file, FILE_DISPOSITION_DELETE);
     kz_count_no_open(file);
+    if (kz_puts_off_deletion(file))
+        return;
     KzName *gone = goes_with(file);
     if (gone) {
         mark(gone, false);
@@ -141,4 +145,6 @@ void kz_end_cleanup(KzFile *file)
     } else if (!record->links && !record->opens && record->exists) {
         kz_end_record(record);
     }
+    if (!record->opens && record->exists)
+        kz_journal_close(file->name);
 }

@@ -9,6 +9,7 @@
 #include "filesystem/query.h"
 #include "filesystem/tag.h"
 #include "filesystem/tree.h"
+#include "filesystem/version.h"
 
 /* Where a class has what it says of a file: all but plain names begin as FILE_DIRECTORY_INFORMATION does. */
 typedef struct {
@@ -81,7 +82,7 @@ static bool next_entry(const KzFile *file, Entry *found)
     if (dots(file, found))
         return true;
     for (const KzName *one = kz_all_names(); one; one = one->next) {
-        if (!kz_is_below(one, file->volume, file->name->text) || !one->file->exists)
+        if (!kz_is_below(one, file->volume, file->name->text) || !one->file->exists || kz_is_hidden(one, file->transaction))
             continue;
         const char *part = part_of(one, file->name->text);
         bool is_behind = part && (!file->scan.is_begun || compare(part, file->scan.last) > 0);
@@ -102,14 +103,14 @@ static void pass(KzFile *file, const Entry *entry)
     snprintf(file->scan.last, sizeof file->scan.last, "%s", entry->name);
 }
 
-static void show(uint8_t *to, const Shape *shape, const Entry *entry)
+static void show(uint8_t *to, const Shape *shape, const Entry *entry, PKTRANSACTION from)
 {
     ULONG length = kz_widen((WCHAR *)(to + shape->name), entry->name);
     memcpy(to + shape->length, &length, sizeof length);
     if (shape->class == FileNamesInformation)
         return;
     FILE_NETWORK_OPEN_INFORMATION said;
-    kz_show_network(entry->file->streams, &said);
+    kz_show_network(entry->file->streams, from, &said);
     FILE_DIRECTORY_INFORMATION head = {0, 0, said.CreationTime, said.LastAccessTime, said.LastWriteTime, said.ChangeTime, said.EndOfFile, said.AllocationSize, said.FileAttributes, length, {0}};
     memcpy(to, &head, offsetof(FILE_DIRECTORY_INFORMATION, FileName));
     ULONG ea = entry->file->reparse.length ? kz_tag_of(entry->file) : (ULONG)entry->file->ea.length;
@@ -151,7 +152,7 @@ static NTSTATUS list(KzOp *op, const FLT_PARAMETERS *now, const Shape *shape)
             break;
         }
         memset(buffer + place, 0, size);
-        show(buffer + place, shape, &entry);
+        show(buffer + place, shape, &entry, file->transaction);
         if (before)
             *(ULONG *)before = (ULONG)(buffer + place - before);
         before = buffer + place;

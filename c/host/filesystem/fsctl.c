@@ -2,6 +2,7 @@
 #include "filesystem/fsctl.h"
 
 #include "core/op.h"
+#include "filesystem/journal.h"
 #include "filesystem/name.h"
 #include "filesystem/record.h"
 #include "filesystem/stream.h"
@@ -106,18 +107,29 @@ static NTSTATUS delete_object_id(KzOp *op)
     return STATUS_SUCCESS;
 }
 
-/* ---- The record of a file: no journal is kept, so it has no number of a change. */
+/* ---- The journal. */
+static NTSTATUS read_journal(KzOp *op, const Buffers *said)
+{
+    size_t length = 0;
+    if (said->in_length < sizeof(READ_USN_JOURNAL_DATA_V0))
+        return STATUS_INVALID_PARAMETER;
+    NTSTATUS status = kz_read_journal(op->volume, said->in, said->out, said->out_length, &length);
+    op->opaque->information = NT_SUCCESS(status) ? length : 0;
+    return status;
+}
+
+static NTSTATUS query_journal(KzOp *op, const Buffers *to)
+{
+    USN_JOURNAL_DATA_V0 said;
+    kz_query_journal(op->volume, &said);
+    return give(op, to, &said, sizeof said);
+}
+
 static NTSTATUS read_record(KzOp *op, const Buffers *to)
 {
-    const KzName *name = op->file->name;
-    const char *slash = strrchr(name->text, '/');
-    struct {
-        USN_RECORD_V2 record;
-        WCHAR rest[260];
-    } said = {.record = {.MajorVersion = 2, .FileReferenceNumber = name->file->id, .FileAttributes = name->file->attributes, .FileNameOffset = offsetof(USN_RECORD_V2, FileName)}};
-    said.record.FileNameLength = (USHORT)kz_widen(said.record.FileName, slash ? slash + 1 : name->text);
-    said.record.RecordLength = (ULONG)((offsetof(USN_RECORD_V2, FileName) + said.record.FileNameLength + 7) & ~(size_t)7);
-    return give(op, to, &said, said.record.RecordLength);
+    uint8_t room[1024];
+    size_t length = kz_journal_record(op->file->name, room);
+    return give(op, to, room, length);
 }
 
 static NTSTATUS volume_data(KzOp *op, const Buffers *to)
@@ -135,6 +147,10 @@ NTSTATUS kz_control_file(KzOp *op, const FLT_PARAMETERS *now)
     ULONG code = now->FileSystemControl.Common.FsControlCode;
     if (code == FSCTL_GET_NTFS_VOLUME_DATA)
         return volume_data(op, &buffers);
+    if (code == FSCTL_QUERY_USN_JOURNAL && op->volume->type == FLT_FSTYPE_NTFS)
+        return query_journal(op, &buffers);
+    if (code == FSCTL_READ_USN_JOURNAL && op->volume->type == FLT_FSTYPE_NTFS)
+        return read_journal(op, &buffers);
     if (!op->file->name)
         return STATUS_INVALID_PARAMETER;
     switch (code) {

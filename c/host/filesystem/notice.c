@@ -1,5 +1,4 @@
-/* Who waits for a change in a directory. Such an operation stays in the file system, until something changes, its handle's cleanup is over, it is cancelled, or the volume goes; then whoever
- * comes to it carries it on. A change tells one entry: none is kept between two of them. */
+/* Who waits for a change in a directory. A handle's first wait says what it hears of, and how much of it is kept from then on between two waits. */
 #include "filesystem/notice.h"
 
 #include "core/client.h"
@@ -8,55 +7,98 @@
 #include "core/op.h"
 #include "lib/letters.h"
 #include "filesystem/name.h"
-#include "filesystem/store.h"
 #include "filesystem/tree.h"
+#include "filesystem/waiting.h"
 
 #include <stdlib.h>
 
-typedef struct Notice {
-    struct Notice *next;
-    KzOp *op;
-    bool is_due;
-    NTSTATUS status;
-} Notice;
+/* What a handle hears of, and what it wasn't told yet: a chain of entries, or that there were too many. */
+typedef struct Watch {
+    struct Watch *next;
+    const KzFile *file;
+    ULONG filter;
+    bool is_tree, is_overflown;
+    uint8_t *entries;
+    size_t length, last, room;
+} Watch;
 
 struct KzNoticeState {
-    Notice *first;
+    Watch *watches;
 };
+
+static Watch **watch_of(const KzFile *file)
+{
+    Watch **at = &kz.notice->watches;
+    while (*at && (*at)->file != file)
+        at = &(*at)->next;
+    return at;
+}
+
+/* What is kept is the operation's, if it has room for that. */
+static NTSTATUS give(Watch *watch, KzOp *op)
+{
+    const FLT_PARAMETERS *now = &op->opaque->now;
+    bool fits = !watch->is_overflown && watch->length <= now->DirectoryControl.NotifyDirectory.Length;
+    op->opaque->information = fits ? watch->length : 0;
+    if (fits)
+        memcpy(now->DirectoryControl.NotifyDirectory.DirectoryBuffer, watch->entries, watch->length);
+    watch->length = watch->last = 0;
+    watch->is_overflown = false;
+    return fits ? STATUS_SUCCESS : STATUS_NOTIFY_ENUM_DIR;
+}
+
+static Watch *begin_watch(const KzOp *op)
+{
+    const FLT_PARAMETERS *now = &op->opaque->now;
+    Watch *made = kz_memory(sizeof *made);
+    *made = (Watch){.next = kz.notice->watches, .file = op->file, .filter = now->DirectoryControl.NotifyDirectory.CompletionFilter, .is_tree = op->opaque->operation_flags & SL_WATCH_TREE};
+    made->room = now->DirectoryControl.NotifyDirectory.Length;
+    made->entries = kz_memory(made->room + 1);
+    return kz.notice->watches = made;
+}
 
 NTSTATUS kz_wait_for_change(KzOp *op)
 {
-    Notice *made = kz_memory(sizeof *made), **end = &kz.notice->first;
-    made->op = op;
-    while (*end)
-        end = &(*end)->next;
-    *end = made;
-    return STATUS_PENDING;
+    Watch *watch = *watch_of(op->file);
+    if (!watch)
+        watch = begin_watch(op);
+    if (watch->length || watch->is_overflown) {
+        kz_uses_all();
+        return give(watch, op);
+    }
+    return kz_wait_in_file_system(op);
 }
 
-static void make_due(Notice *notice, NTSTATUS status)
+static void keep(Watch *watch, const char *rest, ULONG action)
 {
-    kz_uses_all();
-    notice->is_due = true;
-    notice->status = status;
-    kz_scheduler->touch(notice->op, 0, KZT_GIVES);
-    kz.changes++;
-}
-
-static void tell(Notice *notice, const char *rest, ULONG action)
-{
-    const FLT_PARAMETERS *now = &notice->op->opaque->now;
     struct {
         ULONG next, action, length;
         WCHAR name[260];
     } change = {.action = action};
     change.length = kz_widen(change.name, rest);
-    size_t size = offsetof(FILE_NOTIFY_INFORMATION, FileName) + change.length;
-    bool has_room = size <= now->DirectoryControl.NotifyDirectory.Length;
-    notice->op->opaque->information = has_room ? size : 0;
-    if (has_room)
-        memcpy(now->DirectoryControl.NotifyDirectory.DirectoryBuffer, &change, size);
-    make_due(notice, has_room ? STATUS_SUCCESS : STATUS_NOTIFY_ENUM_DIR);
+    size_t size = offsetof(FILE_NOTIFY_INFORMATION, FileName) + change.length, place = (watch->length + 3) & ~(size_t)3;
+    kz_uses_all();
+    watch->is_overflown |= place + size > watch->room;
+    if (watch->is_overflown)
+        return;
+    memset(watch->entries + watch->length, 0, place - watch->length);
+    memcpy(watch->entries + place, &change, size);
+    ULONG behind = (ULONG)(place - watch->last);
+    if (place)
+        memcpy(watch->entries + watch->last, &behind, sizeof behind);
+    watch->last = place;
+    watch->length = place + size;
+}
+
+/* Whoever waits first by that handle hears of it. An old name is told with the new one. */
+static void tell(Watch *watch, const char *rest, ULONG action)
+{
+    keep(watch, rest, action);
+    if (action == FILE_ACTION_RENAMED_OLD_NAME)
+        return;
+    KzOp *op = kz_first_waiting(watch->file);
+    if (op)
+        kz_make_due(op, give(watch, op));
 }
 
 /* Of a stream there are filters and actions of its own. */
@@ -79,56 +121,37 @@ void kz_notify(const KzName *name, ULONG filter, ULONG action)
 {
     filter = name->base ? filter_of_stream(filter) : filter;
     action = name->base ? action_of_stream(action) : action;
-    for (Notice *one = kz.notice->first; one; one = one->next) {
-        const KzFile *file = one->op->file;
-        const char *directory = kz_name_now(file);
-        if (one->is_due || !kz_is_below(name, file->volume, directory) || !(one->op->opaque->now.DirectoryControl.NotifyDirectory.CompletionFilter & filter))
+    for (Watch *one = kz.notice->watches; one; one = one->next) {
+        const char *directory = kz_name_now(one->file);
+        if (!kz_is_below(name, one->file->volume, directory) || !(one->filter & filter))
             continue;
         const char *rest = name->text + (*directory ? strlen(directory) + 1 : 0);
-        if (!strchr(rest, '/') || one->op->opaque->operation_flags & SL_WATCH_TREE)
+        if (!strchr(rest, '/') || one->is_tree)
             tell(one, rest, action);
     }
 }
 
+static void end_watch(Watch **at)
+{
+    Watch *gone = *at;
+    *at = gone->next;
+    free(gone->entries);
+    free(gone);
+}
+
 void kz_end_notices(const KzFile *file, PFLT_VOLUME volume)
 {
-    for (Notice *one = kz.notice->first; one; one = one->next)
-        if (!one->is_due && (file ? one->op->file == file : one->op->volume == volume))
-            make_due(one, file ? STATUS_NOTIFY_CLEANUP : STATUS_VOLUME_DISMOUNTED);
-}
-
-bool kz_cancel_notice(const KzOp *op)
-{
-    for (Notice *one = kz.notice->first; one; one = one->next)
-        if (one->op == op && !one->is_due) {
-            make_due(one, STATUS_CANCELLED);
-            return true;
-        }
-    return false;
-}
-
-bool kz_run_notice(void)
-{
-    Notice **at = &kz.notice->first;
-    while (*at && (!(*at)->is_due || (*at)->op->is_returning))
-        at = &(*at)->next;
-    if (!*at)
-        return false;
-    Notice *gone = *at;
-    kz_uses_all();
-    *at = gone->next;
-    kz.store->go_on(gone->op, gone->status);
-    free(gone);
-    return true;
+    for (Watch **at = &kz.notice->watches; *at;)
+        if (file ? (*at)->file == file : (*at)->file->volume == volume)
+            end_watch(at);
+        else
+            at = &(*at)->next;
 }
 
 static void free_notices(void)
 {
-    while (kz.notice->first) {
-        Notice *gone = kz.notice->first;
-        kz.notice->first = gone->next;
-        free(gone);
-    }
+    while (kz.notice->watches)
+        end_watch(&kz.notice->watches);
 }
 
 const KzModule kz_notice_module = {KZ_STATE(notice), .free = free_notices};

@@ -7,6 +7,7 @@
 #include "filesystem/record.h"
 #include "filesystem/tag.h"
 #include "filesystem/tree.h"
+#include "filesystem/version.h"
 
 /* The fields that several classes have. What lies between two fields is zeros. */
 /* What is left of its create's options, as its file object has it. */
@@ -23,14 +24,14 @@ static ULONG mode_of(const KzFile *file)
     return mode;
 }
 
-static void show_basic(const KzRecord *record, FILE_BASIC_INFORMATION *to)
+static void show_basic(const KzFacts *facts, FILE_BASIC_INFORMATION *to)
 {
     memset(to, 0, sizeof *to);
-    to->CreationTime.QuadPart = record->created;
-    to->LastAccessTime.QuadPart = record->accessed;
-    to->LastWriteTime.QuadPart = record->written;
-    to->ChangeTime.QuadPart = record->changed;
-    to->FileAttributes = record->attributes;
+    to->CreationTime.QuadPart = facts->created;
+    to->LastAccessTime.QuadPart = facts->accessed;
+    to->LastWriteTime.QuadPart = facts->written;
+    to->ChangeTime.QuadPart = facts->changed;
+    to->FileAttributes = facts->attributes;
 }
 
 static bool has_bytes(const KzStream *stream)
@@ -38,27 +39,33 @@ static bool has_bytes(const KzStream *stream)
     return !stream->file->is_directory || *stream->name;
 }
 
-uint64_t kz_allocation_of(const KzStream *stream)
+static uint64_t allocation_of(const KzStream *stream, const KzFacts *facts)
 {
-    uint64_t size = stream->allocation > stream->size ? stream->allocation : stream->size;
+    uint64_t size = facts->allocation > facts->size ? facts->allocation : facts->size;
     return has_bytes(stream) ? kz_allocated(stream->file->volume, size) : 0;
 }
 
-static LONGLONG size_of(const KzStream *stream)
+uint64_t kz_allocation_of(const KzStream *stream)
 {
-    return has_bytes(stream) ? (LONGLONG)stream->size : 0;
+    return allocation_of(stream, &(KzFacts){.size = stream->size, .allocation = stream->allocation});
+}
+
+static LONGLONG size_of(const KzStream *stream, const KzFacts *facts)
+{
+    return has_bytes(stream) ? (LONGLONG)facts->size : 0;
 }
 
 void kz_show_standard(const KzFile *file, FILE_STANDARD_INFORMATION *to)
 {
     const KzName *name = file->name;
     const KzRecord *record = name->file;
-    bool is_pending = record->marked || name->stream->is_marked || !record->links;
+    const KzFacts facts = kz_facts_of(name->stream, file->transaction);
+    bool is_marked = kz_is_marked_for(name, file->transaction);
     memset(to, 0, sizeof *to);
-    to->AllocationSize.QuadPart = (LONGLONG)kz_allocation_of(name->stream);
-    to->EndOfFile.QuadPart = size_of(name->stream);
-    to->NumberOfLinks = record->links - ((record->marked || !record->links) && record->links > 0);
-    to->DeletePending = is_pending;
+    to->AllocationSize.QuadPart = (LONGLONG)allocation_of(name->stream, &facts);
+    to->EndOfFile.QuadPart = size_of(name->stream, &facts);
+    to->NumberOfLinks = record->links - (record->marked && is_marked && record->links > 0);
+    to->DeletePending = is_marked || !record->links;
     to->Directory = kz_is_directory(name);
 }
 
@@ -74,17 +81,17 @@ void kz_show_size(const KzFile *file, uint64_t size, FILE_STANDARD_INFORMATION *
         to->AllocationSize.QuadPart = (LONGLONG)kz_allocated(file->volume, size);
 }
 
-void kz_show_network(const KzStream *stream, FILE_NETWORK_OPEN_INFORMATION *to)
+void kz_show_network(const KzStream *stream, PKTRANSACTION from, FILE_NETWORK_OPEN_INFORMATION *to)
 {
-    const KzRecord *record = stream->file;
+    const KzFacts facts = kz_facts_of(stream, from);
     memset(to, 0, sizeof *to);
-    to->CreationTime.QuadPart = record->created;
-    to->LastAccessTime.QuadPart = record->accessed;
-    to->LastWriteTime.QuadPart = record->written;
-    to->ChangeTime.QuadPart = record->changed;
-    to->AllocationSize.QuadPart = (LONGLONG)kz_allocation_of(stream);
-    to->EndOfFile.QuadPart = size_of(stream);
-    to->FileAttributes = record->attributes;
+    to->CreationTime.QuadPart = facts.created;
+    to->LastAccessTime.QuadPart = facts.accessed;
+    to->LastWriteTime.QuadPart = facts.written;
+    to->ChangeTime.QuadPart = facts.changed;
+    to->AllocationSize.QuadPart = (LONGLONG)allocation_of(stream, &facts);
+    to->EndOfFile.QuadPart = size_of(stream, &facts);
+    to->FileAttributes = facts.attributes;
 }
 
 /* As much as there is room for; the status says whether that is all. */
@@ -125,7 +132,8 @@ static NTSTATUS query_all(const KzFile *file, const KzRoom *room)
     const KzRecord *record = file->name->file;
     WCHAR name[300];
     memset(&said, 0, sizeof said);
-    show_basic(record, &said.all.BasicInformation);
+    const KzFacts facts = kz_facts_of(file->name->stream, file->transaction);
+    show_basic(&facts, &said.all.BasicInformation);
     kz_show_standard(file, &said.all.StandardInformation);
     said.all.InternalInformation.IndexNumber.QuadPart = (LONGLONG)record->id;
     said.all.EaInformation.EaSize = (ULONG)record->ea.length;
@@ -144,7 +152,7 @@ typedef struct {
     size_t place;
 } Streams;
 
-static bool put_stream(Streams *streams, const KzStream *stream)
+static bool put_stream(Streams *streams, const KzStream *stream, const KzFacts *facts)
 {
     WCHAR wide[300];
     char text[300];
@@ -154,7 +162,7 @@ static bool put_stream(Streams *streams, const KzStream *stream)
     if (streams->place + size > streams->room->size)
         return false;
     PFILE_STREAM_INFORMATION entry = (PFILE_STREAM_INFORMATION)(streams->room->bytes + streams->place);
-    FILE_STREAM_INFORMATION head = {.StreamNameLength = length, .StreamSize.QuadPart = (LONGLONG)stream->size, .StreamAllocationSize.QuadPart = (LONGLONG)kz_allocation_of(stream)};
+    FILE_STREAM_INFORMATION head = {.StreamNameLength = length, .StreamSize.QuadPart = (LONGLONG)facts->size, .StreamAllocationSize.QuadPart = (LONGLONG)allocation_of(stream, facts)};
     memcpy(entry, &head, offsetof(FILE_STREAM_INFORMATION, StreamName));
     memcpy(entry->StreamName, wide, length);
     if (streams->before)
@@ -168,9 +176,11 @@ static bool put_stream(Streams *streams, const KzStream *stream)
 static NTSTATUS query_streams(const KzFile *file, const KzRoom *room)
 {
     Streams streams = {.room = room};
-    for (const KzStream *one = file->name->file->streams; one; one = one->next)
-        if (one->exists && has_bytes(one) && !put_stream(&streams, one))
+    for (const KzStream *one = file->name->file->streams; one; one = one->next) {
+        const KzFacts facts = kz_facts_of(one, file->transaction);
+        if (one->exists && facts.pages && has_bytes(one) && !put_stream(&streams, one, &facts))
             return STATUS_BUFFER_OVERFLOW;
+    }
     return STATUS_SUCCESS;
 }
 
@@ -193,16 +203,17 @@ typedef union {
 static size_t show_fixed(const KzFile *file, int class, Fixed *said)
 {
     const KzRecord *record = file->name->file;
+    const KzFacts facts = kz_facts_of(file->name->stream, file->transaction);
     memset(said, 0, sizeof *said);
     switch (class) {
     case FileBasicInformation:
-        show_basic(record, &said->basic);
+        show_basic(&facts, &said->basic);
         return sizeof said->basic;
     case FileStandardInformation:
         kz_show_standard(file, &said->standard);
         return sizeof said->standard;
     case FileNetworkOpenInformation:
-        kz_show_network(file->name->stream, &said->network);
+        kz_show_network(file->name->stream, file->transaction, &said->network);
         return sizeof said->network;
     case FileInternalInformation:
         said->internal.IndexNumber.QuadPart = (LONGLONG)record->id;
@@ -222,7 +233,7 @@ static size_t show_fixed(const KzFile *file, int class, Fixed *said)
     case FileAlignmentInformation:
         return sizeof said->alignment;
     case FileAttributeTagInformation:
-        said->tag.FileAttributes = record->attributes;
+        said->tag.FileAttributes = facts.attributes;
         said->tag.ReparseTag = kz_tag_of(record);
         return sizeof said->tag;
     case FileIdInformation:

@@ -16,7 +16,8 @@ NTSTATUS kz_put_answer(const KzRoom *room, const void *bytes, size_t size, size_
 NTSTATUS kz_query_file(const KzFile *file, int class, const KzRoom *room);
 void kz_show_standard(const KzFile *file, FILE_STANDARD_INFORMATION *to);
 void kz_show_size(const KzFile *file, uint64_t size, FILE_STANDARD_INFORMATION *to);
-void kz_show_network(const KzStream *stream, FILE_NETWORK_OPEN_INFORMATION *to);
+/* As who is in that transaction sees it. */
+void kz_show_network(const KzStream *stream, PKTRANSACTION from, FILE_NETWORK_OPEN_INFORMATION *to);
 uint64_t kz_allocation_of(const KzStream *stream);
 
 #endif

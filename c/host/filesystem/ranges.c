@@ -1,9 +1,11 @@
-/* Locks of ranges of bytes. One that can't be had is refused at once: none waits. */
+/* Locks of ranges of bytes. One that can't be had is refused at once, or waits for those before it. */
 #include "filesystem/ranges.h"
 
 #include "core/memory.h"
 #include "core/module.h"
+#include "core/op.h"
 #include "filesystem/tree.h"
+#include "filesystem/waiting.h"
 
 #include <stdlib.h>
 
@@ -13,8 +15,17 @@ typedef struct Lock {
     KzRange range;
 } Lock;
 
+/* An operation that waits for a lock. */
+typedef struct Wanted {
+    struct Wanted *next;
+    KzOp *op;
+    uint64_t number;
+    KzRange range;
+} Wanted;
+
 struct KzRangeState {
     Lock *first;
+    Wanted *wanted;
 };
 
 static bool meets(const Lock *one, const KzFile *file, uint64_t from, uint64_t length)
@@ -37,6 +48,36 @@ NTSTATUS kz_lock_range(KzFile *file, const KzRange *range)
     return STATUS_SUCCESS;
 }
 
+NTSTATUS kz_wait_for_range(KzOp *op, const KzRange *range)
+{
+    NTSTATUS status = kz_lock_range(op->file, range);
+    if (status != STATUS_LOCK_NOT_GRANTED)
+        return status;
+    Wanted *made = kz_memory(sizeof *made), **end = &kz.range->wanted;
+    *made = (Wanted){.op = op, .number = op->id, .range = *range};
+    while (*end)
+        end = &(*end)->next;
+    *end = made;
+    return kz_wait_in_file_system(op);
+}
+
+/* Those that waited longest come first. What is over already wants none. */
+static void grant(void)
+{
+    for (Wanted **at = &kz.range->wanted; *at;) {
+        Wanted *one = *at;
+        bool waits = kz_still_waits(one->op, one->number);
+        if (waits && !NT_SUCCESS(kz_lock_range(one->op->file, &one->range))) {
+            at = &one->next;
+            continue;
+        }
+        if (waits)
+            kz_make_due(one->op, STATUS_SUCCESS);
+        *at = one->next;
+        free(one);
+    }
+}
+
 static bool is_the_one(const Lock *one, const KzFile *file, const KzRange *range)
 {
     return one->file == file && one->range.from == range->from && one->range.length == range->length && one->range.key == range->key;
@@ -50,6 +91,7 @@ NTSTATUS kz_unlock_range(KzFile *file, const KzRange *range)
             continue;
         *at = one->next;
         free(one);
+        grant();
         return STATUS_SUCCESS;
     }
     return STATUS_RANGE_NOT_LOCKED;
@@ -66,6 +108,7 @@ NTSTATUS kz_unlock_ranges(KzFile *file, const ULONG *key)
             at = &one->next;
         }
     }
+    grant();
     return STATUS_SUCCESS;
 }
 
@@ -82,6 +125,11 @@ bool kz_is_locked(const KzFile *file, uint64_t from, uint64_t length, bool is_wr
 
 static void free_ranges(void)
 {
+    while (kz.range->wanted) {
+        Wanted *gone = kz.range->wanted;
+        kz.range->wanted = gone->next;
+        free(gone);
+    }
     while (kz.range->first) {
         Lock *gone = kz.range->first;
         kz.range->first = gone->next;

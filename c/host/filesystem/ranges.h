@@ -12,6 +12,8 @@ typedef struct {
 
 extern const struct KzModule kz_range_module;
 NTSTATUS kz_lock_range(KzFile *file, const KzRange *range);
+/* The same, and where it isn't to be had the operation waits until it is. */
+NTSTATUS kz_wait_for_range(KzOp *op, const KzRange *range);
 NTSTATUS kz_unlock_range(KzFile *file, const KzRange *range);
 /* All of the file object's, or those with that key. */
 NTSTATUS kz_unlock_ranges(KzFile *file, const ULONG *key);

@@ -2,6 +2,7 @@
 #include "filesystem/rename.h"
 
 #include "core/clock.h"
+#include "core/told.h"
 #include "lib/letters.h"
 #include "filesystem/call.h"
 #include "filesystem/deletion.h"
@@ -9,6 +10,7 @@
 #include "filesystem/fileobject.h"
 #include "filesystem/folder.h"
 #include "filesystem/handle.h"
+#include "filesystem/journal.h"
 #include "filesystem/name.h"
 #include "filesystem/record.h"
 #include "filesystem/notice.h"
@@ -204,20 +206,36 @@ static void move_with(PFLT_VOLUME volume, const char *from, const char *to)
 static NTSTATUS link_to(KzName *from, const char *text)
 {
     from->file->links++;
-    kz_notify(kz_add_name(text, from->stream), FILE_NOTIFY_CHANGE_FILE_NAME, FILE_ACTION_ADDED);
+    kz_changed(kz_add_name(text, from->stream), FILE_NOTIFY_CHANGE_FILE_NAME, FILE_ACTION_ADDED);
     return STATUS_SUCCESS;
 }
 
-static NTSTATUS move_to(KzName *from, const char *text)
+/* As the kit's file systems tell it: what comes to another folder is gone from the one, and new in the other. */
+static bool is_in_same_folder(const char *old, const char *fresh)
+{
+    const char *slash = strrchr(old, '/'), *other = strrchr(fresh, '/');
+    size_t length = slash ? (size_t)(slash - old) : 0;
+    return !slash == !other && (!slash || (length == (size_t)(other - fresh) && memcmp(old, fresh, length) == 0));
+}
+
+void kz_move_to(KzName *from, const char *text)
 {
     char old[256];
     ULONG filter = kz_is_directory(from) ? FILE_NOTIFY_CHANGE_DIR_NAME : FILE_NOTIFY_CHANGE_FILE_NAME;
+    bool stays = is_in_same_folder(from->text, text);
     memcpy(old, from->text, sizeof old);
-    kz_notify(from, filter, FILE_ACTION_RENAMED_OLD_NAME);
+    kz_journal(from, USN_REASON_RENAME_OLD_NAME);
+    kz_notify(from, filter, stays ? FILE_ACTION_RENAMED_OLD_NAME : FILE_ACTION_REMOVED);
     kz_put_in_tunnel(from);
     kz_move_name(from, text);
     move_with(from->volume, old, text);
-    kz_notify(from, filter, FILE_ACTION_RENAMED_NEW_NAME);
+    kz_journal(from, USN_REASON_RENAME_NEW_NAME);
+    kz_notify(from, filter, stays ? FILE_ACTION_RENAMED_NEW_NAME : FILE_ACTION_ADDED);
+}
+
+static NTSTATUS move_file(KzName *from, const char *text)
+{
+    kz_move_to(from, text);
     return STATUS_SUCCESS;
 }
 
@@ -236,6 +254,7 @@ static NTSTATUS name_stream(KzName *from, const char *text)
         kz_move_name(one, whole);
         next = kz_all_names();
     }
+    kz_journal(from, USN_REASON_STREAM_CHANGE);
     kz_notify(from, FILE_NOTIFY_CHANGE_FILE_NAME, FILE_ACTION_RENAMED_NEW_NAME);
     return STATUS_SUCCESS;
 }
@@ -249,11 +268,11 @@ static NTSTATUS put_in_place(KzName *from, KzName *to, const char *text, bool is
     kz_make_above(from->volume, text);
     if (to != from) {
         if (kz_exists(to) && to->stream != from->stream)
-            kz_notify(to, FILE_NOTIFY_CHANGE_FILE_NAME, FILE_ACTION_REMOVED);
+            kz_changed(to, FILE_NOTIFY_CHANGE_FILE_NAME, FILE_ACTION_REMOVED);
         kz_take_away(to);
     }
     from->file->changed = kz_time();
-    return is_link ? link_to(from, text) : from->base ? name_stream(from, text) : move_to(from, text);
+    return is_link ? link_to(from, text) : from->base ? name_stream(from, text) : move_file(from, text);
 }
 
 NTSTATUS kz_rename(KzFile *file, const char *text, bool is_link, ULONG flags)
@@ -276,6 +295,8 @@ NTSTATUS kz_rename(KzFile *file, const char *text, bool is_link, ULONG flags)
     bool is_as_it_was = to == from && (is_link || strcmp(from->text, text) == 0);
     if (NT_SUCCESS(status) && !is_as_it_was)
         status = put_in_place(from, to, text, is_link);
+    if (NT_SUCCESS(status) && file->transaction)
+        kz_tell(KZM_TRANSACTION, "a rename in a transaction", "others see the new name before it ends");
     kz_let_go_name(to);
     return status;
 }

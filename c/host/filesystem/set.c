@@ -5,6 +5,7 @@
 #include "core/op.h"
 #include "filesystem/deletion.h"
 #include "filesystem/fileobject.h"
+#include "filesystem/journal.h"
 #include "filesystem/name.h"
 #include "filesystem/notice.h"
 #include "filesystem/query.h"
@@ -46,7 +47,7 @@ static NTSTATUS set_basic(KzName *name, const FILE_BASIC_INFORMATION *said)
             *times[at].kept = times[at].said;
     if (said->FileAttributes)
         set_attributes(record, said->FileAttributes);
-    kz_notify(name->base ? name->base : name, FILE_NOTIFY_CHANGE_ATTRIBUTES, FILE_ACTION_MODIFIED);
+    kz_changed(name->base ? name->base : name, FILE_NOTIFY_CHANGE_ATTRIBUTES, FILE_ACTION_MODIFIED);
     return STATUS_SUCCESS;
 }
 

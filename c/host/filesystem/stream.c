@@ -1,4 +1,5 @@
 /* Streams of files, and their bytes, whatever keeps these. */
+#include "filesystem/journal.h"
 #include "filesystem/stream.h"
 
 #include "core/client.h"
@@ -103,13 +104,19 @@ void kz_write_views(const KzStream *stream, uint64_t offset, const uint8_t *byte
             memcpy(one->bytes + offset, bytes, length < one->size - offset ? length : (size_t)(one->size - offset));
 }
 
-static KzFolderAnswer read_memory(const KzStream *stream, const KazdrinData *call, uint8_t *room)
+void kz_refill_views(const KzStream *stream)
 {
-    uint64_t rest = call->offset < stream->size ? stream->size - call->offset : 0;
+    for (KzView *one = stream->views; one; one = one->next)
+        kz_get_bytes(&stream->pages, 0, one->bytes, (size_t)one->size);
+}
+
+static KzFolderAnswer read_memory(const KzFacts *facts, const KazdrinData *call, uint8_t *room)
+{
+    uint64_t rest = call->offset < facts->size ? facts->size - call->offset : 0;
     size_t length = call->len < rest ? call->len : (size_t)rest;
     if (call->len && !rest)
         return (KzFolderAnswer){.status = KZS_END_OF_FILE};
-    kz_get_bytes(&stream->pages, call->offset, room, length);
+    kz_get_bytes(facts->pages, call->offset, room, length);
     return (KzFolderAnswer){.status = KZS_OK, .information = length, .bytes = room, .length = length};
 }
 
@@ -120,19 +127,21 @@ static uint8_t found(bool exists, uint8_t mode)
     return mode == 0 ? KZS_FILE_NOT_FOUND : KZS_OK;
 }
 
-static KzFolderAnswer call_memory(const KzName *name, const KazdrinData *call, const uint8_t *bytes, uint8_t *room)
+static KzFolderAnswer call_memory(const KzFile *file, const KazdrinData *call, const uint8_t *bytes, uint8_t *room)
 {
+    const KzName *name = file->name;
     KzStream *stream = name->stream;
+    const KzFacts facts = kz_facts_of(stream, file->transaction);
     switch (call->operation) {
     case KZE_CREATE:
         return (KzFolderAnswer){.status = found(kz_exists(name), call->mode)};
     case KZE_READ:
-        return read_memory(stream, call, room);
+        return read_memory(&facts, call, room);
     case KZE_WRITE:
         kz_put_bytes(&stream->pages, call->offset, bytes, call->length);
         break;
     case KZE_QUERY_SIZE:
-        return (KzFolderAnswer){.status = KZS_OK, .information = stream->size};
+        return (KzFolderAnswer){.status = KZS_OK, .information = facts.size};
     case KZE_SET_SIZE:
         kz_cut_bytes(&stream->pages, call->offset);
         break;
@@ -149,7 +158,7 @@ KzFolderAnswer kz_call_stream(KzFile *file, const KazdrinData *call, const uint8
         kz_write_views(name->stream, call->offset, bytes, call->length);
     if (kz_is_in_folder(file->volume->id))
         return kz_call_in_folder(file, call, bytes);
-    return name ? call_memory(name, call, bytes, room) : (KzFolderAnswer){.status = KZS_FILE_NOT_FOUND};
+    return name ? call_memory(file, call, bytes, room) : (KzFolderAnswer){.status = KZS_FILE_NOT_FOUND};
 }
 
 uint64_t kz_size_of(const KzFile *file)
@@ -170,7 +179,11 @@ static void note_change(const KzFile *file, ULONG what)
 void kz_note_written(const KzFile *file, uint64_t offset, size_t length)
 {
     KzStream *stream = file->name->stream;
-    if (length && offset + length > stream->size)
+    bool is_longer = offset + length > stream->size;
+    if (!length)
+        return;
+    kz_journal(file->name, (offset < stream->size ? USN_REASON_DATA_OVERWRITE : 0) | (is_longer ? USN_REASON_DATA_EXTEND : 0));
+    if (is_longer)
         stream->size = offset + length;
     if (length && offset + length > stream->valid)
         stream->valid = offset + length;
@@ -180,6 +193,9 @@ void kz_note_written(const KzFile *file, uint64_t offset, size_t length)
 void kz_note_size(const KzFile *file, uint64_t size)
 {
     KzStream *stream = file->name->stream;
+    uint64_t before = stream->size;
+    if (size != before)
+        kz_journal(file->name, size < before ? USN_REASON_DATA_TRUNCATION : USN_REASON_DATA_EXTEND);
     stream->size = size;
     stream->valid = stream->valid < size ? stream->valid : size;
     kz_stream_is_cut(stream, size);

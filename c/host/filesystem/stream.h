@@ -5,6 +5,7 @@
 #include "host.h"
 #include "filesystem/folder.h"
 #include "filesystem/tree.h"
+#include "filesystem/version.h"
 
 extern const struct KzModule kz_stream_module;
 /* By its name, whatever the case of that; NULL: a file has none of that name. */
@@ -16,6 +17,8 @@ void kz_free_stream(KzStream *stream);
 void kz_begin_stream(KzStream *stream);
 /* It isn't there any more: nobody finds it by its name, and with the last name that leads to it it is forgotten. */
 void kz_end_stream(KzStream *stream);
+/* It has other bytes, and its views are to show them. */
+void kz_refill_views(const KzStream *stream);
 /* It is called so from now on. */
 void kz_name_stream(KzStream *stream, const char *name);
 

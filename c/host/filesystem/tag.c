@@ -4,6 +4,7 @@
 #include "core/op.h"
 #include "lib/letters.h"
 #include "filesystem/deletion.h"
+#include "filesystem/journal.h"
 #include "filesystem/name.h"
 #include "filesystem/record.h"
 #include "filesystem/notice.h"
@@ -87,6 +88,7 @@ static NTSTATUS set(KzName *name, const REPARSE_DATA_BUFFER *said, size_t length
         return STATUS_DIRECTORY_NOT_EMPTY;
     kz_keep_bytes(&name->file->reparse, said, length);
     name->file->attributes = (name->file->attributes & ~(ULONG)FILE_ATTRIBUTE_NORMAL) | FILE_ATTRIBUTE_REPARSE_POINT;
+    kz_journal(name, USN_REASON_REPARSE_POINT_CHANGE);
     kz_notify(name, FILE_NOTIFY_CHANGE_ATTRIBUTES, FILE_ACTION_MODIFIED);
     return STATUS_SUCCESS;
 }
@@ -103,6 +105,7 @@ static NTSTATUS take_off(KzName *name, const REPARSE_DATA_BUFFER *said, size_t l
     if (!NT_SUCCESS(status))
         return status;
     kz_forget_tag(name->file);
+    kz_journal(name, USN_REASON_REPARSE_POINT_CHANGE);
     kz_notify(name, FILE_NOTIFY_CHANGE_ATTRIBUTES, FILE_ACTION_MODIFIED);
     return STATUS_SUCCESS;
 }

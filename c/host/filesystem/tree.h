@@ -72,9 +72,12 @@ typedef struct KzRecord {
     uint64_t id;
     bool exists, is_directory;
     LONGLONG created, accessed, written, changed;
+    LONGLONG usn;  /* of its last record in the journal */
+    ULONG reasons; /* of changes since it was opened */
     ULONG attributes;
     KzBytes ea, security, reparse, object_id;
     KzStream *streams;     /* the unnamed one first, and then in the order of their names */
+    struct KzVersion *version; /* that a transaction changes (version.h); NULL if none does */
     struct KzName *marked; /* the name that goes with the last handle; NULL: the file is to stay */
     unsigned links;        /* names by which it is found */
     unsigned names;        /* all that are kept, with those of its streams */

@@ -6,7 +6,7 @@
 #include "core/place.h"
 #include "core/state.h"
 #include "core/told.h"
-#include "filesystem/notice.h"
+#include "filesystem/waiting.h"
 #include "manager/below.h"
 #include "manager/hand.h"
 #include "manager/operation.h"
@@ -102,7 +102,7 @@ void kz_cancel_op(KzOp *op)
     if (op->cancel.queue || op->cancel.routine)
         call_routine(op);
     else if (op->is_waiting)
-        kz_cancel_notice(op);
+        kz_cancel_waiting(op);
 }
 
 /* A filter cancels what it began by itself. */

@@ -16,12 +16,14 @@ VOID FltGetContexts(PCFLT_RELATED_OBJECTS FltObjects, FLT_CONTEXT_TYPE DesiredCo
         FltGetStreamHandleContext(FltObjects->Instance, FltObjects->FileObject, &Contexts->StreamHandleContext);
     if (DesiredContexts & FLT_FILE_CONTEXT && FltObjects->FileObject)
         FltGetFileContext(FltObjects->Instance, FltObjects->FileObject, &Contexts->FileContext);
+    if (DesiredContexts & FLT_TRANSACTION_CONTEXT && FltObjects->Transaction)
+        FltGetTransactionContext(FltObjects->Instance, FltObjects->Transaction, &Contexts->TransactionContext);
 }
 
 VOID FltReleaseContexts(PFLT_RELATED_CONTEXTS Contexts)
 {
     KZ_CALL();
-    PFLT_CONTEXT all[] = {Contexts->VolumeContext, Contexts->InstanceContext, Contexts->StreamContext, Contexts->StreamHandleContext, Contexts->FileContext};
+    PFLT_CONTEXT all[] = {Contexts->VolumeContext, Contexts->InstanceContext, Contexts->StreamContext, Contexts->StreamHandleContext, Contexts->FileContext, Contexts->TransactionContext};
     for (size_t at = 0; at < sizeof all / sizeof all[0]; at++)
         if (all[at])
             FltReleaseContext(all[at]);

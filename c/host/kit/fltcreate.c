@@ -4,6 +4,7 @@
 #include "core/client.h"
 #include "core/op.h"
 #include "core/told.h"
+#include "core/transaction.h"
 #include "lib/letters.h"
 #include "filesystem/fileobject.h"
 #include "filesystem/handle.h"
@@ -11,6 +12,7 @@
 #include "filesystem/create.h"
 #include "filesystem/sharing.h"
 #include "filesystem/tree.h"
+#include "filesystem/version.h"
 #include "filesystem/volumes.h"
 #include "manager/below.h"
 #include "manager/disposition.h"
@@ -226,7 +228,16 @@ NTSTATUS FltCreateFileEx2(PFLT_FILTER Filter, PFLT_INSTANCE Instance, PHANDLE Fi
     PECP_LIST ecps = DriverContext ? DriverContext->ExtraCreateParameter : NULL;
     Wanted wanted = {Instance, ObjectAttributes, asked_by(DesiredAccess, AllocationSize, FileAttributes, ShareAccess, CreateDisposition, CreateOptions), __func__, "FltClose", ecps};
     add_extended(&wanted.create, EaBuffer, EaLength, Flags);
+    const TXN_PARAMETER_BLOCK *in = DriverContext ? DriverContext->TxnParameters : NULL;
+    wanted.create.transaction = in && kz_is_transaction(in->TransactionObject) ? in->TransactionObject : NULL;
     return open_file(&wanted, FileHandle, FileObject, IoStatusBlock);
+}
+
+PTXN_PARAMETER_BLOCK IoGetTransactionParameterBlock(PFILE_OBJECT FileObject)
+{
+    KZ_INSIDE();
+    const KzFile *file = kz_file_with(FileObject);
+    return file && file->transaction ? &file->transaction->block : NULL;
 }
 
 NTSTATUS FltCreateFileEx(PFLT_FILTER Filter, PFLT_INSTANCE Instance, PHANDLE FileHandle, PFILE_OBJECT *FileObject, ACCESS_MASK DesiredAccess,

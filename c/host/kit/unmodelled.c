@@ -32,37 +32,6 @@ static void nothing(KzMessage message, const char *call)
 NONE(KZM_OWN_IO, FltNotifyFilterChangeDirectory, PVOID NotifySync, PLIST_ENTRY NotifyList, PVOID FsContext, PVOID FullDirectoryName, BOOLEAN WatchTree,
      BOOLEAN IgnoreBuffer, ULONG CompletionFilter, PFLT_CALLBACK_DATA NotifyCallbackData, PVOID TraverseCallback, PVOID SubjectContext, PVOID FilterCallback)
 
-/* Contexts of transactions. */
-NTSTATUS FltSetTransactionContext(PFLT_INSTANCE Instance, PKTRANSACTION Transaction, FLT_SET_CONTEXT_OPERATION Operation, PFLT_CONTEXT NewContext,
-                                  PFLT_CONTEXT *OldContext)
-{
-    KZ_INSIDE();
-    if (OldContext)
-        *OldContext = NULL;
-    return none(KZM_TRANSACTION, __func__);
-}
-
-NTSTATUS FltGetTransactionContext(PFLT_INSTANCE Instance, PKTRANSACTION Transaction, PFLT_CONTEXT *Context)
-{
-    KZ_INSIDE();
-    *Context = NULL;
-    return none(KZM_TRANSACTION, __func__);
-}
-
-NTSTATUS FltDeleteTransactionContext(PFLT_INSTANCE Instance, PKTRANSACTION Transaction, PFLT_CONTEXT *OldContext)
-{
-    KZ_INSIDE();
-    if (OldContext)
-        *OldContext = NULL;
-    return none(KZM_TRANSACTION, __func__);
-}
-
-NONE(KZM_TRANSACTION, FltEnlistInTransaction, PFLT_INSTANCE Instance, PKTRANSACTION Transaction, PFLT_CONTEXT TransactionContext, ULONG NotificationMask)
-NONE(KZM_TRANSACTION, FltRollbackEnlistment, PFLT_INSTANCE Instance, PKTRANSACTION Transaction, PFLT_CONTEXT TransactionContext)
-NONE(KZM_TRANSACTION, FltCommitComplete, PFLT_INSTANCE Instance, PKTRANSACTION Transaction, PFLT_CONTEXT TransactionContext)
-NONE(KZM_TRANSACTION, FltPrepareComplete, PFLT_INSTANCE Instance, PKTRANSACTION Transaction, PFLT_CONTEXT TransactionContext)
-NONE(KZM_TRANSACTION, FltRollbackComplete, PFLT_INSTANCE Instance, PKTRANSACTION Transaction, PFLT_CONTEXT TransactionContext)
-
 /* Oplocks: none is ever granted, so that none has to be broken. */
 VOID FltInitializeOplock(POPLOCK Oplock)
 {
@@ -109,12 +78,6 @@ BOOLEAN FltCurrentBatchOplock(POPLOCK Oplock)
 /* Processes, tokens. */
 NONE(KZM_SECURITY, ZwQueryInformationProcess, HANDLE ProcessHandle, ULONG ProcessInformationClass, PVOID ProcessInformation, ULONG ProcessInformationLength,
      PULONG ReturnLength)
-/* No file is opened in a transaction. */
-PTXN_PARAMETER_BLOCK IoGetTransactionParameterBlock(PFILE_OBJECT FileObject)
-{
-    return NULL;
-}
-
 BOOLEAN IoIs32bitProcess(PIRP Irp)
 {
     return FALSE;

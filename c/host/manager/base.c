@@ -125,6 +125,7 @@ static void call_create(KzOp *op, const KazdrinData *call, uint8_t worker)
     if (!is_opened)
         return;
     kz_count_open(op->file);
+    kz_begin_version(op->file, &op->create, was_there, had_file);
     kz_note_opened(op, was_there, had_file);
 }
 
@@ -181,6 +182,12 @@ static bool reaches_device(const KzOp *op)
     return op->event != KZE_CLEANUP && op->event != KZE_CLOSE && !kz_goes_by_pages(op) && !(op->opaque && kz_is_for_cache(op));
 }
 
+/* Its handle was opened in a transaction that is over: it is good for its end alone. */
+static bool is_orphan(const KzOp *op)
+{
+    return op->file->transaction && op->file->transaction->step == KZ_IS_OVER && op->event != KZE_CLEANUP && op->event != KZE_CLOSE;
+}
+
 bool kz_call_base(KzOp *op)
 {
     uint8_t none, worker = kz_worker();
@@ -191,6 +198,10 @@ bool kz_call_base(KzOp *op)
     if (is_failed && kazdrin_based(&kz.manager, &failed, (const uint8_t *)"", 0) == KZS_OK)
         return true;
     op->comes_from_device = true;
+    if (is_orphan(op)) {
+        answer(op, STATUS_HANDLE_NO_LONGER_VALID, NULL, 0);
+        return true;
+    }
     if (op->opaque)
         return call_opaque(op);
     note_uses(op);

@@ -35,7 +35,7 @@ struct KzContextState {
     size_t dead_next;
 };
 
-const char *const kz_context_kinds[] = {"a volume", "an instance", "a stream", "a stream handle", "a section", "a file"};
+const char *const kz_context_kinds[] = {"a volume", "an instance", "a stream", "a stream handle", "a section", "a file", "a transaction"};
 
 /* ---- Finding. */
 static KzContext **place_of(PVOID body)
@@ -255,17 +255,13 @@ NTSTATUS FltAllocateContext(PFLT_FILTER Filter, FLT_CONTEXT_TYPE ContextType, SI
         return STATUS_FLT_CONTEXT_ALLOCATION_NOT_FOUND;
     if (ContextType == FLT_VOLUME_CONTEXT && PoolType == PagedPool)
         return STATUS_INVALID_PARAMETER;
-    if (kz_context_kind(ContextType) == KZ_OF_TRANSACTION) {
-        kz_tell(KZM_NO_SUCH_CONTEXTS, __func__, "contexts of transactions aren't modelled: it answers STATUS_NOT_SUPPORTED");
-        return STATUS_NOT_SUPPORTED;
-    }
     PVOID body = kz_refuses(KZ_CHOICE_CONTEXT, __func__) ? NULL : new_body(how, ContextSize, PoolType);
     if (!body)
         return STATUS_INSUFFICIENT_RESOURCES;
     KzContext *made = kz_memory(sizeof *made);
     *made = (KzContext){.body = body, .kind = kz_context_kind(ContextType), .type = ContextType, .filter = Filter, .how = how};
     enter_tables(made);
-    uint32_t status = made->kind > 3 ? KZS_WRONG_STEP : kz_make_known(made); /* the manager has none of sections and files: the host alone counts their references */
+    uint32_t status = made->kind > 3 ? KZS_WRONG_STEP : kz_make_known(made); /* the manager has none of sections, files and transactions: the host alone counts their references */
     if (status == KZS_OK && !how->ContextAllocateCallback)
         kz_uses_little();
     if (status == KZS_WRONG_STEP || status == KZS_HAND_FULL) {

@@ -2,6 +2,7 @@
 #include "manager/disposition.h"
 
 #include "core/told.h"
+#include "core/transaction.h"
 #include "filesystem/tree.h"
 #include "manager/block.h"
 
@@ -57,13 +58,16 @@ NTSTATUS kz_check_create(const KzCreate *create)
     is_wrong |= options & FILE_COMPLETE_IF_OPLOCKED && options & FILE_RESERVE_OPFILTER;
     is_wrong |= options & FILE_NO_INTERMEDIATE_BUFFERING && create->access & FILE_APPEND_DATA;
     is_wrong |= !is_right_directory(options, disposition);
-    return is_wrong ? STATUS_INVALID_PARAMETER : STATUS_SUCCESS;
+    if (is_wrong)
+        return STATUS_INVALID_PARAMETER;
+    return create->transaction && create->transaction->step != KZ_IS_ACTIVE ? STATUS_TRANSACTION_NOT_ACTIVE : STATUS_SUCCESS;
 }
 
 /* ---- As callbacks have it. */
 void kz_begin_create(KzOp *op, const KzCreate *asked)
 {
     op->asked = op->create = *asked;
+    op->file->transaction = asked->transaction;
     if (asked->options & (FILE_OPEN_REQUIRING_OPLOCK | FILE_RESERVE_OPFILTER))
         kz_tell(KZM_OPLOCK, asked->options & FILE_RESERVE_OPFILTER ? "FILE_RESERVE_OPFILTER" : "FILE_OPEN_REQUIRING_OPLOCK", "no oplock comes with the create: it is opened as others are");
     if (!asked->ea_length)

@@ -103,12 +103,6 @@ static NTSTATUS check_registration(const FLT_REGISTRATION *one, PFLT_FILTER filt
     return NT_SUCCESS(status) ? kz_registration_of_contexts(filter, contexts) : status;
 }
 
-static void tell_unmodelled(const FLT_REGISTRATION *one)
-{
-    if (one->TransactionNotificationCallback)
-        kz_tell(KZM_CALLBACKS, "FltRegisterFilter", "a callback of transactions is never called");
-}
-
 /* The manager's names are of letters, digits, _ and -, up to 32: others stand in for what a file's name may have beside them. */
 static void name_of(PFLT_FILTER filter, char *name)
 {
@@ -168,7 +162,6 @@ NTSTATUS FltRegisterFilter(PDRIVER_OBJECT Driver, CONST FLT_REGISTRATION *Regist
     NTSTATUS checked = check_registration(Registration, filter, &contexts);
     if (!NT_SUCCESS(checked))
         return checked;
-    tell_unmodelled(&filter->registration);
     KzTold answer = register_with_manager(filter, contexts);
     if (answer.status != KZS_OK)
         return kz_ntstatus(answer.status);

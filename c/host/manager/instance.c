@@ -230,7 +230,7 @@ static uint32_t stop(PFLT_INSTANCE instance, FLT_INSTANCE_TEARDOWN_FLAGS reason)
 uint32_t kz_finish_teardown(PFLT_INSTANCE instance)
 {
     kz_uses_teardown(instance, true);
-    kz_end_files_of(instance);
+    kz_end_links_of(instance);
     kz_clean_up();
     uint32_t status = kz_until_free("finish", (KazdrinEvent){.event = KZE_FINISH, .instance = instance->id}, NULL);
     kz_scheduler->touch(instance->filter, 0, KZT_GIVES);

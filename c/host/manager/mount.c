@@ -8,6 +8,7 @@
 #include "filesystem/disk.h"
 #include "filesystem/fileobject.h"
 #include "filesystem/notice.h"
+#include "filesystem/waiting.h"
 #include "manager/busy.h"
 #include "manager/context.h"
 #include "manager/instance.h"
@@ -142,7 +143,8 @@ uint32_t kz_mount(const char *name, uint64_t *number)
 /* ---- Dismount, in the order of fm_worker's dismount: the instances are stopped, the handles are dropped, and then the instances end. */
 static uint32_t start_dismount(PFLT_VOLUME volume)
 {
-    kz_end_notices(NULL, volume); /* a file system that goes answers who waits in it */
+    kz_end_notices(NULL, volume);
+    kz_end_waiting(NULL, volume); /* a file system that goes answers who waits in it */
     kz_end_caches(volume);
     kz_settle();
     uint32_t status = kz_event(kz_worker(), (KazdrinEvent){.event = KZE_START_DISMOUNT, .volume = volume->id}).status;

@@ -18,6 +18,7 @@
 #include "filesystem/sharing.h"
 #include "filesystem/ranges.h"
 #include "filesystem/tree.h"
+#include "filesystem/waiting.h"
 #include "manager/below.h"
 #include "manager/opaque.h"
 #include "manager/context.h"
@@ -86,6 +87,7 @@ void kz_cleanup_over(KzFile *file)
 {
     file->object.Flags |= FO_CLEANUP_COMPLETE;
     kz_end_notices(file, NULL);
+    kz_end_waiting(file, NULL);
     kz_unlock_ranges(file, NULL);
     kz_stop_sharing(file);
     kz_unlock_volume(file);
@@ -245,7 +247,7 @@ void kz_settle(void)
         kz_clean_up();
         if (kz_me->is_detaching)
             kz_uses_closes(); /* other clients settle what they made due */
-    } while (kz_run_notice() || close_due() || dismount_due() || kz_let_others() || kz.resumed);
+    } while (kz_run_waiting() || close_due() || dismount_due() || kz_let_others() || kz.resumed);
 }
 
 /* The file of a client's handle, whose number isn't the manager's; a driver's own is no client's, nor is one before its create is over. */

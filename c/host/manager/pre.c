@@ -8,6 +8,7 @@
 #include "core/place.h"
 #include "core/state.h"
 #include "core/status.h"
+#include "core/transaction.h"
 #include "core/told.h"
 #include "filesystem/fileobject.h"
 #include "filesystem/tree.h"
@@ -27,7 +28,8 @@ FLT_RELATED_OBJECTS kz_objects_of(PFLT_INSTANCE instance, const KzOp *op)
 
 FLT_RELATED_OBJECTS kz_objects(PFLT_INSTANCE instance, KzFile *file)
 {
-    return (FLT_RELATED_OBJECTS){sizeof(FLT_RELATED_OBJECTS), 0, instance->filter, instance->volume, instance, file ? &file->object : NULL, NULL};
+    PKTRANSACTION in = file ? file->transaction : NULL;
+    return (FLT_RELATED_OBJECTS){sizeof(FLT_RELATED_OBJECTS), in ? in->block.TxFsContext : 0, instance->filter, instance->volume, instance, file ? &file->object : NULL, in};
 }
 
 /* What a callback is given of these is gone once it has returned: they are filled then, as if others used that stack. */

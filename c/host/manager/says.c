@@ -161,11 +161,17 @@ static void add_entries(Text *text, int class, const uint8_t *from, size_t lengt
     }
 }
 
-static void add_change(Text *text, const FILE_NOTIFY_INFORMATION *said)
+static void add_changes(Text *text, const uint8_t *from, size_t length)
 {
-    static const char *const actions[] = {"none", "added", "removed", "modified", "old name", "new name"};
-    add(text, "%s ", said->Action < 6 ? actions[said->Action] : "another");
-    add_wide(text, said->FileName, said->FileNameLength);
+    static const char *const actions[] = {"none", "added", "removed", "modified", "old name", "new name", "added stream", "removed stream", "modified stream"};
+    for (size_t place = 0; place < length;) {
+        const FILE_NOTIFY_INFORMATION *said = (const void *)(from + place);
+        add(text, "%s%s ", place ? ", " : "", said->Action < sizeof actions / sizeof actions[0] ? actions[said->Action] : "another");
+        add_wide(text, said->FileName, said->FileNameLength);
+        if (!said->NextEntryOffset)
+            break;
+        place += said->NextEntryOffset;
+    }
 }
 
 /* ---- Volumes. */
@@ -217,7 +223,7 @@ void kz_say_answer(const KzOpaque *opaque, size_t length)
         if (opaque->minor == IRP_MN_QUERY_DIRECTORY)
             add_entries(&text, (int)opaque->now.DirectoryControl.QueryDirectory.FileInformationClass, opaque->output, length);
         else
-            add_change(&text, (const void *)opaque->output);
+            add_changes(&text, opaque->output, length);
         break;
     }
 }

@@ -316,7 +316,7 @@ static KzReply ask_set_quota(char **words)
 /* ---- `lock H OFFSET LEN [shared]`, `unlock H OFFSET LEN`, `unlockall H` */
 static KzReply on_range(char **words, UCHAR minor, UCHAR flags)
 {
-    KzAsked asked = {.major = IRP_MJ_LOCK_CONTROL, .minor = minor, .flags = flags};
+    KzAsked asked = {.major = IRP_MJ_LOCK_CONTROL, .minor = minor, .flags = flags, .waits = minor == IRP_MN_LOCK && !(flags & SL_FAIL_IMMEDIATELY)};
     if (!kz_read_number(words[2], INT64_MAX, &asked.from) || !kz_read_number(words[3], INT64_MAX, &asked.length))
         return kz_wrong();
     return on_handle(words[1], &asked);
@@ -325,9 +325,11 @@ static KzReply on_range(char **words, UCHAR minor, UCHAR flags)
 static KzReply ask_lock(char **words)
 {
     bool is_shared = words[4] && strcmp(words[4], "shared") == 0;
-    if (words[4] && !is_shared)
+    char **last = words + (is_shared ? 5 : 4);
+    bool waits = *last && strcmp(*last, "wait") == 0;
+    if (*last && (!waits || last[1]))
         return kz_wrong();
-    return on_range(words, IRP_MN_LOCK, (UCHAR)(SL_FAIL_IMMEDIATELY | (is_shared ? 0 : SL_EXCLUSIVE_LOCK)));
+    return on_range(words, IRP_MN_LOCK, (UCHAR)((waits ? 0 : SL_FAIL_IMMEDIATELY) | (is_shared ? 0 : SL_EXCLUSIVE_LOCK)));
 }
 
 static KzReply ask_unlock(char **words)
@@ -448,8 +450,8 @@ static KzReply ask_page_out(char **words)
 }
 
 const KzRequest kz_major_requests[] = {
-    {"mkdir", 3, 13, ask_mkdir, false},
-    {"opendir", 3, 13, ask_opendir, false},
+    {"mkdir", 3, 15, ask_mkdir, false},
+    {"opendir", 3, 15, ask_opendir, false},
     {"openvolume", 2, 12, ask_open_volume, false},
     {"query", 3, 4, ask_query, true},
     {"set", 4, 4, ask_set, true},
@@ -466,7 +468,7 @@ const KzRequest kz_major_requests[] = {
     {"setsecurity", 3, 3, ask_set_security, true},
     {"queryquota", 2, 2, ask_query_quota, true},
     {"setquota", 3, 3, ask_set_quota, true},
-    {"lock", 4, 5, ask_lock, true},
+    {"lock", 4, 6, ask_lock, true},
     {"unlock", 4, 4, ask_unlock, true},
     {"unlockall", 2, 2, ask_unlock_all, true},
     {"fsctl", 3, 5, ask_fsctl, true},

@@ -2,6 +2,7 @@
 #include "run/masks.h"
 
 #include "core/near.h"
+#include "filesystem/version.h"
 #include "run/read.h"
 
 #include <stdlib.h>
@@ -89,7 +90,7 @@ bool kz_read_mode(const char *word, ULONG *disposition)
     return is_near(all, word);
 }
 
-enum { ACCESS = 1, SHARE = 2, OPTIONS = 4, ATTRIBUTES = 8, NAME = 16 };
+enum { ACCESS = 1, SHARE = 2, OPTIONS = 4, ATTRIBUTES = 8, NAME = 16, TRANSACTION = 32 };
 
 /* The pair, and which it is; 0 if it isn't understood. */
 static int read_pair(char **pair, KzCreate *create, const char **name)
@@ -105,10 +106,14 @@ static int read_pair(char **pair, KzCreate *create, const char **name)
         return read_bits(accesses, pair[1], &create->access) ? ACCESS : 0;
     if (strcmp(pair[0], "share") == 0)
         return read_bits(shares, pair[1], &create->share) ? SHARE : 0;
+    if (strcmp(pair[0], "in") == 0) {
+        create->transaction = kz_transaction_named(pair[1]);
+        return create->transaction || kz_refuse_word("no transaction is named %.40s", pair[1]) ? TRANSACTION : 0;
+    }
     if (strcmp(pair[0], "attributes") == 0)
         return read_bits(attributes, pair[1], &create->attributes) ? ATTRIBUTES : 0;
     if (strcmp(pair[0], "options") != 0)
-        return kz_refuse_word("`%.40s` is none of access, share, options, attributes, as", pair[0]);
+        return kz_refuse_word("`%.40s` is none of access, share, options, attributes, as, in", pair[0]);
     if (!read_bits(options, pair[1], &said))
         return 0;
     if (said & ~(ULONG)FILE_VALID_OPTION_FLAGS)

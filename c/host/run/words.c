@@ -3,15 +3,18 @@
 
 #include "cache/paging.h"
 #include "core/clock.h"
+#include "core/module.h"
 #include "core/near.h"
 #include "filesystem/deletion.h"
 #include "filesystem/fileobject.h"
+#include "filesystem/version.h"
 #include "manager/busy.h"
 #include "manager/disposition.h"
 #include "manager/filter.h"
 #include "manager/instance.h"
 #include "manager/mount.h"
 #include "manager/perform.h"
+#include "manager/transaction.h"
 #include "kit/cancel.h"
 #include "kit/notify.h"
 #include "kit/registry.h"
@@ -298,6 +301,24 @@ static KzReply ask_create(char **words)
     return kz_ask_create((uint8_t)volume, words[3], &create, name);
 }
 
+/* `transaction begin T`, `transaction commit T`, `transaction rollback T` */
+static KzReply ask_transaction(char **words)
+{
+    bool begins = strcmp(words[1], "begin") == 0, commits = strcmp(words[1], "commit") == 0;
+    PKTRANSACTION one = begins ? kz_begin_transaction(words[2]) : kz_transaction_named(words[2]);
+    if (!begins && !commits && strcmp(words[1], "rollback") != 0)
+        kz_refuse_word("`%.40s` is none of begin, commit, rollback", words[1]);
+    else if (!one)
+        kz_refuse_word(begins ? "%.40s is a transaction already, or no name" : "no transaction is named %.40s", words[2]);
+    if (!one || (!begins && !commits && strcmp(words[1], "rollback") != 0))
+        return kz_wrong();
+    NTSTATUS other = begins ? STATUS_SUCCESS : kz_end_transaction(one, commits);
+    KzReply reply = {.status = NT_SUCCESS(other) ? KZS_OK : KZS_DEVICE_FAULT};
+    kz_replied(reply, other, NULL, 0);
+    kz_settle();
+    return reply;
+}
+
 static KzReply ask_list(char **words)
 {
     uint64_t volume;
@@ -372,14 +393,14 @@ static KzReply ask_close(char **words)
 static const KzRequest requests[] = {
     {"load", 2, 3, ask_load, false},           {"mount", 2, 7, ask_mount, false},         {"volume", 3, 8, ask_volume, false},
     {"attach", 5, 6, ask_attach, false},       {"detach", 2, 2, ask_detach, false},       {"unload", 2, 2, ask_unload, false},
-    {"dismount", 2, 2, ask_dismount, false},   {"create", 4, 14, ask_create, false},       {"list", 2, 2, ask_list, false},
+    {"dismount", 2, 2, ask_dismount, false},   {"create", 4, 16, ask_create, false},       {"list", 2, 2, ask_list, false},
     {"read", 4, 4, ask_read, true},            {"write", 4, 4, ask_write, true},          {"setsize", 3, 3, ask_set_size, true},
     {"querysize", 2, 2, ask_query_size, true}, {"flush", 2, 2, ask_flush, true},          {"setdelete", 2, 2, ask_set_delete, true},
     {"close", 2, 2, ask_close, true},          {"as", 3, 8, ask_as, false},               {"time", 2, 2, ask_time, false},
     {"registry", 2, 5, ask_registry, false},   {"fail", 3, 3, ask_fail, false},           {"start", 2, KZ_WORDS, ask_start, false},
     {"type", 3, KZ_WORDS, ask_type, false},    {"cancel", 2, 2, ask_cancel, false},       {"process", 3, 5, ask_process, false},
     {"thread", 3, 5, kz_ask_thread, false},    {"image", 4, 4, kz_ask_image, false},      {"open", 4, 6, kz_ask_open, false},
-    {"restore", 2, 2, ask_restore, true},      {"lazy", 1, 1, ask_lazy, false},
+    {"restore", 2, 2, ask_restore, true},      {"lazy", 1, 1, ask_lazy, false},           {"transaction", 3, 3, ask_transaction, false},
 };
 
 const KzRequest *kz_request_at(size_t at)

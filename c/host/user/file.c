@@ -49,6 +49,7 @@ enum { CREATE_NEW = 1, CREATE_ALWAYS, OPEN_EXISTING, OPEN_ALWAYS, TRUNCATE_EXIST
 
 typedef struct {
     uint32_t access, share, disposition, flags;
+    PKTRANSACTION transaction;
 } Asked;
 
 static ULONG disposition_of(uint32_t disposition)
@@ -85,7 +86,8 @@ static KzCreate create_of(const Asked *asked)
     return (KzCreate){.access = access,
                       .options = disposition_of(asked->disposition) << 24 | options,
                       .attributes = asked->flags & FILE_ATTRIBUTE_VALID_FLAGS & ~(uint32_t)FILE_ATTRIBUTE_DIRECTORY,
-                      .share = asked->share};
+                      .share = asked->share,
+                      .transaction = asked->transaction};
 }
 
 /* `//./C:` is the volume itself. */
@@ -240,7 +242,7 @@ void *CreateFileA(const char *name, uint32_t access, uint32_t share, const void 
     (void)attributes, (void)template;
     char path[KZ_PROGRAM_PATH];
     kz_letters_of(path, sizeof path, name);
-    return create(path, &(Asked){access, share, disposition, flags});
+    return create(path, &(Asked){access, share, disposition, flags, NULL});
 }
 
 void *CreateFileW(const WCHAR *name, uint32_t access, uint32_t share, const void *attributes, uint32_t disposition, uint32_t flags, void *template);
@@ -249,7 +251,32 @@ void *CreateFileW(const WCHAR *name, uint32_t access, uint32_t share, const void
     (void)attributes, (void)template;
     char path[KZ_PROGRAM_PATH];
     kz_letters_of_wide(path, sizeof path, name);
-    return create(path, &(Asked){access, share, disposition, flags});
+    return create(path, &(Asked){access, share, disposition, flags, NULL});
+}
+
+static void *create_in(char *path, Asked asked, const void *handle)
+{
+    const KzObject *object = kz_object(handle, KZU_TRANSACTION);
+    asked.transaction = object ? object->transaction : NULL;
+    return object ? create(path, &asked) : (void *)(intptr_t)-1;
+}
+
+void *CreateFileTransactedA(const char *name, uint32_t access, uint32_t share, const void *attributes, uint32_t disposition, uint32_t flags, void *template, void *transaction, const void *version, void *more);
+void *CreateFileTransactedA(const char *name, uint32_t access, uint32_t share, const void *attributes, uint32_t disposition, uint32_t flags, void *template, void *transaction, const void *version, void *more)
+{
+    (void)attributes, (void)template, (void)version, (void)more;
+    char path[KZ_PROGRAM_PATH];
+    kz_letters_of(path, sizeof path, name);
+    return create_in(path, (Asked){access, share, disposition, flags, NULL}, transaction);
+}
+
+void *CreateFileTransactedW(const WCHAR *name, uint32_t access, uint32_t share, const void *attributes, uint32_t disposition, uint32_t flags, void *template, void *transaction, const void *version, void *more);
+void *CreateFileTransactedW(const WCHAR *name, uint32_t access, uint32_t share, const void *attributes, uint32_t disposition, uint32_t flags, void *template, void *transaction, const void *version, void *more)
+{
+    (void)attributes, (void)template, (void)version, (void)more;
+    char path[KZ_PROGRAM_PATH];
+    kz_letters_of_wide(path, sizeof path, name);
+    return create_in(path, (Asked){access, share, disposition, flags, NULL}, transaction);
 }
 
 /* ---- Reading and writing. */

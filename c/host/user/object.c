@@ -1,5 +1,6 @@
 /* Handles of a program: each is an object of its process. */
 #include "user/object.h"
+#include "user/transaction.h"
 
 #include "core/client.h"
 #include "core/memory.h"
@@ -27,6 +28,15 @@ KzObject *kz_new_object(KzObjectKind kind)
     KzObject *made = kz_memory(sizeof *made);
     *made = (KzObject){.next = process->objects, .kind = kind, .process = process};
     return process->objects = made;
+}
+
+KzObject *kz_open_object(const KzObject *object)
+{
+    for (KzProcess *process = kz_processes(); process; process = process->next)
+        for (KzObject *one = process->objects; one; one = one->next)
+            if (one == object)
+                return one;
+    return NULL;
 }
 
 KzObject *kz_any_object(const void *handle)
@@ -85,6 +95,8 @@ void kz_close_object(KzObject *object)
         ZwClose(object->system);
     } else if (object->kind == KZU_SECTION) {
         kz_close_section(object);
+    } else if (object->kind == KZU_TRANSACTION) {
+        kz_leave_transaction(object->transaction);
     } else if (object->kind == KZU_THREAD) {
         object->owner->object = NULL;
     }

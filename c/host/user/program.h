@@ -49,7 +49,7 @@ struct KzUser {
     bool has_ended;
 };
 
-typedef enum { KZU_THREAD, KZU_EVENT, KZU_SEMAPHORE, KZU_MUTEX, KZU_PORT, KZU_COMPLETION, KZU_FILE, KZU_FIND, KZU_SEARCH, KZU_DEVICE, KZU_KEY, KZU_PROCESS, KZU_SECTION } KzObjectKind;
+typedef enum { KZU_THREAD, KZU_EVENT, KZU_SEMAPHORE, KZU_MUTEX, KZU_PORT, KZU_COMPLETION, KZU_FILE, KZU_FIND, KZU_SEARCH, KZU_DEVICE, KZU_KEY, KZU_PROCESS, KZU_SECTION, KZU_TRANSACTION } KzObjectKind;
 
 /* A packet of a completion port. */
 typedef struct KzPacket {
@@ -97,6 +97,7 @@ struct KzObject {
     uint64_t size;         /* and how large it is */
     bool may_write;
     HANDLE system;   /* a key's, of the kernel */
+    PKTRANSACTION transaction;
     uint64_t other;  /* a process, and what was granted of it */
     ACCESS_MASK access;
 };

@@ -20,18 +20,9 @@ typedef struct {
     bool is_waited_for, is_over;
 } Watch;
 
-static KzObject *still_open(const KzObject *object)
-{
-    for (KzProcess *process = kz_processes(); process; process = process->next)
-        for (KzObject *one = process->objects; one; one = one->next)
-            if (one == object)
-                return one;
-    return NULL;
-}
-
 static void end(Watch *watch, NTSTATUS status, uint64_t bytes)
 {
-    KzObject *object = still_open(watch->object);
+    KzObject *object = kz_open_object(watch->object);
     if (object)
         kz_complete(object, watch->overlapped, (uint32_t)bytes, status);
     watch->is_over = true;

@@ -6,7 +6,6 @@
 PFLT_FILTER gFilterHandle;
 static FLT_POSTOP_CALLBACK_STATUS PostCreate(PFLT_CALLBACK_DATA Data, PCFLT_RELATED_OBJECTS FltObjects, PVOID CompletionContext, FLT_POST_OPERATION_FLAGS Flags)
 {
-    PFLT_CONTEXT context;
     UCHAR room[16];
 
     UNREFERENCED_PARAMETER(CompletionContext);
@@ -14,8 +13,6 @@ static FLT_POSTOP_CALLBACK_STATUS PostCreate(PFLT_CALLBACK_DATA Data, PCFLT_RELA
     SHOW(FltFastIoMdlReadComplete(FltObjects->Instance, FltObjects->FileObject, NULL));
     SHOW(FltSetQuotaInformationFile(FltObjects->Instance, FltObjects->FileObject, room, sizeof(room)));
     SHOW(FltPrefetchFile(FltObjects->Instance, FltObjects->FileObject, NULL));
-    SHOW(FltAllocateContext(gFilterHandle, FLT_TRANSACTION_CONTEXT, 8, PagedPool, &context));
-    SHOW(FltGetTransactionContext(FltObjects->Instance, FltObjects->Transaction, &context));
     SHOW(FltTagFile(FltObjects->Instance, FltObjects->FileObject, IO_REPARSE_TAG_SYMLINK, NULL, NULL, 0));
     if (NT_SUCCESS(Data->IoStatus.Status)) {
         Data->IoStatus.Status = STATUS_REPARSE;
@@ -31,17 +28,8 @@ static NTSTATUS Unload(FLT_FILTER_UNLOAD_FLAGS Flags)
     return STATUS_SUCCESS;
 }
 
-static NTSTATUS Notify(PCFLT_RELATED_OBJECTS FltObjects, PFLT_CONTEXT TransactionContext, ULONG NotificationMask)
-{
-    UNREFERENCED_PARAMETER(FltObjects);
-    UNREFERENCED_PARAMETER(TransactionContext);
-    UNREFERENCED_PARAMETER(NotificationMask);
-    return STATUS_SUCCESS;
-}
-
 CONST FLT_OPERATION_REGISTRATION Callbacks[] = {{IRP_MJ_CREATE, 0, NULL, PostCreate}, {IRP_MJ_OPERATION_END}};
-CONST FLT_CONTEXT_REGISTRATION Contexts[] = {{FLT_TRANSACTION_CONTEXT, 0, NULL, 8, 'tfeL'}, {FLT_CONTEXT_END}};
-CONST FLT_REGISTRATION Registration = {sizeof(FLT_REGISTRATION), FLT_REGISTRATION_VERSION, 0, Contexts, Callbacks, Unload, NULL, NULL, NULL, NULL, NULL, NULL, NULL, Notify};
+CONST FLT_REGISTRATION Registration = {sizeof(FLT_REGISTRATION), FLT_REGISTRATION_VERSION, 0, NULL, Callbacks, Unload};
 
 NTSTATUS DriverEntry(PDRIVER_OBJECT DriverObject, PUNICODE_STRING RegistryPath)
 {

@@ -157,7 +157,7 @@ tell $? "much of everything"
 
 # Limits count if they are to, and what is allowed isn't told.
 "$room/drivers" --strict $tests/requests/left.txt > "$room/strict.out"
-[ $? = 5 ] && tail -n 1 "$room/strict.out" | grep -q "told 7, limits 7"
+[ $? = 5 ] && tail -n 1 "$room/strict.out" | grep -q "told 4, limits 4"
 tell $? "strict"
 "$room/drivers" --allow KZ0130 $tests/requests/answers.txt > "$room/allow.out"
 [ $? = 5 ] && ! grep -q KZ0130 "$room/allow.out" && tail -n 1 "$room/allow.out" | grep -q "told 8, limits 2"
@@ -185,7 +185,7 @@ create 0 new y options 0x1000000000#`0x1000000000` is no number of 32 bits
 create 0 new y attributes FILE_SHARE_READ#there is no `FILE_SHARE_READ`
 create 0 new y as#nothing stands behind `as`
 create 0 new y as 9#`9` is no name: it is too long, or begins with a digit
-create 0 new y shrae 1#`shrae` is none of access, share, options, attributes, as
+create 0 new y shrae 1#`shrae` is none of access, share, options, attributes, as, in
 create v7 new y#no volume is named v7
 read a 0 5#no handle is named a
 write 0 0 6#`6` is no bytes, of two digits from 00 to ff each

@@ -43,6 +43,23 @@ int main(void)
     overlapped.Offset = 4;
     isRead = ReadFile(file, room, sizeof room, &count, &overlapped);
     printf("18 a read up to the end: %d, %lu bytes, status %lx, the event is %s\n", isRead, count, (unsigned long)overlapped.Internal, WaitForSingleObject(overlapped.hEvent, 0) == WAIT_TIMEOUT ? "reset" : "set");
+    /* A lock that another handle has is waited for, and taken as that is given up. */
+    HANDLE other = CreateFileA("C:\\kept", GENERIC_READ, FILE_SHARE_READ | FILE_SHARE_WRITE, NULL, OPEN_EXISTING, 0, NULL);
+    printf("19 a second handle of a file that isn't shared: error %lu\n", other == INVALID_HANDLE_VALUE ? GetLastError() : 0);
+    CloseHandle(file);
+    file = CreateFileA("C:\\kept", GENERIC_READ, FILE_SHARE_READ, NULL, OPEN_EXISTING, FILE_FLAG_OVERLAPPED, NULL);
+    other = CreateFileA("C:\\kept", GENERIC_READ, FILE_SHARE_READ, NULL, OPEN_EXISTING, 0, NULL);
+    LockFile(other, 0, 0, 4, 0);
+    overlapped.Offset = 0;
+    BOOL isLocked = LockFileEx(file, LOCKFILE_EXCLUSIVE_LOCK | LOCKFILE_FAIL_IMMEDIATELY, 0, 2, 0, &overlapped);
+    printf("20 a lock at once: %d, error %lu\n", isLocked, GetLastError());
+    isLocked = LockFileEx(file, LOCKFILE_EXCLUSIVE_LOCK, 0, 2, 0, &overlapped);
+    printf("21 a lock that waits: %d, error %lu, ", isLocked, GetLastError());
+    printf("the event is %s", WaitForSingleObject(overlapped.hEvent, 0) == WAIT_TIMEOUT ? "reset" : "set");
+    UnlockFile(other, 0, 0, 4, 0);
+    printf(", then %s, ", WaitForSingleObject(overlapped.hEvent, INFINITE) == WAIT_OBJECT_0 ? "set" : "reset");
+    printf("status %lx\n", (unsigned long)overlapped.Internal);
+    CloseHandle(other);
     CloseHandle(file);
     CloseHandle(overlapped.hEvent);
     CloseHandle(port);

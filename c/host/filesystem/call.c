@@ -6,6 +6,7 @@
 #include "filesystem/create.h"
 #include "filesystem/disk.h"
 #include "filesystem/folder.h"
+#include "filesystem/journal.h"
 #include "filesystem/name.h"
 #include "filesystem/record.h"
 #include "filesystem/notice.h"
@@ -40,6 +41,8 @@ void kz_note_call(KzOp *op, const KazdrinData *call)
         kz_note_create(name, call->mode);
         break;
     case KZE_WRITE:
+        if (!(op->own.irp_flags & IRP_PAGING_IO)) /* the journal has that where it was written to the pages */
+            kz_journal_write(name, call->offset, call->length, name->stream->size);
         kz_note_written(op->file, call->offset, call->length);
         break;
     case KZE_SET_SIZE:

@@ -94,6 +94,12 @@ void kz_journal(const KzName *name, ULONG reason)
         put(name, record->reasons);
 }
 
+void kz_journal_write(const KzName *name, uint64_t offset, size_t length, uint64_t size)
+{
+    bool is_over = length && offset < size, is_longer = length && offset + length > size;
+    kz_journal(name, (is_over ? USN_REASON_DATA_OVERWRITE : 0) | (is_longer ? USN_REASON_DATA_EXTEND : 0));
+}
+
 /* By what is notified: of a name, unless others lead to the file, or of what else it has. */
 static void note(const KzName *name, ULONG filter, ULONG action)
 {

@@ -8,6 +8,8 @@
 extern const struct KzModule kz_journal_module;
 /* The file of that name, or a stream of it, has changed so: USN_REASON_... of a file's own bytes. */
 void kz_journal(const KzName *name, ULONG reason);
+/* So much of it is written, which had that size before. */
+void kz_journal_write(const KzName *name, uint64_t offset, size_t length, uint64_t size);
 /* The same of a name that is new or gone, or of what else a file has; and who waits for such changes hears of it. */
 void kz_changed(const KzName *name, ULONG filter, ULONG action);
 /* Its last handle is closed. */

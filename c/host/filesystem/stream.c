@@ -179,11 +179,7 @@ static void note_change(const KzFile *file, ULONG what)
 void kz_note_written(const KzFile *file, uint64_t offset, size_t length)
 {
     KzStream *stream = file->name->stream;
-    bool is_longer = offset + length > stream->size;
-    if (!length)
-        return;
-    kz_journal(file->name, (offset < stream->size ? USN_REASON_DATA_OVERWRITE : 0) | (is_longer ? USN_REASON_DATA_EXTEND : 0));
-    if (is_longer)
+    if (length && offset + length > stream->size)
         stream->size = offset + length;
     if (length && offset + length > stream->valid)
         stream->valid = offset + length;
@@ -220,8 +216,10 @@ NTSTATUS kz_resize(KzFile *file, uint64_t size)
 NTSTATUS kz_write_stream(KzFile *file, uint64_t offset, const uint8_t *bytes, size_t length)
 {
     NTSTATUS status = change(file, &(KazdrinData){.operation = KZE_WRITE, .offset = offset, .length = length}, bytes);
-    if (NT_SUCCESS(status))
+    if (NT_SUCCESS(status)) {
+        kz_journal_write(file->name, offset, length, file->name->stream->size);
         kz_note_written(file, offset, length);
+    }
     return status;
 }
 

@@ -6,6 +6,7 @@
 #include "core/memory.h"
 #include "core/state.h"
 #include "core/told.h"
+#include "filesystem/journal.h"
 #include "filesystem/fileobject.h"
 #include "filesystem/query.h"
 #include "filesystem/stream.h"
@@ -140,6 +141,7 @@ static NTSTATUS write_locked(KzOp *op, KzCache *cache, const KazdrinData *call, 
     if (!NT_SUCCESS(status))
         return status;
     kz_write_views(cache->stream, call->offset, bytes, call->length);
+    kz_journal_write(file->name, call->offset, call->length, size);
     kz_note_written(file, call->offset, call->length);
     return file->object.Flags & FO_WRITE_THROUGH ? kz_flush_cache(cache, call->offset, call->length) : status;
 }

@@ -48,9 +48,10 @@ typedef struct {
 
 enum { KZ_LENT_NOTHING, KZ_LENT_PRE, KZ_LENT_BASE, KZ_LENT_POST, KZ_LENT_DRAIN };
 
-/* Where an operation begins, in `kind` of KZE_CREATE to KZE_CLOSE: at the top; below `instance`, whose filter asks for it (InitiatingInstance of FltReadFile and its like), so that
- * those alone hear it that stand lower; or at the base, where none hears it. */
-enum { KZB_TOP, KZB_BELOW, KZB_BASE };
+/* Where an operation begins, in `kind` of KZE_CREATE to KZE_CLOSE: at the top, for a client; below `instance`, whose filter asks for it (InitiatingInstance of FltReadFile and its
+ * like), so that those alone hear it that stand lower; at the base, where none hears it, for the file system; at the top for the cache or memory manager, whose handle may be one
+ * that its cleanup has begun of, until its close; or at the base for `instance`, whose filter asks for it. An instance's end waits for what its filter asked for. */
+enum { KZB_TOP, KZB_BELOW, KZB_BASE, KZB_LATE, KZB_BASE_FOR };
 
 /* The numbers of events. `bytes` are the text, the body or the data that kazdrin_step is passed. */
 enum {

@@ -7,7 +7,7 @@ use Rattle.fm_world.proofs.Words.{count_cleaning, cleaning_of, cleaned, due_of, 
 use Rattle.std.proofs.lemmas.Bool.{le-ltb}
 use Rattle.fm_ctx.specs.Cleanup.{after_take_due}
 use Rattle.fm_ctx.proofs.Carried.{carried_cleaned}
-use Rattle.fm_world.specs.ContextEvents.{finish_refused, OwnsOnlyWaiting}
+use Rattle.fm_world.specs.ContextEvents.{finish_refused, left_over, OwnsOnlyWaiting}
 use Rattle.fm_world.proofs.Waiting.{waits}
 use Rattle.fm_core.specs.Callers.{filter_at}
 use Rattle.fm_core.proofs.Called.{table_tied}
@@ -54,11 +54,11 @@ phase_in m = option_map (λ (row : Instance). row.phase) m
 pub may_end : (m : Option Instance) → refused_in (phase_in m) ≡ None → (is_gone_at m ≡ false) × (is_emptying_at m ≡ true)
 may_end m h = (grind (arith, h), grind (arith, h))
 
--- an instance that may end and owns no context
-pub ends_free : (w : World) (i : InstanceId) (n : ℕ) → refused_in (phase_in (row_at w.stack i)) ≡ None → n ≡ open_of w.contexts.slots (Owner.Instance i) → n ≤ 0
+-- an instance that may end, owns no context and asked for nothing that is under way
+pub ends_free : (w : World) (i : InstanceId) (n : ℕ) → refused_in (phase_in (row_at w.stack i)) ≡ None → n ≡ left_over w i → n ≤ 0
     → finish_refused w i ≡ None
 ends_free w i n h count none =
-    let open' = open_of w.contexts.slots (Owner.Instance i) in
+    let open' = left_over w i in
     let ends = may_end (row_at w.stack i) h in
     ap (λ b. cond b (Some Status.NoInstance) (first_of ((not (is_emptying_at (row_at w.stack i)), Status.WrongStep) ∷ (nat_lt 0 open', Status.Busy open')
     ∷ []))) ends.0
@@ -69,7 +69,7 @@ emptying_keeps_none : (row : Option Instance) → refused_in (phase_in row) ≡ 
 emptying_keeps_none None h = refl
 emptying_keeps_none (Some row) h = grind arith
 
--- the contexts of an instance that only they keep from its end wait for their cleanup
+-- the contexts of an instance that may end but for them and what it asked for wait for their cleanup
 pub only_waiting : {w now : World} (i : InstanceId) → w ≡ now → refused_in (phase_in (row_at w.stack i)) ≡ None → IsSound now → OwnsOnlyWaiting now i
 only_waiting {w} {now} i same h sound =
     waits now i (headline_from now sound) (subst (λ (v : World). keeps_links_by (row_at v.stack i) ≡ false) same (emptying_keeps_none (row_at w.stack i) h))

@@ -20,7 +20,7 @@ use Rattle.fm_operations.specs.Table.{operation_at, is_full, begun}
 use Rattle.fm_operations.specs.declared.stage.Stage.TheVariants.{Descending}
 use Rattle.fm_world.specs.Owners.{is_left_by, row_at}
 use Rattle.fm_world.specs.declared.begins_from.BeginsFrom.{BeginsFrom}
-use Rattle.fm_world.specs.declared.begins_from.BeginsFrom.TheVariants as from
+use Rattle.fm_world.specs.Initiators.{asker_of}
 
 -- what refuses an operation on a volume in that phase
 abbrev pub refusal_by : Option VolumePhase → Bool → Option Status
@@ -57,4 +57,4 @@ pub record MayPlace (w : World) (o : OpId) (begins : BeginsFrom) : Type 0 where
   pub there : operation_at o w.flow ≡ Some row
   pub entries : row.entries ≡ []
   pub stage : row.stage ≡ Descending
-  pub left : (i : InstanceId) → begins ≡ from.Below i → is_left_by (row_at w.stack i) ≡ true
+  pub left : (i : InstanceId) → asker_of begins ≡ Some i → is_left_by (row_at w.stack i) ≡ true

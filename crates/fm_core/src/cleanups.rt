@@ -2,7 +2,7 @@
 
 ghost use Rattle.std.specs.Prelude.{◌≡◌, ◌+◌, ◌<◌, ◌%◌, ◌^◌, length};
 ghost use Rattle.fm_types.specs.Lists.{updated};
-ghost use Rattle.fm_world.specs.ContextEvents.{TakesDue, Cleans, Finishes, WaitsIfBusy, totalled_for};
+ghost use Rattle.fm_world.specs.ContextEvents.{TakesDue, Cleans, Finishes, WaitsIfBusy, left_over, totalled_for};
 ghost use Rattle.fm_world.specs.Hands.{KeepsHands};
 ghost use Rattle.fm_core.specs.Callers.{filter_at, refused_in};
 
@@ -88,9 +88,17 @@ impl State {
         Ok(())
     }
 
-    /// Ends an instance whose contexts are all cleaned up: it is Detached, and its name and altitude are free. Refused, nothing changed: 8 where the
-    /// instance isn't there or is Detached, 30 where it isn't Emptying, 34 with the number of its contexts that aren't cleaned: each of them is due, or one
-    /// worker cleans it up. It takes no memory.
+    // What an instance's end waits for: its contexts that aren't cleaned, and at most 256 operations that its filter asked for itself.
+    fn left_over(&self, instance: InstanceId) -> u64
+        ensures { result ≡ left_over self.now instance }
+    {
+        self.contexts.open_of(Owner::Instance(instance)) + self.flow.begun_by(instance)
+    }
+
+    /// Ends an instance whose contexts are all cleaned up, and whose filter has the answers to all that it asked for itself: it is Detached, and its name and
+    /// altitude are free. Refused, nothing changed: 8 where the instance isn't there or is Detached, 30 where it isn't Emptying, 34 with the number of its
+    /// contexts that aren't cleaned, each of which is due, or one worker cleans it up, and of the operations that its filter began below it or at the base
+    /// and whose answers weren't handed out. It takes no memory.
     #[tactic(auto, unfolding(fm_world::specs::ContextEvents::Finishes))]
     pub fn finish(&mut self, instance: InstanceId) -> Result<(), Status>
         ensures event { Finishes self.old instance result self.new }
@@ -100,9 +108,9 @@ impl State {
         if let Some(status) = refused_in(self.stack.phase(instance)) {
             return Err(status);
         }
-        let open = self.contexts.open_of(Owner::Instance(instance));
-        if open > 0 {
-            return Err(Status::Busy(open));
+        let left = self.left_over(instance);
+        if left > 0 {
+            return Err(Status::Busy(left));
         }
         self.stack.finish(instance);
         Ok(())

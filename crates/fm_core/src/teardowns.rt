@@ -31,7 +31,7 @@ fn is_queried(instance: InstanceId, workers: &[Place]) -> bool
 }
 
 impl State {
-    // What a teardown waits for: operations in flight, at most 256 that began below the instance, and at most 48 workers.
+    // What a teardown waits for: operations in flight, at most 256 that the instance's filter asked for itself, and at most 48 workers.
     fn unfinished_at(&self, instance: InstanceId) -> u64
         ensures { result ≡ unfinished_at self.now instance }
     {

@@ -32,6 +32,11 @@ impl Carriers {
         }
     }
 
+    /// How many there are.
+    pub(crate) fn count(&self) -> u32 {
+        (self.word.load(Ordering::SeqCst) & (ONE - 1)).count_ones()
+    }
+
     /// A worker takes jobs, and waits for nothing.
     pub(crate) fn add(&self, worker: WorkerId) {
         self.word.fetch_or(bit_of(worker), Ordering::SeqCst);

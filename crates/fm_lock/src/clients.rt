@@ -145,6 +145,11 @@ impl<F: Drop, L: Ledger> Manager<F, L> {
         self.waiting.carriers.add(hand.worker());
     }
 
+    /// How many workers could carry on what a filter begins for itself: they take jobs, and don't wait for such an operation themselves.
+    pub fn carriers(&self) -> u32 {
+        self.waiting.carriers.count()
+    }
+
     /// Notes that it takes none any more.
     pub fn leaves_jobs(&self, hand: &Hand<L>) {
         self.waiting.leaves_jobs(hand.worker());

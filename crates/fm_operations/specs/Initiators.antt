@@ -8,7 +8,7 @@ abbrev pub is_below : ℕ → Option InstanceId → Bool
 is_below i None = false
 is_below i (Some j) = j.0 == i
 
--- whether an operation began below that instance, and its answer wasn't handed out
+-- whether that instance's filter asked for an operation, and its answer wasn't handed out
 abbrev pub is_begun_by : ℕ → FlowRecord → Bool
 is_begun_by i r = not r.collected && is_below i r.below
 

@@ -20,7 +20,7 @@ pub record FlowRecord : Type 0 where
   pub handle : Option HandleId
   -- how many instances were born before it began
   pub born : ℕ
-  -- the instance below which it began, whose filter asked for it; none where it began at the top, or at the base
+  -- the instance whose filter asked for it, and below which it visits; at the base it visits none, since none was born before it. None where no filter did
   pub below : Option InstanceId
   -- the path of the file that it is on, as it was when it began; a listing has none
   pub path : Option (List ℕ)

@@ -86,7 +86,7 @@ begun volume stream handle born path params t = record {
   next = t.next + 1;
 }
 
--- it began below that instance, if one is named, and not at the top; and it visits those that were born before `born` alone
+-- that instance's filter asked for it, if one is named: it visits those below that one; and it visits those that were born before `born` alone
 abbrev pub placed : Option InstanceId → ℕ → FlowRecord → FlowRecord
 placed below born r = record r { born = born; below = below }
 

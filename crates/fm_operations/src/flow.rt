@@ -443,9 +443,9 @@ impl Flow {
         Ok(number)
     }
 
-    /// An operation that has just begun began below an instance, whose filter asked for it, or at the base
-    /// (`InitiatingInstance` of `FltReadFile` and its like): it visits those instances alone that were
-    /// born before `born`, and lie below that one if one is named. The operation has to be there. All other
+    /// An operation that has just begun is named an instance, whose filter asked for it (`InitiatingInstance`
+    /// of `FltReadFile` and its like): it visits those instances alone that were born before `born`, at
+    /// the base none, and lie below that one if one is named. The operation has to be there. All other
     /// operations stay. It takes no memory.
     pub fn place_below(&mut self, number: OpId, below: Option<InstanceId>, born: u64)
         requires { is_some (operation_at number self.old) ≡ true }
@@ -614,7 +614,7 @@ impl Flow {
         left_on(&self.operations, volume) as u64
     }
 
-    /// How many operations began below an instance, asked for by its filter, whose answers weren't handed out.
+    /// How many operations an instance's filter asked for itself, whose answers weren't handed out.
     pub fn begun_by(&self, instance: InstanceId) -> u64
         ensures { result ≡ begun_by instance.0 self.now }
     {

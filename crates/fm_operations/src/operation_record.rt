@@ -132,8 +132,8 @@ impl OperationRecord {
         self.born = born;
     }
 
-    /// The instance below which it began, whose filter asked for it (`InitiatingInstance` of `FltReadFile`
-    /// and its like); none where it began at the top, or at the base.
+    /// The instance whose filter asked for it, below which it began or at the base (`InitiatingInstance` of
+    /// `FltReadFile` and its like); none where no filter did.
     pub fn below(&self) -> Option<InstanceId>
         ensures { result ≡ self.now.below }
     {

@@ -94,6 +94,7 @@ spelling keyword.OtherV = codes "otherv"
 spelling keyword.ChangeHeld = codes "change_held"
 spelling keyword.Below = codes "below"
 spelling keyword.AtBase = codes "atbase"
+spelling keyword.AtTop = codes "attop"
 
 abbrev pub all_keywords : List Keyword
 all_keywords =
@@ -105,7 +106,7 @@ all_keywords =
     keyword.Query ∷ keyword.Queried ∷ keyword.Start ∷ keyword.Started ∷ keyword.Complete ∷ keyword.Completed ∷ keyword.Enter ∷ keyword.Left ∷ keyword.Unload ∷
     keyword.Unloaded ∷ keyword.EmptyF ∷ keyword.FinishF ∷ keyword.Flight ∷ keyword.Drain ∷ keyword.Drained ∷
     keyword.Dismount ∷ keyword.Drop ∷ keyword.EmptyV ∷ keyword.FinishV ∷ keyword.QuerySize ∷ keyword.SetDelete ∷ keyword.Restore ∷
-    keyword.Other ∷ keyword.OtherV ∷ keyword.ChangeHeld ∷ keyword.Below ∷ keyword.AtBase ∷ []
+    keyword.Other ∷ keyword.OtherV ∷ keyword.ChangeHeld ∷ keyword.Below ∷ keyword.AtBase ∷ keyword.AtTop ∷ []
 
 -- the keyword that a word is
 unfoldable pub keyword_read : List ℕ → Option Keyword
@@ -306,9 +307,18 @@ below_read w [] = Err BadRequest
 below_read w (instance ∷ words) =
     instance_id instance >>= λ i. request_read w words >>= λ asked. instance_in w i >>= λ own. begun_from (begins.Below own) asked
 
--- at the base
+-- at the base, for an instance if one is named, else for the file system
+abbrev pub based_read : World → List ℕ → List (List ℕ) → Result ℕ Status → Result Task Status
+based_read w first words (Ok i) = request_read w words >>= λ asked. instance_in w i >>= λ own. begun_from (begins.Base own) asked
+based_read w first words (Err why) = request_read w (first ∷ words) >>= begun_from begins.FileSystem
+
 abbrev pub at_base_read : World → List (List ℕ) → Result Task Status
-at_base_read w words = request_read w words >>= begun_from begins.Base
+at_base_read w [] = Err BadRequest
+at_base_read w (first ∷ words) = based_read w first words (instance_id first)
+
+-- at the top, for the cache or memory manager
+abbrev pub at_top_read : World → List (List ℕ) → Result Task Status
+at_top_read w words = request_read w words >>= begun_from begins.Top
 
 -- ---- other parameters for an operation that is held
 
@@ -362,6 +372,7 @@ ReadsAs w contexts keyword.Collect words result = result ≡ collect_read w word
 ReadsAs w contexts keyword.Phase words result = result ≡ phase_read w words
 ReadsAs w contexts keyword.Below words result = result ≡ below_read w words
 ReadsAs w contexts keyword.AtBase words result = result ≡ at_base_read w words
+ReadsAs w contexts keyword.AtTop words result = result ≡ at_top_read w words
 ReadsAs w contexts keyword.ChangeHeld words result = result ≡ change_held_read w words
 ReadsAs w contexts other words result =
     result ≡ cond (is_of_contexts other) (context_read contexts other words)

@@ -3,7 +3,7 @@
 //! that wasn't given is refused: 6, 7, 8, 14, 30 and 25 in this order, and 30 for a worker last.
 
 ghost use Rattle.std.specs.Prelude.{◌≡◌, IfOk, map};
-ghost use Rattle.fm_script.specs.Commands.{at_base_read, begun_from, below_read, request_read, span_read, size_read, other_params_read, params_read, change_held_read, Attaches, Creates, Loads, Mounts, ReadsAs, ReadsCreate, ReadsPlace, SetsUp, attach_at, base_read, collect_read, create_at, create_ids, create_mode_read, go_read, is_create, is_of_contexts, is_of_teardowns, list_read, next_read, option_read, phase_read, registration_read, resume_post_read, setup_at, setup_done_read, setup_ids, takes_bytes, turn_read, with_bytes_read};
+ghost use Rattle.fm_script.specs.Commands.{at_base_read, at_top_read, begun_from, below_read, request_read, span_read, size_read, other_params_read, params_read, change_held_read, Attaches, Creates, Loads, Mounts, ReadsAs, ReadsCreate, ReadsPlace, SetsUp, attach_at, base_read, collect_read, create_at, create_ids, create_mode_read, go_read, is_create, is_of_contexts, is_of_teardowns, list_read, next_read, option_read, phase_read, registration_read, resume_post_read, setup_at, setup_done_read, setup_ids, takes_bytes, turn_read, with_bytes_read};
 ghost use Rattle.fm_words.specs.Numbers.{id_read, number_read};
 ghost use Rattle.fm_script.specs.Tasks.{answered_read, ids_read, numbers_read, one_id, only_instance, only_volume, only_worker, or_bad, turn_in, with_worker, yes_or_no};
 
@@ -83,6 +83,7 @@ pub fn read_command(
         Keyword::Phase => read_phase(state, words),
         Keyword::Below => read_below(state, words),
         Keyword::AtBase => read_at_base(state, words),
+        Keyword::AtTop => read_at_top(state, words),
         Keyword::ChangeHeld => read_change_held(state, words),
         other if is_of_contexts(other) => read_context_command(contexts, other, words),
         other if is_of_teardowns(other) => read_teardown_command(state, other, words),
@@ -175,12 +176,32 @@ fn read_below(state: &State, words: &[&[u8]]) -> Result<Task, Status>
     begun_from(BeginsFrom::Below(instance), asked)
 }
 
-// `atbase REQUEST`: it begins at the base.
+// `atbase I REQUEST`: it begins at the base. Without the instance the file system asks.
 fn read_at_base(state: &State, words: &[&[u8]]) -> Result<Task, Status>
     ensures { result ≡ at_base_read state.now (map (λ word. word.now) words.now) }
 {
+    let Some((first, rest)) = words.split_first() else {
+        return Err(Status::BadRequest);
+    };
+    match id(b'i', first) {
+        Ok(instance) => {
+            let asked = read_request(state, rest)?;
+            let instance = instance_in(state, instance)?;
+            begun_from(BeginsFrom::Base(instance), asked)
+        }
+        Err(_) => {
+            let asked = read_request(state, words)?;
+            begun_from(BeginsFrom::FileSystem, asked)
+        }
+    }
+}
+
+// `attop REQUEST`: it begins at the top, as the cache or memory manager asks.
+fn read_at_top(state: &State, words: &[&[u8]]) -> Result<Task, Status>
+    ensures { result ≡ at_top_read state.now (map (λ word. word.now) words.now) }
+{
     let asked = read_request(state, words)?;
-    begun_from(BeginsFrom::Base, asked)
+    begun_from(BeginsFrom::Top, asked)
 }
 
 // `read OFFSET LEN`, without a handle.

@@ -76,6 +76,7 @@ pub enum Keyword {
     ChangeHeld,
     Below,
     AtBase,
+    AtTop,
 }
 
 // The keywords that begin with that letter.
@@ -86,7 +87,12 @@ fn beginning_with(letter: u8) -> &'static [Keyword]
     match letter {
         b'l' => &[Keyword::Load, Keyword::List, Keyword::Leaks, Keyword::Left],
         b'm' => &[Keyword::Mount],
-        b'a' => &[Keyword::Attach, Keyword::Alloc, Keyword::AtBase],
+        b'a' => &[
+            Keyword::Attach,
+            Keyword::Alloc,
+            Keyword::AtBase,
+            Keyword::AtTop,
+        ],
         b'n' => &[Keyword::Next],
         b'p' => &[Keyword::Pre, Keyword::Plan, Keyword::Post, Keyword::Phase],
         b'b' => &[Keyword::Base, Keyword::Body, Keyword::Bump, Keyword::Below],
@@ -159,7 +165,7 @@ fn spelled(keywords: &[Keyword], word: &[u8]) -> Option<Keyword>
 
 impl Keyword {
     /// All of them.
-    pub const ALL: [Keyword; 68] = [
+    pub const ALL: [Keyword; 69] = [
         Keyword::Load,
         Keyword::Mount,
         Keyword::Attach,
@@ -228,6 +234,7 @@ impl Keyword {
         Keyword::ChangeHeld,
         Keyword::Below,
         Keyword::AtBase,
+        Keyword::AtTop,
     ];
 
     /// The keyword that a word is, if it is one.
@@ -322,6 +329,7 @@ impl Keyword {
             Keyword::ChangeHeld => b"change_held",
             Keyword::Below => b"below",
             Keyword::AtBase => b"atbase",
+            Keyword::AtTop => b"attop",
         }
     }
 }

@@ -69,7 +69,7 @@ fn finish<W: Write>(alloc: Global, served: Result<ServerSummary, Fault>, out: &m
 }
 
 /// A server program of these filters, each ready to be loaded under its name, at what `prepare` made: the folder is volume 0, named v0, behind the Unix socket,
-/// and so many workers carry operations on. It prints `ready` once its threads are there and it takes connections, and at a Stop, after the last connection has
+/// and so many workers carry operations on. It prints `ready` once its workers take jobs and it takes connections, and at a Stop, after the last connection has
 /// ended and every filter was unloaded, how many contexts were allocated and cleaned up and how many references were left behind. The exit status: 0; 1 if a
 /// growth was refused, for the filters too, a thread couldn't be made, or something couldn't be closed at the end; 3, and `fault` is printed, if the folder, the
 /// socket or the writer failed.

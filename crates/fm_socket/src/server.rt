@@ -39,6 +39,9 @@ const LOOKS: u32 = 500;
 
 const PAUSE: u64 = 10;
 
+/// How many milliseconds lie between two looks at whether all workers take jobs.
+const LOOK: u64 = 1;
+
 /// What all threads of a server share.
 #[derive(Drop)]
 struct ServerShared<'a, F: Drop, L: Ledger, R: Wait> {
@@ -176,7 +179,7 @@ fn accept<R: Wait + Clock>(
     }
 }
 
-// Says that connections are taken.
+// Says that connections are taken. All workers take jobs then.
 fn say_ready<W: Write>(out: &mut W) -> Result<(), Fault> {
     out.write_all(b"ready\n").map_err(outside)?;
     out.flush().map_err(outside)
@@ -415,9 +418,25 @@ where
     })
 }
 
-// In a scope: a thread for each worker, and the connections beside them. If a thread can't be made, no connection is taken.
+// Waits until so many workers take jobs. Before that nobody could carry on what a filter begins for itself while it is asked.
+fn await_workers<F: Callbacks, L: Ledger, R: Wait + Clock>(
+    rt: &R,
+    manager: &Manager<F, L>,
+    workers: usize,
+) {
+    for _ in rt.forever() {
+        if manager.carriers() as usize >= workers {
+            return;
+        }
+        thread::sleep(rt, Duration::from_millis(LOOK));
+    }
+    unreachable!()
+}
+
+// In a scope: a thread for each worker, and the connections beside them once all workers take jobs. If a thread can't be made, no connection is taken.
 fn serve_in<'s, 'a: 's, 'c, E, F, L, R, D, W>(
     scope: &Scope<'s, E>,
+    manager: &Manager<F, L>,
     workers: IterMut<'s, ServerWorker<'a, F, L, R, D>>,
     connections: &Connections<'_, R>,
     all: &mut [Connection<'c, F, L, R, D>],
@@ -432,6 +451,7 @@ where
 {
     let (started, are_all) = start_workers(scope, workers);
     let served = if are_all {
+        await_workers(connections.rt(), manager, started);
         serve_connections(connections, all, listening)
     } else {
         listening.give_up()
@@ -461,7 +481,7 @@ where
     let rt = connections.rt();
     let every = workers.iter_mut();
     let (outcome, mut all) = thread::scope(thread::scope_env(), rt, |scope| {
-        let (started, served) = serve_in(scope, every, connections, &mut all, listening);
+        let (started, served) = serve_in(scope, manager, every, connections, &mut all, listening);
         let is_clean = end_connections(leftovers, &mut all, manager.filters(rt), started);
         (Outcome { is_clean, served }, all)
     });

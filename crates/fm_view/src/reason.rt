@@ -97,10 +97,10 @@ fn say_unasked(alloc: Global, text: &mut Text, refusal: &RefusedLine<'_>, status
 // Which limit or rule a line passes that could be read.
 fn past_a_limit(task: &Task) -> &'static str {
     match task {
-        Task::Event(Step::Begin(_) | Step::BeginFrom(BeginsFrom::Base, _)) => {
-            "one read or write has at most 32,768 bytes, and a file ends at 2^40 at most"
-        }
-        Task::Event(Step::BeginFrom(BeginsFrom::Below(_), _)) => {
+        Task::Event(
+            Step::Begin(_) | Step::BeginFrom(BeginsFrom::FileSystem | BeginsFrom::Top, _),
+        ) => { "one read or write has at most 32,768 bytes, and a file ends at 2^40 at most" }
+        Task::Event(Step::BeginFrom(BeginsFrom::Below(_) | BeginsFrom::Base(_), _)) => {
             "it is on another volume than the instance, or past a limit of 32,768 bytes or 2^40"
         }
         Task::Event(Step::WriteBody { .. }) => "the body has another length",
@@ -425,7 +425,7 @@ fn torn(task: &Task) -> Option<InstanceId> {
             Step::StartTeardown { instance, .. }
             | Step::CompleteTeardown { instance, .. }
             | Step::EnterRoutine { instance, .. }
-            | Step::BeginFrom(BeginsFrom::Below(instance), _)
+            | Step::BeginFrom(BeginsFrom::Below(instance) | BeginsFrom::Base(instance), _)
             | Step::Finish { instance },
         ) => Some(*instance),
         _ => None,

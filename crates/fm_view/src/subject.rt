@@ -78,7 +78,7 @@ pub fn instance_of(task: &Task, place: Place) -> Option<u64> {
             | Step::DrainTake { instance, .. }
             | Step::CompleteTeardown { instance, .. }
             | Step::EnterRoutine { instance, .. }
-            | Step::BeginFrom(BeginsFrom::Below(instance), _)
+            | Step::BeginFrom(BeginsFrom::Below(instance) | BeginsFrom::Base(instance), _)
             | Step::Finish { instance },
         ) => Some(u64::from(instance.0)),
         _ => instance_in(place),

@@ -54,6 +54,9 @@ fn usage_of_few(keyword: Keyword) -> &'static str {
             "I list, read, setsize, size, querysize, flush, delete, setdelete, cleanup or close"
         }
         Keyword::AtBase => {
+            "I (or none) list, read, setsize, size, querysize, flush, delete, setdelete, cleanup or close"
+        }
+        Keyword::AtTop => {
             "list, read, setsize, size, querysize, flush, delete, setdelete, cleanup or close"
         }
         _ => "W",

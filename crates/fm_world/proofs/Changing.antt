@@ -9,6 +9,7 @@ use Rattle.fm_operations.proofs.Holds.{held_pre}
 use Rattle.fm_operations.proofs.Placing.{changed_keeps, changed_says, changed_stays, sound_changed}
 use Rattle.fm_world.specs.Changes.{ChangesHeldAt, change_held_refused}
 unfoldable use Rattle.fm_world.specs.Changes.{ChangesHeld}
+use Rattle.fm_world.proofs.Asking.{goes_asked}
 use Rattle.fm_world.proofs.Callbacks.{not_false}
 use Rattle.fm_world.proofs.Events.{answers_by}
 use Rattle.fm_world.proofs.Filed.{file_step}
@@ -48,6 +49,8 @@ changed_sound old o i params held fits s =
           (changed_keeps (λ (y : FlowRecord). All (AskCarries old.stack old.contexts.slots) (owed y.entries)) params r (λ m kept. asks_of old o r x.at s.owned)
           (asks_of old o r x.at s.owned)) s.owned.completions)
           (quieter old o r f x.at (λ j. omega (arith, changed_says (flight j) params r (λ m kept. refl))) s.owned.quiet) s.owned;
+      begun = goes_asked old.stack old.flow o r f x.at (changed_says (λ (y : FlowRecord). y.below) params r (λ m kept. refl))
+          (changed_says (λ (y : FlowRecord). y.collected) params r (λ m kept. refl)) s.begun;
       filed = file_step old.files old.flow o r f x.at (record {
         stream = changed_says (λ (y : FlowRecord). y.stream) params r (λ m kept. refl);
         handle = changed_says (λ (y : FlowRecord). y.handle) params r (λ m kept. refl);

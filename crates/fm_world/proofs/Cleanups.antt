@@ -3,12 +3,14 @@ use Rattle.fm_world.proofs.Words.{hand_counted, references_cons, references_none
 use Rattle.fm_world.proofs.Words.{context_at-other, held, is_id, references, cleaned, emptied, taken_due, taken_of, is_open, change_context, context_at}
 use Rattle.fm_world.proofs.Words.{carried_among, carried_by, carried_in, total, finish_row, is_emptying, length-updated, updated-other, none_refuses, Cleans}
 use Rattle.fm_world.proofs.Words.{CleansAt, Finishes, TakesDue, after_due, filter_of, is_gone_at, totalled_for, names_there, AskCarries, CarriesIn, HoldsIn}
-use Rattle.fm_world.proofs.Words.{belongs, fits, is_flown, is_flown_by, place_in, row_at, IsOwned, IsSound, HasWorkers, IsUnderWay, Ask, Context, ContextTable}
+use Rattle.fm_world.proofs.Words.{belongs, fits, is_flown, is_flown_by, is_left_by, place_in, row_at, IsOwned, IsSound, HasWorkers, IsUnderWay, Ask, Context, ContextTable}
 use Rattle.fm_world.proofs.Words.{CtxId, Due, FilterId, FlowRecord, Instance, InstanceId, Owner, Phase, Slot, StackWorld, Status, WorkerId, cleaning_of}
 use Rattle.fm_world.proofs.Words.{finished, hand_of, is_emptying_at, one, open_of, owed, InstanceCallback, cleanup_in, put, worker_at, World, Place, All, Bool, Err, List}
 use Rattle.fm_world.proofs.Words.{None, Ok, Option, Result, Some, [], ap, arith, false, get_or, inl, length, nat_lt, not, option_map, refl, slice_get}
-use Rattle.fm_world.proofs.Words.{slice_set, subst, sym, true, ℕ, ◌<◌, ◌∙◌, ◌∷◌, ◌≡◌, and_from, and_parts, cases_eq, eq-eqb, ltb-false, ltb-true, common_steps}
+use Rattle.fm_world.proofs.Words.{slice_set, subst, sym, true, ℕ, ◌+◌, ◌<◌, ◌∙◌, ◌∷◌, ◌≡◌, ◌≤◌, and_from, and_parts, cases_eq, eq-eqb, ltb-false, ltb-true, common_steps}
 use Rattle.fm_world.proofs.Words.{get_or-set_other, get_or-set_same, All-cons, All-nil, none-some, slice_get_within}
+use Rattle.fm_operations.specs.Initiators.{begun_by}
+use Rattle.fm_world.specs.ContextEvents.{left_over}
 use Rattle.fm_stack.proofs.Finishing.{emptying_row, finished_follows, finished_keeps}
 use Rattle.fm_world.proofs.Belonging.{all_carry_still, all_hold_still, belongs_still, filters_same, filters_updated, link_stays, others_link, owner_stays}
 use Rattle.fm_world.proofs.Belonging.{owners_changed, owners_same, passes_changed}
@@ -61,6 +63,7 @@ take_due_at old k (Some c) at first s =
           (all_carry_still old.stack slots old.stack t.slots old.flow.operations
           (belongs_still old.stack slots old.stack t.slots (filters_same old.stack) owners) h.completions)
           (passes_changed (fits old.stack) (option_map emptied) slots c refl (λ x there fit. fit) h.fits) h.quiet h;
+      begun = s.begun;
       filed = s.filed;
       links = passes_changed (names_there old.files) (option_map emptied) slots c refl (λ x there named. named) s.links;
     }
@@ -181,6 +184,7 @@ cleaned_does old k number result new h = by_place (worker_at old.workers k) refl
             (at_none (Place.Cleanup c) refl)
             (at_none Place.Idle refl) s.under_way;
         owned = cleaned_owned old k c number at s;
+        begun = s.begun;
         filed = s.filed;
         links = passes_changed (names_there old.files) (λ (x : Option Context). None) old.contexts.slots c refl (λ x there named. refl) s.links;
       });
@@ -204,12 +208,15 @@ finish_workers d row n was h = grind arith
 finish_fits : (s : StackWorld) (i : InstanceId) (o : Option Context) → fits s o ≡ true → is_open (Owner.Instance i) o ≡ false → fits (finished s i) o ≡ true
 finish_fits s i o fit closed = grind (arith, and_parts, updated-other, and_from, owner_stays, eq-eqb, link_stays, others_link)
 
+none_over : (n m : ℕ) → n + m ≤ 0 → (n ≡ 0) × (m ≡ 0)
+none_over n m h = (omega (arith, h), omega (arith, h))
+
 pub finish_does : (old : World) (i : InstanceId) (result : Result (Unit {0}) Status) (new : World) → Finishes old i result new → Does old new
 unfolding Finishes
 finish_does old i (Err why) new h = unchanged old new h.1
 finish_does old i (Ok done) new h =
     makes old (record old { stack = finished old.stack i }) new h.1 (still old.contexts) (λ s.
-    let open' = open_of old.contexts.slots (Owner.Instance i) in
+    let open' = left_over old i in
     let at = row_at old.stack i in
     let frees = none_refuses ((is_gone_at at, Status.NoInstance) ∷ (not (is_emptying_at at), Status.WrongStep)
     ∷ (nat_lt 0 open', Status.Busy open') ∷ []) h.0 in
@@ -219,12 +226,14 @@ finish_does old i (Ok done) new h =
     let rows = old.stack.instances in
     let slots = old.contexts.slots in
     let k = s.owned in
-    let closed : open' ≡ 0 = omega (arith, ltb-false 0 open' frees.1.1.0) in
+    let none = none_over (open_of old.contexts.slots (Owner.Instance i)) (begun_by i.0 old.flow) (ltb-false 0 open' frees.1.1.0) in
     let belongs = belongs_still old.stack slots t slots (filters_updated old.stack t finish_row i.0 refl (λ row. refl)) (owners_same slots slots refl) in
     record {
       under_way = stack_changes old t (finished_keeps old.stack i s.under_way.stack row.0 row.1 row.2) (finished_follows old.stack i)
           (λ d j n. at_updated (λ x m. HasWorkers d (slice_get rows x) n → HasWorkers d m n) finish_row rows i.0 row.0 row.1
           (λ h. finish_workers d row.0 n emptying (subst (λ m. HasWorkers d m n) row.1 h)) (λ x apart h. h) j) s.under_way;
+      begun = λ j gone. at_updated (λ n m. is_left_by m ≡ false → begun_by n old.flow ≡ 0) finish_row rows i.0 row.0 row.1 (λ _. none.1)
+          (λ n apart gone. s.begun (record { 0 = n }) gone) j.0 gone;
       filed = s.filed;
       links = s.links;
       owned = record {
@@ -233,7 +242,7 @@ finish_does old i (Ok done) new h =
         holders = all_hold_still old.stack slots t slots old.workers old.contexts.hands belongs k.holders;
         completions = all_carry_still old.stack slots t slots old.flow.operations belongs k.completions;
         fits = λ n d l. finish_fits old.stack i (get_or slots n d).context (k.fits n d l)
-            (none_pass (λ (x : Slot). is_open (Owner.Instance i) x.context) slots closed n d l);
+            (none_pass (λ (x : Slot). is_open (Owner.Instance i) x.context) slots none.0 n d l);
         quiet = λ j rests. k.quiet j (at_updated (λ n m. is_flown_by m ≡ false → is_flown_by (slice_get rows n) ≡ false) finish_row rows i.0 row.0 row.1
             (λ _. ap is_flown_by row.1 ∙ ap is_flown emptying) (λ n apart h. h) j.0 rests);
         totals = k.totals;

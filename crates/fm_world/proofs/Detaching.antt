@@ -12,11 +12,12 @@ use Rattle.fm_stack.proofs.GoingOn.{passes_row}
 use Rattle.fm_stack.proofs.Teardowns.{completing_goes_on, emptying_goes_on, started_goes_on, starting_goes_on, stopped_goes_on}
 use Rattle.fm_stack.specs.Instances.{passes}
 use Rattle.fm_stack.specs.declared.instance.StartMark.{StartMark}
+use Rattle.fm_world.proofs.Asking.{left_asks}
 use Rattle.fm_world.proofs.Callbacks.{not_false}
 use Rattle.fm_world.proofs.Cases.{none_any, one_true}
 use Rattle.fm_world.proofs.Events.{answers_by, idle_by}
 use Rattle.fm_world.proofs.Keeps.{MovesWorkers, callback_enters, callback_place, callback_ends, follows_same, row_stays, row_updated}
-use Rattle.fm_world.proofs.Owning.{GoesOnAt, RowsGoOn, emptied_owned, goes_owned, goes_same, returns_owned, row_goes, rows_same}
+use Rattle.fm_world.proofs.Owning.{GoesOnAt, RowsGoOn, emptied_left, emptied_owned, goes_owned, goes_same, returns_owned, row_goes, rows_left, rows_same}
 use Rattle.fm_world.proofs.Staying.{Does, SlotsStay, hand_emptied, lasts, makes, nothing, slots_swept, still, table_after, table_same, unchanged}
 use Rattle.fm_stack.specs.Detaching as stack
 
@@ -69,6 +70,7 @@ ask_detach_does old k i result new h =
           (λ d m few moves h. asks_workers i row.0 d old.workers m row.2 (not_queried i old.workers tests.1) moves h) s.under_way.stack
           (follows_same old.stack) s.under_way;
       owned = goes_owned old k Place.Idle (Place.Query i) old.stack at refl refl refl (rows_same old old.stack refl) (omega arith) (λ v h. h) s;
+      begun = s.begun;
       filed = s.filed;
       links = s.links;
     })))
@@ -87,7 +89,13 @@ ends old new k a t at na leaves e filters volumes keeps = (
         let on = keeps s in
         let owned = returns_owned old k a t new.contexts at na on.0 (omega (arith, ap (λ (xs : List Filter). length xs) filters))
         (λ v h. ap (λ (xs : List Volume). holds_links_by (slice_get xs v)) volumes ∙ h) leaves s in
-        subst IsSound (sym e) (record { under_way = on.1; owned = owned.0; filed = s.filed; links = owned.1 });
+        subst IsSound (sym e) (record {
+          under_way = on.1;
+          owned = owned.0;
+          begun = left_asks old.stack t old.flow (rows_left old t on.0) s.begun;
+          filed = s.filed;
+          links = owned.1;
+        });
     lasts = λ s. lasts old new new.contexts refl (table_same old.contexts new.contexts leaves.slots leaves.cleaning);
   },
   (hand_emptied k.0 old new leaves.hands).1,
@@ -174,6 +182,8 @@ start_teardown_does old k i result new h =
               (goes_on_keeps old.stack t goes s.under_way.stack) (goes_on_follows old.stack t goes) s.under_way;
           owned = goes_owned old k Place.Idle (Place.Start i) t at refl refl refl
               (row_goes old t i.0 row.0 (change row.0) changes (goes_same old i.0 row.0 (change row.0) refl refl)) (omega arith) (λ v h. h) s;
+          begun = left_asks old.stack t old.flow
+              (rows_left old t (row_goes old t i.0 row.0 (change row.0) changes (goes_same old i.0 row.0 (change row.0) refl refl))) s.begun;
           filed = s.filed;
           links = s.links;
         })
@@ -248,6 +258,8 @@ complete_teardown_does old k i result new h =
               (goes_on_keeps old.stack t goes s.under_way.stack) (goes_on_follows old.stack t goes) s.under_way;
           owned = goes_owned old k Place.Idle (Place.Complete i) t at refl refl refl
               (row_goes old t i.0 row.0 (change row.0) changes (complete_goes old i.0 row.0 none.0)) (omega arith) (λ v h. h) s;
+          begun = left_asks old.stack t old.flow
+              (rows_left old t (row_goes old t i.0 row.0 (change row.0) changes (complete_goes old i.0 row.0 none.0))) s.begun;
           filed = s.filed;
           links = s.links;
         })
@@ -279,6 +291,7 @@ complete_returned_does old k result new h = by_place (worker_at old.workers k) r
                   under_way = callback_ends old k (Place.Complete i) i t row.0 (change row.0) at refl refl (row_updated old.stack t change i.0 row.0 refl row.1)
                       (empty_workers i row.0 row.2) (goes_on_keeps old.stack t goes s.under_way.stack) (goes_on_follows old.stack t goes) s.under_way;
                   owned = owned.0;
+                  begun = left_asks old.stack t old.flow (λ j. emptied_left old.stack i j row.0 row.1) s.begun;
                   filed = s.filed;
                   links = owned.1;
                 });

@@ -53,7 +53,7 @@ drop_handle_does old v (Ok answer) new h = by_option (λ m. Drops old answer new
   where
     closes : (x : FileHandle) → lowest_on v old.files ≡ Some x → LosesLinks (dropped old x) new → Does old new
     closes x at h = record {
-      sound = λ s. loses_sound (dropped old x) new h s.under_way s.owned (file_closed old.files old.flow (is_handle_on v old.files) x at s.filed);
+      sound = λ s. loses_sound (dropped old x) new h s.under_way s.owned s.begun (file_closed old.files old.flow (is_handle_on v old.files) x at s.filed);
       lasts = λ s. loses_lasts old (dropped old x) new h (still old.contexts);
     }
 
@@ -96,6 +96,7 @@ empty_volume_does old v (Ok done) new h =
         sound = λ s. subst IsSound (sym (h.2 ∙ ap (λ x. record old { stack = x; contexts = new.contexts }) h.0.1)) (record {
           under_way = stack_changes old t (goes_on_keeps old.stack t goes s.under_way.stack) (goes_on_follows old.stack t goes) (λ d i n h. h) s.under_way;
           owned = emptied_owned old v new.contexts sweeps s.owned;
+          begun = s.begun;
           filed = s.filed;
           links = sweeps_named old test new.contexts sweeps s.links;
         });

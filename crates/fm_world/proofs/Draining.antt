@@ -14,6 +14,8 @@ use Rattle.fm_operations.proofs.Drains.{stays_early, stays_over}
 use Rattle.fm_operations.proofs.Counting.{flight_few}
 use Rattle.fm_world.specs.EarlyDrains.{DrainReturns, DrainReturnsAt, DrainsWhere, GivesDrain, TakesDrain, is_stopping_at}
 use Rattle.fm_world.specs.Hands.{given_by_drain}
+use Rattle.fm_world.specs.Sound.{NoneBegun}
+use Rattle.fm_world.proofs.Asking.{goes_asked, gone_asked}
 use Rattle.fm_world.proofs.Amongs.{among_drain, among_over, drain_unseen, over_unseen}
 use Rattle.fm_world.proofs.Belonging.{AllPass}
 use Rattle.fm_world.proofs.Callbacks.{same_hands}
@@ -85,6 +87,7 @@ module _ (old : World) (k : WorkerId) (o : OpId) (i : InstanceId) (r : FlowRecor
             (subst (λ (x : Completion). CarriesIn old.stack old.contexts.slots had.0.instance x.context) had.3 had.1))
             (owes_early (AskCarries old.stack old.contexts.slots) i r asks)
             (quieter old o r f at (λ j. omega (arith, flies_early i r j owes sound)) s.owned.quiet) s.owned;
+        begun = goes_asked old.stack old.flow o r f at refl refl s.begun;
         filed = file_step old.files old.flow o r f at (record { stream = refl; handle = refl; creating = early_uncreated i r (f r) refl }) s.filed;
         links = subst (AllPass (names_there old.files)) (sym (brought_same completion.context).0) s.links;
       }
@@ -224,11 +227,20 @@ module _ (old : World) (k : WorkerId) (o : OpId) (i : InstanceId) (r : FlowRecor
       (λ j. omega (arith, drains_over i r j runs)))
       (at_none (Place.EarlyDrain o i) refl) (at_none Place.Idle refl) u
 
+  over_asked : IsSound old → NoneBegun old.stack (changed o (early_over i) old.flow)
+  over_asked s = goes_asked old.stack old.flow o r (early_over i) at refl refl s.begun
+
   -- the operation stays
   over_stays : is_spent (early_over i r) ≡ false → IsSound old → IsSound (over_with (changed o (early_over i) old.flow))
   over_stays needed s =
       let kept = over_kept s in
-      record { under_way = with_laws (over_moves s) (flow_over old.flow o i r at runs needed s.under_way.flow); owned = kept.0; filed = kept.1; links = kept.2 }
+      record {
+        under_way = with_laws (over_moves s) (flow_over old.flow o i r at runs needed s.under_way.flow);
+        owned = kept.0;
+        begun = over_asked s;
+        filed = kept.1;
+        links = kept.2;
+      }
 
   -- it goes after that
   over_goes : is_done r ≡ true → list_any is_running_drain (early_over i r).entries ≡ false → IsSound old
@@ -249,6 +261,7 @@ module _ (old : World) (k : WorkerId) (o : OpId) (i : InstanceId) (r : FlowRecor
                   (f r) here,
               done_carries (f r) over c,
             )) kept.0.lawful) kept.0;
+        begun = gone_asked old.stack mid.flow o (over_asked s);
         filed = file_gone old.files o mid.flow (f r) here over kept.1;
         links = kept.2;
       }

@@ -5,7 +5,7 @@ use Rattle.fm_world.proofs.Words.{CtxId, Descending, FlowRecord, FlowTable, Hand
 use Rattle.fm_world.proofs.Words.{OpId, Params, Request, StackWorld, Status, StreamId, VolumeId, World, carried, drain_opens, flight}
 use Rattle.fm_world.proofs.Words.{is_creating, is_number, operation_at, owed, slice_get_within, all_change, found_holds, lawful_alike, none_refuses, first_of}
 use Rattle.fm_world.proofs.Words.{All, Bool, List, None, Option, Result, Some, [], ap, arith, cond, false, find, length, refl}
-use Rattle.fm_world.proofs.Words.{subst, sym, true, ℕ, ◌++◌, ◌<◌, ◌==◌, ◌∙◌, ◌∷◌, ◌≡◌, ◌≤◌, All-head, All-tail, All-nil}
+use Rattle.fm_world.proofs.Words.{subst, sym, true, ℕ, ◌++◌, ◌<◌, ◌==◌, ◌∙◌, ◌∷◌, ◌≡◌, ◌≤◌, All-head, All-tail, All-nil, none-some}
 use Rattle.fm_world.proofs.Words.{eq-eqb, ne_eqb, same_Some}
 use Rattle.fm_operations.specs.Sound as flow
 use Rattle.fm_operations.specs.Table.{is_spent, placed}
@@ -21,7 +21,8 @@ use Rattle.fm_world.proofs.Flowing.{asks_of, carried_changed, carry_changed, flo
 use Rattle.fm_world.proofs.Requests.{begun_by, begun_sound, none_else}
 use Rattle.fm_world.proofs.Staying.{Does, TableStays, contexts_in, makes, nothing, still}
 use Rattle.fm_world.proofs.Ties.{standing, told_same}
-use Rattle.fm_world.specs.declared.begins_from.BeginsFrom.TheVariants as begins
+use Rattle.fm_world.specs.Initiators.{asker_of, asker_refusals, born_from}
+use Rattle.fm_world.proofs.Asking.{placed_asked}
 
 -- ---- the operation that has just begun
 
@@ -76,13 +77,26 @@ among_of s r below born new stack past there =
 row_there : (m : Option Instance) → is_left_by m ≡ true → (row : Instance) × (m ≡ Some row)
 row_there m h = grind arith
 
-new_among : (s : StackWorld) (r : FlowRecord) (from : BeginsFrom) → IsNew r → IsStack s
-    → ((i : InstanceId) → from ≡ begins.Below i → is_left_by (row_at s i) ≡ true) → IsAmong s (placed_from s.births from r)
-new_among s r (BeginsFrom.Below i) new stack left =
+-- whoever asks for an operation is there
+abbrev pub AskerIsThere : StackWorld → BeginsFrom → Type 0
+AskerIsThere s from = (i : InstanceId) → asker_of from ≡ Some i → is_left_by (row_at s i) ≡ true
+
+born_past : (births : ℕ) (from : BeginsFrom) → born_from births from ≤ births
+born_past births (BeginsFrom.Below i) = omega arith
+born_past births (BeginsFrom.Base i) = omega arith
+born_past births BeginsFrom.FileSystem = omega arith
+born_past births BeginsFrom.Top = omega arith
+
+asker_within : (s : StackWorld) (m : Option InstanceId) → ((i : InstanceId) → m ≡ Some i → is_left_by (row_at s i) ≡ true)
+    → All (λ n. n < length s.instances) (trail m [])
+asker_within s None left = All-nil (λ n. n < length s.instances)
+asker_within s (Some i) left =
     let row = row_there (row_at s i) (left i refl) in
-    among_of s r (Some i) s.births new stack (omega arith)
-    (All-cons (λ n. n < length s.instances) i.0 [] (slice_get_within s.instances i.0 row.0 row.1) (All-nil (λ n. n < length s.instances)))
-new_among s r BeginsFrom.Base new stack left = among_of s r None 0 new stack (omega arith) (All-nil (λ i. i < length s.instances))
+    All-cons (λ n. n < length s.instances) i.0 [] (slice_get_within s.instances i.0 row.0 row.1) (All-nil (λ n. n < length s.instances))
+
+new_among : (s : StackWorld) (r : FlowRecord) (from : BeginsFrom) → IsNew r → IsStack s → AskerIsThere s from → IsAmong s (placed_from s.births from r)
+new_among s r from new stack left =
+    among_of s r (asker_of from) (born_from s.births from) new stack (born_past s.births from) (asker_within s (asker_of from) left)
 
 -- what a step of an operation has to leave alone
 record Keeps (f : FlowRecord → FlowRecord) (r : FlowRecord) : Type 0 where
@@ -95,38 +109,29 @@ record Keeps (f : FlowRecord → FlowRecord) (r : FlowRecord) : Type 0 where
   pub handle : (f r).handle ≡ r.handle
 
 placed_keeps : (births : ℕ) (from : BeginsFrom) (r : FlowRecord) → Keeps (placed_from births from) r
-placed_keeps births (BeginsFrom.Below i) r =
-    record { number = refl; collected = refl; entries = refl; stage = refl; operation = refl; stream = refl; handle = refl }
-placed_keeps births BeginsFrom.Base r =
+placed_keeps births from r =
     record { number = refl; collected = refl; entries = refl; stage = refl; operation = refl; stream = refl; handle = refl }
 
 placed_sound : (births : ℕ) (from : BeginsFrom) (r : FlowRecord) → flow.IsSound r → flow.IsSound (placed_from births from r)
-placed_sound births (BeginsFrom.Below i) r h = sound_placed (Some i) births r h
-placed_sound births BeginsFrom.Base r h = sound_placed None 0 r h
+placed_sound births from r h = sound_placed (asker_of from) (born_from births from) r h
 
 placed_creating : (births : ℕ) (from : BeginsFrom) (r : FlowRecord) → is_creating (placed_from births from r) ≡ is_creating r
-placed_creating births (BeginsFrom.Below i) r = refl
-placed_creating births BeginsFrom.Base r = refl
+placed_creating births from r = refl
 
 placed_unspent : (births : ℕ) (from : BeginsFrom) (r : FlowRecord) → is_spent r ≡ false → is_spent (placed_from births from r) ≡ false
-placed_unspent births (BeginsFrom.Below i) r h = h
-placed_unspent births BeginsFrom.Base r h = h
+placed_unspent births from r h = h
 
 placed_stands : (births : ℕ) (from : BeginsFrom) (x : Spot) (r : FlowRecord) → standing x (placed_from births from r) ≡ standing x r
-placed_stands births (BeginsFrom.Below i) x r = refl
-placed_stands births BeginsFrom.Base x r = refl
+placed_stands births from x r = refl
 
 placed_drains : (births : ℕ) (from : BeginsFrom) (i : ℕ) (r : FlowRecord) → drain_opens i (placed_from births from r).entries ≡ drain_opens i r.entries
-placed_drains births (BeginsFrom.Below j) i r = refl
-placed_drains births BeginsFrom.Base i r = refl
+placed_drains births from i r = refl
 
 placed_flies : (births : ℕ) (from : BeginsFrom) (i : ℕ) (r : FlowRecord) → flight i (placed_from births from r) ≡ flight i r
-placed_flies births (BeginsFrom.Below j) i r = refl
-placed_flies births BeginsFrom.Base i r = refl
+placed_flies births from i r = refl
 
 placed_carries : (births : ℕ) (from : BeginsFrom) (c : CtxId) (r : FlowRecord) → carried_by c (placed_from births from r) ≡ carried_by c r
-placed_carries births (BeginsFrom.Below j) c r = refl
-placed_carries births BeginsFrom.Base c r = refl
+placed_carries births from c r = refl
 
 pub placed_balance : (births : ℕ) (t : FlowTable) (o : OpId) (r : FlowRecord) (from : BeginsFrom) → operation_at o t ≡ Some r → (c : CtxId)
     → carried c t ≡ carried c (changed o (placed_from births from) t)
@@ -145,8 +150,7 @@ placed_filed births f o t r from at h =
     (record { stream = keeps.stream; handle = keeps.handle; creating = creating }) (stands_in f t h))
 
 pub placed_holds : (w : World) (o : OpId) (r : FlowRecord) (from : BeginsFrom) → operation_at o w.flow ≡ Some r → IsNew r
-    → ((i : InstanceId) → from ≡ begins.Below i → is_left_by (row_at w.stack i) ≡ true) → IsSound w
-    → IsSound (placed_at o from w)
+    → AskerIsThere w.stack from → IsSound w → IsSound (placed_at o from w)
 placed_holds w o r from at new left s =
     let births = w.stack.births in
     let f = placed_from births from in
@@ -171,6 +175,7 @@ placed_holds w o r from at new left s =
           (carry_changed w.stack w.contexts.slots w.flow o r f at
           (subst (λ es. All (AskCarries w.stack w.contexts.slots) (owed es)) (sym (keeps r).entries) (asks_of w o r at s.owned)) s.owned.completions)
           (quieter w o r f at (λ i. omega (arith, placed_flies births from i r)) s.owned.quiet) s.owned;
+      begun = placed_asked w.stack w.flow o r (asker_of from) (born_from births from) at left s.begun;
       filed = placed_filed births w.files o w.flow r from at s.filed;
       links = s.links;
     }
@@ -180,16 +185,16 @@ placed_holds w o r from at new left s =
 same_hands : (old new : World) → new.contexts ≡ old.contexts → KeepsHands old new
 same_hands old new same n = grind arith
 
+asker_there : (w : World) (m : Option InstanceId) (what : Request) → first_of (asker_refusals w m what) ≡ None → (i : InstanceId) → m ≡ Some i
+    → is_left_by (row_at w.stack i) ≡ true
+asker_there w None what free i is = absurd (none-some i is)
+asker_there w (Some j) what free i is =
+    let left = not_false (is_left_by (row_at w.stack j)) (none_refuses (asker_refusals w (Some j) what) free).0 in
+    subst (λ (n : InstanceId). is_left_by (row_at w.stack n) ≡ true) (same_Some j i is) left
+
 -- where nothing refuses it, the instance that asks is there
-pub asks_there : (w : World) (from : BeginsFrom) (what : Request) → first_of (from_refusals w from what) ≡ None
-    → (i : InstanceId) → from ≡ begins.Below i → is_left_by (row_at w.stack i) ≡ true
-asks_there w (BeginsFrom.Below j) what free i is =
-    let left = not_false (is_left_by (row_at w.stack j)) (none_refuses (from_refusals w (begins.Below j) what) free).0 in
-    subst (λ (n : InstanceId). is_left_by (row_at w.stack n) ≡ true) (same_below j i is) left
-  where
-    same_below : (j i : InstanceId) → begins.Below j ≡ begins.Below i → j ≡ i
-    same_below j i is = cc
-asks_there w BeginsFrom.Base what free i is = absurd (cc)
+pub asks_there : (w : World) (from : BeginsFrom) (what : Request) → first_of (from_refusals w from what) ≡ None → AskerIsThere w.stack from
+asks_there w from what free = asker_there w (asker_of from) what free
 
 pub begin_from_does : (old : World) (from : BeginsFrom) (what : Request) (result : Result OpId Status) (new : World) → BeginsLower old from what result new
     → Does old new × KeepsHands old new

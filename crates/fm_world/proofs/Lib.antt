@@ -2,6 +2,7 @@ pub mod Words
 pub mod Cases
 pub mod Descents
 pub mod Ties
+pub mod Asking
 pub mod Amongs
 pub mod Keeps
 pub mod Operations

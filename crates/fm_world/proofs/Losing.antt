@@ -3,6 +3,7 @@ use Rattle.fm_world.proofs.Words.{sweep_keeps, with_link, swept, swept_slot, wit
 use Rattle.fm_world.proofs.Words.{is_there, names_there, fits, IsOwned, IsSound, IsUnderWay, Context, ContextTable, HandleId, Object, Operation, Slot, Sweeps}
 use Rattle.fm_world.proofs.Words.{VolumeId, WorkerId, change_first, hand_of, World, carries, HandlePhase, Bool, List, None, Option, Some, [], ap, arith, cond}
 use Rattle.fm_world.proofs.Words.{false, find, is_some, map, not, refl, subst, sym, true, ℕ, ◌++◌, ◌∙◌, ◌∷◌, ◌≡◌, false≢true}
+use Rattle.fm_world.specs.Sound.{NoneBegun}
 use Rattle.fm_world.proofs.Belonging.{AllPass, fits_unlinked, owners_after, owners_same, owners_swept, passes_swept}
 use Rattle.fm_world.proofs.Callbacks.{contexts_owned, same_hand, same_hands}
 use Rattle.fm_world.proofs.Cases.{by_bool}
@@ -54,10 +55,11 @@ loses_named old new h =
     subst NamedIn (sym h.1) (subst (AllPass (names_there old.files)) (sym h.0.slots) left)
 
 -- where all but the links held, all holds
-pub loses_sound : (old new : World) → LosesLinks old new → IsUnderWay old → IsOwned old → FiledIn old → IsSound new
-loses_sound old new h under_way owned filed = record {
+pub loses_sound : (old new : World) → LosesLinks old new → IsUnderWay old → IsOwned old → NoneBegun old.stack old.flow → FiledIn old → IsSound new
+loses_sound old new h under_way owned begun filed = record {
   under_way = subst IsUnderWay (sym h.1) under_way;
   owned = loses_owned old new h owned;
+  begun = subst (λ w. NoneBegun w.stack w.flow) (sym h.1) begun;
   filed = subst FiledIn (sym h.1) filed;
   links = loses_named old new h;
 }

@@ -10,6 +10,8 @@ use Rattle.fm_world.proofs.Words.{slice_set, subst, sym, true, ℕ, ◌++◌, �
 use Rattle.fm_world.proofs.Words.{All-nil, same_Some, slice_get_within}
 use Rattle.fm_stack.proofs.Registering.{mounted_follows, mounted_keeps, registered_follows, registered_keeps}
 use Rattle.fm_types.specs.declared.registration.Registration.{Registration}
+use Rattle.fm_world.specs.Sound.{NoneBegun}
+use Rattle.fm_world.proofs.Asking.{left_asks}
 use Rattle.fm_world.proofs.Belonging.{AllCarry, AllFit, AllPass, FiltersStay, OwnersStay, VolumesStay, all_carry_still, all_hold_still, belongs_still}
 use Rattle.fm_world.proofs.Belonging.{filters_updated, fits_on, link_stays, others_link, owner_stays, owners_after, owners_same, owners_swept, passes_swept}
 use Rattle.fm_world.proofs.Callbacks.{owned_with, same_hands}
@@ -64,7 +66,7 @@ row_test w t read none test on j h =
     let after = on j.0 row.0 row.1 in
     ap read after.1 ∙ test j.0 row.0 after.0 after.2 (sym (ap read row.1) ∙ h)
 
-rows_left : (w : World) (t : StackWorld) → RowsGoOn w t → (j : InstanceId) → is_left_by (row_at w.stack j) ≡ true → is_left_by (row_at t j) ≡ true
+pub rows_left : (w : World) (t : StackWorld) → RowsGoOn w t → (j : InstanceId) → is_left_by (row_at w.stack j) ≡ true → is_left_by (row_at t j) ≡ true
 rows_left w t on = row_test w t is_left_by refl (λ j x y goes h. goes.left h) on
 
 rows_keep : (w : World) (t : StackWorld) → RowsGoOn w t → (j : InstanceId) → keeps_links_by (row_at w.stack j) ≡ true → keeps_links_by (row_at t j) ≡ true
@@ -112,6 +114,7 @@ stack_does old new t is e same keeps filters volumes =
     record {
       under_way = stack_changes old t stack.0 stack.1 (λ d j n h. subst (λ (xs : List Instance). HasWorkers d (slice_get xs j) n) (sym same) h) s.under_way;
       owned = stack_owned old t (rows_same old t same) filters volumes s.owned;
+      begun = left_asks old.stack t old.flow (rows_left old t (rows_same old t same)) s.begun;
       filed = s.filed;
       links = s.links;
     })
@@ -201,6 +204,7 @@ attach_does old k f v name altitude result new h =
         (e ∙ ap (λ x. record old { stack = x; workers = put old.workers k (Place.Setup i) }) h.1.1) (still old.contexts) (λ s. record {
           under_way = attach_keeps old k f v name altitude i at h.0 h.1.0 s.under_way;
           owned = goes_owned old k Place.Idle (Place.Setup i) t at refl refl refl on (omega arith) (λ v h. h) s;
+          begun = left_asks old.stack t old.flow (rows_left old t on) s.begun;
           filed = s.filed;
           links = s.links;
         })
@@ -236,7 +240,7 @@ returns_owned old k a t left at na on filters volumes leaves s = (
   subst (AllPass (names_there old.files)) (sym leaves.slots) s.links,
 )
 
-emptied_left : (s : StackWorld) (i j : InstanceId) (row : Instance) → slice_get s.instances i.0 ≡ Some row
+pub emptied_left : (s : StackWorld) (i j : InstanceId) (row : Instance) → slice_get s.instances i.0 ≡ Some row
     → is_left_by (row_at s j) ≡ true → is_left_by (row_at (stack.refused s i) j) ≡ true
 emptied_left s i j row there =
     at_updated (λ n m. is_left_by (slice_get s.instances n) ≡ true → is_left_by m ≡ true) refuse_row s.instances i.0 row there (λ h. refl) (λ n apart h. h) j.0
@@ -303,6 +307,24 @@ setup_owned old k i accept (Err why) new left at h leaves empties e s =
     subst OwnsAndNames (sym (e ∙ ap (λ x. record old { stack = x; workers = put old.workers k Place.Idle; contexts = new.contexts }) h.1))
     (emptied_owned old k (Place.Setup i) i row.0 left new.contexts at refl row.1 (ap is_flown (setup_is row.0.phase row.2)) leaves empties s)
 
+setup_asked : (old : World) (k : WorkerId) (i : InstanceId) (accept : Bool) (result : Result (Unit {0}) Status) (new : World)
+    → worker_at old.workers k ≡ Some (Place.Setup i) → stack.SetsUp old.stack i accept result new.stack
+    → new ≡ record old { stack = new.stack; workers = put old.workers k Place.Idle; contexts = new.contexts } → IsSound old → NoneBegun new.stack new.flow
+unfolding stack.SetsUp
+setup_asked old k i accept (Ok done) new at h e s =
+    let row = setup_place old k i s.under_way at in
+    let t = stack.accepted old.stack i in
+    let on = row_goes old t i.0 row.0 (accept_row old.stack.births row.0)
+    (row_updated old.stack t (accept_row old.stack.births) i.0 row.0 refl row.1) (accepted_goes old i row.0 row.2) in
+    subst (λ (w : World). NoneBegun w.stack w.flow)
+    (sym (e ∙ ap (λ x. record old { stack = x; workers = put old.workers k Place.Idle; contexts = new.contexts }) h.1))
+    (left_asks old.stack t old.flow (rows_left old t on) s.begun)
+setup_asked old k i accept (Err why) new at h e s =
+    let row = setup_place old k i s.under_way at in
+    subst (λ (w : World). NoneBegun w.stack w.flow)
+    (sym (e ∙ ap (λ x. record old { stack = x; workers = put old.workers k Place.Idle; contexts = new.contexts }) h.1))
+    (left_asks old.stack (stack.refused old.stack i) old.flow (λ j. emptied_left old.stack i j row.0 row.1) s.begun)
+
 emptied : (old : World) (i : InstanceId) (left after : ContextTable) (result : Result (Unit {0}) Status) → EmptiesUnless result i old left after
     → TableStays left after × (after.hands ≡ left.hands)
 emptied old i left after (Ok done) same = (subst (TableStays left) (sym same) (still left), ap (λ (t : ContextTable). t.hands) same)
@@ -323,6 +345,7 @@ setup_does old k accept result new h = by_place (worker_at old.workers k) refl h
                 record {
                   under_way = setup_keeps old k i accept result new at e.0 e.4 s.under_way;
                   owned = owned.0;
+                  begun = setup_asked old k i accept result new at e.0 e.4 s;
                   filed =
                       subst FiledIn (sym e.4) s.filed;
                   links = owned.1;

@@ -15,6 +15,7 @@ use Rattle.std.proofs.Common.{◌-◌, ◌^◌}
 use Rattle.fm_operations.proofs.Requests.{flow_begins, flow_collects}
 use Rattle.fm_stack.proofs.Visits.{is_to_visit_few}
 use Rattle.std.specs.Cmp.Lexicographic.{bytes_decides}
+use Rattle.fm_world.proofs.Asking.{comes_asked, gone_asked, marked_asked}
 use Rattle.fm_world.proofs.Amongs.{among_begins}
 use Rattle.fm_world.proofs.Belonging.{AllPass}
 use Rattle.fm_world.proofs.Cases.{by_bool}
@@ -119,6 +120,7 @@ operation_sound old v stream handle path p files on within free filed links s =
           (All-push (λ (x : FlowRecord). All (AskCarries old.stack old.contexts.slots) (owed x.entries)) old.flow.operations r s.owned.completions
           (All-nil (AskCarries old.stack old.contexts.slots)))
           (λ i rests. total_push (flight i.0) old.flow.operations r refl ∙ s.owned.quiet i rests) s.owned;
+      begun = comes_asked old.stack old.flow r (old.flow.next + 1) refl s.begun;
       filed = filed;
       links = links;
     }
@@ -387,12 +389,14 @@ collect_does old o result new h = makes old (record old { flow = collected_of o 
       owned = flow_owned old (changed o marked old.flow) lawful
           (carry_changed old.stack old.contexts.slots old.flow o r marked at (asks_of old o r at s.owned) s.owned.completions)
           (quieter old o r marked at (λ i. omega arith) s.owned.quiet) s.owned;
+      begun = marked_asked old.stack old.flow o r at s.begun;
       filed = filed;
       links = s.links;
     })
     (λ r at done d flow lawful filed. record {
       under_way = goes_keeps old o r at done d flow (in_step u);
       owned = goes_owned old o r at lawful s.owned;
+      begun = gone_asked old.stack old.flow o s.begun;
       filed = filed;
       links = s.links;
     })

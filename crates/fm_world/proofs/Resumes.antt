@@ -13,6 +13,7 @@ use Rattle.fm_operations.specs.declared.hold.Hold.{Hold}
 use Rattle.fm_operations.specs.Holds.{is_held}
 use Rattle.fm_operations.proofs.Holds.{held_pre, held_post}
 use Rattle.fm_operations.proofs.Resumes.{sound_pre_resumed, pre_resumed_carries, pre_resumed_flies, sound_post_resumed, post_resumed_carries, post_resumed_flies}
+use Rattle.fm_world.proofs.Asking.{goes_asked}
 use Rattle.fm_world.proofs.Amongs.{among_settles, settle_post_keeps, settle_pre_keeps}
 use Rattle.fm_world.proofs.Belonging.{AllCarry, AllFit, all_without, belongs_still, filters_same, owners_same}
 use Rattle.fm_world.proofs.Callbacks.{not_false, owned_with, same_hands}
@@ -148,6 +149,7 @@ pre_resumed_sound old k o i given new place held loses s =
     s.owned.completions))
     (subst (AllFit old.stack) (sym rests.0) s.owned.fits)
     (quieter old o r f x.at (λ j. omega (arith, pre_resumed_flies j state r at.0 x.sound)) s.owned.quiet) s.owned)
+    (goes_asked old.stack old.flow o r f x.at refl refl s.begun)
     (subst (λ (files : FileTable). IsFileSound files t)
     (sym (told_there (λ (y : FlowRecord). after_pre state y.operation y.stream (is_created_on y.stream t) old.files) old.files o old.flow r x.at))
     (file_decided old.files old.flow o r state f x.at (ap is_unanswered at.0) (record {
@@ -227,6 +229,7 @@ post_resumed_sound old o i held s =
           (subst (All (AskCarries old.stack old.contexts.slots)) (sym (owed_post_settled PostHeld r.entries post.Finished refl course))
           (asks_of old o r x.at s.owned)) s.owned.completions)
           (quieter old o r f x.at (λ j. omega (arith, post_resumed_flies j r stage x.sound)) s.owned.quiet) s.owned;
+      begun = goes_asked old.stack old.flow o r f x.at refl refl s.begun;
       filed = file_step old.files old.flow o r f x.at (answered_same r (f r) refl refl (ap is_unanswered stage) refl) s.filed;
       links = s.links;
     }

@@ -24,6 +24,8 @@ use Rattle.fm_operations.proofs.Returns.{post_returned_flies, pre_returned_carri
 use Rattle.fm_operations.proofs.Returns.{sound_pre_returned}
 use Rattle.fm_operations.proofs.Owed.{owed_push_none}
 use Rattle.fm_world.specs.Events.{ReturnsFrom}
+use Rattle.fm_world.specs.Sound.{NoneBegun}
+use Rattle.fm_world.proofs.Asking.{goes_asked}
 use Rattle.fm_world.proofs.Amongs.{among_base, among_settles, is_up, no_base, settle_drain_keeps, settle_post_keeps, settle_pre_keeps}
 use Rattle.fm_world.proofs.Belonging.{AllPass, held_has}
 use Rattle.fm_world.proofs.Callbacks.{same_hands}
@@ -190,6 +192,7 @@ pre_sound old k o i given lent after new at fits leaves loses s =
     (subst (λ x. CarriesIn old.stack slots x (sent_in state)) (sym visited)
     (sent_owned old k i (sent_in state) (ap place_in at) has s)) (asks_of old o r x.0.at s.owned)))
     (λ j. omega (arith, pre_returned_flies j state lent r x.1 x.0.sound)) s.owned)
+    (goes_asked old.stack old.flow o r f x.0.at refl refl s.begun)
     (subst (λ (files : FileTable). IsFileSound files t)
     (sym (told_there (λ (x : FlowRecord). after_pre state x.operation x.stream (is_created_on x.stream t) old.files) old.files o old.flow r x.0.at))
     (file_decided old.files old.flow o r state f x.0.at (ap is_unanswered x.1)
@@ -277,6 +280,7 @@ base_sound old k o call given new at fits loses s =
     (subst (All (AskCarries old.stack slots)) (sym (owed_push_none r.entries (Base counts.status counts.information) refl (λ i. refl)))
     (asks_of old o r x.0.at s.owned))
     (quieter old o r f x.0.at (λ i. omega (arith, base_returned_flies i call given handle r)) s.owned.quiet) s.owned)
+    (goes_asked old.stack old.flow o r f x.0.at refl refl s.begun)
     (subst (λ (files : FileTable). IsFileSound files t) (sym (told_there (filed_record old.files t given.status) old.files o old.flow r x.0.at))
     (file_answered old.files old.flow o r f given.status x.0.at (ap is_unanswered x.1)
     (base_answered old.files call given r (fits_create call given r fitting)) s.filed))
@@ -332,10 +336,10 @@ pub returned_sound : (old : World) (k : WorkerId) (a : Place) (o : OpId) (r : Fl
     → FlowRecord) (after : ContextTable) → operation_at o old.flow ≡ Some r
     → worker_at old.workers k ≡ Some a → cleanup_in (Some a) ≡ None → SameFile r (f r) → Leaves (carries_after old o f) old.contexts after k.0
     → ((c : CtxId) → carries_after old o f c ≡ carries old c) → owed (f r).entries ≡ owed r.entries → ((j : ℕ) → flight j (f r) ≤ flight j r)
-    → IsUnderWay (returned old k o f) → IsSound old → IsSound (record (returned old k o f) { contexts = after })
-returned_sound old k a o r f after at worker outside same leaves balance owes fewer under_way s =
+    → IsUnderWay (returned old k o f) → NoneBegun old.stack (changed o f old.flow) → IsSound old → IsSound (record (returned old k o f) { contexts = after })
+returned_sound old k a o r f after at worker outside same leaves balance owes fewer under_way begun s =
     let kept = returned_kept old k a o r f after at worker outside same leaves balance owes fewer s in
-    record { under_way = under_way; owned = kept.0; filed = kept.1; links = kept.2 }
+    record { under_way = under_way; owned = kept.0; begun = begun; filed = kept.1; links = kept.2 }
 
 pub post_does : (old : World) (k : WorkerId) (given : PostVerdict) (lent : Option Data) (result : Result (Unit {0}) Status)
     (new : World) → PostReturns old k given lent result new
@@ -366,7 +370,7 @@ post_does old k given lent result new h = by_place lent (worker_at old.workers k
         r x.0.at) ∙ fits) x.0.sound)
         (undone_at r PostRunning x.1 refl)
         (among_settles old.stack r.volume r.below r.born r.operation r.entries r.stage (post_leads state) (settle_post state) (settle_post_keeps state)
-        (not_base_of (post_leads state) (post_quiet given)) x.0.among) s.under_way) s))
+        (not_base_of (post_leads state) (post_quiet given)) x.0.among) s.under_way) (goes_asked old.stack old.flow o r f x.0.at refl refl s.begun) s))
     by_place None (Some (Place.Drain o i)) at e = ends o (drain_returned_of i) e (λ s.
         let x = inside_drain old k o i at s.under_way in
         let r = x.0.row in
@@ -382,7 +386,7 @@ post_does old k given lent result new h = by_place lent (worker_at old.workers k
         (at_none (Place.Drain o i) refl)
         (sound_drain_returned i r x.1 x.0.sound) (undone_at r (InDrain i) x.1 refl)
         (among_settles old.stack r.volume r.below r.born r.operation r.entries r.stage Ascending (settle_drain i.0) (settle_drain_keeps i.0)
-        (not_base_of Ascending refl) x.0.among) s.under_way) s)
+        (not_base_of Ascending refl) x.0.among) s.under_way) (goes_asked old.stack old.flow o r f x.0.at refl refl s.begun) s)
     by_place None (Some (Place.Post o i)) at h = refused_by (λ r w. Ends old k r w) Status.BadRequest result old new h (none_ends old k)
     by_place (Some back) (Some (Place.Drain o i)) at h = refused_by (λ r w. Ends old k r w) Status.BadRequest result old new h (none_ends old k)
     by_place _ _ at h = refused_by (λ r w. Ends old k r w) Status.WrongStep result old new h (none_ends old k)

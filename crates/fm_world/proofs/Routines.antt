@@ -3,10 +3,12 @@ use Rattle.fm_world.proofs.Words.{none_refuses, hand_len, left_by, is_flown, is_
 use Rattle.fm_world.proofs.Words.{RoutineReturnsAt, file_by, routine_refusals, HandleId, Instance, InstanceId, Status, WorkerId, one, AtRoutine, InstanceCallback}
 use Rattle.fm_world.proofs.Words.{is_at, put, worker_at, World, FileObject, Place, Bool, Option, Result, Some, ap, arith, cond, count_by, not, refl, slice_get, true, ℕ}
 use Rattle.fm_world.proofs.Words.{◌&&◌, ◌+◌, ◌∷◌, ◌≡◌, ◌≤◌, eq-eqb, flight, total, count-cons, FlowRecord, All, List, [], All-head, All-tail, unfinished_at}
+use Rattle.fm_world.proofs.Words.{IsSound, Owner, Slot, is_open}
 use Rattle.std.proofs.lemmas.List.Sums.{count_by-le-length}
 use Rattle.fm_operations.proofs.Counting.{flight_few}
 use Rattle.fm_operations.specs.Initiators.{is_begun_by, is_below}
 use Rattle.fm_operations.specs.Sound as flow
+use Rattle.fm_world.specs.ContextEvents.{left_over}
 use Rattle.fm_world.specs.Workers.{is_in_routine}
 use Rattle.fm_world.proofs.Callbacks.{not_false}
 use Rattle.fm_world.proofs.Collected.{collected_few}
@@ -41,6 +43,7 @@ enter_routine_does old k i h result new event =
           (λ d m few moves h. enters_workers i file row.0 d (count_by (is_at d i.0) old.workers) m row.2 few moves h) s.under_way.stack
           (follows_same old.stack) s.under_way;
       owned = goes_owned old k Place.Idle (Place.Routine i file) old.stack at refl refl refl (rows_same old old.stack refl) (omega arith) (λ v h. h) s;
+      begun = s.begun;
       filed = s.filed;
       links = s.links;
     })))
@@ -117,4 +120,14 @@ unfinished_few w i s = omega (
   collected_few w.workers w.flow s.flow s.hands s.drains,
   count_by-le-length (is_in_routine i.0) w.workers,
   s.hands,
+)
+
+-- so what an instance's end waits for are few
+pub left_few : (w : World) (i : InstanceId) → IsSound w → left_over w i ≤ 65792
+left_few w i s = omega (
+  arith,
+  count_by-le-length (λ (x : Slot). is_open (Owner.Instance i) x.context) w.contexts.slots,
+  s.owned.lawful.few,
+  begun_few i.0 w.flow.operations,
+  s.under_way.flow.few,
 )

@@ -163,6 +163,7 @@ empty_sound = record {
     quiet = λ i rests. refl;
     totals = length-replicate {A = ℕ} 16 0;
   };
+  begun = λ i gone. refl;
   filed = file_empty;
   links = All-nil (λ (x : Slot). names_there empty_files x.context ≡ true);
 }
@@ -219,6 +220,7 @@ headline_from w s =
             (λ x fit. not_owned w.stack i x.context gone fit) w.contexts.slots k.fits),
         k.quiet i (flown_is_left (row_at w.stack i) gone),
       );
+      begun = s.begun;
       routines = λ i rests. none_in_routines (row_at w.stack i) (routines_at i w.workers) rests (h.instance_callbacks AtRoutine i.0);
     }
 

@@ -13,6 +13,7 @@ use Rattle.fm_world.proofs.Words.{All, Bool, Err, List, None, Ok, Option, Result
 use Rattle.fm_world.proofs.Words.{slice_set, subst, sym, take, true, unwrap_or, ℕ, ◌&&◌, ◌++◌, ◌+◌, ◌<◌, ◌==◌, ◌∙◌, ◌∷◌, ◌≡◌, false≢true, set-get_or, All-cons}
 use Rattle.fm_world.proofs.Words.{All-nil, get_or_from_slice_get, none-some, slice_get_within}
 use Rattle.fm_operations.proofs.Next.{next_carries, next_enters, next_flies, next_needed, next_stays, sound_next, MayAsk, WasOwed, next_owes}
+use Rattle.fm_world.proofs.Asking.{goes_asked}
 use Rattle.fm_world.proofs.Amongs.{among_base, among_other, among_visits, is_up, no_base, post_last, visit_last}
 use Rattle.fm_world.proofs.Callbacks.{same_hands}
 use Rattle.fm_world.proofs.Cases.{by_option}
@@ -416,6 +417,10 @@ next_file k lies drains r =
     down : r.stage ≡ Descending → is_create r.operation && true ≡ is_creating r
     down e = sym (ap (λ x. is_create r.operation && is_unanswered x) e)
 
+-- so does who asked for it
+next_below : (k : WorkerId) (lies : Below) (drains : Bool) (r : FlowRecord) → (next_of k lies drains r).after.below ≡ r.below
+next_below k lies drains r = each_turn (λ t. t.after.below ≡ r.below) k lies drains r (grind arith)
+
 -- unless it moves over an answer that is known, a create under way stays one
 next_same_file : (k : WorkerId) (lies : Below) (drains : Bool) (r : FlowRecord)
     → (is_known lies ≡ true → Ok FlowAction.Moved ≡ (next_of k lies drains r).reply → ⊥)
@@ -467,10 +472,11 @@ next_on old k o new e =
     let stay = table_same table mid.contexts got.0 got.1 in
     let under_way = λ (s : IsSound old). next_keeps old k o new e s.under_way in
     let owned = λ (s : IsSound old). next_owned old k o new e s in
+    let begun = λ (s : IsSound old). goes_asked old.stack old.flow o e.row f e.at (next_below k e.lies d e.row) (next_stays k e.lies d e.row).collected s.begun in
     let filed = λ (s : IsSound old). known_filed old k o e.row e.lies d reply e.at refl s.filed in
     let does = known_cases (λ w. Does old w × Gives k.0 table.hands (back_by reply) w.contexts.hands) old o mid.flow reply e.lies mid new e.loses
     (λ loses. (
-      record { sound = λ s. loses_sound mid new loses (under_way s) (owned s) (filed s); lasts = λ s. loses_lasts old mid new loses stay },
+      record { sound = λ s. loses_sound mid new loses (under_way s) (owned s) (begun s) (filed s); lasts = λ s. loses_lasts old mid new loses stay },
       loses.0.hands ∙ got.2,
     )) (λ files. grind arith) in (
       does.0,

@@ -7,13 +7,14 @@ use Rattle.fm_world.proofs.Words.{refl, slice_get, subst, sym, true, ℕ, ◌&&�
 use Rattle.fm_stack.proofs.GoingOn.{StackGoesOn}
 use Rattle.fm_stack.proofs.Unloads.{filter_emptied_goes_on, unloaded_goes_on, unloading_goes_on}
 use Rattle.fm_stack.specs.Detaching.{stop_row}
+use Rattle.fm_world.proofs.Asking.{left_asks}
 use Rattle.fm_world.proofs.Belonging.{VolumesStay}
 use Rattle.fm_world.proofs.Cases.{by_option}
 use Rattle.fm_world.proofs.Detaching.{stop_goes}
 use Rattle.fm_world.proofs.Events.{answers_by, idle_by}
 use Rattle.fm_world.proofs.Keeps.{KeepsWorkers, follows_same, is_outside, outside_of, stack_changes, worker_moves}
 use Rattle.fm_world.proofs.Losing.{sweeps_named, sweeps_owned}
-use Rattle.fm_world.proofs.Owning.{GoesOnAt, RowsGoOn, goes_owned, goes_same, rows_same, stack_owned}
+use Rattle.fm_world.proofs.Owning.{goes_owned, goes_same, GoesOnAt, rows_left, rows_same, RowsGoOn, stack_owned}
 use Rattle.fm_world.proofs.Staying.{Does, SlotsStay, lasts, makes, nothing, slots_swept, still, unchanged}
 use Rattle.fm_world.proofs.Ties.{at_none, own_callback_of, workers_still}
 use Rattle.fm_stack.specs.Unloading as filters
@@ -39,6 +40,7 @@ ask_unload_does old k f result new h =
       under_way = unload_moves old old.stack k Place.Idle (Place.Unload f) at refl refl refl refl s.under_way.stack
           (follows_same old.stack) (λ d i n h. h) s.under_way;
       owned = goes_owned old k Place.Idle (Place.Unload f) old.stack at refl refl refl (rows_same old old.stack refl) (omega arith) (λ v h. h) s;
+      begun = s.begun;
       filed = s.filed;
       links = s.links;
     })))
@@ -89,6 +91,7 @@ unload_does old k allow result new h = by_place (worker_at old.workers k) refl h
         (still old.contexts) (λ s. record {
           under_way = keeps s.under_way;
           owned = goes_owned old k (Place.Unload f) Place.Idle t at refl refl refl on filters volumes s;
+          begun = left_asks old.stack t old.flow (rows_left old t on) s.begun;
           filed = s.filed;
           links = s.links;
         })
@@ -117,6 +120,7 @@ goes_sound : (old : World) (t : StackWorld) → StackGoesOn old.stack t → Keep
 goes_sound old t goes numbers on filters volumes s = record {
   under_way = stack_changes old t (goes_on_keeps old.stack t goes s.under_way.stack) (goes_on_follows old.stack t goes) numbers s.under_way;
   owned = stack_owned old t on filters volumes s.owned;
+  begun = left_asks old.stack t old.flow (rows_left old t on) s.begun;
   filed = s.filed;
   links = s.links;
 }
@@ -154,6 +158,7 @@ empty_filter_does old f (Ok done) new h =
             record {
               under_way = s.under_way;
               owned = sweeps_owned old (is_linked_of (Owner.Filter f)) new.contexts sweeps s.owned;
+              begun = s.begun;
               filed = s.filed;
               links = sweeps_named old (is_linked_of (Owner.Filter f)) new.contexts sweeps s.links;
             } in

@@ -19,6 +19,7 @@ use Rattle.fm_world.specs.declared.place.Place.{Place}
 use Rattle.fm_world.specs.declared.place.Place.TheVariants as place
 use Rattle.fm_world.specs.World.{World, carries}
 use Rattle.fm_world.specs.Workers.{worker_at, put, is_idle}
+use Rattle.fm_operations.specs.Initiators.{begun_by}
 use Rattle.fm_world.specs.Events.{Unless}
 use Rattle.fm_world.specs.Links.{is_there}
 use Rattle.fm_world.specs.declared.file.FileObject.{FileObject}
@@ -208,12 +209,16 @@ abbrev pub is_gone_at : Option Instance → Bool
 is_gone_at None = true
 is_gone_at (Some row) = is_detached row.phase
 
--- Busy says how many of its contexts aren't cleaned
+-- what its end waits for: its contexts that aren't cleaned, and operations that its filter asked for itself and whose answers weren't handed out
+abbrev pub left_over : World → InstanceId → ℕ
+left_over w i = open_of w.contexts.slots (owner.Instance i) + begun_by i.0 w.flow
+
+-- Busy says how many those are
 abbrev pub finish_refused : World → InstanceId → Option Status
 finish_refused w i =
     first_of ((is_gone_at (row_at w.stack i), status.NoInstance)
     ∷ (not (is_emptying_at (row_at w.stack i)), status.WrongStep)
-    ∷ (nat_lt 0 (open_of w.contexts.slots (owner.Instance i)), status.Busy (open_of w.contexts.slots (owner.Instance i)))
+    ∷ (nat_lt 0 (left_over w i), status.Busy (left_over w i))
     ∷ [])
 
 unfoldable pub Finishes : World → InstanceId → Result (Unit {0}) Status → World → Type 0

@@ -5,6 +5,7 @@ use Rattle.fm_world.specs.Words.{is_waiting, Slot, context_at, owner_at, Stage, 
 use Rattle.fm_world.specs.Words.{visited, last_visited, last_posted, has_base, posted, owed, undrained, instances, FlowTable, told, in_flight}
 use Rattle.fm_operations.specs.Counts.{drain_opens}
 use Rattle.fm_operations.specs.Entries.{asked}
+use Rattle.fm_operations.specs.Initiators.{begun_by}
 use Rattle.fm_operations.specs.Sound.{walk, way_of, MadeAsAsked}
 use Rattle.fm_ctx.specs.declared.owner.Owner.TheVariants as owner
 use Rattle.fm_world.specs.declared.step.Step.{Step}
@@ -145,6 +146,9 @@ pub record Headline (w : World) : Type 0 where
       → owner_at w.contexts.slots c ≡ Some (owner.Instance i) → reference_count w c ≡ 0
   -- a detached instance owns no context that isn't cleaned, and nothing is in flight at it
   pub detached : (i : InstanceId) → is_left_by (row_at w.stack i) ≡ false → (open_of w.contexts.slots (owner.Instance i) ≡ 0) × (in_flight i.0 w.flow ≡ 0)
+  -- and its filter asked for nothing that is under way: each answer to what it asked for itself was handed out. So it is with all instances of a filter
+  -- that has ended, since they are detached
+  pub begun : (i : InstanceId) → is_left_by (row_at w.stack i) ≡ false → begun_by i.0 w.flow ≡ 0
   -- and of an instance whose setup isn't over, or whose teardown was completed, no routine runs
   pub routines : (i : InstanceId) → is_flown_by (row_at w.stack i) ≡ false → routines_at i w.workers ≡ 0
 

@@ -1,6 +1,7 @@
--- The event by which an operation begins that an instance's filter asks for itself, below that instance or at the base. A refusal changes nothing.
+-- The event by which an operation begins that no client asks for: an instance's filter does, below that instance or at the base, or the file system at the base,
+-- or the cache or memory manager at the top. A refusal changes nothing.
 use Rattle.std.specs.Prelude.{◌≡◌, ℕ, ◌==◌, Bool, true, false, not, List, [], ◌∷◌, Option, Some, None, Result}
-use Rattle.fm_world.specs.Words.{Instance, OpId, Status, VolumeId, FlowRecord, changed, first_of, AnswersOrMemory}
+use Rattle.fm_world.specs.Words.{Instance, InstanceId, OpId, Status, VolumeId, FlowRecord, changed, first_of, AnswersOrMemory}
 use Rattle.fm_types.specs.declared.status.Status.TheVariants as status
 use Rattle.fm_callback_data.specs.declared.request.Request.{Request}
 use Rattle.fm_callback_data.specs.declared.request.Request.TheVariants as request
@@ -24,19 +25,36 @@ abbrev pub is_off_volume : Option Instance → Option VolumeId → Bool
 is_off_volume (Some row) (Some v) = not (row.volume.0 == v.0)
 is_off_volume _ _ = false
 
+-- the instance whose filter asked for it; none where no filter did
+abbrev pub asker_of : BeginsFrom → Option InstanceId
+asker_of (from.Below i) = Some i
+asker_of (from.Base i) = Some i
+asker_of from.FileSystem = None
+asker_of from.Top = None
+
+-- it visits instances that were born before that: at the base none was
+abbrev pub born_from : ℕ → BeginsFrom → ℕ
+born_from births (from.Below i) = births
+born_from births (from.Base i) = 0
+born_from births from.FileSystem = 0
+born_from births from.Top = births
+
 -- an instance may ask from its setup up to the end of its teardown, on its own volume
-abbrev pub from_refusals : World → BeginsFrom → Request → List (Bool × Status)
-from_refusals w (from.Below i) what =
+abbrev pub asker_refusals : World → Option InstanceId → Request → List (Bool × Status)
+asker_refusals w (Some i) what =
     (not (is_left_by (row_at w.stack i)), status.NoInstance)
     ∷ (not (keeps_links_by (row_at w.stack i)), status.DeletingObject)
     ∷ (is_off_volume (row_at w.stack i) (requested_volume w what), status.BadRequest)
     ∷ []
-from_refusals w from.Base what = []
+asker_refusals w None what = []
 
--- it visits those that stand lower than that instance and were born before it began; at the base it visits none
+abbrev pub from_refusals : World → BeginsFrom → Request → List (Bool × Status)
+from_refusals w from what = asker_refusals w (asker_of from) what
+
+-- it is its asker's until its answer is handed out, and of the instances that stand lower than that one it visits those that were born before it began; at
+-- the base none; without an asker, those of the whole volume
 abbrev pub placed_from : ℕ → BeginsFrom → FlowRecord → FlowRecord
-placed_from births (from.Below i) r = placed (Some i) births r
-placed_from births from.Base r = placed None 0 r
+placed_from births from r = placed (asker_of from) (born_from births from) r
 
 abbrev pub placed_at : OpId → BeginsFrom → World → World
 placed_at o from w = record w { flow = changed o (placed_from w.stack.births from) w.flow }

@@ -13,7 +13,8 @@ use Rattle.fm_world.specs.FileLaws.{FilesHold}
 use Rattle.fm_world.specs.Links.{names_there}
 use Rattle.fm_world.specs.World.{World}
 use Rattle.fm_world.specs.Workers.{worker_at, cleanup_in, InstanceCallback, AtSetup, AtQuery, AtStart, AtComplete, AtRoutine, is_at}
-use Rattle.fm_world.specs.Owners.{row_at, place_in, HoldsIn, AskCarries, fits, is_flown, is_flown_by}
+use Rattle.fm_operations.specs.Initiators.{begun_by}
+use Rattle.fm_world.specs.Owners.{row_at, place_in, HoldsIn, AskCarries, fits, is_flown, is_flown_by, is_left_by}
 use Rattle.fm_world.specs.Descent.{IsDescent, HasRoom, trail, cursor_of}
 use Rattle.fm_world.specs.Headline.{Spot, is_in_at, stands_at, is_in_drain, drains_running}
 
@@ -101,8 +102,13 @@ pub record IsFileSound (files : FileTable) (flow : FlowTable) : Type 0 where
   -- a stream has the number of its create, so that the next one's is new
   pub born : All (λ (x : FileStream). x.number.0 < flow.next) files.streams
 
+-- what isn't there, or is detached, asked for nothing that is under way
+abbrev pub NoneBegun : StackWorld → FlowTable → Type 0
+NoneBegun s t = (i : InstanceId) → is_left_by (row_at s i) ≡ false → begun_by i.0 t ≡ 0
+
 pub record IsSound (w : World) : Type 0 where
   pub under_way : IsUnderWay w
   pub owned : IsOwned w
+  pub begun : NoneBegun w.stack w.flow
   pub filed : IsFileSound w.files w.flow
   pub links : All (λ (s : Slot). names_there w.files s.context ≡ true) w.contexts.slots

@@ -49,7 +49,7 @@ StartReturnsAt old k result new _ = (result ≡ Err status.WrongStep) × (new �
 unfoldable pub StartReturns : World → WorkerId → Result (Unit {0}) Status → World → Type 0
 StartReturns old k result new = StartReturnsAt old k result new (worker_at old.workers k)
 
--- what a teardown waits for: operations in flight at the instance, those that began below it, and its filter's routines
+-- what a teardown waits for: operations in flight at the instance, those that its filter asked for itself, and its filter's routines
 abbrev pub unfinished_at : World → InstanceId → ℕ
 unfinished_at w i = in_flight i.0 w.flow + begun_by i.0 w.flow + routines_at i w.workers
 

@@ -43,7 +43,7 @@ pub enum Step {
     },
     /// An operation begins.
     Begin(Request),
-    /// An operation begins below an instance whose filter asks for it, or at the base.
+    /// An operation begins that no client asks for: below an instance whose filter asks for it, at the base, or at the top.
     BeginFrom(BeginsFrom, Request),
     /// The worker asks for the next callback or call of an operation.
     Next {

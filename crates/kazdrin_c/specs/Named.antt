@@ -161,11 +161,14 @@ context_named e bytes =
     (cond (e.event == 25) (Some (step.WriteBody (worker_in e) (context_in e) bytes))
     (cond (e.event == 26) (Some (step.Bump (worker_in e) (context_in e) e.offset e.number)) (request_named e)))))))))
 
--- an operation that begins at the top, below the event's instance, or at the base
+-- an operation that begins at the top for a client, below the event's instance for its filter, at the base for the file system, at the top for the cache or
+-- memory manager, or at the base for the instance's filter
 abbrev pub begun_named : KazdrinEvent → Request → Option Step
 begun_named e what =
     cond (e.kind == 0) (Some (step.Begin what))
-    (cond (e.kind == 1) (Some (step.BeginFrom (from.Below (instance_in e)) what)) (cond (e.kind == 2) (Some (step.BeginFrom from.Base what)) None))
+    (cond (e.kind == 1) (Some (step.BeginFrom (from.Below (instance_in e)) what))
+    (cond (e.kind == 2) (Some (step.BeginFrom from.FileSystem what))
+    (cond (e.kind == 3) (Some (step.BeginFrom from.Top what)) (cond (e.kind == 4) (Some (step.BeginFrom (from.Base (instance_in e)) what)) None))))
 
 -- one on the event's handle
 abbrev pub asks : KazdrinEvent → FileRequest → Option Step

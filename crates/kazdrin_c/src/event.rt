@@ -182,14 +182,17 @@ impl KazdrinEvent {
         }
     }
 
-    /// The operation that begins, by where it does: 0 at the top, 1 below the event's instance, 2 at the base; none for another number.
+    /// The operation that begins, by where it does: 0 at the top, for a client; 1 below the event's instance, and 4 at the base, for that instance's filter;
+    /// 2 at the base, for the file system; 3 at the top, for the cache or memory manager; none for another number.
     fn begun(&self, what: Request) -> Option<Step>
         ensures { result ≡ begun_named self.now what }
     {
         match self.kind {
             0 => Some(Step::Begin(what)),
             1 => Some(Step::BeginFrom(BeginsFrom::Below(InstanceId(self.instance)), what)),
-            2 => Some(Step::BeginFrom(BeginsFrom::Base, what)),
+            2 => Some(Step::BeginFrom(BeginsFrom::FileSystem, what)),
+            3 => Some(Step::BeginFrom(BeginsFrom::Top, what)),
+            4 => Some(Step::BeginFrom(BeginsFrom::Base(InstanceId(self.instance)), what)),
             _ => None,
         }
     }

@@ -15,7 +15,9 @@ use Rattle.fm_ctx.specs.Objects.{same_owner}
 use Rattle.fm_ctx.specs.Table.{Context, Slot, context_in, owner_at}
 use Rattle.fm_ctx.specs.declared.owner.Owner.{Owner}
 use Rattle.fm_world.proofs.Cases.{none_any}
-use Rattle.fm_world.specs.ContextEvents.{OwnsOnlyWaiting, WaitsIfBusy, finish_refused}
+use Rattle.fm_operations.specs.Initiators.{begun_by, is_begun_by}
+use Rattle.fm_operations.specs.Record.{FlowRecord}
+use Rattle.fm_world.specs.ContextEvents.{OwnsOnlyWaiting, WaitsIfBusy, finish_refused, left_over}
 use Rattle.fm_world.specs.Workers.{cleanup_in}
 use Rattle.fm_local.proofs.instances.Detaches.{complete_stack, completes_leaves, not_completing, start_refused, start_stack, starts_leaves}
 use Rattle.fm_local.proofs.instances.Rest.{by_tidying, rests_on}
@@ -162,15 +164,19 @@ module _ (k : WorkerId) (i : InstanceId) (w : World) (sound : IsSound w) (rests 
           absurd (owns_none waiting (record { slot = at.0; generation = at.1.generation })
           (open_owned at.1 at.1.context refl at.3 (record { slot = at.0; generation = at.1.generation }) refl at.2))
 
+  none_over : OwnsOnlyWaiting w i → left_over w i ≡ 0
+  none_over waiting =
+      let none_begun : begun_by i.0 w.flow ≡ 0 = ap (λ (rs : List FlowRecord). count_by (is_begun_by i.0) rs) rests.operations in
+      omega (arith, none_open waiting, none_begun)
+
   -- so its end isn't refused
   pub finishes : is_emptying_at (slice_get w.stack.instances i.0) ≡ true → (why : Status) (new : World) → Finishes w i (Err why) new
       → WaitsIfBusy w i (Err why) → ⊥
   unfolding Finishes
   finishes emptying why new h waits =
-      let open' = open_of w.contexts.slots (Owner.Instance i) in
-      let is = other open' why (sym (busy emptying) ∙ h.0) in
+      let is = other (left_over w i) why (sym (busy emptying) ∙ h.0) in
       let waiting : OwnsOnlyWaiting w i = subst (λ (s : Status). WaitsIfBusy w i (Err s)) is waits in
-      none-some why (sym (busy emptying ∙ ap (λ n. cond (nat_lt 0 n) (Some (Status.Busy n)) None) (none_open waiting)) ∙ h.0)
+      none-some why (sym (busy emptying ∙ ap (λ n. cond (nat_lt 0 n) (Some (Status.Busy n)) None) (none_over waiting)) ∙ h.0)
     where
       refusal : (m : Option Instance) (n : ℕ) → is_emptying_at m ≡ true
           → first_of ((is_gone_at m, Status.NoInstance) ∷ (not (is_emptying_at m), Status.WrongStep) ∷ (nat_lt 0 n, Status.Busy n)
@@ -179,9 +185,8 @@ module _ (k : WorkerId) (i : InstanceId) (w : World) (sound : IsSound w) (rests 
       refusal (Some row) n h = grind arith
 
       busy : is_emptying_at (slice_get w.stack.instances i.0) ≡ true
-          → finish_refused w i ≡ cond (nat_lt 0 (open_of w.contexts.slots (Owner.Instance i)))
-          (Some (Status.Busy (open_of w.contexts.slots (Owner.Instance i)))) None
-      busy emptying = refusal (slice_get w.stack.instances i.0) (open_of w.contexts.slots (Owner.Instance i)) emptying
+          → finish_refused w i ≡ cond (nat_lt 0 (left_over w i)) (Some (Status.Busy (left_over w i))) None
+      busy emptying = refusal (slice_get w.stack.instances i.0) (left_over w i) emptying
 
       other : (n : ℕ) (why : Status) → cond (nat_lt 0 n) (Some (Status.Busy n)) None ≡ Some why → why ≡ Status.Busy n
       other n why h = grind arith

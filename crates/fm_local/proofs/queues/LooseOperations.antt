@@ -27,7 +27,6 @@ unfoldable use Rattle.fm_world.specs.Changes.{ChangesHeld}
 use Rattle.fm_world.specs.EarlyDrains.{DrainReturns, DrainReturnsAt}
 use Rattle.fm_world.specs.Initiators.{BeginsLower, placed_at, placed_from}
 use Rattle.fm_world.specs.declared.begins_from.BeginsFrom.{BeginsFrom}
-use Rattle.fm_world.specs.declared.begins_from.BeginsFrom.TheVariants as begins_at
 use Rattle.fm_world.specs.Events.{ResumesPost, ResumesPostAt, ResumesPre, ResumesPreAt, base_step, is_held_by, lets_go, pre_step}
 use Rattle.fm_world.specs.Owners.{place_in}
 use Rattle.fm_local.specs.Waits.{IsEnded, is_between, is_loose}
@@ -106,12 +105,7 @@ placed_stays p from w o = by_there (operation_at o w.flow) refl
     by_there : (m : Option FlowRecord) → operation_at o w.flow ≡ m → Stays p w.flow (placed_at o from w).flow
     by_there None at = by_record p w.flow (placed_at o from w).flow
         (ap (λ rs. find (is_number p) rs) (change_none (is_number o) (placed_from w.stack.births from) w.flow.operations at))
-    by_there (Some r) at = by_from from
-      where
-        by_from : (b : BeginsFrom) → Stays p w.flow (placed_at o b w).flow
-        by_from (BeginsFrom.Below i) =
-            alike_changed p o r (placed_from w.stack.births (begins_at.Below i)) w.flow at (λ x. refl) (λ h. h) (λ h. h)
-        by_from BeginsFrom.Base = alike_changed p o r (placed_from w.stack.births begins_at.Base) w.flow at (λ x. refl) (λ h. h) (λ h. h)
+    by_there (Some r) at = alike_changed p o r (placed_from w.stack.births from) w.flow at (λ x. refl) (λ h. h) (λ h. h)
 
 module _ (p : OpId) (old : World) where
   abbrev After : (T : Type 0) → Result T Status → World → Type 0

@@ -77,15 +77,15 @@ def of_words(form):
 
 
 def all_refusals():
-    """Each command, requests below and at the base and changes each by their own word, with its refusals."""
+    """Each command, requests below, at the base, at the top and changes each by their own word, with its refusals."""
     found = {}
     for command, forms in FORMS.items():
-        if command not in ("below", "atbase", "change_held"):
+        if command not in ("below", "atbase", "attop", "change_held"):
             found[command] = set(OWN.get(command, ())).union(*map(of_words, forms))
     for word, forms in REQUESTS.items():
         own = set(BEGINS[word]).union(*map(of_words, forms))
-        found[f"below {word}"] = own | {8, 13, 32}
-        found[f"atbase {word}"] = own
+        found[f"below {word}"] = found[f"atbase {word}"] = own | {8, 13, 32}
+        found[f"attop {word}"] = own
     for word in ("read", "setsize", "other"):
         found[f"change_held {word}"] = {28, 30, 32}
     return found

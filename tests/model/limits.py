@@ -3,6 +3,8 @@ from words import FORMS, REQUESTS
 
 # A request in each of its forms, for handle 0 and volume 0.
 SPELLED = {"H": "h0", "V": "v0", "N": "0", "MAJOR": "17"}
+# A client's request, and those that begin elsewhere.
+WAYS = ("", "below i0 ", "atbase i0 ", "atbase ", "attop ")
 BUILT = ["load f", "mount v", "attach f0 v0 a 100", "create v0 x always", "go w0 o0"]
 
 
@@ -25,10 +27,10 @@ def many_instances():
 
 
 def many_operations():
-    """256 that weren't collected; then each beginning, from the top, below and at the base."""
+    """256 that weren't collected; then each beginning, a client's, below, at the base and at the top."""
     ready = BUILT + ["create v0 y always", "go w0 o1", "cleanup h1", "go w0 o2"]
     begun = [f"read h0 {it} 1" for it in range(255)] + ["flush h0", "flush h0", "write h0 0 00", "create v0 z new", "close h1"]
-    ways = [way + it for it in requests() for way in ("", "below i0 ", "atbase ")]
+    ways = [way + it for it in requests() for way in WAYS]
     return ready + begun + ways + ["below i0 close h1", "atbase close h1", "go w0 o3", "atbase flush h0", "atbase flush h0"]
 
 
@@ -54,7 +56,7 @@ def many_lines():
 def big_numbers():
     """Ends of files and lengths on both sides of their limits."""
     ends = [2**40 - 1, 2**40, 2**40 + 1, 2**64 - 1, 2**64]
-    lines = [f"{way}{it}" for end in ends for way in ("", "below i0 ", "atbase ") for it in (f"read h0 {end} 0", f"read h0 {end} 1", f"setsize h0 {end}", f"setsize h0 0{end}")]
+    lines = [f"{way}{it}" for end in ends for way in WAYS for it in (f"read h0 {end} 0", f"read h0 {end} 1", f"setsize h0 {end}", f"setsize h0 0{end}")]
     lines += [f"write h0 {end} {body}" for end in ends for body in ("-", "00")]
     lines += [f"read h0 0 {length}" for length in (32767, 32768, 32769, 2**64 - 1)]
     return BUILT + lines + [f"go w0 o{it}" for it in range(1, 60)]
@@ -86,7 +88,7 @@ def gone():
     """Each request on a handle in its cleanup and on a closed one, below a detached instance, and on a volume that is dismounted."""
     torn = ["query w0 i1", "queried w0 yes", "start w0 i1", "started w0", "complete w0 i1", "completed w0", "finish i1"]
     opened = ["create v0 x always", "go w0 o1", "create v0 x always", "go w0 o2", "cleanup h1", "go w0 o3", "cleanup h2", "go w0 o4", "close h2", "go w0 o5"]
-    lines = [way + it.replace("h0", handle) for it in requests() for handle in ("h0", "h1", "h2") for way in ("below i1 ", "below i0 ", "atbase ", "")]
+    lines = [way + it.replace("h0", handle) for it in requests() for handle in ("h0", "h1", "h2") for way in ("below i1 ", "atbase i1 ", *WAYS)]
     late = [it for it in lines if not it.endswith("close h1")]
     dismounted = [f"go w0 o{it}" for it in range(6, 60)] + ["dismount v0", *lines]
     return BUILT + ["attach f0 v0 b 50", *torn, *opened, *(it for it in late if "h0" not in it), *dismounted]

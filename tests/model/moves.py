@@ -23,12 +23,12 @@ def build(maker):
 
 
 def begin(maker):
-    """An operation, from the top or below an instance or at the base."""
+    """An operation, a client's, or one below an instance, at the base or at the top."""
     if not maker.world.open_handles() or maker.is_likely(0.1):
         return f"create {maker.volume()} {maker.any(PATHS)} {maker.any(MODES)}"
     if maker.is_likely(0.15):
         return f"write {maker.handle()} {maker.number(6)} {maker.any(BODIES)}"
-    where = "" if maker.is_likely(0.75) else "atbase " if maker.is_likely(0.4) else f"below {maker.instance()} "
+    where = "" if maker.is_likely(0.75) else maker.any(["atbase ", "attop ", f"atbase {maker.instance()} ", f"below {maker.instance()} ", f"below {maker.instance()} "])
     if maker.is_likely(0.5):
         return where + maker.any([f"read {maker.handle()} 0 4", f"flush {maker.handle()}", f"size {maker.handle()}"])
     return where + maker.request()

@@ -16,7 +16,7 @@ from status import (
 )
 from world import MOST_BYTES, MOST_END, MOST_HANDLES, MOST_OPERATIONS, Entry, Operation, Place
 
-# What an instance, or the base's caller, may begin after a handle's cleanup and before its close.
+# What an instance, the file system, or the cache or memory manager may begin after a handle's cleanup and before its close.
 LATE = ("read", "size", "setsize", "flush", "other")
 
 
@@ -68,15 +68,15 @@ def in_flight(world, instance):
 
 
 def began(world, instance):
-    """How many operations it began below itself that weren't collected."""
-    return sum(it.below is instance for it in world.uncollected())
+    """How many operations its filter began for itself, below it or at the base, that weren't collected."""
+    return sum(it.initiator is instance for it in world.uncollected())
 
 
-def refuse_initiator(world, below, volume):
-    """An instance that begins an operation below itself."""
-    refuse_if(below.phase == "detached", NO_INSTANCE)
-    refuse_if(below.phase == "emptying", DELETING_OBJECT)
-    refuse_if(volume is not None and below.volume is not volume, BAD_REQUEST)
+def refuse_initiator(world, initiator, volume):
+    """An instance whose filter begins an operation for itself."""
+    refuse_if(initiator.phase == "detached", NO_INSTANCE)
+    refuse_if(initiator.phase == "emptying", DELETING_OBJECT)
+    refuse_if(volume is not None and initiator.volume is not volume, BAD_REQUEST)
 
 
 def refuse_handle(world, kind, handle, is_late):
@@ -91,13 +91,13 @@ def refuse_handle(world, kind, handle, is_late):
         refuse_if(handle.is_closing or (handle.cleanup is not None and not (is_late and kind in LATE)), NO_HANDLE)
 
 
-def begin(world, kind, params, handle=None, volume=None, path=None, below=None, is_at_base=False):
-    """Begins an operation on a handle, on a volume, or a create of a path: from the top, below an instance, or at the base."""
-    if below is not None:
-        refuse_initiator(world, below, volume if handle is None else None if handle.is_gone else handle.stream.volume)
+def begin(world, kind, params, handle=None, volume=None, path=None, start="client", initiator=None):
+    """Begins an operation on a handle, on a volume, or a create of a path: a client's, or one from the top, below the initiator, or at the base."""
+    if initiator is not None:
+        refuse_initiator(world, initiator, volume if handle is None else None if handle.is_gone else handle.stream.volume)
     refuse_if(is_past_limit(kind, params), BAD_REQUEST)
     if handle is not None:
-        refuse_handle(world, kind, handle, below is not None or is_at_base)
+        refuse_handle(world, kind, handle, start != "client")
         volume = handle.stream.volume
     refuse_if(volume.is_dismounting, DISMOUNTING)
     refuse_if(len(world.uncollected()) >= MOST_OPERATIONS, TOO_MANY)
@@ -106,7 +106,7 @@ def begin(world, kind, params, handle=None, volume=None, path=None, below=None, 
         refuse_if(len(world.open_handles()) + under_way >= MOST_HANDLES, TOO_MANY)
     operation = Operation(len(world.begun), kind, params, world.births)
     world.begun.append(operation)
-    operation.volume, operation.below, operation.is_at_base = volume, below, is_at_base
+    operation.volume, operation.start, operation.initiator = volume, start, initiator
     put_on(world, operation, handle, path)
     world.operations[operation.number] = operation
     return operation
@@ -126,10 +126,10 @@ def put_on(world, operation, handle, path):
 
 def next_instance(operation):
     """Of the instances on its volume that are attached, were so when it began and registered for it, the highest that is below the last one visited."""
-    if operation.is_at_base:
+    if operation.start == "base":
         return None
     visited = [it.instance for it in operation.entries if it.word == "pre"]
-    last = visited[-1] if visited else operation.below
+    last = visited[-1] if visited else operation.initiator
     left = [
         it
         for it in operation.volume.instances

@@ -55,7 +55,7 @@ void *realloc(void *old, size_t size)
 }
 """
 # The commands whose events take memory.
-GROWING = {"load", "mount", "attach", "setup", "create", "write", "below", "atbase", "alloc", "body", *REQUESTS}
+GROWING = {"load", "mount", "attach", "setup", "create", "write", "below", "atbase", "attop", "alloc", "body", *REQUESTS}
 SCRIPT_LINES = 80
 
 

@@ -3,7 +3,7 @@ import contexts
 import operations
 import stack
 from status import BUSY, Refused
-from words import MOST_LINE, find_ids, read_line
+from words import MOST_LINE, REQUESTS, find_ids, read_line
 from world import World
 
 # What is begun, for the words that don't say it themselves.
@@ -59,9 +59,11 @@ class Script:
         return said if isinstance(said, list) else [said]
 
     def note(self, line, status):
-        """Counts what a command came to; requests below, at the base, and changes each by their own word."""
+        """Counts what a command came to; requests below, at the base, at the top, and changes each by their own word."""
         words = line.decode("latin-1").split(" ")
-        inner = {"below": 2, "atbase": 1, "change_held": 3}.get(words[0], 0)
+        inner = {"below": 2, "atbase": 1, "attop": 1, "change_held": 3}.get(words[0], 0)
+        if words[0] == "atbase" and words[2:] and words[1] not in REQUESTS:
+            inner = 2
         name = " ".join([words[0], *words[inner : inner + 1]]) if inner else words[0]
         row = self.reached.setdefault(name, {})
         row[status] = row.get(status, 0) + 1
@@ -157,10 +159,15 @@ class Script:
         return f"ok o{operations.begin(self.world, KINDS.get(word, word), params, **place, **begins).number}"
 
     def do_below(self, instance, word, *rest):
-        return self.request(word, *rest, below=instance)
+        return self.request(word, *rest, start="below", initiator=instance)
 
-    def do_atbase(self, word, *rest):
-        return self.request(word, *rest, is_at_base=True)
+    def do_atbase(self, first, *rest):
+        if isinstance(first, str):
+            return self.request(first, *rest, start="base")
+        return self.request(*rest, start="base", initiator=first)
+
+    def do_attop(self, word, *rest):
+        return self.request(word, *rest, start="top")
 
     def do_next(self, worker, operation):
         word, instance = operations.next_step(self.world, worker, operation)

@@ -142,10 +142,10 @@ def end_complete(world, worker):
 
 
 def finish(world, instance):
-    """Ends an instance, once all its contexts are cleaned up. By the page these alone are in the way: what was begun below it in its last callback may outlive it."""
+    """Ends an instance, once all its contexts are cleaned up, and what its filter began for itself was collected."""
     refuse_if(instance.phase == "detached", NO_INSTANCE)
     refuse_if(instance.phase != "emptying", WRONG_STEP)
-    refuse_busy(contexts.not_cleaned(world, instance))
+    refuse_busy(contexts.not_cleaned(world, instance) + operations.began(world, instance))
     instance.phase = "detached"
     instance.volume.instances.remove(instance)
 

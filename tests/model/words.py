@@ -5,7 +5,7 @@ from names import read_altitude, read_name, read_path
 from status import BAD_REQUEST, NO_FILTER, NO_HANDLE, NO_INSTANCE, NO_VOLUME, NOT_HELD, WRONG_STEP, Refused, refuse_if
 
 MOST_LINE = 4096
-# Requests on a handle or a volume, which also begin below an instance and at the base. Capitals stand for what is read, the rest for itself.
+# Requests on a handle or a volume, which also begin below an instance, at the base and at the top. Capitals stand for what is read, the rest for itself.
 REQUESTS = {
     "read": ["H N N"],
     "size": ["H"],
@@ -54,7 +54,8 @@ FORMS = {
     "create": ["V PATH existing|new|always"],
     "write": ["H N HEX"],
     "below": [f"I {name} {form}" for name, forms in REQUESTS.items() for form in forms],
-    "atbase": [f"{name} {form}" for name, forms in REQUESTS.items() for form in forms],
+    "atbase": [f"{asks}{name} {form}" for name, forms in REQUESTS.items() for form in forms for asks in ("I ", "")],
+    "attop": [f"{name} {form}" for name, forms in REQUESTS.items() for form in forms],
     "next": ["W O"],
     "pre": ["W with|none|sync|pend", "W with C", "W complete S"],
     "base": ["W"],
@@ -134,8 +135,8 @@ def read_line(line):
 
 
 def find_ids(command, read, found):
-    """Puts what is found in place of the ids, from the left but the instance of `below` and `enter` last, and then looks at the workers."""
-    order = sorted(range(len(read)), key=lambda place: command in ("below", "enter") and read[place][0] == "I")
+    """Puts what is found in place of the ids, from the left but the instance of `below`, `atbase` and `enter` last, and then looks at the workers."""
+    order = sorted(range(len(read)), key=lambda place: command in ("below", "atbase", "enter") and read[place][0] == "I")
     for place in order:
         slot, number = read[place]
         if slot in MISSING:

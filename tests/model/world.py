@@ -72,12 +72,12 @@ class Entry:
 
 
 class Operation:
-    """An operation. `below` is the instance that began it, `is_at_base` says that no instance hears it; `answer` is status, information, bytes."""
+    """An operation. `initiator` is the instance whose filter began it for itself, `start` says where: client, top, below or base; `answer` is status, information, bytes."""
 
     def __init__(self, number, kind, params, born):
         self.number, self.kind, self.params, self.born = number, kind, params, born
-        self.volume = self.stream = self.handle = self.path = self.below = None
-        self.is_at_base = self.is_under_way = self.is_collected = False
+        self.volume = self.stream = self.handle = self.path = self.initiator = None
+        self.start, self.is_under_way, self.is_collected = "client", False, False
         self.entries, self.answer = [], (0, 0, b"")
 
 

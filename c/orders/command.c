@@ -237,11 +237,13 @@ static const Command *command_of(OrText word, size_t count)
 /* Words that stand before a request of a filter's own, and how many there are. */
 static size_t read_front(OrAsked *asked, const OrText *words, size_t count)
 {
+    uint64_t instance;
     bool is_below = or_is(words[0], "below"), is_at_base = or_is(words[0], "atbase");
-    bool is_for_one = (is_below || is_at_base) && count > 1 && or_read_id('i', words[1], &asked->instance);
-    if (is_for_one)
+    bool is_for_one = (is_below || is_at_base) && count > 1 && or_read_id('i', words[1], &instance);
+    if (is_for_one) {
+        asked->instance = instance;
         asked->event.kind = is_below ? KZB_BELOW : KZB_BASE_FOR;
-    else if (is_at_base)
+    } else if (is_at_base)
         asked->event.kind = KZB_BASE;
     else if (or_is(words[0], "attop"))
         asked->event.kind = KZB_LATE;

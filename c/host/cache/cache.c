@@ -40,12 +40,9 @@ KzCache *kz_cache_with(const SECTION_OBJECT_POINTERS *pointers)
 
 static KzCache *new_cache(KzFile *holder)
 {
-    uint64_t handle;
     KzStream *stream = holder->name->stream;
-    if (!kz.store->open(holder, &handle))
-        return NULL;
     KzCache *made = kz_memory(sizeof *made);
-    *made = (KzCache){.next = kz.cache->first, .stream = stream, .holder = holder, .handle = handle, .told = stream->valid};
+    *made = (KzCache){.next = kz.cache->first, .stream = stream, .holder = holder, .told = stream->valid};
     stream->cache = kz.cache->first = made;
     stream->sections.DataSectionObject = stream->sections.SharedCacheMap = made;
     holder->users++;
@@ -84,7 +81,6 @@ void kz_end_cache(KzCache *cache)
         kz_unmap_view(cache, cache->mapped);
     for (size_t page = 0; page < cache->count; page++)
         free(cache->pages[page].bytes);
-    kz.store->close(holder, cache->handle);
     free(cache->pages);
     free(cache);
     kz.changes++;

@@ -34,7 +34,6 @@ typedef struct KzCache {
     struct KzCache *next;
     KzStream *stream;
     KzFile *holder;  /* the file object that cached first: paging I/O goes by it, after its cleanup too, and its close waits for the cache's end */
-    uint64_t handle; /* that paging I/O goes by, and which no cleanup ends */
     KzCachedPage *pages; /* in the order of their numbers */
     size_t count, room;
     uint64_t told;   /* up to where the file system was told that something was written */

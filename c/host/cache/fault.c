@@ -55,7 +55,7 @@ static NTSTATUS bring(KzCache *cache, uint64_t first, unsigned count)
     for (unsigned at = 0; at < count; at++)
         kz_make_cached_page(cache, first + at, KZG_COMING);
     const KzPaging asked = {.offset = begin, .length = (uint32_t)length, .flags = IRP_PAGING_IO | IRP_NOCACHE | IRP_SYNCHRONOUS_PAGING_IO};
-    NTSTATUS status = kz.store->page(cache->holder, cache->handle, &asked, &there);
+    NTSTATUS status = kz.store->page(cache->holder, &asked, &there);
     kz.changes++;
     if (!NT_SUCCESS(status) && status != STATUS_END_OF_FILE) {
         drop_pages(cache, first, count);

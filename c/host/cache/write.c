@@ -15,7 +15,7 @@
 static void ask_filters(KzCache *cache, UCHAR major, NTSTATUS *status)
 {
     const KzAsked asked = {.major = major, .data_flags = FLTFL_CALLBACK_DATA_FS_FILTER_OPERATION};
-    *status = kz.store->ask(cache->holder, cache->handle, &asked);
+    *status = kz.store->ask(cache->holder, &asked);
 }
 
 /* ---- Runs of pages. */
@@ -52,7 +52,7 @@ static NTSTATUS write_run(KzCache *cache, uint64_t first, unsigned count, ULONG 
     uint8_t *bytes = take_run(cache, first, count);
     uint64_t written = 0;
     const KzPaging asked = {.is_write = true, .offset = first * KZ_PAGE, .bytes = bytes, .length = count * (uint32_t)KZ_PAGE, .flags = IRP_PAGING_IO | IRP_NOCACHE | flags};
-    NTSTATUS status = kz.store->page(cache->holder, cache->handle, &asked, &written);
+    NTSTATUS status = kz.store->page(cache->holder, &asked, &written);
     free(bytes);
     end_run(cache, first, count, NT_SUCCESS(status));
     return status;
@@ -168,7 +168,7 @@ static void advance(KzCache *cache)
     if (cache->stream->valid <= cache->told)
         return;
     cache->told = cache->stream->valid;
-    kz.store->ask(cache->holder, cache->handle, &asked);
+    kz.store->ask(cache->holder, &asked);
 }
 
 /* What can't be written now is due again a second later. */

@@ -140,6 +140,7 @@ typedef struct {
     bool is_user;     /* a program began it */
     bool is_fast;     /* it has no IRP */
     bool is_reissued; /* a filter sent it down again */
+    bool is_late;     /* the cache's or the memory manager's: after the cleanup of its handle too */
     PFLT_INSTANCE initiator; /* those at its altitude and above don't hear; NULL: all hear */
     ULONG irp_flags;
     PECP_LIST ecps; /* of a create; the filter's own */

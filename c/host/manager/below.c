@@ -74,7 +74,7 @@ static void name_file(KzFile *file, const char *path, const void **bytes, size_t
 /* Where it begins. What an instance that is gone has left open is cleaned up and closed at the base. */
 static KzTold begin_at(const KzOwn *own, KazdrinEvent asked, const void *bytes, size_t length)
 {
-    asked.kind = own->initiator ? KZB_BELOW : KZB_TOP;
+    asked.kind = own->initiator ? KZB_BELOW : own->is_late ? KZB_LATE : KZB_TOP;
     asked.instance = own->initiator ? own->initiator->id : 0;
     KzTold begun = kz_event_with(kz_worker(), asked, bytes, length);
     bool ends = asked.event == KZE_CLEANUP || asked.event == KZE_CLOSE;
@@ -208,6 +208,8 @@ NTSTATUS kz_ask_volume_below(PFLT_INSTANCE initiator, const KzAsked *asked, void
 void kz_close_below(PFLT_INSTANCE initiator, KzFile *file)
 {
     const KzOwn own = {.initiator = initiator, .is_waited_for = true};
+    if (kz_holds_cache(file))
+        kz_flush_cache(kz_cache_of(file), 0, 0); /* its close doesn't wait */
     kz_below(&own, file, (KazdrinEvent){.event = KZE_CLEANUP, .handle = file->handle}, "", 0);
     if (kz_holds_cache(file))
         kz_end_idle_cache(kz_cache_of(file));
@@ -231,4 +233,4 @@ void kz_close_if_due(KzFile *file)
     kz_below(&own, file, (KazdrinEvent){.event = KZE_CLOSE, .handle = file->handle}, "", 0);
 }
 
-const KzStore kz_manager_store = {kz_go_on_from_base, kz_open_for_paging, kz_close_for_paging, kz_page, kz_ask_for_cache};
+const KzStore kz_manager_store = {kz_go_on_from_base, kz_page, kz_ask_for_cache};

@@ -15,54 +15,20 @@
 
 #include <stdlib.h>
 
-/* ---- Operations. An event at the file system, which no instance hears. */
-static KzTold at_base(KazdrinEvent event, const char *bytes)
+/* ---- Operations. */
+NTSTATUS kz_page(KzFile *file, const KzPaging *asked, uint64_t *there)
 {
-    uint8_t worker = kz_helper();
-    KazdrinTold told = {0};
-    event.kind = KZB_BASE;
-    KzTold begun = kz_event_with(worker, event, bytes, strlen(bytes));
-    const KazdrinEvent next = {.operation = begun.told.operation, .worker = worker};
-    while (begun.status == KZS_OK && kazdrin_next(&kz.manager, &next, &told) == KZS_OK && told.action != KZA_DONE)
-        if (told.action == KZA_BASE)
-            kazdrin_based(&kz.manager, &(KazdrinEvent){.worker = worker, .status = KZS_OK}, (const uint8_t *)"", 0);
-    if (begun.status == KZS_OK)
-        begun = kz_event(worker, (KazdrinEvent){.event = KZE_COLLECT, .operation = next.operation});
-    kz_helped(worker);
-    return begun;
-}
-
-/* As long as its file object has a handle of its own alone an operation may begin at the top by it, and a cache outlives that. */
-bool kz_open_for_paging(const KzFile *file, uint64_t *handle)
-{
-    KzTold opened = at_base((KazdrinEvent){.event = KZE_CREATE, .volume = file->volume->id}, file->name->stream->key);
-    if (opened.status != KZS_OK || opened.told.status != KZS_OK)
-        return false;
-    *handle = opened.told.information;
-    kz_hide_number(*handle);
-    return true;
-}
-
-void kz_close_for_paging(const KzFile *file, uint64_t handle)
-{
-    (void)file;
-    at_base((KazdrinEvent){.event = KZE_CLEANUP, .handle = handle}, "");
-    at_base((KazdrinEvent){.event = KZE_CLOSE, .handle = handle}, "");
-}
-
-NTSTATUS kz_page(KzFile *file, uint64_t handle, const KzPaging *asked, uint64_t *there)
-{
-    const KzOwn own = {.is_waited_for = true, .irp_flags = asked->flags};
-    KazdrinEvent event = {.event = asked->is_write ? KZE_WRITE : KZE_READ, .handle = handle, .offset = asked->offset, .len = asked->is_write ? 0 : asked->length};
+    const KzOwn own = {.is_waited_for = true, .is_late = true, .irp_flags = asked->flags};
+    KazdrinEvent event = {.event = asked->is_write ? KZE_WRITE : KZE_READ, .handle = file->handle, .offset = asked->offset, .len = asked->is_write ? 0 : asked->length};
     KzAnswer answer = kz_below(&own, file, event, asked->is_write ? asked->bytes : (const uint8_t *)"", asked->is_write ? asked->length : 0);
     *there = asked->is_write ? answer.reply.information : answer.length;
     return answer.reply.held ? STATUS_POSSIBLE_DEADLOCK : kz_status_of(answer); /* nobody lets it go on */
 }
 
-NTSTATUS kz_ask_for_cache(KzFile *file, uint64_t handle, const KzAsked *asked)
+NTSTATUS kz_ask_for_cache(KzFile *file, const KzAsked *asked)
 {
-    const KzOwn own = {.is_waited_for = true, .irp_flags = asked->irp_flags, .opaque = asked};
-    return kz_status_of(kz_below(&own, file, kz_opaque_event(asked, (KazdrinEvent){.event = KZE_OTHER, .handle = handle}), "", 0));
+    const KzOwn own = {.is_waited_for = true, .is_late = true, .irp_flags = asked->irp_flags, .opaque = asked};
+    return kz_status_of(kz_below(&own, file, kz_opaque_event(asked, (KazdrinEvent){.event = KZE_OTHER, .handle = file->handle}), "", 0));
 }
 
 /* ---- By pages. */

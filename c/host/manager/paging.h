@@ -7,10 +7,8 @@
 #include "filesystem/store.h"
 
 /* ---- What the cache asks of the manager. */
-bool kz_open_for_paging(const KzFile *file, uint64_t *handle);
-void kz_close_for_paging(const KzFile *file, uint64_t handle);
-NTSTATUS kz_page(KzFile *file, uint64_t handle, const KzPaging *asked, uint64_t *there);
-NTSTATUS kz_ask_for_cache(KzFile *file, uint64_t handle, const KzAsked *asked);
+NTSTATUS kz_page(KzFile *file, const KzPaging *asked, uint64_t *there);
+NTSTATUS kz_ask_for_cache(KzFile *file, const KzAsked *asked);
 
 /* ---- What the file system does. */
 /* A read or a write that goes by the stream's pages, if there is any of the file where it is. */

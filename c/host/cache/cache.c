@@ -7,6 +7,7 @@
 #include "core/op.h"
 #include "filesystem/fileobject.h"
 #include "filesystem/store.h"
+#include "filesystem/version.h"
 
 #include <stdlib.h>
 
@@ -27,7 +28,7 @@ unsigned kz_next_round(void)
 
 KzCache *kz_cache_of(const KzFile *file)
 {
-    return file->name ? file->name->stream->cache : NULL;
+    return file->name ? kz_seen_stream(file)->cache : NULL;
 }
 
 KzCache *kz_cache_with(const SECTION_OBJECT_POINTERS *pointers)
@@ -40,7 +41,7 @@ KzCache *kz_cache_with(const SECTION_OBJECT_POINTERS *pointers)
 
 static KzCache *new_cache(KzFile *holder)
 {
-    KzStream *stream = holder->name->stream;
+    KzStream *stream = kz_seen_stream(holder);
     KzCache *made = kz_memory(sizeof *made);
     *made = (KzCache){.next = kz.cache->first, .stream = stream, .holder = holder, .told = stream->valid};
     stream->cache = kz.cache->first = made;

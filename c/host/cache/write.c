@@ -8,6 +8,7 @@
 #include "core/module.h"
 #include "core/op.h"
 #include "core/told.h"
+#include "filesystem/fileobject.h"
 #include "filesystem/store.h"
 
 #include <stdlib.h>
@@ -157,6 +158,36 @@ bool kz_purge_cache(KzCache *cache, uint64_t from, uint64_t length, bool ends)
     return are_all;
 }
 
+/* ---- Transactions. What was written before one changes the file is committed: it is in the file, and nobody caches it any more. The one that changes it reads and writes from then on. */
+static void keep(const void *stream, KzFile *by)
+{
+    KzCache *cache = ((const KzStream *)stream)->cache;
+    if (!cache)
+        return;
+    kz_uses_all();
+    cache->users++;
+    kz_flush_cache(cache, 0, 0);
+    cache->users--;
+    if (cache->views)
+        kz_tell(KZM_TRANSACTION, "a create in a transaction", "of a file that is mapped: its views show what the transaction changes");
+    KzFile *before = cache->holder;
+    cache->holder = by;
+    by->users++;
+    kz_let_go_file(before);
+    kz_purge_cache(cache, 0, 0, true);
+}
+
+static void replace(const void *stream)
+{
+    KzCache *cache = ((const KzStream *)stream)->cache;
+    if (!cache)
+        return;
+    kz_uses_all();
+    if (cache->views)
+        kz_tell(KZM_TRANSACTION, "the end of a transaction", "a view of \\%s shows what it did before", cache->holder->path);
+    kz_purge_cache(cache, 0, 0, true);
+}
+
 /* ---- The lazy writer. */
 enum { SECOND = 1000 };
 
@@ -304,4 +335,4 @@ static bool read_ahead(void)
     return true;
 }
 
-const KzModule kz_writer_module = {.passes = pass, .goes_on = read_ahead};
+const KzModule kz_writer_module = {.passes = pass, .goes_on = read_ahead, .kept = keep, .replaced = replace};

@@ -108,6 +108,20 @@ void kz_stream_is_cut(const void *stream, uint64_t size)
             (*one)->cut(stream, size);
 }
 
+void kz_stream_is_kept(const void *stream, KzFile *by)
+{
+    for EACH (one)
+        if ((*one)->kept)
+            (*one)->kept(stream, by);
+}
+
+void kz_stream_is_replaced(const void *stream)
+{
+    for EACH (one)
+        if ((*one)->replaced)
+            (*one)->replaced(stream);
+}
+
 bool kz_goes_on(void)
 {
     for EACH (one)

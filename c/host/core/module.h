@@ -22,6 +22,8 @@ typedef struct KzModule {
     void (*operation_ends)(KzOp *op);
     bool (*is_mapped)(KzOp *op, const void *stream, uint64_t size); /* the file is to be cut to that size: whether something still needs what is behind it */
     void (*cut)(const void *stream, uint64_t size); /* it was */
+    void (*kept)(const void *stream, KzFile *by);   /* what that file's transaction changes of it isn't seen by others: what they wrote is to be in the file */
+    void (*replaced)(const void *stream);           /* it has other bytes */
     bool (*goes_on)(void);                          /* what runs beside the requests; false if nothing could */
     bool (*passes)(LONGLONG until);                 /* the next that is due up to then comes; false if nothing is */
     void (*left)(void);                             /* what is left at the end of a run is told */
@@ -50,6 +52,8 @@ void kz_memory_goes(const void *memory, size_t size);
 void kz_operation_ends(KzOp *op);
 bool kz_is_mapped(KzOp *op, const void *stream, uint64_t size);
 void kz_stream_is_cut(const void *stream, uint64_t size);
+void kz_stream_is_kept(const void *stream, KzFile *by);
+void kz_stream_is_replaced(const void *stream);
 bool kz_goes_on(void);
 bool kz_passes(LONGLONG until);
 void kz_tell_left(void);

@@ -10,6 +10,7 @@
 #include "filesystem/name.h"
 #include "filesystem/sharing.h"
 #include "filesystem/spelling.h"
+#include "filesystem/version.h"
 
 #include <stdlib.h>
 
@@ -95,7 +96,7 @@ void kz_file_opened(KzFile *file)
     object->FsContext = file->name ? (PVOID)file->name->stream : (PVOID)file; /* all handles of a stream have the same */
     object->FsContext2 = &file->sections;
     if (file->name)
-        object->SectionObjectPointer = &file->name->stream->sections;
+        object->SectionObjectPointer = &kz_seen_stream(file)->sections;
     object->Flags |= FO_HANDLE_CREATED | (object->Flags & FO_NO_INTERMEDIATE_BUFFERING ? 0 : FO_CACHE_SUPPORTED);
 }
 

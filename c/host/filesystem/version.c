@@ -22,8 +22,7 @@ typedef struct Old {
     struct Old *next;
     KzName *name; /* that keeps the stream */
     KzStream *stream;
-    uint64_t size, allocation;
-    KzPages pages;
+    KzStream kept; /* sizes, bytes and cache */
 } Old;
 
 typedef struct KzVersion {
@@ -38,6 +37,7 @@ typedef struct KzVersion {
 
 struct KzVersionState {
     PKTRANSACTION first;
+    Old *seen; /* what is over, and whose cache somebody still needs */
     unsigned last; /* number */
 };
 
@@ -113,8 +113,16 @@ KzFacts kz_facts_of(const KzStream *stream, const struct _KTRANSACTION *from)
         return (KzFacts){record->created, record->accessed, record->written, record->changed, record->attributes, stream->size, stream->allocation, &stream->pages};
     KzFacts facts = version->facts;
     if (old)
-        facts.size = old->size, facts.allocation = old->allocation, facts.pages = &old->pages;
+        facts.size = old->kept.size, facts.allocation = old->kept.allocation, facts.pages = &old->kept.pages;
     return facts;
+}
+
+KzStream *kz_seen_stream(const KzFile *file)
+{
+    KzStream *stream = file->name->stream;
+    const KzVersion *version = seen(stream->file, file->transaction);
+    const Old *old = version ? old_of(version, stream) : NULL;
+    return old ? (KzStream *)&old->kept : stream;
 }
 
 bool kz_is_hidden(const KzName *name, const struct _KTRANSACTION *from)
@@ -141,9 +149,9 @@ static bool changes(const KzCreate *create)
 
 static bool has_transactions(PFLT_VOLUME volume)
 {
-    bool has = volume->type == FLT_FSTYPE_NTFS && !volume->is_cached && !kz_is_in_folder(volume->id);
+    bool has = volume->type == FLT_FSTYPE_NTFS && !kz_is_in_folder(volume->id);
     if (!has)
-        kz_tell(KZM_TRANSACTION, "a create in a transaction", "on a volume that isn't NTFS in memory, or is cached: it answers STATUS_NOT_SUPPORTED");
+        kz_tell(KZM_TRANSACTION, "a create in a transaction", "on a volume that isn't NTFS in memory: it answers STATUS_NOT_SUPPORTED");
     return has;
 }
 
@@ -180,16 +188,25 @@ static KzName *name_of(const KzName *file, const KzStream *stream)
 }
 
 /* All streams that are there, but for one that the create has just made. */
-static void keep_streams(KzVersion *version, KzName *file, const KzStream *made)
+static void keep_streams(KzVersion *version, KzName *file, const KzStream *made, KzFile *by)
 {
     for (KzStream *one = file->file->streams; one; one = one->next) {
         if (!one->exists || one == made)
             continue;
         Old *old = kz_memory(sizeof *old);
-        *old = (Old){.next = version->streams, .name = name_of(file, one), .stream = one, .size = one->size, .allocation = one->allocation};
-        kz_copy_pages(&old->pages, &one->pages);
+        kz_stream_is_kept(one, by);
+        *old = (Old){.next = version->streams, .name = name_of(file, one), .stream = one, .kept = {.file = one->file, .name = one->name, .exists = true, .size = one->size, .allocation = one->allocation, .valid = one->valid}};
+        kz_copy_pages(&old->kept.pages, &one->pages);
         version->streams = old;
     }
+}
+
+/* The sections of a stream are others for those who see what was committed last. */
+static void show_sections(const KzVersion *version)
+{
+    for (KzFile *one = kz.files; one; one = one->next)
+        if (one->name && one->name->file == version->name->file && one->object.SectionObjectPointer != &one->sections)
+            one->object.SectionObjectPointer = &kz_seen_stream(one)->sections;
 }
 
 void kz_begin_version(KzFile *file, const KzCreate *create, bool was_there, bool had_file)
@@ -209,8 +226,9 @@ void kz_begin_version(KzFile *file, const KzCreate *create, bool was_there, bool
     snprintf(made->path, sizeof made->path, "%s", own->text);
     kz_keep_name(own);
     if (had_file)
-        keep_streams(made, own, was_there ? NULL : name->stream);
+        keep_streams(made, own, was_there ? NULL : name->stream, file);
     by->versions = record->version = made;
+    show_sections(made);
 }
 
 /* ---- Deletions. */
@@ -243,11 +261,13 @@ static void put_back_stream(Old *old)
         kz_tell(KZM_TRANSACTION, "a rollback", "a stream that the transaction deleted isn't put back");
         return;
     }
+    kz_stream_is_replaced(stream);
     kz_cut_bytes(&stream->pages, 0);
-    stream->pages = old->pages;
-    old->pages = (KzPages){0};
-    stream->size = old->size;
-    stream->allocation = old->allocation;
+    stream->pages = old->kept.pages;
+    old->kept.pages = (KzPages){0};
+    stream->size = old->kept.size;
+    stream->allocation = old->kept.allocation;
+    stream->valid = old->kept.valid;
     kz_refill_views(stream);
 }
 
@@ -286,15 +306,36 @@ static void put_back(KzVersion *version)
         kz_move_to(name, version->path);
 }
 
-static void free_streams(KzVersion *version, bool lets_go)
+static void free_stream(Old *gone, bool lets_go)
+{
+    kz_cut_bytes(&gone->kept.pages, 0);
+    if (lets_go)
+        kz_let_go_name(gone->name);
+    free(gone);
+}
+
+static void free_streams(KzVersion *version)
 {
     while (version->streams) {
         Old *gone = version->streams;
         version->streams = gone->next;
-        kz_cut_bytes(&gone->pages, 0);
-        if (lets_go)
-            kz_let_go_name(gone->name);
-        free(gone);
+        free_stream(gone, false);
+    }
+}
+
+/* What somebody still needs of its cache stays as it was. */
+static void end_streams(KzVersion *version)
+{
+    while (version->streams) {
+        Old *gone = version->streams;
+        version->streams = gone->next;
+        kz_stream_is_replaced(&gone->kept);
+        if (!gone->kept.cache) {
+            free_stream(gone, true);
+            continue;
+        }
+        gone->next = kz.version->seen;
+        kz.version->seen = gone;
     }
 }
 
@@ -304,11 +345,12 @@ void kz_end_versions(PKTRANSACTION transaction, bool is_committed)
         KzVersion *one = transaction->versions;
         transaction->versions = one->next;
         one->name->file->version = NULL;
+        show_sections(one);
         if (!is_committed)
             put_back(one);
         else if (one->is_deleted && !one->name->is_gone)
             kz_delete_name(one->name);
-        free_streams(one, true);
+        end_streams(one);
         kz_let_go_name(one->name);
         free(one);
     }
@@ -316,12 +358,17 @@ void kz_end_versions(PKTRANSACTION transaction, bool is_committed)
 
 static void free_transactions(void)
 {
+    while (kz.version->seen) {
+        Old *gone = kz.version->seen;
+        kz.version->seen = gone->next;
+        free_stream(gone, false);
+    }
     while (kz.version->first) {
         PKTRANSACTION gone = kz.version->first;
         kz.version->first = gone->next;
         for (KzVersion *one = gone->versions, *next; one; one = next) {
             next = one->next;
-            free_streams(one, false);
+            free_streams(one);
             free(one);
         }
         for (KzMember *one = gone->members, *next; one; one = next) {

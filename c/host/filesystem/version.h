@@ -27,6 +27,8 @@ KzMember **kz_member_of(PKTRANSACTION transaction, PFLT_INSTANCE instance);
 PKTRANSACTION kz_transaction_of(PFLT_INSTANCE instance);
 /* As who is in that transaction sees it; NULL: who is in none. */
 KzFacts kz_facts_of(const KzStream *stream, const struct _KTRANSACTION *from);
+/* The file's stream, or what was committed of it last if another transaction changes it. */
+KzStream *kz_seen_stream(const KzFile *file);
 /* Whether its name leads nowhere for who is in that transaction: another one has made it, or that one has deleted it. */
 bool kz_is_hidden(const KzName *name, const struct _KTRANSACTION *from);
 /* Whether the mark that it has is one for who is in that transaction. */

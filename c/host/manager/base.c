@@ -198,7 +198,7 @@ bool kz_call_base(KzOp *op)
     if (is_failed && kazdrin_based(&kz.manager, &failed, (const uint8_t *)"", 0) == KZS_OK)
         return true;
     op->comes_from_device = true;
-    if (is_orphan(op)) {
+    if (is_orphan(op) && !kz_is_for_cache(op)) {
         answer(op, STATUS_HANDLE_NO_LONGER_VALID, NULL, 0);
         return true;
     }

@@ -108,6 +108,7 @@ bool kz_set_volume(PFLT_VOLUME volume, const char *word)
 void kz_new_volume(PFLT_VOLUME volume)
 {
     volume->type = FLT_FSTYPE_NTFS;
+    volume->is_cached = true;
     volume->sector = 512;
     volume->device = (DEVICE_OBJECT){.Type = 3, .Size = sizeof(DEVICE_OBJECT), .DeviceType = FILE_DEVICE_DISK_FILE_SYSTEM};
     volume->disk = (DEVICE_OBJECT){.Type = 3, .Size = sizeof(DEVICE_OBJECT), .DeviceType = FILE_DEVICE_DISK, .SectorSize = 512};

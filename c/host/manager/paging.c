@@ -10,6 +10,7 @@
 #include "filesystem/fileobject.h"
 #include "filesystem/query.h"
 #include "filesystem/stream.h"
+#include "filesystem/version.h"
 #include "manager/below.h"
 #include "manager/opaque.h"
 
@@ -55,7 +56,7 @@ static bool needs_irp(const KzOp *op, const KazdrinData *call)
 {
     enum { AWAY = 0x2000 };
     const KzFile *file = op->file;
-    const KzStream *stream = file->name->stream;
+    const KzStream *stream = kz_seen_stream(file);
     bool is_far = call->offset >= stream->valid + AWAY || call->offset + call->length > kz_allocation_of(stream);
     return op->own.is_fast && (!file->object.PrivateCacheMap || (op->event == KZE_WRITE && (file->object.Flags & FO_WRITE_THROUGH || is_far)));
 }
@@ -81,7 +82,7 @@ static void note_read(KzCache *cache, uint64_t offset, uint64_t end)
 static NTSTATUS read_pages(KzOp *op, const KazdrinData *call, size_t *length)
 {
     KzCache *cache = kz_begin_cache(op->file);
-    uint64_t size = op->file->name->stream->size, rest = size - call->offset;
+    uint64_t size = kz_seen_stream(op->file)->size, rest = size - call->offset;
     if (!cache)
         return STATUS_INSUFFICIENT_RESOURCES;
     if (!kz_lock_stream(cache, false))

@@ -12,6 +12,7 @@
 #include "core/told.h"
 #include "filesystem/fileobject.h"
 #include "filesystem/tree.h"
+#include "filesystem/version.h"
 #include "manager/answer.h"
 #include "manager/context.h"
 #include "manager/data.h"
@@ -139,7 +140,7 @@ KazdrinEvent kz_verdict_of(KzOp *op, PFLT_INSTANCE instance, FLT_PREOP_CALLBACK_
 static bool is_its_sections(const KzFile *file, const FILE_OBJECT *before)
 {
     const SECTION_OBJECT_POINTERS *now = file->object.SectionObjectPointer;
-    return now == before->SectionObjectPointer || (file->name && now == &file->name->stream->sections);
+    return now == before->SectionObjectPointer || (file->name && now == &kz_seen_stream(file)->sections);
 }
 
 static bool is_its_context(const KzFile *file, const FILE_OBJECT *before)

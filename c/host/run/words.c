@@ -101,6 +101,8 @@ static KzReply ask_volume(char **words)
     uint64_t at;
     if (!kz_read_volume(words[1], &at) || at >= kz.volumes_count || !set_volume(kz.volumes[at], words + 2))
         return kz_wrong();
+    if (!kz_is_caching(kz.volumes[at]))
+        kz_end_caches(kz.volumes[at]);
     return outcome(KZS_OK, 0);
 }
 

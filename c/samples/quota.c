@@ -151,19 +151,25 @@ static FLT_PREOP_CALLBACK_STATUS QuotaTake(_Inout_ PFLT_CALLBACK_DATA Data, _In_
         return FLT_PREOP_COMPLETE;
     }
     *CompletionContext = change;
-    return FLT_PREOP_SUCCESS_WITH_CALLBACK;
+    /* Its postoperation takes the lock again, which may not be done at DISPATCH_LEVEL. */
+    return FLT_IS_IRP_OPERATION(Data) ? FLT_PREOP_SYNCHRONIZE : FLT_PREOP_SUCCESS_WITH_CALLBACK;
 }
 
 static FLT_PREOP_CALLBACK_STATUS QuotaPreWrite(_Inout_ PFLT_CALLBACK_DATA Data, _In_ PCFLT_RELATED_OBJECTS FltObjects,
                                                _Flt_CompletionContext_Outptr_ PVOID *CompletionContext)
 {
+    /* Paging I/O makes no file larger: it writes whole pages of what was counted before. */
+    if (FlagOn(Data->Iopb->IrpFlags, IRP_PAGING_IO)) {
+        return FLT_PREOP_SUCCESS_NO_CALLBACK;
+    }
     return QuotaTake(Data, FltObjects, Data->Iopb->Parameters.Write.ByteOffset.QuadPart + Data->Iopb->Parameters.Write.Length, FALSE, CompletionContext);
 }
 
 static FLT_PREOP_CALLBACK_STATUS QuotaPreSetInformation(_Inout_ PFLT_CALLBACK_DATA Data, _In_ PCFLT_RELATED_OBJECTS FltObjects,
                                                         _Flt_CompletionContext_Outptr_ PVOID *CompletionContext)
 {
-    if (Data->Iopb->Parameters.SetFileInformation.FileInformationClass != FileEndOfFileInformation) {
+    /* With AdvanceOnly the lazy writer says how far it has come. */
+    if (Data->Iopb->Parameters.SetFileInformation.FileInformationClass != FileEndOfFileInformation || Data->Iopb->Parameters.SetFileInformation.AdvanceOnly) {
         return FLT_PREOP_SUCCESS_NO_CALLBACK;
     }
     return QuotaTake(Data, FltObjects, ((PFILE_END_OF_FILE_INFORMATION)Data->Iopb->Parameters.SetFileInformation.InfoBuffer)->EndOfFile.QuadPart, TRUE,

@@ -232,8 +232,8 @@ int main(int count, char **words)
         return 1;
     kz_is_quiet = 1;
     setvbuf(stdout, NULL, _IOLBF, 0);
-    if (!is_cached)
-        kz_request("volume 0 uncached");
+    if (is_cached)
+        kz_request("volume 0 cached");
     answer_begin(links, LINKS);
     puts("ready");
     serve(listener, is_cached);

@@ -1,190 +1,116 @@
-/* IRQL: at which level each call of the kit may be made, from its documentation. What isn't here may be called at DISPATCH_LEVEL.
+/* IRQL: at which level each call of the kit may be made, from its documentation. What isn't here may be called up to APC_LEVEL.
  *
- * Calls on counted strings are documented for PASSIVE_LEVEL since their code and tables are paged. At APC_LEVEL paged memory is there, so that a driver may call them under a fast mutex:
- * they stand here with APC_LEVEL. Those that wait for a file system's answer may not be called there. A release is the mistake of its acquire, and is told there. */
+ * Calls on counted strings are documented for PASSIVE_LEVEL since their code and tables are paged. At APC_LEVEL paged memory is there, so that a driver may call them under a fast mutex. */
 #include "core/irql.h"
 
+#include "core/client.h"
 #include "core/held.h"
 #include "core/told.h"
 
+#include <ctype.h>
 #include <stdlib.h>
 
-typedef struct {
-    const char *call;
-    KIRQL most;
-} Rule;
-
-/* In the order of their names. */
-static const Rule rules[] = {
-    {"CcFlushCache", APC_LEVEL},
-    {"CcPurgeCacheSection", APC_LEVEL},
-    {"ExAcquireFastMutex", APC_LEVEL},
-    {"ExAcquireFastMutexUnsafe", APC_LEVEL},
-    {"ExAcquirePushLockExclusive", APC_LEVEL},
-    {"ExAcquirePushLockShared", APC_LEVEL},
-    {"ExAcquireResourceExclusiveLite", APC_LEVEL},
-    {"ExAcquireResourceSharedLite", APC_LEVEL},
-    {"ExAllocateFromPagedLookasideList", APC_LEVEL},
-    {"ExDeletePagedLookasideList", APC_LEVEL},
-    {"ExFreeToPagedLookasideList", APC_LEVEL},
-    {"ExInitializePagedLookasideList", APC_LEVEL},
-    {"ExRaiseAccessViolation", APC_LEVEL},
-    {"ExRaiseDatatypeMisalignment", APC_LEVEL},
-    {"ExRaiseStatus", APC_LEVEL},
-    {"ExTryToAcquireFastMutex", APC_LEVEL},
-    {"ExUuidCreate", APC_LEVEL},
-    {"ExWaitForRundownProtectionRelease", APC_LEVEL},
-    {"FltAcquirePushLockExclusive", APC_LEVEL},
-    {"FltAcquirePushLockShared", APC_LEVEL},
-    {"FltAcquireResourceExclusive", APC_LEVEL},
-    {"FltAcquireResourceShared", APC_LEVEL},
-    {"FltAllocateCallbackData", APC_LEVEL},
-    {"FltAllocateContext", APC_LEVEL},
-    {"FltAttachVolume", APC_LEVEL},
-    {"FltAttachVolumeAtAltitude", APC_LEVEL},
-    {"FltBuildDefaultSecurityDescriptor", APC_LEVEL},
-    {"FltCancelFileOpen", APC_LEVEL},
-    {"FltCheckOplock", APC_LEVEL},
-    {"FltClose", PASSIVE_LEVEL},
-    {"FltCloseCommunicationPort", APC_LEVEL},
-    {"FltCompareInstanceAltitudes", APC_LEVEL},
-    {"FltCreateCommunicationPort", APC_LEVEL},
-    {"FltCreateFile", PASSIVE_LEVEL},
-    {"FltCreateFileEx", PASSIVE_LEVEL},
-    {"FltCreateFileEx2", PASSIVE_LEVEL},
-    {"FltDeleteContext", APC_LEVEL},
-    {"FltDeleteFileContext", APC_LEVEL},
-    {"FltDeleteInstanceContext", APC_LEVEL},
-    {"FltDeletePushLock", APC_LEVEL},
-    {"FltDeleteStreamContext", APC_LEVEL},
-    {"FltDeleteStreamHandleContext", APC_LEVEL},
-    {"FltDeleteVolumeContext", APC_LEVEL},
-    {"FltEnumerateFilters", APC_LEVEL},
-    {"FltEnumerateInstances", APC_LEVEL},
-    {"FltEnumerateVolumes", APC_LEVEL},
-    {"FltFlushBuffers", PASSIVE_LEVEL},
-    {"FltFlushBuffers2", PASSIVE_LEVEL},
-    {"FltFsControlFile", PASSIVE_LEVEL},
-    {"FltGetBottomInstance", APC_LEVEL},
-    {"FltGetContexts", APC_LEVEL},
-    {"FltGetContextsEx", APC_LEVEL},
-    {"FltGetDestinationFileNameInformation", APC_LEVEL},
-    {"FltGetFileContext", APC_LEVEL},
-    {"FltGetFileNameInformation", APC_LEVEL},
-    {"FltGetFileNameInformationUnsafe", APC_LEVEL},
-    {"FltGetFilterFromName", APC_LEVEL},
-    {"FltGetInstanceContext", APC_LEVEL},
-    {"FltGetLowerInstance", APC_LEVEL},
-    {"FltGetSectionContext", APC_LEVEL},
-    {"FltGetStreamContext", APC_LEVEL},
-    {"FltGetStreamHandleContext", APC_LEVEL},
-    {"FltGetTopInstance", APC_LEVEL},
-    {"FltGetTunneledName", APC_LEVEL},
-    {"FltGetUpperInstance", APC_LEVEL},
-    {"FltGetVolumeContext", APC_LEVEL},
-    {"FltGetVolumeFromName", APC_LEVEL},
-    {"FltGetVolumeGuidName", APC_LEVEL},
-    {"FltGetVolumeInstanceFromName", APC_LEVEL},
-    {"FltGetVolumeName", APC_LEVEL},
-    {"FltGetVolumeProperties", APC_LEVEL},
-    {"FltIsDirectory", APC_LEVEL},
-    {"FltIsVolumeWritable", APC_LEVEL},
-    {"FltLockUserBuffer", APC_LEVEL},
-    {"FltOpenVolume", PASSIVE_LEVEL},
-    {"FltParseFileName", APC_LEVEL},
-    {"FltParseFileNameInformation", APC_LEVEL},
-    {"FltPerformSynchronousIo", APC_LEVEL},
-    {"FltPurgeFileNameInformationCache", APC_LEVEL},
-    {"FltQueryInformationFile", PASSIVE_LEVEL},
-    {"FltReadFile", PASSIVE_LEVEL},
-    {"FltRegisterFilter", APC_LEVEL},
-    {"FltReissueSynchronousIo", PASSIVE_LEVEL},
-    {"FltReleaseFileNameInformation", APC_LEVEL},
-    {"FltSendMessage", APC_LEVEL},
-    {"FltSetFileContext", APC_LEVEL},
-    {"FltSetInformationFile", PASSIVE_LEVEL},
-    {"FltSetInstanceContext", APC_LEVEL},
-    {"FltSetStreamContext", APC_LEVEL},
-    {"FltSetStreamHandleContext", APC_LEVEL},
-    {"FltSetVolumeContext", APC_LEVEL},
-    {"FltStartFiltering", APC_LEVEL},
-    {"FltSupportsFileContexts", APC_LEVEL},
-    {"FltSupportsFileContextsEx", APC_LEVEL},
-    {"FltSupportsStreamContexts", APC_LEVEL},
-    {"FltSupportsStreamHandleContexts", APC_LEVEL},
-    {"FltUnregisterFilter", APC_LEVEL},
-    {"FltWriteFile", PASSIVE_LEVEL},
-    {"FsRtlDoesNameContainWildCards", APC_LEVEL},
-    {"FsRtlGetFileSize", PASSIVE_LEVEL},
-    {"FsRtlIsNameInExpression", APC_LEVEL},
-    {"FsRtlIsNameInUnUpcasedExpression", APC_LEVEL},
-    {"IoCreateDevice", APC_LEVEL},
-    {"IoCreateSymbolicLink", APC_LEVEL},
-    {"IoDeleteDevice", APC_LEVEL},
-    {"IoDeleteSymbolicLink", APC_LEVEL},
-    {"IoVolumeDeviceToDosName", APC_LEVEL},
-    {"IoWMIRegistrationControl", PASSIVE_LEVEL},
-    {"KeAcquireGuardedMutex", APC_LEVEL},
-    {"KeDelayExecutionThread", APC_LEVEL},
-    {"KeEnterCriticalRegion", APC_LEVEL},
-    {"KeFlushQueuedDpcs", APC_LEVEL},
-    {"KeTryToAcquireGuardedMutex", APC_LEVEL},
-    {"MmCanFileBeTruncated", APC_LEVEL},
-    {"MmFlushImageSection", APC_LEVEL},
-    {"MmGetSystemRoutineAddress", APC_LEVEL},
-    {"ObOpenObjectByPointer", APC_LEVEL},
-    {"ObReferenceObjectByHandle", APC_LEVEL},
-    {"ProbeForRead", APC_LEVEL},
-    {"ProbeForWrite", APC_LEVEL},
-    {"PsCreateSystemThread", APC_LEVEL},
-    {"PsLookupProcessByProcessId", APC_LEVEL},
-    {"PsLookupThreadByThreadId", APC_LEVEL},
-    {"PsRemoveCreateThreadNotifyRoutine", APC_LEVEL},
-    {"PsRemoveLoadImageNotifyRoutine", APC_LEVEL},
-    {"PsSetCreateProcessNotifyRoutine", APC_LEVEL},
-    {"PsSetCreateProcessNotifyRoutineEx", APC_LEVEL},
-    {"RtlAnsiStringToUnicodeString", APC_LEVEL},
-    {"RtlCompareUnicodeString", APC_LEVEL},
-    {"RtlDowncaseUnicodeString", APC_LEVEL},
-    {"RtlEqualUnicodeString", APC_LEVEL},
-    {"RtlFreeAnsiString", APC_LEVEL},
-    {"RtlFreeUnicodeString", APC_LEVEL},
-    {"RtlGUIDFromString", APC_LEVEL},
-    {"RtlGetVersion", APC_LEVEL},
-    {"RtlHashUnicodeString", APC_LEVEL},
-    {"RtlInt64ToUnicodeString", APC_LEVEL},
-    {"RtlIntegerToUnicodeString", APC_LEVEL},
-    {"RtlPrefixUnicodeString", APC_LEVEL},
-    {"RtlQueryRegistryValues", APC_LEVEL},
-    {"RtlStringFromGUID", APC_LEVEL},
-    {"RtlUnicodeStringToAnsiString", APC_LEVEL},
-    {"RtlUnicodeStringToInteger", APC_LEVEL},
-    {"RtlUpcaseUnicodeString", APC_LEVEL},
-    {"SeCaptureSubjectContext", APC_LEVEL},
-    {"SeLocateProcessImageName", APC_LEVEL},
-    {"SeQueryInformationToken", APC_LEVEL},
-    {"ZwClose", PASSIVE_LEVEL},
-    {"ZwCreateFile", PASSIVE_LEVEL},
-    {"ZwCreateKey", PASSIVE_LEVEL},
-    {"ZwDeleteFile", PASSIVE_LEVEL},
-    {"ZwDeleteValueKey", PASSIVE_LEVEL},
-    {"ZwEnumerateValueKey", PASSIVE_LEVEL},
-    {"ZwFlushBuffersFile", PASSIVE_LEVEL},
-    {"ZwFlushKey", PASSIVE_LEVEL},
-    {"ZwOpenFile", PASSIVE_LEVEL},
-    {"ZwOpenKey", PASSIVE_LEVEL},
-    {"ZwOpenKeyEx", PASSIVE_LEVEL},
-    {"ZwQueryInformationFile", PASSIVE_LEVEL},
-    {"ZwQueryValueKey", PASSIVE_LEVEL},
-    {"ZwReadFile", PASSIVE_LEVEL},
-    {"ZwSetInformationFile", PASSIVE_LEVEL},
-    {"ZwSetValueKey", PASSIVE_LEVEL},
-    {"ZwWriteFile", PASSIVE_LEVEL},
+/* In the order of their names, each. */
+/* They wait for a file system, the registry or a thread, and need APCs. */
+static const char *const at_passive[] = {
+    "BCryptCloseAlgorithmProvider", "BCryptOpenAlgorithmProvider", "EtwRegister", "EtwUnregister", "FltClose", "FltCreateFile", "FltCreateFileEx", "FltCreateFileEx2",
+    "FltCreateMailslotFile", "FltCreateNamedPipeFile", "FltCreateSystemVolumeInformationFolder", "FltDetachVolume", "FltDeviceIoControlFile", "FltFlushBuffers", "FltFlushBuffers2",
+    "FltFsControlFile", "FltOpenVolume", "FltQueryDirectoryFile", "FltQueryDirectoryFileEx", "FltQueryEaFile", "FltQueryInformationByName", "FltQueryInformationFile",
+    "FltQueryQuotaInformationFile", "FltQuerySecurityObject", "FltQueryVolumeInformation", "FltQueryVolumeInformationFile", "FltReadFile", "FltReadFileEx", "FltReissueSynchronousIo",
+    "FltSetEaFile", "FltSetInformationFile", "FltSetQuotaInformationFile", "FltSetSecurityObject", "FltSetVolumeInformation", "FltTagFile", "FltTagFileEx", "FltUntagFile", "FltWriteFile",
+    "FltWriteFileEx", "FsRtlGetFileSize", "IoBuildDeviceIoControlRequest", "IoBuildSynchronousFsdRequest", "IoCreateDeviceSecure", "IoCreateFile", "IoCreateFileEx",
+    "IoCreateFileSpecifyDeviceObjectHint", "IoQueryFileInformation", "IoQueryVolumeInformation", "IoRegisterBootDriverReinitialization", "IoRegisterDriverReinitialization",
+    "IoRegisterFsRegistrationChange", "IoRegisterShutdownNotification", "IoReleaseRemoveLockAndWait", "IoUnregisterFsRegistrationChange", "IoWMIRegistrationControl", "ObRegisterCallbacks",
+    "ObUnRegisterCallbacks", "PsSetCreateProcessNotifyRoutineEx2", "PsSetCreateThreadNotifyRoutine", "PsSetCreateThreadNotifyRoutineEx", "PsSetLoadImageNotifyRoutine",
+    "PsSetLoadImageNotifyRoutineEx", "PsTerminateSystemThread", "ZwAllocateVirtualMemory", "ZwCancelIoFileEx", "ZwClose", "ZwCreateDirectoryObject", "ZwCreateEvent", "ZwCreateFile",
+    "ZwCreateKey", "ZwCreateSection", "ZwCreateTransaction", "ZwDeleteFile", "ZwDeleteKey", "ZwDeleteValueKey", "ZwDeviceIoControlFile", "ZwDuplicateObject", "ZwEnumerateKey",
+    "ZwEnumerateValueKey", "ZwFlushBuffersFile", "ZwFlushKey", "ZwFreeVirtualMemory", "ZwFsControlFile", "ZwLoadDriver", "ZwLockFile", "ZwMakeTemporaryObject", "ZwMapViewOfSection",
+    "ZwNotifyChangeKey", "ZwOpenDirectoryObject", "ZwOpenEvent", "ZwOpenFile", "ZwOpenKey", "ZwOpenKeyEx", "ZwOpenProcess", "ZwOpenProcessTokenEx", "ZwOpenSection",
+    "ZwOpenSymbolicLinkObject", "ZwOpenThread", "ZwOpenThreadTokenEx", "ZwQueryDirectoryFile", "ZwQueryDirectoryFileEx", "ZwQueryEaFile", "ZwQueryFullAttributesFile",
+    "ZwQueryInformationByName", "ZwQueryInformationFile", "ZwQueryInformationProcess", "ZwQueryInformationThread", "ZwQueryInformationToken", "ZwQueryKey", "ZwQueryObject",
+    "ZwQuerySecurityObject", "ZwQuerySymbolicLinkObject", "ZwQuerySystemInformation", "ZwQueryValueKey", "ZwQueryVirtualMemory", "ZwQueryVolumeInformationFile", "ZwReadFile",
+    "ZwRenameKey", "ZwSetEaFile", "ZwSetEvent", "ZwSetInformationFile", "ZwSetSecurityObject", "ZwSetValueKey", "ZwSetVolumeInformationFile", "ZwTerminateProcess", "ZwUnloadDriver",
+    "ZwUnlockFile", "ZwUnmapViewOfSection", "ZwWaitForSingleObject", "ZwWriteFile",
 };
 
-static int compare(const void *name, const void *rule)
+/* Nothing that they touch is paged, and they wait for nobody. A release is the mistake of its acquire, and is told there; how long a wait is says its level, and what kind of memory is meant. */
+static const char *const at_dispatch[] = {
+    "BCryptCreateHash", "BCryptDecrypt", "BCryptDeriveKeyPBKDF2", "BCryptDestroyHash", "BCryptDestroyKey", "BCryptDuplicateHash", "BCryptEncrypt", "BCryptExportKey", "BCryptFinishHash",
+    "BCryptGenRandom", "BCryptGenerateSymmetricKey", "BCryptGetProperty", "BCryptHash", "BCryptHashData", "BCryptImportKey", "BCryptSetProperty", "CcGetFileSizePointer", "CcIsFileCached",
+    "DbgPrint", "DbgPrintEx", "EtwEventEnabled", "EtwWrite", "ExAcquireRundownProtection", "ExAcquireRundownProtectionCacheAware", "ExAcquireSpinLockExclusive",
+    "ExAcquireSpinLockExclusiveAtDpcLevel", "ExAcquireSpinLockShared", "ExAcquireSpinLockSharedAtDpcLevel", "ExAllocateCacheAwareRundownProtection", "ExAllocateFromLookasideListEx",
+    "ExAllocateFromNPagedLookasideList", "ExAllocatePool", "ExAllocatePool2", "ExAllocatePool3", "ExAllocatePoolUninitialized", "ExAllocatePoolWithQuotaTag", "ExAllocatePoolWithTag",
+    "ExAllocatePoolZero", "ExAllocateTimer", "ExCancelTimer", "ExConvertExclusiveToSharedLite", "ExDeleteLookasideListEx", "ExDeleteNPagedLookasideList", "ExDeleteResourceLite",
+    "ExDeleteTimer", "ExFreeCacheAwareRundownProtection", "ExFreePool", "ExFreePool2", "ExFreePoolWithTag", "ExFreeToLookasideListEx", "ExFreeToNPagedLookasideList",
+    "ExGetExclusiveWaiterCount", "ExGetSharedWaiterCount", "ExInitializeFastMutex", "ExInitializeLookasideListEx", "ExInitializeNPagedLookasideList", "ExInitializePushLock",
+    "ExInitializeResourceLite", "ExInitializeRundownProtection", "ExInterlockedInsertHeadList", "ExInterlockedInsertTailList", "ExInterlockedRemoveHeadList",
+    "ExIsResourceAcquiredExclusiveLite", "ExIsResourceAcquiredSharedLite", "ExLocalTimeToSystemTime", "ExNotifyCallback", "ExQueueWorkItem", "ExReInitializeRundownProtection",
+    "ExReInitializeRundownProtectionCacheAware", "ExReinitializeResourceLite", "ExReleaseFastMutex", "ExReleaseFastMutexUnsafe", "ExReleasePushLockExclusive",
+    "ExReleasePushLockExclusiveEx", "ExReleasePushLockShared", "ExReleasePushLockSharedEx", "ExReleaseResourceAndLeaveCriticalRegion", "ExReleaseResourceForThreadLite",
+    "ExReleaseResourceLite", "ExReleaseRundownProtection", "ExReleaseRundownProtectionCacheAware", "ExReleaseSpinLockExclusive", "ExReleaseSpinLockShared", "ExRundownCompleted",
+    "ExRundownCompletedCacheAware", "ExSetResourceOwnerPointer", "ExSetTimer", "ExSystemTimeToLocalTime", "FltAllocateDeferredIoWorkItem", "FltAllocateGenericWorkItem",
+    "FltAllocatePoolAlignedWithTag", "FltCancelIo", "FltCbdqDisable", "FltCbdqEnable", "FltCbdqInsertIo", "FltCbdqRemoveIo", "FltCbdqRemoveNextIo", "FltClearCallbackDataDirty",
+    "FltClearCancelCompletion", "FltCompletePendedPostOperation", "FltCompletePendedPreOperation", "FltDecodeParameters", "FltDoCompletionProcessingWhenSafe", "FltFreeCallbackData",
+    "FltFreeDeferredIoWorkItem", "FltFreeGenericWorkItem", "FltFreePoolAlignedWithTag", "FltGetActivityIdCallbackData", "FltGetCallerIsReadOnlyExtension", "FltGetFsZeroingOffset",
+    "FltGetIoAttributionHandleFromCallbackData", "FltGetIoPriorityHint", "FltGetIoPriorityHintFromCallbackData", "FltGetIoPriorityHintFromFileObject", "FltGetIoPriorityHintFromThread",
+    "FltGetIrpName", "FltGetNewSystemBufferAddress", "FltGetRequestorProcess", "FltGetRequestorProcessId", "FltGetRequestorProcessIdEx", "FltGetRequestorSessionId",
+    "FltGetSwappedBufferMdlAddress", "FltIs32bitProcess", "FltIsCallbackDataDirty", "FltIsIoCanceled", "FltIsOperationSynchronous", "FltObjectDereference", "FltObjectReference",
+    "FltPerformAsynchronousIo", "FltPropagateActivityIdToThread", "FltPropagateIrpExtension", "FltQueueDeferredIoWorkItem", "FltQueueGenericWorkItem", "FltReferenceContext",
+    "FltReleaseContext", "FltReleaseContexts", "FltReleaseContextsEx", "FltReleasePushLock", "FltReleasePushLockEx", "FltReleaseResource", "FltRequestOperationStatusCallback",
+    "FltRetainSwappedBufferMdlAddress", "FltReuseCallbackData", "FltSetActivityIdCallbackData", "FltSetCallbackDataDirty", "FltSetCancelCompletion", "FltSetFsZeroingOffset",
+    "FltSetFsZeroingOffsetRequired", "FltSetIoPriorityHintIntoCallbackData", "FltSetIoPriorityHintIntoFileObject", "FltSetIoPriorityHintIntoThread", "FsRtlIsPagingFile",
+    "FsRtlNormalizeNtstatus", "FsRtlSetupAdvancedHeader", "InterlockedFlushSList", "InterlockedPopEntrySList", "InterlockedPushEntrySList", "IoAcquireCancelSpinLock",
+    "IoAcquireRemoveLock", "IoAllocateErrorLogEntry", "IoAllocateIrp", "IoAllocateMdl", "IoAllocateWorkItem", "IoBuildAsynchronousFsdRequest", "IoBuildPartialMdl", "IoCallDriver",
+    "IoCancelIrp", "IoCompleteRequest", "IoCsqInitialize", "IoCsqInsertIrp", "IoCsqRemoveIrp", "IoCsqRemoveNextIrp", "IoFreeErrorLogEntry", "IoFreeIrp", "IoFreeMdl", "IoFreeWorkItem",
+    "IoGetAttachedDeviceReference", "IoGetBaseFileSystemDeviceObject", "IoGetCurrentProcess", "IoGetFileObjectFilterContext", "IoGetFileObjectGenericMapping", "IoGetRelatedDeviceObject",
+    "IoGetRemainingStackSize", "IoGetRequestorProcess", "IoGetRequestorProcessId", "IoGetStackLimits", "IoGetTopLevelIrp", "IoGetTransactionParameterBlock", "IoInitializeRemoveLock",
+    "IoInitializeWorkItem", "IoIs32bitProcess", "IoIsOperationSynchronous", "IoIsSystemThread", "IoMarkIrpPending", "IoQueueWorkItem", "IoQueueWorkItemEx", "IoReleaseCancelSpinLock",
+    "IoReleaseRemoveLock", "IoReuseIrp", "IoSetTopLevelIrp", "IoThreadToProcess", "IoWriteErrorLogEntry", "IofCallDriver", "IofCompleteRequest", "KeAcquireInStackQueuedSpinLock",
+    "KeAcquireInStackQueuedSpinLockAtDpcLevel", "KeAcquireSpinLock", "KeAcquireSpinLockAtDpcLevel", "KeAcquireSpinLockRaiseToDpc", "KeAreAllApcsDisabled", "KeAreApcsDisabled",
+    "KeCancelTimer", "KeClearEvent", "KeExpandKernelStackAndCallout", "KeExpandKernelStackAndCalloutEx", "KeGetCurrentThread", "KeInitializeDpc", "KeInitializeEvent",
+    "KeInitializeGuardedMutex", "KeInitializeMutex", "KeInitializeQueue", "KeInitializeSemaphore", "KeInitializeTimer", "KeInitializeTimerEx", "KeInsertQueue", "KeInsertQueueDpc", "KeLeaveCriticalRegion", "KeLeaveGuardedRegion",
+    "KeIpiGenericCall", "KePulseEvent", "KeQueryPriorityThread", "KeReadStateEvent", "KeReadStateTimer", "KeReleaseGuardedMutex", "KeReleaseGuardedMutexUnsafe",
+    "KeReleaseInStackQueuedSpinLock", "KeReleaseInStackQueuedSpinLockFromDpcLevel", "KeReleaseMutex", "KeReleaseSemaphore", "KeReleaseSpinLock", "KeReleaseSpinLockFromDpcLevel",
+    "KeRemoveQueueDpc", "KeResetEvent", "KeSetEvent", "KeSetTimer", "KeSetTimerEx", "KeWaitForMultipleObjects", "KeWaitForMutexObject", "KeWaitForSingleObject",
+    "MmBuildMdlForNonPagedPool", "MmCreateMdl", "MmGetMdlByteCount", "MmGetMdlVirtualAddress", "MmGetSystemAddressForMdlSafe", "MmIsAddressValid", "MmIsDriverVerifying",
+    "MmMapLockedPages", "MmMapLockedPagesSpecifyCache", "MmPrepareMdlForReuse", "MmProbeAndLockPages", "MmSizeOfMdl", "MmUnlockPages", "MmUnmapLockedPages",
+    "ObDereferenceObject", "ObDereferenceObjectDeferDelete", "ObGetFilterVersion", "ObGetObjectType", "ObReferenceObject", "ObReferenceObjectByPointer", "ObfDereferenceObject", "ObfReferenceObject",
+    "PsDereferenceImpersonationToken", "PsDereferencePrimaryToken", "PsGetCurrentProcess", "PsGetCurrentProcessId", "PsGetCurrentThread", "PsGetCurrentThreadId",
+    "PsGetProcessCreateTimeQuadPart", "PsGetProcessExitStatus", "PsGetProcessId", "PsGetProcessImageFileName", "PsGetProcessInheritedFromUniqueProcessId", "PsGetProcessPeb",
+    "PsGetProcessSectionBaseAddress", "PsGetProcessSessionId", "PsGetProcessWow64Process", "PsGetThreadId", "PsGetThreadProcess", "PsGetThreadProcessId", "PsGetVersion",
+    "PsIsProtectedProcess", "PsIsProtectedProcessLight", "PsIsSystemThread", "PsIsThreadTerminating", "RtlAppendUnicodeStringToString", "RtlAppendUnicodeToString",
+    "RtlCaptureStackBackTrace", "RtlCheckBit", "RtlClearAllBits", "RtlClearBits", "RtlCopyUnicodeString", "RtlCrc32", "RtlCreateHashTable", "RtlDeleteElementGenericTable",
+    "RtlDeleteElementGenericTableAvl", "RtlDeleteHashTable", "RtlEnumerateGenericTable", "RtlEnumerateGenericTableAvl", "RtlEnumerateGenericTableWithoutSplaying", "RtlFindClearBitsAndSet",
+    "RtlGetElementGenericTable", "RtlGetEnabledExtendedFeatures", "RtlInitAnsiString", "RtlInitEmptyUnicodeString", "RtlInitUnicodeString", "RtlInitUnicodeStringEx", "RtlInitializeBitMap",
+    "RtlInitializeCorrelationVector", "RtlInitializeGenericTable", "RtlInitializeGenericTableAvl", "RtlInsertElementGenericTable", "RtlInsertElementGenericTableAvl",
+    "RtlInsertEntryHashTable", "RtlIsGenericTableEmpty", "RtlLengthRequiredSid", "RtlLengthSecurityDescriptor", "RtlLengthSid", "RtlLookupElementGenericTable",
+    "RtlLookupElementGenericTableAvl", "RtlLookupEntryHashTable", "RtlNtStatusToDosError", "RtlNumberGenericTableElements", "RtlNumberOfSetBits", "RtlRandomEx", "RtlRemoveEntryHashTable",
+    "RtlSecondsSince1970ToTime", "RtlSetAllBits", "RtlSetBits", "RtlStringCbCatW", "RtlStringCbCopyW", "RtlStringCbLengthW", "RtlStringCchCatW", "RtlStringCchCopyW", "RtlStringCchLengthA",
+    "RtlStringCchLengthW", "RtlSubAuthoritySid", "RtlTestBit", "RtlTimeFieldsToTime", "RtlTimeToSecondsSince1970", "RtlTimeToTimeFields", "RtlUnicodeStringCat",
+    "RtlUnicodeStringCatString", "RtlUnicodeStringCopy", "RtlUnicodeStringCopyString", "RtlUnicodeStringInit", "RtlValidSid", "RtlValidateUnicodeString", "RtlWalkFrameChain",
+};
+
+/* At any level. */
+static const char *const anywhere[] = {
+    "ASSERT", "DbgBreakPoint", "EtwProviderEnabled", "EtwWriteEx", "EtwWriteString", "EtwWriteTransfer", "ExGetPreviousMode", "ExInterlockedAddLargeInteger", "ExInterlockedPopEntryList",
+    "ExInterlockedPushEntryList", "ExIsProcessorFeaturePresent", "ExVerifySuite", "InitializeSListHead", "InterlockedCompareExchange", "InterlockedIncrement", "KeBugCheckEx",
+    "KeGetCurrentIrql", "KeGetCurrentProcessorNumberEx", "KeGetProcessorIndexFromNumber", "KeLowerIrql", "KeMemoryBarrier", "KeQueryInterruptTime", "KeQueryMaximumProcessorCountEx",
+    "KeQueryPerformanceCounter", "KeQuerySystemTime", "KeQuerySystemTimePrecise", "KeQueryTickCount", "KeQueryTimeIncrement", "KeQueryUnbiasedInterruptTime", "KeRaiseIrql",
+    "KeRegisterBugCheckCallback", "KfRaiseIrql", "PAGED_CODE", "QueryDepthSList", "RtlCompareMemory", "RtlCopyMemory", "RtlFillMemory", "RtlZeroMemory", "WmiQueryTraceInformation",
+    "WmiTraceMessage", "WmiTraceMessageVa", "vDbgPrintExWithPrefix",
+};
+
+static int compare(const void *name, const void *place)
 {
-    return strcmp(name, ((const Rule *)rule)->call);
+    return strcmp(name, *(const char *const *)place);
+}
+
+#define IS_IN(call, names) (bsearch((call), (names), sizeof(names) / sizeof(names)[0], sizeof(names)[0], compare) != NULL)
+
+/* What the host's own steps are called begins with a small letter, and what it has for the C library with its sign. */
+static bool is_of_kit(const char *call)
+{
+    return isupper((unsigned char)*call) && strncmp(call, "Kz", 2) != 0;
 }
 
 static const char *name_of(KIRQL irql)
@@ -192,18 +118,17 @@ static const char *name_of(KIRQL irql)
     return irql == PASSIVE_LEVEL ? "PASSIVE_LEVEL" : irql == APC_LEVEL ? "APC_LEVEL" : "DISPATCH_LEVEL";
 }
 
+/* A call that the kit makes inside another one is that one's. */
 void kz_may_be_called(const char *call, KIRQL most)
 {
     KIRQL irql = kz_irql();
-    if (irql > most)
+    if (irql > most && kz_me->inside <= 1)
         kz_tell(KZM_IRQL, call, "called at IRQL %u; it may be called up to %s (%u)", irql, name_of(most), most);
 }
 
 void kz_check_irql(const char *call)
 {
-    if (kz_irql() == PASSIVE_LEVEL)
+    if (kz_irql() == PASSIVE_LEVEL || IS_IN(call, anywhere) || !is_of_kit(call))
         return;
-    const Rule *rule = bsearch(call, rules, sizeof rules / sizeof rules[0], sizeof rules[0], compare);
-    if (rule)
-        kz_may_be_called(call, rule->most);
+    kz_may_be_called(call, IS_IN(call, at_passive) ? PASSIVE_LEVEL : IS_IN(call, at_dispatch) ? DISPATCH_LEVEL : APC_LEVEL);
 }

@@ -136,6 +136,7 @@ uint32_t kz_mount(const char *name, uint64_t *number)
     snprintf(volume->name, sizeof volume->name, "%s", name);
     kz_new_volume(volume);
     volume->is_case_sensitive = kz_is_in_folder(volume->id); /* its names are the machine's */
+    volume->is_cached = !kz_is_in_folder(volume->id);        /* and its files may have other names and writers there */
     kz.volumes[kz.volumes_count++] = volume;
     *number = volume->id;
     return KZS_OK;

@@ -34,6 +34,7 @@ static void look(void)
     size_t length;
     kz_on_told(on_told);
     kz_open(kz_drivers, kz_drivers_count);
+    kz_request("volume v0 uncached");
     kz_request("load passthrough");
     kz_request("attach passthrough v0 100 as p");
     kz_request("create v0 new a as h");

@@ -216,7 +216,7 @@ tell $? "a report that can't be written"
 
 # One line a place: what comes up again is counted.
 {
-    printf 'load answers\nattach 0 0 a 100\ncreate 0 new denied\n'
+    printf 'volume 0 uncached\nload answers\nattach 0 0 a 100\ncreate 0 new denied\n'
     for at in $(seq 1000); do echo "write 0 0 61626364"; done
 } > "$room/again.txt"
 "$room/drivers" "$room/again.txt" > "$room/again.out"

@@ -1,7 +1,7 @@
 #!/usr/bin/env python3
 """c/tests/points.txt beside the headers and the host: points.py. Each routine that c/include declares and the host has, or that a routine table has (kz*routines.h), stands once in that file: under
 `seen` where it changes or reads what another client can tell, under `own` where nobody else can. Each under `seen` that is modelled is a point, at which another client may go on first (KZ_CALL), and
-none under `own` is. It ends with 1 where something differs, and says each difference in a sentence. `points.py --print` prints what the host has."""
+none under `own` is. The lists of IRQLs are looked at too. It ends with 1 where something differs, and says each difference in a sentence. `points.py --print` prints what the host has."""
 import glob
 import re
 import subprocess
@@ -66,6 +66,15 @@ def classes():
     return found
 
 
+def levels():
+    """What is wrong with the names of c/host/core/irql.c, which are looked up by halves: they stand in their order, each in one list."""
+    lists = re.findall(r"\[\] = \{\n(.*?)\};", read("c/host/core/irql.c"), re.S)
+    names = [re.findall(r'"(\w+)"', one) for one in lists]
+    said = [f"{after} stands after {before}" for one in names for before, after in zip(one, one[1:]) if before >= after]
+    said += [f"{name} stands in two lists" for one in names for name in one if sum(name in other for other in names) > 1]
+    return [f"c/host/core/irql.c: {sentence}\n" for sentence in said]
+
+
 def main():
     """Compares."""
     table, all_bodies = tabled(), bodies()
@@ -81,7 +90,8 @@ def main():
     said += [f"{name} stands there twice" for name in sorted(wanted) if found["seen"].count(name) + found["own"].count(name) > 1]
     said += [f"{name} is seen by others, and no point" for name in sorted(set(found["seen"]) & wanted - unmodelled - points)]
     said += [f"{name} is seen by nobody else, and a point" for name in sorted(set(found["own"]) & points)]
-    print("".join(f"c/tests/points.txt: {sentence}\n" for sentence in said), end="")
+    said = [f"c/tests/points.txt: {sentence}\n" for sentence in said] + levels()
+    print("".join(said), end="")
     return 1 if said else 0
 
 

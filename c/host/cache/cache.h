@@ -100,6 +100,8 @@ KzMapped *kz_view_at(const void *address, KzCache **cache);
 bool kz_is_in_view(const KzCache *cache, uint64_t number);
 /* The page was changed: views see it. */
 void kz_show_page(const KzCache *cache, const KzCachedPage *page);
+/* What is written in a view. */
+NTSTATUS kz_touch_pages(KzCache *cache, uint64_t offset, const uint8_t *bytes, size_t length);
 /* What programs changed in their views comes to the pages. */
 void kz_take_views(KzCache *cache);
 

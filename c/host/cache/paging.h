@@ -15,6 +15,8 @@ NTSTATUS kz_bring_pages(KzCache *cache, uint64_t first, uint64_t end, PIRP top);
 NTSTATUS kz_flush_cache(KzCache *cache, uint64_t from, uint64_t length);
 /* Pages of a range go, with what was changed of them; false: some are in use. `ends`: no handle caches any more. */
 bool kz_purge_cache(KzCache *cache, uint64_t from, uint64_t length, bool ends);
+/* The modified page writer's turn: what was changed in views. */
+void kz_write_modified(KzCache *cache);
 /* The lazy writer's turn: all that is dirty, or what is due. */
 void kz_write_lazily(bool is_all);
 /* Of a volume that goes, or of all at the end of a run: what can't be written is lost, and said. */

@@ -93,6 +93,24 @@ static void take_page(KzCache *cache, KzCachedPage *page, const uint8_t *bytes)
     cache->stream->valid = cache->stream->valid > end ? cache->stream->valid : end;
 }
 
+NTSTATUS kz_touch_pages(KzCache *cache, uint64_t offset, const uint8_t *bytes, size_t length)
+{
+    uint8_t there[KZ_PAGE];
+    NTSTATUS status = STATUS_SUCCESS;
+    for (size_t part; length && NT_SUCCESS(status); offset += part, bytes += part, length -= part) {
+        size_t from = offset % KZ_PAGE;
+        part = KZ_PAGE - from < length ? KZ_PAGE - from : length;
+        status = kz_read_pages(cache, offset - from, there, sizeof there, NULL);
+        if (!NT_SUCCESS(status))
+            break;
+        memcpy(there + from, bytes, part);
+        KzCachedPage *page = kz_page_of(cache, offset / KZ_PAGE);
+        take_page(cache, page, there);
+        page->is_by_view |= page->state == KZG_DIRTY;
+    }
+    return status;
+}
+
 void kz_take_views(KzCache *cache)
 {
     for (KzMapped *one = cache->mapped; one; one = one->next)

@@ -244,6 +244,19 @@ static void write_out(KzCache *cache, bool waits)
     kz_ask_again(&before);
 }
 
+void kz_write_modified(KzCache *cache)
+{
+    const void *by = kz_has_others() ? (const void *)kz_me : (const void *)kz.cache;
+    KzAsker before = kz_ask_as((PIRP)(ULONG_PTR)FSRTL_MOD_WRITE_TOP_LEVEL_IRP, true);
+    cache->users++;
+    if (kz_has_others() ? kz_lock_stream(cache, false) : kz_try_stream(cache, by)) {
+        write_modified(cache);
+        kz_unlock_stream(cache, by);
+    }
+    cache->users--;
+    kz_ask_again(&before);
+}
+
 void kz_end_idle_cache(KzCache *cache)
 {
     if (!cache->maps && !cache->views && !cache->users && !kz_has_dirty(cache))

@@ -213,6 +213,14 @@ NTSTATUS kz_resize(KzFile *file, uint64_t size)
     return status;
 }
 
+NTSTATUS kz_grow(KzFile *file, uint64_t size)
+{
+    NTSTATUS status = change(file, &(KazdrinData){.operation = KZE_SET_SIZE, .offset = size}, NULL);
+    if (NT_SUCCESS(status))
+        file->name->stream->size = size;
+    return status;
+}
+
 NTSTATUS kz_write_stream(KzFile *file, uint64_t offset, const uint8_t *bytes, size_t length)
 {
     NTSTATUS status = change(file, &(KazdrinData){.operation = KZE_WRITE, .offset = offset, .length = length}, bytes);

@@ -29,6 +29,8 @@ KzFolderAnswer kz_call_stream(KzFile *file, const KazdrinData *call, const uint8
 uint64_t kz_size_of(const KzFile *file);
 /* The file, which may be about to be opened, has that size, and no instance hears of it. */
 NTSTATUS kz_resize(KzFile *file, uint64_t size);
+/* The same for a write that goes past its end, which tells of both. */
+NTSTATUS kz_grow(KzFile *file, uint64_t size);
 NTSTATUS kz_write_stream(KzFile *file, uint64_t offset, const uint8_t *bytes, size_t length);
 /* Its bytes were written, or it has another size: times, notices. */
 /* What was written is seen in its views. */

@@ -1,6 +1,7 @@
 /* The file system by a stream's pages, and the operations that these lead to: each begins at the top of the stack, and is carried on by another worker inside the call that needs it. */
 #include "manager/paging.h"
 
+#include "cache/asker.h"
 #include "cache/paging.h"
 #include "core/client.h"
 #include "core/memory.h"
@@ -99,7 +100,7 @@ static NTSTATUS write_locked(KzOp *op, KzCache *cache, const KazdrinData *call, 
 {
     KzFile *file = op->file;
     uint64_t size = cache->stream->size, end = call->offset + call->length;
-    NTSTATUS status = end > size ? kz_resize(file, end) : STATUS_SUCCESS;
+    NTSTATUS status = end > size ? kz_grow(file, end) : STATUS_SUCCESS;
     if (!NT_SUCCESS(status))
         return status;
     status = kz_write_pages(cache, call->offset, bytes, call->length, top_of(op));
@@ -135,6 +136,33 @@ NTSTATUS kz_call_pages(KzOp *op, const KazdrinData *call, size_t *length)
     if (needs_irp(op, call))
         return STATUS_FLT_DISALLOW_FAST_IO;
     return op->event == KZE_WRITE ? write_pages(op, call) : read_pages(op, call, length);
+}
+
+/* ---- By a view of it. */
+static NTSTATUS touch(KzCache *cache, uint64_t offset, uint8_t *bytes, size_t length, bool is_written)
+{
+    KzAsker before = kz_ask_as(NULL, false);
+    cache->users++;
+    NTSTATUS status = is_written ? kz_touch_pages(cache, offset, bytes, length) : kz_read_pages(cache, offset, bytes, length, NULL);
+    if (is_written)
+        kz_write_modified(cache);
+    cache->users--;
+    cache->idle = kz.passed;
+    kz_ask_again(&before);
+    return status;
+}
+
+bool kz_touch(KzFile *file, uint64_t offset, uint8_t *bytes, size_t *length, bool is_written, NTSTATUS *status)
+{
+    bool has = kz_is_caching(file->volume) && file->name && !file->is_volume && !kz_is_directory(file->name);
+    KzCache *cache = has ? kz_stream_cache(file) : NULL;
+    if (!cache)
+        return false;
+    kz_uses_all();
+    uint64_t end = kz_pages_of(cache->stream->size) * KZ_PAGE, rest = offset < end ? end - offset : 0;
+    *length = *length < rest ? *length : (size_t)rest;
+    *status = *length ? touch(cache, offset, bytes, *length, is_written) : STATUS_ACCESS_VIOLATION;
+    return true;
 }
 
 /* ---- By the file itself. What lies before a write and was never written is zeros, which are written too. */

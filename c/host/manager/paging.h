@@ -10,6 +10,9 @@
 NTSTATUS kz_page(KzFile *file, const KzPaging *asked, uint64_t *there);
 NTSTATUS kz_ask_for_cache(KzFile *file, const KzAsked *asked);
 
+/* ---- What the memory manager does for a view: pages that aren't there are read, and what is written in one is written to the file. False: the file has no pages. */
+bool kz_touch(KzFile *file, uint64_t offset, uint8_t *bytes, size_t *length, bool is_written, NTSTATUS *status);
+
 /* ---- What the file system does. */
 /* A read or a write that goes by the stream's pages, if there is any of the file where it is. */
 bool kz_goes_by_pages(const KzOp *op);

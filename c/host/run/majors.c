@@ -3,12 +3,15 @@
 
 #include "core/client.h"
 #include "core/op.h"
+#include "core/status.h"
 #include "lib/letters.h"
 #include "filesystem/fileobject.h"
 #include "manager/disposition.h"
+#include "manager/paging.h"
 #include "manager/perform.h"
 #include "run/masks.h"
 #include "run/read.h"
+#include "run/reply.h"
 #include "run/runfile.h"
 #include "run/words.h"
 
@@ -401,8 +404,8 @@ static KzReply ask_network_open(char **words)
     return volume ? kz_open_network(volume, words[2]) : kz_wrong();
 }
 
-/* ---- Sections: `map H [execute]` has the file system let one be made, which acquires its file for it and releases it. Then `pagein H OFFSET LEN` and `pageout H OFFSET HEX` are what the
- * virtual memory reads and writes. */
+/* ---- Sections: `map H [execute]` has the file system let one be made, which acquires its file for it and releases it. Then `pagein H OFFSET LEN` and `pageout H OFFSET HEX` touch a view of
+ * it: what isn't in the cache is read, and what is written there is written to the file by the modified page writer. A file that has no cache is read and written in paging I/O each time. */
 static KzReply ask_map(char **words)
 {
     bool is_execute = words[2] && strcmp(words[2], "execute") == 0;
@@ -415,11 +418,28 @@ static KzReply ask_map(char **words)
     return kz_ask_file_twice(handle, &asked, &released);
 }
 
+/* False: it has no pages. */
+static bool touch(uint64_t handle, uint64_t offset, uint8_t *bytes, size_t length, bool is_written, KzReply *reply)
+{
+    KzFile *file = kz_file_of(handle);
+    NTSTATUS status;
+    bool is_exact;
+    if (!file || length > KZ_BYTES || !kz_touch(file, offset, bytes, &length, is_written, &status))
+        return false;
+    *reply = (KzReply){.status = NT_SUCCESS(status) ? KZS_OK : kz_number(status, &is_exact), .information = NT_SUCCESS(status) ? length : 0};
+    kz_print_reply(*reply, NT_SUCCESS(status) ? STATUS_SUCCESS : status, bytes, NT_SUCCESS(status) && !is_written ? length : 0);
+    kz_settle();
+    return true;
+}
+
 static KzReply ask_page_in(char **words)
 {
     uint64_t handle, offset, length;
+    KzReply reply;
     if (!kz_read_handle(words[1], &handle) || !kz_read_number(words[2], UINT64_MAX, &offset) || !kz_read_number(words[3], KZ_BYTES + 1, &length))
         return kz_wrong();
+    if (touch(handle, offset, kz_me->bytes, (size_t)length, false, &reply))
+        return reply;
     return kz_perform_as(&(KzBegin){.event = {.event = KZE_READ, .handle = handle, .offset = offset, .len = (uint32_t)length}, .bytes = "", .irp_flags = IRP_PAGING_IO | IRP_NOCACHE | IRP_SYNCHRONOUS_PAGING_IO});
 }
 
@@ -444,8 +464,11 @@ static KzReply ask_page_out(char **words)
 {
     uint64_t handle, offset;
     size_t length;
+    KzReply reply;
     if (!kz_read_handle(words[1], &handle) || !kz_read_number(words[2], UINT64_MAX, &offset) || !kz_read_hex(words[3], kz_me->bytes, &length))
         return kz_wrong();
+    if (touch(handle, offset, kz_me->bytes, length, true, &reply))
+        return reply;
     return kz_perform_as(&(KzBegin){.event = {.event = KZE_WRITE, .handle = handle, .offset = offset}, .bytes = kz_me->bytes, .length = length, .irp_flags = IRP_PAGING_IO | IRP_NOCACHE});
 }
 

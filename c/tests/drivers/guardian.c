@@ -257,6 +257,7 @@ static FLT_PREOP_CALLBACK_STATUS GuardianPreCreate(_Inout_ PFLT_CALLBACK_DATA Da
     return FlagOn(access, FILE_READ_DATA | FILE_EXECUTE) ? FLT_PREOP_SUCCESS_WITH_CALLBACK : FLT_PREOP_SUCCESS_NO_CALLBACK;
 }
 
+/* Without its service nothing is known of the file yet, however long its stream stays. */
 static BOOLEAN GuardianLook(_In_ PFLT_CALLBACK_DATA Data, _In_ PCFLT_RELATED_OBJECTS FltObjects)
 {
     LARGE_INTEGER offset = {.QuadPart = 0};
@@ -312,7 +313,7 @@ static FLT_POSTOP_CALLBACK_STATUS GuardianPostCreate(_Inout_ PFLT_CALLBACK_DATA 
     }
     if (!stream->IsKnown) {
         InterlockedExchange(&stream->IsDenied, GuardianLook(Data, FltObjects));
-        InterlockedExchange(&stream->IsKnown, TRUE);
+        InterlockedExchange(&stream->IsKnown, gService != NULL);
     }
     if (stream->IsDenied) {
         InterlockedIncrement((PLONG)&gCounts.DeniedFiles);

@@ -237,8 +237,8 @@ static NTSTATUS CtxUnload(_In_ FLT_FILTER_UNLOAD_FLAGS Flags)
 }
 
 CONST FLT_OPERATION_REGISTRATION Callbacks[] = {{IRP_MJ_CREATE, 0, CtxPreCreate, CtxPostCreate},
-                                                {IRP_MJ_WRITE, 0, CtxPreWrite, NULL},
-                                                {IRP_MJ_READ, 0, CtxPreRead, CtxPostRead},
+                                                {IRP_MJ_WRITE, FLTFL_OPERATION_REGISTRATION_SKIP_PAGING_IO, CtxPreWrite, NULL},
+                                                {IRP_MJ_READ, FLTFL_OPERATION_REGISTRATION_SKIP_PAGING_IO, CtxPreRead, CtxPostRead},
                                                 {IRP_MJ_OPERATION_END}};
 
 CONST FLT_CONTEXT_REGISTRATION ContextRegistration[] = {

@@ -234,7 +234,7 @@ static NTSTATUS TrailUnload(_In_ FLT_FILTER_UNLOAD_FLAGS Flags)
 }
 
 CONST FLT_OPERATION_REGISTRATION Callbacks[] = {{IRP_MJ_CREATE, 0, NULL, TrailPostCreate},
-                                                {IRP_MJ_WRITE, 0, TrailPreWrite, NULL},
+                                                {IRP_MJ_WRITE, FLTFL_OPERATION_REGISTRATION_SKIP_PAGING_IO, TrailPreWrite, NULL},
                                                 {IRP_MJ_SET_INFORMATION, 0, TrailPreSetInformation, TrailPostSetInformation},
                                                 {IRP_MJ_OPERATION_END}};
 CONST FLT_CONTEXT_REGISTRATION Contexts[] = {{FLT_STREAM_CONTEXT, 0, TrailCleanup, sizeof(TRAIL_CONTEXT), TRAIL_CONTEXT_TAG}, {FLT_CONTEXT_END}};

@@ -197,7 +197,7 @@ bool kz_call_base(KzOp *op)
     bool is_failed = reaches_device(op) && (kz_is_for_cache(op) ? kz_refuses(KZ_CHOICE_PAGING, "paging I/O") : kz_refuses(KZ_CHOICE_DEVICE, "the device"));
     if (is_failed && kazdrin_based(&kz.manager, &failed, (const uint8_t *)"", 0) == KZS_OK)
         return true;
-    op->comes_from_device = true;
+    op->comes_from_device = !op->own.is_fast; /* that one is answered in the thread that asks */
     if (is_orphan(op) && !kz_is_for_cache(op)) {
         answer(op, STATUS_HANDLE_NO_LONGER_VALID, NULL, 0);
         return true;

@@ -16,11 +16,11 @@ while read -r name; do
 done < <(sed -n 's/^load //p' "$room"/*.list | sort -u)
 build recorder "$room/recorders" "${drivers[@]}"
 for list in "$room"/*.list; do
-    grep -v '^saw ' "$list" > "$list.txt"
+    { echo 'volume 0 uncached'; grep -v '^saw ' "$list"; } > "$list.txt" # the other managers have no cache
     # What is held to the end stays held there on purpose.
     "$room/recorders" --allow KZ0111 "$list.txt" > "$list.out" 2>&1
     status=$?
-    { head -n 1 "$list"; sed -n 's/^> //p; /^saw /p' "$list.out"; } > "$list.seen"
+    { head -n 1 "$list"; sed -n '/^> volume /d; s/^> //p; /^saw /p' "$list.out"; } > "$list.seen"
     [ "$status" = 0 ] && diff "$list" "$list.seen" || { grep -E '^(unmet|TOLD|LIMIT)' "$list.out"; false; }
     tell $? "$(head -n 1 "$list"), with status $status,"
 done

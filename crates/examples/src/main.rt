@@ -106,7 +106,8 @@ fn run(alloc: Global, input: &[u8], output: &[u8], most: usize) -> Outcome {
         most,
         is_interrupted: false,
     };
-    match script(alloc, reader, &mut bytes) {
+    let end = script(alloc, reader, &mut bytes).end;
+    match end {
         ScriptEnd::Ended if bytes.as_slice() == output => Outcome::Same,
         ScriptEnd::NoMemory if output.starts_with(bytes.as_slice()) => Outcome::Beginning,
         ScriptEnd::Ended if is_refused(bytes.as_slice(), output) => Outcome::Refused,

@@ -7,7 +7,7 @@ use fm_script::{ScriptEnd, script};
 use std::process::ExitCode;
 
 fn main(rt: HostRuntime) -> ExitCode {
-    let end = script(rt.alloc(), rt.stdin(), rt.stdout());
+    let end = script(rt.alloc(), rt.stdin(), rt.stdout()).end;
     if matches!(end, ScriptEnd::ReadFault | ScriptEnd::WriteFault) {
         let _ = println!(rt; "fault");
     }

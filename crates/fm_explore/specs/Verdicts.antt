@@ -7,8 +7,8 @@ use Rattle.fm_trial.specs.Lines.{reply_meets}
 use Rattle.fm_explore.specs.declared.found.FoundKind.{FoundKind}
 use Rattle.fm_explore.specs.declared.found.FoundKind.TheVariants as kind
 use Rattle.fm_explore.specs.declared.found.RunFinding.{RunFinding}
-use Rattle.fm_explore.specs.declared.program.Ran.{Ran}
-use Rattle.fm_explore.specs.declared.program.Ran.TheVariants as ran
+use Rattle.fm_explore.specs.declared.program.TrialOrSearch.{TrialOrSearch}
+use Rattle.fm_explore.specs.declared.program.TrialOrSearch.TheVariants as ran
 use Rattle.fm_explore.specs.declared.run.End.{End}
 use Rattle.fm_explore.specs.declared.run.End.TheVariants as end
 use Rattle.fm_explore.specs.declared.search.Stopped.{Stopped}
@@ -67,6 +67,6 @@ Expected true old new = new ≡ old
 Expected false old new = (words : _) × (new ≡ old ++ record { kind = kind.Unmet; words = words } ∷ [])
 
 -- the exit status of a program, whatever it was asked for
-abbrev pub ran_status : Ran → ℕ
+abbrev pub ran_status : TrialOrSearch → ℕ
 ran_status (ran.Trial status) = status
 ran_status (ran.Search status) = status

@@ -15,4 +15,4 @@ mod schedule;
 mod search;
 mod verdict;
 
-pub use crate::program::{Ran, show_usage, trial};
+pub use crate::program::{TrialOrSearch, show_usage, trial};

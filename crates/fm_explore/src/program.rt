@@ -27,20 +27,20 @@ const WRONG: u8 = 2;
 
 /// What the words of a program asked for, with its exit status.
 #[derive(Clone, Copy, Debug, PartialEq, Eq)]
-pub enum Ran {
+pub enum TrialOrSearch {
     /// Scenarios were tried.
     Trial(u8),
     /// A scenario was searched, or one schedule of it was run.
     Search(u8),
 }
 
-impl Ran {
+impl TrialOrSearch {
     /// The exit status.
     pub fn status(self) -> u8
         ensures { result ≡ ran_status self }
     {
         match self {
-            Ran::Trial(status) | Ran::Search(status) => status,
+            TrialOrSearch::Trial(status) | TrialOrSearch::Search(status) => status,
         }
     }
 }
@@ -64,7 +64,7 @@ fn failed(status: Status) -> io::Error {
 /// a run has no end, filters don't repeat themselves, or not all that was noted was kept; 1 if a load or an attach before the clients is refused, or if no callback
 /// was called and no line expects anything; 2 with a sentence on standard error for wrong words, for a file that can't be read, for a line that isn't understood, and
 /// for a schedule of another scenario. It fails if memory is refused, if the filters can't be made, or if a write fails.
-pub fn trial<R, I, F, E, W>(rt: &R, input: I, make: E, out: &mut W) -> io::Result<Ran>
+pub fn trial<R, I, F, E, W>(rt: &R, input: I, make: E, out: &mut W) -> io::Result<TrialOrSearch>
 where
     R: Env + Eprint + Files + AllocGlobal,
     I: Read + Drop,
@@ -72,16 +72,16 @@ where
     E: Fn(Global) -> Result<Vec<(Name, F)>, Status>,
     W: Write,
     requires { E.IsAlwaysCallable make }
-    ensures { IfOk result (λ ran. ran ≡ Ran.Trial 0 → (texts : List _) × (0 < length texts) × All (PassesText F.Minifilter (λ filters. (alloc : _) × E.post make alloc (Ok filters))) texts) }
+    ensures { IfOk result (λ ran. ran ≡ TrialOrSearch.Trial 0 → (texts : List _) × (0 < length texts) × All (PassesText F.Minifilter (λ filters. (alloc : _) × E.post make alloc (Ok filters))) texts) }
 {
     let alloc = rt.alloc();
     let words: Vec<String> = env::args(rt)?.skip(1).collect(alloc)?;
     if !asks_search(words.as_slice()) {
         let status = fm_trial::trial(rt, input, make, out)?;
-        return Ok(Ran::Trial(status));
+        return Ok(TrialOrSearch::Trial(status));
     }
     let status = search(rt, words.as_slice(), &make, out)?;
-    Ok(Ran::Search(status))
+    Ok(TrialOrSearch::Search(status))
 }
 
 // Searches the scenario that the words name, or runs one schedule of it: its exit status.

@@ -1,5 +1,6 @@
 pub mod Lengths
 pub mod Kept
+pub mod Handed
 pub mod Passed
 pub mod Going
 pub mod Running

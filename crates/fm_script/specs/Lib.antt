@@ -15,4 +15,6 @@ pub mod Passed
 pub mod Reading
 pub mod Runs
 pub mod Lines
+pub mod Listening
+pub mod Scripts
 pub mod Events

@@ -4,9 +4,10 @@ mod go;
 mod perform;
 mod read;
 
-ghost use Rattle.std.specs.Prelude.{◌≡◌, MatchResult, OnErr, OnOk};
+ghost use Rattle.std.specs.Prelude.{◌≡◌, IfErr, IfOk, MatchResult, OnErr, OnOk};
 ghost use Rattle.fm_session.specs.Sessions.{LendsNext, LentPreReturns, LentPostReturns, LentBaseReturns};
 ghost use Rattle.fm_script.specs.Devices.{Calls};
+ghost use Rattle.fm_script.specs.Scripts.{IsFirst};
 ghost use Rattle.fm_script.specs.Runs.{AttachesAndAccepts, Fails, KeepsLists, MakesEvent, Plans, Stays, BySession, is_allocation, planned};
 
 use crate::context_list::ContextList;
@@ -33,7 +34,10 @@ pub struct Interpreter {
 
 impl Interpreter {
     /// An interpreter that has run nothing. It is 1 (NoMemory) where there is no memory for it.
-    pub fn new(alloc: Global) -> Result<Self, Status> {
+    pub fn new(alloc: Global) -> Result<Self, Status>
+        ensures first { IfOk result IsFirst }
+        ensures memory { IfErr result (λ status. status ≡ Status.NoMemory) }
+    {
         let devices = Devices::new(alloc)?;
         let session = Session::new(alloc)?;
         Ok(Interpreter {

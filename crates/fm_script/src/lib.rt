@@ -29,7 +29,7 @@ pub use crate::devices::Devices;
 pub use crate::interpreter::Interpreter;
 pub use crate::keyword::Keyword;
 pub use crate::output::Output;
-pub use crate::reading::{Listener, read_lines, script};
+pub use crate::reading::{Heard, Listener, Ran, read_lines, script};
 pub use crate::runner::{Runner, is_silent};
 pub use crate::said::{
     Said, Word, said_attached, said_called, said_count, said_done, said_given, said_of, said_phase,

@@ -1,6 +1,6 @@
 //! Where a script prints: lines are held back until there are enough of them, or until it is flushed.
 
-ghost use Rattle.std.specs.Prelude.{◌≡◌, ◌<◌, ◌++◌, [], IfErr, IfOk, OnErr, length, vec_capacity};
+ghost use Rattle.std.specs.Prelude.{◌≡◌, ◌<◌, ◌++◌, [], Err, IfErr, IfOk, OnErr, length, vec_capacity};
 ghost use Rattle.fm_script.specs.Printing.{Adds, Changes, HandsOver, Holds, Says, printed};
 ghost use Rattle.fm_script.specs.Passed.{asks_said, down_text, up_text};
 ghost use Rattle.fm_script.specs.Sayings.{text_with};
@@ -42,6 +42,7 @@ impl<W: Write + Drop> Output<W> {
     /// memory for the line, which the writer wasn't given then, and never if there is room for it after what is held back. It is WriteFault if the writer
     /// fails; then nothing is held back any more.
     pub fn say(&mut self, line: &Said) -> Result<(), ScriptEnd>
+        ensures never { result ≡ Err ScriptEnd.Ended → ⊥ }
         ensures says { Says line.now result (printed W.contents self.old) (printed W.contents self.new) }
         ensures full { IfErr result (λ end. end ≡ ScriptEnd.NoMemory → vec_capacity self.old.text < length (text_with self.old.text.items line.now)) }
     {
@@ -51,7 +52,8 @@ impl<W: Write + Drop> Output<W> {
 
     /// Prints the line for a preoperation that asks for its postoperation, as `say` does.
     pub fn say_down(&mut self, instance: InstanceId, number: u64) -> Result<(), ScriptEnd>
-        ensures { Says (asks_said instance.0 number) result (printed W.contents self.old) (printed W.contents self.new) }
+        ensures says { Says (asks_said instance.0 number) result (printed W.contents self.old) (printed W.contents self.new) }
+        ensures never { result ≡ Err ScriptEnd.Ended → ⊥ }
     {
         if let Ok(()) = self.append_down(instance) {
             return self.hand_on();
@@ -61,7 +63,8 @@ impl<W: Write + Drop> Output<W> {
 
     /// Prints the line for a postoperation, as `say` does.
     pub fn say_up(&mut self, instance: InstanceId) -> Result<(), ScriptEnd>
-        ensures { Says (SaidOf.Id WordOf.Post 105 instance.0) result (printed W.contents self.old) (printed W.contents self.new) }
+        ensures says { Says (SaidOf.Id WordOf.Post 105 instance.0) result (printed W.contents self.old) (printed W.contents self.new) }
+        ensures never { result ≡ Err ScriptEnd.Ended → ⊥ }
     {
         if let Ok(()) = self.append_up(instance) {
             return self.hand_on();
@@ -85,6 +88,13 @@ impl<W: Write + Drop> Output<W> {
     {
         self.passed.make(instance)?;
         self.passed.up(instance).append(&mut self.text)
+    }
+
+    /// The writer. What is held back is gone.
+    pub fn into_writer(self) -> W
+        ensures { result ≡ self.writer }
+    {
+        self.writer
     }
 
     // All that is held back goes to the writer once that is 8,192 bytes or more.

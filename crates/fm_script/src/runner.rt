@@ -1,9 +1,10 @@
 //! Runs a script line by line, and prints what each line answers.
 
-ghost use Rattle.std.specs.Prelude.{◌≡◌, IfOk};
+ghost use Rattle.std.specs.Prelude.{◌≡◌, [], Err, IfOk};
 ghost use Rattle.fm_script.specs.Lines.{ReadsTask, RunsLine, is_silent};
 ghost use Rattle.fm_script.specs.Printing.{printed};
 ghost use Rattle.fm_script.specs.Runs.{Goes, PerformsOr, Refuses};
+ghost use Rattle.fm_script.specs.Scripts.{IsFirst, Pauses};
 ghost use Rattle.fm_words.specs.Words.{words_of};
 
 use crate::interpreter::Interpreter;
@@ -26,18 +27,39 @@ pub struct Runner<W: Write + Drop> {
 
 impl<W: Write + Drop> Runner<W> {
     /// A runner that has run no line.
-    pub fn new(alloc: Global, writer: W) -> Result<Self, ScriptEnd> {
-        let interpreter = Interpreter::new(alloc).map_err(|_| ScriptEnd::NoMemory)?;
-        Ok(Runner {
+    pub fn new(alloc: Global, writer: W) -> Result<Self, ScriptEnd>
+        ensures { IfOk result (λ runner. IsFirst runner.interpreter × (printed W.contents runner.output ≡ record { given = W.contents writer; held = [] })) }
+    {
+        match Interpreter::new(alloc) {
+            Ok(interpreter) => Ok(Runner::over(alloc, interpreter, writer)),
+            Err(_) => Err(ScriptEnd::NoMemory),
+        }
+    }
+
+    /// A runner of that interpreter, which has printed nothing.
+    pub fn over(alloc: Global, interpreter: Interpreter, writer: W) -> Self
+        ensures same { result.interpreter ≡ interpreter }
+        ensures nothing { printed W.contents result.output ≡ record { given = W.contents writer; held = [] } }
+    {
+        Runner {
             alloc,
             interpreter,
             output: Output::new(alloc, writer),
-        })
+        }
     }
 
     /// Hands all that was printed to the writer.
-    pub fn flush(&mut self) -> Result<(), ScriptEnd> {
+    pub fn flush(&mut self) -> Result<(), ScriptEnd>
+        ensures { Pauses W.contents self.old result self.new }
+    {
         self.output.flush()
+    }
+
+    /// The writer. What it wasn't given yet is gone.
+    pub fn into_writer(self) -> W
+        ensures { result ≡ self.output.writer }
+    {
+        self.output.into_writer()
     }
 
     /// What the lines drive: the manager's state and the contexts by their numbers, to be read between lines.
@@ -51,7 +73,8 @@ impl<W: Write + Drop> Runner<W> {
     /// there is no memory for reading the line or for a note of the script's own, and then nothing else has changed; or if there is none for what it
     /// prints, and WriteFault if the writer fails: then it was done all the same. An event that is refused memory prints that, as any refusal.
     pub fn run(&mut self, line: &[u8]) -> Result<(), ScriptEnd>
-        ensures { RunsLine line.now result self.old.interpreter self.new.interpreter (printed W.contents self.old.output) (printed W.contents self.new.output) }
+        ensures runs { RunsLine line.now result self.old.interpreter self.new.interpreter (printed W.contents self.old.output) (printed W.contents self.new.output) }
+        ensures never { result ≡ Err ScriptEnd.Ended → ⊥ }
     {
         if line.len() > LINE {
             return self.refuse(Status::BadRequest);
@@ -68,7 +91,8 @@ impl<W: Write + Drop> Runner<W> {
 
     // A refusal.
     fn refuse(&mut self, status: Status) -> Result<(), ScriptEnd>
-        ensures { Refuses status result self.old.interpreter self.new.interpreter (printed W.contents self.old.output) (printed W.contents self.new.output) }
+        ensures refuses { Refuses status result self.old.interpreter self.new.interpreter (printed W.contents self.old.output) (printed W.contents self.new.output) }
+        ensures never { result ≡ Err ScriptEnd.Ended → ⊥ }
     {
         self.output.say(&Said::Refused(status))
     }
@@ -83,14 +107,16 @@ impl<W: Write + Drop> Runner<W> {
 
     // A worker takes the operation's steps.
     fn go(&mut self, worker: WorkerId, operation: OpId) -> Result<(), ScriptEnd>
-        ensures { Goes worker operation self.old.interpreter self.new.interpreter }
+        ensures goes { Goes worker operation self.old.interpreter self.new.interpreter }
+        ensures never { result ≡ Err ScriptEnd.Ended → ⊥ }
     {
         self.interpreter.go(worker, operation, &mut self.output)
     }
 
     // Does a task, and prints the line that tells it.
     fn tell(&mut self, task: Task) -> Result<(), ScriptEnd>
-        ensures { PerformsOr task result self.old.interpreter self.new.interpreter (printed W.contents self.old.output) (printed W.contents self.new.output) }
+        ensures performs { PerformsOr task result self.old.interpreter self.new.interpreter (printed W.contents self.old.output) (printed W.contents self.new.output) }
+        ensures never { result ≡ Err ScriptEnd.Ended → ⊥ }
     {
         match self.interpreter.perform(task) {
             Ok(Some(said)) => self.output.say(&said),
@@ -101,7 +127,8 @@ impl<W: Write + Drop> Runner<W> {
 
     // Does it, and prints what it answers.
     fn perform(&mut self, task: Task) -> Result<(), ScriptEnd>
-        ensures { PerformsOr task result self.old.interpreter self.new.interpreter (printed W.contents self.old.output) (printed W.contents self.new.output) }
+        ensures performs { PerformsOr task result self.old.interpreter self.new.interpreter (printed W.contents self.old.output) (printed W.contents self.new.output) }
+        ensures never { result ≡ Err ScriptEnd.Ended → ⊥ }
     {
         match task {
             Task::Go { worker, operation } => self.go(worker, operation),

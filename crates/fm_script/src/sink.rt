@@ -1,5 +1,7 @@
 //! What is told what the lines of a script answered.
 
+ghost use Rattle.std.specs.Prelude.{◌≡◌, Err};
+
 use crate::output::Output;
 use crate::said::Said;
 use crate::script_end::ScriptEnd;
@@ -9,15 +11,20 @@ use std::io::Write;
 /// What is told what the lines of a script answered, one value for each line of an answer: an output prints it, and a list keeps it.
 pub trait Sink {
     /// Takes what one line of an answer says. An error ends the script.
-    fn tell(&mut self, said: Said) -> Result<(), ScriptEnd>;
+    fn tell(&mut self, said: Said) -> Result<(), ScriptEnd>
+        ensures never { result ≡ Err ScriptEnd.Ended → ⊥ };
 
     /// Takes that the preoperation of an instance asked for its postoperation, and hands on that number. An error ends the script.
-    fn tell_down(&mut self, instance: InstanceId, number: u64) -> Result<(), ScriptEnd> {
+    fn tell_down(&mut self, instance: InstanceId, number: u64) -> Result<(), ScriptEnd>
+        ensures never { result ≡ Err ScriptEnd.Ended → ⊥ }
+    {
         self.tell(Said::asks(instance, number))
     }
 
     /// Takes that the postoperation of an instance returned. An error ends the script.
-    fn tell_up(&mut self, instance: InstanceId) -> Result<(), ScriptEnd> {
+    fn tell_up(&mut self, instance: InstanceId) -> Result<(), ScriptEnd>
+        ensures never { result ≡ Err ScriptEnd.Ended → ⊥ }
+    {
         self.tell(Said::returns(instance))
     }
 }

@@ -16,7 +16,7 @@ use crate::subject::{facts_of, worker_of};
 use fm_core::{Place, State, Step};
 use fm_page::{Inert, Label, PAGE_BEGIN};
 use fm_report::{Event, Facts, Kind, Moment, Notes, Text, say_begin_json};
-use fm_script::{Interpreter, Listener, Said, ScriptEnd, Task, is_silent, read_lines};
+use fm_script::{Heard, Interpreter, Listener, Said, ScriptEnd, Task, is_silent, read_lines};
 use fm_types::limits::{LINE, TURNS};
 use fm_types::{OpId, Status, WorkerId};
 use std::alloc::{AllocError, Global};
@@ -489,11 +489,17 @@ pub(crate) fn run_shown<R: Read + Drop, W: Write + Drop>(
     if let Err(end) = view.begin(file) {
         return view.finish(end);
     }
-    let (view, end) = read_lines(alloc, reader, view);
-    view.finish(end)
+    let Heard { listener, end, .. } = read_lines(alloc, reader, view);
+    listener.finish(end)
 }
 
 impl<W: Write + Drop> Listener for View<W> {
+    ghost use Rattle.std.specs.Prelude.{⊤};
+
+    ghost takes = { λ _ _ _ _. ⊤ };
+
+    ghost pauses = { λ _ _ _. ⊤ };
+
     fn take(&mut self, line: &[u8]) -> Result<(), ScriptEnd> {
         self.line = self.line.saturating_add(1);
         if !line.is_empty() {

@@ -48,7 +48,7 @@ fn is_as_without(rt: &impl Abort, alloc: Global, printed: &[u8], place: usize) -
 // Whether the script prints what it should. If memory is refused, it ends after a right beginning, or the line that was refused is as if it weren't there.
 fn is_right(rt: &impl Abort, alloc: Global) -> bool {
     let mut printed = room(rt, alloc);
-    let end = script(alloc, INPUT, &mut printed);
+    let end = script(alloc, INPUT, &mut printed).end;
     match (end, refused_at(printed.as_slice())) {
         (ScriptEnd::Ended, Some(place)) => is_as_without(rt, alloc, printed.as_slice(), place),
         (ScriptEnd::Ended, None) => printed.as_slice() == OUTPUT,

@@ -38,7 +38,7 @@ impl Read for Failing<'_> {
 /// How the script ends, and whether that is what it prints.
 pub fn end_of<R: Read + Drop>(alloc: Global, reader: R, output: &[u8]) -> (ScriptEnd, bool) {
     let mut bytes = Vec::new(alloc);
-    let end = script(alloc, reader, &mut bytes);
+    let end = script(alloc, reader, &mut bytes).end;
     (end, bytes.as_slice() == output)
 }
 
@@ -64,7 +64,7 @@ fn most_lines(rt: HostRuntime) {
 
 // How a script ends whose writer fails.
 fn end_of_broken(alloc: Global, input: &[u8]) -> ScriptEnd {
-    script(alloc, input, Broken)
+    script(alloc, input, Broken).end
 }
 
 #[test]
@@ -116,7 +116,7 @@ fn end_of_asking(alloc: Global) -> ScriptEnd {
         flushes: &flushes,
         reads: 0,
     };
-    script(alloc, reader, Flushed(&flushes))
+    script(alloc, reader, Flushed(&flushes)).end
 }
 
 #[test]

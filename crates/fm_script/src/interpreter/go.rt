@@ -1,5 +1,6 @@
 //! The turns of the command `go`: a worker takes one step of an operation, and answers it.
 
+ghost use Rattle.std.specs.Prelude.{◌≡◌, Err};
 ghost use Rattle.fm_script.specs.Runs.{Goes};
 
 use super::Interpreter;
@@ -22,7 +23,8 @@ impl Interpreter {
         operation: OpId,
         sink: &mut S,
     ) -> Result<(), ScriptEnd>
-        ensures { Goes worker operation self.old self.new }
+        ensures goes { Goes worker operation self.old self.new }
+        ensures never { result ≡ Err ScriptEnd.Ended → ⊥ }
     {
         for _ in 0..TURNS {
             if !self.turn(worker, operation, sink)? {
@@ -42,7 +44,8 @@ impl Interpreter {
         operation: OpId,
         sink: &mut S,
     ) -> Result<bool, ScriptEnd>
-        ensures { Goes worker operation self.old self.new }
+        ensures goes { Goes worker operation self.old self.new }
+        ensures never { result ≡ Err ScriptEnd.Ended → ⊥ }
     {
         match self.pass(worker, operation) {
             Some(Passed::Down(instance, number)) => sink.tell_down(instance, number)?,
@@ -60,7 +63,8 @@ impl Interpreter {
         operation: OpId,
         sink: &mut S,
     ) -> Result<bool, ScriptEnd>
-        ensures { Goes worker operation self.old self.new }
+        ensures goes { Goes worker operation self.old self.new }
+        ensures never { result ≡ Err ScriptEnd.Ended → ⊥ }
     {
         let given = self.next(worker, operation);
         self.answer(worker, operation, given, sink)
@@ -82,7 +86,8 @@ impl Interpreter {
         given: Result<Given, Status>,
         sink: &mut S,
     ) -> Result<bool, ScriptEnd>
-        ensures { Goes worker operation self.old self.new }
+        ensures goes { Goes worker operation self.old self.new }
+        ensures never { result ≡ Err ScriptEnd.Ended → ⊥ }
     {
         match given {
             Ok(Given::Pre(instance)) => {
@@ -142,7 +147,8 @@ impl Interpreter {
         operation: OpId,
         sink: &mut S,
     ) -> Result<bool, ScriptEnd>
-        ensures { Goes worker operation self.old self.new }
+        ensures goes { Goes worker operation self.old self.new }
+        ensures never { result ≡ Err ScriptEnd.Ended → ⊥ }
     {
         let _ = worker;
         match self.session.collect(operation) {
@@ -158,7 +164,9 @@ fn say_answered<S: Sink>(
     instance: InstanceId,
     verdict: PreVerdict,
     outcome: Result<(), Status>,
-) -> Result<bool, ScriptEnd> {
+) -> Result<bool, ScriptEnd>
+    ensures never { result ≡ Err ScriptEnd.Ended → ⊥ }
+{
     sink.tell(Said::Answered(u64::from(instance.0), verdict))?;
     goes_on(sink, outcome)
 }
@@ -169,12 +177,16 @@ fn say_back<S: Sink>(
     word: Word,
     instance: InstanceId,
     outcome: Result<(), Status>,
-) -> Result<bool, ScriptEnd> {
+) -> Result<bool, ScriptEnd>
+    ensures never { result ≡ Err ScriptEnd.Ended → ⊥ }
+{
     sink.tell(Said::Id(word, b'i', u64::from(instance.0)))?;
     goes_on(sink, outcome)
 }
 
-fn goes_on<S: Sink>(sink: &mut S, outcome: Result<(), Status>) -> Result<bool, ScriptEnd> {
+fn goes_on<S: Sink>(sink: &mut S, outcome: Result<(), Status>) -> Result<bool, ScriptEnd>
+    ensures never { result ≡ Err ScriptEnd.Ended → ⊥ }
+{
     match outcome {
         Ok(()) => Ok(true),
         Err(status) => refuses(sink, status),
@@ -182,13 +194,17 @@ fn goes_on<S: Sink>(sink: &mut S, outcome: Result<(), Status>) -> Result<bool, S
 }
 
 // Tells the status of the base. The operation goes on.
-fn say_based<S: Sink>(sink: &mut S, status: Status) -> Result<bool, ScriptEnd> {
+fn say_based<S: Sink>(sink: &mut S, status: Status) -> Result<bool, ScriptEnd>
+    ensures never { result ≡ Err ScriptEnd.Ended → ⊥ }
+{
     sink.tell(Said::Based(status))?;
     Ok(true)
 }
 
 // Tells the status of the base, if it is known. The operation goes on.
-fn say_moved<S: Sink>(sink: &mut S, status: Option<Status>) -> Result<bool, ScriptEnd> {
+fn say_moved<S: Sink>(sink: &mut S, status: Option<Status>) -> Result<bool, ScriptEnd>
+    ensures never { result ≡ Err ScriptEnd.Ended → ⊥ }
+{
     match status {
         Some(status) => say_based(sink, status),
         None => Ok(true),
@@ -196,17 +212,23 @@ fn say_moved<S: Sink>(sink: &mut S, status: Option<Status>) -> Result<bool, Scri
 }
 
 // Tells that the operation is held, or why it doesn't go on.
-fn say_stopped<S: Sink>(sink: &mut S, given: Result<Given, Status>) -> Result<bool, ScriptEnd> {
+fn say_stopped<S: Sink>(sink: &mut S, given: Result<Given, Status>) -> Result<bool, ScriptEnd>
+    ensures never { result ≡ Err ScriptEnd.Ended → ⊥ }
+{
     ends(sink, said_given(given))
 }
 
 // Tells a refusal as the last line.
-fn refuses<S: Sink>(sink: &mut S, status: Status) -> Result<bool, ScriptEnd> {
+fn refuses<S: Sink>(sink: &mut S, status: Status) -> Result<bool, ScriptEnd>
+    ensures never { result ≡ Err ScriptEnd.Ended → ⊥ }
+{
     ends(sink, Said::Refused(status))
 }
 
 // Tells the last line.
-fn ends<S: Sink>(sink: &mut S, line: Said) -> Result<bool, ScriptEnd> {
+fn ends<S: Sink>(sink: &mut S, line: Said) -> Result<bool, ScriptEnd>
+    ensures never { result ≡ Err ScriptEnd.Ended → ⊥ }
+{
     sink.tell(line)?;
     Ok(false)
 }

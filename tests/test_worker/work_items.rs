@@ -48,6 +48,10 @@ fn leave<L: Ledger, R: Wait + Clock>(
 struct Cancel;
 
 impl WorkItem for Cancel {
+    ghost use Rattle.std.specs.Prelude.{⊤};
+
+    ghost works = { λ cancel old new. ⊤ };
+
     fn run<P: Port>(&self, port: &mut P) {
         if let Ok(Some(operation)) = port.first_held(Held::Pre) {
             let _ = port.resume_pre(operation, PreVerdict::Complete(Status::AccessDenied));

@@ -13,10 +13,11 @@ use Rattle.fm_callback_data.specs.declared.request.Reply.{Reply}
 use Rattle.fm_callback_data.specs.declared.request.Request.{Request}
 use Rattle.fm_callback_data.specs.declared.request.FileRequest.{FileRequest}
 use Rattle.fm_world.specs.Events.{Nexts, Begins, Collects, PreReturns, PostReturns, begin_refused, is_stopping_row}
-use Rattle.fm_world.specs.Routines.{EntersRoutine, RoutineReturns}
+use Rattle.fm_world.specs.Routines.{EntersRoutine}
 use Rattle.fm_world.specs.Sound.{IsSound}
 use Rattle.fm_world.specs.Teardowns.{CompleteReturns}
 use Rattle.fm_filter.specs.Plain.{IsPlainFilter}
+use Rattle.fm_local.specs.declared.local_port.Work.{Work}
 use Rattle.fm_local.specs.declared.requests.Turn.{Turn}
 use Rattle.fm_device.specs.Bases.{BasesCarry}
 use Rattle.fm_local.specs.Calls.{AgreesAt, AsksToUnload, MayAgree, QueriesWith, SetsUpWith, is_to_go}
@@ -25,7 +26,7 @@ use Rattle.fm_local.specs.Requests.{under, NoneStops, IsAtRest, AnswersOne, Answ
 use Rattle.fm_local.specs.Chains.{PreMay, PostMay, filter_in}
 use Rattle.fm_local.specs.Cleanups.{CleansAll}
 use Rattle.fm_local.specs.Drains.{StartsAndDrains, WasCalled}
-use Rattle.fm_local.specs.Places.{EndsFrom}
+use Rattle.fm_local.specs.Places.{EndsFrom, WorksOnce}
 use Rattle.fm_local.specs.Turns.{Does, HandsBack, Turns, Carries}
 
 -- all filters are plain
@@ -281,12 +282,12 @@ module _ {F B : Type 0} (own : filter.Ghosts F) (below : base.Ghosts B) (k : Wor
         × EndsFrom asked (λ before. QueriesWith (AgreesAt own.query_may old.filters asked i) k before result told.work.state)
         × CallsBack old told × Settles most limit told new)
 
-    -- a work item runs in a routine of an instance, unless that is refused; then what was resumed is carried on
-    abbrev pub WorksThenSettles : InstanceId → Option HandleId → Parts F B → Result (Unit {0}) Status → Parts F B → Type 0
-    WorksThenSettles i h old result new =
+    -- a work item runs once in a routine of an instance, unless that is refused; then what was resumed is carried on
+    abbrev pub WorksThenSettles : (Work → Work → Type 0) → InstanceId → Option HandleId → Parts F B → Result (Unit {0}) Status → Parts F B → Type 0
+    WorksThenSettles works i h old result new =
         (IsErr result × EntersRoutine old.work.state k i h result new.work.state × OnlyState old new)
         ⊎ ((entered : World) × (told : Parts F B) × EntersRoutine old.work.state k i h (Ok tt) entered
-        × EndsFrom entered (λ before. RoutineReturns before k (Ok tt) told.work.state)
+        × WorksOnce k works (record old.work { state = entered }) told.work
         × CallsBack old told × Settles most limit told new × (result ≡ Ok tt))
 
     -- the end of a teardown, where it is stopping: that is refused, or the filter is told, and then what was resumed is carried on

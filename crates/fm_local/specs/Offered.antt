@@ -7,6 +7,7 @@ use Rattle.fm_callback_data.specs.declared.request.Reply.{Reply}
 use Rattle.fm_callback_data.specs.declared.request.Request.{Request}
 use Rattle.fm_filter.specs.declared.minifilter.Minifilter as filter
 use Rattle.fm_base.specs.declared.base.Base as base
+use Rattle.fm_local.specs.declared.local_port.Work.{Work}
 use Rattle.fm_local.specs.declared.bounded.Bounded.{Bounded}
 use Rattle.fm_local.specs.declared.parts.TheConstants.{WORKER}
 use Rattle.fm_local.specs.declared.requests.TheConstants.{RESUMPTIONS}
@@ -184,5 +185,5 @@ module _ {F B : Type 0} (f : filter.Ghosts F) (b : base.Ghosts B) where
 
   -- ---- a work item
 
-  abbrev pub WorksAny : InstanceId → Option HandleId → Parts F B → Result (Unit {0}) Status → Parts F B → Type 0
-  WorksAny i h old result new = WorksThenSettles f b WORKER TURNS RESUMPTIONS i h old result new
+  abbrev pub WorksAny : (Work → Work → Type 0) → InstanceId → Option HandleId → Parts F B → Result (Unit {0}) Status → Parts F B → Type 0
+  WorksAny works i h old result new = WorksThenSettles f b WORKER TURNS RESUMPTIONS works i h old result new

@@ -4,7 +4,9 @@ use Rattle.fm_local.specs.Words.{FlowAction, OpId, Params, Status, WorkerId, wor
 use Rattle.fm_callback_data.specs.Params.{call_fits, fit}
 use Rattle.fm_operations.specs.Table.{told}
 use Rattle.fm_world.specs.declared.place.Place.{Place}
+use Rattle.fm_world.specs.Routines.{RoutineReturns}
 use Rattle.fm_filter.specs.Standing.{standing_of}
+use Rattle.fm_local.specs.declared.local_port.Work.{Work}
 
 abbrev pub IsIn : WorkerId → Place → World → Type 0
 IsIn k a w = worker_at w.workers k ≡ Some a
@@ -23,6 +25,12 @@ StaysOut k old new = IsOut k old → IsOut k new
 -- a callback runs, which leaves what stands, and then the event comes that ends it
 abbrev pub EndsFrom : World → (World → Type 0) → Type 0
 EndsFrom old Ends = (before : World) × (standing_of before ≡ standing_of old) × Ends before
+
+-- a work item ran once on what callbacks work on, which left what stands, and then its routine ended
+abbrev pub WorksOnce : WorkerId → (Work → Work → Type 0) → Work → Work → Type 0
+WorksOnce k works old new =
+    (worked : Work) × works old worked × (standing_of worked.state ≡ standing_of old.state) × RoutineReturns worked.state k (Ok tt) new.state
+    × (new ≡ record worked { state = new.state })
 
 -- whether such parameters are of the operation
 abbrev pub is_on : World → OpId → Params → Bool

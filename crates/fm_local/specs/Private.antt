@@ -14,7 +14,6 @@ use Rattle.fm_filter.specs.declared.filters.Filters.{Filters}
 use Rattle.fm_filter.specs.declared.minifilter.Minifilter as filter
 use Rattle.fm_world.specs.EarlyDrains as drains
 use Rattle.fm_world.specs.Events as events
-use Rattle.fm_world.specs.Routines as routines
 use Rattle.fm_world.specs.Teardowns as teardowns
 use Rattle.fm_world.specs.declared.file.FileObject.{FileObject}
 use Rattle.fm_world.specs.declared.place.Place.{Place}
@@ -28,7 +27,7 @@ use Rattle.fm_local.specs.Drains as told
 use Rattle.fm_local.specs.Drains.{left_to_drain}
 use Rattle.fm_local.specs.Offered.{Ready, world}
 use Rattle.fm_local.specs.Places as places
-use Rattle.fm_local.specs.Places.{EndsFrom, IsIn}
+use Rattle.fm_local.specs.Places.{EndsFrom, IsIn, WorksOnce}
 use Rattle.fm_local.specs.Quietly as quietly
 use Rattle.fm_local.specs.Quietly.{IsSettled}
 use Rattle.fm_local.specs.Requests as requests
@@ -154,10 +153,9 @@ module _ {F B : Type 0} where
   EndsComplete i old new =
       IsIn WORKER (Place.Complete i) (world old) → EndsFrom (world old) (λ before. teardowns.CompleteReturns before WORKER (Ok tt) (world new))
 
-  abbrev pub EndsRoutine : Parts F B → Parts F B → Type 0
-  EndsRoutine old new =
-      (i : InstanceId) (file : Option FileObject) → IsIn WORKER (Place.Routine i file) (world old)
-      → EndsFrom (world old) (λ before. routines.RoutineReturns before WORKER (Ok tt) (world new))
+  abbrev pub EndsRoutine : (Work → Work → Type 0) → Parts F B → Parts F B → Type 0
+  EndsRoutine works old new =
+      (i : InstanceId) (file : Option FileObject) → IsIn WORKER (Place.Routine i file) (world old) → WorksOnce WORKER works old.work new.work
 
   -- ---- teardowns
 

@@ -259,7 +259,7 @@ impl<F: Minifilter, B: Base> LocalManager<F, B> {
         handle: Option<HandleId>,
         item: &W,
     ) -> Result<(), Status>
-        ensures works { WorksAny F.Minifilter B.Base instance handle self.old result self.new }
+        ensures works { WorksAny F.Minifilter B.Base (λ before after. W.works item.now before after) instance handle self.old result self.new }
         ensures ready { StaysReadyAlike F.Minifilter B.Base self.old self.new }
     {
         self.parts.run_work(instance, handle, item)

@@ -23,7 +23,7 @@ impl<F: Minifilter, B: Base> Parts<F, B> {
         handle: Option<HandleId>,
         item: &W,
     ) -> Result<(), Status>
-        ensures works { WorksThenSettles F.Minifilter B.Base WORKER TURNS RESUMPTIONS instance handle self.old result self.new }
+        ensures works { WorksThenSettles F.Minifilter B.Base WORKER TURNS RESUMPTIONS (λ before after. W.works item.now before after) instance handle self.old result self.new }
         ensures between { StaysBetween self.old self.new }
         ensures ready { StaysReadyAlike F.Minifilter B.Base self.old self.new }
     {
@@ -35,7 +35,7 @@ impl<F: Minifilter, B: Base> Parts<F, B> {
 
     // Runs a work item in the routine that the worker has entered.
     fn run_item<W: WorkItem>(&mut self, item: &W)
-        ensures ends { EndsRoutine self.old self.new }
+        ensures ends { EndsRoutine (λ before after. W.works item.now before after) self.old self.new }
         ensures kept { NotesLeaks self.old self.new }
         ensures waits { KeepsWaiting self.old.work self.new.work }
     {
@@ -50,6 +50,7 @@ impl<F: Minifilter, B: Base> Parts<F, B> {
 
 // Runs a work item on the port.
 fn do_work<W: WorkItem>(work: &mut Work, item: &W)
+    ensures works { W.works item.now work.old work.new }
     ensures far { LeavesStanding work.old work.new }
     ensures waits { KeepsWaiting work.old work.new }
 {

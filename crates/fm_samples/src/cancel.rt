@@ -17,6 +17,10 @@ pub struct Cancel {
 }
 
 impl WorkItem for Cancel {
+    ghost use Rattle.std.specs.Prelude.{⊤};
+
+    ghost works = { λ cancel old new. ⊤ };
+
     fn run<P: Port>(&self, port: &mut P) {
         cancel_all(port, self.status);
     }

@@ -33,3 +33,11 @@ abbrev pub WaitsOr : OpId → List OpId → List OpId → List OpId → List OpI
 WaitsOr operation resumed aside resumed_after aside_after = MatchBool (lacks_room operation resumed)
     ((resumed_after ≡ resumed) × (aside_after ≡ put_in operation aside))
     ((resumed_after ≡ put_in operation resumed) × (aside_after ≡ aside))
+
+-- a work item ran once, on a port like that one, as far as what waits there to be carried on; and those wait behind it
+abbrev pub RunsOnce : {P : Type 0} → P → (P → List OpId) → (P → P → Type 0) → List OpId → Type 0
+RunsOnce {P} port resumed works left = (before after : P) × (resumed before ≡ resumed port) × works before after × (resumed after ≡ left)
+
+-- it has run so, whatever was done after it
+abbrev pub HasRun : {P : Type 0} → P → (P → List OpId) → (P → P → Type 0) → Type 0
+HasRun port resumed works = (left : List OpId) × RunsOnce port resumed works left

@@ -3,6 +3,7 @@
 ghost use Rattle.std.specs.Prelude.{◌≡◌};
 ghost use Rattle.fm_queue.specs.Passes.{IsPassOf};
 ghost use Rattle.fm_worker.specs.Between.{IsFree};
+ghost use Rattle.fm_worker.specs.Ports.{RunsOnce};
 
 use crate::hook::CallbackHook;
 use crate::own::Own;
@@ -167,6 +168,7 @@ impl<'a, F: Callbacks, L: Ledger, R: Wait, G: CallbackHook> WorkerShared<'a, F, 
     pub(crate) fn work<D: Device, W: WorkItem>(&self, own: &mut Own<'a, F, L, R, D>, item: &W)
         requires pass { IsPassOf self.now.queue.now own.old.pass }
         ensures free { IsFree self.now.queue.now own.new.port.hand.held own.new.pass }
+        ensures works { RunsOnce own.old.port (λ port. port.resumed) (λ before after. W.works item.now before after) own.new.port.resumed }
     {
         item.run(&mut own.port);
         if self

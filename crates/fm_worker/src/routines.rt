@@ -1,6 +1,8 @@
 //! What a filter has done for an instance outside of callbacks.
 
+ghost use Rattle.std.specs.Prelude.{IfOk};
 ghost use Rattle.fm_worker.specs.Jobs.{LeavesNone};
+ghost use Rattle.fm_worker.specs.Ports.{HasRun};
 
 use crate::hook::CallbackHook;
 use crate::worker::Worker;
@@ -19,6 +21,7 @@ impl<'a, F: Callbacks, L: Ledger, R: Wait, G: CallbackHook, D: Device> Worker<'a
         handle: Option<HandleId>,
         item: &W,
     ) -> Result<(), Status>
+        ensures works { IfOk result (λ _. HasRun self.old.own.port (λ port. port.resumed) (λ before after. W.works item.now before after)) }
         ensures settled { LeavesNone self.old.own.port.resumed self.new.own.port.resumed }
     {
         let shared = &self.shared;

@@ -8,7 +8,8 @@ use Rattle.fm_filter.specs.Standing.{shape_of, standing_of}
 use Rattle.fm_operations.specs.Record.{FlowRecord}
 use Rattle.fm_operations.specs.Table.{FlowTable, told}
 use Rattle.fm_world.specs.Routines.{EntersRoutine, RoutineReturns, RoutineReturnsAt, file_by}
-use Rattle.fm_local.specs.Places.{EndsFrom, IsIn}
+use Rattle.fm_local.specs.Places.{EndsFrom, IsIn, WorksOnce}
+use Rattle.fm_local.specs.declared.local_port.Work.{Work}
 use Rattle.fm_local.specs.Quietly.{LeavesReady}
 use Rattle.std.proofs.lemmas.Bool.{and_parts}
 use Rattle.std.proofs.lemmas.List.Elements.{All-nil}
@@ -31,6 +32,11 @@ none_goes_on : (t : FlowTable) → t.operations ≡ [] → (os : List OpId) → 
 none_goes_on t none [] goes = refl
 none_goes_on t none (o ∷ os) goes = absurd (false≢true (sym (none_loose t none o) ∙ (and_parts (told is_loose false o t) (are_loose t os)
     (and_parts (told is_loose false o t && are_loose t os) (are_apart (o ∷ os)) goes).0).0))
+
+-- the routine in which an item ran has ended
+pub once_ends : (k : WorkerId) (works : Work → Work → Type 0) (old new : Work) → WorksOnce k works old new
+    → EndsFrom old.state (λ before. RoutineReturns before k (Ok tt) new.state)
+once_ends k works old new (worked, ran, far, returns, same) = (worked.state, far, returns)
 
 module _ (k : WorkerId) (old : World) (rests : IsAtRest k old) (i : InstanceId) (h : Option HandleId) where
   -- what is left of a ready manager's state behind an item

@@ -1,4 +1,4 @@
-use Rattle.fm_local.proofs.Words.{ap, sym, Place, WORKER}
+use Rattle.fm_local.proofs.Words.{ap, refl, sym, Place, WORKER}
 use Rattle.fm_local.proofs.queues.Places.{in_still, routine_ends}
 use Rattle.fm_local.proofs.queues.SameOperations as unmoved
 use Rattle.fm_local.proofs.queues.ManagerWaits.{same_flow}
@@ -6,12 +6,14 @@ use Rattle.fm_local.proofs.parts.Parts.run_item.Goals as goal
 
 pub returns-clause-ends : goal.returns-clause-ends
 returns-clause-ends g c i file there =
-    let done = c.do_work.new.work.state in
-    let still = in_still WORKER (Place.Routine i file) c.args.self.now.work.state done c.do_work.ensures.far there in
-    rw (ap (λ m. m.work.state) c.note_left.ensures) (
-      done,
+    let worked = c.do_work.new.work in
+    let still = in_still WORKER (Place.Routine i file) c.args.self.now.work.state worked.state c.do_work.ensures.far there in
+    rw (ap (λ m. m.work) c.note_left.ensures) (
+      worked,
+      c.do_work.ensures.works,
       c.do_work.ensures.far,
-      routine_ends WORKER done c.routine_returned.new.self c.routine_returned.result i file still c.routine_returned.ensures.event,
+      routine_ends WORKER worked.state c.routine_returned.new.self c.routine_returned.result i file still c.routine_returned.ensures.event,
+      refl,
     )
 
 pub returns-clause-waits : goal.returns-clause-waits

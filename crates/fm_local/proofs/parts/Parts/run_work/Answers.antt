@@ -3,7 +3,7 @@ use Rattle.fm_local.specs.Waits.{Wait}
 use Rattle.fm_world.specs.Routines.{file_by}
 use Rattle.fm_local.proofs.operations.AnyTurns.{calls_untraced}
 use Rattle.fm_local.proofs.instances.Rest.{work_refused}
-use Rattle.fm_local.proofs.instances.Worked.{refused_ready, resumed_none, waits_at_rest, worked, worked_ready}
+use Rattle.fm_local.proofs.instances.Worked.{once_ends, refused_ready, resumed_none, waits_at_rest, worked, worked_ready}
 use Rattle.fm_local.proofs.queues.Places.{routine_out, same_out, working_in}
 use Rattle.fm_local.proofs.instances.NoneDue.{none_worked}
 use Rattle.fm_local.proofs.queues.SameOperations as unmoved
@@ -50,7 +50,8 @@ returns-clause-between g c before =
           (c.run_item.ensures.waits c.args.self.now.finished.items.items
           (same_flow _ _ _ _ (unmoved.entered_routine old entered WORKER c.args.instance c.args.handle (Ok tt) event) before.waits)));
       out = c.settle.ensures.out (routine_out WORKER entered c.run_item.new.self.work.state (Ok tt) c.args.instance file there
-          (c.run_item.ensures.ends c.args.instance file there));
+          (once_ends WORKER (λ before after. g.W.WorkItem.works c.args.item.now before after) (record c.args.self.now.work { state = entered }) c.run_item.new.self.work
+          (c.run_item.ensures.ends c.args.instance file there)));
       none_due = c.settle.ensures.none_due;
     }
 
@@ -67,7 +68,8 @@ returns-clause-ready g c ready =
     let there = working_in WORKER old c.args.instance c.args.handle entered event in
     let back = c.run_item.new.self in
     let is = worked WORKER old ready.rests c.args.instance c.args.handle entered back.work.state event
-    (c.run_item.ensures.ends c.args.instance (file_by old.files c.args.handle) there) in
+    (once_ends WORKER (λ before after. g.W.WorkItem.works c.args.item.now before after) (record c.args.self.now.work { state = entered }) c.run_item.new.self.work
+    (c.run_item.ensures.ends c.args.instance (file_by old.files c.args.handle) there)) in
     let none = resumed_none back.work.state.flow back.work.resumed.items.items is.operations (c.run_item.ensures.waits [] (waits_at_rest entered.flow c.args.self.now.work.resumed.items.items ready.settled)) in
     let settled = c.settle.ensures.kept none in
     worked_ready c.args.self.now ready c.args.instance c.args.handle back c.settle.new.self is (c.settle.ensures.tidies none)

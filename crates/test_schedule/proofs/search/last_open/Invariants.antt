@@ -1,9 +1,0 @@
-use Rattle.std.proofs.Common.{All, drop, ◌≤◌, length}
-use Rattle.test_schedule.specs.Choices.{IsLast}
-use Rattle.test_schedule.proofs.search.last_open.Given as goal
-
-abbrev pub invariant-loop-at : goal.invariant-loop-at
-invariant-loop-at l = (l.at ≤ length l.choices) × All IsLast (drop l.at l.choices)
-
-abbrev pub decreases-loop-at : goal.decreases-loop-at
-decreases-loop-at l = l.at

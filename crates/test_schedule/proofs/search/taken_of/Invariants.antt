@@ -1,6 +1,0 @@
-use Rattle.std.proofs.Common.{◌≡◌, take}
-use Rattle.test_schedule.specs.Choices.{taken_of}
-use Rattle.test_schedule.proofs.search.taken_of.Given as goal
-
-abbrev pub invariant-loop-choice : goal.invariant-loop-choice
-invariant-loop-choice l = l.path.items ≡ taken_of (take l.choice-index l.choices)

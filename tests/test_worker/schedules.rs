@@ -11,7 +11,7 @@ use crate::unlocked::Unlocked;
 use fm_callback_data::FileRequest;
 use fm_lock::{Hand, Manager};
 use fm_queue::JobQueue;
-use test_schedule::{Choice, Chooser, Schedule, ScheduleHook, next_path};
+use test_schedule::{Chooser, Schedule, ScheduleHook, Went};
 use fm_types::limits::PARTS;
 use fm_types::{FilterId, Name, OpId, Status, WorkerId};
 use std::alloc::Global;
@@ -182,21 +182,23 @@ fn order_of<R: Threads + Wait + Clock + Sync>(
     rt: &R,
     alloc: Global,
     seed: u64,
-) -> Result<Vec<Choice>, Status> {
+) -> Result<Vec<Went>, Status> {
     let once = one_run(rt, alloc, Chooser::Seed(seed), 3)?;
     let again = one_run(rt, alloc, Chooser::Seed(seed), 3)?;
     if !once.is_clean() || !again.is_clean() || once.counted != again.counted {
         return Err(Status::WrongStep);
     }
-    if once.schedule.choices.as_slice() != again.schedule.choices.as_slice() {
+    if once.schedule.choices.as_slice() != again.schedule.choices.as_slice()
+        || once.schedule.went.as_slice() != again.schedule.went.as_slice()
+    {
         return Err(Status::WrongStep);
     }
-    Ok(once.schedule.choices)
+    Ok(once.schedule.went)
 }
 
 // How many orders the seeds make.
 fn orders<R: Threads + Wait + Clock + Sync>(rt: &R, alloc: Global) -> Result<usize, Status> {
-    let mut seen: Vec<Vec<Choice>> = Vec::new(alloc);
+    let mut seen: Vec<Vec<Went>> = Vec::new(alloc);
     for seed in 0..SEEDS {
         let order = order_of(rt, alloc, seed)?;
         if !seen
@@ -225,7 +227,7 @@ fn strays<R: Threads + Wait + Clock + Sync>(
     let run = one_run(rt, alloc, Chooser::Path(path), 2)?;
     Ok((
         run.schedule.is_repeatable(),
-        next_path(alloc, &run.schedule).err(),
+        run.schedule.next_path(alloc).err(),
     ))
 }
 
@@ -257,7 +259,7 @@ fn search_on<R: Threads + Wait + Clock + Sync>(
     if run.counted != 2 {
         found.losing = found.losing.saturating_add(1);
     }
-    next_path(alloc, &run.schedule)
+    run.schedule.next_path(alloc)
 }
 
 // All orders of two reads.

@@ -235,9 +235,9 @@ fn one_run<R: Threads + Wait + Clock + Sync>(
 // How many drains met at the hook in a run.
 fn drains(run: &Run) -> usize {
     run.schedule
-        .choices
+        .went
         .iter()
-        .filter(|choice| matches!(choice.next, Next::Drain(_)))
+        .filter(|went| matches!(went.next, Next::Drain(_)))
         .count()
 }
 
@@ -253,7 +253,8 @@ fn repeats<R: Threads + Wait + Clock + Sync>(
         && again.is_clean()
         && once.schedule.is_repeatable()
         && again.schedule.is_repeatable()
-        && once.schedule.choices.as_slice() == again.schedule.choices.as_slice();
+        && once.schedule.choices.as_slice() == again.schedule.choices.as_slice()
+        && once.schedule.went.as_slice() == again.schedule.went.as_slice();
     if is_well {
         Ok(drains(&once))
     } else {

@@ -1,7 +1,8 @@
 //! Who stands at the hook, and who is at work.
 
-use crate::choice::{Choice, Next, Schedule};
+use crate::choice::{Next, Schedule, Went};
 use crate::chooser::Chooser;
+use fm_choice::Choice;
 use fm_types::WorkerId;
 use fm_types::limits::WORKERS;
 use std::alloc::Global;
@@ -37,6 +38,7 @@ impl ThreadBoard {
             chooser,
             schedule: Schedule {
                 choices: Vec::new(alloc),
+                went: Vec::new(alloc),
                 passed_over: 0,
                 lost: 0,
                 has_strayed: false,
@@ -169,13 +171,9 @@ impl ThreadBoard {
     }
 
     fn note(&mut self, place: usize, next: Next, options: usize, taken: usize) {
-        let choice = Choice {
-            worker: WorkerId(u8::try_from(place).unwrap_or(0)),
-            next,
-            options,
-            taken,
-        };
-        if self.schedule.choices.push(choice).is_err() {
+        let worker = WorkerId(u8::try_from(place).unwrap_or(0));
+        let went = Went { worker, next };
+        if self.schedule.note(Choice { options, taken }, went).is_err() {
             self.schedule.lost = self.schedule.lost.saturating_add(1);
         }
     }

@@ -6,10 +6,7 @@ mod board;
 mod choice;
 mod chooser;
 mod hook;
-pub mod laws;
-mod search;
 
-pub use crate::choice::{Choice, Next, Schedule};
+pub use crate::choice::{Next, Schedule, Went};
 pub use crate::chooser::Chooser;
 pub use crate::hook::ScheduleHook;
-pub use crate::search::next_path;

@@ -91,6 +91,8 @@ typedef struct KzFile {
     bool is_posix;       /* a deletion takes its name away with the handle's cleanup */
     bool is_sharing;     /* it counts in its file's share access */
     ACCESS_MASK access;  /* that its create was granted */
+    GUID oplock_key;     /* if its create said one: handles of the same key break no oplock of one another */
+    bool has_oplock_key, asks_next; /* its create said that it asks for an oplock next */
     PKTRANSACTION transaction; /* in which it was opened; NULL if in none */
     ULONG_PTR created;   /* what the file system made of its create: FILE_OPENED and its kin */
     struct {             /* of a directory */
@@ -119,6 +121,7 @@ typedef struct {
     LONGLONG passed;  /* since the run began, in units of 100 nanoseconds */
     unsigned waiters, fires_left; /* who waits while timers may fire, and how many of these may yet (core/clock.h) */
     ULONG uuids;      /* that were made */
+    unsigned oplocks; /* that were asked for, and aren't forgotten */
     /* What each module keeps of a run: a structure that its own file knows, made as the run begins and zero. */
     struct KzAccessState *access;
     struct KzEdgeState *edge;
@@ -136,6 +139,7 @@ typedef struct {
     struct KzMadeState *made;
     struct KzNameState *name;
     struct KzNoticeState *notice;
+    struct KzOwnOplockState *ownoplock;
     struct KzPieceState *piece;
     struct KzPortState *port;
     struct KzProcessState *process;

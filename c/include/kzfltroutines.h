@@ -63,20 +63,6 @@ KZ_ROUTINE(NTSTATUS, STATUS_NOT_SUPPORTED, REPARSE, FltRemoveOpenReparseEntry, P
 KZ_ROUTINE(NTSTATUS, STATUS_NOT_SUPPORTED, OWN_IO, FltPrefetchFile, PFLT_INSTANCE Instance, PFILE_OBJECT FileObject, PVOID PrefetchOpenData)
 KZ_ROUTINE(NTSTATUS, STATUS_NOT_SUPPORTED, NOT_MODELLED, FltVetoBypassIo, PFLT_CALLBACK_DATA CallbackData, PCFLT_RELATED_OBJECTS FltObjects, NTSTATUS OperationStatus, PCUNICODE_STRING FailureReason)
 
-/* ---- Waits, oplocks. */
-KZ_ROUTINE(FLT_PREOP_CALLBACK_STATUS, FLT_PREOP_SUCCESS_WITH_CALLBACK, OPLOCK, FltCheckOplockEx, POPLOCK Oplock, PFLT_CALLBACK_DATA CallbackData, ULONG Flags, PVOID Context,
-           PVOID WaitCompletionRoutine, PVOID PrePostCallbackDataRoutine)
-KZ_ROUTINE(FLT_PREOP_CALLBACK_STATUS, FLT_PREOP_SUCCESS_WITH_CALLBACK, OPLOCK | WAITS, FltOplockBreakH, POPLOCK Oplock, PFLT_CALLBACK_DATA CallbackData, ULONG Flags, PVOID Context, PVOID WaitCompletionRoutine,
-           PVOID PrePostCallbackDataRoutine)
-KZ_ROUTINE(FLT_PREOP_CALLBACK_STATUS, FLT_PREOP_SUCCESS_WITH_CALLBACK, OPLOCK | WAITS, FltOplockBreakToNone, POPLOCK Oplock, PFLT_CALLBACK_DATA CallbackData, PVOID Context, PVOID WaitCompletionRoutine,
-           PVOID PrePostCallbackDataRoutine)
-KZ_ROUTINE(FLT_PREOP_CALLBACK_STATUS, FLT_PREOP_SUCCESS_WITH_CALLBACK, OPLOCK, FltOplockBreakToNoneEx, POPLOCK Oplock, PFLT_CALLBACK_DATA CallbackData, ULONG Flags, PVOID Context,
-           PVOID WaitCompletionRoutine, PVOID PrePostCallbackDataRoutine)
-KZ_ROUTINE(BOOLEAN, FALSE, OPLOCK, FltOplockIsSharedRequest, PFLT_CALLBACK_DATA CallbackData)
-KZ_ROUTINE(BOOLEAN, FALSE, OPLOCK, FltOplockKeysEqual, PFILE_OBJECT Fo1, PFILE_OBJECT Fo2)
-KZ_ROUTINE(BOOLEAN, FALSE, OPLOCK, FltCurrentOplock, POPLOCK Oplock)
-KZ_ROUTINE(BOOLEAN, FALSE, OPLOCK, FltCurrentOplockH, POPLOCK Oplock)
-
 /* ---- Extra create parameters. */
 KZ_ROUTINE(VOID, , ECP, FltInitExtraCreateParameterLookasideList, PFLT_FILTER Filter, PVOID Lookaside, FSRTL_ECP_LOOKASIDE_FLAGS Flags, SIZE_T Size, ULONG Tag)
 KZ_ROUTINE(VOID, , ECP, FltDeleteExtraCreateParameterLookasideList, PFLT_FILTER Filter, PVOID Lookaside, FSRTL_ECP_LOOKASIDE_FLAGS Flags)

@@ -61,8 +61,10 @@ struct KzClient {
     struct {
         char name[24];
         uint64_t handle;
+        uint64_t operation; /* one more than that of the operation that is to give it, and waits still; 0: it is given */
     } names[32]; /* that its creates gave, by `as` */
     size_t names_count;
+    const char *next_name; /* that its create is to give; NULL if it has none */
     uint64_t timeout; /* of its wait, in milliseconds; 0 if it has none */
     uint64_t until;   /* and when it is over, by the clock */
     KzThread *beside; /* the thread that it is, beside the requests; NULL for those of requests and of work items */

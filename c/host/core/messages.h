@@ -154,6 +154,7 @@ enum {
     KZM_PAGE_WAITS = 301,
     KZM_PAGE_SHORT = 302,
     KZM_PAGE_LOST = 303,
+    KZM_OWN_OPLOCK = 304,
     KZM_MESSAGES = 320
 };
 

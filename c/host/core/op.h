@@ -159,6 +159,7 @@ typedef struct {
     PFLT_CALLBACK_DATA_QUEUE queue;
     PFLT_CALLBACK_DATA_QUEUE_IO_CONTEXT context; /* that its filter keeps */
     VOID (*routine)(PFLT_CALLBACK_DATA data);
+    void (*host)(KzOp *op); /* a call of the kit keeps it */
 } KzCancel;
 
 struct KzOp {
@@ -213,6 +214,12 @@ struct KzOp {
         size_t rest;                 /* letters of its name behind that */
     } met;
     FLT_TAG_DATA_BUFFER *tag; /* the same, as callbacks see it */
+    struct {
+        struct KzOplock *of; /* whose break it waits for; NULL: none's */
+        bool is_over, is_apart; /* it waits no more; it isn't its own thread that waits */
+        bool goes_beside;    /* a create that goes on before a break is over: STATUS_OPLOCK_BREAK_IN_PROGRESS */
+        bool has_come;       /* to the file system, before it waited there */
+    } breaks;
     KzCreate asked, create; /* what a create asked for as it began, and what it asks for by now */
     unsigned users;   /* callbacks that look at it beside its runner */
     const char *request, *path; /* as in KzPlace */

@@ -9,6 +9,7 @@
 #include "filesystem/name.h"
 #include "filesystem/record.h"
 #include "filesystem/notice.h"
+#include "filesystem/oplocks.h"
 #include "filesystem/query.h"
 #include "filesystem/ranges.h"
 #include "filesystem/tag.h"
@@ -159,23 +160,13 @@ static NTSTATUS control(KzOp *op, const FLT_PARAMETERS *now)
     USHORT *compressed = now->FileSystemControl.Buffered.SystemBuffer;
     if (kz_is_tag_control(now->FileSystemControl.Common.FsControlCode))
         return kz_control_tag(op, now);
+    if (kz_is_oplock_code(now->FileSystemControl.Common.FsControlCode))
+        return kz_control_oplock(op, now);
     switch (now->FileSystemControl.Common.FsControlCode) {
     case FSCTL_LOCK_VOLUME:
     case FSCTL_UNLOCK_VOLUME:
     case FSCTL_DISMOUNT_VOLUME:
         return control_volume(op->file, now->FileSystemControl.Common.FsControlCode);
-    case FSCTL_REQUEST_OPLOCK_LEVEL_1:
-    case FSCTL_REQUEST_OPLOCK_LEVEL_2:
-    case FSCTL_REQUEST_BATCH_OPLOCK:
-    case FSCTL_REQUEST_FILTER_OPLOCK:
-    case FSCTL_REQUEST_OPLOCK:
-        kz_tell(KZM_OPLOCK, "FSCTL_REQUEST_OPLOCK", "no oplock is granted: it answers STATUS_OPLOCK_NOT_GRANTED");
-        return STATUS_OPLOCK_NOT_GRANTED; /* as a file system may answer at any time */
-    case FSCTL_OPLOCK_BREAK_ACKNOWLEDGE:
-    case FSCTL_OPBATCH_ACK_CLOSE_PENDING:
-    case FSCTL_OPLOCK_BREAK_ACK_NO_2:
-        return STATUS_INVALID_OPLOCK_PROTOCOL;
-    case FSCTL_OPLOCK_BREAK_NOTIFY: /* no break is under way */
     case FSCTL_IS_VOLUME_MOUNTED:
     case FSCTL_SET_COMPRESSION:
         return STATUS_SUCCESS;

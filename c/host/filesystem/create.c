@@ -9,6 +9,7 @@
 #include "filesystem/journal.h"
 #include "filesystem/name.h"
 #include "filesystem/notice.h"
+#include "filesystem/oplocks.h"
 #include "filesystem/record.h"
 #include "filesystem/rename.h"
 #include "filesystem/sharing.h"
@@ -94,7 +95,7 @@ static NTSTATUS check_there(KzOp *op, const KzName *name)
         return STATUS_ACCESS_DENIED;
     if (kz_is_emptied(create) && kz_is_mapped(op, name->stream, 0))
         return STATUS_USER_MAPPED_FILE;
-    return kz_may_share_file(op->file, create) ? STATUS_SUCCESS : STATUS_SHARING_VIOLATION;
+    return kz_open_beside(op);
 }
 
 static NTSTATUS check(KzOp *op, uint8_t mode, There there)

@@ -3,6 +3,7 @@
 
 #include "core/client.h"
 #include "core/memory.h"
+#include "core/op.h"
 #include "core/piece.h"
 #include "core/told.h"
 #include "lib/letters.h"
@@ -113,6 +114,11 @@ bool kz_handle_of(KzFile *file, uint64_t *handle)
 {
     *handle = file->handle;
     return file->has_handle || file->is_opening;
+}
+
+bool kz_is_synchronous(const KzOp *op)
+{
+    return op->file->object.Flags & FO_SYNCHRONOUS_IO || (op->own.is_own && !op->own.is_user && op->own.is_waited_for);
 }
 
 void kz_let_go_file(KzFile *file)

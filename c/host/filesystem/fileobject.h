@@ -20,6 +20,8 @@ bool kz_handle_of(KzFile *file, uint64_t *handle);
 /* A client's handle as drivers are given it, in a rename's RootDirectory. */
 HANDLE kz_root_handle(uint64_t handle);
 KzFile *kz_file_of_client(HANDLE root);
+/* By a handle that waits for each, or by a driver's call that does. */
+bool kz_is_synchronous(const KzOp *op);
 void kz_let_go_file(KzFile *file);
 void kz_drop_file(uint64_t handle);
 void kz_adopt_name(KzFile *file);

@@ -7,6 +7,7 @@
 #include "core/op.h"
 #include "lib/letters.h"
 #include "filesystem/name.h"
+#include "filesystem/oplocks.h"
 #include "filesystem/tree.h"
 #include "filesystem/waiting.h"
 
@@ -119,6 +120,8 @@ static ULONG action_of_stream(ULONG action)
 
 void kz_notify(const KzName *name, ULONG filter, ULONG action)
 {
+    if (filter & (FILE_NOTIFY_CHANGE_FILE_NAME | FILE_NOTIFY_CHANGE_DIR_NAME))
+        kz_folder_changed(name);
     filter = name->base ? filter_of_stream(filter) : filter;
     action = name->base ? action_of_stream(action) : action;
     for (Watch *one = kz.notice->watches; one; one = one->next) {

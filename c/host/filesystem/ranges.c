@@ -112,6 +112,14 @@ NTSTATUS kz_unlock_ranges(KzFile *file, const ULONG *key)
     return STATUS_SUCCESS;
 }
 
+bool kz_has_ranges(const KzStream *stream)
+{
+    for (const Lock *one = kz.range->first; one; one = one->next)
+        if (one->file->name->stream == stream)
+            return true;
+    return false;
+}
+
 /* Reads meet the exclusive locks of others; writes meet shared ones too, also the file object's own. */
 bool kz_is_locked(const KzFile *file, uint64_t from, uint64_t length, bool is_write)
 {

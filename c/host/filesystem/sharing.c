@@ -115,6 +115,7 @@ void kz_note_opened(KzOp *op, bool was_there, bool had_file)
     const KzCreate *create = &op->create;
     file->object.Flags = (file->object.Flags & ~(ULONG)FO_SYNCHRONOUS_IO) | flags_of(create);
     file->access = create->access;
+    file->asks_next = create->options & (FILE_OPEN_REQUIRING_OPLOCK | FILE_RESERVE_OPFILTER);
     file->created = result_of(create, file->volume, was_there);
     share(file, create);
     if (file->created == FILE_OPENED || create->target)

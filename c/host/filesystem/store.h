@@ -18,6 +18,8 @@ typedef struct KzStore {
     /* Paging I/O of a file object, from the top of the stack and after its cleanup too: what is read lies in the client's room. */
     NTSTATUS (*page)(KzFile *file, const KzPaging *asked, uint64_t *there);
     NTSTATUS (*ask)(KzFile *file, const KzAsked *asked);
+    /* The next operation that was let go on is carried on; false: there is none. */
+    bool (*resume)(void);
 } KzStore;
 
 #endif

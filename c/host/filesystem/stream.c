@@ -11,6 +11,7 @@
 #include "filesystem/disk.h"
 #include "filesystem/name.h"
 #include "filesystem/notice.h"
+#include "oplock/oplock.h"
 
 #include <stdlib.h>
 
@@ -67,6 +68,7 @@ void kz_free_stream(KzStream *stream)
         one->stream = NULL;
     take_out(stream);
     kz_cut_bytes(&stream->pages, 0);
+    kz_free_oplock(&stream->oplock);
     free(stream->name);
     free(stream);
 }

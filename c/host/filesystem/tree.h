@@ -58,6 +58,7 @@ typedef struct KzStream {
     uint64_t size, allocation;
     uint64_t valid; /* up to where something was written: what lies from there to its end is zeros */
     struct KzCache *cache; /* NULL: nothing of it is cached */
+    struct KzOplock *oplock; /* NULL: none was ever asked for */
     SECTION_OBJECT_POINTERS sections;
     SHARE_ACCESS share;
     KzPages pages; /* of a volume in memory */

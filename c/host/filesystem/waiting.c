@@ -1,4 +1,4 @@
-/* Operations that wait in the file system, until what they wait for is there, their handle's cleanup is over, they are cancelled, or the volume goes; then whoever comes to one carries it on. */
+/* Operations that wait in the file system, until what they wait for is there or they are to come to it again (STATUS_PENDING), their handle's cleanup is over, they are cancelled, or the volume goes; then whoever comes to one carries it on. */
 #include "filesystem/waiting.h"
 
 #include "core/client.h"
@@ -61,7 +61,7 @@ void kz_make_due(KzOp *op, NTSTATUS status)
 KzOp *kz_first_waiting(const KzFile *file)
 {
     for (const Waiting *one = kz.waiting->first; one; one = one->next)
-        if (!one->is_due && one->op->file == file && one->op->opaque->major == IRP_MJ_DIRECTORY_CONTROL)
+        if (!one->is_due && one->op->file == file && one->op->opaque && one->op->opaque->major == IRP_MJ_DIRECTORY_CONTROL)
             return one->op;
     return NULL;
 }
@@ -74,7 +74,7 @@ static NTSTATUS status_at_cleanup(const KzOp *op)
 void kz_end_waiting(const KzFile *file, PFLT_VOLUME volume)
 {
     for (Waiting *one = kz.waiting->first; one; one = one->next)
-        if (!one->is_due && (file ? one->op->file == file : one->op->volume == volume))
+        if (!one->is_due && (file ? one->op->file == file && !one->op->breaks.of : one->op->volume == volume))
             make_due(one, file ? status_at_cleanup(one->op) : STATUS_VOLUME_DISMOUNTED);
 }
 
@@ -86,11 +86,22 @@ bool kz_cancel_waiting(KzOp *op)
     return one;
 }
 
-bool kz_run_waiting(void)
+static Waiting **first_due(void)
 {
     Waiting **at = &kz.waiting->first;
     while (*at && (!(*at)->is_due || (*at)->op->is_returning))
         at = &(*at)->next;
+    return at;
+}
+
+bool kz_has_due(void)
+{
+    return *first_due();
+}
+
+bool kz_run_waiting(void)
+{
+    Waiting **at = first_due();
     if (!*at)
         return false;
     Waiting *gone = *at;

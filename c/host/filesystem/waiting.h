@@ -17,6 +17,7 @@ KzOp *kz_first_waiting(const KzFile *file);
 void kz_end_waiting(const KzFile *file, PFLT_VOLUME volume);
 /* One that was asked to be cancelled; false: it doesn't wait here. */
 bool kz_cancel_waiting(KzOp *op);
+bool kz_has_due(void);
 /* The next one that is due goes on; false if none is. */
 bool kz_run_waiting(void);
 

@@ -6,6 +6,7 @@
 #include "core/place.h"
 #include "core/state.h"
 #include "core/told.h"
+#include "filesystem/oplocks.h"
 #include "filesystem/waiting.h"
 #include "manager/below.h"
 #include "manager/hand.h"
@@ -101,7 +102,9 @@ void kz_cancel_op(KzOp *op)
     op->cancel.is_asked = true;
     if (op->cancel.queue || op->cancel.routine)
         call_routine(op);
-    else if (op->is_waiting)
+    else if (op->cancel.host)
+        op->cancel.host(op);
+    else if (op->is_waiting && !kz_cancel_oplock_of(op))
         kz_cancel_waiting(op);
 }
 

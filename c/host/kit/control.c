@@ -9,6 +9,7 @@
 #include "manager/below.h"
 #include "manager/instance.h"
 #include "kit/io.h"
+#include "oplock/oplock.h"
 #include "kit/key.h"
 
 static KzFile *opened(PFLT_INSTANCE instance, PFILE_OBJECT object, const char *call)
@@ -215,6 +216,9 @@ NTSTATUS ZwFsControlFile(HANDLE FileHandle, HANDLE Event, PIO_APC_ROUTINE ApcRou
     KZ_CALL();
     (void)Event, (void)ApcRoutine, (void)ApcContext;
     KzAsked asked = control(IRP_MJ_FILE_SYSTEM_CONTROL, FsControlCode, InputBuffer, InputBufferLength, OutputBufferLength);
+    const KzFile *file = kz_own_file(FileHandle);
+    if (file && !(file->object.Flags & FO_SYNCHRONOUS_IO) && kz_waits_for_oplock(FsControlCode))
+        kz_tell(KZM_OPLOCK, __func__, "a request that isn't waited for is modelled by FltPerformAsynchronousIo alone: this one is waited for");
     return ask_by_handle(FileHandle, IoStatusBlock, &asked, OutputBuffer, __func__);
 }
 

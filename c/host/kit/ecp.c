@@ -2,39 +2,24 @@
 #include "kit/ecp.h"
 
 #include "core/client.h"
+#include "core/extra.h"
 #include "core/module.h"
 #include "core/op.h"
+#include "core/piece.h"
 #include "core/place.h"
 #include "core/state.h"
 #include "manager/operation.h"
 
-#include <string.h>
+enum { TAG = 'pcEI' };
 
-typedef struct Parameter {
-    struct Parameter *next;
-    PECP_LIST list; /* in which it is */
-    GUID type;
-    ULONG size;
-    PFSRTL_EXTRA_CREATE_PARAMETER_CLEANUP_CALLBACK cleanup;
-    BOOLEAN is_acknowledged;
-    PFLT_FILTER filter;
-} Parameter;
-
-/* Its context lies behind it. */
-enum { TAG = 'pcEI', HEAD = (sizeof(Parameter) + 15) / 16 * 16 };
-
-struct _ECP_LIST {
-    Parameter *first;
-};
-
-static Parameter *parameter_of(PVOID context)
+static KzExtra *parameter_of(PVOID context)
 {
-    return (Parameter *)((PUCHAR)context - HEAD);
+    return (KzExtra *)((PUCHAR)context - KZ_EXTRA_HEAD);
 }
 
-static PVOID context_of(Parameter *parameter)
+static PVOID context_of(KzExtra *parameter)
 {
-    return (PUCHAR)parameter + HEAD;
+    return (PUCHAR)parameter + KZ_EXTRA_HEAD;
 }
 
 /* ---- Making them. */
@@ -51,15 +36,15 @@ NTSTATUS FltAllocateExtraCreateParameter(PFLT_FILTER Filter, LPCGUID EcpType, UL
 {
     KZ_INSIDE();
     (void)Filter, (void)Flags;
-    Parameter *made = ExAllocatePoolZero(PagedPool, HEAD + SizeOfContext, PoolTag);
+    KzExtra *made = ExAllocatePoolZero(PagedPool, KZ_EXTRA_HEAD + SizeOfContext, PoolTag);
     *EcpContext = made ? context_of(made) : NULL;
     if (!made)
         return STATUS_INSUFFICIENT_RESOURCES;
-    *made = (Parameter){.type = *EcpType, .size = SizeOfContext, .cleanup = CleanupCallback, .filter = kz_me->place.filter};
+    *made = (KzExtra){.type = *EcpType, .size = SizeOfContext, .cleanup = CleanupCallback, .filter = kz_me->place.filter};
     return STATUS_SUCCESS;
 }
 
-static void free_parameter(Parameter *parameter)
+static void free_parameter(KzExtra *parameter)
 {
     if (parameter->cleanup) {
         KzPlace before = kz_enter(KZ_IN_CLEANUP, kz_worker(), parameter->filter, NULL, NULL, NULL);
@@ -81,7 +66,7 @@ VOID FltFreeExtraCreateParameter(PFLT_FILTER Filter, PVOID EcpContext)
 static void free_list(PECP_LIST list)
 {
     while (list->first) {
-        Parameter *one = list->first;
+        KzExtra *one = list->first;
         list->first = one->next;
         free_parameter(one);
     }
@@ -96,19 +81,11 @@ VOID FltFreeExtraCreateParameterList(PFLT_FILTER Filter, PECP_LIST EcpList)
 }
 
 /* ---- Lists. */
-static Parameter **place_of(PECP_LIST list, const GUID *type)
-{
-    Parameter **at = &list->first;
-    while (*at && memcmp(&(*at)->type, type, sizeof *type) != 0)
-        at = &(*at)->next;
-    return at;
-}
-
 NTSTATUS FltInsertExtraCreateParameter(PFLT_FILTER Filter, PECP_LIST EcpList, PVOID EcpContext)
 {
     KZ_INSIDE();
     (void)Filter;
-    Parameter *one = parameter_of(EcpContext), **at = place_of(EcpList, &one->type);
+    KzExtra *one = parameter_of(EcpContext), **at = kz_place_of_extra(EcpList, &one->type);
     if (one->list || *at)
         return STATUS_INVALID_PARAMETER;
     one->list = EcpList;
@@ -116,7 +93,7 @@ NTSTATUS FltInsertExtraCreateParameter(PFLT_FILTER Filter, PECP_LIST EcpList, PV
     return STATUS_SUCCESS;
 }
 
-static NTSTATUS give(Parameter *one, PVOID *context, ULONG *size)
+static NTSTATUS give(KzExtra *one, PVOID *context, ULONG *size)
 {
     if (!one)
         return STATUS_NOT_FOUND;
@@ -131,14 +108,14 @@ NTSTATUS FltFindExtraCreateParameter(PFLT_FILTER Filter, PECP_LIST EcpList, cons
 {
     KZ_INSIDE();
     (void)Filter;
-    return give(*place_of(EcpList, EcpType), EcpContext, EcpContextSize);
+    return give(*kz_place_of_extra(EcpList, EcpType), EcpContext, EcpContextSize);
 }
 
 NTSTATUS FltRemoveExtraCreateParameter(PFLT_FILTER Filter, PECP_LIST EcpList, LPCGUID EcpType, PVOID *EcpContext, ULONG *EcpContextSize)
 {
     KZ_INSIDE();
     (void)Filter;
-    Parameter **at = place_of(EcpList, EcpType), *one = *at;
+    KzExtra **at = kz_place_of_extra(EcpList, EcpType), *one = *at;
     if (one) {
         *at = one->next;
         one->next = NULL;
@@ -151,7 +128,7 @@ NTSTATUS FltGetNextExtraCreateParameter(PFLT_FILTER Filter, PECP_LIST EcpList, P
 {
     KZ_INSIDE();
     (void)Filter;
-    Parameter *next = CurrentEcpContext ? parameter_of(CurrentEcpContext)->next : EcpList->first;
+    KzExtra *next = CurrentEcpContext ? parameter_of(CurrentEcpContext)->next : EcpList->first;
     if (next && NextEcpType)
         *NextEcpType = next->type;
     return give(next, NextEcpContext, NextEcpContextSize);
@@ -190,6 +167,16 @@ NTSTATUS FltGetEcpListFromCallbackData(PFLT_FILTER Filter, PFLT_CALLBACK_DATA Ca
     return STATUS_SUCCESS;
 }
 
+/* Its filter may be gone before the create is over. */
+static void adopt(PECP_LIST list)
+{
+    if (kz_piece_of(list))
+        kz_piece_of(list)->filter = NULL;
+    for (KzExtra *one = list->first; one; one = one->next)
+        if (kz_piece_of(one))
+            kz_piece_of(one)->filter = NULL;
+}
+
 NTSTATUS FltSetEcpListIntoCallbackData(PFLT_FILTER Filter, PFLT_CALLBACK_DATA CallbackData, PECP_LIST EcpList)
 {
     KZ_INSIDE();
@@ -197,6 +184,7 @@ NTSTATUS FltSetEcpListIntoCallbackData(PFLT_FILTER Filter, PFLT_CALLBACK_DATA Ca
     KzOp *op = kz_op_with(CallbackData);
     if (!op || op->event != KZE_CREATE || op->ecps || op->own.ecps)
         return STATUS_INVALID_PARAMETER;
+    adopt(EcpList);
     op->ecps = EcpList;
     return STATUS_SUCCESS;
 }

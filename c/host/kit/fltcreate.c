@@ -215,7 +215,7 @@ static NTSTATUS open_file(const Wanted *wanted, PHANDLE handle, PFILE_OBJECT *ob
         *object = &file->object;
         kz_take_object(&file->object, false, wanted->call);
     }
-    return STATUS_SUCCESS;
+    return opened; /* it may be open beside the break of an oplock */
 }
 
 NTSTATUS FltCreateFileEx2(PFLT_FILTER Filter, PFLT_INSTANCE Instance, PHANDLE FileHandle, PFILE_OBJECT *FileObject, ACCESS_MASK DesiredAccess,

@@ -162,10 +162,15 @@ NTSTATUS FltIsDirectory(PFILE_OBJECT FileObject, PFLT_INSTANCE Instance, PBOOLEA
     return file ? STATUS_SUCCESS : STATUS_INVALID_PARAMETER;
 }
 
+/* The calls of the system that have no other form, and those by a handle, or for a caller, that waits. */
 BOOLEAN FltIsOperationSynchronous(PFLT_CALLBACK_DATA CallbackData)
 {
-    (void)CallbackData;
-    return TRUE;
+    KZ_INSIDE_ALONE();
+    const KzOp *op = kz_op_with(CallbackData);
+    UCHAR major = CallbackData->Iopb->MajorFunction;
+    bool may_wait = major == IRP_MJ_READ || major == IRP_MJ_WRITE || major == IRP_MJ_FILE_SYSTEM_CONTROL || major == IRP_MJ_DEVICE_CONTROL || major == IRP_MJ_LOCK_CONTROL || major == IRP_MJ_DIRECTORY_CONTROL;
+    bool is_irp = CallbackData->Flags & FLTFL_CALLBACK_DATA_IRP_OPERATION;
+    return !op || !is_irp || !may_wait || CallbackData->Iopb->IrpFlags & IRP_SYNCHRONOUS_PAGING_IO || kz_is_synchronous(op);
 }
 
 BOOLEAN FltIs32bitProcess(PFLT_CALLBACK_DATA CallbackData)

@@ -8,6 +8,7 @@
 #include "manager/disposition.h"
 #include "manager/instance.h"
 #include "manager/operation.h"
+#include "kit/asyncio.h"
 #include "kit/control.h"
 #include "kit/information.h"
 #include "kit/io.h"
@@ -129,7 +130,7 @@ VOID FltPerformSynchronousIo(PFLT_CALLBACK_DATA CallbackData)
     CallbackData->IoStatus.Information = done;
 }
 
-/* A read or a write isn't waited for; others are over before the call returns. */
+/* A read, a write or a control code of a file system isn't waited for; others are over before the call returns. */
 NTSTATUS FltPerformAsynchronousIo(PFLT_CALLBACK_DATA CallbackData, PFLT_COMPLETED_ASYNC_IO_CALLBACK CallbackRoutine, PVOID CallbackContext)
 {
     KZ_CALL();
@@ -143,6 +144,8 @@ NTSTATUS FltPerformAsynchronousIo(PFLT_CALLBACK_DATA CallbackData, PFLT_COMPLETE
         one.data = CallbackData;
         return kz_transfer(&one, iopb->MajorFunction == IRP_MJ_WRITE);
     }
+    if (iopb->MajorFunction == IRP_MJ_FILE_SYSTEM_CONTROL)
+        return kz_control_later(CallbackData, CallbackRoutine, CallbackContext, __func__);
     FltPerformSynchronousIo(CallbackData);
     unsigned depth = kz_let_driver("completion", CallbackRoutine);
     KZ_CALL_DRIVER(CallbackRoutine, CallbackData, CallbackContext);

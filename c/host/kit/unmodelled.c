@@ -9,11 +9,6 @@ static NTSTATUS none(KzMessage message, const char *call)
     return STATUS_NOT_SUPPORTED;
 }
 
-static void nothing(KzMessage message, const char *call)
-{
-    kz_tell(message, call, "isn't modelled: it does nothing");
-}
-
 #pragma GCC diagnostic ignored "-Wunused-parameter"
 #define NONE(message, name, ...)        \
     NTSTATUS name(__VA_ARGS__)          \
@@ -21,59 +16,9 @@ static void nothing(KzMessage message, const char *call)
         KZ_INSIDE();                    \
         return none((message), #name);  \
     }
-#define NOTHING_DONE(message, name, ...) \
-    VOID name(__VA_ARGS__)               \
-    {                                    \
-        KZ_INSIDE();                     \
-        nothing((message), #name);       \
-    }
-
 /* I/O that a filter begins itself. */
 NONE(KZM_OWN_IO, FltNotifyFilterChangeDirectory, PVOID NotifySync, PLIST_ENTRY NotifyList, PVOID FsContext, PVOID FullDirectoryName, BOOLEAN WatchTree,
      BOOLEAN IgnoreBuffer, ULONG CompletionFilter, PFLT_CALLBACK_DATA NotifyCallbackData, PVOID TraverseCallback, PVOID SubjectContext, PVOID FilterCallback)
-
-/* Oplocks: none is ever granted, so that none has to be broken. */
-VOID FltInitializeOplock(POPLOCK Oplock)
-{
-    KZ_INSIDE();
-    *Oplock = NULL;
-}
-
-VOID FltUninitializeOplock(POPLOCK Oplock)
-{
-    *Oplock = NULL;
-}
-
-FLT_PREOP_CALLBACK_STATUS FltOplockFsctrl(POPLOCK Oplock, PFLT_CALLBACK_DATA CallbackData, ULONG OpenCount)
-{
-    KZ_INSIDE();
-    CallbackData->IoStatus.Status = none(KZM_OPLOCK, __func__);
-    return FLT_PREOP_COMPLETE;
-}
-
-FLT_PREOP_CALLBACK_STATUS FltOplockFsctrlEx(POPLOCK Oplock, PFLT_CALLBACK_DATA CallbackData, ULONG OpenCount, ULONG Flags)
-{
-    KZ_INSIDE();
-    CallbackData->IoStatus.Status = none(KZM_OPLOCK, __func__);
-    return FLT_PREOP_COMPLETE;
-}
-
-FLT_PREOP_CALLBACK_STATUS FltCheckOplock(POPLOCK Oplock, PFLT_CALLBACK_DATA CallbackData, PVOID Context, PVOID WaitCompletionRoutine, PVOID PrePostCallback)
-{
-    KZ_INSIDE();
-    nothing(KZM_OPLOCK, __func__);
-    return FLT_PREOP_SUCCESS_WITH_CALLBACK;
-}
-
-BOOLEAN FltOplockIsFastIoPossible(POPLOCK Oplock)
-{
-    return TRUE;
-}
-
-BOOLEAN FltCurrentBatchOplock(POPLOCK Oplock)
-{
-    return FALSE;
-}
 
 /* Processes, tokens. */
 NONE(KZM_SECURITY, ZwQueryInformationProcess, HANDLE ProcessHandle, ULONG ProcessInformationClass, PVOID ProcessInformation, ULONG ProcessInformationLength,

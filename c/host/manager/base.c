@@ -11,6 +11,7 @@
 #include "filesystem/deletion.h"
 #include "filesystem/disk.h"
 #include "filesystem/name.h"
+#include "filesystem/oplocks.h"
 #include "filesystem/record.h"
 #include "filesystem/sharing.h"
 #include "filesystem/spelling.h"
@@ -18,6 +19,7 @@
 #include "filesystem/ranges.h"
 #include "filesystem/tree.h"
 #include "manager/below.h"
+#include "manager/breaks.h"
 #include "manager/opaque.h"
 #include "manager/paging.h"
 #include "manager/disposition.h"
@@ -65,8 +67,9 @@ static bool answers(KzOp *op, const KazdrinData *call, NTSTATUS *answered)
     } else if (!is_locked(op, call) && !kz_answers_call(op, call, &status)) {
         return false;
     }
-    answer(op, status, kz_me->room, length);
     *answered = status;
+    if (!op->breaks.of)
+        answer(op, status, kz_me->room, length);
     return true;
 }
 
@@ -115,7 +118,7 @@ static void call_create(KzOp *op, const KazdrinData *call, uint8_t worker)
         return;
     }
     if (answers(op, call, &status)) {
-        is_opened = NT_SUCCESS(status) && !op->met.point;
+        is_opened = NT_SUCCESS(status) && !op->met.point && !op->breaks.of;
         if (op->met.point)
             kz_show_tag(op);
     } else {
@@ -127,6 +130,8 @@ static void call_create(KzOp *op, const KazdrinData *call, uint8_t worker)
     kz_count_open(op->file);
     kz_begin_version(op->file, &op->create, was_there, had_file);
     kz_note_opened(op, was_there, had_file);
+    if (op->breaks.goes_beside)
+        op->other = op->answered = STATUS_OPLOCK_BREAK_IN_PROGRESS;
 }
 
 /* It goes to the file itself, below its pages. */
@@ -147,13 +152,12 @@ static NTSTATUS answer_zeros(KzOp *op)
 static bool call_opaque(KzOp *op)
 {
     NTSTATUS status = is_of_zeros(op) ? answer_zeros(op) : kz_answer_opaque(op);
-    op->is_waiting = op->has_pended = status == STATUS_PENDING;
-    if (!op->is_waiting) {
+    if (status != STATUS_PENDING) {
         answer(op, status, NULL, 0);
         return true;
     }
-    kz_scheduler->touch(op, 0, KZT_GIVES); /* another client may carry it on */
-    kz.changes++;
+    if (!op->breaks.of)
+        kz_keep_waiting(op);
     return false;
 }
 
@@ -188,14 +192,23 @@ static bool is_orphan(const KzOp *op)
     return op->file->transaction && op->file->transaction->step == KZ_IS_OVER && op->event != KZE_CLEANUP && op->event != KZE_CLOSE;
 }
 
-bool kz_call_base(KzOp *op)
+/* Whether the device fails; one that waited in the file system was asked before. */
+static bool is_failed(KzOp *op)
+{
+    KazdrinEvent failed = {.worker = kz_worker(), .status = KZS_DEVICE_FAULT};
+    bool has_come = op->breaks.has_come;
+    op->breaks.has_come = true;
+    bool fails = !has_come && reaches_device(op) && (kz_is_for_cache(op) ? kz_refuses(KZ_CHOICE_PAGING, "paging I/O") : kz_refuses(KZ_CHOICE_DEVICE, "the device"));
+    return fails && kazdrin_based(&kz.manager, &failed, (const uint8_t *)"", 0) == KZS_OK;
+}
+
+/* False: the file system keeps it, or an oplock's break is to be over first. */
+static bool call_file_system(KzOp *op)
 {
     uint8_t none, worker = kz_worker();
     NTSTATUS status;
     KazdrinData call = {0};
-    KazdrinEvent failed = {.worker = worker, .status = KZS_DEVICE_FAULT};
-    bool is_failed = reaches_device(op) && (kz_is_for_cache(op) ? kz_refuses(KZ_CHOICE_PAGING, "paging I/O") : kz_refuses(KZ_CHOICE_DEVICE, "the device"));
-    if (is_failed && kazdrin_based(&kz.manager, &failed, (const uint8_t *)"", 0) == KZS_OK)
+    if (is_failed(op))
         return true;
     op->comes_from_device = !op->own.is_fast; /* that one is answered in the thread that asks */
     if (is_orphan(op) && !kz_is_for_cache(op)) {
@@ -205,6 +218,12 @@ bool kz_call_base(KzOp *op)
     if (op->opaque)
         return call_opaque(op);
     note_uses(op);
+    if (op->own.is_fast && op->file->name && !kz_lets_fast_by(op->file->name->stream->oplock)) {
+        answer(op, STATUS_FLT_DISALLOW_FAST_IO, NULL, 0);
+        return true;
+    }
+    if (op->event != KZE_CREATE && kz_meets_oplock(op))
+        return false;
     kazdrin_lent(&kz.manager, &(KazdrinEvent){.worker = worker}, &call, &none, 0);
     if (call.operation == KZE_WRITE && call.offset == KZ_AT_END)
         call.offset = kz_size_of(op->file);
@@ -220,6 +239,19 @@ bool kz_call_base(KzOp *op)
         call_data(op, &call, worker);
     else
         call_bytes(op, &call, worker);
+    return !op->breaks.of;
+}
+
+bool kz_call_base(KzOp *op)
+{
+    while (!call_file_system(op)) {
+        if (!op->breaks.of || kz_waits_apart(op))
+            return false;
+        if (!kz_has_break_ended(op)) {
+            answer(op, STATUS_CANNOT_BREAK_OPLOCK, NULL, 0);
+            return true;
+        }
+    }
     return true;
 }
 
@@ -229,7 +261,12 @@ void kz_go_on_from_base(KzOp *op, NTSTATUS status)
     kz_me->place.worker = op->own.worker;
     op->is_waiting = false;
     kz_scheduler->touch(op, 0, KZT_TAKES);
-    answer(op, status, NULL, 0);
+    bool is_answered = true;
+    if (status == STATUS_PENDING) /* it comes to the file system again */
+        is_answered = kz_call_base(op);
+    else
+        answer(op, status, NULL, 0);
     kz_me->place = before;
-    kz_go_on(op);
+    if (is_answered)
+        kz_go_on(op);
 }

@@ -13,6 +13,7 @@
 #include "filesystem/fileobject.h"
 #include "filesystem/name.h"
 #include "filesystem/store.h"
+#include "filesystem/waiting.h"
 #include "manager/base.h"
 #include "manager/opaque.h"
 #include "manager/disposition.h"
@@ -127,16 +128,34 @@ static KzAnswer begin(const KzOwn *own, KzFile *file, KazdrinEvent asked, const 
     return (KzAnswer){.reply = {.held = 1, .operation = op->id}};
 }
 
+/* Who hears of a break, or waited for its end, does so in the thread that brought it about. The answer's bytes lie in the client's room. */
+static void tell_of_breaks(const KzAnswer *answer)
+{
+    if (!kz_has_due())
+        return;
+    uint8_t *kept = kz_memory(answer->length + 1);
+    memcpy(kept, kz_me->room, answer->length);
+    bool has_pended = kz_me->has_pended;
+    while (kz_run_waiting())
+        ;
+    kz_me->has_pended = has_pended;
+    memcpy(kz_me->room, kept, answer->length);
+    free(kept);
+}
+
 KzAnswer kz_below(const KzOwn *own, KzFile *file, KazdrinEvent asked, const void *bytes, size_t length)
 {
     KzPlace before = kz_me->place;
     uint8_t worker = kz_helper();
+    bool has_oplocks = kz.oplocks; /* which it may end */
     kz_me->place.worker = worker;
     kz_scheduler->touch(bytes, length, KZT_READS);
     if (own->opaque)
         kz_scheduler->touch(own->opaque->input, own->opaque->input_size, KZT_READS);
     KzAnswer answer = begin(own, file, asked, bytes, length);
     kz_me->place = before;
+    if (has_oplocks)
+        tell_of_breaks(&answer);
     if (!answer.reply.held)
         kz_helped(worker);
     else if (own->is_waited_for)
@@ -233,4 +252,4 @@ void kz_close_if_due(KzFile *file)
     kz_below(&own, file, (KazdrinEvent){.event = KZE_CLOSE, .handle = file->handle}, "", 0);
 }
 
-const KzStore kz_manager_store = {kz_go_on_from_base, kz_page, kz_ask_for_cache};
+const KzStore kz_manager_store = {kz_go_on_from_base, kz_page, kz_ask_for_cache, kz_run_resumed};

@@ -1,7 +1,6 @@
 /* Creates: what they ask for, as callbacks see and change it. */
 #include "manager/disposition.h"
 
-#include "core/told.h"
 #include "core/transaction.h"
 #include "filesystem/tree.h"
 #include "manager/block.h"
@@ -68,8 +67,6 @@ void kz_begin_create(KzOp *op, const KzCreate *asked)
 {
     op->asked = op->create = *asked;
     op->file->transaction = asked->transaction;
-    if (asked->options & (FILE_OPEN_REQUIRING_OPLOCK | FILE_RESERVE_OPFILTER))
-        kz_tell(KZM_OPLOCK, asked->options & FILE_RESERVE_OPFILTER ? "FILE_RESERVE_OPFILTER" : "FILE_OPEN_REQUIRING_OPLOCK", "no oplock comes with the create: it is opened as others are");
     if (!asked->ea_length)
         return;
     op->create.ea = kz_input_block(op, asked->ea_length);

@@ -8,6 +8,7 @@
 #include "filesystem/disk.h"
 #include "filesystem/fileobject.h"
 #include "filesystem/notice.h"
+#include "filesystem/oplocks.h"
 #include "filesystem/waiting.h"
 #include "manager/busy.h"
 #include "manager/context.h"
@@ -146,6 +147,7 @@ uint32_t kz_mount(const char *name, uint64_t *number)
 static uint32_t start_dismount(PFLT_VOLUME volume)
 {
     kz_end_notices(NULL, volume);
+    kz_end_oplocks(NULL, volume);
     kz_end_waiting(NULL, volume); /* a file system that goes answers who waits in it */
     kz_end_caches(volume);
     kz_settle();

@@ -1,6 +1,7 @@
 /* Operations of major functions that the manager doesn't look into: their parameters, as callbacks see and change them, and their answers. */
 #include "manager/opaque.h"
 
+#include "cache/cache.h"
 #include "core/client.h"
 #include "core/memory.h"
 #include "core/piece.h"
@@ -10,6 +11,7 @@
 #include "core/unwritten.h"
 #include "filesystem/control.h"
 #include "filesystem/entries.h"
+#include "filesystem/oplocks.h"
 #include "filesystem/rename.h"
 #include "filesystem/set.h"
 #include "filesystem/volumes.h"
@@ -275,6 +277,8 @@ NTSTATUS kz_answer_opaque(KzOp *op)
     op->opaque->now = *parameters_of(op->opaque, call.offset);
     op->opaque->information = 0;
     write_room(op);
+    if (!kz_is_for_cache(op) && kz_meets_oplock(op))
+        return STATUS_PENDING;
     switch (op->opaque->major) {
     case IRP_MJ_QUERY_INFORMATION:
         return kz_answer_query(op, &op->opaque->now);

@@ -14,6 +14,7 @@
 #include "filesystem/fileobject.h"
 #include "filesystem/name.h"
 #include "filesystem/notice.h"
+#include "filesystem/oplocks.h"
 #include "filesystem/create.h"
 #include "filesystem/sharing.h"
 #include "filesystem/ranges.h"
@@ -87,6 +88,7 @@ void kz_cleanup_over(KzFile *file)
 {
     file->object.Flags |= FO_CLEANUP_COMPLETE;
     kz_end_notices(file, NULL);
+    kz_end_oplocks(file, NULL);
     kz_end_waiting(file, NULL);
     kz_unlock_ranges(file, NULL);
     kz_stop_sharing(file);
@@ -221,14 +223,17 @@ void kz_go_on(KzOp *op)
         kz_helped(worker);
 }
 
-static void carry_resumed(void)
+bool kz_run_resumed(void)
 {
     KzOp *op = kz.resumed;
+    if (!op)
+        return false;
     kz_uses_all();
     kz.resumed = op->next_resumed;
     if (!kz.resumed)
         kz.resumed_end = &kz.resumed;
     kz_go_on(op);
+    return true;
 }
 
 void kz_uses_closes(void)
@@ -242,8 +247,8 @@ void kz_uses_closes(void)
 void kz_settle(void)
 {
     do {
-        while (kz.resumed)
-            carry_resumed();
+        while (kz_run_resumed())
+            ;
         kz_clean_up();
         if (kz_me->is_detaching)
             kz_uses_closes(); /* other clients settle what they made due */
@@ -286,10 +291,10 @@ static KzFile *new_file(const KzBegin *asked, KzName *name)
     return made;
 }
 
-/* One that may wait in the file system has a worker of its own from its beginning. */
-static KzAnswer carry_on(KzOp *op)
+/* One that is asked to wait in the file system has a worker of its own from its beginning. */
+static KzAnswer carry_on(KzOp *op, bool waits)
 {
-    bool is_over = op->own.has_worker ? kz_carry(op) : kz_carry_to_end(op);
+    bool is_over = waits ? kz_carry(op) : kz_carry_to_end(op);
     if (!is_over)
         return (KzAnswer){.reply = {.held = 1, .operation = op->id}};
     return kz_collect(op);
@@ -309,6 +314,13 @@ static void note_begun(const KzOp *op)
     kz_goes_alone(op);
     if (op->event == KZE_CREATE)
         kz_scheduler->uses(&kz.files, KZU_WRITES);
+}
+
+/* Where one request comes after the other, what an oplock is in the way of waits beside the next one, which may acknowledge its break. */
+static bool may_wait(const KzBegin *asked)
+{
+    bool is_apart = asked->event.event != KZE_CLEANUP && asked->event.event != KZE_CLOSE && !kz_has_others() && kz.oplocks;
+    return is_apart || (asked->opaque && asked->opaque->waits);
 }
 
 /* Begins an operation and carries it on. Refused, it has no reply but the status. */
@@ -346,18 +358,18 @@ static KzAnswer begin(const KzBegin *begun)
     op->own.irp_flags = asked.irp_flags | (is_data && is_uncached ? IRP_NOCACHE : 0);
     op->own.is_fast = asked.is_fast;
     op->own.worker = kz_worker();
-    op->own.has_worker = asked.opaque && asked.opaque->waits;
+    op->own.has_worker = may_wait(begun);
     if (asked.event.event == KZE_CREATE)
         kz_begin_create(op, asked.create);
     if (asked.opaque)
         kz_begin_opaque(op, asked.opaque);
     note_begun(op);
-    return carry_on(op);
+    return carry_on(op, asked.opaque && asked.opaque->waits);
 }
 
 static KzAnswer run(const KzBegin *asked)
 {
-    if (!asked->opaque || !asked->opaque->waits)
+    if (!may_wait(asked))
         return begin(asked);
     if (!kz_has_helpers())
         return refused(KZS_TOO_MANY);

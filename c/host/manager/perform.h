@@ -22,6 +22,8 @@ KzReply kz_perform(KazdrinEvent asked, const void *bytes, size_t length, const c
 KzReply kz_perform_create(uint8_t volume, const char *path, const KzCreate *create);
 KzReply kz_close_file(uint64_t handle);
 void kz_settle(void);
+/* The next one that was let go on is carried on; false: there is none. */
+bool kz_run_resumed(void);
 void kz_uses_closes(void); /* whether any are due */
 /* A client's, whose reply is passed on. */
 KzReply kz_perform_as(const KzBegin *asked);

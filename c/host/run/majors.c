@@ -6,6 +6,7 @@
 #include "core/status.h"
 #include "lib/letters.h"
 #include "filesystem/fileobject.h"
+#include "oplock/oplock.h"
 #include "manager/disposition.h"
 #include "manager/paging.h"
 #include "manager/perform.h"
@@ -357,6 +358,7 @@ static KzReply control(char **words, UCHAR major)
     asked.input = kz_me->bytes;
     asked.room = room;
     asked.irp_flags = asked.code & 3 ? 0 : BUFFERED;
+    asked.waits = major == IRP_MJ_FILE_SYSTEM_CONTROL && kz_waits_for_oplock(asked.code);
     return on_handle(words[1], &asked);
 }
 

@@ -107,7 +107,7 @@ bool kz_read_handle(const char *word, uint64_t *number)
     const KzClient *clients[] = {kz_me, &kz_first};
     for (int who = 0; who < 2; who++)
         for (size_t at = clients[who]->names_count; at-- > 0;)
-            if (strcmp(clients[who]->names[at].name, word) == 0) {
+            if (!clients[who]->names[at].operation && strcmp(clients[who]->names[at].name, word) == 0) {
                 *number = clients[who]->names[at].handle;
                 return true;
             }
@@ -119,7 +119,7 @@ bool kz_is_name(const char *word)
     return !(*word >= '0' && *word <= '9') && strlen(word) < sizeof kz_me->names[0].name;
 }
 
-void kz_name_handle(const char *word, uint64_t handle)
+static void name(const char *word, uint64_t handle, uint64_t operation)
 {
     size_t at = 0;
     while (at < kz_me->names_count && strcmp(kz_me->names[at].name, word) != 0)
@@ -130,4 +130,25 @@ void kz_name_handle(const char *word, uint64_t handle)
         kz_me->names_count++;
     snprintf(kz_me->names[at].name, sizeof kz_me->names[at].name, "%s", word);
     kz_me->names[at].handle = handle;
+    kz_me->names[at].operation = operation;
+}
+
+void kz_name_handle(const char *word, uint64_t handle)
+{
+    name(word, handle, 0);
+}
+
+void kz_name_later(const char *word, uint64_t operation)
+{
+    name(word, 0, operation + 1); /* where one request comes after the other */
+}
+
+/* Whoever ends the wait tells it: another thread may. */
+void kz_name_given(uint64_t operation, uint64_t handle)
+{
+    for (size_t at = 0; at < kz_first.names_count; at++)
+        if (kz_first.names[at].operation == operation + 1) {
+            kz_first.names[at].handle = handle;
+            kz_first.names[at].operation = 0;
+        }
 }

@@ -14,6 +14,9 @@ bool kz_read_instance(const char *word, uint64_t *number);
 bool kz_read_handle(const char *word, uint64_t *number);
 bool kz_is_name(const char *word);
 void kz_name_handle(const char *word, uint64_t handle);
+/* The same once an operation that waits has opened it. */
+void kz_name_later(const char *word, uint64_t operation);
+void kz_name_given(uint64_t operation, uint64_t handle);
 /* Notes why a word isn't understood, for the thread that reads it: false. */
 __attribute__((format(printf, 1, 2))) bool kz_refuse_word(const char *format, ...);
 void kz_forget_refused_word(void);

@@ -3,6 +3,7 @@
 
 #include "core/client.h"
 #include "core/said.h"
+#include "run/read.h"
 #include "run/seen.h"
 #include "run/sink.h"
 
@@ -31,6 +32,10 @@ static void say_bytes(const uint8_t *bytes, size_t length)
 void kz_print_reply(KzReply reply, NTSTATUS other, const uint8_t *bytes, size_t length)
 {
     kz_pass_reply(reply, bytes, length);
+    if (reply.held && kz_me->next_name)
+        kz_name_later(kz_me->next_name, reply.operation);
+    if (reply.is_handle)
+        kz_name_given(reply.operation, reply.information);
     kz_note_reply(reply, other, bytes, length, kz_me->says);
     if (reply.held) {
         kz_say(KZ_SAID_REPLY, "held %llu\n", (unsigned long long)reply.operation);

@@ -283,7 +283,9 @@ static KzReply ask_dismount(char **words)
 
 KzReply kz_ask_create(uint8_t volume, const char *path, const KzCreate *create, const char *name)
 {
+    kz_me->next_name = name;
     KzReply reply = kz_perform_create(volume, path, create);
+    kz_me->next_name = NULL;
     if (name && !reply.status && !reply.held)
         kz_name_handle(name, reply.information);
     return reply;

@@ -4,6 +4,7 @@
 #include "core/client.h"
 #include "core/memory.h"
 #include "user/error.h"
+#include "user/later.h"
 #include "user/message.h"
 #include "user/object.h"
 #include "user/program.h"
@@ -141,11 +142,12 @@ int GetOverlappedResult(void *handle, KzOverlapped *overlapped, uint32_t *bytes,
 int CancelIoEx(void *handle, KzOverlapped *overlapped);
 int CancelIoEx(void *handle, KzOverlapped *overlapped)
 {
-    (void)overlapped;
     KZ_CALL();
     KzObject *object = kz_any_object(handle);
     if (object)
         kz_abort_messages(object, STATUS_CANCELLED);
+    if (object && object->kind == KZU_FILE)
+        kz_cancel_later(object, overlapped);
     return object != NULL;
 }
 

@@ -15,6 +15,7 @@
 #include "kit/device.h"
 #include "user/completion.h"
 #include "user/error.h"
+#include "user/later.h"
 #include "user/object.h"
 #include "user/path.h"
 #include "user/program.h"
@@ -330,23 +331,11 @@ static NTSTATUS transfer_of_device(Transfer *one)
 }
 
 /* Of a file, or of a volume: codes of file systems are theirs, others a device's. */
-static int control_file(KzObject *object, uint32_t code, void *in, uint32_t in_length, void *out, uint32_t out_length, uint32_t *done, KzOverlapped *overlapped)
+static uint32_t control_file(KzObject *object, uint32_t code, const KzDeviceAsk *said, KzAnswerTo to)
 {
-    KzAnswer answer = {0};
-    const KzAsked asked = {.major = code >> 16 == FILE_DEVICE_FILE_SYSTEM ? IRP_MJ_FILE_SYSTEM_CONTROL : IRP_MJ_DEVICE_CONTROL, .code = code, .input = in, .input_size = in_length, .room = out_length,
+    const KzAsked asked = {.major = code >> 16 == FILE_DEVICE_FILE_SYSTEM ? IRP_MJ_FILE_SYSTEM_CONTROL : IRP_MJ_DEVICE_CONTROL, .code = code, .input = said->in, .input_size = said->in_length, .room = to.room,
                            .irp_flags = code & 3 ? 0 : IRP_BUFFERED_IO};
-    if (overlapped)
-        kz_begin_overlapped(object, overlapped);
-    kz_me->has_pended = false;
-    NTSTATUS status = kz_ask_opened(object->file, &asked, &answer);
-    uint32_t length = answer.length < out_length ? (uint32_t)answer.length : out_length;
-    if (length)
-        memcpy(out, kz_me->room, length);
-    if (done)
-        *done = (uint32_t)answer.reply.information;
-    if (overlapped)
-        kz_end_overlapped(object, overlapped, (uint32_t)answer.reply.information, status);
-    return NT_SUCCESS(status) ? 1 : kz_failed(kz_win32_of(status));
+    return kz_ask_later(object, &asked, to, "DeviceIoControl");
 }
 
 int DeviceIoControl(void *handle, uint32_t code, void *in, uint32_t in_length, void *out, uint32_t out_length, uint32_t *done, KzOverlapped *overlapped);
@@ -357,7 +346,8 @@ int DeviceIoControl(void *handle, uint32_t code, void *in, uint32_t in_length, v
         KZ_CALL();
         KzObject *object = kz_any_object(handle);
         if (object && object->kind == KZU_FILE) {
-            is_right = control_file(object, code, in, in_length, out, out_length, done, overlapped);
+            uint32_t error = control_file(object, code, &(KzDeviceAsk){.in = in, .in_length = in_length}, (KzAnswerTo){overlapped, out, out_length, done});
+            is_right = error ? kz_failed(error) : 1;
         } else if (object && object->kind != KZU_DEVICE) {
             kz_failed(1); /* ERROR_INVALID_FUNCTION */
         } else if (object) {

@@ -46,7 +46,7 @@ if command -v python3 > /dev/null; then
     mkdir "$room/tables"
     $tests/scripts/tables.py $tests/tables "$room/tables" > "$room/tables.out" || { cat "$room/tables.out"; false; }
     tell $? "tables, as requests"
-    for table in creates names access sharing; do
+    for table in creates names access oplocks sharing; do
         "$room/drivers" --quiet "$room/tables/$table.txt" && grep -q "^$table: [0-9]* rows" "$room/tables.out"
         tell $? "the table of $table"
     done

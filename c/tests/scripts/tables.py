@@ -122,15 +122,122 @@ def sharing_row(first, shares, second, others):
     return lines + ["close a"]
 
 
+# ---- Oplocks. What a holds is asked for by a handle that doesn't wait; processes from 1000 on have a key each, by the driver `leases`.
+CODES = {"L1": "0x90000", "L2": "0x90004", "B": "0x90008", "F": "0x9005c", "ack": "0x9000c", "no2": "0x90050", "closing": "0x90010", "notify": "0x90014"}
+LEVELS = {"none": 0, "R": 1, "H": 2, "RH": 3, "W": 4, "RW": 5, "HW": 6, "RWH": 7}
+DATA = "FILE_READ_DATA|FILE_WRITE_DATA|FILE_READ_ATTRIBUTES|FILE_WRITE_ATTRIBUTES|DELETE|SYNCHRONIZE"
+KEYS = {"a": 1001, "c": 1001, "b": 1002, "x": 1002}
+BROKEN = {"L2": 7, "none": 8}
+MODES = {"open": "existing", "alone": "existing", "stream": "existing", "own": "existing", "openif": "always"}
+
+
+def word(value):
+    return value.to_bytes(4, "little").hex()
+
+
+def by_levels(level, flags):
+    return f"01000c00{word(LEVELS[level])}{word(flags)} 24"
+
+
+def asks(handle, kind):
+    """A request, or an acknowledgement: `ack:R` and its kin are by levels."""
+    first, _, level = kind.partition(":")
+    if level or kind not in CODES:
+        return f"fsctl {handle} 0x90240 {by_levels(level or kind, 1 if not level else 2 if first == 'ack' else 6)}"
+    return f"fsctl {handle} {CODES[kind]}"
+
+
+def opens(handle, path, access=DATA, share="FILE_SHARE_READ|FILE_SHARE_WRITE|FILE_SHARE_DELETE", options="0", mode="existing"):
+    return [f"as process {KEYS[handle]}", f"create 0 {mode} {path} access {access} share {share} options {options} as {handle}"]
+
+
+ACCESSES = {"FILE_READ_DATA": 1, "FILE_WRITE_DATA": 2, "FILE_READ_EA": 8, "FILE_WRITE_EA": 16, "FILE_EXECUTE": 32, "DELETE": 0x10000}
+
+
+def broken(kind, left, by=None):
+    """How the request of that kind ends that is broken; by a create of that access, which shares all, it says so."""
+    if kind in CODES:
+        return [f"expect info {BROKEN[left]}"]
+    modes = f"{word(sum(ACCESSES[bit] for bit in by.split('|')))}0700" if by else "000000000000"
+    return [f"expect bytes 01001800{word(LEVELS[kind])}{word(LEVELS[left])}{word((kind != 'R') | (2 if by else 0))}{modes}0000"]
+
+
+def grant(number, held, asked, answer, then):
+    path = f"r{number}/f"
+    before, first = [], None
+    options = "FILE_SYNCHRONOUS_IO_NONALERT" if held == "sync" else "FILE_DIRECTORY_FILE" if held == "folder" else "0"
+    for one in [] if held in ("-", "sync", "folder") else held.split("+"):
+        who, _, kind = one.partition(":")
+        who, kind = ("b", "lock") if one == "lock" else (who, kind)
+        before += opens(who, path)
+        before += [f"lock {who} 0 1"] if kind == "lock" else [asks(who, kind), "expect held"] if kind else []
+        first = first or kind
+    opened = [] if held.startswith("a:") else opens("a", f"r{number}" if held == "folder" else path, "FILE_READ_ATTRIBUTES|SYNCHRONIZE", options=options)
+    asked_for = [asks("a", asked)] + ([f"expect {'held' if answer == 'held' else 'status ' + answer}"] if not then else [f"expect {'info' if then[0] == '8' else 'status'} {then[0]}"])
+    holds = ["cancel held", "expect status STATUS_CANCELLED"] if then else []
+    return before + opened + asked_for + holds + [f"close {who}" for who in "abc" if f" as {who}" in " ".join(before + opened)]
+
+
+def done(what, path):
+    """Handles that are open before, what is done, and by which access."""
+    verb, by = what.split()
+    if verb in MODES or verb in ("overwrite", "overwriteif", "supersede"):
+        handle = "c" if verb == "own" else "x"
+        made = opens(handle, path + ":alt" if verb == "stream" else path, by, share="FILE_SHARE_WRITE" if verb == "alone" else "FILE_SHARE_READ|FILE_SHARE_WRITE|FILE_SHARE_DELETE",
+                     mode=MODES.get(verb, verb))
+        return [], made, handle
+    handle = {"own-": "a"}.get(by, by)
+    before = [] if handle == "a" else opens(handle, path)
+    request = {"read": "read H 0 1", "write": "write H 0 61", "set": "set H end 1", "zero": "fsctl H 0x980c8 00000000000000000100000000000000", "lock": "lock H 0 1", "rename": "rename H g",
+               "link": "link H g", "dispose": "dispose H delete", "query": "query H basic"}[verb]
+    return before, [request.replace("H", handle, 1)], None if handle == "a" else handle
+
+
+def breaks(number, held, what, left, answer):
+    """Whoever waits is cancelled by `cancel held`; where nobody does, that is the request of what isn't broken, or there is nothing to cancel."""
+    path = f"r{number}/f"
+    kind, _, deny = held.partition("/")
+    before, request, other = done(what, path)
+    lines = opens("a", path, share="0" if deny else "FILE_SHARE_READ|FILE_SHARE_WRITE|FILE_SHARE_DELETE") + before + [asks("a", kind), "expect held"] + request
+    if left == "-":
+        lines += [f"expect status {answer}", "cancel held", "expect status STATUS_CANCELLED"]
+    else:
+        lines += broken(kind, left, what.split()[1] if other == "x" else None) + ["cancel held", f"expect status {'STATUS_CANCELLED' if answer == 'waits' else 28}"]
+    opened = {"a"} | ({other} if other and (before or (left == "-" and answer == "0") or answer == "0") else set())
+    return lines + [f"close {who}" for who in sorted(opened)]
+
+
+def acknowledgement(number, held, by, how, answer):
+    path = f"r{number}/f"
+    mode = "overwrite" if by == "overwrite" else "existing"
+    begun = [] if by == "-" else opens("x", path, "FILE_READ_DATA|SYNCHRONIZE", options="FILE_COMPLETE_IF_OPLOCKED", mode=mode)
+    lines = opens("a", path) + [asks("a", held), "expect held"] + begun + [asks("a", how), "expect held" if answer == "held" else f"expect status {answer}"]
+    return lines + ["close a"] + (["close x"] if begun else [])
+
+
+def oplocks(path):
+    makers = {"grant": grant, "break": breaks, "acknowledge": acknowledgement}
+    number = 0
+    for kind, line in rows_of(path):
+        first, second, *rest = (part.strip() for part in line.split(";"))
+        seconds = second.split() if kind == "grant" else [second]
+        for one in first.split():
+            for other in seconds:
+                number += 1
+                row = [f"# {one} ; {other} ; {' ; '.join(rest)}", "as process 1001", *begun(f"r{number}"), f"create 0 new r{number}/f as z", "write z 0 6162", "close z", f"create 0 new r{number}/f:alt as z", "close z"]
+                yield row + (grant(number, one, other, rest[0], rest[1:]) if kind == "grant" else makers[kind](number, one, other, *rest))
+
+
 def main():
     tables, folder = pathlib.Path(sys.argv[1]), pathlib.Path(sys.argv[2])
-    for name, made in (("creates", creates), ("names", names), ("access", access), ("sharing", lambda _: sharing())):
+    for name, made in (("creates", creates), ("names", names), ("access", access), ("oplocks", oplocks), ("sharing", lambda _: sharing())):
         try:
             lines = [line for part in made(tables / f"{name}.txt") for line in part]
         except (ValueError, IndexError) as error:
             print(f"{name}.txt: {error}")
             return 1
-        (folder / f"{name}.txt").write_text("\n".join(["load passthrough", "attach passthrough 0 p 100"] + lines) + "\n")
+        driver = "leases" if name == "oplocks" else "passthrough"
+        (folder / f"{name}.txt").write_text("\n".join([f"load {driver}", f"attach {driver} 0 p 100"] + lines) + "\n")
         print(f"{name}: {sum(line.startswith('# ') for line in lines)} rows, {sum(line.startswith('expect ') for line in lines)} expectations")
     return 0
 

@@ -61,4 +61,13 @@ tell $? "two threads of a program that wait for one another"
 printf 'load portlock\nattach 0 0 p 200\ncreate 0 new f\nclient p: start peer\nclient f: flush 0\n' > "$room/waiting.txt"
 "$room/portlock" --bound 1 "$room/waiting.txt" > "$room/out"
 tell $? "a program that waits for a message"
+# Whoever acknowledges the break of an oplock lets go on who waits for it; where nobody does, that is found.
+build "oplocks" --explore "$room/oplocks" c/samples/nullfilter.c --user $tests/user/caching.c
+printf 'load nullfilter\nattach 0 0 n 100\nclient p: start caching\n' > "$room/waiting.txt"
+"$room/oplocks" --bound 1 "$room/waiting.txt" > "$room/out"
+tell $? "a program that acknowledges the break of its oplock"
+printf 'create 0 new f as z\nclose z\nclient a: create 0 existing f options 0 as a; fsctl a 0x90008\nclient b: create 0 existing f\n' > "$room/waiting.txt"
+"$room/oplocks" --bound 1 "$room/waiting.txt" > "$room/out"
+[ $? = 6 ] && grep -A 1 '^    STUCK' "$room/out" | diff - <(printf '    STUCK\n      b waits for the break of an oplock of \\f\n')
+tell $? "an oplock whose break nobody acknowledges"
 finish

@@ -92,11 +92,11 @@ static const char *const at_dispatch[] = {
 
 /* At any level. */
 static const char *const anywhere[] = {
-    "ASSERT", "DbgBreakPoint", "EtwProviderEnabled", "EtwWriteEx", "EtwWriteString", "EtwWriteTransfer", "ExGetPreviousMode", "ExInterlockedAddLargeInteger", "ExInterlockedPopEntryList",
+    "DbgBreakPoint", "EtwProviderEnabled", "EtwWriteEx", "EtwWriteString", "EtwWriteTransfer", "ExGetPreviousMode", "ExInterlockedAddLargeInteger", "ExInterlockedPopEntryList",
     "ExInterlockedPushEntryList", "ExIsProcessorFeaturePresent", "ExVerifySuite", "InitializeSListHead", "InterlockedCompareExchange", "InterlockedIncrement", "KeBugCheckEx",
     "KeGetCurrentIrql", "KeGetCurrentProcessorNumberEx", "KeGetProcessorIndexFromNumber", "KeLowerIrql", "KeMemoryBarrier", "KeQueryInterruptTime", "KeQueryMaximumProcessorCountEx",
     "KeQueryPerformanceCounter", "KeQuerySystemTime", "KeQuerySystemTimePrecise", "KeQueryTickCount", "KeQueryTimeIncrement", "KeQueryUnbiasedInterruptTime", "KeRaiseIrql",
-    "KeRegisterBugCheckCallback", "KfRaiseIrql", "PAGED_CODE", "QueryDepthSList", "RtlCompareMemory", "RtlCopyMemory", "RtlFillMemory", "RtlZeroMemory", "WmiQueryTraceInformation",
+    "KeRegisterBugCheckCallback", "KfRaiseIrql", "QueryDepthSList", "RtlCompareMemory", "RtlCopyMemory", "RtlFillMemory", "RtlZeroMemory", "WmiQueryTraceInformation",
     "WmiTraceMessage", "WmiTraceMessageVa", "vDbgPrintExWithPrefix",
 };
 
@@ -107,10 +107,13 @@ static int compare(const void *name, const void *place)
 
 #define IS_IN(call, names) (bsearch((call), (names), sizeof(names) / sizeof(names)[0], sizeof(names)[0], compare) != NULL)
 
-/* What the host's own steps are called begins with a small letter, and what it has for the C library with its sign. */
+/* Routines have small letters after a large one. What the host's own steps are called begins with a small letter, what it has for the C library with its sign; macros and sections have large ones. */
 static bool is_of_kit(const char *call)
 {
-    return isupper((unsigned char)*call) && strncmp(call, "Kz", 2) != 0;
+    bool has_small = false;
+    for (const char *letter = call; *letter; letter++)
+        has_small |= islower((unsigned char)*letter);
+    return has_small && isupper((unsigned char)*call) && strncmp(call, "Kz", 2) != 0;
 }
 
 static const char *name_of(KIRQL irql)

@@ -18,7 +18,7 @@ PLACES = {
     "README.md": "words",
     "docs/JSON.md": "words schema host objects",
     "c/host/filesystem/create.c": HOST,
-    "c/tests/legal/later.c": "legal sound",
+    "c/tests/legal/later.c": "legal sound explore",
     "c/tests/drivers/raises_pool.c": DRIVERS,
     "tests/model/words.py": "demanded tests order model wrong",
     "clients/kazdrin.py": "mount serve",

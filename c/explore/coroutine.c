@@ -258,6 +258,8 @@ static bool wait(KzCan *can, void *what, const char *text)
     me->timed_out = false;
     snprintf(me->client->waits, sizeof me->client->waits, "%s", text);
     me->state = WAITING;
+    if (kz_me->stands)
+        me->at = kz_me->stands, me->from = NULL;
     go_on(me);
     me->state = RUNNING;
     return !me->timed_out;

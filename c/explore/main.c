@@ -1,5 +1,6 @@
 /* The explorer's program: it runs a scenario under every schedule with at most so many preemptions. */
 #include "explore.h"
+#include "core/process.h"
 #include "core/said.h"
 #include "run/open.h"
 #include "run/runfile.h"
@@ -458,6 +459,14 @@ static bool is_to_be_thinned(const Asked *asked)
     return (is_searched || asked->commutes) && !kz_binaries.put_back;
 }
 
+/* The objects of the clients' threads are there before any of them asks: else the first would make them, and the others find them. */
+static void make_threads(void)
+{
+    for (int at = 1; at <= ex->run.runners_count; at++)
+        if (ex_runners[at].client)
+            kz_thread_object(ex_runners[at].client->process, ex_runners[at].client->thread);
+}
+
 int main(int count, char **words)
 {
     Asked asked = {.jobs = 1};
@@ -495,6 +504,7 @@ int main(int count, char **words)
     if (ex->search.is_reduced)
         ex_open_states();
     kz_is_deaf = !ex->search.wants_ends && !ex->search.is_traced && !asked.page;
+    make_threads();
     ex_keep_stacks();
     ex_take_image();
     warm_up();

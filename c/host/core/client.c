@@ -37,6 +37,7 @@ void kz_new_client(KzClient *client, const char *name, unsigned number)
     client->names_count = 0;
     client->says[0] = 0;
     client->waits[0] = 0;
+    client->stands = NULL;
     client->owner_of = NULL;
     client->beside = NULL;
     client->request = NULL;
@@ -64,8 +65,23 @@ void kz_uses_all(void)
 
 void kz_uses_bytes(const void *bytes, size_t size, KzUse how)
 {
-    for (size_t at = 0; at < size; at += sizeof(uint64_t))
-        kz_scheduler->uses((const uint8_t *)bytes + at, how);
+    size_t skipped = (uintptr_t)bytes % sizeof(uint64_t);
+    for (size_t at = 0; at < size + skipped && size; at += sizeof(uint64_t))
+        kz_scheduler->uses((const uint8_t *)bytes - skipped + at, how);
+}
+
+void kz_uses_object(const void *object, KzUse how)
+{
+    if (object)
+        kz_scheduler->uses(object, how);
+}
+
+void kz_uses_text(PCUNICODE_STRING text, KzUse how)
+{
+    if (!text)
+        return;
+    kz_uses_bytes(text, sizeof *text, how);
+    kz_uses_bytes(text->Buffer, text->Buffer ? text->MaximumLength : 0, how);
 }
 
 /* In a call that the host makes itself it is the outer one that would have to be known. */
@@ -187,6 +203,21 @@ void kz_driver_returned(unsigned depth, const char *name)
 void kz_pause(const char *name)
 {
     kz_driver_returned(step_out(name), NULL);
+}
+
+void kz_pause_until(const char *name, KzCan *can, void *what, const char *text)
+{
+    if (!kz_has_others() || !kz_scheduler->is_timeless) {
+        kz_pause(name);
+        return;
+    }
+    leave_host();
+    kz_me->is_known = true; /* it looks at nothing before it goes on */
+    kz_me->until = kz_now();
+    kz_me->stands = name;
+    kz_scheduler->wait(can, what, text);
+    kz_me->stands = NULL;
+    kz_me->is_known = false;
 }
 
 void kz_waits_for_owner(KzOwnerOf *owner_of, const void *what, bool is_named)

@@ -69,6 +69,7 @@ struct KzClient {
     uint64_t until;   /* and when it is over, by the clock */
     KzThread *beside; /* the thread that it is, beside the requests; NULL for those of requests and of work items */
     char waits[160];  /* what it waits for */
+    const char *stands; /* the point at which it waits; NULL if its wait is within a call */
     KzOwnerOf *owner_of; /* of its wait; NULL if nobody has that */
     const void *owned;
     bool names_owner; /* what it waits for says who has it */
@@ -160,6 +161,8 @@ void kz_pause(const char *name);
 void kz_waits_for_owner(KzOwnerOf *owner_of, const void *what, bool is_named);
 bool kz_wait(KzCan *can, void *what, const char *format, ...) __attribute__((format(printf, 3, 4)));
 /* The same in order as well: what runs beside goes on, and time passes as far as it is to; for ever with -1. */
+/* It stands there until that is so: what comes before is over, and what comes after begins. */
+void kz_pause_until(const char *name, KzCan *can, void *what, const char *text);
 bool kz_wait_for(KzCan *can, void *what, int64_t milliseconds, const char *text);
 bool kz_refuses(KzChoice what, const char *call);
 /* From here on, until it leaves the host or another may go on, the client touches of what others come to only what it says. Where nobody says so it is taken to touch all of it, and so does what is called for more. */
@@ -171,6 +174,10 @@ void kz_uses_little(void);
 void kz_uses_all(void);
 void kz_acts_as_driver(void);
 void kz_uses_bytes(const void *bytes, size_t size, KzUse how);
+void kz_uses_object(const void *object, KzUse how); /* none where that is NULL */
+void kz_uses_text(PCUNICODE_STRING text, KzUse how);
+/* What a driver is answered there, which may be where others look. */
+#define kz_gives(pointer) kz_uses_bytes((pointer), (pointer) ? sizeof *(pointer) : 0, KZU_WRITES)
 bool kz_has_others(void);
 
 #endif

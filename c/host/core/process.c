@@ -25,13 +25,22 @@ POBJECT_TYPE *IoFileObjectType = (POBJECT_TYPE *)&types[0], *PsProcessType = (PO
 static struct _EPROCESS system_process = {.id = 4};
 PEPROCESS PsInitialSystemProcess = &system_process;
 
+/* Whoever asks for it first makes it, in memory of his own. */
+static void use_objects(bool is_made)
+{
+    kz_scheduler->uses(&kz.process->processes, is_made ? KZU_WRITES : KZU_READS);
+}
+
 PEPROCESS kz_process(uint64_t id)
 {
     if (id == system_process.id)
         return &system_process;
-    for (PEPROCESS one = kz.process->processes; one; one = one->next)
-        if (one->id == id)
-            return one;
+    PEPROCESS found = kz.process->processes;
+    while (found && found->id != id)
+        found = found->next;
+    use_objects(!found);
+    if (found)
+        return found;
     PEPROCESS made = kz_memory(sizeof *made);
     *made = (struct _EPROCESS){.next = kz.process->processes, .id = id};
     return kz.process->processes = made;
@@ -40,9 +49,12 @@ PEPROCESS kz_process(uint64_t id)
 PETHREAD kz_thread_object(uint64_t process, uint64_t id)
 {
     PEPROCESS owner = kz_process(process);
-    for (PETHREAD one = kz.process->threads; one; one = one->next)
-        if (one->id == id && one->process == owner)
-            return one;
+    PETHREAD found = kz.process->threads;
+    while (found && (found->id != id || found->process != owner))
+        found = found->next;
+    use_objects(!found);
+    if (found)
+        return found;
     PETHREAD made = kz_memory(sizeof *made), *place = &kz.process->threads;
     while (*place && (*place)->id < id)
         place = &(*place)->next;
@@ -83,67 +95,67 @@ void kz_end_thread_object(PETHREAD thread)
 
 PETHREAD KzCurrentThread(VOID)
 {
-    KZ_INSIDE();
+    KZ_INSIDE_ALONE();
     return kz_thread_object(kz_me->process, kz_me->thread);
 }
 
 PEPROCESS PsGetCurrentProcess(VOID)
 {
-    KZ_INSIDE();
+    KZ_INSIDE_ALONE();
     return kz_process(kz_me->process);
 }
 
 HANDLE PsGetCurrentProcessId(VOID)
 {
-    KZ_INSIDE();
+    KZ_INSIDE_ALONE();
     return ULongToHandle(kz_me->process);
 }
 
 HANDLE PsGetCurrentThreadId(VOID)
 {
-    KZ_INSIDE();
+    KZ_INSIDE_ALONE();
     return ULongToHandle(kz_me->thread);
 }
 
 HANDLE PsGetProcessId(PEPROCESS Process)
 {
-    KZ_INSIDE();
+    KZ_INSIDE_ALONE();
     return ULongToHandle(Process->id);
 }
 
 HANDLE PsGetThreadId(PETHREAD Thread)
 {
-    KZ_INSIDE();
+    KZ_INSIDE_ALONE();
     return ULongToHandle(Thread->id);
 }
 
 HANDLE PsGetThreadProcessId(PETHREAD Thread)
 {
-    KZ_INSIDE();
+    KZ_INSIDE_ALONE();
     return ULongToHandle(Thread->process->id);
 }
 
 PEPROCESS IoThreadToProcess(PETHREAD Thread)
 {
-    KZ_INSIDE();
+    KZ_INSIDE_ALONE();
     return Thread->process;
 }
 
 PEPROCESS PsGetThreadProcess(PETHREAD Thread)
 {
-    KZ_INSIDE();
+    KZ_INSIDE_ALONE();
     return Thread->process;
 }
 
 BOOLEAN PsIsSystemThread(PETHREAD Thread)
 {
-    KZ_INSIDE();
+    KZ_INSIDE_ALONE();
     return Thread->process == PsInitialSystemProcess;
 }
 
 BOOLEAN IoIsSystemThread(PETHREAD Thread)
 {
-    KZ_INSIDE();
+    KZ_INSIDE_ALONE();
     return PsIsSystemThread(Thread);
 }
 
@@ -159,21 +171,21 @@ VOID IoSetTopLevelIrp(PIRP Irp)
 
 ULONG IoGetRequestorProcessId(PIRP Irp)
 {
-    KZ_INSIDE();
+    KZ_INSIDE_ALONE();
     (void)Irp;
     return (ULONG)kz_me->process;
 }
 
 PVOID IoGetFileObjectFilterContext(PFILE_OBJECT FileObject)
 {
-    KZ_INSIDE();
+    KZ_INSIDE_ALONE();
     (void)FileObject;
     return NULL;
 }
 
 KPROCESSOR_MODE ExGetPreviousMode(VOID)
 {
-    KZ_INSIDE();
+    KZ_INSIDE_ALONE();
     return kz_me->process == system_process.id ? KernelMode : UserMode;
 }
 

@@ -24,7 +24,7 @@ static int compare(const void *name, const void *row)
 /* A binary calls by the convention of Windows: it gets what it would have imported. */
 PVOID FltGetRoutineAddress(PCSTR FltMgrRoutineName)
 {
-    KZ_INSIDE();
+    KZ_INSIDE_ALONE();
     const Row *found = bsearch(FltMgrRoutineName, rows, sizeof rows / sizeof rows[0], sizeof rows[0], compare);
     if (!found)
         kz_tell(KZM_NOT_MODELLED, __func__, "%s isn't found by its name: it answers NULL", FltMgrRoutineName);

@@ -94,7 +94,8 @@ const KzCrypto *kz_algorithm_of(PVOID given, KzCrypto *room, NTSTATUS *status, c
 
 NTSTATUS BCryptOpenAlgorithmProvider(BCRYPT_ALG_HANDLE *phAlgorithm, LPCWSTR pszAlgId, LPCWSTR pszImplementation, ULONG dwFlags)
 {
-    KZ_INSIDE();
+    KZ_INSIDE_ALONE();
+    kz_gives(phAlgorithm);
     (void)pszImplementation;
     *phAlgorithm = NULL;
     kz_may_be_called(__func__, PASSIVE_LEVEL);
@@ -109,7 +110,8 @@ NTSTATUS BCryptOpenAlgorithmProvider(BCRYPT_ALG_HANDLE *phAlgorithm, LPCWSTR psz
 
 NTSTATUS BCryptCloseAlgorithmProvider(BCRYPT_ALG_HANDLE hAlgorithm, ULONG dwFlags)
 {
-    KZ_INSIDE();
+    KZ_INSIDE_ALONE();
+    kz_uses_object(hAlgorithm, KZU_WRITES);
     (void)dwFlags;
     return kz_close_crypto(hAlgorithm, KZ_ALGORITHM, __func__);
 }
@@ -166,7 +168,10 @@ static PVOID any_of(PVOID given, const char *call)
 
 NTSTATUS BCryptGetProperty(BCRYPT_HANDLE hObject, LPCWSTR pszProperty, PUCHAR pbOutput, ULONG cbOutput, ULONG *pcbResult, ULONG dwFlags)
 {
-    KZ_INSIDE();
+    KZ_INSIDE_ALONE();
+    kz_uses_object(hObject, KZU_READS);
+    kz_uses_bytes(pbOutput, pbOutput ? cbOutput : 0, KZU_WRITES);
+    kz_gives(pcbResult);
     (void)dwFlags;
     KzCrypto room;
     Property property;
@@ -187,7 +192,9 @@ NTSTATUS BCryptGetProperty(BCRYPT_HANDLE hObject, LPCWSTR pszProperty, PUCHAR pb
 
 NTSTATUS BCryptSetProperty(BCRYPT_HANDLE hObject, LPCWSTR pszProperty, PUCHAR pbInput, ULONG cbInput, ULONG dwFlags)
 {
-    KZ_INSIDE();
+    KZ_INSIDE_ALONE();
+    kz_uses_object(hObject, KZU_WRITES);
+    kz_uses_bytes(pbInput, cbInput, KZU_READS);
     (void)cbInput, (void)dwFlags;
     KzCrypto *handle = any_of(hObject, __func__);
     if (!handle)
@@ -245,7 +252,10 @@ static void end_hash(KzCrypto *handle, uint8_t *to)
 
 NTSTATUS BCryptCreateHash(BCRYPT_ALG_HANDLE hAlgorithm, BCRYPT_HASH_HANDLE *phHash, PUCHAR pbHashObject, ULONG cbHashObject, PUCHAR pbSecret, ULONG cbSecret, ULONG dwFlags)
 {
-    KZ_INSIDE();
+    KZ_INSIDE_ALONE();
+    kz_uses_object(hAlgorithm, KZU_READS);
+    kz_uses_bytes(pbSecret, cbSecret, KZU_READS);
+    kz_gives(phHash);
     *phHash = NULL;
     KzCrypto made;
     NTSTATUS status;
@@ -264,7 +274,9 @@ NTSTATUS BCryptCreateHash(BCRYPT_ALG_HANDLE hAlgorithm, BCRYPT_HASH_HANDLE *phHa
 
 NTSTATUS BCryptDuplicateHash(BCRYPT_HASH_HANDLE hHash, BCRYPT_HASH_HANDLE *phNewHash, PUCHAR pbHashObject, ULONG cbHashObject, ULONG dwFlags)
 {
-    KZ_INSIDE();
+    KZ_INSIDE_ALONE();
+    kz_uses_object(hHash, KZU_READS);
+    kz_gives(phNewHash);
     (void)pbHashObject, (void)cbHashObject, (void)dwFlags;
     *phNewHash = NULL;
     const KzCrypto *handle = kz_crypto_of(hHash, KZ_HASH, __func__);
@@ -273,7 +285,9 @@ NTSTATUS BCryptDuplicateHash(BCRYPT_HASH_HANDLE hHash, BCRYPT_HASH_HANDLE *phNew
 
 NTSTATUS BCryptHashData(BCRYPT_HASH_HANDLE hHash, PUCHAR pbInput, ULONG cbInput, ULONG dwFlags)
 {
-    KZ_INSIDE();
+    KZ_INSIDE_ALONE();
+    kz_uses_object(hHash, KZU_WRITES);
+    kz_uses_bytes(pbInput, cbInput, KZU_READS);
     (void)dwFlags;
     KzCrypto *handle = kz_crypto_of(hHash, KZ_HASH, __func__);
     if (!handle)
@@ -284,7 +298,9 @@ NTSTATUS BCryptHashData(BCRYPT_HASH_HANDLE hHash, PUCHAR pbInput, ULONG cbInput,
 
 NTSTATUS BCryptFinishHash(BCRYPT_HASH_HANDLE hHash, PUCHAR pbOutput, ULONG cbOutput, ULONG dwFlags)
 {
-    KZ_INSIDE();
+    KZ_INSIDE_ALONE();
+    kz_uses_object(hHash, KZU_WRITES);
+    kz_uses_bytes(pbOutput, cbOutput, KZU_WRITES);
     (void)dwFlags;
     uint8_t made[KZ_DIGEST_MOST];
     KzCrypto *handle = kz_crypto_of(hHash, KZ_HASH, __func__);
@@ -300,13 +316,18 @@ NTSTATUS BCryptFinishHash(BCRYPT_HASH_HANDLE hHash, PUCHAR pbOutput, ULONG cbOut
 
 NTSTATUS BCryptDestroyHash(BCRYPT_HASH_HANDLE hHash)
 {
-    KZ_INSIDE();
+    KZ_INSIDE_ALONE();
+    kz_uses_object(hHash, KZU_WRITES);
     return kz_close_crypto(hHash, KZ_HASH, __func__);
 }
 
 NTSTATUS BCryptHash(BCRYPT_ALG_HANDLE hAlgorithm, PUCHAR pbSecret, ULONG cbSecret, PUCHAR pbInput, ULONG cbInput, PUCHAR pbOutput, ULONG cbOutput)
 {
-    KZ_INSIDE();
+    KZ_INSIDE_ALONE();
+    kz_uses_object(hAlgorithm, KZU_READS);
+    kz_uses_bytes(pbSecret, cbSecret, KZU_READS);
+    kz_uses_bytes(pbInput, cbInput, KZU_READS);
+    kz_uses_bytes(pbOutput, cbOutput, KZU_WRITES);
     KzCrypto made;
     NTSTATUS status;
     const KzCrypto *algorithm = kz_algorithm_of(hAlgorithm, &made, &status, __func__);
@@ -347,7 +368,11 @@ static void put_block(uint8_t *to, const KzCrypto *keyed, const Salted *salted, 
 
 NTSTATUS BCryptDeriveKeyPBKDF2(BCRYPT_ALG_HANDLE hPrf, PUCHAR pbPassword, ULONG cbPassword, PUCHAR pbSalt, ULONG cbSalt, ULONGLONG cIterations, PUCHAR pbDerivedKey, ULONG cbDerivedKey, ULONG dwFlags)
 {
-    KZ_INSIDE();
+    KZ_INSIDE_ALONE();
+    kz_uses_object(hPrf, KZU_READS);
+    kz_uses_bytes(pbPassword, cbPassword, KZU_READS);
+    kz_uses_bytes(pbSalt, cbSalt, KZU_READS);
+    kz_uses_bytes(pbDerivedKey, cbDerivedKey, KZU_WRITES);
     KzCrypto keyed;
     NTSTATUS status;
     uint8_t block[KZ_DIGEST_MOST];
@@ -382,7 +407,9 @@ static void put_numbers(uint8_t *to, ULONG length, const KzDigest *digest, ULONG
 
 NTSTATUS BCryptGenRandom(BCRYPT_ALG_HANDLE hAlgorithm, PUCHAR pbBuffer, ULONG cbBuffer, ULONG dwFlags)
 {
-    KZ_INSIDE();
+    KZ_INSIDE_ALONE();
+    kz_scheduler->uses(&kz.uuids, KZU_WRITES);
+    kz_uses_bytes(pbBuffer, cbBuffer, KZU_WRITES);
     KzCrypto made;
     NTSTATUS status;
     bool is_preferred = dwFlags & BCRYPT_USE_SYSTEM_PREFERRED_RNG;

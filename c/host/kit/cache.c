@@ -27,7 +27,7 @@ BOOLEAN MmCanFileBeTruncated(PSECTION_OBJECT_POINTERS SectionPointer, PLARGE_INT
 
 BOOLEAN MmFlushImageSection(PSECTION_OBJECT_POINTERS SectionObjectPointer, ULONG FlushType)
 {
-    KZ_INSIDE();
+    KZ_INSIDE_ALONE();
     (void)SectionObjectPointer, (void)FlushType;
     return TRUE;
 }

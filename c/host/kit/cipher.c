@@ -6,7 +6,10 @@
 /* ---- Keys. */
 NTSTATUS BCryptGenerateSymmetricKey(BCRYPT_ALG_HANDLE hAlgorithm, BCRYPT_KEY_HANDLE *phKey, PUCHAR pbKeyObject, ULONG cbKeyObject, PUCHAR pbSecret, ULONG cbSecret, ULONG dwFlags)
 {
-    KZ_INSIDE();
+    KZ_INSIDE_ALONE();
+    kz_uses_object(hAlgorithm, KZU_READS);
+    kz_uses_bytes(pbSecret, cbSecret, KZU_READS);
+    kz_gives(phKey);
     (void)dwFlags;
     *phKey = NULL;
     KzCrypto made;
@@ -28,7 +31,10 @@ NTSTATUS BCryptGenerateSymmetricKey(BCRYPT_ALG_HANDLE hAlgorithm, BCRYPT_KEY_HAN
 NTSTATUS BCryptImportKey(BCRYPT_ALG_HANDLE hAlgorithm, BCRYPT_KEY_HANDLE hImportKey, LPCWSTR pszBlobType, BCRYPT_KEY_HANDLE *phKey, PUCHAR pbKeyObject, ULONG cbKeyObject, PUCHAR pbInput,
                          ULONG cbInput, ULONG dwFlags)
 {
-    KZ_INSIDE();
+    KZ_INSIDE_ALONE();
+    kz_uses_object(hAlgorithm, KZU_READS);
+    kz_uses_bytes(pbInput, cbInput, KZU_READS);
+    kz_gives(phKey);
     const BCRYPT_KEY_DATA_BLOB_HEADER *blob = (PVOID)pbInput;
     *phKey = NULL;
     if (hImportKey || KzWcscmp(pszBlobType, BCRYPT_KEY_DATA_BLOB) != 0)
@@ -40,7 +46,8 @@ NTSTATUS BCryptImportKey(BCRYPT_ALG_HANDLE hAlgorithm, BCRYPT_KEY_HANDLE hImport
 
 NTSTATUS BCryptDestroyKey(BCRYPT_KEY_HANDLE hKey)
 {
-    KZ_INSIDE();
+    KZ_INSIDE_ALONE();
+    kz_uses_object(hKey, KZU_WRITES);
     return kz_close_crypto(hKey, KZ_KEY, __func__);
 }
 
@@ -104,7 +111,14 @@ static NTSTATUS ask(Asked *asked, PVOID key, PVOID padding, PUCHAR vector, ULONG
 
 NTSTATUS BCryptEncrypt(BCRYPT_KEY_HANDLE hKey, PUCHAR pbInput, ULONG cbInput, VOID *pPaddingInfo, PUCHAR pbIV, ULONG cbIV, PUCHAR pbOutput, ULONG cbOutput, ULONG *pcbResult, ULONG dwFlags)
 {
-    KZ_INSIDE();
+    KZ_INSIDE_ALONE();
+    kz_uses_object(hKey, KZU_READS);
+    kz_uses_bytes(pbInput, cbInput, KZU_READS);
+    kz_uses_bytes(pbIV, pbIV ? cbIV : 0, KZU_WRITES);
+    kz_uses_bytes(pbOutput, pbOutput ? cbOutput : 0, KZU_WRITES);
+    kz_gives(pcbResult);
+    if (pPaddingInfo)
+        kz_uses_all();
     Asked asked;
     uint8_t last[KZ_AES_BLOCK];
     NTSTATUS status = ask(&asked, hKey, pPaddingInfo, pbIV, cbIV, __func__);
@@ -132,7 +146,14 @@ NTSTATUS BCryptEncrypt(BCRYPT_KEY_HANDLE hKey, PUCHAR pbInput, ULONG cbInput, VO
 
 NTSTATUS BCryptDecrypt(BCRYPT_KEY_HANDLE hKey, PUCHAR pbInput, ULONG cbInput, VOID *pPaddingInfo, PUCHAR pbIV, ULONG cbIV, PUCHAR pbOutput, ULONG cbOutput, ULONG *pcbResult, ULONG dwFlags)
 {
-    KZ_INSIDE();
+    KZ_INSIDE_ALONE();
+    kz_uses_object(hKey, KZU_READS);
+    kz_uses_bytes(pbInput, cbInput, KZU_READS);
+    kz_uses_bytes(pbIV, pbIV ? cbIV : 0, KZU_WRITES);
+    kz_uses_bytes(pbOutput, pbOutput ? cbOutput : 0, KZU_WRITES);
+    kz_gives(pcbResult);
+    if (pPaddingInfo)
+        kz_uses_all();
     Asked asked;
     uint8_t last[KZ_AES_BLOCK];
     bool is_padded = dwFlags & BCRYPT_BLOCK_PADDING;

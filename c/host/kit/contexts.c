@@ -57,26 +57,26 @@ static bool has_contexts(PFILE_OBJECT object)
 /* Those of NTFS and ReFS have some by themselves; to others the filter manager gives them. */
 BOOLEAN FltSupportsFileContexts(PFILE_OBJECT FileObject)
 {
-    KZ_INSIDE();
+    KZ_INSIDE_ALONE();
     const KzFile *file = kz_file_with(FileObject);
     return has_contexts(FileObject) && (file->volume->type == FLT_FSTYPE_NTFS || file->volume->type == FLT_FSTYPE_REFS);
 }
 
 BOOLEAN FltSupportsFileContextsEx(PFILE_OBJECT FileObject, PFLT_INSTANCE Instance)
 {
-    KZ_INSIDE();
+    KZ_INSIDE_ALONE();
     (void)Instance;
     return has_contexts(FileObject);
 }
 
 BOOLEAN FltSupportsStreamContexts(PFILE_OBJECT FileObject)
 {
-    KZ_INSIDE();
+    KZ_INSIDE_ALONE();
     return has_contexts(FileObject);
 }
 
 BOOLEAN FltSupportsStreamHandleContexts(PFILE_OBJECT FileObject)
 {
-    KZ_INSIDE();
+    KZ_INSIDE_ALONE();
     return has_contexts(FileObject);
 }

@@ -27,7 +27,8 @@ bool kz_check_dispatcher(const DISPATCHER_HEADER *object, const char *kind, cons
 /* ---- What can be waited for. */
 VOID KeInitializeEvent(PRKEVENT Event, EVENT_TYPE Type, BOOLEAN State)
 {
-    KZ_INSIDE();
+    KZ_INSIDE_ALONE();
+    kz_uses_bytes(Event, sizeof *Event, KZU_WRITES);
     kz_must_be_there(Event, "an event", __func__);
     *Event = (KEVENT){.Header = {.Type = (UCHAR)(Type == NotificationEvent ? KZ_EVENT_KEEPS : KZ_EVENT_RESETS), .SignalState = State}};
     kz_make_dispatcher(&Event->Header);
@@ -71,7 +72,8 @@ LONG KeReadStateEvent(PRKEVENT Event)
 
 VOID KeInitializeSemaphore(PRKSEMAPHORE Semaphore, LONG Count, LONG Limit)
 {
-    KZ_INSIDE();
+    KZ_INSIDE_ALONE();
+    kz_uses_bytes(Semaphore, sizeof *Semaphore, KZU_WRITES);
     kz_must_be_there(Semaphore, "a semaphore", __func__);
     *Semaphore = (KSEMAPHORE){.Header = {.Type = KZ_SEMAPHORE, .SignalState = Count}, .Limit = Limit};
     kz_make_dispatcher(&Semaphore->Header);
@@ -95,7 +97,8 @@ LONG KeReleaseSemaphore(PRKSEMAPHORE Semaphore, KPRIORITY Increment, LONG Adjust
 
 VOID KeInitializeMutex(PRKMUTEX Mutex, ULONG Level)
 {
-    KZ_INSIDE();
+    KZ_INSIDE_ALONE();
+    kz_uses_bytes(Mutex, sizeof *Mutex, KZU_WRITES);
     (void)Level;
     kz_must_be_there(Mutex, "a mutex", __func__);
     *Mutex = (KMUTEX){.Header = {.Type = KZ_MUTANT, .SignalState = 1}};

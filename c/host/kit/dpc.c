@@ -26,7 +26,8 @@ static bool is_queued(const KDPC *dpc)
 
 VOID KeInitializeDpc(PRKDPC Dpc, PKDEFERRED_ROUTINE DeferredRoutine, PVOID DeferredContext)
 {
-    KZ_INSIDE();
+    KZ_INSIDE_ALONE();
+    kz_uses_bytes(Dpc, sizeof *Dpc, KZU_WRITES);
     if (is_queued(Dpc))
         kz_tell_of(Dpc, KZM_STILL_MADE, __func__, "a DPC that is queued");
     KeRemoveQueueDpc(Dpc);

@@ -25,7 +25,8 @@ static PVOID context_of(KzExtra *parameter)
 /* ---- Making them. */
 NTSTATUS FltAllocateExtraCreateParameterList(PFLT_FILTER Filter, FSRTL_ALLOCATE_ECPLIST_FLAGS Flags, PECP_LIST *EcpList)
 {
-    KZ_INSIDE();
+    KZ_INSIDE_ALONE();
+    kz_gives(EcpList);
     (void)Filter, (void)Flags;
     *EcpList = ExAllocatePoolZero(PagedPool, sizeof **EcpList, TAG);
     return *EcpList ? STATUS_SUCCESS : STATUS_INSUFFICIENT_RESOURCES;
@@ -34,7 +35,8 @@ NTSTATUS FltAllocateExtraCreateParameterList(PFLT_FILTER Filter, FSRTL_ALLOCATE_
 NTSTATUS FltAllocateExtraCreateParameter(PFLT_FILTER Filter, LPCGUID EcpType, ULONG SizeOfContext, FSRTL_ALLOCATE_ECP_FLAGS Flags,
                                          PFSRTL_EXTRA_CREATE_PARAMETER_CLEANUP_CALLBACK CleanupCallback, ULONG PoolTag, PVOID *EcpContext)
 {
-    KZ_INSIDE();
+    KZ_INSIDE_ALONE();
+    kz_gives(EcpContext);
     (void)Filter, (void)Flags;
     KzExtra *made = ExAllocatePoolZero(PagedPool, KZ_EXTRA_HEAD + SizeOfContext, PoolTag);
     *EcpContext = made ? context_of(made) : NULL;
@@ -58,7 +60,8 @@ static void free_parameter(KzExtra *parameter)
 
 VOID FltFreeExtraCreateParameter(PFLT_FILTER Filter, PVOID EcpContext)
 {
-    KZ_INSIDE();
+    KZ_INSIDE_ALONE();
+    kz_uses_object(EcpContext, KZU_WRITES);
     (void)Filter;
     free_parameter(parameter_of(EcpContext));
 }
@@ -75,7 +78,8 @@ static void free_list(PECP_LIST list)
 
 VOID FltFreeExtraCreateParameterList(PFLT_FILTER Filter, PECP_LIST EcpList)
 {
-    KZ_INSIDE();
+    KZ_INSIDE_ALONE();
+    kz_uses_object(EcpList, KZU_WRITES);
     (void)Filter;
     free_list(EcpList);
 }
@@ -83,7 +87,9 @@ VOID FltFreeExtraCreateParameterList(PFLT_FILTER Filter, PECP_LIST EcpList)
 /* ---- Lists. */
 NTSTATUS FltInsertExtraCreateParameter(PFLT_FILTER Filter, PECP_LIST EcpList, PVOID EcpContext)
 {
-    KZ_INSIDE();
+    KZ_INSIDE_ALONE();
+    kz_uses_object(EcpList, KZU_WRITES);
+    kz_uses_object(EcpContext, KZU_WRITES);
     (void)Filter;
     KzExtra *one = parameter_of(EcpContext), **at = kz_place_of_extra(EcpList, &one->type);
     if (one->list || *at)
@@ -106,14 +112,20 @@ static NTSTATUS give(KzExtra *one, PVOID *context, ULONG *size)
 
 NTSTATUS FltFindExtraCreateParameter(PFLT_FILTER Filter, PECP_LIST EcpList, const GUID *EcpType, PVOID *EcpContext, ULONG *EcpContextSize)
 {
-    KZ_INSIDE();
+    KZ_INSIDE_ALONE();
+    kz_uses_object(EcpList, KZU_READS);
+    kz_gives(EcpContext);
+    kz_gives(EcpContextSize);
     (void)Filter;
     return give(*kz_place_of_extra(EcpList, EcpType), EcpContext, EcpContextSize);
 }
 
 NTSTATUS FltRemoveExtraCreateParameter(PFLT_FILTER Filter, PECP_LIST EcpList, LPCGUID EcpType, PVOID *EcpContext, ULONG *EcpContextSize)
 {
-    KZ_INSIDE();
+    KZ_INSIDE_ALONE();
+    kz_uses_object(EcpList, KZU_WRITES);
+    kz_gives(EcpContext);
+    kz_gives(EcpContextSize);
     (void)Filter;
     KzExtra **at = kz_place_of_extra(EcpList, EcpType), *one = *at;
     if (one) {
@@ -126,7 +138,11 @@ NTSTATUS FltRemoveExtraCreateParameter(PFLT_FILTER Filter, PECP_LIST EcpList, LP
 
 NTSTATUS FltGetNextExtraCreateParameter(PFLT_FILTER Filter, PECP_LIST EcpList, PVOID CurrentEcpContext, LPGUID NextEcpType, PVOID *NextEcpContext, ULONG *NextEcpContextSize)
 {
-    KZ_INSIDE();
+    KZ_INSIDE_ALONE();
+    kz_uses_object(EcpList, KZU_READS);
+    kz_gives(NextEcpType);
+    kz_gives(NextEcpContext);
+    kz_gives(NextEcpContextSize);
     (void)Filter;
     KzExtra *next = CurrentEcpContext ? parameter_of(CurrentEcpContext)->next : EcpList->first;
     if (next && NextEcpType)
@@ -136,14 +152,16 @@ NTSTATUS FltGetNextExtraCreateParameter(PFLT_FILTER Filter, PECP_LIST EcpList, P
 
 VOID FltAcknowledgeEcp(PFLT_FILTER Filter, PVOID EcpContext)
 {
-    KZ_INSIDE();
+    KZ_INSIDE_ALONE();
+    kz_uses_object(EcpContext, KZU_WRITES);
     (void)Filter;
     parameter_of(EcpContext)->is_acknowledged = TRUE;
 }
 
 BOOLEAN FltIsEcpAcknowledged(PFLT_FILTER Filter, PVOID EcpContext)
 {
-    KZ_INSIDE();
+    KZ_INSIDE_ALONE();
+    kz_uses_object(EcpContext, KZU_READS);
     (void)Filter;
     return parameter_of(EcpContext)->is_acknowledged;
 }
@@ -157,7 +175,9 @@ BOOLEAN FltIsEcpFromUserMode(PFLT_FILTER Filter, PVOID EcpContext)
 /* ---- Those of a create. A list that is put into it is the I/O manager's, which frees it once the create is over. */
 NTSTATUS FltGetEcpListFromCallbackData(PFLT_FILTER Filter, PFLT_CALLBACK_DATA CallbackData, PECP_LIST *EcpList)
 {
-    KZ_INSIDE();
+    KZ_INSIDE_ALONE();
+    kz_uses_object(kz_op_with(CallbackData), KZU_READS);
+    kz_gives(EcpList);
     (void)Filter;
     KzOp *op = kz_op_with(CallbackData);
     *EcpList = NULL;
@@ -179,7 +199,8 @@ static void adopt(PECP_LIST list)
 
 NTSTATUS FltSetEcpListIntoCallbackData(PFLT_FILTER Filter, PFLT_CALLBACK_DATA CallbackData, PECP_LIST EcpList)
 {
-    KZ_INSIDE();
+    KZ_INSIDE_ALONE();
+    kz_uses_object(kz_op_with(CallbackData), KZU_WRITES);
     (void)Filter;
     KzOp *op = kz_op_with(CallbackData);
     if (!op || op->event != KZE_CREATE || op->ecps || op->own.ecps)

@@ -142,7 +142,7 @@ NTSTATUS FltGetVolumeInstanceFromName(PFLT_FILTER Filter, PFLT_VOLUME Volume, PC
 
 LONG FltCompareInstanceAltitudes(PFLT_INSTANCE Instance1, PFLT_INSTANCE Instance2)
 {
-    KZ_INSIDE();
+    KZ_INSIDE_ALONE();
     return kz_compare_altitudes(Instance1->altitude, Instance2->altitude);
 }
 

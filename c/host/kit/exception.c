@@ -32,6 +32,7 @@ void KzBugCheck(ULONG Code)
 static void look_at(const char *call, const void *from)
 {
     KZ_INSIDE_FROM(call, from);
+    kz_uses_own();
 }
 
 static void raise_at(const char *call, NTSTATUS status, const void *from)

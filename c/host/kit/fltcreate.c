@@ -235,7 +235,7 @@ NTSTATUS FltCreateFileEx2(PFLT_FILTER Filter, PFLT_INSTANCE Instance, PHANDLE Fi
 
 PTXN_PARAMETER_BLOCK IoGetTransactionParameterBlock(PFILE_OBJECT FileObject)
 {
-    KZ_INSIDE();
+    KZ_INSIDE_ALONE();
     const KzFile *file = kz_file_with(FileObject);
     return file && file->transaction ? &file->transaction->block : NULL;
 }

@@ -12,7 +12,8 @@ static const char *image_of(PEPROCESS process)
 
 NTSTATUS SeLocateProcessImageName(PEPROCESS Process, PUNICODE_STRING *ImageFileName)
 {
-    KZ_INSIDE();
+    KZ_INSIDE_ALONE();
+    kz_gives(ImageFileName);
     const char *image = image_of(Process);
     size_t length = strlen(image);
     *ImageFileName = ExAllocatePoolWithTag(PagedPool, sizeof(UNICODE_STRING) + (length + 1) * sizeof(WCHAR), 'nPeS');
@@ -28,7 +29,7 @@ NTSTATUS SeLocateProcessImageName(PEPROCESS Process, PUNICODE_STRING *ImageFileN
 /* Of the image's own name 14 letters. */
 PUCHAR PsGetProcessImageFileName(PEPROCESS Process)
 {
-    KZ_INSIDE();
+    KZ_INSIDE_ALONE();
     const char *image = image_of(Process), *slash = strrchr(image, '/');
     snprintf(Process->own_name, 15, "%.14s", Process == PsInitialSystemProcess ? "System" : slash ? slash + 1 : image);
     return (PUCHAR)Process->own_name;
@@ -36,14 +37,14 @@ PUCHAR PsGetProcessImageFileName(PEPROCESS Process)
 
 HANDLE PsGetProcessInheritedFromUniqueProcessId(PEPROCESS Process)
 {
-    KZ_INSIDE();
+    KZ_INSIDE_ALONE();
     return ULongToHandle(Process->parent);
 }
 
 /* One that was there before the run began with the system. */
 LONGLONG PsGetProcessCreateTimeQuadPart(PEPROCESS Process)
 {
-    KZ_INSIDE();
+    KZ_INSIDE_ALONE();
     return Process->created ? Process->created : kz_time() - kz.passed;
 }
 
@@ -56,19 +57,19 @@ NTSTATUS PsGetProcessExitStatus(PEPROCESS Process)
 /* Services have session 0, whoever is logged on the next one. */
 ULONG PsGetProcessSessionId(PEPROCESS Process)
 {
-    KZ_INSIDE();
+    KZ_INSIDE_ALONE();
     return Process == PsInitialSystemProcess ? 0 : 1;
 }
 
 BOOLEAN PsIsProtectedProcess(PEPROCESS Process)
 {
-    KZ_INSIDE();
+    KZ_INSIDE_ALONE();
     return Process == PsInitialSystemProcess;
 }
 
 BOOLEAN PsIsProtectedProcessLight(PEPROCESS Process)
 {
-    KZ_INSIDE();
+    KZ_INSIDE_ALONE();
     (void)Process;
     return FALSE;
 }

@@ -162,6 +162,7 @@ static NTSTATUS nothing(void *key)
 NTSTATUS ZwFlushKey(HANDLE KeyHandle)
 {
     KZ_INSIDE();
+    kz_uses_all();
     REG_FLUSH_KEY_INFORMATION asked = {.Object = kz_open_key_of(KeyHandle, __func__)};
     if (!asked.Object)
         return STATUS_INVALID_HANDLE;
@@ -294,7 +295,10 @@ static ULONG_PTR number_of(const char *name)
 
 NTSTATUS CmCallbackGetKeyObjectIDEx(PLARGE_INTEGER Cookie, PVOID Object, PULONG_PTR ObjectID, PCUNICODE_STRING *ObjectName, ULONG Flags)
 {
-    KZ_INSIDE();
+    KZ_INSIDE_ALONE();
+    kz_uses_object(Object, KZU_READS);
+    kz_gives(ObjectID);
+    kz_gives(ObjectName);
     (void)Cookie;
     const char *name = kz_key_name(Object);
     if (!name || Flags)
@@ -315,7 +319,8 @@ NTSTATUS CmCallbackGetKeyObjectIDEx(PLARGE_INTEGER Cookie, PVOID Object, PULONG_
 
 VOID CmCallbackReleaseKeyObjectIDEx(PCUNICODE_STRING ObjectName)
 {
-    KZ_INSIDE();
+    KZ_INSIDE_ALONE();
+    kz_uses_object(ObjectName, KZU_WRITES);
     const KzPiece *piece = kz_piece_of(ObjectName);
     if (piece && piece->kind == KZK_POOL && piece->tag == 'nKmC')
         kz_give_back((PVOID)ObjectName);
@@ -326,7 +331,10 @@ VOID CmCallbackReleaseKeyObjectIDEx(PCUNICODE_STRING ObjectName)
 /* Its name is the key's, as long as that is open. */
 NTSTATUS CmCallbackGetKeyObjectID(PLARGE_INTEGER Cookie, PVOID Object, PULONG_PTR ObjectID, PCUNICODE_STRING *ObjectName)
 {
-    KZ_INSIDE();
+    KZ_INSIDE_ALONE();
+    kz_uses_object(Object, KZU_WRITES);
+    kz_gives(ObjectID);
+    kz_gives(ObjectName);
     (void)Cookie;
     KzKey *key = Object;
     if (!kz_key_name(Object) || (!key->said.Buffer && !kz_give_name(&key->said, key->name, false)))

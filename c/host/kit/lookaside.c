@@ -17,6 +17,8 @@ typedef GENERAL_LOOKASIDE_POOL Lookaside;
 VOID KzInitializeLookaside(PVOID List, PALLOCATE_FUNCTION Allocate, PFREE_FUNCTION Free, POOL_TYPE Type, SIZE_T Size, ULONG Tag)
 {
     KZ_INSIDE_OF(Type == PagedPool ? "ExInitializePagedLookasideList" : "ExInitializeNPagedLookasideList");
+    kz_uses_own();
+    kz_uses_bytes(List, sizeof(Lookaside), KZU_WRITES);
     kz_must_be_there(List, "a lookaside list", kz_me->place.call);
     kz_made(List, "a lookaside list", "ExInitializeNPagedLookasideList", "ExDeleteNPagedLookasideList");
     *(Lookaside *)List = (Lookaside){.Size = (ULONG)Size, .Tag = Tag, .Type = Type, .Allocate = Allocate, .Free = Free, .Initialized = MADE};

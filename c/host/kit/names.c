@@ -289,7 +289,7 @@ VOID FltReleaseFileNameInformation(PFLT_FILE_NAME_INFORMATION FileNameInformatio
 
 NTSTATUS FltPurgeFileNameInformationCache(PFLT_INSTANCE Instance, PFILE_OBJECT FileObject)
 {
-    KZ_INSIDE();
+    KZ_INSIDE_ALONE();
     (void)Instance, (void)FileObject;
     return STATUS_SUCCESS;
 }
@@ -325,7 +325,11 @@ static size_t final_start(PCUNICODE_STRING name)
 
 NTSTATUS FltParseFileName(PCUNICODE_STRING FileName, PUNICODE_STRING Extension, PUNICODE_STRING Stream, PUNICODE_STRING FinalComponent)
 {
-    KZ_INSIDE();
+    KZ_INSIDE_ALONE();
+    kz_uses_text(FileName, KZU_READS);
+    kz_gives(Extension);
+    kz_gives(Stream);
+    kz_gives(FinalComponent);
     size_t start = final_start(FileName), end = FileName->Length / sizeof(WCHAR), colon = first(FileName, start, end, ':');
     size_t dot = last(FileName, start, colon, '.');
     if (Extension)
@@ -339,7 +343,8 @@ NTSTATUS FltParseFileName(PCUNICODE_STRING FileName, PUNICODE_STRING Extension, 
 
 NTSTATUS FltParseFileNameInformation(PFLT_FILE_NAME_INFORMATION FileNameInformation)
 {
-    KZ_INSIDE();
+    KZ_INSIDE_ALONE();
+    kz_uses_bytes(FileNameInformation, sizeof *FileNameInformation, KZU_WRITES);
     PFLT_FILE_NAME_INFORMATION info = FileNameInformation;
     kz_open_owned(info);
     FltParseFileName(&info->Name, &info->Extension, &info->Stream, &info->FinalComponent);
@@ -367,7 +372,9 @@ static NTSTATUS put_name(const char *text, PUNICODE_STRING to, PULONG needed)
 
 NTSTATUS FltGetVolumeName(PFLT_VOLUME Volume, PUNICODE_STRING VolumeName, PULONG BufferSizeNeeded)
 {
-    KZ_INSIDE();
+    KZ_INSIDE_ALONE();
+    kz_uses_text(VolumeName, KZU_WRITES);
+    kz_gives(BufferSizeNeeded);
     if (!kz_may_use_volume(__func__, Volume))
         return STATUS_FLT_DELETING_OBJECT;
     char text[64];
@@ -377,7 +384,9 @@ NTSTATUS FltGetVolumeName(PFLT_VOLUME Volume, PUNICODE_STRING VolumeName, PULONG
 
 NTSTATUS FltGetVolumeGuidName(PFLT_VOLUME Volume, PUNICODE_STRING VolumeGuidName, PULONG BufferSizeNeeded)
 {
-    KZ_INSIDE();
+    KZ_INSIDE_ALONE();
+    kz_uses_text(VolumeGuidName, KZU_WRITES);
+    kz_gives(BufferSizeNeeded);
     if (!kz_may_use_volume(__func__, Volume))
         return STATUS_FLT_DELETING_OBJECT;
     char guid[64], text[80];
@@ -389,7 +398,8 @@ NTSTATUS FltGetVolumeGuidName(PFLT_VOLUME Volume, PUNICODE_STRING VolumeGuidName
 /* As a drive's letter, from C: on. The driver frees it. */
 NTSTATUS IoVolumeDeviceToDosName(PVOID VolumeDeviceObject, PUNICODE_STRING DosName)
 {
-    KZ_INSIDE();
+    KZ_INSIDE_ALONE();
+    kz_gives(DosName);
     for (size_t at = 0; at < kz.volumes_count; at++) {
         if (VolumeDeviceObject != &kz.volumes[at]->disk && VolumeDeviceObject != &kz.volumes[at]->device)
             continue;

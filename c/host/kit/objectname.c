@@ -27,7 +27,10 @@ static bool name_of(PVOID object, char *room, size_t size)
 /* The structure, and its text behind that with a null. One that has no name has the structure alone. */
 NTSTATUS ObQueryNameString(PVOID Object, POBJECT_NAME_INFORMATION ObjectNameInfo, ULONG Length, PULONG ReturnLength)
 {
-    KZ_INSIDE();
+    KZ_INSIDE_ALONE();
+    kz_scheduler->uses(&kz.files, KZU_READS);
+    kz_uses_bytes(ObjectNameInfo, ObjectNameInfo ? Length : 0, KZU_WRITES);
+    kz_gives(ReturnLength);
     char text[600];
     bool is_named = name_of(Object, text, sizeof text);
     size_t letters = kz_letters(text), needed = sizeof *ObjectNameInfo + (is_named ? (letters + 1) * sizeof(WCHAR) : 0);
@@ -47,7 +50,9 @@ NTSTATUS ObQueryNameString(PVOID Object, POBJECT_NAME_INFORMATION ObjectNameInfo
 /* By its volume's letter, in memory of a pool that the driver frees. */
 NTSTATUS IoQueryFileDosDeviceName(PFILE_OBJECT FileObject, POBJECT_NAME_INFORMATION *ObjectNameInformation)
 {
-    KZ_INSIDE();
+    KZ_INSIDE_ALONE();
+    kz_scheduler->uses(&kz.files, KZU_READS);
+    kz_gives(ObjectNameInformation);
     char text[600];
     const KzFile *file = kz_file_with(FileObject);
     *ObjectNameInformation = NULL;

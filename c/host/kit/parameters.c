@@ -19,7 +19,9 @@ VOID FltSetCallbackDataDirty(PFLT_CALLBACK_DATA Data)
 
 VOID FltClearCallbackDataDirty(PFLT_CALLBACK_DATA Data)
 {
-    KZ_INSIDE();
+    KZ_INSIDE_ALONE();
+    kz_uses_object(kz_op_with(Data), KZU_WRITES);
+    kz_uses_object(Data, KZU_WRITES);
     Data->Flags &= ~FLTFL_CALLBACK_DATA_DIRTY;
 }
 
@@ -33,7 +35,8 @@ BOOLEAN FltIsCallbackDataDirty(PFLT_CALLBACK_DATA Data)
 /* A description of the buffer, which the manager frees. It changes no parameter. */
 NTSTATUS FltLockUserBuffer(PFLT_CALLBACK_DATA CallbackData)
 {
-    KZ_INSIDE();
+    KZ_INSIDE_ALONE();
+    kz_uses_object(kz_op_with(CallbackData), KZU_WRITES);
     PMDL *mdl;
     PVOID *buffer;
     PULONG length;
@@ -63,7 +66,8 @@ NTSTATUS FltLockUserBuffer(PFLT_CALLBACK_DATA CallbackData)
 
 PVOID FltGetSwappedBufferMdlAddress(PFLT_CALLBACK_DATA CallbackData)
 {
-    KZ_INSIDE();
+    KZ_INSIDE_ALONE();
+    kz_uses_object(kz_op_with(CallbackData), KZU_READS);
     KzOp *op = kz_op_with(CallbackData);
     return op && op->mdls ? op->mdls->mdl : NULL;
 }
@@ -71,7 +75,8 @@ PVOID FltGetSwappedBufferMdlAddress(PFLT_CALLBACK_DATA CallbackData)
 /* The driver frees it itself. */
 VOID FltRetainSwappedBufferMdlAddress(PFLT_CALLBACK_DATA CallbackData)
 {
-    KZ_INSIDE();
+    KZ_INSIDE_ALONE();
+    kz_uses_object(kz_op_with(CallbackData), KZU_WRITES);
     KzOp *op = kz_op_with(CallbackData);
     if (op && op->mdls)
         op->mdls->mdl = NULL;
@@ -81,6 +86,8 @@ VOID FltRetainSwappedBufferMdlAddress(PFLT_CALLBACK_DATA CallbackData)
 static bool puts_off(const char *call, const void *from, PFLT_CALLBACK_DATA data, KzSafe safe)
 {
     KZ_INSIDE_FROM(call, from);
+    kz_uses_own();
+    kz_uses_object(kz_op_with(data), KZU_WRITES);
     if (safe.flags & FLTFL_POST_OPERATION_DRAINING) {
         kz_tell(KZM_HELD_DRAIN, call, "in a drain, where it mustn't be called");
         return false;
@@ -134,7 +141,8 @@ NTSTATUS FltGetRequestorSessionId(PFLT_CALLBACK_DATA CallbackData, PULONG Sessio
 /* Of an IRP, in its preoperation. The routine is called once the file system's call has returned: behind the postoperations, if it didn't wait. */
 NTSTATUS FltRequestOperationStatusCallback(PFLT_CALLBACK_DATA Data, PFLT_GET_OPERATION_STATUS_CALLBACK CallbackRoutine, PVOID RequesterContext)
 {
-    KZ_INSIDE();
+    KZ_INSIDE_ALONE();
+    kz_uses_object(kz_op_with(Data), KZU_WRITES);
     KzOp *op = kz_me->place.op;
     if (!op || op->data != Data || kz_me->place.callback != KZ_IN_PRE || !(Data->Flags & FLTFL_CALLBACK_DATA_IRP_OPERATION)) {
         kz_tell(KZM_NOT_OWN_DATA, __func__, "of no IRP in its preoperation");
@@ -150,7 +158,8 @@ NTSTATUS FltRequestOperationStatusCallback(PFLT_CALLBACK_DATA Data, PFLT_GET_OPE
 
 NTSTATUS FltIsDirectory(PFILE_OBJECT FileObject, PFLT_INSTANCE Instance, PBOOLEAN IsDirectory)
 {
-    KZ_INSIDE();
+    KZ_INSIDE_ALONE();
+    kz_gives(IsDirectory);
     (void)Instance;
     KzFile *file = kz_file_with(FileObject);
     const KzOp *op = kz_me->place.op;

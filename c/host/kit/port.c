@@ -44,7 +44,8 @@ struct KzPortState {
 /* Descriptors aren't looked into: whoever connects may. */
 NTSTATUS FltBuildDefaultSecurityDescriptor(PSECURITY_DESCRIPTOR *SecurityDescriptor, ACCESS_MASK DesiredAccess)
 {
-    KZ_INSIDE();
+    KZ_INSIDE_ALONE();
+    kz_gives(SecurityDescriptor);
     (void)DesiredAccess;
     *SecurityDescriptor = kz_take_memory(KZK_POOL, sizeof(ULONG), 0, KZ_DESCRIPTOR_TAG);
     return *SecurityDescriptor ? STATUS_SUCCESS : STATUS_INSUFFICIENT_RESOURCES;
@@ -52,7 +53,8 @@ NTSTATUS FltBuildDefaultSecurityDescriptor(PSECURITY_DESCRIPTOR *SecurityDescrip
 
 VOID FltFreeSecurityDescriptor(PSECURITY_DESCRIPTOR SecurityDescriptor)
 {
-    KZ_INSIDE();
+    KZ_INSIDE_ALONE();
+    kz_uses_object(SecurityDescriptor, KZU_WRITES);
     KzPiece *piece = kz_piece_of(SecurityDescriptor);
     if (piece && piece->kind == KZK_POOL && piece->tag == KZ_DESCRIPTOR_TAG)
         kz_give_back(SecurityDescriptor);

@@ -14,7 +14,8 @@
 /* ---- The name that a provider is to fill. */
 NTSTATUS FltCheckAndGrowNameControl(PFLT_NAME_CONTROL NameCtrl, USHORT NewSize)
 {
-    KZ_INSIDE();
+    KZ_INSIDE_ALONE();
+    kz_uses_bytes(NameCtrl, sizeof *NameCtrl, KZU_WRITES);
     PUNICODE_STRING name = &NameCtrl->Name;
     if (NewSize <= name->MaximumLength)
         return STATUS_SUCCESS;

@@ -31,6 +31,7 @@ static bool is_made(PFLT_CALLBACK_DATA_QUEUE queue, const char *call, const void
 {
     KZ_CALL_FROM(call, from);
     kz_uses_little();
+    kz_scheduler->uses(&queue->Flags, KZU_READS);
     if (!(queue->Flags & FLTFL_CALLBACK_DATA_QUEUE_VALID) || !queue->Acquire)
         kz_tell_of(queue, KZM_NEVER_MADE, call, "a queue that was never initialized");
     return queue->Acquire && kz_may_use(call, queue->Instance);
@@ -79,13 +80,15 @@ void kz_leave_queue(PFLT_CALLBACK_DATA data)
 
 VOID FltCbdqEnable(PFLT_CALLBACK_DATA_QUEUE Cbdq)
 {
-    KZ_CALL();
+    KZ_CALL_ALONE();
+    kz_scheduler->uses(&Cbdq->Flags, KZU_WRITES);
     __atomic_and_fetch(&Cbdq->Flags, ~FLTFL_CALLBACK_DATA_QUEUE_DISABLED, __ATOMIC_SEQ_CST);
 }
 
 VOID FltCbdqDisable(PFLT_CALLBACK_DATA_QUEUE Cbdq)
 {
-    KZ_CALL();
+    KZ_CALL_ALONE();
+    kz_scheduler->uses(&Cbdq->Flags, KZU_WRITES);
     __atomic_or_fetch(&Cbdq->Flags, FLTFL_CALLBACK_DATA_QUEUE_DISABLED, __ATOMIC_SEQ_CST);
 }
 
@@ -96,6 +99,7 @@ NTSTATUS FltCbdqInsertIo(PFLT_CALLBACK_DATA_QUEUE Cbdq, PFLT_CALLBACK_DATA Cbd, 
         return STATUS_FLT_CBDQ_DISABLED;
     KZ_CALL_DRIVER(Cbdq->Acquire, Cbdq, &irql);
     use_context(Context);
+    kz_scheduler->uses(&Cbdq->Flags, KZU_READS);
     bool is_disabled = __atomic_load_n(&Cbdq->Flags, __ATOMIC_SEQ_CST) & FLTFL_CALLBACK_DATA_QUEUE_DISABLED;
     NTSTATUS status = is_disabled ? STATUS_FLT_CBDQ_DISABLED : KZ_CALL_DRIVER(Cbdq->InsertIo, Cbdq, Cbd, InsertContext);
     if (Context)

@@ -75,7 +75,8 @@ VOID ExConvertExclusiveToSharedLite(PERESOURCE Resource)
 /* ---- From their making to their end. */
 NTSTATUS ExInitializeResourceLite(PERESOURCE Resource)
 {
-    KZ_INSIDE();
+    KZ_INSIDE_ALONE();
+    kz_uses_bytes(Resource, sizeof *Resource, KZU_WRITES);
     memset(Resource, 0, sizeof *Resource);
     kz_must_be_there(Resource, "a resource", __func__);
     kz_made(Resource, "a resource", __func__, "ExDeleteResourceLite");
@@ -84,7 +85,8 @@ NTSTATUS ExInitializeResourceLite(PERESOURCE Resource)
 
 NTSTATUS ExReinitializeResourceLite(PERESOURCE Resource)
 {
-    KZ_INSIDE();
+    KZ_INSIDE_ALONE();
+    kz_uses_bytes(Resource, sizeof *Resource, KZU_WRITES);
     kz_is_made(Resource, "a resource", __func__);
     memset(Resource, 0, sizeof *Resource);
     return STATUS_SUCCESS;

@@ -74,8 +74,8 @@ LOGICAL MmIsDriverVerifying(PDRIVER_OBJECT DriverObject)
 /* ---- The system's version, and chance, which is the same in each run. */
 NTSTATUS RtlGetVersion(PRTL_OSVERSIONINFOW VersionInformation)
 {
-    KZ_INSIDE();
-    kz_acts_as_driver();
+    KZ_INSIDE_AS_DRIVER();
+    kz_gives(VersionInformation);
     VersionInformation->dwMajorVersion = 10;
     VersionInformation->dwMinorVersion = 0;
     VersionInformation->dwBuildNumber = 19045;
@@ -116,7 +116,9 @@ ULONG RtlRandomEx(PULONG Seed)
 
 NTSTATUS ExUuidCreate(GUID *Uuid)
 {
-    KZ_INSIDE();
+    KZ_INSIDE_ALONE();
+    kz_scheduler->uses(&kz.uuids, KZU_WRITES);
+    kz_gives(Uuid);
     *Uuid = (GUID){++kz.uuids, 0x4b41, 0x4a44, {0x80, 0, 0, 0, 0, 0, 0, 0}};
     return STATUS_SUCCESS;
 }
@@ -128,7 +130,7 @@ BOOLEAN MmIsAddressValid(PVOID VirtualAddress)
 
 PVOID MmGetSystemRoutineAddress(PUNICODE_STRING SystemRoutineName)
 {
-    KZ_INSIDE();
+    KZ_INSIDE_ALONE();
     (void)SystemRoutineName; /* as in an older kernel: a driver that asks copes with none */
     return NULL;
 }

@@ -4,19 +4,21 @@
 
 VOID KeQuerySystemTime(PLARGE_INTEGER CurrentTime)
 {
-    KZ_INSIDE();
+    KZ_INSIDE_ALONE();
+    kz_gives(CurrentTime);
     CurrentTime->QuadPart = kz_time();
 }
 
 ULONGLONG KeQueryInterruptTime(VOID)
 {
-    KZ_INSIDE();
+    KZ_INSIDE_ALONE();
     return (ULONGLONG)kz.passed;
 }
 
 VOID KeQueryTickCount(PLARGE_INTEGER CurrentCount)
 {
-    KZ_INSIDE();
+    KZ_INSIDE_ALONE();
+    kz_gives(CurrentCount);
     CurrentCount->QuadPart = kz.passed / (LONGLONG)KeQueryTimeIncrement();
 }
 
@@ -27,7 +29,8 @@ ULONG KeQueryTimeIncrement(VOID)
 
 LARGE_INTEGER KeQueryPerformanceCounter(PLARGE_INTEGER PerformanceFrequency)
 {
-    KZ_INSIDE();
+    KZ_INSIDE_ALONE();
+    kz_gives(PerformanceFrequency);
     if (PerformanceFrequency)
         PerformanceFrequency->QuadPart = 10000000;
     return (LARGE_INTEGER){.QuadPart = kz.passed};

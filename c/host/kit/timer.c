@@ -36,7 +36,8 @@ bool kz_is_set(const KTIMER *timer)
 
 VOID KeInitializeTimerEx(PKTIMER Timer, TIMER_TYPE Type)
 {
-    KZ_INSIDE();
+    KZ_INSIDE_ALONE();
+    kz_uses_bytes(Timer, sizeof *Timer, KZU_WRITES);
     if (kz_is_set(Timer)) {
         kz_tell_of(Timer, KZM_STILL_MADE, __func__, "a timer that is set");
         KeCancelTimer(Timer);
@@ -48,7 +49,8 @@ VOID KeInitializeTimerEx(PKTIMER Timer, TIMER_TYPE Type)
 
 VOID KeInitializeTimer(PKTIMER Timer)
 {
-    KZ_INSIDE();
+    KZ_INSIDE_ALONE();
+    kz_uses_bytes(Timer, sizeof *Timer, KZU_WRITES);
     KeInitializeTimerEx(Timer, NotificationTimer);
 }
 

@@ -13,7 +13,7 @@
 
 PACCESS_TOKEN PsReferencePrimaryToken(PEPROCESS Process)
 {
-    KZ_INSIDE();
+    KZ_INSIDE_ALONE();
     kz_take_object(Process, false, __func__);
     return (PACCESS_TOKEN)Process;
 }
@@ -25,7 +25,8 @@ VOID PsDereferencePrimaryToken(PACCESS_TOKEN PrimaryToken)
 
 VOID SeCaptureSubjectContext(PSECURITY_SUBJECT_CONTEXT SubjectContext)
 {
-    KZ_INSIDE();
+    KZ_INSIDE_ALONE();
+    kz_uses_bytes(SubjectContext, sizeof *SubjectContext, KZU_WRITES);
     memset(SubjectContext, 0, sizeof *SubjectContext);
     SubjectContext->PrimaryToken = (PACCESS_TOKEN)PsGetCurrentProcess();
 }
@@ -223,7 +224,8 @@ static NTSTATUS unknown(TOKEN_INFORMATION_CLASS class, const char *call)
 /* The session comes in the pointer's own place. How an integrity level comes is said nowhere, so it is asked for by a handle. */
 NTSTATUS SeQueryInformationToken(PACCESS_TOKEN Token, TOKEN_INFORMATION_CLASS TokenInformationClass, PVOID *TokenInformation)
 {
-    KZ_INSIDE();
+    KZ_INSIDE_ALONE();
+    kz_gives(TokenInformation);
     uint64_t scratch[MOST / sizeof(uint64_t)];
     Room room = {(uint8_t *)scratch, 0};
     if (TokenInformationClass == TokenSessionId)
@@ -241,7 +243,9 @@ NTSTATUS SeQueryInformationToken(PACCESS_TOKEN Token, TOKEN_INFORMATION_CLASS To
 
 NTSTATUS ZwQueryInformationToken(HANDLE TokenHandle, TOKEN_INFORMATION_CLASS TokenInformationClass, PVOID TokenInformation, ULONG Length, PULONG ResultLength)
 {
-    KZ_INSIDE();
+    KZ_INSIDE_ALONE();
+    kz_uses_bytes(TokenInformation, TokenInformation ? Length : 0, KZU_WRITES);
+    kz_gives(ResultLength);
     uint64_t scratch[MOST / sizeof(uint64_t)];
     Room room = {(uint8_t *)scratch, 0}, made = {TokenInformation, 0};
     PEPROCESS token = kz_object_of(TokenHandle);
@@ -259,6 +263,7 @@ NTSTATUS ZwQueryInformationToken(HANDLE TokenHandle, TOKEN_INFORMATION_CLASS Tok
 NTSTATUS ZwOpenProcessTokenEx(HANDLE ProcessHandle, ACCESS_MASK DesiredAccess, ULONG HandleAttributes, PHANDLE TokenHandle)
 {
     KZ_INSIDE();
+    kz_uses_all();
     (void)DesiredAccess;
     PEPROCESS process = ProcessHandle == ZwCurrentProcess() ? PsGetCurrentProcess() : kz_object_of(ProcessHandle);
     *TokenHandle = process ? kz_open_handle(process, "a token", HandleAttributes) : NULL;
@@ -291,7 +296,7 @@ BOOLEAN SeTokenIsRestricted(PACCESS_TOKEN Token)
 /* The kernel has each privilege. */
 BOOLEAN SeSinglePrivilegeCheck(LUID PrivilegeValue, KPROCESSOR_MODE PreviousMode)
 {
-    KZ_INSIDE();
+    KZ_INSIDE_ALONE();
     ULONG count = privileges_of(PsGetCurrentProcess());
     bool has = PreviousMode == KernelMode;
     for (ULONG at = 0; at < count; at++)

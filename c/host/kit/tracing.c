@@ -61,7 +61,7 @@ NTSTATUS EtwSetInformation(REGHANDLE RegHandle, EVENT_INFO_CLASS InformationClas
 /* ---- What WPP's code calls. Whoever registers isn't asked to trace: so no handle of a session is a right one. */
 NTSTATUS IoWMIRegistrationControl(PDEVICE_OBJECT DeviceObject, ULONG Action)
 {
-    KZ_INSIDE();
+    KZ_INSIDE_ALONE();
     (void)DeviceObject, (void)Action;
     return STATUS_SUCCESS;
 }

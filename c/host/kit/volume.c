@@ -9,7 +9,9 @@
 
 NTSTATUS FltGetVolumeProperties(PFLT_VOLUME Volume, PFLT_VOLUME_PROPERTIES VolumeProperties, ULONG VolumePropertiesLength, PULONG LengthReturned)
 {
-    KZ_INSIDE();
+    KZ_INSIDE_ALONE();
+    kz_uses_bytes(VolumeProperties, VolumeProperties ? VolumePropertiesLength : 0, KZU_WRITES);
+    kz_gives(LengthReturned);
     if (!kz_may_use_volume(__func__, Volume))
         return STATUS_FLT_DELETING_OBJECT;
     const KzFileSystem *system = kz_system_of(Volume->type);
@@ -52,7 +54,8 @@ static PFLT_VOLUME volume_of(PVOID object)
 
 NTSTATUS FltGetFileSystemType(PVOID FltObject, PFLT_FILESYSTEM_TYPE FileSystemType)
 {
-    KZ_INSIDE();
+    KZ_INSIDE_ALONE();
+    kz_gives(FileSystemType);
     PFLT_VOLUME volume = volume_of(FltObject);
     if (volume)
         *FileSystemType = volume->type;
@@ -61,7 +64,8 @@ NTSTATUS FltGetFileSystemType(PVOID FltObject, PFLT_FILESYSTEM_TYPE FileSystemTy
 
 NTSTATUS FltIsVolumeWritable(PVOID FltObject, PBOOLEAN IsWritable)
 {
-    KZ_INSIDE();
+    KZ_INSIDE_ALONE();
+    kz_gives(IsWritable);
     PFLT_VOLUME volume = volume_of(FltObject);
     if (volume)
         *IsWritable = !volume->is_read_only;
@@ -70,7 +74,8 @@ NTSTATUS FltIsVolumeWritable(PVOID FltObject, PBOOLEAN IsWritable)
 
 NTSTATUS FltIsVolumeSnapshot(PVOID FltObject, PBOOLEAN IsSnapshotVolume)
 {
-    KZ_INSIDE();
+    KZ_INSIDE_ALONE();
+    kz_gives(IsSnapshotVolume);
     PFLT_VOLUME volume = volume_of(FltObject);
     if (volume)
         *IsSnapshotVolume = volume->is_snapshot;
@@ -102,7 +107,7 @@ NTSTATUS FltGetDeviceObject(PFLT_VOLUME Volume, PDEVICE_OBJECT *DeviceObject)
 
 PDEVICE_OBJECT IoGetRelatedDeviceObject(PFILE_OBJECT FileObject)
 {
-    KZ_INSIDE();
+    KZ_INSIDE_ALONE();
     KzFile *file = kz_file_with(FileObject);
     return file ? &file->volume->device : NULL;
 }

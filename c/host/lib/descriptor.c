@@ -39,8 +39,7 @@ static ULONG length_of(const uint8_t *part, bool is_list)
 
 ULONG RtlLengthSecurityDescriptor(PSECURITY_DESCRIPTOR SecurityDescriptor)
 {
-    KZ_INSIDE();
-    kz_acts_as_driver();
+    KZ_INSIDE_AS_DRIVER();
     Descriptor head;
     ULONG length = sizeof head;
     memcpy(&head, SecurityDescriptor, sizeof head);

@@ -7,7 +7,7 @@
 
 PMDL IoAllocateMdl(PVOID VirtualAddress, ULONG Length, BOOLEAN SecondaryBuffer, BOOLEAN ChargeQuota, PIRP Irp)
 {
-    KZ_INSIDE();
+    KZ_INSIDE_ALONE();
     (void)SecondaryBuffer, (void)ChargeQuota, (void)Irp;
     PMDL mdl = ExAllocatePoolWithTag(NonPagedPool, sizeof *mdl, 'ldM ');
     if (mdl) {
@@ -19,7 +19,8 @@ PMDL IoAllocateMdl(PVOID VirtualAddress, ULONG Length, BOOLEAN SecondaryBuffer, 
 
 VOID IoFreeMdl(PMDL Mdl)
 {
-    KZ_INSIDE();
+    KZ_INSIDE_ALONE();
+    kz_uses_bytes(Mdl, sizeof *Mdl, KZU_WRITES);
     const KzPiece *piece = kz_piece_of(Mdl);
     if (kz_depth == 0 && piece && !piece->filter) {
         kz_tell(KZM_NO_POOL, __func__, "an MDL that the filter manager made for the operation: it frees it");
@@ -34,7 +35,9 @@ VOID IoFreeMdl(PMDL Mdl)
 
 VOID IoBuildPartialMdl(PMDL SourceMdl, PMDL TargetMdl, PVOID VirtualAddress, ULONG Length)
 {
-    KZ_INSIDE();
+    KZ_INSIDE_ALONE();
+    kz_uses_bytes(SourceMdl, sizeof *SourceMdl, KZU_READS);
+    kz_uses_bytes(TargetMdl, sizeof *TargetMdl, KZU_WRITES);
     ULONG skipped = (ULONG)((PUCHAR)VirtualAddress - (PUCHAR)MmGetMdlVirtualAddress(SourceMdl));
     MmInitializeMdl(TargetMdl, VirtualAddress, Length ? Length : SourceMdl->ByteCount - skipped);
     TargetMdl->Size = sizeof *TargetMdl;
@@ -43,14 +46,17 @@ VOID IoBuildPartialMdl(PMDL SourceMdl, PMDL TargetMdl, PVOID VirtualAddress, ULO
 
 VOID MmBuildMdlForNonPagedPool(PMDL MemoryDescriptorList)
 {
-    KZ_INSIDE();
+    KZ_INSIDE_ALONE();
+    kz_uses_bytes(MemoryDescriptorList, sizeof *MemoryDescriptorList, KZU_WRITES);
     MemoryDescriptorList->MdlFlags |= MDL_SOURCE_IS_NONPAGED_POOL;
     MemoryDescriptorList->MappedSystemVa = MmGetMdlVirtualAddress(MemoryDescriptorList);
 }
 
 VOID MmProbeAndLockPages(PMDL MemoryDescriptorList, KPROCESSOR_MODE AccessMode, LOCK_OPERATION Operation)
 {
-    KZ_INSIDE();
+    KZ_INSIDE_ALONE();
+    kz_uses_bytes(MemoryDescriptorList, sizeof *MemoryDescriptorList, KZU_WRITES);
+    kz_uses_object(MmGetMdlVirtualAddress(MemoryDescriptorList), KZU_WRITES);
     (void)AccessMode, (void)Operation;
     MemoryDescriptorList->MdlFlags |= MDL_PAGES_LOCKED;
     kz_map_pages(MmGetMdlVirtualAddress(MemoryDescriptorList), true);
@@ -58,7 +64,9 @@ VOID MmProbeAndLockPages(PMDL MemoryDescriptorList, KPROCESSOR_MODE AccessMode, 
 
 VOID MmUnlockPages(PMDL MemoryDescriptorList)
 {
-    KZ_INSIDE();
+    KZ_INSIDE_ALONE();
+    kz_uses_bytes(MemoryDescriptorList, sizeof *MemoryDescriptorList, KZU_WRITES);
+    kz_uses_object(MmGetMdlVirtualAddress(MemoryDescriptorList), KZU_WRITES);
     MemoryDescriptorList->MdlFlags &= ~MDL_PAGES_LOCKED;
     kz_map_pages(MmGetMdlVirtualAddress(MemoryDescriptorList), false);
 }
@@ -66,7 +74,8 @@ VOID MmUnlockPages(PMDL MemoryDescriptorList)
 PVOID MmMapLockedPagesSpecifyCache(PMDL MemoryDescriptorList, KPROCESSOR_MODE AccessMode, MEMORY_CACHING_TYPE CacheType, PVOID RequestedAddress,
                                    ULONG BugCheckOnFailure, ULONG Priority)
 {
-    KZ_INSIDE();
+    KZ_INSIDE_ALONE();
+    kz_uses_bytes(MemoryDescriptorList, sizeof *MemoryDescriptorList, KZU_READS);
     (void)AccessMode, (void)CacheType, (void)RequestedAddress, (void)BugCheckOnFailure, (void)Priority;
     return MmGetMdlVirtualAddress(MemoryDescriptorList);
 }

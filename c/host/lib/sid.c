@@ -53,8 +53,7 @@ NTSTATUS RtlCopySid(ULONG DestinationSidLength, PSID DestinationSid, PSID Source
 
 NTSTATUS RtlConvertSidToUnicodeString(PUNICODE_STRING UnicodeString, PSID Sid, BOOLEAN AllocateDestinationString)
 {
-    KZ_INSIDE();
-    kz_acts_as_driver();
+    KZ_INSIDE_AS_DRIVER();
     const SID *sid = Sid;
     char text[200];
     if (!RtlValidSid(Sid))

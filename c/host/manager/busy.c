@@ -4,6 +4,7 @@
 #include "core/client.h"
 #include "core/op.h"
 #include "core/state.h"
+#include "manager/context.h"
 #include "manager/instance.h"
 #include "manager/operation.h"
 #include "manager/post.h"
@@ -116,39 +117,63 @@ const char *kz_busy_text(char *room, size_t size)
 
 /* ---- Until it is over. */
 typedef struct {
-    PFLT_INSTANCE instance;
-    uint64_t changes;
+    PFLT_INSTANCE instance; /* whose contexts are left; NULL where something else is in the way */
+    uint64_t changes, cleaned;
 } Until;
+
+/* Nothing but what is in flight at the instance holds the end of its teardown up. */
+static bool is_empty(void *instance)
+{
+    return !((PFLT_INSTANCE)instance)->in_flight || kz_has_waiting(instance);
+}
 
 static bool is_free(void *busy)
 {
     const Until *one = busy;
-    return kz.changes != one->changes && (!one->instance || !one->instance->in_flight || kz_has_waiting(one->instance));
+    return one->instance ? kz_cleaned() != one->cleaned : kz.changes != one->changes;
 }
 
 static bool wait_until_free(Until *busy)
 {
-    kz_me->is_known = false; /* whatever changes may end that */
     if (busy->instance)
-        return kz_wait(is_free, busy, "what is in flight at instance %u to end", busy->instance->id);
+        return kz_wait(is_free, busy, "the contexts of instance %u to be cleaned up", busy->instance->id);
+    kz_me->is_known = false; /* whatever changes may end that */
     return kz_wait(is_free, busy, "what goes on still to end");
+}
+
+static uint32_t ask(KazdrinEvent event, PFLT_INSTANCE empties, Until *busy)
+{
+    if (empties)
+        kz_uses_teardown(empties, false);
+    else if (busy->instance)
+        kz_uses_teardown(busy->instance, true);
+    busy->changes = kz.changes;
+    busy->cleaned = kz_cleaned();
+    return kz_event(kz_worker(), event).status;
+}
+
+static bool goes_on(PFLT_INSTANCE empties, Until *busy)
+{
+    if (!empties || is_empty(empties))
+        return wait_until_free(busy);
+    return kz_wait(is_empty, empties, "what is in flight at instance %u to end", empties->id);
 }
 
 /* An event that waits for what is in flight, or for contexts: others may end that meanwhile. */
 uint32_t kz_until_free(const char *name, KazdrinEvent event, PFLT_INSTANCE instance)
 {
-    kz_pause(name);
+    char text[64];
+    Until busy = {.instance = event.event == KZE_FINISH ? kz.instances[event.instance] : NULL};
+    snprintf(text, sizeof text, "what is in flight at instance %u to end", instance ? instance->id : 0);
     if (instance)
-        kz_uses_teardown(instance, false);
-    else if (event.event == KZE_FINISH)
-        kz_uses_teardown(kz.instances[event.instance], true);
-    Until busy = {instance, kz.changes};
-    uint32_t status = kz_event(kz_worker(), event).status;
-    while (status == KZS_BUSY && kz_has_others() && wait_until_free(&busy)) {
+        kz_pause_until(name, is_empty, instance, text);
+    else
+        kz_pause(name);
+    uint32_t status = ask(event, instance, &busy);
+    while (status == KZS_BUSY && kz_has_others() && goes_on(instance, &busy)) {
         while (instance && kz_has_waiting(instance) && kz_drain_next(instance))
             ; /* it came to wait after the teardown had drained */
-        busy.changes = kz.changes;
-        status = kz_event(kz_worker(), event).status;
+        status = ask(event, instance, &busy);
     }
     return status;
 }

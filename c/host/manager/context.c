@@ -30,6 +30,7 @@ struct KzContextState {
     /* All that are live by their bodies' addresses, and those that the manager knows by their slots. */
     KzContext *places[PLACES], **slots;
     size_t known; /* by the manager: without one none is ever due */
+    uint64_t cleaned;
     size_t slots_room;
     KzContext dead[REMEMBERED];
     size_t dead_next;
@@ -207,13 +208,19 @@ void kz_clean_up(void)
         kz.context->slots[context->slot] = NULL;
         if (!context->kept)
             finish(context, worker);
-        kz_scheduler->uses(&kz.context, KZU_READS);
+        kz_scheduler->uses(&kz.context, KZU_WRITES);
         KzTold cleaned = kz_event(worker, (KazdrinEvent){.event = KZE_CLEANED});
+        kz.context->cleaned++;
         kz.changes++;
         context = cleaned.told.due ? take_due(worker) : NULL;
     }
     kz_helped(worker);
     kz_me->is_known = is_known; /* who called this goes on */
+}
+
+uint64_t kz_cleaned(void)
+{
+    return kz.context->cleaned;
 }
 
 /* ---- Allocation. */
@@ -341,9 +348,11 @@ VOID FltReleaseContext(PFLT_CONTEXT Context)
         return;
     }
     kz_scheduler->touch(context, 0, KZT_GIVES);
-    if (context->is_known && release(kz_worker(), context)) {
+    if (context->is_known) {
         kz_uses_little(); /* one reference less */
-        return;
+        if (release(kz_worker(), context))
+            return;
+        kz_uses_all();
     }
     if (!context->kept && released_elsewhere(context))
         return;

@@ -44,6 +44,7 @@ bool kz_holds(uint8_t worker, const KzContext *context);
 /* It goes if nobody has it: of those that the manager doesn't know. */
 void kz_end_unused(KzContext *context);
 void kz_clean_up(void);
+uint64_t kz_cleaned(void); /* how many contexts were, so far */
 void kz_use_due(void);
 void kz_tell_kept(PFLT_FILTER filter);
 extern const struct KzModule kz_context_module;

@@ -1,5 +1,6 @@
 /* Where the buffer of an operation lies among its parameters. */
 #include "core/client.h"
+#include "core/op.h"
 
 /* Information, and what a file and a volume have beside bytes. One of a security descriptor that is set has no length. */
 static bool decode_beside(FLT_PARAMETERS *now, UCHAR major, PMDL **mdl, PVOID **buffer, ULONG **length, LOCK_OPERATION *access)
@@ -42,9 +43,24 @@ static bool decode_beside(FLT_PARAMETERS *now, UCHAR major, PMDL **mdl, PVOID **
 }
 
 /* The buffer of an operation, as the kit hands out pointers to its fields. */
+/* Of the callback's own operation that is known. */
+static void use_data(PFLT_CALLBACK_DATA data)
+{
+    const KzOp *op = kz_me->place.op;
+    if (op && op->data == data)
+        kz_scheduler->uses(op, KZU_READS);
+    else
+        kz_uses_all();
+}
+
 NTSTATUS FltDecodeParameters(PFLT_CALLBACK_DATA CallbackData, PMDL **MdlAddressPointer, PVOID **Buffer, PULONG *Length, LOCK_OPERATION *DesiredAccess)
 {
-    KZ_INSIDE();
+    KZ_INSIDE_ALONE();
+    use_data(CallbackData);
+    kz_gives(MdlAddressPointer);
+    kz_gives(Buffer);
+    kz_gives(Length);
+    kz_gives(DesiredAccess);
     FLT_PARAMETERS *now = &CallbackData->Iopb->Parameters;
     PMDL *mdl = NULL;
     PVOID *buffer;

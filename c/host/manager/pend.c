@@ -119,6 +119,7 @@ VOID FltCompletePendedPreOperation(PFLT_CALLBACK_DATA CallbackData, FLT_PREOP_CA
     if (!resume_from(__func__, op, verdict))
         return;
     resume(op);
+    kz_scheduler->uses(&holder->in_flight, KZU_ADDS);
     if (!kz_owes(op, holder, &verdict))
         kz_leave_flight(op, holder);
     if (op->runner && op->is_awaited && kz_scheduler->choose(2, KZ_CHOICE_INSIDE, __func__)) /* one that doesn't wait yet carries it on itself */

@@ -240,7 +240,8 @@ void kz_uses_closes(void)
 {
     kz_scheduler->uses(&kz.files, KZU_READS);
     for (const KzFile *file = kz.files; file; file = file->next)
-        kz_scheduler->uses(&file->users, KZU_READS);
+        if (file->is_close_due)
+            kz_scheduler->uses(&file->users, KZU_READS);
 }
 
 /* What was let go on, what is due, and what waits for its turn, until nothing of it is left. */

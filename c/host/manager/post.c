@@ -131,6 +131,18 @@ void kz_post(KzOp *op, PFLT_INSTANCE instance, PVOID completion)
     kz_clean_up();
 }
 
+/* Its own client's, or one that the teardown takes. */
+static void use_drain(const KzOp *op, PFLT_INSTANCE instance)
+{
+    if (op->maker == kz_me->number) {
+        kz_goes_alone(op);
+    } else {
+        kz_uses_teardown(instance, false);
+        kz_scheduler->uses(op, KZU_WRITES);
+    }
+    kz_scheduler->uses(&instance->in_flight, KZU_ADDS);
+}
+
 /* The callback data of a drain is its own, since another filter may hold the operation: it says only what the operation is. */
 void kz_drain(KzOp *op, PFLT_INSTANCE instance, PVOID completion)
 {
@@ -143,7 +155,7 @@ void kz_drain(KzOp *op, PFLT_INSTANCE instance, PVOID completion)
                               .Thread = op->thread,
                               .Iopb = &iopb,
                               .RequestorMode = kz_requestor_of(op)};
-    kz_uses_all();
+    use_drain(op, instance);
     KzPlace before = kz_enter(KZ_IN_DRAIN, kz_worker(), instance->filter, instance, op, &data);
     PFLT_POST_OPERATION_CALLBACK callback = kz_registered(instance->filter, kz_major_of(op))->PostOperation;
     op->users++;
@@ -153,13 +165,14 @@ void kz_drain(KzOp *op, PFLT_INSTANCE instance, PVOID completion)
     unsigned depth = kz_let_driver("drain", callback);
     FLT_POSTOP_CALLBACK_STATUS said = KZ_CALL_DRIVER(callback, &data, &objects, completion, FLTFL_POST_OPERATION_DRAINING);
     kz_driver_returned(depth, "drain returns");
+    op->users--;
     if (said != FLT_POSTOP_FINISHED_PROCESSING)
         kz_tell(KZM_HELD_DRAIN, "FLTFL_POST_OPERATION_DRAINING", "a drain can't be held: it counts as FLT_POSTOP_FINISHED_PROCESSING");
     kz_forget_swap(op, instance);
     kz_keep_rest(NULL);
     kz_leave(before);
+    use_drain(op, instance);
     kz_leave_flight(op, instance);
-    op->users--;
     if (op->stage == KZ_OVER)
         kz_forget_op(op);
 }

@@ -221,6 +221,7 @@ static void enter_flight(KzOp *op, PFLT_INSTANCE instance)
 void kz_leave_flight(KzOp *op, PFLT_INSTANCE instance)
 {
     instance->in_flight--;
+    kz_scheduler->uses(&instance->in_flight, KZU_ADDS);
     for (unsigned at = 0; at < op->owed_count; at++)
         if (op->owed[at].instance == instance) {
             op->owed[at] = op->owed[--op->owed_count];
@@ -265,5 +266,6 @@ void kz_pre(KzOp *op, PFLT_INSTANCE instance)
     }
     if (!kz_owes(op, instance, &verdict))
         kz_leave_flight(op, instance);
+    kz_scheduler->uses(&instance->in_flight, KZU_ADDS); /* what it owes now a teardown may drain */
     kz_clean_up();
 }

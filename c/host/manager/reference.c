@@ -54,6 +54,7 @@ static void let_go_of_file(PVOID object)
 LONG_PTR kz_take_object(PVOID object, bool is_flt, const char *call)
 {
     Taken **at = find(object);
+    kz_uses_object(object, *at ? KZU_ADDS : KZU_WRITES); /* whoever is the first has memory for that */
     if (!*at) {
         keep_file(object);
         Taken *made = kz_memory(sizeof *made);

@@ -54,7 +54,9 @@ KzAnswer kz_follow(KzAnswer answer, void *given, KzBeginCreate *begin)
 
 NTSTATUS IoReplaceFileObjectName(PFILE_OBJECT FileObject, PWSTR NewFileName, USHORT FileNameLength)
 {
-    KZ_INSIDE();
+    KZ_INSIDE_ALONE();
+    kz_uses_bytes(&FileObject->FileName, sizeof FileObject->FileName, KZU_WRITES);
+    kz_uses_bytes(NewFileName, FileNameLength, KZU_READS);
     KzFile *file = kz_file_with(FileObject);
     if (!file) {
         kz_tell(KZM_NO_TARGET, __func__, "no file object");

@@ -89,7 +89,7 @@ static NTSTATUS queue(PFLT_GENERIC_WORKITEM item, Kind kind, PVOID object, PVOID
 
 PFLT_GENERIC_WORKITEM FltAllocateGenericWorkItem(VOID)
 {
-    KZ_INSIDE();
+    KZ_INSIDE_ALONE();
     return allocate('wgMF');
 }
 
@@ -117,7 +117,7 @@ NTSTATUS FltQueueGenericWorkItem(PFLT_GENERIC_WORKITEM FltWorkItem, PVOID FltObj
 
 PFLT_DEFERRED_IO_WORKITEM FltAllocateDeferredIoWorkItem(VOID)
 {
-    KZ_INSIDE();
+    KZ_INSIDE_ALONE();
     return allocate('wdMF');
 }
 
@@ -155,7 +155,7 @@ NTSTATUS FltQueueDeferredIoWorkItem(PFLT_DEFERRED_IO_WORKITEM FltWorkItem, PFLT_
 
 PIO_WORKITEM IoAllocateWorkItem(PDEVICE_OBJECT DeviceObject)
 {
-    KZ_INSIDE();
+    KZ_INSIDE_ALONE();
     PFLT_GENERIC_WORKITEM made = allocate('wiO ');
     if (made)
         made->object = DeviceObject;

@@ -49,7 +49,7 @@ least() {
         host) echo 125 ;;
         legal) echo 105 ;;
         explore) echo 300 ;;
-        sound) echo 100 ;;
+        sound) echo 150 ;;
         headers) echo 10000 ;;
         image) echo 60 ;; # with one of the toolchains
         cache) echo 20 ;;

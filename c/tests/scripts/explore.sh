@@ -144,7 +144,7 @@ said() {
 rows said "${!prints[@]}"
 
 # A schedule as a reader sees it.
-"$program" --trace --replay 'r*3 d*9 r*4 finally*4' $scenarios/stuckdetach.txt > "$room/trace.out"
+"$program" --trace --replay 'r*3 d*8 r*4 finally*4' $scenarios/stuckdetach.txt > "$room/trace.out"
 [ $? = 6 ] && diff $tests/expected/explore-trace.out "$room/trace.out"
 tell $? "trace"
 

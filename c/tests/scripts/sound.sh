@@ -1,10 +1,11 @@
 #!/usr/bin/env bash
 # c/tests/scripts/sound.sh [COUNT [FIRST]] : nothing is lost by what the default search leaves out. It has the ends of --whole, each of them and no other:
 #   - for each scenario of c/tests and c/samples, at a bound at which --whole ends soon;
-#   - for COUNT random scenarios from number FIRST on, 48 from 1 on without the words (c/tests/sound/draw.py).
+#   - for COUNT random scenarios from number FIRST on, 500 from 1 on without the words (c/tests/sound/draw.py).
+# And steps that are taken to come to the same in either order do, by --commute: of those scenarios, and of a driver that calls what is taken to touch nothing that others have.
 set -u
 case ${1:-} in -h | --help) sed -n '2,/^[^#]/s/^#\( \|$\)//p' "$0"; exit ;; esac
-COUNT=${1:-48}
+COUNT=${1:-500}
 FIRST=${2:-1}
 . "$(dirname "$0")/tally.sh" sound
 sound=$tests/sound
@@ -23,6 +24,19 @@ compared() {
     read -r -a words <<< "--bound $bound $(sed -n 's/^# words: //p' "$scenario" | sed 's/--fail-each/--fails 1/' | grep -oE -e '--(workers|late|fails) [0-9]+|--inline|--coarse' | tr '\n' ' ')"
     ends "${words[@]}" --whole > "$room/whole" && ends "${words[@]}" > "$room/found" && [ -s "$room/whole" ] && diff "$room/whole" "$room/found"
     tell $? "$name by $scenario"
+    [ "${program##*/}" = schedules ] || commute 300 "${words[@]}"
+}
+# Of the steps of a scenario each pair that is drawn comes to the same in both orders, if it is taken to.
+commute() {
+    "$program" --commute "$@" "$room/scenario" > "$room/pairs" && grep -q '^[0-9]* pairs, .* 0 of them wrongly$' "$room/pairs" || { cat "$room/pairs"; false; }
+    tell $? "$name, steps in both orders,"
+}
+own() {
+    local program=$built/own name="own, group $1"
+    sed "s/GROUP/$1/" "$sound/own.txt" > "$room/scenario"
+    commute 600
+    grep -q ' [1-9][0-9]* are taken to' "$room/pairs"
+    tell $? "own, group $1, of which some are taken to,"
 }
 drawn() {
     local begin=$1 count=$((COUNT / PARTS))
@@ -63,7 +77,7 @@ build "drivers of schedules" --explore "$room/schedules" "$tests"/misuse/schedul
 build "samples" --explore "$room/samples" c/samples/*.c "${users[@]}"
 build "right drivers" --explore "$room/legal" "$tests"/legal/*.c
 build "wrong drivers" --explore "$room/misuse" "$tests"/misuse/{access,freed,gone,irql,kept,made,past,strings}.c
-build "drivers that are drawn for" --explore "$room/drawn" "$sound/drawn.c" "$sound/portbusy.c" --user "$sound/program.c"
+build "drivers that are drawn for" --explore "$room/drawn" "$sound/drawn" "$sound/portbusy.c" --user "$sound/program.c"
 rows compared "drawn 2 $sound/portbusy.txt portbusy" "${of_schedules[@]}" "${others[@]}"
 
 # A port's callback that is over, and another that begins: what is found is what portbusy.txt says.
@@ -79,7 +93,10 @@ unbound() {
     tell $? "$1 without a bound"
 }
 rows unbound starves setandcleared setandtaken
-PARTS=$((COUNT < 8 ? 1 : 8))
+
+build "a driver of own calls" --explore "$room/own" "$sound/own.c"
+rows own {0..14}
+PARTS=$((COUNT < 10 ? 1 : 10))
 mapfile -t parts < <(seq 0 $((PARTS - 1)))
 rows drawn "${parts[@]}"
 finish

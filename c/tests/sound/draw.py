@@ -1,7 +1,8 @@
 #!/usr/bin/env python3
-"""Random scenarios for drawn.c, and what two searches of each find: draw.py PROGRAM FIRST COUNT [--keep FOLDER]. Each scenario is drawn from its number, so that a number is all one has to keep. The
-default search has to find the ends that --whole finds, and no other, at bound 1 and at bound 2, and without a bound where two clients have few acts. A search that hasn't ended after twenty seconds
-is left out, and counted. `draw.py --show NUMBER` prints a scenario. It ends with 1 if an end is lost or made up, and says which."""
+"""Random scenarios for drawn/, and what two searches of each find: draw.py PROGRAM FIRST COUNT. Each scenario is drawn from its number, so that a number is all one has to keep. The
+default search has to find the ends that --whole finds, and no other, at each bound up to the last at which --whole has few schedules (DRAWN_MOST), by those of the bound before it. One with more at no
+preemption is left out, and counted, as is one that ends as a limit. `draw.py --show NUMBER` prints a scenario. Pairs of its steps are run in both orders,
+too. It ends with 1 if an end is lost or made up, or a pair is taken wrongly, and says which."""
 import os
 import random
 import re
@@ -9,10 +10,13 @@ import subprocess
 import sys
 import tempfile
 
-SECONDS = 20
-# Acts that go together: a program is drawn from some of these groups. Upper and lower letters are other acts (drawn.c).
+SECONDS = 300
+MOST = int(os.environ.get("DRAWN_MOST", "800"))
+PAIRS = "40"
+GROWS = 24  # so many times more schedules has one preemption, before it is known
+# Acts that go together: a program is drawn from some of these groups. Each sign is an act of its own (drawn/).
 GROUPS = {
-    "memory": "abcd", "plain": "ae", "pools": "fgh", "events": "ijkmno", "awhile": "ijopq", "semaphores": "rst", "mutex": "uv", "time": "wTo", "fast": "AC", "push": "DE", "resource": "GHIJLM",
+    "memory": "abcd", "plain": "ae", "pools": "fgh", "lists": "0123", "events": "ijkmno9", "awhile": "ijopq", "semaphores": "rst", "mutex": "uv", "time": "wTo", "fast": "AC", "push": "DE", "resource": "GHIJLMl", "clock": "zw", "timers": "56To", "own": "8!", "defers": "7",
     "spin": "N", "rundown": "OPQ", "work": "R", "dpcs": "STUV", "contexts": "XYZ", "threads": "W", "messages": "x", "pends": "y",
 }
 # What lets go of what an act took.
@@ -47,15 +51,8 @@ def letters_of(draw):
     return "".join(GROUPS[group] for group in groups)
 
 
-def bounds_of(runners, acted):
-    """Those at which the whole search has some thousands of schedules, as so many run so many acts."""
-    if runners == 2:
-        return ["1", "2", "all"] if acted <= 3 else ["1", "2", "3"] if acted <= 6 else ["1", "2"]
-    return ["1", "2"] if runners == 3 and acted <= 6 else ["1"]
-
-
 def scenario(number):
-    """The scenario of that number, the bounds it is searched with, and other words."""
+    """The scenario of that number, and words of its search."""
     draw = random.Random(number)
     letters, clients = letters_of(draw), draw.choice([2, 2, 2, 3, 3])
     most = {2: draw.choice([2, 3, 4, 5]), 3: draw.choice([1, 2, 3])}[clients]
@@ -72,61 +69,71 @@ def scenario(number):
     lines += [f"client {'abc'[at]}: read 0 {at} 4" for at in range(clients)]
     if draw.random() < (0.8 if "x" in letters else 0.1):
         lines.append("client p: start program " + "/".join("c0" * (not at) + acts(draw, OF_PROGRAM, 2, PROGRAM_LETS_GO) for at in range(draw.choice([1, 1, 2]))))
-    if draw.random() < (0.8 if "y" in letters or "p" in letters or "R" in letters else 0.2):
+    if draw.random() < (0.8 if "y" in letters or "7" in letters or "p" in letters or "R" in letters else 0.2):
         lines.append("client d: " + draw.choice(["detach 0", "unload 0", "flush 0", "flush 0"]))
+    elif draw.random() < 0.1:
+        lines.append("client e: " + draw.choice(["create 0 new g; read $ 6 4; close $", "create 0 always g; close $; flush 0"]))
     lines.append("finally: flush 0; flush 0; detach 0; unload 0")
-    runners = clients + sum(line.startswith(("client p", "client d")) for line in lines) + any(letter in "".join(kept.values()) for letter in "RSTW")
-    acted = sum(len(text) for text in programs) // 2
-    words = draw.choice([[], [], [], ["--coarse"], ["--workers", "2"], ["--inline"], ["--fails", "1"]])
-    return "\n".join(lines) + "\n", bounds_of(runners + ("--fails" in words), acted), words
+    words = draw.choice([[], [], [], ["--coarse"], ["--workers", "2"], ["--inline"], ["--fails", "1"], ["--late", "1"]])
+    return "\n".join(lines) + "\n", words
 
 
 def ends(program, words, path, room):
-    """What a search finds, as a set; None if it didn't come to its end."""
+    """What a search finds, as a set, and how many schedules each bound had; None if it didn't come to its end, or ended as a limit."""
     learned = f"{room}/learned"
     if os.path.exists(learned):
         os.remove(learned)
-    try:
-        done = subprocess.run([program, "--learn", learned, *words, path], capture_output=True, timeout=SECONDS, check=False)
-    except subprocess.TimeoutExpired:
-        return None
-    if done.returncode == 4 or not os.path.exists(learned):
-        return None
+    done = subprocess.run([program, "--learn", learned, *words, path], capture_output=True, timeout=SECONDS, check=False)
+    if done.returncode == 4 or not os.path.exists(learned) or b"the search ends here" in done.stdout:
+        return None, []
     with open(learned, encoding="utf-8", errors="replace") as file:
-        return {re.sub(r"operation \d+", "operation N", one.strip()) for one in file.read().split("\n\n") if one.strip()}
+        found = {re.sub(r"operation \d+", "operation N", one.strip()) for one in file.read().split("\n\n") if one.strip()}
+    return found, [int(count) for count in re.findall(rb"^bound \d+: (\d+) schedules", done.stdout, re.M)]
+
+
+def next_count(counts):
+    """About how many schedules the next bound has: each grows less than the one before it."""
+    return counts[-1] * (GROWS if len(counts) == 1 else counts[-1] / counts[-2])
+
+
+def pairs(program, words, path):
+    """Pairs of steps that are taken to come to the same in either order, and don't, as lines."""
+    done = subprocess.run([program, "--commute", PAIRS, *words, path], capture_output=True, timeout=SECONDS, check=False)
+    return done.stdout.decode(errors="replace").split("\n")[:2] if done.returncode == 1 else []
 
 
 def compare(program, number, room):
     """How many comparisons, ends, and searches that were left out; and what differs, in sentences."""
-    text, bounds, words = scenario(number)
-    path, counts, said = f"{room}/drawn.txt", [0, 0, 0], []
+    text, words = scenario(number)
+    path, compared, seen = f"{room}/drawn.txt", 0, 0
     with open(path, "w", encoding="utf-8") as file:
         file.write(text)
-    for bound in bounds:
-        whole = ends(program, [*words, "--whole", "--bound", bound], path, room)
-        found = ends(program, [*words, "--bound", bound], path, room) if whole is not None else None
+    said = [f"number {number}: {line}" for line in pairs(program, words, path)]
+    whole, counts = ends(program, [*words, "--whole", "--bound", "0"], path, room)
+    while counts and not said and next_count(counts) <= MOST and (len(counts) < 2 or counts[-1] > counts[-2]):
+        bound = str(len(counts))
+        found, _ = ends(program, [*words, "--bound", bound], path, room)
+        whole, counts = ends(program, [*words, "--whole", "--bound", bound], path, room)
         if whole is None or found is None:
-            counts[2] += 1
-            continue
-        counts[0] += 1
-        counts[1] += len(whole)
+            break
+        compared, seen = compared + 1, len(whole)
         for what, ones in (("lost", whole - found), ("made up", found - whole)):
             said += [f"number {number}, bound {bound}: {what}: {' / '.join(one.split(chr(10)))[:300]}" for one in sorted(ones)[:2]]
-    return counts, said
+    return compared, seen, said
 
 
 def main():
     """Compares those that are asked for."""
     if sys.argv[1] == "--show":
-        text, bounds, words = scenario(int(sys.argv[2]))
-        print(f"# {' '.join(words)} --bound {' '.join(bounds)}\n{text}", end="")
+        text, words = scenario(int(sys.argv[2]))
+        print(f"# {' '.join(words)}\n{text}", end="")
         return 0
     program, first, count = sys.argv[1], int(sys.argv[2]), int(sys.argv[3])
     compared = found = left_out = wrong = 0
     with tempfile.TemporaryDirectory() as room:
         for number in range(first, first + count):
-            counts, said = compare(program, number, room)
-            compared, found, left_out, wrong = compared + counts[0], found + counts[1], left_out + counts[2], wrong + bool(said)
+            more, seen, said = compare(program, number, room)
+            compared, found, left_out, wrong = compared + more, found + seen, left_out + (not more), wrong + bool(said)
             print("".join(sentence + "\n" for sentence in said), end="", flush=True)
     print(f"{count} scenarios from {first} on: {compared} comparisons, {found} ends, {wrong} wrong, {left_out} left out")
     return 1 if wrong else 0

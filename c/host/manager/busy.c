@@ -169,11 +169,11 @@ uint32_t kz_until_free(const char *name, KazdrinEvent event, PFLT_INSTANCE insta
         kz_pause_until(name, is_empty, instance, text);
     else
         kz_pause(name);
-    uint32_t status = ask(event, instance, &busy);
-    while (status == KZS_BUSY && kz_has_others() && goes_on(instance, &busy)) {
+    uint32_t status;
+    do {
         while (instance && kz_has_waiting(instance) && kz_drain_next(instance))
             ; /* it came to wait after the teardown had drained */
         status = ask(event, instance, &busy);
-    }
+    } while (status == KZS_BUSY && kz_has_others() && goes_on(instance, &busy));
     return status;
 }

@@ -6,11 +6,12 @@ too. It ends with 1 if an end is lost or made up, or a pair is taken wrongly, an
 import os
 import random
 import re
+import resource
 import subprocess
 import sys
 import tempfile
 
-SECONDS = 300
+SECONDS = 10  # of a processor
 MOST = int(os.environ.get("DRAWN_MOST", "800"))
 PAIRS = "40"
 GROWS = 24  # so many times more schedules has one preemption, before it is known
@@ -78,13 +79,18 @@ def scenario(number):
     return "\n".join(lines) + "\n", words
 
 
+def run(program, words, path):
+    """What a search prints and its status, which is below zero where it takes too long."""
+    return subprocess.run([program, *words, path], capture_output=True, check=False, preexec_fn=lambda: resource.setrlimit(resource.RLIMIT_CPU, (SECONDS, SECONDS)))
+
+
 def ends(program, words, path, room):
     """What a search finds, as a set, and how many schedules each bound had; None if it didn't come to its end, or ended as a limit."""
     learned = f"{room}/learned"
     if os.path.exists(learned):
         os.remove(learned)
-    done = subprocess.run([program, "--learn", learned, *words, path], capture_output=True, timeout=SECONDS, check=False)
-    if done.returncode == 4 or not os.path.exists(learned) or b"the search ends here" in done.stdout:
+    done = run(program, ["--learn", learned, *words], path)
+    if done.returncode < 0 or done.returncode == 4 or not os.path.exists(learned) or b"the search ends here" in done.stdout:
         return None, []
     with open(learned, encoding="utf-8", errors="replace") as file:
         found = {re.sub(r"operation \d+", "operation N", one.strip()) for one in file.read().split("\n\n") if one.strip()}
@@ -98,7 +104,7 @@ def next_count(counts):
 
 def pairs(program, words, path):
     """Pairs of steps that are taken to come to the same in either order, and don't, as lines."""
-    done = subprocess.run([program, "--commute", PAIRS, *words, path], capture_output=True, timeout=SECONDS, check=False)
+    done = run(program, ["--commute", PAIRS, *words], path)
     return done.stdout.decode(errors="replace").split("\n")[:2] if done.returncode == 1 else []
 
 

@@ -309,13 +309,8 @@ static VOID Names(PASKED Asked)
     See(Asked, length);
 }
 
-static VOID Objects(PASKED Asked)
+static VOID Initialize(VOID)
 {
-    UNICODE_STRING unknown = RTL_CONSTANT_STRING(L"Unknown");
-    PFLT_DEFERRED_IO_WORKITEM deferred = FltAllocateDeferredIoWorkItem();
-    PFLT_GENERIC_WORKITEM generic = FltAllocateGenericWorkItem();
-    PIO_WORKITEM item = IoAllocateWorkItem(Asked->Objects->FileObject->DeviceObject);
-    PSECURITY_DESCRIPTOR descriptor;
     NPAGED_LOOKASIDE_LIST list;
     ERESOURCE resource;
     KSEMAPHORE semaphore;
@@ -330,12 +325,23 @@ static VOID Objects(PASKED Asked)
     KeInitializeTimer(&timer);
     KeInitializeTimerEx(&timer, SynchronizationTimer);
     KeInitializeDpc(&dpc, NULL, NULL);
-    See(Asked, deferred != NULL);
     ExInitializeResourceLite(&resource);
     ExReinitializeResourceLite(&resource);
     ExDeleteResourceLite(&resource);
     ExInitializeNPagedLookasideList(&list, NULL, NULL, 0, 16, TAG, 0);
     ExDeleteNPagedLookasideList(&list);
+}
+
+static VOID Objects(PASKED Asked)
+{
+    UNICODE_STRING unknown = RTL_CONSTANT_STRING(L"Unknown");
+    PFLT_DEFERRED_IO_WORKITEM deferred = FltAllocateDeferredIoWorkItem();
+    PFLT_GENERIC_WORKITEM generic = FltAllocateGenericWorkItem();
+    PIO_WORKITEM item = IoAllocateWorkItem(Asked->Objects->FileObject->DeviceObject);
+    PSECURITY_DESCRIPTOR descriptor;
+
+    See(Asked, deferred != NULL);
+    Initialize();
     if (NT_SUCCESS(FltBuildDefaultSecurityDescriptor(&descriptor, FLT_PORT_ALL_ACCESS))) {
         See(Asked, RtlLengthSecurityDescriptor(descriptor) != 0);
         FltFreeSecurityDescriptor(descriptor);

@@ -66,6 +66,7 @@ static void free_own(Own *gone)
 VOID FltInitializeOplock(POPLOCK Oplock)
 {
     KZ_INSIDE();
+    kz_uses_all(); /* what is there already lets go of whoever waits */
     *Oplock = NULL;
     if (own_of(Oplock))
         free_own(own_of(Oplock)); /* other memory was there */
@@ -443,6 +444,7 @@ BOOLEAN FltCurrentOplockH(POPLOCK Oplock)
 BOOLEAN FltOplockIsSharedRequest(PFLT_CALLBACK_DATA CallbackData)
 {
     KZ_INSIDE();
+    kz_uses_all();
     const FLT_PARAMETERS *now = &CallbackData->Iopb->Parameters;
     ULONG code = now->FileSystemControl.Common.FsControlCode;
     const REQUEST_OPLOCK_INPUT_BUFFER *input = now->FileSystemControl.Buffered.SystemBuffer;
@@ -454,6 +456,7 @@ BOOLEAN FltOplockIsSharedRequest(PFLT_CALLBACK_DATA CallbackData)
 BOOLEAN FltOplockKeysEqual(PFILE_OBJECT Fo1, PFILE_OBJECT Fo2)
 {
     KZ_INSIDE();
+    kz_uses_all();
     const KzFile *first = kz_file_with(Fo1), *second = kz_file_with(Fo2);
     const KzOplockSide one = {Fo1, first && first->has_oplock_key ? &first->oplock_key : NULL, 0, 0}, other = {Fo2, second && second->has_oplock_key ? &second->oplock_key : NULL, 0, 0};
     return Fo1 && Fo2 && kz_have_same_key(&one, &other);

@@ -1,5 +1,5 @@
 #!/usr/bin/env python3
-"""Random scenarios for drawn/, and what two searches of each find: draw.py PROGRAM FIRST COUNT. Each scenario is drawn from its number, so that a number is all one has to keep. The
+"""Random scenarios for drawn/, and what two searches of each find: draw.py PROGRAM FIRST COUNT. Each scenario, above a volume that doesn't cache, is drawn from its number, so that a number is all one has to keep. The
 default search has to find the ends that --whole finds, and no other, at each bound up to the last at which --whole has few schedules (DRAWN_MOST), by those of the bound before it. One with more at no
 preemption is left out, and counted, as is one that ends as a limit. `draw.py --show NUMBER` prints a scenario. Pairs of its steps are run in both orders,
 too. It ends with 1 if an end is lost or made up, or a pair is taken wrongly, and says which."""
@@ -62,7 +62,7 @@ def scenario(number):
     programs[0] = re.sub("(W.)(.*)", lambda found: found[1] + re.sub("W.", "a2", found[2]), programs[0])
     if clients > 1 and draw.random() < 0.15:
         programs[1] = programs[0]
-    lines = ["load drawn", "attach 0 0 one 200", "create 0 new f"]
+    lines = ["volume 0 uncached", "load drawn", "attach 0 0 one 200", "create 0 new f"]
     kept = dict(enumerate(programs))
     kept[6] = acts(draw, letters.replace("W", "a"), 2, LETS_GO)
     kept[7] = acts(draw, letters.replace("W", "a").replace("x", "b"), 2, LETS_GO)

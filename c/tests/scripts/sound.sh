@@ -76,7 +76,7 @@ unset 'users[-1]'
 build "drivers of schedules" --explore "$room/schedules" "$tests"/misuse/schedules/*.c
 build "samples" --explore "$room/samples" c/samples/*.c "${users[@]}"
 build "right drivers" --explore "$room/legal" "$tests"/legal/*.c
-build "wrong drivers" --explore "$room/misuse" "$tests"/misuse/{access,freed,gone,irql,kept,made,past,strings}.c
+build "wrong drivers" --explore "$room/misuse" "$tests"/misuse/{access,freed,gone,irql,kept,made,past,rescans,strings}.c
 build "drivers that are drawn for" --explore "$room/drawn" "$sound/drawn" "$sound/portbusy.c" --user "$sound/program.c"
 rows compared "drawn 2 $sound/portbusy.txt portbusy" "${of_schedules[@]}" "${others[@]}"
 

@@ -3,7 +3,7 @@
  *
  *   long                  int: it has 32 bits there (`long long` stays)
  *   5i64, 0x10ui64        5LL, 0x10ULL; i32, i16 and i8 have no word here
- *   __FUNCTION__ ": x"    "Name" ": x"; in a macro the name of the file, since it has no function. DriverEntry, which has another name in the program, says its own
+ *   __FUNCTION__ ": x"    "Name" ": x"; in a macro KZ_FUNCTION, which each function defines anew: outside of one it is the file. DriverEntry, which has another name in the program, says its own
  *   enum E : ULONG {      enum E {, for types of 32 bits
  *   static __forceinline  __forceinline, which is static here
  *   #pragma alloc_text(PAGE, F)   the section PAGE for F, in C: what is there may not run at DISPATCH_LEVEL
@@ -28,11 +28,11 @@ typedef struct {
     char function[NAME], candidate[NAME], last[NAME];
     int braces, parentheses;
     size_t declared; /* where the declaration of that function begins in what comes out */
-    bool is_directive, is_changed, has_try;
+    bool is_directive, is_changed, has_try, is_defined; /* a macro of that directive names its function */
 } Source;
 
 static const char *room;
-static bool is_any_changed;
+static bool is_any_changed, has_macro; /* of which some macro names its function */
 
 static bool adapt(const char *path, const char *name, unsigned depth);
 
@@ -132,8 +132,29 @@ static void change_function(Source *source, size_t length)
         keep(source, length);
         return;
     }
-    snprintf(words, sizeof words, "%s\"%.120s\"", is_wide ? "L" : "", source->is_directive || !*source->function ? basename(name) : source->function);
+    if (source->is_directive)
+        has_macro = source->is_defined = true;
+    if (source->is_directive)
+        snprintf(words, sizeof words, "KZ_FUNCTION%s", is_wide ? "W" : "");
+    else
+        snprintf(words, sizeof words, "%s\"%.120s\"", is_wide ? "L" : "", *source->function ? source->function : basename(name));
     change(source, length, words);
+}
+
+/* From here on macros say that function, or the file; the line that goes on is the same. */
+static void define_function(Source *source)
+{
+    char words[4 * NAME], name[PATH_MAX];
+    unsigned line = 1;
+    if (!has_macro)
+        return;
+    for (const char *at = source->text; at < source->at; at++)
+        line += *at == '\n';
+    snprintf(name, sizeof name, "%s", source->path);
+    const char *function = *source->function ? source->function : basename(name);
+    snprintf(words, sizeof words, "\n#undef KZ_FUNCTION\n#undef KZ_FUNCTIONW\n#define KZ_FUNCTION \"%.100s\"\n#define KZ_FUNCTIONW L\"%.100s\"\n#line %u\n", function, function, line);
+    put(source, words, strlen(words));
+    source->is_changed = true;
 }
 
 static void change_static(Source *source)
@@ -299,9 +320,12 @@ static void take_sign(Source *source)
         source->candidate[0] = 0;
     bool is_line = sign == '\n' && last_letter(source) != '\\';
     bool is_end = source->braces == 0 && (sign == '}' || sign == ';' || (is_line && source->is_directive && !source->candidate[0]));
+    bool is_defined = is_line && source->is_defined, is_edge = (sign == '{' && source->braces == 1) || (sign == '}' && source->braces == 0);
     if (is_line)
-        source->is_directive = false;
+        source->is_directive = source->is_defined = false;
     keep(source, 1);
+    if (is_defined || (is_edge && !source->is_directive))
+        define_function(source);
     if (is_end) {
         source->declared = source->used;
         source->has_try = false;
@@ -370,8 +394,12 @@ static bool adapt(const char *path, const char *name, unsigned depth)
 {
     char copy[2 * PATH_MAX];
     snprintf(copy, sizeof copy, "%s/%s", room, name);
-    if (access(copy, F_OK) == 0)
+    if (access(copy, F_OK) == 0) {
+        char *made = read_file(copy);
+        has_macro |= strstr(made, "KZ_FUNCTION") != NULL;
+        free(made);
         return false;
+    }
     char *text = read_file(path);
     Source source = {.path = path, .at = text, .text = text};
     put(&source, "", 0);

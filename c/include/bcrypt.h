@@ -2,7 +2,9 @@
 #ifndef KZ_BCRYPT_H
 #define KZ_BCRYPT_H
 
+#ifndef KZ_WINDOWS_H
 #include <ntifs.h>
+#endif
 
 KZ_BEGIN
 

@@ -897,10 +897,6 @@ typedef struct _GROUP_AFFINITY {
     USHORT Group;
     USHORT Reserved[3];
 } GROUP_AFFINITY, *PGROUP_AFFINITY;
-typedef struct _RTL_BITMAP_RUN {
-    ULONG StartingIndex;
-    ULONG NumberOfBits;
-} RTL_BITMAP_RUN, *PRTL_BITMAP_RUN;
 typedef struct _SLIST_ENTRY32 {
     ULONG Next;
 } SLIST_ENTRY32, *PSLIST_ENTRY32;

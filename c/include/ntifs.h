@@ -752,6 +752,7 @@ VOID RtlFreeUTF8String(PUTF8_STRING Utf8String);
 NTSTATUS RtlUTF8StringToUnicodeString(PUNICODE_STRING DestinationString, PUTF8_STRING SourceString, BOOLEAN AllocateDestinationString);
 NTSTATUS RtlUnicodeToUTF8N(PCHAR UTF8StringDestination, ULONG UTF8StringMaxByteCount, PULONG UTF8StringActualByteCount, PCWCH UnicodeStringSource, ULONG UnicodeStringByteCount);
 NTSTATUS RtlCharToInteger(PCSZ String, ULONG Base, PULONG Value);
+NTSTATUS RtlIntegerToChar(ULONG Value, ULONG Base, LONG OutputLength, PSTR String);
 VOID RtlUpperString(PSTRING DestinationString, const STRING *SourceString);
 ULONG RtlCrc32(const VOID *Buffer, SIZE_T Size, ULONG InitialCrc);
 ULONG RtlLengthSid(PSID Sid);

@@ -8,6 +8,7 @@
 typedef struct {
     ACCESS_MASK access;
     ULONG options, attributes, share;
+    ULONG beyond; /* options that there are none of */
     LONGLONG allocation;
     PVOID ea; /* a chain of extended attributes, which the file system checks */
     ULONG ea_length;

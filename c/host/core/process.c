@@ -62,6 +62,30 @@ PETHREAD kz_thread_object(uint64_t process, uint64_t id)
     return *place = made;
 }
 
+/* One that is there by that number: the system's, those that began, and whoever asks. The tests' own is there from the beginning. */
+PEPROCESS kz_process_there(uint64_t id)
+{
+    PEPROCESS found = kz.process->processes;
+    while (found && found->id != id)
+        found = found->next;
+    use_objects(false);
+    if (!found && (id == system_process.id || id == kz_me->process || id == kz_first.process))
+        found = kz_process(id);
+    return found && !found->is_over ? found : NULL;
+}
+
+PETHREAD kz_thread_there(uint64_t id)
+{
+    PETHREAD found = kz.process->threads;
+    while (found && (found->id != id || found->header.SignalState))
+        found = found->next;
+    use_objects(false);
+    bool is_client = id >= kz_first.process + 4 && id - kz_first.process <= 4 * UINT8_MAX && id % 4 == 0;
+    if (!found && (id == kz_me->thread || is_client))
+        found = kz_thread_object(id == kz_me->thread ? kz_me->process : kz_first.process, id);
+    return found;
+}
+
 bool kz_is_process(const void *object)
 {
     PEPROCESS one = kz.process->processes;

@@ -118,6 +118,8 @@ static NTSTATUS check(KzOp *op, uint8_t mode, There there)
         status = check_kind(&op->create, there);
     if (NT_SUCCESS(status))
         status = answers[there][disposition_of(&op->create)];
+    if (NT_SUCCESS(status) && !op->create.access && !(op->own.is_own && !op->own.is_user)) /* nothing is granted to a user who asks for nothing */
+        status = STATUS_ACCESS_DENIED;
     if (NT_SUCCESS(status))
         status = there == IS_NOTHING ? check_new(name, &op->create) : check_there(op, name);
     return status;

@@ -163,6 +163,7 @@ static KzCreate asked_by(ACCESS_MASK access, PLARGE_INTEGER allocation, ULONG at
 {
     return (KzCreate){.access = kz_map_access(access),
                       .options = disposition << 24 | (options & FILE_VALID_OPTION_FLAGS),
+                      .beyond = options & ~(ULONG)FILE_VALID_OPTION_FLAGS,
                       .attributes = attributes,
                       .share = share,
                       .allocation = allocation ? allocation->QuadPart : 0};

@@ -70,9 +70,9 @@ NTSTATUS ObOpenObjectByPointer(PVOID Object, ULONG HandleAttributes, PVOID Passe
 NTSTATUS ZwOpenProcess(PHANDLE ProcessHandle, ACCESS_MASK DesiredAccess, POBJECT_ATTRIBUTES ObjectAttributes, PCLIENT_ID ClientId)
 {
     KZ_CALL();
-    PEPROCESS process = ClientId ? kz_process(HandleToULong(ClientId->UniqueProcess)) : NULL;
+    PEPROCESS process = ClientId ? kz_process_there(HandleToULong(ClientId->UniqueProcess)) : NULL;
     *ProcessHandle = NULL;
-    if (!process || process->is_over)
+    if (!process)
         return STATUS_INVALID_CID;
     ULONG attributes = ObjectAttributes ? ObjectAttributes->Attributes : 0;
     kz_grant_handle(process, *PsProcessType, DesiredAccess, false, (attributes & OBJ_KERNEL_HANDLE) != 0);
@@ -83,11 +83,9 @@ NTSTATUS ZwOpenProcess(PHANDLE ProcessHandle, ACCESS_MASK DesiredAccess, POBJECT
 NTSTATUS PsLookupProcessByProcessId(HANDLE ProcessId, PEPROCESS *Process)
 {
     KZ_CALL();
-    *Process = kz_process(HandleToULong(ProcessId));
-    if ((*Process)->is_over) {
-        *Process = NULL;
-        return STATUS_INVALID_PARAMETER;
-    }
+    *Process = kz_process_there(HandleToULong(ProcessId));
+    if (!*Process)
+        return STATUS_INVALID_CID;
     kz_take_object(*Process, false, __func__);
     return STATUS_SUCCESS;
 }
@@ -95,7 +93,9 @@ NTSTATUS PsLookupProcessByProcessId(HANDLE ProcessId, PEPROCESS *Process)
 NTSTATUS PsLookupThreadByThreadId(HANDLE ThreadId, PETHREAD *Thread)
 {
     KZ_CALL();
-    *Thread = kz_thread_object(kz_me->process, HandleToULong(ThreadId));
+    *Thread = kz_thread_there(HandleToULong(ThreadId));
+    if (!*Thread)
+        return STATUS_INVALID_CID;
     kz_take_object(*Thread, false, __func__);
     return STATUS_SUCCESS;
 }

@@ -82,32 +82,6 @@ VOID RtlUpperString(PSTRING DestinationString, const STRING *SourceString)
     DestinationString->Length = length;
 }
 
-static int digit_of(char letter)
-{
-    if (letter >= '0' && letter <= '9')
-        return letter - '0';
-    letter = RtlUpperChar(letter);
-    return letter >= 'A' && letter <= 'F' ? letter - 'A' + 10 : 99;
-}
-
-NTSTATUS RtlCharToInteger(PCSZ String, ULONG Base, PULONG Value)
-{
-    const char *at = String + strspn(String, " \t");
-    bool is_negative = *at == '-';
-    at += *at == '-' || *at == '+';
-    if (!Base) {
-        Base = at[0] == '0' && at[1] == 'x' ? 16 : at[0] == '0' && at[1] == 'o' ? 8 : at[0] == '0' && at[1] == 'b' ? 2 : 10;
-        at += Base == 10 ? 0 : 2;
-    } else if (Base != 2 && Base != 8 && Base != 10 && Base != 16) {
-        return STATUS_INVALID_PARAMETER;
-    }
-    ULONG value = 0;
-    for (; *at && digit_of(*at) < (int)Base; at++)
-        value = value * Base + (ULONG)digit_of(*at);
-    *Value = is_negative ? 0u - value : value;
-    return STATUS_SUCCESS;
-}
-
 /* The first part of a path, up to its `\`, and the rest behind that. */
 VOID FsRtlDissectName(UNICODE_STRING Name, PUNICODE_STRING FirstPart, PUNICODE_STRING RemainingPart)
 {
@@ -122,25 +96,6 @@ VOID FsRtlDissectName(UNICODE_STRING Name, PUNICODE_STRING FirstPart, PUNICODE_S
 NTSTATUS FsRtlNormalizeNtstatus(NTSTATUS Exception, NTSTATUS GenericException)
 {
     return FsRtlIsNtstatusExpected(Exception) ? Exception : GenericException;
-}
-
-/* Those that drivers pass to programs most often; ERROR_MR_MID_NOT_FOUND is what the kit answers where it has none. */
-ULONG RtlNtStatusToDosError(NTSTATUS Status)
-{
-    static const struct {
-        NTSTATUS status;
-        ULONG error;
-    } errors[] = {
-        {STATUS_SUCCESS, 0},           {STATUS_OBJECT_NAME_NOT_FOUND, 2}, {STATUS_NO_SUCH_FILE, 2},           {STATUS_OBJECT_PATH_NOT_FOUND, 3}, {STATUS_ACCESS_DENIED, 5},
-        {STATUS_INVALID_HANDLE, 6},    {STATUS_NO_MEMORY, 8},             {STATUS_SHARING_VIOLATION, 32},     {STATUS_END_OF_FILE, 38},          {STATUS_NOT_SUPPORTED, 50},
-        {STATUS_INVALID_PARAMETER, 87}, {STATUS_DISK_FULL, 112},          {STATUS_BUFFER_TOO_SMALL, 122},     {STATUS_OBJECT_NAME_INVALID, 123}, {STATUS_OBJECT_NAME_COLLISION, 183},
-        {STATUS_BUFFER_OVERFLOW, 234}, {STATUS_NO_MORE_FILES, 18},        {STATUS_PENDING, 997},              {STATUS_INSUFFICIENT_RESOURCES, 1450}, {STATUS_CANCELLED, 995},
-        {STATUS_TIMEOUT, 258},         {STATUS_NOT_FOUND, 1168},          {STATUS_INVALID_DEVICE_REQUEST, 1},  {STATUS_DELETE_PENDING, 5},        {STATUS_VIRUS_INFECTED, 225},
-    };
-    for (size_t at = 0; at < sizeof errors / sizeof errors[0]; at++)
-        if (errors[at].status == Status)
-            return errors[at].error;
-    return 317;
 }
 
 SIZE_T RtlCompareMemory(const VOID *Source1, const VOID *Source2, SIZE_T Length)

@@ -106,10 +106,11 @@ VOID RtlCopyUnicodeString(PUNICODE_STRING DestinationString, PCUNICODE_STRING So
 
 NTSTATUS RtlAppendUnicodeStringToString(PUNICODE_STRING Destination, PCUNICODE_STRING Source)
 {
+    if (!Source->Length)
+        return STATUS_SUCCESS;
     if (Destination->Length + Source->Length > Destination->MaximumLength)
         return STATUS_BUFFER_TOO_SMALL;
-    if (Source->Length)
-        memmove((PUCHAR)Destination->Buffer + Destination->Length, Source->Buffer, Source->Length);
+    memmove((PUCHAR)Destination->Buffer + Destination->Length, Source->Buffer, Source->Length);
     Destination->Length += Source->Length;
     end(Destination);
     return STATUS_SUCCESS;
@@ -253,17 +254,23 @@ VOID RtlFreeUTF8String(PUTF8_STRING Utf8String)
     RtlFreeAnsiString(Utf8String);
 }
 
+/* Room for a null, and the null, are there if the flags say so; nothing is made of nothing, unless they say that too. */
 NTSTATUS RtlDuplicateUnicodeString(ULONG Flags, PCUNICODE_STRING StringIn, PUNICODE_STRING StringOut)
 {
     KZ_INSIDE_AS_DRIVER();
-    if (!StringIn->Length && !(Flags & RTL_DUPLICATE_UNICODE_STRING_ALLOCATE_NULL_STRING)) {
-        *StringOut = (UNICODE_STRING){0};
+    enum { ENDED = RTL_DUPLICATE_UNICODE_STRING_NULL_TERMINATE, ALWAYS = ENDED | RTL_DUPLICATE_UNICODE_STRING_ALLOCATE_NULL_STRING };
+    if (!StringIn || !StringOut || (Flags && Flags != ENDED && Flags != ALWAYS) || !NT_SUCCESS(RtlValidateUnicodeString(0, StringIn)))
+        return STATUS_INVALID_PARAMETER;
+    *StringOut = (UNICODE_STRING){0};
+    USHORT room = (USHORT)(StringIn->Length + (Flags ? sizeof(WCHAR) : 0));
+    if (!StringIn->Length && Flags != ALWAYS)
         return STATUS_SUCCESS;
-    }
-    NTSTATUS status = make_room(StringOut, StringIn->Length, TRUE);
-    if (status == STATUS_SUCCESS)
-        RtlCopyUnicodeString(StringOut, StringIn);
-    return status;
+    PWSTR made = ExAllocatePoolWithTag(PagedPool, room, TEXT_TAG);
+    if (!made)
+        return STATUS_NO_MEMORY;
+    *StringOut = (UNICODE_STRING){0, room, made};
+    RtlCopyUnicodeString(StringOut, StringIn);
+    return STATUS_SUCCESS;
 }
 
 NTSTATUS RtlValidateUnicodeString(ULONG Flags, PCUNICODE_STRING String)
@@ -276,77 +283,12 @@ NTSTATUS RtlValidateUnicodeString(ULONG Flags, PCUNICODE_STRING String)
 NTSTATUS RtlHashUnicodeString(PCUNICODE_STRING String, BOOLEAN CaseInSensitive, ULONG HashAlgorithm, PULONG HashValue)
 {
     KZ_INSIDE_AS_DRIVER();
-    if (HashAlgorithm > HASH_STRING_ALGORITHM_X65599)
+    if (!String || !HashValue || HashAlgorithm > HASH_STRING_ALGORITHM_X65599)
         return STATUS_INVALID_PARAMETER;
     ULONG hash = 0;
     for (USHORT at = 0; at < String->Length / sizeof(WCHAR); at++)
         hash = hash * 65599 + (CaseInSensitive ? kz_upcase(String->Buffer[at]) : String->Buffer[at]);
     *HashValue = hash;
-    return STATUS_SUCCESS;
-}
-
-/* ---- Numbers. */
-NTSTATUS RtlUnicodeStringToInteger(PCUNICODE_STRING String, ULONG Base, PULONG Value)
-{
-    KZ_INSIDE_AS_DRIVER();
-    WCHAR room[72];
-    size_t length = String->Length / sizeof(WCHAR);
-    if (Base && Base != 2 && Base != 8 && Base != 10 && Base != 16)
-        return STATUS_INVALID_PARAMETER;
-    length = length < RTL_NUMBER_OF(room) ? length : RTL_NUMBER_OF(room) - 1;
-    if (length)
-        memcpy(room, String->Buffer, length * sizeof(WCHAR));
-    room[length] = 0;
-    bool is_decimal = Base == 0 && !(room[0] == '0' && (room[1] == 'x' || room[1] == 'X'));
-    *Value = (ULONG)KzWcstoul(room, NULL, Base ? (int)Base : is_decimal ? 10 : 16);
-    return STATUS_SUCCESS;
-}
-
-NTSTATUS RtlInt64ToUnicodeString(ULONGLONG Value, ULONG Base, PUNICODE_STRING String)
-{
-    KZ_INSIDE_AS_DRIVER();
-    WCHAR made[68];
-    size_t at = RTL_NUMBER_OF(made);
-    Base = Base ? Base : 10;
-    do
-        made[--at] = L"0123456789ABCDEF"[Value % Base];
-    while ((Value /= Base) > 0);
-    UNICODE_STRING text = {(USHORT)((RTL_NUMBER_OF(made) - at) * sizeof(WCHAR)), 0, made + at};
-    if (text.Length > String->MaximumLength)
-        return STATUS_BUFFER_OVERFLOW;
-    RtlCopyUnicodeString(String, &text);
-    return STATUS_SUCCESS;
-}
-
-NTSTATUS RtlIntegerToUnicodeString(ULONG Value, ULONG Base, PUNICODE_STRING String)
-{
-    KZ_INSIDE_AS_DRIVER();
-    return RtlInt64ToUnicodeString(Value, Base, String);
-}
-
-NTSTATUS RtlStringFromGUID(REFGUID Guid, PUNICODE_STRING GuidString)
-{
-    KZ_INSIDE_AS_DRIVER();
-    NTSTATUS status = make_room(GuidString, 38 * sizeof(WCHAR), TRUE);
-    if (status == STATUS_SUCCESS)
-        KzSnwprintf(GuidString->Buffer, 39, L"{%08X-%04X-%04X-%02X%02X-%02X%02X%02X%02X%02X%02X}", Guid->Data1, Guid->Data2, Guid->Data3, Guid->Data4[0],
-                    Guid->Data4[1], Guid->Data4[2], Guid->Data4[3], Guid->Data4[4], Guid->Data4[5], Guid->Data4[6], Guid->Data4[7]);
-    return status;
-}
-
-NTSTATUS RtlGUIDFromString(PCUNICODE_STRING GuidString, GUID *Guid)
-{
-    KZ_INSIDE_AS_DRIVER();
-    unsigned bytes[11];
-    char text[40] = {0};
-    for (USHORT at = 0; at < GuidString->Length / sizeof(WCHAR) && at < 38; at++)
-        text[at] = kz_to_code_page(GuidString->Buffer[at]);
-    if (sscanf(text, "{%8x-%4x-%4x-%2x%2x-%2x%2x%2x%2x%2x%2x}", &bytes[0], &bytes[1], &bytes[2], &bytes[3], &bytes[4], &bytes[5], &bytes[6], &bytes[7],
-               &bytes[8], &bytes[9], &bytes[10]) != 11)
-        return STATUS_INVALID_PARAMETER;
-    *Guid = (GUID){bytes[0], (USHORT)bytes[1], (USHORT)bytes[2], {0}};
-    for (int at = 0; at < 8; at++)
-        Guid->Data4[at] = (UCHAR)bytes[at + 3];
     return STATUS_SUCCESS;
 }
 

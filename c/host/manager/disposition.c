@@ -51,7 +51,7 @@ static bool is_right_directory(ULONG options, ULONG disposition)
 NTSTATUS kz_check_create(const KzCreate *create)
 {
     ULONG disposition = create->options >> 24, options = create->options & FILE_VALID_OPTION_FLAGS;
-    bool is_wrong = disposition > FILE_MAXIMUM_DISPOSITION || create->share & ~(ULONG)FILE_SHARE_VALID_FLAGS || create->attributes & ~(ULONG)FILE_ATTRIBUTE_VALID_FLAGS;
+    bool is_wrong = create->beyond || disposition > FILE_MAXIMUM_DISPOSITION || create->share & ~(ULONG)FILE_SHARE_VALID_FLAGS || create->attributes & ~(ULONG)FILE_ATTRIBUTE_VALID_FLAGS;
     is_wrong |= (options & SYNCHRONOUS) == SYNCHRONOUS || (options & SYNCHRONOUS && !(create->access & SYNCHRONIZE));
     is_wrong |= options & FILE_DELETE_ON_CLOSE && !(create->access & DELETE);
     is_wrong |= options & FILE_COMPLETE_IF_OPLOCKED && options & FILE_RESERVE_OPFILTER;

@@ -116,9 +116,8 @@ static int read_pair(char **pair, KzCreate *create, const char **name)
         return kz_refuse_word("`%.40s` is none of access, share, options, attributes, as, in", pair[0]);
     if (!read_bits(options, pair[1], &said))
         return 0;
-    if (said & ~(ULONG)FILE_VALID_OPTION_FLAGS)
-        return kz_refuse_word("`%.40s` isn't within FILE_VALID_OPTION_FLAGS", pair[1]);
-    create->options = (create->options & ~(ULONG)FILE_VALID_OPTION_FLAGS) | said;
+    create->options = (create->options & ~(ULONG)FILE_VALID_OPTION_FLAGS) | (said & FILE_VALID_OPTION_FLAGS);
+    create->beyond = said & ~(ULONG)FILE_VALID_OPTION_FLAGS;
     return OPTIONS;
 }
 

@@ -5,6 +5,7 @@
 #include "core/clock.h"
 #include "core/module.h"
 #include "core/near.h"
+#include "core/process.h"
 #include "filesystem/deletion.h"
 #include "filesystem/fileobject.h"
 #include "filesystem/version.h"
@@ -141,6 +142,7 @@ static KzReply ask_as(char **words)
         return kz_wrong();
     kz_me->process = process;
     kz_me->thread = has_thread ? thread : process + 4;
+    kz_thread_object(kz_me->process, kz_me->thread);
     if (has_user)
         kz_set_user(process, words[4], is_elevated, integrity);
     return outcome(KZS_OK, 0);
